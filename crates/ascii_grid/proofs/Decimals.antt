@@ -1,4 +1,4 @@
--- The digits of a number, written and read again.
+-- The digits of a number, written and read back.
 use Rattle.std.proofs.Common.{◌≡◌, ℕ, zero, suc, ◌+◌, ◌*◌, ◌/◌, ◌%◌, ◌^◌, ◌<◌, ◌≤◌, ◌-◌, List, [], ◌∷◌, ◌++◌, length, drop, set, sym, ap, refl, ◌∙◌, arith, add-one, true, leb}
 use Rattle.std.specs.Prelude.{decimal}
 use Rattle.std.proofs.Math.Nat.{div-div-eq-div-mul, pow-succ', div-one, pow-le-pow_right}
@@ -14,21 +14,20 @@ use Rattle.std.proofs.lemmas.List.Sums.{fold-append}
 use Rattle.terrain.specs.Words.{is_word}
 use Rattle.terrain.specs.Decimal.{number_of, are_digits}
 
--- one digit more is one power of ten more
 pub div_pow : (n k : ℕ) → n / 10 / 10 ^ k ≡ n / 10 ^ (suc k)
 div_pow n k = div-div-eq-div-mul n 10 (10 ^ k) ∙ ap (λ m. n / m) (sym (pow-succ' 10 k))
 
 pub div_pow_last : (n k : ℕ) → n / 10 ^ k / 10 ≡ n / 10 ^ (k + 1)
 div_pow_last n k = div-div-eq-div-mul n (10 ^ k) 10 ∙ ap (λ m. n / m) (let e : 10 ^ k * 10 ≡ 10 ^ (k + 1) = rw (add-one, pow-succ') (omega arith) in e)
 
--- the first of the last digits stands alone
+-- the last k + 1 digits are one digit and the last k
 pub last_digits-front : (k n : ℕ) → last_digits (suc k) n ≡ (48 + n / 10 ^ k % 10) ∷ last_digits k n
 last_digits-front zero n = ap (λ m. (48 + m % 10) ∷ []) (sym (div-one n))
 last_digits-front (suc k) n =
     ap (λ ds. ds ++ (48 + n % 10) ∷ []) (last_digits-front k (n / 10))
     ∙ ap (λ m. (48 + m % 10) ∷ last_digits (suc k) n) (div_pow n k)
 
--- one digit more in the buffer
+-- one more digit before the last k digits
 pub digit_before : (k n left at : ℕ) (buffer : List ℕ) → left ≡ n / 10 ^ k → at < length buffer → drop (at + 1) buffer ≡ last_digits k n → drop at (set buffer at (48 + left % 10)) ≡ last_digits (k + 1) n
 digit_before k n left at buffer e h d =
     drop-set_at buffer at at (48 + left % 10) refl h
@@ -36,7 +35,7 @@ digit_before k n left at buffer e h d =
     ∙ ap (λ m. (48 + m % 10) ∷ last_digits k n) e
     ∙ sym (rw add-one (last_digits-front k n))
 
--- and no fewer than its size asks for
+-- a number of at least 10^k has more than k digits
 pub many_digits : (n : ℕ) → n < 2 ^ 64 → (k : ℕ) → 10 ^ k ≤ n → k < length (decimal n)
 many_digits n h = decimal_by_steps (λ m ds. (k : ℕ) → 10 ^ k ≤ m → k < length ds) first next n h
   where
@@ -50,7 +49,6 @@ many_digits n h = decimal_by_steps (λ m ds. (k : ℕ) → 10 ^ k ≤ m → k < 
         let rest : 10 ^ k ≤ m / 10 = omega (arith, le, pow-succ' 10 k) in
         omega (arith, length-append ds ((48 + m % 10) ∷ []), longer k rest)
 
--- one digit more
 pub number_of-push : (ds : List ℕ) (b : ℕ) → number_of (ds ++ b ∷ []) ≡ 10 * number_of ds + (b - 48)
 number_of-push ds b = fold-append (λ n c. 10 * n + (c - 48)) 0 ds (b ∷ [])
 

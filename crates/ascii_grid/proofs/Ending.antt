@@ -1,4 +1,4 @@
--- The word in progress, and what its end makes of it.
+-- The unfinished word: its next byte and its end.
 use Rattle.std.proofs.Common.{◌≡◌, ℕ, ◌+◌, ◌<◌, ◌≤◌, true, false, List, [], ◌∷◌, ◌++◌, length, take, drop, get_or, Some, ℤ, Result, MatchResult, ◌⊎◌, arith, refl, ap, sym, ◌∙◌, subst, inl, inr}
 use Rattle.std.specs.Prelude.{filter}
 use Rattle.std.specs.List.{list_any}
@@ -15,14 +15,14 @@ use Rattle.ascii_grid.specs.declared.fault.GridFault.{GridFault}
 use Rattle.ascii_grid.specs.declared.fault.GridFault.TheVariants.{TooLong, Memory}
 use Rattle.ascii_grid.specs.declared.judge.Judge.{Judge}
 use Rattle.ascii_grid.specs.declared.judge.Stage.TheVariants.{AtHeights}
-use Rattle.ascii_grid.specs.declared.progress.Progress.{Progress}
+use Rattle.ascii_grid.specs.declared.progress.Tokenizer.{Tokenizer}
 use Rattle.ascii_grid.proofs.Parting.{words-parted, IsParted-byte, IsParted-separator}
 use Rattle.ascii_grid.proofs.Judging.{Pairs, HasBegun-more}
 use Rattle.ascii_grid.proofs.JudgedWords.{at_heights, is_memory, word_fault, long_fault, height_word}
 
 -- ---- the bytes kept
 
--- one byte more is kept where there is room
+-- a byte is kept while there is room
 pub kept_more : (w front : Word) (b : ℕ) → front ≡ take 65 w → length front + 1 ≤ 65 → front ++ b ∷ [] ≡ take 65 (w ++ b ∷ [])
 kept_more w front b e h =
     let short : length w ≤ 64 = omega (arith, h, ap length e, length-take 65 w) in
@@ -37,19 +37,19 @@ pub filter-word : (w : Word) → 0 < length w → filter is_word (w ∷ []) ≡ 
 filter-word [] h = absurd (omega arith)
 filter-word (b ∷ bs) h = refl
 
-words-last : (p : Progress) (text : List ℕ) (h : HasWords p text) → 0 < length p.word → words text ≡ h.ended ++ h.last ∷ []
+words-last : (p : Tokenizer) (text : List ℕ) (h : HasWords p text) → 0 < length p.word → words text ≡ h.ended ++ h.last ∷ []
 words-last p text h some =
     let size = ap length h.front in
     let more : 0 < length h.last = omega (arith, length-take 65 h.last) in
     words-parted text h.ended h.last h.parted ∙ ap (λ z. h.ended ++ z) (filter-word h.last more)
 
-pub ended_ok : (p : Progress) (j : Judge) (text : List ℕ) (h : HasWords p text) → 0 < length p.word → length p.word ≤ 64 → HasJudged j (h.ended ++ p.word ∷ []) → HasJudged j (words text)
+pub ended_ok : (p : Tokenizer) (j : Judge) (text : List ℕ) (h : HasWords p text) → 0 < length p.word → length p.word ≤ 64 → HasJudged j (h.ended ++ p.word ∷ []) → HasJudged j (words text)
 ended_ok p j text h some short k =
     let size = ap length h.front in
     let same : p.word ≡ h.last = h.front ∙ take_all 65 h.last (omega (arith, length-take 65 h.last)) in
     subst (HasJudged j) (ap (λ w. h.ended ++ w ∷ []) same ∙ sym (words-last p text h some)) k
 
-pub ended_fault : (p : Progress) (text : List ℕ) (f : GridFault) (h : HasWords p text) → 0 < length p.word → (64 < length p.word → f ≡ TooLong) → IsWordFault p.judge.scale (h.ended ++ p.word ∷ []) f → IsWordFault p.judge.scale (words text) f
+pub ended_fault : (p : Tokenizer) (text : List ℕ) (f : GridFault) (h : HasWords p text) → 0 < length p.word → (64 < length p.word → f ≡ TooLong) → IsWordFault p.judge.scale (h.ended ++ p.word ∷ []) f → IsWordFault p.judge.scale (words text) f
 ended_fault p text f h some long k =
     let size = ap length h.front in
     elim (cases_lt 64 (length p.word)) [
@@ -64,7 +64,7 @@ ended_fault p text f h some long k =
 
 -- ---- one more byte
 
-pub words_after_byte : (p p' : Progress) (text : List ℕ) (b : ℕ) (h : HasWords p text) → is_separator b ≡ false → p'.judge ≡ p.judge → p'.word ≡ take 65 (h.last ++ b ∷ []) → HasWords p' (text ++ b ∷ [])
+pub words_after_byte : (p p' : Tokenizer) (text : List ℕ) (b : ℕ) (h : HasWords p text) → is_separator b ≡ false → p'.judge ≡ p.judge → p'.word ≡ take 65 (h.last ++ b ∷ []) → HasWords p' (text ++ b ∷ [])
 words_after_byte p p' text b h e judge word = record {
   ended = h.ended;
   last = h.last ++ b ∷ [];
@@ -73,7 +73,7 @@ words_after_byte p p' text b h e judge word = record {
   front = word;
 }
 
-pub words_after_separator : (p p' : Progress) (text : List ℕ) (b : ℕ) → HasWords p text → is_separator b ≡ true → (p'.word ≡ []) × HasJudged p'.judge (words text) → HasWords p' (text ++ b ∷ [])
+pub words_after_separator : (p p' : Tokenizer) (text : List ℕ) (b : ℕ) → HasWords p text → is_separator b ≡ true → (p'.word ≡ []) × HasJudged p'.judge (words text) → HasWords p' (text ++ b ∷ [])
 words_after_separator p p' text b h e k = record {
   ended = words text;
   last = [];
@@ -82,18 +82,16 @@ words_after_separator p p' text b h e k = record {
   front = k.0;
 }
 
--- the bytes of a piece up to this place, and one more
 more_bytes : (text bytes : List ℕ) (i b : ℕ) → i < length bytes → b ≡ get_or bytes i 0 → (text ++ take i bytes) ++ b ∷ [] ≡ text ++ take (i + 1) bytes
 more_bytes text bytes i b inside at =
     append_assoc text (take i bytes) (b ∷ []) ∙ ap (λ x. text ++ (take i bytes ++ x ∷ [])) at
     ∙ ap (λ z. text ++ z) (sym (take_more bytes i 0 inside))
 
--- a fault at the byte at this place of a piece
 pub fault_at : (d d' : ℕ) (text bytes : List ℕ) (i b : ℕ) (f : GridFault) → d' ≡ d → i < length bytes → b ≡ get_or bytes i 0 → IsWordFault d' (ended_words ((text ++ take i bytes) ++ b ∷ [])) f → (n : ℕ) × (n ≤ length bytes) × IsWordFault d (ended_words (text ++ take n bytes)) f
 fault_at d d' text bytes i b f same inside at k =
     (i + 1, omega arith, subst (λ e. IsWordFault e (ended_words (text ++ take (i + 1) bytes)) f) same (subst (λ z. IsWordFault d' (ended_words z) f) (more_bytes text bytes i b inside at) k))
 
--- ---- a word whole in a piece
+-- ---- a whole word within a piece
 
 IsParted-bytes : (text : List ℕ) (ws : List Word) (w more : List ℕ) → IsParted text ws w → list_any is_separator more ≡ false → IsParted (text ++ more) ws (w ++ more)
 IsParted-bytes text ws w [] h none =
@@ -103,7 +101,7 @@ IsParted-bytes text ws w (b ∷ more) h none =
     let next = IsParted-bytes (text ++ b ∷ []) ws (w ++ b ∷ []) more (IsParted-byte text ws w b h parts.0) parts.1 in
     subst (λ t. IsParted t ws (w ++ b ∷ more)) (append_assoc text (b ∷ []) more) (subst (λ z. IsParted ((text ++ b ∷ []) ++ more) ws z) (append_assoc w (b ∷ []) more) next)
 
--- a word whole in a piece, with the separator behind it
+-- a whole word in a piece and the separator after it are one more ended word
 pub parted_word : (text bytes : List ℕ) (ws : List Word) (len b : ℕ) → IsParted text ws [] → list_any is_separator (take len bytes) ≡ false → 0 < len → len < length bytes → b ≡ get_or bytes len 0 → is_separator b ≡ true → IsParted (text ++ take (len + 1) bytes) (ws ++ take len bytes ∷ []) []
 parted_word text bytes ws len b begun none some inside at ends =
     let w = take len bytes in
@@ -113,14 +111,14 @@ parted_word text bytes ws len b begun none some inside at ends =
     let bytes_are : (text ++ w) ++ b ∷ [] ≡ text ++ take (len + 1) bytes = more_bytes text bytes len b inside at in
     subst (λ t. IsParted t (ws ++ w ∷ []) []) bytes_are (subst (λ z. IsParted ((text ++ w) ++ b ∷ []) z []) all (IsParted-separator (text ++ w) ws w b whole ends))
 
--- where no word is in progress, all words have ended
-pub parted_ended : (p : Progress) (text : List ℕ) (h : HasWords p text) → p.word ≡ [] → IsParted text h.ended []
+-- without an unfinished word, all words have ended
+pub parted_ended : (p : Tokenizer) (text : List ℕ) (h : HasWords p text) → p.word ≡ [] → IsParted text h.ended []
 parted_ended p text h e =
     let last : h.last ≡ [] = nil_from_length h.last (omega (arith, ap length (sym h.front ∙ e), length-take 65 h.last)) in
     subst (λ z. IsParted text h.ended z) last h.parted
 
--- a plain height, whole in a piece, with the separator behind it
-pub plain_word : {T : Type 0} (p : Progress) (j : Judge) (text bytes : List ℕ) (len b : ℕ) (value : ℤ) (r : Result T GridFault) → HasWords p text → p.word ≡ [] → p.judge.stage ≡ AtHeights → IsPlain p.judge.scale bytes len value → len < length bytes → b ≡ get_or bytes len 0 → is_separator b ≡ true → j.header ≡ p.judge.header → j.stage ≡ p.judge.stage
+-- a plain height in a piece, and the separator after it
+pub plain_word : {T : Type 0} (p : Tokenizer) (j : Judge) (text bytes : List ℕ) (len b : ℕ) (value : ℤ) (r : Result T GridFault) → HasWords p text → p.word ≡ [] → p.judge.stage ≡ AtHeights → IsPlain p.judge.scale bytes len value → len < length bytes → b ≡ get_or bytes len 0 → is_separator b ≡ true → j.header ≡ p.judge.header → j.stage ≡ p.judge.stage
     → ((ps : Pairs) (hs : List Word) (w : Word) → AreHeights p.judge ps hs → length w ≤ 64 → scaled_value p.judge.scale w ≡ Some value → MatchResult r (λ _. AreHeights j ps (hs ++ w ∷ [])) (λ f. (f ≡ Memory) ⊎ (height_fault p.judge.scale (flat ps) (length hs) w ≡ Some f)))
     → MatchResult r (λ _. HasWords (record p { judge = j }) (text ++ take (len + 1) bytes)) (λ f. (n : ℕ) × (n ≤ length bytes) × IsWordFault p.judge.scale (ended_words (text ++ take n bytes)) f)
 plain_word p j text bytes len b value r h none stage plain inside at ends header same judged =

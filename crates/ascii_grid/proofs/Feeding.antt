@@ -1,4 +1,4 @@
--- What a piece and the end of the text make of a reader, and that a fault stays when the text goes on.
+-- The effect of a piece, and of the text's end, on a reader; a fault stays as the text goes on.
 use Rattle.std.proofs.Common.{◌≡◌, ℕ, ◌+◌, ◌-◌, ◌<◌, ◌≤◌, cond, nat_le, List, [], ◌++◌, length, take, drop, min, None, Some, arith, refl, ap, sym, ◌∙◌, subst, inl, inr, Result, MatchResult, Ok, Err}
 use Rattle.std.specs.Prelude.{MatchOption, OnOk, IfErr}
 use Rattle.std.specs.Option.{option_or}
@@ -14,9 +14,9 @@ use Rattle.ascii_grid.specs.Reader.{Reader, IsReading, HasTaken, Feeds}
 use Rattle.ascii_grid.specs.Reading.{HasWords, IsWordFault, IsEndFault}
 use Rattle.ascii_grid.specs.declared.fault.GridFault.{GridFault}
 use Rattle.ascii_grid.specs.declared.fault.GridFault.TheVariants.{TooLong}
-use Rattle.ascii_grid.specs.declared.progress.Progress.{Progress}
+use Rattle.ascii_grid.specs.declared.progress.Tokenizer.{Tokenizer}
 use Rattle.ascii_grid.proofs.Judging.{option_or-none, or_none}
-use Rattle.ascii_grid.proofs.JudgedWords.{judged_none, told_further}
+use Rattle.ascii_grid.proofs.JudgedWords.{judged_none, reported_further}
 use Rattle.ascii_grid.proofs.Stays.{ended-more, ended-words, words_fault-more, asks-more}
 use Rattle.ascii_grid.proofs.Spelled.{lawful_words}
 
@@ -34,7 +34,7 @@ many_so_far d text h = rw (lt-leb (length text) most_bytes h) refl
 many_fault : (d : ℕ) (text : List ℕ) → most_bytes < length text → text_fault d text ≡ fault_so_far d text
 many_fault d text h = rw (lt-leb (length text) most_bytes h) refl
 
--- what has shown is a fault of the words that ended in time, or else that the text is too long
+-- the fault so far: that of the words ended within the first 2^29 bytes, or else TooLong
 so_far : (d : ℕ) (text : List ℕ) → fault_so_far d text ≡ option_or (words_fault d (ended_words (take most_bytes text))) (cond (nat_le (length text) most_bytes) None (Some TooLong))
 so_far d text =
     elim (cases_lt most_bytes (length text)) [
@@ -42,7 +42,7 @@ so_far d text =
       | inr near ↦ rw (le-leb (length text) most_bytes near, take_all most_bytes text near) (sym (option_or-none (words_fault d (ended_words text))))
     ]
 
--- the front that counts of a longer text
+-- the first 2^29 bytes of a longer text begin with those of the text
 front_of : (front more : List ℕ) → (rest : List ℕ) × (take most_bytes (front ++ more) ≡ take most_bytes front ++ rest)
 front_of front more =
     elim (cases_lt most_bytes (length front)) [
@@ -54,14 +54,14 @@ front_of front more =
           )
     ]
 
--- the words that ended in time are the first of a longer text's
+-- words that ended within the first 2^29 bytes are the first such words of a longer text
 in_time-more : (front more : List ℕ) → (others : List Word) × (ended_words (take most_bytes (front ++ more)) ≡ ended_words (take most_bytes front) ++ others)
 in_time-more front more =
     let cut = front_of front more in
     let next = ended-more (take most_bytes front) cut.0 in
     (next.0, ap ended_words cut.1 ∙ next.1)
 
--- and of those that are judged of it
+-- they are also the first of the judged words
 in_time-judged : (text : List ℕ) → (others : List Word) × (judged_words text ≡ ended_words (take most_bytes text) ++ others)
 in_time-judged text =
     elim (cases_lt most_bytes (length text)) [
@@ -69,7 +69,7 @@ in_time-judged text =
       | inr near ↦ let last = ended-words text in (last.0, rw (le-leb (length text) most_bytes near, take_all most_bytes text near) last.1)
     ]
 
--- a fault that has shown goes on to show
+-- a fault so far stays the fault so far
 so_far_stays : (d : ℕ) (front more : List ℕ) (f : GridFault) → fault_so_far d front ≡ Some f → fault_so_far d (front ++ more) ≡ Some f
 so_far_stays d front more f h =
     elim (cases_lt most_bytes (length front)) [
@@ -85,7 +85,7 @@ so_far_stays d front more f h =
           ∙ ap (λ o. option_or o (cond (nat_le (length (front ++ more)) most_bytes) None (Some TooLong))) (ap (words_fault d) next.1 ∙ words_fault-more d (ended_words (take most_bytes front)) next.0 f shown)
     ]
 
--- and is the text's
+-- a fault so far is the fault of the text
 shown : (d : ℕ) (text : List ℕ) (f : GridFault) → fault_so_far d text ≡ Some f → text_fault d text ≡ Some f
 shown d text f h =
     elim (cases_lt most_bytes (length text)) [
@@ -99,19 +99,19 @@ shown d text f h =
 pub fault_stays : (d : ℕ) (front more : List ℕ) (f : GridFault) → fault_so_far d front ≡ Some f → text_fault d (front ++ more) ≡ Some f
 fault_stays d front more f h = shown d (front ++ more) f (so_far_stays d front more f h)
 
--- a refusal of a front is one of the text so far
+-- a refusal of a front is a refusal of the text so far
 pub refusal_stays : (d : ℕ) (front more : List ℕ) (f : GridFault) → IsRefusalSoFar d front f → IsRefusalSoFar d (front ++ more) f
 refusal_stays d front more f h =
     let next = in_time-more front more in
-    told_further _ _ (fault_so_far d front) (fault_so_far d (front ++ more)) f
+    reported_further _ _ (fault_so_far d front) (fault_so_far d (front ++ more)) f
     (λ asks. subst AsksAtHeight (sym next.1) (asks-more (ended_words (take most_bytes front)) next.0 asks))
     (so_far_stays d front more) h
 
--- and of the text
+-- a refusal so far is a refusal of the whole text
 pub whole_refusal : (d : ℕ) (text : List ℕ) (f : GridFault) → IsRefusalSoFar d text f → IsRefusal d text f
 whole_refusal d text f h =
     let next = in_time-judged text in
-    told_further _ _ (fault_so_far d text) (text_fault d text) f
+    reported_further _ _ (fault_so_far d text) (text_fault d text) f
     (λ asks.
     let more : AsksAtHeight (judged_words text) = subst AsksAtHeight (sym next.1) (asks-more (ended_words (take most_bytes text)) next.0 asks) in
     (more.0, λ far. more.1))
@@ -124,12 +124,12 @@ stays d front more f h = whole_refusal d (front ++ more) f (refusal_stays d fron
 
 refused : (d : ℕ) (front : List ℕ) (f : GridFault) → length front ≤ most_bytes → IsWordFault d (ended_words front) f → IsRefusalSoFar d front f
 refused d front f short h =
-    told_further _ _ (words_fault d (ended_words front)) (fault_so_far d front) f
+    reported_further _ _ (words_fault d (ended_words front)) (fault_so_far d front) f
     (λ asks. subst (λ z. AsksAtHeight (ended_words z)) (sym (take_all most_bytes front short)) asks)
     (λ g e. few_so_far d front short ∙ e) h
 
--- what was read has no fault so far
-read_none : (p : Progress) (text : List ℕ) → HasWords p text → words_fault p.judge.scale (ended_words text) ≡ None
+-- words that were read have no fault
+read_none : (p : Tokenizer) (text : List ℕ) → HasWords p text → words_fault p.judge.scale (ended_words text) ≡ None
 read_none p text h = ap (words_fault p.judge.scale) h.parted.ended ∙ judged_none p.judge h.ended h.judged
 
 -- ---- the end
@@ -139,18 +139,18 @@ asked text short asks = (rw (le-leb (length text) most_bytes short) asks, λ far
 
 pub end_refused : (d : ℕ) (text : List ℕ) (f : GridFault) → length text ≤ most_bytes → IsWordFault d (words text) f → IsRefusal d text f
 end_refused d text f short h =
-    told_further _ _ (words_fault d (words text)) (text_fault d text) f
+    reported_further _ _ (words_fault d (words text)) (text_fault d text) f
     (λ asks. asked text short asks.0)
     (λ g e. few_fault d text short ∙ ap (λ o. option_or o (end_fault (words text))) e) h
 
--- the answer at the end, where no word has a fault
+-- the result at the end, where no word has a fault
 pub finished : (d : ℕ) (text : List ℕ) (r : Result Raster GridFault) → length text ≤ most_bytes → words_fault d (words text) ≡ None → MatchResult r (λ g. (end_fault (words text) ≡ None) × (g ≡ grid_of d (words text))) (IsEndFault (words text)) → MatchResult r (IsGridText d text) (IsRefusal d text)
 finished d text r short none m =
-    let told = few_fault d text short ∙ ap (λ o. option_or o (end_fault (words text))) none in
-    MatchResult-weaker r m (λ g k. record { faultless = told ∙ k.0; grid = k.1 })
-    (λ f k. told_further _ _ (end_fault (words text)) (text_fault d text) f (asked text short) (λ g e. told ∙ e) k)
+    let reported = few_fault d text short ∙ ap (λ o. option_or o (end_fault (words text))) none in
+    MatchResult-weaker r m (λ g k. record { faultless = reported ∙ k.0; grid = k.1 })
+    (λ f k. reported_further _ _ (end_fault (words text)) (text_fault d text) f (asked text short) (λ g e. reported ∙ e) k)
 
--- a text that is a grid is a lawful one
+-- a grid that a text spells is lawful
 pub lawful_text : (d : ℕ) (text : List ℕ) (g : Raster) → d ≤ 6 → IsGridText d text g → IsLawful g
 lawful_text d text g few h =
     elim (cases_lt most_bytes (length text)) [
@@ -160,7 +160,7 @@ lawful_text d text g few h =
           subst IsLawful (sym h.grid) (lawful_words d (words text) few none.0 none.1)
     ]
 
--- ---- what a reader has taken
+-- ---- what a reader was fed
 
 pub reading : (r : Reader) (text : List ℕ) → r.fault ≡ None → HasTaken r text → IsReading r text
 reading r text e h = MatchOption-at_none (IsReading r text) (IsRefusalSoFar r.scale text) e h
@@ -175,7 +175,6 @@ answered_more r text more f e h =
 
 -- ---- a piece
 
--- a fault within the piece
 pub fed_fault : (r : Reader) (text piece : List ℕ) (within : ℕ) (f : GridFault) → within ≡ min (length piece) (most_bytes - r.count) → r.fault ≡ None → HasTaken r text → ((t : List ℕ) → HasWords r.words t → (n : ℕ) × (n ≤ length (take within piece)) × IsWordFault r.words.judge.scale (ended_words (t ++ take n (take within piece))) f) → IsRefusalSoFar r.words.judge.scale (text ++ piece) f
 fed_fault r text piece within f cut none h fault =
     let k = reading r text none h in
@@ -187,8 +186,8 @@ fed_fault r text piece within f cut none h fault =
     subst (λ t. IsRefusalSoFar r.words.judge.scale t f) (sym more)
     (refusal_stays r.words.judge.scale (text ++ take at.0 part) (drop at.0 part ++ drop within piece) f (refused r.words.judge.scale (text ++ take at.0 part) f size at.2))
 
--- a piece past the most bytes
-pub fed_long : (r : Reader) (p : Progress) (text piece : List ℕ) (within : ℕ) → within ≡ min (length piece) (most_bytes - r.count) → r.fault ≡ None → HasTaken r text → within < length piece → ((t : List ℕ) → HasWords r.words t → HasWords p (t ++ take within piece)) → fault_so_far p.judge.scale (text ++ piece) ≡ Some TooLong
+-- a piece that makes the text too long
+pub fed_long : (r : Reader) (p : Tokenizer) (text piece : List ℕ) (within : ℕ) → within ≡ min (length piece) (most_bytes - r.count) → r.fault ≡ None → HasTaken r text → within < length piece → ((t : List ℕ) → HasWords r.words t → HasWords p (t ++ take within piece)) → fault_so_far p.judge.scale (text ++ piece) ≡ Some TooLong
 fed_long r p text piece within cut none h over next =
     let k = reading r text none h in
     let longer : most_bytes < length (text ++ piece) = omega (arith, cut, over, k.size, k.short, length-append text piece) in
@@ -197,7 +196,7 @@ fed_long r p text piece within cut none h over next =
     many_so_far p.judge.scale (text ++ piece) longer
     ∙ ap (λ o. option_or o (Some TooLong)) (ap (λ z. words_fault p.judge.scale (ended_words z)) in_time ∙ read_none p (text ++ take within piece) (next text k.words_of))
 
--- a piece that has no fault
+-- a piece without a fault
 pub fed_all : (r r' : Reader) (text piece : List ℕ) → r.fault ≡ None → HasTaken r text → length piece ≤ most_bytes - r.count → ((t : List ℕ) → HasWords r.words t → HasWords r'.words (t ++ piece)) → r'.words.judge.scale ≡ r'.scale → r'.count ≡ r.count + length piece → IsReading r' (text ++ piece)
 fed_all r r' text piece none h few next scale count =
     let k = reading r text none h in
@@ -209,12 +208,11 @@ fed_all r r' text piece none h few next scale count =
       short = omega (arith, size, k.size, k.short, few);
     }
 
--- one that is short enough
 pub fed_whole : (r r' : Reader) (text piece : List ℕ) (within : ℕ) → within ≡ min (length piece) (most_bytes - r.count) → r.fault ≡ None → HasTaken r text → length piece ≤ within → ((t : List ℕ) → HasWords r.words t → HasWords r'.words (t ++ take within piece)) → r'.words.judge.scale ≡ r'.scale → r'.count ≡ r.count + within → IsReading r' (text ++ piece)
 fed_whole r r' text piece within cut none h all next scale count =
     fed_all r r' text piece none h (omega (arith, cut, all)) (λ t was. subst (λ z. HasWords r'.words (t ++ z)) (take_all within piece all) (next t was)) scale (omega (arith, cut, all, count))
 
--- what a reader keeps has no fault so far
+-- what a reader has read has no fault so far
 pub faultless : (r : Reader) (text : List ℕ) → IsReading r text → fault_so_far r.scale text ≡ None
 faultless r text h = rw (← h.same_scale) (few_so_far r.words.judge.scale text h.short ∙ read_none r.words text h.words_of)
 
@@ -240,7 +238,7 @@ Feeds-more a b c front piece r h k = record {
   again = λ f e. absurd (let no = h.again f e in cc);
 }
 
--- after a fault, what follows is not looked at
+-- after a fault, the rest is not read
 pub Feeds-stopped : {T : Type 0} (a b : Reader) (front more : List ℕ) (f : GridFault) → Feeds {T = T} a b front (Err f) → Feeds {T = T} a b (front ++ more) (Err f)
 Feeds-stopped a b front more f h = record {
   scale = h.scale;

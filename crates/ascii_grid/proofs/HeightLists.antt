@@ -1,4 +1,4 @@
--- Cells that are read apart from the rest of a text: one more word, and what a judge keeps of them.
+-- Cells parsed apart from the rest of a text: one more word, and how they are added.
 use Rattle.std.proofs.Common.{◌≡◌, ℕ, ◌+◌, ◌<◌, ◌≤◌, ℤ, true, false, List, [], ◌∷◌, ◌++◌, length, take, get_or, map, Option, None, Some, Bool, zero, suc, inl, inr, arith, refl, ap, sym, ◌∙◌, subst}
 use Rattle.std.specs.Prelude.{filter}
 use Rattle.std.specs.Option.{option_or}
@@ -15,7 +15,7 @@ use Rattle.ascii_grid.specs.HeightList.{Form, IsHeightWord, AreCells, IsEndedWor
 use Rattle.ascii_grid.specs.Reading.{flat, IsParted, HasWords, AreHeights}
 use Rattle.ascii_grid.specs.declared.judge.Judge.{Judge}
 use Rattle.ascii_grid.specs.declared.judge.Stage.TheVariants.{AtHeights}
-use Rattle.ascii_grid.specs.declared.progress.Progress.{Progress}
+use Rattle.ascii_grid.specs.declared.progress.Tokenizer.{Tokenizer}
 use Rattle.ascii_grid.proofs.Parting.{words-parted, IsParted-none, IsParted-byte, IsParted-separator}
 use Rattle.ascii_grid.proofs.Judging.{Pairs, HasBegun-more, heights_fault-append}
 use Rattle.ascii_grid.proofs.JudgedWords.{at_heights, judged-heights, words-after, height_fault-none, place_of}
@@ -43,7 +43,7 @@ only_ended text bytes vs ws w h e k =
 pub IsParted-ended : (bytes : List ℕ) → ended_words bytes ≡ words bytes → IsParted bytes (words bytes) []
 IsParted-ended bytes e = let at = parted bytes in only_ended bytes bytes [] at.0 at.1 at.2 e at.2
 
--- all words of such bytes
+-- the words of such bytes
 pub words-ended : (bytes : List ℕ) (ws : List Word) → IsParted bytes ws [] → words bytes ≡ ws
 words-ended bytes ws h = words-parted bytes ws [] h ∙ append-nil ws
 
@@ -90,7 +90,7 @@ IsEndedWord-position bytes len e some short =
       ends = at.1;
     }
 
--- ---- the words of two texts, where the first has no word in progress
+-- ---- the words of two texts, where the first has no unfinished word
 
 abbrev Beside : List ℕ → List Word → List ℕ → Type 0
 Beside text ws piece = (vs : List Word) × (w : Word) × IsParted piece vs w × IsParted (text ++ piece) (ws ++ vs) w
@@ -115,7 +115,7 @@ IsParted-more text piece ws h e =
     let at = beside text ws [] [] [] piece IsParted-none begun in
     only_ended (text ++ piece) piece ws at.0 at.1 at.2 e at.3
 
--- ---- what a judge keeps of them
+-- ---- adding the cells
 
 heights_none : (form : Form) (d : ℕ) (header : List Word) (place : ℕ) (more : List Word) → form.scale ≡ d → form.nodata ≡ nodata_for header → missing_fault header ≡ None → place + length more ≤ cells_wanted header → All (IsHeightWord form) more → heights_fault d header place more ≡ None
 heights_none form d header place [] scale nodata whole room h = refl
@@ -138,8 +138,8 @@ AreHeights-more j j' ps hs more form cells h same_scale same_nodata heights are 
       cells = all ∙ rw (scale, nodata) (ap (λ z. z ++ cells) h.cells ∙ ap (λ z. map (spelled_cell j.scale j.nodata) hs ++ z) known ∙ sym (map-append (spelled_cell j.scale j.nodata) hs more));
     }
 
--- the cells of more bytes, where no word is in progress
-pub HasWords-more : (p p' : Progress) (text piece : List ℕ) (form : Form) (cells : List (Option ℤ)) → HasWords p text → p.word ≡ [] → p.judge.stage ≡ AtHeights → AreCells form piece cells → p'.word ≡ p.word → p'.judge.header ≡ p.judge.header → p'.judge.stage ≡ p.judge.stage → ((ps : Pairs) (hs more : List Word) → AreHeights p.judge ps hs → All (IsHeightWord form) more → cells ≡ map (spelled_cell form.scale form.nodata) more → AreHeights p'.judge ps (hs ++ more)) → HasWords p' (text ++ piece)
+-- adding the cells of more bytes, without an unfinished word
+pub HasWords-more : (p p' : Tokenizer) (text piece : List ℕ) (form : Form) (cells : List (Option ℤ)) → HasWords p text → p.word ≡ [] → p.judge.stage ≡ AtHeights → AreCells form piece cells → p'.word ≡ p.word → p'.judge.header ≡ p.judge.header → p'.judge.stage ≡ p.judge.stage → ((ps : Pairs) (hs more : List Word) → AreHeights p.judge ps hs → All (IsHeightWord form) more → cells ≡ map (spelled_cell form.scale form.nodata) more → AreHeights p'.judge ps (hs ++ more)) → HasWords p' (text ++ piece)
 HasWords-more p p' text piece form cells h none stage k word header same judged =
     let there = at_heights p.judge h.ended h.judged stage in
     let ps = h.judged.pairs in
@@ -152,9 +152,9 @@ HasWords-more p p' text piece form cells h none stage k word header same judged 
       front = word ∙ none;
     }
 
--- what the heights have to be known by is what the header says
-pub form_told : (p : Progress) (text : List ℕ) → HasWords p text → p.judge.stage ≡ AtHeights → p.judge.nodata ≡ nodata_for (header_words (ended_words text))
-form_told p text h stage =
+-- the NODATA word in use is the header's
+pub form_nodata : (p : Tokenizer) (text : List ℕ) → HasWords p text → p.judge.stage ≡ AtHeights → p.judge.nodata ≡ nodata_for (header_words (ended_words text))
+form_nodata p text h stage =
     let there = at_heights p.judge h.ended h.judged stage in
     let header = (words-after p.judge.header h.judged.pairs h.judged.rest h.judged.header there.0).0 in
     there.1.nodata ∙ ap nodata_for (sym (ap header_words (h.parted.ended ∙ h.judged.words) ∙ header))

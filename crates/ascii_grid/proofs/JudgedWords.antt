@@ -1,4 +1,4 @@
--- What a judge has kept after one more word, and what is told of a word that has a fault.
+-- The effect of one more word, and the fault that is returned for a word that has one.
 use Rattle.std.proofs.Common.{◌≡◌, ℕ, ◌+◌, ◌<◌, ◌≤◌, Bool, true, false, cond, List, [], ◌∷◌, ◌++◌, length, take, Option, None, Some, arith, refl, ap, sym, ◌∙◌, subst, inl, inr, nat_lt, ◌⊎◌, Result, MatchResult}
 use Rattle.std.specs.Prelude.{MatchOption, option_map}
 use Rattle.std.specs.Option.{option_or, option_map_or}
@@ -8,7 +8,7 @@ use Rattle.std.proofs.lemmas.Bool.{cases_Bool, lt-ltb, le-ltb}
 use Rattle.std.proofs.lemmas.List.{append-nil, append_assoc, length-append, map_push, length-map}
 use Rattle.terrain.specs.Words.{Word}
 use Rattle.ascii_grid.specs.Header.{fills, slot_of, is_long, is_value, bad_value, begins_with_letter, header_words, height_words, key_left, nodata_for, header_fault, key_fault, value_fault, missing_fault}
-use Rattle.ascii_grid.specs.GridText.{AsksForCells, is_cell, spelled_cell, cells_wanted, words_fault, heights_fault, height_fault, AsksAtHeight, IsTold}
+use Rattle.ascii_grid.specs.GridText.{AsksForCells, is_cell, spelled_cell, cells_wanted, words_fault, heights_fault, height_fault, AsksAtHeight, IsReported}
 use Rattle.ascii_grid.specs.Slots.{is_given, is_centre, with_value}
 use Rattle.ascii_grid.specs.Reading.{flat, slots_of, keys_before, IsHeaderOf, AwaitsValue, HasBegun, AreHeights, IsAt, HasJudged, IsWordFault}
 use Rattle.ascii_grid.specs.declared.fault.Key.{Key}
@@ -22,7 +22,7 @@ use Rattle.ascii_grid.proofs.Judging.{Pairs, or_none, then_none, words-flat, key
 use Rattle.std.proofs.lemmas.Result.{MatchResult-weaker}
 use Rattle.ascii_grid.specs.declared.fault.Key.TheVariants.{Ncols}
 
--- ---- where a judge stands
+-- ---- the stage
 
 pub at_key : (j : Judge) (ws : List Word) (h : HasJudged j ws) → j.stage ≡ AtKey → ws ≡ flat h.pairs
 at_key j ws h e = h.words ∙ ap (λ z. flat h.pairs ++ z) (rw e at h.at) ∙ append-nil (flat h.pairs)
@@ -127,7 +127,7 @@ words-after h ps hs k begun =
 pub paired : (ps : Pairs) → key_left (flat ps) ≡ None
 paired ps = ap key_left (sym (append-nil (flat ps))) ∙ key_left-flat ps []
 
--- the list of cells is asked for once the header is whole
+-- once the header is whole, the list of cells is allocated
 pub asks : (h : Header) (ps : Pairs) (hs : List Word) → IsHeaderOf h ps → HasBegun hs → missing_fault (flat ps) ≡ None → list_any is_long (take 1 hs) ≡ false → AsksForCells (flat ps ++ hs)
 asks h ps hs k begun whole first =
     let are = words-after h ps hs k begun in
@@ -138,12 +138,12 @@ asks h ps hs k begun whole first =
       first = ap (λ z. list_any is_long (take 1 z)) are.1 ∙ first;
     }
 
--- where the heights so far have no fault, the first of them isn't long
+-- if the heights so far have no fault, the first is not too long
 first_short : (d : ℕ) (header hs : List Word) (w : Word) → length w ≤ 64 → heights_fault d header 0 hs ≡ None → list_any is_long (take 1 (hs ++ w ∷ [])) ≡ false
 first_short d header [] w short none = rw (is_short w short) refl
 first_short d header (x ∷ hs) w short none = rw (then_none (is_long x) TooLong _ (or_none (height_fault d header 0 x) _ none).0).0 refl
 
--- the words after a header, more heights among them
+-- more heights after a header
 pub judged-heights : (j j' : Judge) (ws : List Word) (ps : Pairs) (hs more : List Word) → IsHeaderOf j.header ps → ws ≡ flat ps ++ hs → HasBegun (hs ++ more) → AreHeights j' ps (hs ++ more) → j'.header ≡ j.header → j'.stage ≡ AtHeights → HasJudged j' (ws ++ more)
 judged-heights j j' ws ps hs more k e begun heights same stage = record {
   pairs = ps;
@@ -153,7 +153,6 @@ judged-heights j j' ws ps hs more k e begun heights same stage = record {
   at = subst (IsAt j' ps (hs ++ more)) (sym stage) (begun, heights);
 }
 
--- the fault of one more height
 pub next-height : (d : ℕ) (ws : List Word) (ps : Pairs) (hs : List Word) (w : Word) (h : Header) → IsHeaderOf h ps → ws ≡ flat ps ++ hs → HasBegun (hs ++ w ∷ []) → heights_fault d (flat ps) 0 hs ≡ None → words_fault d (ws ++ w ∷ []) ≡ height_fault d (flat ps) (length hs) w
 next-height d ws ps hs w h k e begun none =
     ap (words_fault d) (ap (λ z. z ++ w ∷ []) e ∙ append_assoc (flat ps) hs (w ∷ []))
@@ -162,22 +161,21 @@ next-height d ws ps hs w h k e begun none =
     ∙ ap (λ o. option_or o (height_fault d (flat ps) (0 + length hs) w)) none
     ∙ ap (λ n. height_fault d (flat ps) n w) (omega arith)
 
--- no memory at a height
+-- want of memory at a height
 pub memory-height : (j : Judge) (ws : List Word) (ps : Pairs) (hs : List Word) (w : Word) (h : Header) → IsHeaderOf h ps → ws ≡ flat ps ++ hs → HasBegun (hs ++ w ∷ []) → missing_fault (flat ps) ≡ None → heights_fault j.scale (flat ps) 0 hs ≡ None → length w ≤ 64 → AsksAtHeight (ws ++ w ∷ [])
 memory-height j ws ps hs w h k e begun whole none short =
     let words : ws ++ w ∷ [] ≡ flat ps ++ (hs ++ w ∷ []) = ap (λ z. z ++ w ∷ []) e ∙ append_assoc (flat ps) hs (w ∷ []) in
     rw words (asks h ps (hs ++ w ∷ []) k begun whole (first_short j.scale (flat ps) hs w short none), rw ((words-after h ps (hs ++ w ∷ []) k begun).1) (omega (arith, length-append hs (w ∷ []))))
 
--- ---- the heights that a judge keeps
+-- ---- the stored heights
 
 pub height_fault-none : (d : ℕ) (header : List Word) (place : ℕ) (w : Word) → length w ≤ 64 → missing_fault header ≡ None → place < cells_wanted header → is_cell d (nodata_for header) w ≡ true → height_fault d header place w ≡ None
 height_fault-none d header place w short whole room ok = rw (is_short w short, whole, lt-ltb place (cells_wanted header) room, ok) refl
 
--- how many heights there are
+-- as many cells are stored as heights were read
 pub place_of : (j : Judge) (ps : Pairs) (hs : List Word) → AreHeights j ps hs → length j.cells.items ≡ length hs
 place_of j ps hs h = ap length h.cells ∙ length-map hs (spelled_cell j.scale j.nodata)
 
--- one more height
 pub AreHeights-push : (j j' : Judge) (ps : Pairs) (hs : List Word) (w : Word) → AreHeights j ps hs → length w ≤ 64 → length j.cells.items < j.wanted → is_cell j.scale j.nodata w ≡ true → j'.wanted ≡ j.wanted → j'.nodata ≡ j.nodata → j'.nodata_value ≡ j.nodata_value → j'.scale ≡ j.scale → j'.cells.items ≡ j.cells.items ++ spelled_cell j.scale j.nodata w ∷ [] → AreHeights j' ps (hs ++ w ∷ [])
 AreHeights-push j j' ps hs w h short room ok wanted nodata value scale cells = record {
   whole = h.whole;
@@ -188,7 +186,7 @@ AreHeights-push j j' ps hs w h short room ok wanted nodata value scale cells = r
   cells = cells ∙ rw (scale, nodata) (ap (λ z. z ++ spelled_cell j.scale j.nodata w ∷ []) h.cells ∙ sym (map_push (spelled_cell j.scale j.nodata) hs w));
 }
 
--- words that were judged have no fault
+-- words that were read have no fault
 pub judged_none : (j : Judge) (ws : List Word) → HasJudged j ws → words_fault j.scale ws ≡ None
 judged_none j ws h = by_stage j.stage refl
   where
@@ -205,55 +203,54 @@ judged_none j ws h = by_stage j.stage refl
         ∙ words_fault-heights j.scale h.pairs h.rest h.header.keys h.header.faultless there.0
         ∙ there.1.faultless
 
--- want of memory
 abbrev pub is_memory : Option GridFault → Bool
 is_memory None = false
 is_memory (Some Memory) = true
 is_memory (Some f) = false
 
-told_or : (o p : Option GridFault) → is_memory o ≡ false → is_memory p ≡ false → is_memory (option_or o p) ≡ false
-told_or None p h k = k
-told_or (Some f) p h k = h
+not_memory_or : (o p : Option GridFault) → is_memory o ≡ false → is_memory p ≡ false → is_memory (option_or o p) ≡ false
+not_memory_or None p h k = k
+not_memory_or (Some f) p h k = h
 
-pub told_bad_value : (slot : Key) → is_memory (Some (bad_value slot)) ≡ false
-told_bad_value Ncols = refl
-told_bad_value slot = refl
+pub not_memory_bad_value : (slot : Key) → is_memory (Some (bad_value slot)) ≡ false
+not_memory_bad_value Ncols = refl
+not_memory_bad_value slot = refl
 
-told_cond : (b : Bool) (o p : Option GridFault) → is_memory o ≡ false → is_memory p ≡ false → is_memory (cond b o p) ≡ false
-told_cond true o p h k = h
-told_cond false o p h k = k
+not_memory_cond : (b : Bool) (o p : Option GridFault) → is_memory o ≡ false → is_memory p ≡ false → is_memory (cond b o p) ≡ false
+not_memory_cond true o p h k = h
+not_memory_cond false o p h k = k
 
--- the fault of a key word
-pub told_slot : (o : Option Key) (given : Key → Type 0) (f : GridFault) → MatchOption o (f ≡ UnknownKey) (λ slot. given slot × (f ≡ RepeatedKey slot)) → is_memory (Some f) ≡ false
-told_slot None given f e = ap (λ g. is_memory (Some g)) e
-told_slot (Some slot) given f e = ap (λ g. is_memory (Some g)) e.1
+-- a fault of a key word is not want of memory
+pub not_memory_slot : (o : Option Key) (given : Key → Type 0) (f : GridFault) → MatchOption o (f ≡ UnknownKey) (λ slot. given slot × (f ≡ RepeatedKey slot)) → is_memory (Some f) ≡ false
+not_memory_slot None given f e = ap (λ g. is_memory (Some g)) e
+not_memory_slot (Some slot) given f e = ap (λ g. is_memory (Some g)) e.1
 
-told_missing_slot : (o : Option Key) → is_memory (option_map MissingKey o) ≡ false
-told_missing_slot None = refl
-told_missing_slot (Some slot) = refl
+not_memory_missing_slot : (o : Option Key) → is_memory (option_map MissingKey o) ≡ false
+not_memory_missing_slot None = refl
+not_memory_missing_slot (Some slot) = refl
 
-pub told_missing : (header : List Word) → is_memory (missing_fault header) ≡ false
-told_missing header = told_missing_slot _
+pub not_memory_missing : (header : List Word) → is_memory (missing_fault header) ≡ false
+not_memory_missing header = not_memory_missing_slot _
 
-told_height : (d : ℕ) (header : List Word) (place : ℕ) (w : Word) → is_memory (height_fault d header place w) ≡ false
-told_height d header place w =
-    told_cond (is_long w) (Some TooLong) _ refl
-    (told_or (missing_fault header) _ (told_missing header)
-    (told_cond (nat_lt place (cells_wanted header)) _ (Some TooMany) (told_cond (is_cell d (nodata_for header) w) None (Some (BadHeight place)) refl refl) refl))
+not_memory_height : (d : ℕ) (header : List Word) (place : ℕ) (w : Word) → is_memory (height_fault d header place w) ≡ false
+not_memory_height d header place w =
+    not_memory_cond (is_long w) (Some TooLong) _ refl
+    (not_memory_or (missing_fault header) _ (not_memory_missing header)
+    (not_memory_cond (nat_lt place (cells_wanted header)) _ (Some TooMany) (not_memory_cond (is_cell d (nodata_for header) w) None (Some (BadHeight place)) refl refl) refl))
 
--- ---- the fault that is told
+-- ---- the fault that is reported
 
-pub told : (may_lack : Type 0) (o : Option GridFault) (f : GridFault) → is_memory o ≡ false → o ≡ Some f → IsTold may_lack o f
-told may_lack o Memory m h = absurd (let k : is_memory o ≡ true = ap is_memory h in cc)
-told may_lack o f m h = h
+pub reported : (may_lack : Type 0) (o : Option GridFault) (f : GridFault) → is_memory o ≡ false → o ≡ Some f → IsReported may_lack o f
+reported may_lack o Memory m h = absurd (let k : is_memory o ≡ true = ap is_memory h in cc)
+reported may_lack o f m h = h
 
--- what is told here is told there
-pub told_further : (may_lack may_lack' : Type 0) (o o' : Option GridFault) (f : GridFault) → (may_lack → may_lack') → ((g : GridFault) → o ≡ Some g → o' ≡ Some g) → IsTold may_lack o f → IsTold may_lack' o' f
-told_further may_lack may_lack' o o' Memory lacks more h = lacks h
-told_further may_lack may_lack' o o' f lacks more h = more f h
+-- a reported fault stays one under weaker conditions
+pub reported_further : (may_lack may_lack' : Type 0) (o o' : Option GridFault) (f : GridFault) → (may_lack → may_lack') → ((g : GridFault) → o ≡ Some g → o' ≡ Some g) → IsReported may_lack o f → IsReported may_lack' o' f
+reported_further may_lack may_lack' o o' Memory lacks more h = lacks h
+reported_further may_lack may_lack' o o' f lacks more h = more f h
 
 pub word_fault : (d : ℕ) (ws : List Word) (f : GridFault) → is_memory (Some f) ≡ false → words_fault d ws ≡ Some f → IsWordFault d ws f
-word_fault d ws f other h = told (AsksAtHeight ws) (words_fault d ws) f (ap is_memory h ∙ other) h
+word_fault d ws f other h = reported (AsksAtHeight ws) (words_fault d ws) f (ap is_memory h ∙ other) h
 
 pub memory_fault : (d : ℕ) (ws : List Word) (f : GridFault) → f ≡ Memory → AsksAtHeight ws → IsWordFault d ws f
 memory_fault d ws f e h = rw e h
@@ -276,20 +273,20 @@ long_fault j ws w h far = by_stage j.stage refl
         let there = at_heights j ws h e in
         next-height j.scale ws h.pairs h.rest w j.header h.header h.words (HasBegun-more h.rest (w ∷ []) there.0) there.1.faultless ∙ rw long refl
 
--- a height, the first or a further one
+-- a height, the first or a later one
 pub height_word : {T : Type 0} (j j' : Judge) (ws : List Word) (ps : Pairs) (hs : List Word) (w : Word) (r : Result T GridFault) → IsHeaderOf j.header ps → ws ≡ flat ps ++ hs → HasBegun (hs ++ w ∷ []) → AreHeights j ps hs → length w ≤ 64 → j'.header ≡ j.header → j'.stage ≡ AtHeights → MatchResult r (λ _. AreHeights j' ps (hs ++ w ∷ [])) (λ f. (f ≡ Memory) ⊎ (height_fault j.scale (flat ps) (length hs) w ≡ Some f)) → MatchResult r (λ _. HasJudged j' (ws ++ w ∷ [])) (IsWordFault j.scale (ws ++ w ∷ []))
 height_word j j' ws ps hs w r k e begun heights short same stage m =
     MatchResult-weaker r m (λ _ more. judged-heights j j' ws ps hs (w ∷ []) k e begun more same stage)
     (λ f why. elim why [
       | inl lack ↦ memory_fault j.scale (ws ++ w ∷ []) f lack (memory-height j ws ps hs w j.header k e begun heights.whole heights.faultless short)
-      | inr fault ↦ word_fault j.scale (ws ++ w ∷ []) f (ap is_memory (sym fault) ∙ told_height j.scale (flat ps) (length hs) w) (next-height j.scale ws ps hs w j.header k e begun heights.faultless ∙ fault)
+      | inr fault ↦ word_fault j.scale (ws ++ w ∷ []) f (ap is_memory (sym fault) ∙ not_memory_height j.scale (flat ps) (length hs) w) (next-height j.scale ws ps hs w j.header k e begun heights.faultless ∙ fault)
     ])
 
--- no first height: the header isn't whole, or there is no memory
+-- a first height that fails: a header slot is missing, or memory is wanting
 pub no_first_height : (j : Judge) (ws : List Word) (w : Word) (f : GridFault) (h : HasJudged j ws) → j.stage ≡ AtKey → begins_with_letter w ≡ false → length w ≤ 64 → (missing_fault (flat h.pairs) ≡ Some f) ⊎ ((f ≡ Memory) × (missing_fault (flat h.pairs) ≡ None)) → IsWordFault j.scale (ws ++ w ∷ []) f
 no_first_height j ws w f h stage begun short why =
     let e = at_key j ws h stage ∙ sym (append-nil (flat h.pairs)) in
     elim why [
-      | inl missing ↦ word_fault j.scale (ws ++ w ∷ []) f (ap is_memory (sym missing) ∙ told_missing (flat h.pairs)) (next-height j.scale ws h.pairs [] w j.header h.header e begun refl ∙ rw (is_short w short, missing) refl)
+      | inl missing ↦ word_fault j.scale (ws ++ w ∷ []) f (ap is_memory (sym missing) ∙ not_memory_missing (flat h.pairs)) (next-height j.scale ws h.pairs [] w j.header h.header e begun refl ∙ rw (is_short w short, missing) refl)
       | inr lack ↦ memory_fault j.scale (ws ++ w ∷ []) f lack.0 (memory-height j ws h.pairs [] w j.header h.header e begun lack.1 refl short)
     ]

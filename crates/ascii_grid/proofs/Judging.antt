@@ -1,4 +1,4 @@
--- One more word of a text: what it does to the header, the heights and the first fault.
+-- One more word of a text: its effect on the header, the heights and the first fault.
 use Rattle.std.proofs.Common.{◌≡◌, ℕ, ◌+◌, Bool, true, false, ◌||◌, cond, List, [], ◌∷◌, ◌++◌, length, Option, None, Some, arith, refl, ap, sym, ◌∙◌}
 use Rattle.std.specs.Prelude.{find, is_some, unwrap_or, option_map}
 use Rattle.std.specs.Option.{option_or}
@@ -37,7 +37,7 @@ pub is_some-option_map : {X Y : Type 0} (f : X → Y) (o : Option X) → is_some
 is_some-option_map f None = refl
 is_some-option_map f (Some x) = refl
 
--- where no fault is chosen
+-- if the first fault of two is none, both are none
 pub or_none : {X : Type 0} (o p : Option X) → option_or o p ≡ None → (o ≡ None) × (p ≡ None)
 or_none None p h = (refl, h)
 or_none (Some x) p h = cc
@@ -113,7 +113,7 @@ wanted_of-slots_of ps = rw (pairs-flat ps, number-of_pair (given Ncols ps), numb
 given-push : (s : Key) (ps : Pairs) (k v : Word) → given s (ps ++ (k, v) ∷ []) ≡ option_or (given s ps) (cond (fills s k) (Some (k, v)) None)
 given-push s ps k v = find-append (λ (p : Word × Word). fills s p.0) ps ((k, v) ∷ [])
 
--- the slots of pairs that are the same but for this slot
+-- two lists of pairs that differ in this slot alone, which the second fills
 abbrev FilledAt : Key → Word × Word → Pairs → Pairs → Type 0
 FilledAt slot p ps qs = (given slot qs ≡ Some p) × ((s : Key) → (s ≡ slot → ⊥) → given s qs ≡ given s ps)
 
@@ -143,19 +143,17 @@ words_fault-flat d ps rest header heights keys none h k =
     let first : header_fault [] (flat ps ++ header) ≡ header_fault (keys_before ps []) header = header_fault-flat [] ps header ∙ ap (λ o. option_or o (header_fault (keys_before ps []) header)) none in
     rw (front, back, first) refl
 
--- a key
 pub words_fault-key : (d : ℕ) (ps : Pairs) (k : Word) → are_keys ps ≡ true → header_fault [] (flat ps) ≡ None → begins_with_letter k ≡ true → words_fault d (flat ps ++ k ∷ []) ≡ key_fault (keys_before ps []) k
 words_fault-key d ps k keys none b =
     words_fault-flat d ps (k ∷ []) (k ∷ []) [] keys none (rw b refl) (rw b refl) ∙ option_or-none (key_fault (keys_before ps []) k)
 
--- a value
 pub words_fault-value : (d : ℕ) (ps : Pairs) (k v : Word) → are_keys ps ≡ true → header_fault [] (flat ps) ≡ None → begins_with_letter k ≡ true → key_fault (keys_before ps []) k ≡ None → words_fault d (flat ps ++ k ∷ v ∷ []) ≡ value_fault k v
 words_fault-value d ps k v keys none b first =
     words_fault-flat d ps (k ∷ v ∷ []) (k ∷ v ∷ []) [] keys none (rw b refl) (rw b refl)
     ∙ option_or-none (header_fault (keys_before ps []) (k ∷ v ∷ []))
     ∙ rw first (option_or-none (value_fault k v))
 
--- words that begin with no letter are all heights
+-- words of which the first begins with no letter are all heights
 pub words-begun : (hs : List Word) → HasBegun hs → (header_words hs ≡ []) × (height_words hs ≡ hs)
 words-begun [] h = absurd h
 words-begun (x ∷ []) h = (rw h refl, rw h refl)
@@ -165,7 +163,6 @@ pub HasBegun-more : (hs more : List Word) → HasBegun hs → HasBegun (hs ++ mo
 HasBegun-more [] more h = absurd h
 HasBegun-more (x ∷ hs) more h = h
 
--- heights
 pub words_fault-heights : (d : ℕ) (ps : Pairs) (hs : List Word) → are_keys ps ≡ true → header_fault [] (flat ps) ≡ None → HasBegun hs → words_fault d (flat ps ++ hs) ≡ heights_fault d (flat ps) 0 hs
 words_fault-heights d ps hs keys none h =
     words_fault-flat d ps hs [] hs keys none (words-begun hs h).0 (words-begun hs h).1

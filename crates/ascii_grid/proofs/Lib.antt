@@ -1,6 +1,6 @@
--- cells one after another
+-- examples, checked by computation
 mod Rows
--- words of a text, and what they are worth
+-- words, and the cells that they spell
 pub mod Parting
 pub mod Cells
 -- one more word: the header, the heights, the first fault
@@ -8,7 +8,7 @@ pub mod Keys
 pub mod Judging
 pub mod JudgedWords
 pub mod Stays
--- a text by pieces, to its end
+-- a text in pieces, up to its end
 pub mod Ending
 pub mod Spelled
 pub mod Feeding
@@ -21,7 +21,7 @@ pub mod Writing
 pub mod Decimals
 pub mod RowText
 pub mod TextLength
--- the written text, read again
+-- the written text, read back
 pub mod ReadBackDecimals
 pub mod ReadBackCells
 pub mod ReadBack

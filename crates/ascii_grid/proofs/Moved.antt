@@ -1,4 +1,4 @@
--- The bytes that one call moved and then another.
+-- The count of bytes after one call and then another.
 use Rattle.std.proofs.Common.{ℕ, List, [], ◌++◌, ◌≡◌, ◌≤◌, length, take, Option, None, Some, sym, ap, ◌∙◌, arith}
 use Rattle.std.specs.Io.KnownBytes.{Appends, Consumes, Keeps}
 use Rattle.std.proofs.lemmas.List.{append_assoc, length-append, length-take-le}
@@ -33,14 +33,11 @@ written_more contents a b c x y h k = record { known = Appends-more _ _ _ x y h.
 pub read_more : {R : Type 0} (remaining : R → Option (List ℕ)) (a b c : Device R) (x y : List ℕ) → HasRead remaining a b x → HasRead remaining b c y → HasRead remaining a c (x ++ y)
 read_more remaining a b c x y h k = record { known = Consumes-more _ _ _ x y h.known k.known; moved = Moves-more _ _ _ x y h.moved k.moved }
 
--- a write that took so many bytes
 pub written_some : {W : Type 0} (contents : W → Option (List ℕ)) (a b : Device W) (n : ℕ) (bytes : List ℕ) → n ≤ length bytes → Appends (contents a.device) (contents b.device) (take n bytes) → Moves a.moved b.moved n → HasWritten contents a b (take n bytes)
 written_some contents a b n bytes within known moved = record { known = known; moved = rw (length-take-le n bytes within) moved }
 
--- a read that gave so many bytes
 pub read_some : {R : Type 0} (remaining : R → Option (List ℕ)) (a b : Device R) (n : ℕ) (bytes : List ℕ) → n ≤ length bytes → Consumes (remaining a.device) (remaining b.device) (take n bytes) → Moves a.moved b.moved n → HasRead remaining a b (take n bytes)
 read_some remaining a b n bytes within known moved = record { known = known; moved = rw (length-take-le n bytes within) moved }
 
--- a read that failed
 pub read_none : {R : Type 0} (remaining : R → Option (List ℕ)) (a b : Device R) → Keeps (remaining a.device) (remaining b.device) → b.moved ≡ a.moved → HasRead remaining a b []
 read_none remaining a b kept same = record { known = Consumes-none _ _ kept; moved = Moves-none a.moved b.moved same }

@@ -1,4 +1,4 @@
--- One more byte of a text, what it does to the ended words and to the word in progress, and the words of a written text.
+-- The effect of one more byte on the ended and the unfinished words; the words of a written text.
 use Rattle.std.proofs.Common.{◌≡◌, ℕ, ◌+◌, ◌-◌, ◌≤◌, Bool, true, false, not, cond, List, [], ◌∷◌, ◌++◌, length, take, arith, refl, ap, sym, ◌∙◌, inl, inr, zero, suc, ◌*◌, ◌<◌, drop, map}
 use Rattle.std.specs.Prelude.{filter}
 use Rattle.std.specs.List.{slice_split, onto_first, before_last, suffix_len, prefix_len, All, list_any, filter, join_with_byte}
@@ -10,7 +10,7 @@ use Rattle.terrain.specs.Words.{Word, is_word, is_separator, words, ended_words}
 use Rattle.ascii_grid.specs.Reading.{IsParted}
 use Rattle.ascii_grid.specs.Text.{rows_text}
 
--- the parts of two texts, one after another: the last of the one and the first of the other are one part
+-- splitting joined texts: the last part of the first and the first of the second are one part
 abbrev Continues : (ℕ → Bool) → List ℕ → List ℕ → Word → List Word → Type 0
 Continues p xs ys first rest = (front : List Word) (last : Word) → slice_split p xs ≡ front ++ last ∷ [] → slice_split p (xs ++ ys) ≡ front ++ (last ++ first) ∷ rest
 
@@ -37,7 +37,7 @@ split-append p (x ∷ xs) ys first rest k front last h =
         let same : x ∷ part ≡ begun = cc in
         ap (onto_first x) (more (part ∷ front) last (cc)) ∙ ap (λ w. w ∷ front ++ (last ++ first) ∷ rest) same
 
--- ---- what a separator ends
+-- ---- a separator ends a word
 
 suffix_len-push : (p : ℕ → Bool) (xs : List ℕ) (b : ℕ) → suffix_len p (xs ++ b ∷ []) ≡ cond (p b) (1 + suffix_len p xs) 0
 suffix_len-push p xs b = ap (prefix_len p) (reverse-append xs (b ∷ []))
@@ -98,12 +98,10 @@ split-plain (x ∷ w) rest b h s =
     cond-false _ _ _ parts.0
     ∙ ap (λ z. onto_first x z) (split-plain w rest b parts.1 s)
 
--- a word, a separator and the rest
 pub words-word : (w rest : List ℕ) (b : ℕ) → IsClean w → is_separator b ≡ true → words (w ++ b ∷ rest) ≡ w ∷ words rest
 words-word w rest b h s =
     ap (λ z. filter is_word z) (split-plain w rest b h.plain s) ∙ cond-true _ _ _ h.some
 
--- a line of words
 pub words-row : {X : Type 0} (f : X → List ℕ) (cells : List X) (rest : List ℕ) → 0 < length cells → All (λ c. IsClean (f c)) cells → words ((join_with_byte 32 (map f cells) ++ 10 ∷ []) ++ rest) ≡ map f cells ++ words rest
 words-row f [] rest h clean = absurd (omega arith)
 words-row f (c ∷ []) rest h clean =
@@ -116,7 +114,6 @@ words-row f (c ∷ d ∷ cells) rest h clean =
       regroup : (a b c d : List ℕ) → ((a ++ 32 ∷ b) ++ c) ++ d ≡ a ++ 32 ∷ ((b ++ c) ++ d)
       regroup a b c d = simp append_assoc
 
--- lines of words
 pub words-rows : {X : Type 0} (f : X → List ℕ) (cols n : ℕ) (cells : List X) → 0 < cols → length cells ≡ n * cols → All (λ c. IsClean (f c)) cells → words (rows_text f cols n cells) ≡ map f cells
 words-rows f cols zero [] h size clean = refl
 words-rows f cols zero (c ∷ cells) h size clean = absurd (omega arith)

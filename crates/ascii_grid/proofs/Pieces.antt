@@ -18,12 +18,11 @@ use Rattle.ascii_grid.proofs.Taking.{IsTaking, not_too_long, consumed_front, con
 same_grid_fault : (f g : GridFault) → ◌≡◌ {A = Result Raster InputFault} (Err (Grid f)) (Err (Grid g)) → f ≡ g
 same_grid_fault f g e = cc
 
--- a piece that was fed without a fault leaves a text that shows none
+-- after a piece without a fault, the text has no fault so far
 still_faultless : {R : Type 0} (remaining : R → Option (List ℕ)) (first old : Device R) (scale taken : ℕ) (r r' : Reader) (bytes : List ℕ) (held : IsTaking remaining first old scale r taken) → Feeds r r' bytes (Ok (tt {0})) → fault_so_far scale (held.text ++ bytes) ≡ None
 still_faultless remaining first old scale taken r r' bytes held feeds =
     subst (λ (d : ℕ). fault_so_far d (held.text ++ bytes) ≡ None) held.scale_kept (feeds.ok held.text held.fed)
 
--- more of the text
 pub piece_taken : {R : Type 0} (remaining : R → Option (List ℕ)) (first old new : Device R) (scale taken room n : ℕ) (r r' : Reader) → IsTaking remaining first old scale r taken → ReadsPiece remaining old new r r' room (Ok (Some n)) → IsTaking remaining first new scale r' (taken + n)
 piece_taken remaining first old new scale taken room n r r' held step =
     let feeds = subst (λ (z : Result (Unit {0}) GridFault). Feeds r r' step.bytes z) step.answered.0 step.feeds in
@@ -42,12 +41,12 @@ piece_taken remaining first old new scale taken room n r r' held step =
       read = read_more _ _ _ _ _ _ held.read step.read;
     }
 
--- and the reader has answered no fault
+-- after a piece without a fault, the reader has none
 pub piece_sound : {R : Type 0} (remaining : R → Option (List ℕ)) (old new : Device R) (room n : ℕ) (r r' : Reader) → ReadsPiece remaining old new r r' room (Ok (Some n)) → r'.fault ≡ None
 piece_sound remaining old new room n r r' step =
     (subst (λ (z : Result (Unit {0}) GridFault). Feeds r r' step.bytes z) step.answered.0 step.feeds).fault
 
--- what was taken, with the last piece
+-- the bytes read, with those of the last piece
 abbrev takes : {R : Type 0} (remaining : R → Option (List ℕ)) (first old new : Device R) (scale taken room : ℕ) (r r' : Reader) (result : Result (Option ℕ) InputFault) → IsTaking remaining first old scale r taken → ReadsPiece remaining old new r r' room result → room ≤ 536870913 - taken → Takes remaining first new
 takes remaining first old new scale taken room r r' result held step fits = record {
   bytes = held.text ++ step.bytes;
@@ -55,7 +54,7 @@ takes remaining first old new scale taken room r r' result held step fits = reco
   few = omega (arith, length-append held.text step.bytes, held.size, held.room, step.within, fits);
 }
 
--- the end of the text, and what the reader makes of it
+-- the end of the text: the result is that of the reader
 pub pieces_ended : {R : Type 0} (remaining : R → Option (List ℕ)) (first old new : Device R) (scale taken room : ℕ) (r r' : Reader) (result : Result Raster InputFault) → IsTaking remaining first old scale r taken → ReadsPiece remaining old new r r' room (Ok None) → room ≤ 536870913 - taken → ((text : List ℕ) → HasTaken r' text → IfOk result (λ g. IsGridText r'.scale text g)) → ((text : List ℕ) (f : GridFault) → HasTaken r' text → result ≡ Err (Grid f) → IsRefusal r'.scale text f) → result ≢ Err Read → ReadsGrid remaining scale first new result
 pieces_ended remaining first old new scale taken room r r' result held step fits grid fault sound =
     let feeds = subst (λ (z : Result (Unit {0}) GridFault). Feeds r r' step.bytes z) step.answered.0 step.feeds in
@@ -66,15 +65,14 @@ pieces_ended remaining first old new scale taken room r r' result held step fits
     record {
       taken = took;
       grid = IfOk-weaker result (λ g. IsGridText scale took.bytes g) _ (λ g is. (is, step.answered.2)) made;
-      fault = λ text f told is.
-          let whole = subst (λ (z : List ℕ). HasTaken r' z) (consumed_end _ _ text took.bytes told took.read.known step.answered.2) all in
+      fault = λ text f reported is.
+          let whole = subst (λ (z : List ℕ). HasTaken r' z) (consumed_end _ _ text took.bytes reported took.read.known step.answered.2) all in
           rw scale_kept at (fault text f whole is);
       read = λ bad. absurd (sound bad);
       sound = λ not. step.answered.1 ∙ held.count;
       clean = λ bad. absurd (sound bad);
     }
 
--- a fault of a word that ended
 pub piece_refused : {R : Type 0} (remaining : R → Option (List ℕ)) (first old new : Device R) (scale taken room : ℕ) (r r' : Reader) (f : GridFault) → IsTaking remaining first old scale r taken → ReadsPiece remaining old new r r' room (Err (Grid f)) → room ≤ 536870913 - taken → ReadsGrid remaining scale first new (Err (Grid f))
 piece_refused remaining first old new scale taken room r r' f held step fits =
     let feeds = subst (λ (z : Result (Unit {0}) GridFault). Feeds r r' step.bytes z) step.answered.0 step.feeds in
@@ -82,8 +80,8 @@ piece_refused remaining first old new scale taken room r r' f held step fits =
     record {
       taken = took;
       grid = tt;
-      fault = λ text g told is.
-          let more = consumed_front _ _ text took.bytes told took.read.known in
+      fault = λ text g reported is.
+          let more = consumed_front _ _ text took.bytes reported took.read.known in
           let whole = subst (λ (z : List ℕ). IsRefusal r.scale z f) (sym more.1) (stays _ took.bytes more.0 f (feeds.err held.text held.fed)) in
           rw (held.scale_kept, same_grid_fault _ _ is) at whole;
       read = λ bad. absurd (cc);
@@ -91,14 +89,13 @@ piece_refused remaining first old new scale taken room r r' f held step fits =
       clean = λ bad. absurd (cc);
     }
 
--- a failed read
 pub piece_failed : {R : Type 0} (remaining : R → Option (List ℕ)) (first old new : Device R) (scale taken room : ℕ) (r r' : Reader) → IsTaking remaining first old scale r taken → ReadsPiece remaining old new r r' room (Err Read) → room ≤ 536870913 - taken → ReadsGrid remaining scale first new (Err Read)
 piece_failed remaining first old new scale taken room r r' held step fits =
     let feeds = subst (λ (z : Result (Unit {0}) GridFault). Feeds r r' step.bytes z) step.answered.0 step.feeds in
     record {
       taken = takes remaining first old new scale taken room r r' (Err Read) held step fits;
       grid = tt;
-      fault = λ text g told is. absurd (cc);
+      fault = λ text g reported is. absurd (cc);
       read = λ bad. omega (arith, step.answered.1, held.count);
       sound = λ not. absurd (not refl);
       clean = λ bad. still_faultless remaining first old scale taken r r' step.bytes held feeds;

@@ -1,4 +1,4 @@
--- A grid's text is read again as that grid.
+-- The text of a grid reads back as that grid without its sinks.
 use Rattle.std.proofs.Common.{◌≡◌, Bool, true, false, cond, List, [], ◌∷◌, Option, None, Some, ap, refl, ◌∙◌, ℕ, ◌*◌, ◌^◌, ◌<◌, ◌≤◌, ◌&&◌, leb, ltb, ◌++◌, length, map, get_or, ℤ, sym, arith, zero-add}
 use Rattle.std.specs.Prelude.{codes, decimal}
 use Rattle.std.specs.Option.{option_or}
@@ -34,14 +34,14 @@ xll_key x = cond x (codes "xllcenter") (codes "xllcorner")
 abbrev yll_key : Bool → Word
 yll_key y = cond y (codes "yllcenter") (codes "yllcorner")
 
--- the words of a grid's header, where its positions name these points, and then others
+-- the words of a grid's header, by corner or centre on each axis, and then others
 abbrev header_and : Bool → Bool → Raster → List Word → List Word
 header_and x y g rest =
     codes "ncols" ∷ decimal g.terrain.cols ∷ codes "nrows" ∷ decimal g.terrain.rows
     ∷ xll_key x ∷ g.xll.word ∷ yll_key y ∷ g.yll.word
     ∷ codes "cellsize" ∷ g.cellsize ∷ codes "NODATA_value" ∷ g.nodata ∷ rest
 
--- a written value of a slot is one again, and one word
+-- a written value is one word and a value of its slot
 record IsWritten (slot : Key) (w : Word) : Type 0 where
   value : is_value slot w ≡ true
   short : is_long w ≡ false
@@ -65,7 +65,7 @@ no_value_faults : (g : Raster) → AreWritten g →
 no_value_faults g h =
     rw (h.cols.short, h.cols.value, h.rows.short, h.rows.value, h.xll.short, h.xll.value, h.yll.short, h.yll.value, h.cellsize.short, h.cellsize.value, h.nodata.short, h.nodata.value) refl
 
--- what a written header gives
+-- what is read from a written header
 record Gives (x y : Bool) (g : Raster) (rest : List Word) : Type 0 where
   header : header_words rest ≡ [] → header_words (header_and x y g rest) ≡ header_and x y g []
   heights : height_words (header_and x y g rest) ≡ height_words rest
@@ -85,7 +85,6 @@ header_gives true false g rest = record { header = λ h. ap (header_and true fal
 header_gives false true g rest = record { header = λ h. ap (header_and false true g) h; heights = refl; faultless = no_value_faults g; whole = refl; paired = refl; cols = refl; rows = refl; xll = refl; yll = refl; cellsize = refl; nodata = refl }
 header_gives false false g rest = record { header = λ h. ap (header_and false false g) h; heights = refl; faultless = no_value_faults g; whole = refl; paired = refl; cols = refl; rows = refl; xll = refl; yll = refl; cellsize = refl; nodata = refl }
 
--- a line of the header, and the rest
 words-line : (key word value rest : List ℕ) → ((x : List ℕ) → words (key ++ x) ≡ word ∷ words x) → IsClean value → words (line_text key value ++ rest) ≡ word ∷ value ∷ words rest
 words-line key word value rest begins clean =
     ap words (regroup key value (10 ∷ []) rest)
@@ -121,7 +120,6 @@ words-header g rest written =
     ∙ ap (λ ws. codes "ncols" ∷ decimal g.terrain.cols ∷ codes "nrows" ∷ decimal g.terrain.rows ∷ xll_key g.xll.centre ∷ g.xll.word ∷ yll_key g.yll.centre ∷ g.yll.word ∷ ws) (words-line (codes "cellsize      ") (codes "cellsize") g.cellsize (l6 ++ rest) (λ z. refl) written.cellsize.clean)
     ∙ ap (λ ws. codes "ncols" ∷ decimal g.terrain.cols ∷ codes "nrows" ∷ decimal g.terrain.rows ∷ xll_key g.xll.centre ∷ g.xll.word ∷ yll_key g.yll.centre ∷ g.yll.word ∷ codes "cellsize" ∷ g.cellsize ∷ ws) (words-line (codes "NODATA_value  ") (codes "NODATA_value") g.nodata rest (λ z. refl) written.nodata.clean)
 
--- a number from 1 to 4,096
 size_ok : (n : ℕ) → 1 ≤ n → n ≤ 4096 → is_size (decimal n) ≡ true
 size_ok n low high =
     let small : n < 2 ^ 64 = omega arith in
@@ -152,7 +150,6 @@ values_written g h = record {
 all_read : (g : Raster) → IsLawful g → All (λ c. ReadsAs g.scale g.nodata c (cell_text (height_text g.scale) g.nodata c)) g.terrain.cells
 all_read g h = λ k d within. reads_cell g.scale g.nodata (get_or g.terrain.cells k d) h.scale h.nodata (h.terrain.heights k d within) (h.apart k d within)
 
--- the words of a grid's text
 words_are : (g : Raster) → IsLawful g → words (heights_text g) ≡ header_of g (map (cell_text (height_text g.scale) g.nodata) g.terrain.cells)
 words_are g h =
     words-header g (rows_text (cell_text (height_text g.scale) g.nodata) g.terrain.cols g.terrain.rows g.terrain.cells) (values_written g h)
@@ -160,7 +157,6 @@ words_are g h =
     (words-rows (cell_text (height_text g.scale) g.nodata) g.terrain.cols g.terrain.rows g.terrain.cells (omega (arith, h.terrain.some_col)) (h.terrain.size ∙ mul_comm g.terrain.cols g.terrain.rows)
     (λ k d within. (all_read g h k d within).clean))
 
--- the words of the cells are heights
 cells_are_heights : (d : ℕ) (nodata : Word) (cells : List (Option ℤ)) → All (λ c. ReadsAs d nodata c (cell_text (height_text d) nodata c)) cells → (header_words (map (cell_text (height_text d) nodata) cells) ≡ []) × (height_words (map (cell_text (height_text d) nodata) cells) ≡ map (cell_text (height_text d) nodata) cells)
 cells_are_heights d nodata [] reads = (refl, refl)
 cells_are_heights d nodata (c ∷ cells) reads =
@@ -176,7 +172,7 @@ no_end_fault ws header heights p q paired whole enough = rw (p, q, paired, whole
 same_grid : (d : ℕ) (ws header heights : List Word) (g : Raster) → header_words ws ≡ header → height_words ws ≡ heights → size_for Ncols header ≡ g.terrain.cols → size_for Nrows header ≡ g.terrain.rows → map (spelled_cell d (nodata_for header)) heights ≡ g.terrain.cells → anchor_for Xll header ≡ g.xll → anchor_for Yll header ≡ g.yll → word_for Cellsize header ≡ g.cellsize → nodata_for header ≡ g.nodata → d ≡ g.scale → grid_of d ws ≡ raster_with_sinks g []
 same_grid d ws header heights g p q cols rows cells xll yll cellsize nodata scale = rw (p, q, cols, rows, cells, xll, yll, cellsize, nodata, scale) refl
 
--- a text of a lawful grid is that grid
+-- the text of a lawful grid spells that grid
 pub read_back : (g : Raster) → IsLawful g → length (heights_text g) ≤ most_bytes → IsGridText g.scale (heights_text g) (raster_with_sinks g [])
 read_back g h short =
     let cells = map (cell_text (height_text g.scale) g.nodata) g.terrain.cells in

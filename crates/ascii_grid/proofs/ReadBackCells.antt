@@ -1,4 +1,4 @@
--- A written height and a written cell, read again.
+-- A written height and a written cell, read back.
 use Rattle.std.proofs.Common.{◌≡◌, ◌≢◌, ℕ, ◌+◌, ◌^◌, ◌≤◌, true, false, List, [], ◌∷◌, length, map, Option, None, Some, ℤ, pos, negsuc, sym, ap, refl, ◌∙◌, arith, zero, suc, ◌-◌, ◌*◌, ◌/◌, ◌<◌, ltb, cond, ◌++◌, take, drop, replicate, inl, inr}
 use Rattle.std.specs.Prelude.{unsigned_abs, IfSome, int_le, decimal, neg_ℤ}
 use Rattle.std.specs.List.{All, list_any, before_first, after_first}
@@ -64,7 +64,7 @@ length-decimals : (d n : ℕ) → length (decimals_text d n) ≤ d + 1
 length-decimals zero n = omega arith
 length-decimals (suc d) n = omega (arith, length-last_digits (suc d) n)
 
--- it begins with a digit
+-- this text begins with a digit, so it has no sign
 body_unsigned : (d n : ℕ) → n < 2 ^ 64 → (without_sign (body d n) ≡ body d n) × (is_negative (body d n) ≡ false)
 body_unsigned d n h = bare_digits (decimal (n / 10 ^ d)) (decimals_text d n) (decimal_nonempty (n / 10 ^ d) (whole_small d n h)) (decimal_digits (n / 10 ^ d) (whole_small d n h))
 
@@ -75,7 +75,7 @@ decimal_from_value d w z e = elim (cases_Bool (has_scaled_value d w)) [
   | inr none ↦ let clash : scaled_value d w ≡ None = cond-false _ _ _ none in absurd (cc)
 ]
 
--- a word that is such a text but for its sign
+-- the scaled value of a height's text, with or without a sign
 written_value : (d n : ℕ) (w : Word) → without_sign w ≡ body d n → has_exponent w ≡ false → n ≤ 10 ^ 18 → scaled_value d w ≡ Some (cond (is_negative w) (neg_ℤ (pos n)) (pos n))
 written_value d n w unsigned plain few =
     let small : n < 2 ^ 64 = omega (arith, few) in
@@ -87,7 +87,7 @@ written_value d n w unsigned plain few =
     (are_digits_joined (decimal (n / 10 ^ d)) (last_digits d n) (decimal_nonempty (n / 10 ^ d) (whole_small d n small)) ∙ rw (digits, last_digits_digits d n) refl)
     (rw (none, kept, scaled_digits d n small, le-leb n (10 ^ 18) few) refl)
 
--- a height that isn't below zero
+-- the text of a height from 0 on has no sign
 text-pos : (d n : ℕ) → height_text d (pos n) ≡ body d n
 text-pos d n = ap (λ z. z ++ decimal (n / 10 ^ d) ++ decimals_text d n) (cond-false (ltb n 0) (45 ∷ []) [] (le-ltb n 0 (omega arith)))
 
@@ -101,7 +101,7 @@ height_value d (pos n) h =
     ∙ ap Some (cond-false (is_negative (body d n)) (neg_ℤ (pos n)) (pos n) bare.1)
 height_value d (negsuc n) h = written_value d (suc n) (45 ∷ body d (suc n)) refl (body_no_mark d (suc n) (omega (arith, h))) (omega (arith, h))
 
--- and few bytes: the whole part has at most sixteen digits, less one for each decimal
+-- the digits of the whole part and the decimals are at most 16
 whole_digits : (d n : ℕ) → d ≤ 6 → n ≤ 10 ^ 15 → length (decimal (n / 10 ^ d)) + d ≤ 16
 whole_digits d n few h =
     let sixteen : 16 - d + d ≡ 16 = omega (arith, few) in
@@ -120,7 +120,7 @@ pub height_short : (d : ℕ) (z : ℤ) → d ≤ 6 → unsigned_abs z ≤ 10 ^ 1
 height_short d (pos n) few h = let size = body_short d n few h in let same = ap length (text-pos d n) in omega (arith, size, same)
 height_short d (negsuc n) few h = let size = body_short d (suc n) few h in omega (arith, size)
 
--- what is known of a written cell's word
+-- the word of a written cell reads back as that cell
 pub record ReadsAs (d : ℕ) (nodata : Word) (c : Option ℤ) (w : Word) : Type 0 where
   pub clean : IsClean w
   pub begins : begins_with_letter w ≡ false
@@ -139,7 +139,7 @@ other_value : (h : ℤ) (o : Option ℤ) → o ≢ Some h → same_value (Some h
 other_value h None n = refl
 other_value h (Some x) n = false_from_ne_true (int_eq h x) (λ t. n (ap Some (sym ((Decides-int_eq h x).0 t))))
 
--- the NODATA word, or the text of a height
+-- a written cell reads back, as NODATA or as a height
 pub reads_cell : (d : ℕ) (nodata : Word) (c : Option ℤ) → d ≤ 6 → IsHeaderWord nodata → IfSome c IsHeight → IfSome c (λ h. scaled_value d nodata ≢ Some h) → ReadsAs d nodata c (cell_text (height_text d) nodata c)
 reads_cell d nodata None few h height apart =
     let own : is_nodata d nodata nodata ≡ true = or_left (bytes_eq nodata nodata) (same_value (scaled_value d nodata) (scaled_value d nodata)) ((bytes_eq-Decides nodata nodata).1 refl) in
@@ -163,7 +163,7 @@ reads_cell d nodata (Some z) few h height apart =
       value = cond-false (is_nodata d nodata (height_text d z)) None (scaled_value d (height_text d z)) not_nodata ∙ value;
     }
 
--- the words of the cells, from some place on
+-- the words of the cells have no fault, from any place on
 pub no_heights_fault : (d : ℕ) (header : List Word) (nodata : Word) (place : ℕ) (cells : List (Option ℤ)) → missing_fault header ≡ None → nodata_for header ≡ nodata → place + length cells ≡ cells_wanted header → All (λ c. ReadsAs d nodata c (cell_text (height_text d) nodata c)) cells → heights_fault d header place (map (cell_text (height_text d) nodata) cells) ≡ None
 no_heights_fault d header nodata place [] whole same size reads = refl
 no_heights_fault d header nodata place (c ∷ cells) whole same size reads =

@@ -16,7 +16,7 @@ use Rattle.ascii_grid.proofs.Parting.{IsClean}
 abbrev pub is_sign : ℕ → Bool
 is_sign b = b == 43 || b == 45
 
--- a test that no byte of a decimal text passes: no digit, sign, point or mark of an exponent
+-- a test that fails for digits, signs, the point and the marks of an exponent
 record PassesNoByte (q : ℕ → Bool) : Type 0 where
   digits : PassesNoDigit q
   plus : q 43 ≡ false
@@ -25,7 +25,7 @@ record PassesNoByte (q : ℕ → Bool) : Type 0 where
   mark : q 101 ≡ false
   capital : q 69 ≡ false
 
--- at the first byte that passes
+-- the position of the first byte that passes
 position-at : (p : ℕ → Bool) (xs ys : List ℕ) (y : ℕ) → list_any p xs ≡ false → p y ≡ true → position_or_len p (xs ++ y ∷ ys) ≡ length xs
 position-at p [] ys y h k = rw k refl
 position-at p (x ∷ xs) ys y h k = let parts = or_parts (p x) (list_any p xs) h in rw parts.0 (omega (arith, position-at p xs ys y parts.1 k))
@@ -44,7 +44,7 @@ after_first-step p b bs h =
     let e : position_or_len p (b ∷ bs) + 1 ≡ suc (position_or_len p bs + 1) = rw h (omega arith) in
     ap (λ n. drop n (b ∷ bs)) e
 
--- the front, the byte and what follows are all
+-- no byte passes q if none does before and after the first that passes p
 list_any-around : (p q : ℕ → Bool) → ((b : ℕ) → p b ≡ true → q b ≡ false) → (xs : List ℕ) → list_any q (before_first p xs) ≡ false → list_any q (after_first p xs) ≡ false → list_any q xs ≡ false
 list_any-around p q w xs h k =
     elim (cases_lt (position_or_len p xs) (length xs)) [
@@ -55,14 +55,14 @@ list_any-around p q w xs h k =
       | inr none ↦ ap (list_any q) (sym (take_all (position_or_len p xs) xs none)) ∙ h
     ]
 
--- one of two bytes, as a case
+-- a property of either of two bytes
 one_of : (P : ℕ → Type 0) (b m n : ℕ) → (b == m || b == n) ≡ true → P m → P n → P b
 one_of P b m n h x y = elim (or_cases (b == m) (b == n) h) [
   | inl e ↦ subst P (sym (eqb-true b m e)) x
   | inr e ↦ subst P (sym (eqb-true b n e)) y
 ]
 
--- a text whose rest without a sign has no such byte has none
+-- no byte passes if none does in the text without its sign
 signed_bytes : (q : ℕ → Bool) → PassesNoByte q → (w : List ℕ) → list_any q (without_sign w) ≡ false → list_any q w ≡ false
 signed_bytes q none [] h = refl
 signed_bytes q none (b ∷ bs) h = elim (cases_Bool (is_sign b)) [
@@ -70,7 +70,7 @@ signed_bytes q none (b ∷ bs) h = elim (cases_Bool (is_sign b)) [
   | inr n ↦ ap (list_any q) (sym (cond-false (is_sign b) bs (b ∷ bs) n)) ∙ h
 ]
 
--- the sign isn't the exponent's mark
+-- the exponent is the same without the sign
 exponent_of_unsigned : (w : List ℕ) → after_first is_exponent_mark (without_sign w) ≡ after_first is_exponent_mark w
 exponent_of_unsigned [] = refl
 exponent_of_unsigned (b ∷ bs) = elim (cases_Bool (is_sign b)) [
@@ -81,7 +81,7 @@ exponent_of_unsigned (b ∷ bs) = elim (cases_Bool (is_sign b)) [
 digits_all : (bs : List ℕ) → are_digits bs ≡ true → list_all is_ascii_digit bs ≡ true
 digits_all bs h = (and_parts (is_word bs) (list_all is_ascii_digit bs) h).1
 
--- the bytes after the exponent's mark
+-- no byte after the exponent's mark passes
 exponent_bytes : (q : ℕ → Bool) → PassesNoByte q → (w : List ℕ) → (not (has_exponent w) || are_digits (without_sign (after_first is_exponent_mark w))) ≡ true → list_any q (after_first is_exponent_mark w) ≡ false
 exponent_bytes q none w h = elim (or_cases (not (has_exponent w)) (are_digits (without_sign (after_first is_exponent_mark w))) h) [
   | inl n ↦ ap (list_any q) (after_first-none is_exponent_mark w (not-true (has_exponent w) n))

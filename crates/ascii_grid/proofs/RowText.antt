@@ -1,4 +1,4 @@
--- A line of cells, cell by cell, and the lines of a grid, line by line.
+-- The text of a row, cell by cell, and of a grid, row by row.
 use Rattle.std.proofs.Common.{◌≡◌, ℕ, zero, suc, ◌+◌, ◌-◌, ◌*◌, ◌/◌, ◌<◌, ◌≤◌, List, [], ◌∷◌, ◌++◌, length, take, drop, map, get_or, sym, ap, refl, ◌∙◌, arith, zero-add, zero-mul}
 use Rattle.std.proofs.Math.Nat.{mul-div_cancel_left}
 use Rattle.std.specs.List.{join_with_byte, flat_map}
@@ -6,11 +6,11 @@ use Rattle.std.proofs.lemmas.List.{append_assoc, append-nil, take_more, drop_mor
 use Rattle.std.proofs.lemmas.Grind.{flat_map-append}
 use Rattle.ascii_grid.specs.Text.{row_text, rows_text}
 
--- cells with a space behind each
+-- the texts of cells, each with a space after it
 abbrev pub spaced : {X : Type 0} → (X → List ℕ) → List X → List ℕ
 spaced f cells = flat_map (λ c. f c ++ 32 ∷ []) cells
 
--- a line from some cell on
+-- a row splits before any of its cells
 pub row_split : {X : Type 0} (f : X → List ℕ) (cells : List X) (i : ℕ) → i < length cells → row_text f cells ≡ spaced f (take i cells) ++ row_text f (drop i cells)
 row_split f [] i h = absurd (omega arith)
 row_split f (c ∷ cells) zero h = refl
@@ -22,28 +22,26 @@ row_split f (c ∷ d ∷ cells) (suc i) h =
       regroup : (a b c : List ℕ) → (a ++ 32 ∷ b) ++ c ≡ (a ++ 32 ∷ []) ++ (b ++ c)
       regroup a b c = simp append_assoc
 
--- one piece more
 pub pieces_more : {X : Type 0} (f : X → List ℕ) (pieces : List X) (x : X) (i : ℕ) → i < length pieces → x ≡ get_or pieces i x → flat_map f (take (i + 1) pieces) ≡ flat_map f (take i pieces) ++ f x
 pieces_more f pieces x i h e = rw (take_more pieces i x h, ← e, flat_map-append, append-nil) refl
 
--- the pieces before one, it, and those after it
+-- all pieces are those before one, itself and those after it
 pub pieces_split : {X : Type 0} (f : X → List ℕ) (pieces : List X) (x : X) (i : ℕ) → i < length pieces → x ≡ get_or pieces i x → flat_map f pieces ≡ (flat_map f (take i pieces) ++ f x) ++ flat_map f (drop (i + 1) pieces)
 pieces_split {X} f pieces x i h e =
     ap (λ (z : List X). flat_map f z) (sym (take-append-drop (i + 1) pieces))
     ∙ flat_map-append f (take (i + 1) pieces) (drop (i + 1) pieces)
     ∙ ap (λ z. z ++ flat_map f (drop (i + 1) pieces)) (pieces_more f pieces x i h e)
 
--- one cell more
 pub spaced_more : {X : Type 0} (f : X → List ℕ) (cells : List X) (c : X) (i : ℕ) → i < length cells → c ≡ get_or cells i c → spaced f (take (i + 1) cells) ≡ spaced f (take i cells) ++ (f c ++ 32 ∷ [])
 spaced_more f cells c i h e = pieces_more (λ d. f d ++ 32 ∷ []) cells c i h e
 
--- the last one
+-- a row is the cells before the last one, and the last one
 pub row_last : {X : Type 0} (f : X → List ℕ) (cells : List X) (c : X) (i : ℕ) → i + 1 ≡ length cells → c ≡ get_or cells i c → row_text f cells ≡ spaced f (take i cells) ++ (f c ++ 10 ∷ [])
 row_last {X} f cells c i h e =
     let last : drop i cells ≡ c ∷ [] = drop_more cells i c (omega (arith, h)) ∙ rw (← e, drop_all (i + 1) cells (omega (arith, h))) refl in
     row_split f cells i (omega (arith, h)) ∙ ap (λ (z : List X). spaced f (take i cells) ++ row_text f z) last
 
--- some rows, and then the others
+-- the text of m + n rows splits after the first m
 pub rows_text-add : {X : Type 0} (f : X → List ℕ) (cols m n : ℕ) (cells : List X) → rows_text f cols (m + n) cells ≡ rows_text f cols m cells ++ rows_text f cols n (drop (m * cols) cells)
 rows_text-add f cols zero n cells = rw (zero-add, zero-mul) refl
 rows_text-add {X} f cols (suc m) n cells =
@@ -65,7 +63,7 @@ rows_split f cols rows n cells h =
 pub whole_rows : (n cols rows : ℕ) → n ≡ cols * rows → 1 ≤ cols → n / cols ≡ rows
 whole_rows n cols rows size some = ap (λ m. m / cols) size ∙ mul-div_cancel_left rows (omega (arith, some))
 
--- the rows' own cells are enough
+-- the text of n rows depends on their cells alone
 pub rows_take : {X : Type 0} (f : X → List ℕ) (cols n : ℕ) (cells : List X) → rows_text f cols n (take (n * cols) cells) ≡ rows_text f cols n cells
 rows_take f cols zero cells = refl
 rows_take {X} f cols (suc n) cells =

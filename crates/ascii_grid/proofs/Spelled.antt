@@ -1,4 +1,4 @@
--- What the end of a text tells, and that the grid which its words spell is lawful.
+-- The fault at the end of a text; a text without a fault spells a lawful grid.
 use Rattle.std.proofs.Common.{◌≡◌, ◌≢◌, ℕ, ◌+◌, ◌<◌, ◌≤◌, Bool, true, false, not, cond, nat_lt, nat_le, List, [], ◌∷◌, ◌++◌, length, map, Option, None, Some, ℤ, arith, lit≤, refl, ap, sym, ◌∙◌, subst, inl, inr}
 use Rattle.std.specs.Prelude.{is_some, All, IfSome, unwrap_or, option_map, int_le, codes}
 use Rattle.std.specs.Option.{option_map_or}
@@ -26,7 +26,7 @@ use Rattle.ascii_grid.specs.declared.judge.Judge.{Judge}
 use Rattle.ascii_grid.specs.declared.judge.Stage.TheVariants.{AtKey, AtValue, AtHeights}
 use Rattle.ascii_grid.proofs.Keys.{slot_filled}
 use Rattle.ascii_grid.proofs.Judging.{Pairs, or_none, then_none, else_none, pairs-flat, words-flat, words-whole, key_left-flat, is_given-slots_of, missing_of-slots_of, number-of_pair}
-use Rattle.ascii_grid.proofs.JudgedWords.{at_key, at_value, at_heights, place_of, words-after, paired, judged_none, is_memory, told, told_missing}
+use Rattle.ascii_grid.proofs.JudgedWords.{at_key, at_value, at_heights, place_of, words-after, paired, judged_none, is_memory, reported, not_memory_missing}
 
 -- ---- a header whose words have no fault
 
@@ -39,7 +39,7 @@ value_ok k v slot h e =
     let ok = else_none (is_value slot v) None (bad_value slot) (rw (slot_filled k slot h) at short.1) in
     (ok.0, ltb-false 64 (length v) short.0)
 
--- the value given for a slot is one
+-- the word given for a slot is a value of it, of at most 64 bytes
 valid : (before header : List Word) (slot : Key) → header_fault before header ≡ None → IfSome (value_for slot header) (IsShortValue slot)
 valid before [] slot none = tt
 valid before (k ∷ []) slot none = tt
@@ -55,7 +55,7 @@ given_slot : (a : Bool) (s : Key) (o : Option Key) → option_map MissingKey (co
 given_slot true s o h = (refl, h)
 given_slot false s o h = cc
 
--- the required slots of a header that misses none
+-- without a missing slot, all required slots are given
 whole_slots : (ps : Pairs) → missing_fault (flat ps) ≡ None → IsWhole (slots_of ps)
 whole_slots ps none =
     let h = slots_of ps in
@@ -69,7 +69,6 @@ whole_slots ps none =
 given_slots : (header : List Word) → missing_fault header ≡ None → IsWhole (slots_of (pairs header))
 given_slots header e = whole_slots (pairs header) (rw (pairs-flat (pairs header)) e)
 
--- the value word of a slot that is given
 value_of : (header : List Word) (slot : Key) → header_fault [] header ≡ None → is_given (slots_of (pairs header)) slot ≡ true → IsShortValue slot (word_for slot header)
 value_of header slot none some = go (pair_for slot header) (sym (is_given-slots_of slot (pairs header)) ∙ some) (valid [] header slot none)
   where
@@ -99,7 +98,7 @@ some_ok d nodata w (Some z) e n h =
     let cell : spelled_cell d nodata w ≡ Some z = rw (n, e) refl in
     rw cell (height_from z (sym high ∙ h), λ k. let same : same_value (scaled_value d w) (scaled_value d nodata) ≡ int_eq z z = rw (e, k) refl in cc)
 
--- a word that stands for a cell has a height, apart from NODATA's value, or none
+-- a word that spells a cell is NODATA or a height other than NODATA's value
 cell_ok : (d : ℕ) (nodata w : Word) → is_cell d nodata w ≡ true → IfSome (spelled_cell d nodata w) IsHeight × IfSome (spelled_cell d nodata w) (λ h. scaled_value d nodata ≢ Some h)
 cell_ok d nodata w h =
     elim (cases_Bool (is_nodata d nodata w)) [
@@ -107,7 +106,7 @@ cell_ok d nodata w h =
       | inr some ↦ some_ok d nodata w (scaled_value d w) refl some h
     ]
 
--- a height without a fault
+-- a word among the heights without a fault spells a cell
 height_ok : (d : ℕ) (header : List Word) (place : ℕ) (w : Word) → height_fault d header place w ≡ None → (place < cells_wanted header) × (is_cell d (nodata_for header) w ≡ true)
 height_ok d header place w h =
     let short = then_none (is_long w) TooLong _ h in
@@ -139,13 +138,13 @@ end-value j ws slot centre h e =
     let left : key_left (flat h.pairs ++ k ∷ []) ≡ Some k = key_left-flat h.pairs (k ∷ []) in
     rw (header, left, there.2.key_is) refl
 
--- in the header, where no required slot is missing: no height
+-- in the header, with a required slot missing
 pub end-missing : (j : Judge) (ws : List Word) (f : GridFault) (h : HasJudged j ws) → j.stage ≡ AtKey → missing_fault (flat h.pairs) ≡ Some f → IsEndFault ws f
 end-missing j ws f h e missing =
     let same = at_key j ws h e in
     let at_end : end_fault (flat h.pairs) ≡ Some f = rw ((words-whole h.pairs h.header.keys).0, paired h.pairs, missing) refl in
     let there = ap end_fault same ∙ at_end in
-    told (AsksForCells ws) (end_fault ws) f (ap is_memory (there ∙ sym missing) ∙ told_missing (flat h.pairs)) there
+    reported (AsksForCells ws) (end_fault ws) f (ap is_memory (there ∙ sym missing) ∙ not_memory_missing (flat h.pairs)) there
 
 pub end-memory : (j : Judge) (ws : List Word) (f : GridFault) (h : HasJudged j ws) → j.stage ≡ AtKey → f ≡ Memory → missing_fault (flat h.pairs) ≡ None → IsEndFault ws f
 end-memory j ws f h e m whole =
@@ -161,14 +160,14 @@ some_wanted header none missing =
     let given = given_slots header missing in
     one-le-mul (size_between (word_for Ncols header) (value_of header Ncols none given.cols).0).0 (size_between (word_for Nrows header) (value_of header Nrows none given.rows).0).0
 
--- in the header: no height came
+-- in a whole header: there is no height
 pub end-none : (j j' : Judge) (ws : List Word) (h : HasJudged j ws) → j.stage ≡ AtKey → AreHeights j' h.pairs [] → end_fault ws ≡ Some (TooFew 0)
 end-none j j' ws h e heights =
     let are = words-whole h.pairs h.header.keys in
     let some : nat_lt 0 (cells_wanted (flat h.pairs)) ≡ true = lt-ltb 0 (cells_wanted (flat h.pairs)) (let k = some_wanted (flat h.pairs) h.header.faultless heights.whole in omega (arith, k)) in
     ap end_fault (at_key j ws h e) ∙ rw (are.0, paired h.pairs, heights.whole, are.1, some) refl
 
--- among the heights: whether too few came
+-- among the heights: too few, or enough
 pub end-heights : (j : Judge) (ws : List Word) (h : HasJudged j ws) → j.stage ≡ AtHeights → end_fault ws ≡ cond (nat_lt (length j.cells.items) j.wanted) (Some (TooFew (length j.cells.items))) None
 end-heights j ws h e =
     let there = at_heights j ws h e in
@@ -232,7 +231,7 @@ lawful_words d ws few faultless end =
       apart = cells.1.1;
     }
 
--- the grid of a judge whose heights are enough
+-- among the heights, the header is whole
 pub whole-grid : (j : Judge) (ws : List Word) → HasJudged j ws → j.stage ≡ AtHeights → IsWhole j.header
 whole-grid j ws h e = subst IsWhole (sym h.header.slots) (whole_slots h.pairs (at_heights j ws h e).1.whole)
 

@@ -1,4 +1,4 @@
--- The fault of a text stays when the text goes on.
+-- A fault of a text stays its fault when bytes are added.
 use Rattle.std.proofs.Common.{◌≡◌, ℕ, ◌+◌, ◌<◌, true, false, List, [], ◌∷◌, ◌++◌, length, take, Option, None, Some, arith, refl, ap, sym, ◌∙◌, subst, inl, inr}
 use Rattle.std.specs.Prelude.{filter}
 use Rattle.std.specs.Option.{option_or}
@@ -32,7 +32,7 @@ further text ws w (b ∷ more) h =
           (rest.0, rest.1, subst (λ t. IsParted t (ws ++ rest.0) rest.1) (append_assoc text (b ∷ []) more) rest.2)
     ]
 
--- each text is parted
+-- each text splits into ended words and a last part
 pub parted : (text : List ℕ) → (ws : List Word) × (w : Word) × IsParted text ws w
 parted text = further [] [] [] text IsParted-none
 
@@ -42,7 +42,7 @@ ended-more front more =
     let next = further front at.0 at.1 more at.2 in
     (next.0, next.2.ended ∙ ap (λ z. z ++ next.0) (sym at.2.ended))
 
--- all words are those that ended, and what the text's end ends
+-- the words of a text begin with the ended ones
 pub ended-words : (text : List ℕ) → (others : List Word) × (words text ≡ ended_words text ++ others)
 ended-words text =
     let at = parted text in
@@ -60,7 +60,7 @@ heights_more d header place (w ∷ hs) more f h =
     or_more (height_fault d header place w) (heights_fault d header (place + 1) hs) (heights_fault d header (place + 1) (hs ++ more)) f h
     (heights_more d header (place + 1) hs more f)
 
--- what is told of words after a header's front
+-- the first fault of words that follow the front of a header
 abbrev after_front : ℕ → List Word → List Word → List Word → Option GridFault
 after_front d before front ws = option_or (header_fault before (header_words ws)) (heights_fault d (front ++ header_words ws) 0 (height_words ws))
 

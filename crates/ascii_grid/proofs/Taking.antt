@@ -12,7 +12,7 @@ use Rattle.ascii_grid.specs.declared.fault.GridFault.TheVariants.{TooLong}
 use Rattle.ascii_grid.proofs.Judging.{or_none}
 use Rattle.ascii_grid.proofs.Feeding.{many_so_far}
 
--- so much was taken of a reader's bytes and fed, with no fault so far
+-- `taken` bytes of the device were fed to the reader, without a fault so far
 pub record IsTaking {R : Type 0} (remaining : R → Option (List ℕ)) (first now : Device R) (scale : ℕ) (r : Reader) (taken : ℕ) : Type 0 where
   pub text : List ℕ
   pub fed : HasTaken r text
@@ -23,7 +23,7 @@ pub record IsTaking {R : Type 0} (remaining : R → Option (List ℕ)) (first no
   pub count : now.failures ≡ first.failures
   pub read : HasRead remaining first now text
 
--- a text that has shown no fault is not too long
+-- a text without a fault so far is not too long
 pub not_too_long : (d : ℕ) (text : List ℕ) → fault_so_far d text ≡ None → length text ≤ most_bytes
 not_too_long d text none =
     elim (cases_lt most_bytes (length text)) [
@@ -31,13 +31,13 @@ not_too_long d text none =
       | inr near ↦ near
     ]
 
--- what was consumed is the front of the bytes that were known
+-- the bytes consumed are a front of the known ones
 pub consumed_front : (a b : Option (List ℕ)) (text front : List ℕ) → a ≡ Some text → Consumes a b front → (rest : List ℕ) × (text ≡ front ++ rest)
 consumed_front None b text front e h = absurd (cc)
 consumed_front (Some xs) None text front e h = absurd h
 consumed_front (Some xs) (Some ys) text front e h = (ys, sym (same_Some xs text e) ∙ h)
 
--- and all of them at the end
+-- at the end, the bytes consumed are all the known ones
 pub consumed_end : (a b : Option (List ℕ)) (text front : List ℕ) → a ≡ Some text → Consumes a b front → IsAtEnd b → front ≡ text
 consumed_end None b text front e h end = absurd (cc)
 consumed_end (Some xs) None text front e h end = absurd h

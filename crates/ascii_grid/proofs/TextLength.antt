@@ -1,4 +1,4 @@
--- How long a written grid is.
+-- The length of a written grid.
 use Rattle.std.proofs.Common.{◌≡◌, ℕ, zero, suc, ◌+◌, ◌*◌, ◌<◌, ◌≤◌, cond, List, [], ◌∷◌, ◌++◌, length, take, drop, map, get_or, Option, None, Some, ℤ, refl, ◌∙◌, arith}
 use Rattle.std.specs.Prelude.{codes, decimal, IfSome}
 use Rattle.std.specs.List.{All, join_with_byte}
@@ -12,7 +12,7 @@ use Rattle.ascii_grid.specs.GridText.{most_bytes}
 use Rattle.ascii_grid.specs.Text.{height_text, cell_text, row_text, rows_text, line_text, anchor_text, header_text, heights_text}
 use Rattle.ascii_grid.proofs.ReadBackCells.{height_short, size_of_height}
 
--- words of at most 30 bytes, each with the byte after it
+-- the length of a row of words of at most 30 bytes
 line_short : {X : Type 0} (f : X → List ℕ) (cells : List X) → 0 < length cells → All (λ c. length (f c) ≤ 30) cells → length (join_with_byte 32 (map f cells)) + 1 ≤ 31 * length cells
 line_short f [] h short = absurd (omega arith)
 line_short f (c ∷ []) h short = let here = All-head (λ x. length (f x) ≤ 30) c [] short in omega (arith, here)
@@ -32,7 +32,6 @@ rows_short f cols (suc n) cells h size short =
     let both = length-append (row_text f (take cols cells)) (rows_text f cols n (drop cols cells)) in
     omega (arith, size, front, back, line, rest, row, both)
 
--- a line of the header
 line_length : (key value : List ℕ) → length (line_text key value) ≡ length key + length value + 1
 line_length key value = omega (arith, length-append (key ++ value) (10 ∷ []), length-append key value)
 

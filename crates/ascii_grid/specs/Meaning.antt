@@ -1,4 +1,5 @@
--- What a word among the heights stands for, for the reader's own steps.
+-- The meaning of a word among the heights: a cell or nothing. Source: this project.
+-- Private.
 use Rattle.std.specs.Prelude.{ℕ, if◌then◌else◌}
 use Rattle.terrain.specs.Words.{Word}
 use Rattle.ascii_grid.specs.GridText.{is_cell, spelled_cell}

@@ -1,10 +1,11 @@
--- What a reader keeps of the text that it was fed, for the reader's own steps. Source: this project.
+-- What the words so far have put into a reader's state. Source: this project.
+-- Public.
 use Rattle.std.specs.Prelude.{◌≡◌, ℕ, Bool, true, false, List, [], ◌∷◌, ◌++◌, map, filter, find, take, Option, None, Some, option_map}
 use Rattle.std.specs.List.{slice_split, list_all}
 use Rattle.terrain.specs.Words.{Word, is_word, is_separator, ended_words}
 use Rattle.terrain.specs.Decimal.{number_of, scaled_value}
 use Rattle.ascii_grid.specs.Header.{fills, slot_of, begins_with_letter, header_fault, key_fault, missing_fault, nodata_for}
-use Rattle.ascii_grid.specs.GridText.{AsksForCells, AsksAtHeight, IsTold, spelled_cell, cells_wanted, words_fault, heights_fault, end_fault}
+use Rattle.ascii_grid.specs.GridText.{AsksForCells, AsksAtHeight, IsReported, spelled_cell, cells_wanted, words_fault, heights_fault, end_fault}
 use Rattle.ascii_grid.specs.Slots.{anchor_at, is_given, is_centre}
 use Rattle.ascii_grid.specs.declared.fault.Key.{Key}
 use Rattle.ascii_grid.specs.declared.fault.Key.TheVariants.{Ncols, Nrows, Xll, Yll, Cellsize, Nodata}
@@ -13,15 +14,15 @@ use Rattle.ascii_grid.specs.declared.header.Header.{Header}
 use Rattle.ascii_grid.specs.declared.judge.Stage.{Stage}
 use Rattle.ascii_grid.specs.declared.judge.Stage.TheVariants.{AtKey, AtValue, AtHeights}
 use Rattle.ascii_grid.specs.declared.judge.Judge.{Judge}
-use Rattle.ascii_grid.specs.declared.progress.Progress.{Progress}
+use Rattle.ascii_grid.specs.declared.progress.Tokenizer.{Tokenizer}
 use Rattle.ascii_grid.specs.declared.progress.TheConstants.{KEPT_BYTES}
 
--- The words of pairs.
+-- The key and the value words of pairs, in their order.
 abbrev pub flat : List (Word × Word) → List Word
 flat [] = []
 flat (p ∷ ps) = p.0 ∷ p.1 ∷ flat ps
 
--- The first pair for a slot.
+-- The first pair whose key fills a slot.
 abbrev pub given : Key → List (Word × Word) → Option (Word × Word)
 given slot ps = find (λ (p : Word × Word). fills slot p.0) ps
 
@@ -36,31 +37,32 @@ slots_of ps = record {
   nodata = option_map (λ (p : Word × Word). p.1) (given Nodata ps);
 }
 
--- The keys of pairs, before other keys, the last first.
+-- The keys of pairs, the last one first, and then other keys.
 abbrev pub keys_before : List (Word × Word) → List Word → List Word
 keys_before [] before = before
 keys_before (p ∷ ps) before = keys_before ps (p.0 ∷ before)
 
--- The slots are those of these pairs, which have no fault.
+-- The header's slots are those that these pairs fill, and the pairs have no fault.
 pub record IsHeaderOf (h : Header) (ps : List (Word × Word)) : Type 0 where
   pub keys : list_all (λ (p : Word × Word). begins_with_letter p.0) ps ≡ true
   pub faultless : header_fault [] (flat ps) ≡ None
   pub slots : h ≡ slots_of ps
 
--- A key word after these pairs, for this slot, with a centre or a corner.
-pub record AwaitsValue (ps : List (Word × Word)) (k : Word) (slot : Key) (centre : Bool) : Type 0 where
+-- The key word `k` follows these pairs, and the value of its empty slot comes next.
+pub record AwaitsValue (ps : List (Word × Word)) (k : Word) (slot : Key)
+    (centre : Bool) : Type 0 where
   pub letter : begins_with_letter k ≡ true
   pub faultless : key_fault (keys_before ps []) k ≡ None
   pub key_is : slot_of k ≡ Some slot
   pub named : centre ≡ is_centre k
   pub free : is_given (slots_of ps) slot ≡ false
 
--- The first height has come: no further word is a key.
+-- There is a first height: a word that begins with no letter, so that no later word is a key.
 abbrev pub HasBegun : List Word → Type 0
 HasBegun [] = ⊥
 HasBegun (h ∷ rest) = begins_with_letter h ≡ false
 
--- The heights so far after these pairs.
+-- These words follow the pairs as heights without a fault, and their cells are stored.
 pub record AreHeights (j : Judge) (ps : List (Word × Word)) (hs : List Word) : Type 0 where
   pub whole : missing_fault (flat ps) ≡ None
   pub wanted : j.wanted ≡ cells_wanted (flat ps)
@@ -69,13 +71,13 @@ pub record AreHeights (j : Judge) (ps : List (Word × Word)) (hs : List Word) : 
   pub faultless : heights_fault j.scale (flat ps) 0 hs ≡ None
   pub cells : j.cells.items ≡ map (spelled_cell j.scale j.nodata) hs
 
--- The words after the pairs of the header.
+-- The words after the pairs fit the stage: none at a key, the key at its value, else heights.
 abbrev pub IsAt : Judge → List (Word × Word) → List Word → Stage → Type 0
 IsAt j ps rest AtKey = rest ≡ []
 IsAt j ps rest (AtValue slot centre) = (k : Word) × (rest ≡ k ∷ []) × AwaitsValue ps k slot centre
 IsAt j ps rest AtHeights = HasBegun rest × AreHeights j ps rest
 
--- These words were judged, and have no fault.
+-- These words were read without a fault, as pairs of the header and then the rest.
 pub record HasJudged (j : Judge) (ws : List Word) : Type 0 where
   pub pairs : List (Word × Word)
   pub rest : List Word
@@ -83,23 +85,23 @@ pub record HasJudged (j : Judge) (ws : List Word) : Type 0 where
   pub header : IsHeaderOf j.header pairs
   pub at : IsAt j pairs rest j.stage
 
--- The first fault of words, or want of memory at the first height.
+-- A fault of words: their first, or want of memory at the first height.
 abbrev pub IsWordFault : ℕ → List Word → GridFault → Type 0
-IsWordFault d ws f = IsTold (AsksAtHeight ws) (words_fault d ws) f
+IsWordFault d ws f = IsReported (AsksAtHeight ws) (words_fault d ws) f
 
--- What the end of the text tells, or want of memory before a first height.
+-- A fault at the end of the text: its first there, or want of memory for the cells.
 abbrev pub IsEndFault : List Word → GridFault → Type 0
-IsEndFault ws f = IsTold (AsksForCells ws) (end_fault ws) f
+IsEndFault ws f = IsReported (AsksForCells ws) (end_fault ws) f
 
--- The words that a separator has ended, and what follows the last separator.
+-- A text is split into the words that a separator ends, and the bytes after the last separator.
 pub record IsParted (text : List ℕ) (ws : List Word) (w : Word) : Type 0 where
   pub parts : List Word
   pub split : slice_split is_separator text ≡ parts ++ w ∷ []
   pub kept : filter is_word parts ≡ ws
   pub ended : ended_words text ≡ ws
 
--- The ended words of this text were judged, and of the word in progress this is kept.
-pub record HasWords (p : Progress) (text : List ℕ) : Type 0 where
+-- The ended words of this text were read without a fault; the unfinished word's front is stored.
+pub record HasWords (p : Tokenizer) (text : List ℕ) : Type 0 where
   pub ended : List Word
   pub last : Word
   pub parted : IsParted text ended last

@@ -7,18 +7,19 @@ ghost use Rattle.ascii_grid.specs.Meaning.{meaning_of};
 use decimals::scaled_value;
 use terrain::{Cell, HIGHEST, LOWEST};
 
-/// What a word among the heights stands for.
+/// The meaning of a word among the heights.
 #[derive(Clone, Copy)]
 pub(crate) enum Meaning {
-    /// A cell, with its height or without data.
+    /// A cell with a height, or NODATA.
     Cell(Cell),
-    /// No cell.
+    /// Neither a height nor NODATA.
     Nothing,
 }
 
-/// What the word stands for, beside a NODATA word and its scaled value.
+/// Returns a word's meaning, given the NODATA word and its scaled value.
 pub(crate) fn cell(scale: u8, nodata: &[u8], nodata_value: Option<i64>, word: &[u8]) -> Meaning
-    ensures { nodata_value ≡ scaled_value scale nodata.now → result ≡ meaning_of scale nodata.now word.now }
+    ensures { nodata_value ≡ scaled_value scale nodata.now →
+        result ≡ meaning_of scale nodata.now word.now }
 {
     match scaled_value(scale, word) {
         Some(value) => value_cell(value, nodata_value),
@@ -27,10 +28,11 @@ pub(crate) fn cell(scale: u8, nodata: &[u8], nodata_value: Option<i64>, word: &[
     }
 }
 
-/// What a word with this scaled value stands for, beside the one of the NODATA word.
+/// Returns a word's meaning by its scaled value and that of the NODATA word.
 #[inline(always)]
 pub(crate) fn value_cell(value: i64, nodata_value: Option<i64>) -> Meaning
-    ensures { (d : ℕ) (nodata word : List ℕ) → scaled_value d word ≡ Some value → nodata_value ≡ scaled_value d nodata →
+    ensures { (d : ℕ) (nodata word : List ℕ) → scaled_value d word ≡ Some value →
+        nodata_value ≡ scaled_value d nodata →
         result ≡ meaning_of d nodata word }
 {
     if is_same_value(Some(value), nodata_value) {

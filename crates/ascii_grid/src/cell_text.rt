@@ -1,4 +1,4 @@
-//! The text of one value of a map, with the byte that ends it.
+//! The text of one value of a map, and the byte that ends it.
 ghost use Rattle.std.specs.Prelude.{◌≡◌, ◌+◌, ◌-◌, ◌/◌, ◌^◌, ◌≤◌, ◌∷◌, ◌++◌, [], ℕ, List, length, drop, decimal};
 ghost use Rattle.ascii_grid.specs.Text.{last_digits, height_text};
 
@@ -6,10 +6,10 @@ use crate::page::{PAGE, Page};
 use drainage::Code;
 use terrain::Height;
 
-/// Room for the longest text of a value, and the byte that ends it.
+/// Bytes enough for the longest text of a value and the byte that ends it.
 const ROOM: usize = 32;
 
-/// Writes the last digits at the end of the buffer, and answers the number before them.
+/// Writes the last `count` digits at the buffer's end. Returns the digits before.
 #[inline(always)]
 fn write_last_digits(size: u64, count: usize, buffer: &mut [u8; ROOM]) -> u64
     requires { count ≤ 6 }
@@ -24,12 +24,12 @@ fn write_last_digits(size: u64, count: usize, buffer: &mut [u8; ROOM]) -> u64
     left
 }
 
-/// A value that a cell of a grid text can have.
+/// The value of a map's cell: a height, a whole number or a direction code.
 pub(crate) trait CellValue: Copy {
-    /// Its text in a grid of this scale.
+    /// The value's text at a scale.
     ghost text: { ℕ → Self → List ℕ };
 
-    /// Adds the text to the page, and the byte that ends the cell.
+    /// Adds the value's text to the page, then the byte `end`.
     fn push_to(self, scale: u8, end: u8, page: &mut Page)
         requires scale { scale ≤ 6 }
         requires room { length page.old + ROOM ≤ PAGE }

@@ -1,6 +1,6 @@
-//! The faults of a grid text, numbers 1 to 12.
+//! The faults of a grid text, numbered 1 to 12 in fault lines.
 
-/// A slot of the header.
+/// A slot of the header; `Xll` and `Yll` place the lower left cell.
 #[derive(Clone, Copy, Debug, PartialEq, Eq)]
 pub enum Key {
     Ncols,
@@ -11,31 +11,31 @@ pub enum Key {
     Nodata,
 }
 
-/// Why a text was not read as a grid: the text's one first fault, or want of memory.
+/// Why a text is no grid: its first fault, or want of memory.
 #[derive(Clone, Copy, Debug, PartialEq, Eq)]
 pub enum GridFault {
-    /// A word in a key's place is no key.
+    /// A word in a key's place begins with a letter and is no key.
     UnknownKey,
-    /// A slot is given twice.
+    /// This slot is given twice.
     RepeatedKey(Key),
     /// The header ends without this slot.
     MissingKey(Key),
-    /// A number of columns or rows is not a whole number from 1 to 4,096.
+    /// The number of columns or rows is not a whole number from 1 to 4,096.
     BadSize(Key),
-    /// A position is no decimal text, or the cell size none above zero.
+    /// A position is no decimal text, or the cell size is no decimal text above 0.
     BadPlace(Key),
     /// The NODATA word is no decimal text.
     BadNodata,
-    /// The word of this cell, counted in row order from 0, is no height at the scale.
+    /// The word of this cell, from 0 in row order, is no height at the scale.
     BadHeight(u32),
-    /// The text ends after so many heights, and more are wanted.
+    /// The text ends after this many heights, fewer than the header asks for.
     TooFew(u32),
-    /// There is a word after the last height.
+    /// A word follows the last height.
     TooMany,
     /// The text ends after a key, without its value.
     NoValue(Key),
-    /// A word has more than 64 bytes, or the text more than 2^29.
+    /// A word has more than 64 bytes, or the text has more than 2^29.
     TooLong,
-    /// There was no memory for the list of cells.
+    /// There is too little memory for the list of cells.
     Memory,
 }

@@ -1,6 +1,6 @@
 //! The slots of a header: which are given, and which are missing.
 //!
-//! `Header::slot_for` takes a key, `put` its value, and `into_grid` makes the grid of all slots.
+//! `Header::slot_for` finds a key's slot, `put` stores its value, `into_grid` builds the grid.
 ghost use Rattle.std.specs.Prelude.{◌≡◌, ◌≤◌, ◌*◌, length, true, false, Option, Some, None, IfOk, IfErr, MatchOption, unwrap_or, codes, if◌then◌else◌};
 ghost use Rattle.terrain.specs.Decimal.{is_decimal};
 ghost use Rattle.ascii_grid.specs.Header.{is_value, bad_value, slot_of};
@@ -13,7 +13,7 @@ use decimals::{is_above_zero, is_decimal, size};
 use std::alloc::Global;
 use terrain::{Anchor, Cell, Grid, GridHeader, MOST_WORD_BYTES, Word};
 
-/// What a header has given so far.
+/// The values that a header has given so far; `None` for an empty slot.
 #[derive(Drop)]
 pub(crate) struct Header {
     pub(crate) cols: Option<u16>,
@@ -38,9 +38,10 @@ impl Header {
         }
     }
 
-    /// The slot of a key word that isn't given yet.
+    /// Returns the empty slot of a key word, or a fault: unknown or repeated key.
     pub(crate) fn slot_for(&self, word: &[u8]) -> Result<Key, GridFault>
-        ensures ok { IfOk result (λ slot. (slot_of word.now ≡ Some slot) × (is_given self.now slot ≡ false)) }
+        ensures ok { IfOk result
+            (λ slot. (slot_of word.now ≡ Some slot) × (is_given self.now slot ≡ false)) }
         ensures err { IfErr result (λ f. MatchOption (slot_of word.now) (f ≡ GridFault.UnknownKey)
             (λ slot. (is_given self.now slot ≡ true) × (f ≡ GridFault.RepeatedKey slot))) }
     {
@@ -64,7 +65,7 @@ impl Header {
         }
     }
 
-    /// Fills a slot, that of a position by a centre or a corner.
+    /// Fills a slot with a value word, or returns its fault. `centre` is for positions.
     pub(crate) fn put(&mut self, key: Key, centre: bool, word: &[u8]) -> Result<(), GridFault>
         requires { length word.now ≤ MOST_WORD_BYTES }
         ensures ok { IfOk result (λ _. (is_value key word.now ≡ true)
@@ -99,7 +100,7 @@ impl Header {
         Ok(())
     }
 
-    /// The NODATA word, `-9999` where none is given.
+    /// Returns the NODATA word, `-9999` if the header gives none.
     pub(crate) fn nodata_word(&self) -> Word
         ensures { result ≡ unwrap_or self.now.nodata (codes "-9999") }
     {
@@ -109,7 +110,7 @@ impl Header {
         }
     }
 
-    /// The grid with these slots and cells.
+    /// Builds the grid of these slots and cells.
     pub(crate) fn into_grid(self, alloc: Global, scale: u8, nodata: Word, cells: Vec<Cell>) -> Grid
         requires whole { IsWhole self }
         requires lawful { IsLawful (raster_of self scale nodata cells.items) }
@@ -134,7 +135,7 @@ impl Header {
         Grid::from_parts(alloc, header, scale, cells)
     }
 
-    /// How many cells the header wants, where no required slot is missing.
+    /// Returns columns times rows, or the first required slot that is missing.
     pub(crate) fn cells_wanted(&self) -> Result<u32, GridFault>
         ensures ok { IfOk result (λ n. (missing_of self.now ≡ None) × (n ≡ wanted_of self.now)) }
         ensures err { IfErr result (λ f. missing_of self.now ≡ Some f) }

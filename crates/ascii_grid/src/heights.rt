@@ -1,6 +1,6 @@
 //! Parses heights apart from their text, for jobs.
 //!
-//! [`HeightForm`] has what is needed: the scale and the NODATA word. [`HeightForm::cells`] parses.
+//! [`HeightForm`] holds the scale and the NODATA word; [`HeightForm::cells`] parses bytes.
 ghost use Rattle.std.specs.Prelude.{◌≡◌, IsTrue, ℕ, ◌<◌, ◌≤◌, ◌++◌, List, length, take, IfSome};
 ghost use Rattle.std.specs.List.{position};
 ghost use Rattle.terrain.specs.Words.{is_separator};
@@ -15,7 +15,7 @@ use std::alloc::Global;
 use std::marker::Model;
 use terrain::{Cell, MOST_WORD_BYTES, Word};
 
-/// What a word among the heights of a text has to be known by, to be read apart from that text: the scale and the NODATA word.
+/// What parsing heights apart from their text needs: the scale and NODATA word.
 #[derive(Drop)]
 pub struct HeightForm {
     scale: u8,
@@ -41,15 +41,17 @@ impl HeightForm {
         HeightForm { scale, nodata }
     }
 
-    /// Whether it is the one of this scale and this NODATA word.
+    /// Whether the form has this scale and this NODATA word.
     pub(crate) fn is_of(&self, scale: u8, nodata: &[u8]) -> bool
         ensures { IsTrue result → (self.now.scale ≡ scale) × (self.now.nodata ≡ nodata.now) }
     {
         self.scale == scale && self.nodata.as_bytes() == nodata
     }
 
-    /// The cells that the words of these bytes stand for. None where a word isn't ended by a separator, is too long or stands
-    /// for no cell, and for want of memory.
+    /// Returns the cells of bytes in which a separator follows each word.
+    ///
+    /// `None` if the last word has no separator after it, if a word has more than 64 bytes or is no
+    /// cell, and for want of memory.
     pub fn cells(&self, alloc: Global, bytes: &[u8]) -> Option<Vec<Cell>>
         ensures { IfSome result (λ cells. AreCells self.now bytes.now cells.items) }
     {
@@ -62,7 +64,7 @@ impl HeightForm {
         Some(cells)
     }
 
-    /// Takes a separator, or a word with the separator behind it, whose cell is added.
+    /// Reads a separator, or a word and its separator. Adds the word's cell.
     #[inline(always)]
     fn add_next(
         &self,
@@ -89,12 +91,13 @@ impl HeightForm {
         Some(len + 1)
     }
 
-    /// The length of the word in front of the first separator, and what it stands for.
+    /// Returns the length and the meaning of the word before the first separator.
     #[inline(always)]
     fn front_word(&self, nodata_value: Option<i64>, rest: &[u8]) -> Option<(usize, Meaning)>
         requires { nodata_value ≡ scaled_value self.now.scale self.now.nodata }
         ensures word { IfSome result (λ r. IsEndedWord rest.now r.0) }
-        ensures meaning { IfSome result (λ r. r.1 ≡ meaning_of self.now.scale self.now.nodata (take r.0 rest.now)) }
+        ensures meaning { IfSome result
+            (λ r. r.1 ≡ meaning_of self.now.scale self.now.nodata (take r.0 rest.now)) }
     {
         if let Some((len, value)) = plain_number(self.scale, rest) {
             if len < rest.len() && is_separator(rest[len]) {
@@ -104,12 +107,13 @@ impl HeightForm {
         self.other_word(nodata_value, rest)
     }
 
-    /// The same of any word.
+    /// Slow path of [`front_word`](Self::front_word): reads any word.
     #[inline(never)]
     fn other_word(&self, nodata_value: Option<i64>, rest: &[u8]) -> Option<(usize, Meaning)>
         requires { nodata_value ≡ scaled_value self.now.scale self.now.nodata }
         ensures word { IfSome result (λ r. IsEndedWord rest.now r.0) }
-        ensures meaning { IfSome result (λ r. r.1 ≡ meaning_of self.now.scale self.now.nodata (take r.0 rest.now)) }
+        ensures meaning { IfSome result
+            (λ r. r.1 ≡ meaning_of self.now.scale self.now.nodata (take r.0 rest.now)) }
     {
         let len = separator_at(rest)?;
         if len == 0 || len > MOST_WORD_BYTES {

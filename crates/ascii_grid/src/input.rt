@@ -1,4 +1,4 @@
-//! A grid from a reader, piece by piece.
+//! Reads a grid from a device, piece by piece.
 ghost use Rattle.std.specs.Prelude.{◌≡◌, ◌≢◌, ◌≤◌, ◌-◌, ◌^◌, ◌<◌, ℕ, List, length, None, Err, IfOk};
 ghost use Rattle.ascii_grid.specs.Input.{ReadsGrid, ReadsPiece, CanRead};
 ghost use Rattle.ascii_grid.specs.Reader.{HasTaken};
@@ -19,19 +19,18 @@ pub const PIECE_BYTES: usize = 4_096;
 pub enum InputFault {
     /// The text's fault, or want of memory for its cells.
     Grid(GridFault),
-    /// The reader failed: its count has risen by one.
+    /// A read failed; the device's count of failures has risen by one.
     Read,
 }
 
 /// Reads a grid from a device, its heights in units of 10^-scale.
 ///
-/// The text is read into an array of [`PIECE_BYTES`] bytes and never held whole. At most 2^29 + 1
-/// bytes are read.
+/// Reads into an array of [`PIECE_BYTES`] bytes, never the whole text, and at most 2^29 + 1 bytes.
 ///
 /// # Errors
 ///
-/// The text's first fault, or [`InputFault::Read`]. Where the reader fails, a fault of a word that
-/// ended before goes first.
+/// The text's first fault, [`GridFault::Memory`], or [`InputFault::Read`] if a read fails. A fault
+/// of a word that ended before the failure comes first.
 pub fn read_grid<R: Read>(
     alloc: Global,
     scale: u8,
@@ -55,9 +54,14 @@ pub fn read_grid<R: Read>(
     )
 }
 
-/// [`read_grid`] through a buffer, by a function that reads bytes into it and feeds them.
+/// Reads a grid from a device by calls of `read_next`, which reads into the buffer.
 ///
-/// The function returns how many bytes it fed, or None at the end of the text.
+/// `read_next` feeds what it reads to the [`GridReader`]. It returns how many bytes these are, or
+/// `None` at the end of the text.
+///
+/// # Errors
+///
+/// Those of [`read_grid`].
 pub fn read_grid_by<
     R: Read,
     F: Fn(&mut GridReader, &mut Counted<R>, &mut [u8]) -> Result<Option<usize>, InputFault>,
@@ -73,7 +77,8 @@ pub fn read_grid_by<
     requires room { 0 < length buffer.old }
     requires callable { (before : _) (device : _) (piece : _) →
         CanRead before.now device.now piece.now → F.pre read_next before device piece }
-    requires reads { (before : _) (device : _) (piece : _) (r : _) (after : _) (left : _) (full : _) →
+    requires reads { (before : _) (device : _) (piece : _) (r : _) (after : _) (left : _)
+        (full : _) →
         F.post read_next before device piece r after left full →
         ReadsPiece R.remaining device.now left.now before.now after.now (length piece.now) r }
     ensures { ReadsGrid R.remaining scale reader.old reader.new result }
@@ -90,7 +95,7 @@ pub fn read_grid_by<
     }
 }
 
-/// Reads a piece and feeds it: returns its length, or None at the end of the text.
+/// Reads and feeds a piece. Returns its length, or `None` at the text's end.
 fn read_piece<R: Read>(
     grid_reader: &mut GridReader,
     reader: &mut Counted<R>,
@@ -112,7 +117,7 @@ fn read_piece<R: Read>(
     Ok(Some(count))
 }
 
-/// The grid of the pieces that were fed, or the fault of their text.
+/// Returns the grid of the pieces that were fed, or the fault of their text.
 fn finish_grid(grid_reader: GridReader) -> Result<Grid, InputFault>
     ensures grid { (text : List ℕ) → HasTaken grid_reader text →
         IfOk result (λ g. IsGridText grid_reader.scale text g) }

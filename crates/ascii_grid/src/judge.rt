@@ -1,7 +1,7 @@
-//! Judges the words of a text in their order: keys, values, heights.
+//! Checks the words of a text in their order: keys, values, heights.
 //!
-//! `Judge::judge` fills a slot of the header, adds a cell or reports the fault. Depends on `key`,
-//! `header` and `cell`.
+//! `Judge::judge` fills a slot of the header, adds a cell or returns the word's fault. Depends on
+//! `key`, `header` and `cell`.
 ghost use Rattle.std.specs.Prelude.{◌↔◌, IsTrue, ◌≡◌, ◌≤◌, ◌<◌, ◌⊎◌, ◌++◌, [], ◌∷◌, List, map, length, false, Option, Some, None, Err, IfOk, MatchResult};
 ghost use Rattle.terrain.specs.Words.{Word};
 ghost use Rattle.terrain.specs.Decimal.{scaled_value};
@@ -21,18 +21,18 @@ use decimals::scaled_value;
 use std::alloc::Global;
 use terrain::{Cell, Grid, MOST_WORD_BYTES, Word};
 
-/// What the next word is.
+/// What the next word has to be.
 #[derive(Clone, Copy)]
 pub(crate) enum Stage {
     /// A key, or the first height.
     AtKey,
-    /// The value of this slot, whose key names a centre or not.
+    /// The value of this slot; `centre` if its key names a cell's centre.
     AtValue { key: Key, centre: bool },
     /// A height.
     AtHeights,
 }
 
-/// What is kept of the words so far.
+/// The header and the cells that the words so far have given.
 #[derive(Drop)]
 pub(crate) struct Judge {
     alloc: Global,
@@ -62,7 +62,7 @@ impl Judge {
         }
     }
 
-    /// Judges the next word.
+    /// Checks the next word: fills a slot, adds a cell or returns its fault.
     pub(crate) fn judge(&mut self, word: &[u8]) -> Result<(), GridFault>
         ensures scale { self.new.scale ≡ self.old.scale }
         ensures long { MOST_WORD_BYTES < length word.now → result ≡ Err GridFault.TooLong }
@@ -93,7 +93,7 @@ impl Judge {
         }
     }
 
-    /// The grid that the words spell.
+    /// Returns the grid that the words spell, or the fault at the text's end.
     pub(crate) fn finish(mut self) -> Result<Grid, GridFault>
         requires judged { (ws : List Word) × HasJudged self ws }
         requires scale { self.scale ≤ 6 }
@@ -119,11 +119,19 @@ impl Judge {
         }
     }
 
-    /// Asks for the memory of the cells.
+    /// Ends the header and allocates the cells, or returns the missing slot's fault.
     fn begin_heights(&mut self) -> Result<(), GridFault>
-        ensures kept { self.new ≡ record self.old { stage = self.new.stage; wanted = self.new.wanted; nodata = self.new.nodata; nodata_value = self.new.nodata_value; cells = self.new.cells } }
+        ensures kept { self.new ≡ record self.old {
+          stage = self.new.stage;
+          wanted = self.new.wanted;
+          nodata = self.new.nodata;
+          nodata_value =
+              self.new.nodata_value;
+          cells = self.new.cells;
+        } }
         ensures stage { IfOk result (λ _. self.new.stage ≡ Stage.AtHeights) }
-        ensures none { (ps : List (Word × Word)) → IsHeaderOf self.old.header ps → MatchResult result
+        ensures none { (ps : List (Word × Word)) → IsHeaderOf self.old.header ps →
+            MatchResult result
             (λ _. AreHeights self.new ps [])
             (λ f. (missing_fault (flat ps) ≡ Some f)
             ⊎ ((f ≡ GridFault.Memory) × (missing_fault (flat ps) ≡ None))) }
@@ -152,11 +160,12 @@ impl Judge {
         self.add_cell(meaning)
     }
 
-    /// Judges a height by its scaled value.
+    /// Checks the next height by its scaled value, and adds its cell.
     #[inline(always)]
     pub(crate) fn judge_value_of_height(&mut self, value: i64) -> Result<(), GridFault>
         ensures kept { self.new ≡ record self.old { cells = self.new.cells } }
-        ensures word { (ps : List (Word × Word)) (hs : List Word) (word : Word) → AreHeights self.old ps hs →
+        ensures word { (ps : List (Word × Word)) (hs : List Word) (word : Word) →
+            AreHeights self.old ps hs →
             length word ≤ MOST_WORD_BYTES → scaled_value self.old.scale word ≡ Some value →
             MatchResult result (λ _. AreHeights self.new ps (hs ++ word ∷ []))
             (λ f. (f ≡ GridFault.Memory)
@@ -166,12 +175,14 @@ impl Judge {
         self.add_cell(meaning)
     }
 
-    /// Adds the cell of the next height, where it has one.
+    /// Adds the cell of the next height, or returns its fault.
     #[inline(always)]
     fn add_cell(&mut self, meaning: Meaning) -> Result<(), GridFault>
         ensures kept { self.new ≡ record self.old { cells = self.new.cells } }
-        ensures word { (ps : List (Word × Word)) (hs : List Word) (word : Word) → AreHeights self.old ps hs →
-            length word ≤ MOST_WORD_BYTES → meaning ≡ meaning_of self.old.scale self.old.nodata word →
+        ensures word { (ps : List (Word × Word)) (hs : List Word) (word : Word) →
+            AreHeights self.old ps hs →
+            length word ≤ MOST_WORD_BYTES →
+            meaning ≡ meaning_of self.old.scale self.old.nodata word →
             MatchResult result (λ _. AreHeights self.new ps (hs ++ word ∷ []))
             (λ f. (f ≡ GridFault.Memory)
             ⊎ (height_fault self.old.scale (flat ps) (length hs) word ≡ Some f)) }
@@ -189,7 +200,7 @@ impl Judge {
         Ok(())
     }
 
-    /// What a height is known by.
+    /// Returns the scale and the NODATA word, for parsing heights apart.
     pub(crate) fn height_form(&self) -> HeightForm
         requires { self.now.scale ≤ 6 }
         ensures { result ≡ record { scale = self.now.scale; nodata = self.now.nodata } }
@@ -197,14 +208,19 @@ impl Judge {
         HeightForm::new(self.scale, self.nodata.copy())
     }
 
-    /// Adds the cells of the next heights, where heights are known by this here and so many are wanted. Else it adds none.
+    /// Adds the cells of the next heights. Returns whether it added them.
+    ///
+    /// It adds none if `form` has another scale or NODATA word, or if the cells are too many.
     pub(crate) fn add_cells(&mut self, form: &HeightForm, cells: &[Cell]) -> bool
         ensures kept { self.new ≡ record self.old { cells = self.new.cells } }
         ensures refused { result ≡ false → self.new ≡ self.old }
-        ensures added { (ps : List (Word × Word)) (hs more : List Word) → AreHeights self.old ps hs →
-            All (IsHeightWord form.now) more → cells.now ≡ map (spelled_cell form.now.scale form.now.nodata) more →
+        ensures added { (ps : List (Word × Word)) (hs more : List Word) →
+            AreHeights self.old ps hs →
+            All (IsHeightWord form.now) more →
+            cells.now ≡ map (spelled_cell form.now.scale form.now.nodata) more →
             IsTrue result → AreHeights self.new ps (hs ++ more) }
     {
+        // The capacity is at least `wanted`; the `min` shows that adding the cells cannot fail.
         let most = (self.wanted as usize).min(self.cells.capacity());
         let place = self.cells.len();
         if place > most || cells.len() > most - place {

@@ -1,4 +1,4 @@
-//! Keys of the header: which slot a word names, whatever the case of its letters.
+//! Keys of the header, and the slots that they fill.
 ghost use Rattle.std.specs.Prelude.{◌≡◌, map};
 ghost use Rattle.std.specs.Char.{to_ascii_lowercase};
 ghost use Rattle.ascii_grid.specs.Header.{is_key, slot_of, begins_with_letter};
@@ -6,7 +6,7 @@ ghost use Rattle.ascii_grid.specs.Slots.{is_centre};
 
 use crate::fault::Key;
 
-/// The slot that a key word fills, whatever the case of its letters.
+/// Returns the slot that a key word fills, whatever the case of its letters.
 pub(crate) fn slot_of(word: &[u8]) -> Option<Key>
     ensures { result ≡ slot_of word.now }
 {
@@ -31,14 +31,14 @@ pub(crate) fn slot_of(word: &[u8]) -> Option<Key>
     None
 }
 
-/// Whether a key word names the centre of the lower left cell, and not its corner.
+/// Whether a key word names the centre of the lower left cell, not its corner.
 pub(crate) fn names_centre(word: &[u8]) -> bool
     ensures { result ≡ is_centre word.now }
 {
     is_key(b"xllcenter", word) || is_key(b"yllcenter", word)
 }
 
-/// Whether a word in a key's place is a key.
+/// Whether a word begins with a letter: in a key's place, such a word is a key.
 pub(crate) fn begins_with_letter(word: &[u8]) -> bool
     ensures { result ≡ begins_with_letter word.now }
 {

@@ -1,25 +1,25 @@
 //! Reads and writes terrain grids in the Esri ASCII raster form.
 //!
 //! Begin with [`GridReader`] or [`read_grid`] to read, and with [`write_heights`] to write.
-//! [`Counted`] counts the failures of a device. `docs/grid-text.md` has the rules of the text.
+//! [`Counted`] counts the bytes and failures of a device. `docs/grid-text.md` defines the text.
 //!
-//! Modules, from what is called to what it depends on:
+//! Modules, callers first:
 //!
-//! - `read`: a whole text
-//! - `input`: a grid from a device
-//! - `reader`: a text in pieces
-//! - `progress`: words, byte by byte
-//! - `judge`: header slots, cells, the first fault
-//! - `key`: which slot a key names
+//! - `read`: reads a whole text
+//! - `input`: reads a grid from a device
+//! - `reader`: reads a text in pieces
+//! - `progress`: splits a text into words
+//! - `judge`: checks each word, fills header slots, adds cells
+//! - `key`: the slot that a key word fills
 //! - `header`: the slots of a header
 //! - `cell`: the cell that a word spells
-//! - `heights`: heights parsed apart from their text
-//! - `write`: a map as text
+//! - `heights`: parses heights apart from their text, for jobs
+//! - `write`: writes a map as text
 //! - `cell_text`: the text of one value
-//! - `page`: bytes gathered on the stack
+//! - `page`: a byte buffer on the stack
 //! - `fault`: the faults of a text
 //! - `counted`: devices that count their bytes and failures
-//! - `laws`: facts of the definitions
+//! - `laws`: theorems about the definitions
 #![tactic(auto)]
 
 mod cell;

@@ -1,4 +1,4 @@
-//! A page of bytes on the stack, written to its device when it is full.
+//! A byte buffer on the stack, from which a page of text is written to a device.
 ghost use Rattle.std.specs.Prelude.{◌≡◌, ◌↔◌, ◌+◌, ◌≤◌, ◌∷◌, ◌++◌, [], ℕ, List, length, take, IsTrue, ◌<◌, ◌-◌, ◌^◌, decimal};
 ghost use Rattle.ascii_grid.specs.Device.{Writes};
 
@@ -10,13 +10,13 @@ use std::marker::Model;
 /// How many bytes a page holds.
 pub const PAGE: usize = 4096;
 
-/// The most digits of a number that is pushed.
+/// The most digits of a number that `push_number` adds.
 const MOST_DIGITS: usize = 19;
 
-/// Bytes that wait to be handed to a device together.
+/// A buffer of [`PAGE`] bytes, to write many short texts to a device at once.
 pub type Page = Buffer<PAGE>;
 
-/// At most `N` bytes on the stack. Contracts see them as a list.
+/// At most `N` bytes on the stack. Contracts see a list of bytes.
 #[derive(Drop)]
 pub struct Buffer<const N: usize> {
     bytes: [u8; N],
@@ -32,7 +32,7 @@ impl<const N: usize> Model for Buffer<N> {
 }
 
 impl<const N: usize> Buffer<N> {
-    /// No bytes.
+    /// Returns an empty buffer.
     pub fn new() -> Self
         ensures { result ≡ [] }
     {
@@ -42,7 +42,7 @@ impl<const N: usize> Buffer<N> {
         }
     }
 
-    /// Whether so many bytes more can be gathered.
+    /// Whether `count` more bytes fit.
     #[inline(always)]
     pub(crate) fn has_room(&self, count: usize) -> bool
         requires { count ≤ N }
@@ -51,7 +51,7 @@ impl<const N: usize> Buffer<N> {
         self.len <= N - count
     }
 
-    /// Adds bytes, for which there is room.
+    /// Adds bytes, which must fit.
     #[inline(always)]
     pub fn push(&mut self, bytes: &[u8])
         requires { length self.old + length bytes.now ≤ N }
@@ -63,7 +63,7 @@ impl<const N: usize> Buffer<N> {
         self.len += bytes.len();
     }
 
-    /// Adds a byte, for which there is room.
+    /// Adds a byte, which must fit.
     #[inline(always)]
     pub fn push_byte(&mut self, byte: u8)
         requires { length self.old + 1 ≤ N }
@@ -73,7 +73,7 @@ impl<const N: usize> Buffer<N> {
         self.len += 1;
     }
 
-    /// Adds the digits of a number and the byte after them, for which there is room.
+    /// Adds a number's decimal digits, then the byte `after`; 20 bytes must fit.
     #[inline(always)]
     pub(crate) fn push_number(&mut self, number: u64, after: u8)
         requires small { number < 10 ^ 19 }
@@ -94,7 +94,11 @@ impl<const N: usize> Buffer<N> {
         &self.bytes[..self.len]
     }
 
-    /// Hands the bytes to a device, and flushes it.
+    /// Writes the bytes to a device and flushes it.
+    ///
+    /// # Errors
+    ///
+    /// [`WriteFailed`] if a write or the flush fails.
     pub fn write_to<W: Write>(&self, out: &mut Counted<W>) -> Result<(), WriteFailed>
         requires { out.old.failures < 2 ^ 64 - 1 }
         ensures { Writes W.contents out.old out.new self.now result }
@@ -111,7 +115,7 @@ impl<const N: usize> Buffer<N> {
     }
 }
 
-/// How many digits a number has.
+/// Returns how many decimal digits a number has.
 #[inline(always)]
 fn digit_count(number: u64) -> usize
     requires { number < 10 ^ 19 }

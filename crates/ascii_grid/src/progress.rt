@@ -1,7 +1,7 @@
 //! Splits a text into words, byte by byte.
 //!
-//! A word is judged where a separator ends it, so the cutting into pieces cannot matter. Depends on
-//! `judge`.
+//! A word is judged once a separator ends it, so it does not matter where the text is cut into
+//! pieces. Depends on `judge`.
 ghost use Rattle.std.specs.Prelude.{◌≡◌, ℕ, ◌≤◌, ◌++◌, [], ◌∷◌, ◌<◌, List, length, take, IfOk, IfSome, IsTrue, ◌↔◌, false, MatchResult};
 ghost use Rattle.terrain.specs.Words.{is_separator, words, ended_words};
 ghost use Rattle.ascii_grid.specs.Header.{header_words, nodata_for};
@@ -16,28 +16,28 @@ use decimals::plain_number;
 use std::alloc::Global;
 use terrain::{Cell, MOST_WORD_BYTES};
 
-/// Of a word in progress its front is kept, with one byte more than a word may have.
+/// How many bytes of an unfinished word are kept: one more than a word may have.
 const KEPT_BYTES: usize = MOST_WORD_BYTES + 1;
 
-/// The words so far, judged, and the word in progress.
+/// What the ended words have given, and the front of the unfinished word.
 #[derive(Drop)]
-pub(crate) struct Progress {
+pub(crate) struct Tokenizer {
     pub(crate) judge: Judge,
     word: Buffer<KEPT_BYTES>,
 }
 
-impl Progress {
+impl Tokenizer {
     pub(crate) fn new(alloc: Global, scale: u8) -> Self
         ensures scale { result.judge.scale ≡ scale }
         ensures none { HasWords result [] }
     {
-        Progress {
+        Tokenizer {
             judge: Judge::new(alloc, scale),
             word: Buffer::new(),
         }
     }
 
-    /// Takes the next bytes.
+    /// Splits the next bytes of the text, and judges each word that ends in them.
     pub(crate) fn take_all(&mut self, bytes: &[u8]) -> Result<(), GridFault>
         requires { self.old.judge.scale ≤ 6 }
         ensures scale { self.new.judge.scale ≡ self.old.judge.scale }
@@ -53,7 +53,7 @@ impl Progress {
         Ok(())
     }
 
-    /// Takes a plain height with the separator behind it, or one byte.
+    /// Reads a plain height and its separator, or one byte. Returns the length.
     #[inline(always)]
     fn take_some(&mut self, rest: &[u8]) -> Result<usize, GridFault>
         requires some { 0 < length rest.now }
@@ -73,7 +73,7 @@ impl Progress {
         Ok(1)
     }
 
-    /// Takes a plain height and the separator behind it, where they are next. Else it takes nothing.
+    /// Reads a plain height and its separator, if next. Returns their length, or 0.
     #[inline(always)]
     fn take_plain(&mut self, rest: &[u8]) -> Result<usize, GridFault>
         requires { self.old.judge.scale ≤ 6 }
@@ -113,7 +113,7 @@ impl Progress {
         Ok(())
     }
 
-    /// What the next word is known by, where it is a height and none of its bytes was taken.
+    /// Between two heights, returns what jobs need to parse the next ones; else `None`.
     pub(crate) fn height_form(&self) -> Option<HeightForm>
         requires { self.now.judge.scale ≤ 6 }
         ensures scale { IfSome result (λ form. form.scale ≡ self.now.judge.scale) }
@@ -127,11 +127,12 @@ impl Progress {
         }
     }
 
-    /// Takes bytes by their cells, where they can be taken so. Else it takes none.
+    /// Adds the cells of bytes that a job has parsed. Returns whether it added them.
     pub(crate) fn take_cells(&mut self, form: &HeightForm, cells: &[Cell]) -> bool
         ensures scale { self.new.judge.scale ≡ self.old.judge.scale }
         ensures refused { result ≡ false → self.new ≡ self.old }
-        ensures words { (text piece : List ℕ) → HasWords self.old text → AreCells form.now piece cells.now →
+        ensures words { (text piece : List ℕ) → HasWords self.old text →
+            AreCells form.now piece cells.now →
             IsTrue result → HasWords self.new (text ++ piece) }
     {
         if !self.is_between_heights() {
@@ -140,15 +141,16 @@ impl Progress {
         self.judge.add_cells(form, cells)
     }
 
-    /// Whether the next word is a height, of which no byte was taken.
+    /// Whether the next word is a height, and no byte of it has been read.
     #[inline(always)]
     fn is_between_heights(&self) -> bool
-        ensures { IsTrue result ↔ ((self.now.judge.stage ≡ Stage.AtHeights) × (self.now.word ≡ [])) }
+        ensures { IsTrue result
+            ↔ ((self.now.judge.stage ≡ Stage.AtHeights) × (self.now.word ≡ [])) }
     {
         self.judge.is_at_heights() && self.word.as_bytes().is_empty()
     }
 
-    /// Judges the word in progress, where there is one.
+    /// Judges the unfinished word, if there is one.
     pub(crate) fn end_word(&mut self) -> Result<(), GridFault>
         ensures scale { self.new.judge.scale ≡ self.old.judge.scale }
         ensures words { (text : List ℕ) → HasWords self.old text → MatchResult result
@@ -164,7 +166,7 @@ impl Progress {
     }
 }
 
-/// Whether the byte parts words: a space, a tab, a line feed or a carriage return.
+/// Whether a byte is a separator: space, tab, line feed or carriage return.
 #[inline(always)]
 pub fn is_separator(byte: u8) -> bool
     ensures { result ≡ is_separator byte }

@@ -1,7 +1,7 @@
 //! Reads a text in pieces: [`GridReader`].
 //!
-//! A fault is reported once its word has ended, and again by every later call. The words are split
-//! by `progress`.
+//! A fault is returned once its word has ended, and again by every later call. `progress` splits
+//! the text into words.
 ghost use Rattle.std.specs.Prelude.{◌≡◌, ◌≤◌, [], ℕ, List, None, Some, Ok, Err, IfOk, IfErr, IfSome, OnSome, IsTrue, false};
 ghost use Rattle.terrain.specs.Words.{ended_words};
 ghost use Rattle.ascii_grid.specs.Header.{header_words, nodata_for};
@@ -11,7 +11,7 @@ ghost use Rattle.ascii_grid.specs.Reader.{HasTaken, Feeds};
 
 use crate::fault::GridFault;
 use crate::heights::HeightForm;
-use crate::progress::Progress;
+use crate::progress::Tokenizer;
 use std::alloc::Global;
 use std::marker::Model;
 use terrain::{Cell, Grid};
@@ -19,10 +19,19 @@ use terrain::{Cell, Grid};
 /// The most bytes that a text may have: 2^29.
 pub const MOST_TEXT_BYTES: usize = 536_870_912;
 
-/// A reader of a text that comes in pieces, which it does not keep.
+/// Reads a grid from a text in pieces, without keeping the text.
+///
+/// # Examples
+///
+/// ```ignore
+/// let mut reader = GridReader::new(rt.alloc(), 0);
+/// reader.feed(b"ncols 2 nrows 1 xllcorner 0 yllcorner 0 cell")?;
+/// reader.feed(b"size 1 3 4")?;
+/// let grid = reader.finish()?;
+/// ```
 #[derive(Drop)]
 pub struct GridReader {
-    words: Progress,
+    words: Tokenizer,
     taken: usize,
     fault: Option<GridFault>,
 }
@@ -49,7 +58,7 @@ impl Model for GridReader {
 }
 
 impl GridReader {
-    /// A reader of a text whose heights are in units of 10^-scale.
+    /// Returns a reader that was fed nothing, for heights in units of 10^-scale.
     pub fn new(alloc: Global, scale: u8) -> Self
         requires { scale ≤ 6 }
         ensures scale { result.scale ≡ scale }
@@ -57,14 +66,19 @@ impl GridReader {
         ensures taken { HasTaken result [] }
     {
         GridReader {
-            words: Progress::new(alloc, scale),
+            words: Tokenizer::new(alloc, scale),
             taken: 0,
             fault: None,
         }
     }
 
-    /// Takes the next piece of the text. The fault of a word is answered once a separator has ended that word, and again for
-    /// each later piece.
+    /// Reads the next piece of the text.
+    ///
+    /// # Errors
+    ///
+    /// The first fault of a word, once a separator has ended the word; [`GridFault::TooLong`] past
+    /// [`MOST_TEXT_BYTES`]; [`GridFault::Memory`] at the first height. Every later call returns the
+    /// fault again.
     pub fn feed(&mut self, piece: &[u8]) -> Result<(), GridFault>
         ensures { Feeds self.old self.new piece.now result }
     {
@@ -84,7 +98,9 @@ impl GridReader {
         Ok(())
     }
 
-    /// What the next word is known by, where it is a height and none of its bytes was fed.
+    /// Returns what jobs need to parse the next heights.
+    ///
+    /// `None` until the first height has ended, within a word, and after a fault.
     pub fn height_form(&self) -> Option<HeightForm>
         ensures sound { OnSome result (self.now.fault ≡ None) }
         ensures scale { IfSome result (λ form. form.scale ≡ self.now.scale) }
@@ -97,8 +113,14 @@ impl GridReader {
         self.words.height_form()
     }
 
-    /// [`feed`](Self::feed) of a piece whose cells are known. They are taken as they stand where they are known by the form of
-    /// the heights here, and fit; else the piece is read.
+    /// Reads a piece of the text, which [`HeightForm::cells`] parsed into `cells`.
+    ///
+    /// Adds the cells if `form` is what [`height_form`](Self::height_form) returns and they fit. If
+    /// not, parses the piece.
+    ///
+    /// # Errors
+    ///
+    /// Those of [`feed`](Self::feed).
     pub fn feed_cells(
         &mut self,
         form: &HeightForm,
@@ -114,7 +136,7 @@ impl GridReader {
         self.feed(piece)
     }
 
-    /// Takes a piece by its cells, where that can be. Else it takes nothing.
+    /// Adds the cells of a piece, or returns false and changes nothing.
     fn take_cells(&mut self, form: &HeightForm, piece: &[u8], cells: &[Cell]) -> bool
         requires { AreCells form.now piece.now cells.now }
         ensures taken { IsTrue result → Feeds self.old self.new piece.now (Ok (tt {0})) }
@@ -130,7 +152,12 @@ impl GridReader {
         true
     }
 
-    /// The grid that the pieces spell together, or the text's fault.
+    /// Returns the grid that the pieces spell together.
+    ///
+    /// # Errors
+    ///
+    /// The text's first fault, or [`GridFault::Memory`]. A fault of
+    /// [`feed`](Self::feed) is returned again.
     pub fn finish(self) -> Result<Grid, GridFault>
         ensures grid { (text : List ℕ) → HasTaken self text →
             IfOk result (λ g. IsGridText self.scale text g) }

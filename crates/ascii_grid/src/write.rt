@@ -1,7 +1,7 @@
 //! Writes a grid or a map as text.
 //!
-//! [`write_heights`], [`write_codes`] and [`write_counts`] write to a device; [`lines`] makes rows
-//! for later.
+//! [`write_heights`], [`write_codes`] and [`write_counts`] write to a device; [`lines`] returns the
+//! text of rows.
 ghost use Rattle.std.specs.Prelude.{◌≡◌, ◌∷◌, ◌+◌, ◌++◌, ◌*◌, ◌/◌, ◌-◌, ◌^◌, ◌<◌, ◌≤◌, [], ℕ, List, length, decimal, codes, OnOk, IfOk};
 ghost use Rattle.std.specs.List.{flat_map};
 ghost use Rattle.terrain.specs.Sinks.{raster_with_sinks};
@@ -19,17 +19,17 @@ use std::alloc::Global;
 use std::io::Write;
 use terrain::{Anchor, Cell, Count, Frame, Grid, MOST_WORD_BYTES, NoMemory};
 
-/// More bytes than a cell takes, or a line of the header, with the byte that ends it.
+/// Bytes enough for a cell or a header line, and the byte that ends it.
 pub const ENTRY_ROOM: usize = 80;
 
-/// The NODATA word of the maps of whole numbers.
+/// The NODATA word of all maps but filled heights.
 pub const COUNTS_NODATA: &[u8] = b"-9999";
 
-/// How many bytes a cell takes in usual texts.
+/// Bytes of a cell in usual texts, for the first allocation of [`lines`].
 const USUAL_BYTES: usize = 6;
 
 #[inline(never)]
-fn hand_on<W: Write>(page: &mut Page, out: &mut Counted<W>) -> Result<(), WriteFailed>
+fn write_page<W: Write>(page: &mut Page, out: &mut Counted<W>) -> Result<(), WriteFailed>
     requires { out.old.failures < 2 ^ 64 - 1 }
     ensures empty { OnOk result (page.new ≡ []) }
     ensures text { Gathers W.contents out.old page.old out.new page.new [] result }
@@ -39,7 +39,7 @@ fn hand_on<W: Write>(page: &mut Page, out: &mut Counted<W>) -> Result<(), WriteF
     Ok(())
 }
 
-/// Hands the page on where it has no room for a cell.
+/// Writes the page to the device if it has no room for another cell.
 #[inline(always)]
 fn make_room<W: Write>(page: &mut Page, out: &mut Counted<W>) -> Result<(), WriteFailed>
     requires { out.old.failures < 2 ^ 64 - 1 }
@@ -49,15 +49,15 @@ fn make_room<W: Write>(page: &mut Page, out: &mut Counted<W>) -> Result<(), Writ
     if page.has_room(ENTRY_ROOM) {
         return Ok(());
     }
-    hand_on(page, out)
+    write_page(page, out)
 }
 
-/// A cell that can be written.
+/// A cell of a map: a value or NODATA.
 pub trait Entry: Copy {
-    /// Its text in a grid of this scale and NODATA word.
+    /// The cell's text, by the scale and the NODATA word.
     ghost text: { ℕ → List ℕ → Self → List ℕ };
 
-    /// Adds the text to the page, and the byte that ends the cell.
+    /// Adds the cell's text to the page, then the byte `end`.
     fn push_to(self, end: u8, scale: u8, nodata: &[u8], page: &mut Page)
         requires scale { scale ≤ 6 }
         requires short { length nodata.now ≤ MOST_WORD_BYTES }
@@ -98,7 +98,7 @@ impl Entry for Count {
     }
 }
 
-/// Writes one cell, and the byte that ends it.
+/// Writes one cell and the byte `end`, by way of the page.
 #[inline(always)]
 fn write_cell<E: Entry, W: Write>(
     cell: E,
@@ -119,7 +119,7 @@ fn write_cell<E: Entry, W: Write>(
     Ok(())
 }
 
-/// Writes one line of cells.
+/// Writes one row of cells as a line, by way of the page.
 fn write_row<E: Entry, W: Write>(
     cells: &[E],
     scale: u8,
@@ -141,7 +141,7 @@ fn write_row<E: Entry, W: Write>(
     write_cell(cells[last], b'\n', scale, nodata, page, out)
 }
 
-/// Writes the lines of cells.
+/// Writes the rows of cells as lines, by way of the page.
 fn write_rows<E: Entry, W: Write>(
     cells: &[E],
     cols: usize,
@@ -164,8 +164,8 @@ fn write_rows<E: Entry, W: Write>(
     Ok(())
 }
 
-/// Writes what a page holds, and the lines of cells behind it.
-fn write_behind<E: Entry, W: Write>(
+/// Writes the page and then the rows of cells, and flushes the device.
+fn write_page_and_rows<E: Entry, W: Write>(
     page: &mut Page,
     cells: &[E],
     cols: usize,
@@ -184,7 +184,7 @@ fn write_behind<E: Entry, W: Write>(
     page.write_to(out)
 }
 
-/// Adds a line of the header.
+/// Adds a header line: the key with its spaces, the value and a line feed.
 fn push_line(key: &[u8], value: &[u8], page: &mut Page)
     requires key { length key.now ≤ 14 }
     requires value { length value.now ≤ MOST_WORD_BYTES }
@@ -197,7 +197,7 @@ fn push_line(key: &[u8], value: &[u8], page: &mut Page)
     page.push_byte(b'\n');
 }
 
-/// Adds a line of the header that has a number.
+/// Adds a header line whose value is a number.
 fn push_number_line(key: &[u8], number: u32, page: &mut Page)
     requires key { length key.now ≤ 14 }
     requires room { length page.old + ENTRY_ROOM ≤ PAGE }
@@ -208,7 +208,7 @@ fn push_number_line(key: &[u8], number: u32, page: &mut Page)
     push_line(key, digits.format(number).as_bytes(), page);
 }
 
-/// Adds the line of a position, by its corner's key or its centre's.
+/// Adds the header line of a position, with the key of a corner or a centre.
 fn push_anchor(corner: &[u8], centre: &[u8], anchor: &Anchor, page: &mut Page)
     requires corner { length corner.now ≤ 14 }
     requires centre { length centre.now ≤ 14 }
@@ -221,7 +221,7 @@ fn push_anchor(corner: &[u8], centre: &[u8], anchor: &Anchor, page: &mut Page)
     push_line(key, anchor.word.as_bytes(), page);
 }
 
-/// A page that begins with the header.
+/// Returns a page with the six header lines.
 fn header_page(frame: &Frame, nodata: &[u8]) -> Page
     requires { length nodata.now ≤ MOST_WORD_BYTES }
     ensures { result ≡ header_text frame.now nodata.now }
@@ -236,7 +236,11 @@ fn header_page(frame: &Frame, nodata: &[u8]) -> Page
     page
 }
 
-/// Writes a map with the header of its grid and this NODATA word. It takes no memory.
+/// Writes a map's header, with this NODATA word, and its rows. Allocates nothing.
+///
+/// # Errors
+///
+/// [`WriteFailed`] if a write or the flush fails.
 pub fn write_cells<E: Entry, W: Write>(
     frame: &Frame,
     cells: &[E],
@@ -247,15 +251,16 @@ pub fn write_cells<E: Entry, W: Write>(
     requires size { length cells.now ≡ frame.now.terrain.cols * frame.now.terrain.rows }
     requires short { length nodata.now ≤ MOST_WORD_BYTES }
     ensures { Writes W.contents out.old out.new (header_text frame.now nodata.now
-        ++ rows_text (E.text frame.now.scale nodata.now) frame.now.terrain.cols frame.now.terrain.rows cells.now)
+        ++ rows_text (E.text frame.now.scale nodata.now) frame.now.terrain.cols
+        frame.now.terrain.rows cells.now)
         result }
 {
     let mut page = header_page(frame, nodata);
     let cols = frame.cols() as usize;
-    write_behind(&mut page, cells, cols, frame.scale(), nodata, out)
+    write_page_and_rows(&mut page, cells, cols, frame.scale(), nodata, out)
 }
 
-/// The lines of cells, in memory.
+/// Returns the text of the rows of cells, a line each.
 pub fn lines<E: Entry>(
     alloc: Global,
     cells: &[E],
@@ -271,13 +276,13 @@ pub fn lines<E: Entry>(
 {
     let room = cells.len().saturating_mul(USUAL_BYTES);
     let mut out = Counted::new(Vec::with_capacity(alloc, room)?);
-    match write_behind(&mut Page::new(), cells, cols, scale, nodata, &mut out) {
+    match write_page_and_rows(&mut Page::new(), cells, cols, scale, nodata, &mut out) {
         Ok(()) => Ok(out.into_device()),
         Err(WriteFailed) => Err(NoMemory),
     }
 }
 
-/// Writes texts one after another.
+/// Writes texts, one after another.
 fn write_texts<W: Write>(texts: &[Vec<u8>], out: &mut Counted<W>) -> Result<(), WriteFailed>
     requires { out.old.failures < 2 ^ 64 - 1 }
     ensures { Writes W.contents out.old out.new (flat_map (λ text. text.items) texts.now) result }
@@ -288,7 +293,13 @@ fn write_texts<W: Write>(texts: &[Vec<u8>], out: &mut Counted<W>) -> Result<(), 
     Ok(())
 }
 
-/// Writes a map whose lines are made, as [`lines`] makes them from one part of its rows after another. It takes no memory.
+/// Writes a map's header and the texts of its rows. Allocates nothing.
+///
+/// Each text is what [`lines`] returns for some of the rows.
+///
+/// # Errors
+///
+/// [`WriteFailed`] if a write or the flush fails.
 pub fn write_lines<W: Write>(
     frame: &Frame,
     nodata: &[u8],
@@ -305,11 +316,23 @@ pub fn write_lines<W: Write>(
     out.flush()
 }
 
-/// Writes the grid and its heights; named sinks are not written. It takes no memory.
+/// Writes a grid's header and heights, but not its sinks. Allocates nothing.
+///
+/// # Errors
+///
+/// [`WriteFailed`] if a write or the flush fails.
+///
+/// # Examples
+///
+/// ```ignore
+/// let grid = read_text(rt.alloc(), 0, text)?;
+/// let mut out = Counted::new(rt.stdout());
+/// write_heights(&grid, &mut out)?;
+/// ```
 pub fn write_heights<W: Write>(grid: &Grid, out: &mut Counted<W>) -> Result<(), WriteFailed>
     requires { out.old.failures < 2 ^ 64 - 1 }
     ensures text { Writes W.contents out.old out.new (heights_text grid.now) result }
-    // What is written is read again as the same grid without its sinks.
+    // The text reads back as this grid without its sinks.
     ensures again { length (heights_text grid.now) ≤ most_bytes →
         IsGridText grid.now.scale (heights_text grid.now) (raster_with_sinks grid.now []) }
 {
@@ -317,7 +340,11 @@ pub fn write_heights<W: Write>(grid: &Grid, out: &mut Counted<W>) -> Result<(), 
     write_cells(frame, grid.cells(), frame.nodata().as_bytes(), out)
 }
 
-/// Writes a map of whole numbers with the header of its grid. It takes no memory.
+/// Writes a map of whole numbers, with its grid's header. Allocates nothing.
+///
+/// # Errors
+///
+/// [`WriteFailed`] if a write or the flush fails.
 pub fn write_counts<W: Write>(
     grid: &Grid,
     values: &[Count],
@@ -330,7 +357,13 @@ pub fn write_counts<W: Write>(
     write_framed_counts(grid.frame(), values, out)
 }
 
-/// As [`write_counts`], where the grid's cells may have been let go.
+/// Writes a map of whole numbers, with the header of a frame. Allocates nothing.
+///
+/// Unlike [`write_counts`], it does not need the grid's cells, which may be freed before.
+///
+/// # Errors
+///
+/// [`WriteFailed`] if a write or the flush fails.
 pub fn write_framed_counts<W: Write>(
     frame: &Frame,
     values: &[Count],
@@ -343,7 +376,11 @@ pub fn write_framed_counts<W: Write>(
     write_cells(frame, values, COUNTS_NODATA, out)
 }
 
-/// Writes a map of directions with the header of its grid, as [`write_counts`] writes their codes' numbers.
+/// Writes a map of direction codes, with the header of a frame. Allocates nothing.
+///
+/// # Errors
+///
+/// [`WriteFailed`] if a write or the flush fails.
 pub fn write_codes<W: Write>(
     frame: &Frame,
     codes: &[Option<Code>],

@@ -1,6 +1,6 @@
-//! Boards of jobs, and what their seats take.
+//! Boards of jobs: what their seats take in order, by stealing and on threads.
 //!
-//! In order, by stealing, in threads, and after a `close` that was refused memory.
+//! Also what a board holds when it is closed, and after a `close` that was refused memory.
 ghost use Rattle.std.specs.Prelude.{◌≡◌, ◌<◌, ◌≤◌, ◌⊎◌, vec_len, IfOk, IfErr, IfSome};
 ghost use Rattle.tile_jobs.specs.Ends.{IsBoard, SameSeat};
 
@@ -12,7 +12,7 @@ use std::thread;
 use std::thread::Threads;
 use tile_jobs::{Board, Closed, JobFault, Seat, Take};
 
-/// A board, and that its seats are all there.
+/// Deals a board of `jobs` jobs to `seats` seats.
 fn dealt(alloc: Global, jobs: u32, seats: u32) -> Result<Vec<Seat>, JobFault>
     requires { jobs ≤ 65536 }
     ensures len { IfOk result (λ v. vec_len v ≡ seats) }
@@ -22,7 +22,7 @@ fn dealt(alloc: Global, jobs: u32, seats: u32) -> Result<Vec<Seat>, JobFault>
     Board::deal(alloc, jobs, seats)
 }
 
-/// What the seat at this place gets.
+/// Returns what the seat `s` takes next.
 fn take_at(seats: &mut Vec<Seat>, s: usize) -> Take
     requires at { s < vec_len seats.old }
     requires board { IsBoard (vec_len seats.old) seats.old.items }
@@ -32,8 +32,8 @@ fn take_at(seats: &mut Vec<Seat>, s: usize) -> Take
     seats[s].try_take()
 }
 
-/// One seat of a board.
-fn dealt_seat(alloc: Global, jobs: u32, seats: u32, s: usize) -> Result<Seat, Fail>
+/// Deals a board, and returns its seat `s` alone.
+fn deal_one_seat(alloc: Global, jobs: u32, seats: u32, s: usize) -> Result<Seat, Fail>
     requires { jobs ≤ 65536 }
 {
     let mut seats = dealt(alloc, jobs, seats)?;
@@ -43,12 +43,12 @@ fn dealt_seat(alloc: Global, jobs: u32, seats: u32, s: usize) -> Result<Seat, Fa
     Ok(seats.swap_remove(s))
 }
 
-/// The next try of a seat gets this.
+/// Asserts what a seat takes next.
 fn gets(rt: &impl Abort, seat: &mut Seat, want: Take, s: usize) {
     assert_eq!(rt; seat.try_take(), want, "seat {s}");
 }
 
-/// The next try of the seat at this place gets this.
+/// Asserts what the seat `s` takes next.
 fn gets_at(rt: &impl Abort, seats: &mut Vec<Seat>, s: usize, want: Take)
     requires at { s < vec_len seats.old }
     requires board { IsBoard (vec_len seats.old) seats.old.items }
@@ -58,7 +58,7 @@ fn gets_at(rt: &impl Abort, seats: &mut Vec<Seat>, s: usize, want: Take)
     assert_eq!(rt; take_at(seats, s), want);
 }
 
-/// The board, closed.
+/// Closes the board.
 fn closed(alloc: Global, seats: Vec<Seat>) -> Result<Closed, Fail>
     requires { IsBoard (vec_len seats) seats.items }
 {
@@ -68,7 +68,7 @@ fn closed(alloc: Global, seats: Vec<Seat>) -> Result<Closed, Fail>
     Ok(closed)
 }
 
-/// What each seat took, and what is left.
+/// Asserts which jobs each seat took, and which are left.
 fn are_parts(rt: &impl Abort, closed: &Closed, taken: &[&[u32]], left: &[u32]) {
     assert_eq!(rt; closed.taken.len(), taken.len());
     for (list, want) in closed.taken.iter().zip(taken.iter()) {
@@ -79,7 +79,7 @@ fn are_parts(rt: &impl Abort, closed: &Closed, taken: &[&[u32]], left: &[u32]) {
 
 #[test]
 fn one_seat_takes_all(rt: HostRuntime) -> Result<(), Fail> {
-    let mut seat = dealt_seat(rt.alloc(), 1000, 1, 0)?;
+    let mut seat = deal_one_seat(rt.alloc(), 1000, 1, 0)?;
     for job in 0..1000 {
         gets(&rt, &mut seat, Take::Job(job), 0);
     }
@@ -96,7 +96,7 @@ fn own_jobs_then_round_the_seats(rt: HostRuntime) -> Result<(), Fail> {
         (2, [2, 5, 0, 3, 6, 1, 4]),
     ];
     for (s, jobs) in turns {
-        let mut seat = dealt_seat(rt.alloc(), 7, 3, s)?;
+        let mut seat = deal_one_seat(rt.alloc(), 7, 3, s)?;
         for job in jobs {
             gets(&rt, &mut seat, Take::Job(job), s);
         }
@@ -105,7 +105,7 @@ fn own_jobs_then_round_the_seats(rt: HostRuntime) -> Result<(), Fail> {
     Ok(())
 }
 
-/// Two seats take all of five jobs: the second one steals a job of the first.
+/// Lets two seats take five jobs; the second seat steals one of the first.
 fn take_five(rt: &impl Abort, seats: &mut Vec<Seat>)
     requires len { vec_len seats.old ≡ 2 }
     requires board { IsBoard (vec_len seats.old) seats.old.items }
@@ -186,7 +186,7 @@ fn more_seats_than_jobs(rt: HostRuntime) -> Result<(), Fail> {
 
 #[test]
 fn most_jobs(rt: HostRuntime) -> Result<(), Fail> {
-    let mut seat = dealt_seat(rt.alloc(), 65536, 2, 1)?;
+    let mut seat = deal_one_seat(rt.alloc(), 65536, 2, 1)?;
     for job in 0..32768 {
         gets(&rt, &mut seat, Take::Job(2 * job + 1), 1);
     }
@@ -211,8 +211,8 @@ fn bad_seats(rt: HostRuntime) {
     refuses_seats(&rt, rt.alloc(), 65);
 }
 
-/// The board, closed at the first or the second try.
-fn closed_at_last(alloc: Global, seats: Vec<Seat>) -> Result<Closed, Fail>
+/// Closes the board, at the first or the second try.
+fn close_twice(alloc: Global, seats: Vec<Seat>) -> Result<Closed, Fail>
     requires { IsBoard (vec_len seats) seats.items }
 {
     match Board::close(alloc, seats) {
@@ -224,8 +224,8 @@ fn closed_at_last(alloc: Global, seats: Vec<Seat>) -> Result<Closed, Fail>
     }
 }
 
-/// Five jobs dealt to two seats, or `None` where memory runs out.
-fn five_dealt(rt: &impl Abort, alloc: Global) -> Option<Vec<Seat>>
+/// Deals five jobs to two seats. Returns `None` if memory is refused.
+fn deal_five(rt: &impl Abort, alloc: Global) -> Option<Vec<Seat>>
     ensures len { IfSome result (λ v. vec_len v ≡ 2) }
     ensures board { IfSome result (λ v. IsBoard (vec_len v) v.items) }
 {
@@ -238,32 +238,32 @@ fn five_dealt(rt: &impl Abort, alloc: Global) -> Option<Vec<Seat>>
     }
 }
 
-/// With ample memory the first try closes the board. With `--fail-alloc` either no board is dealt
-/// or the second try closes it.
+/// A refused `close` returns the seats, with the jobs that they took.
+/// With `--fail-alloc` no board is dealt, or the second try closes it.
 #[test]
 fn refused_close_gives_seats_back(rt: HostRuntime) -> Result<(), Fail> {
-    let Some(mut seats) = five_dealt(&rt, rt.alloc()) else {
+    let Some(mut seats) = deal_five(&rt, rt.alloc()) else {
         return Ok(());
     };
     take_five(&rt, &mut seats);
-    let closed = closed_at_last(rt.alloc(), seats)?;
+    let closed = close_twice(rt.alloc(), seats)?;
     are_parts(&rt, &closed, &[&[2, 4], &[1, 3, 0]], &[]);
     Ok(())
 }
 
-/// With `--fail-alloc` either no board is dealt or the second try closes it.
+/// A refused `close` keeps the jobs that are left, with `--fail-alloc`.
 #[test]
 fn refused_close_keeps_what_is_left(rt: HostRuntime) -> Result<(), Fail> {
-    let Some(mut seats) = five_dealt(&rt, rt.alloc()) else {
+    let Some(mut seats) = deal_five(&rt, rt.alloc()) else {
         return Ok(());
     };
     gets_at(&rt, &mut seats, 1, Take::Job(1));
-    let closed = closed_at_last(rt.alloc(), seats)?;
+    let closed = close_twice(rt.alloc(), seats)?;
     are_parts(&rt, &closed, &[&[], &[1]], &[0, 2, 4, 3]);
     Ok(())
 }
 
-/// Takes jobs until no deque holds one.
+/// Takes jobs until all deques are empty.
 fn take_all<R: Wait>(rt: &R, seat: &mut Seat)
     ensures { SameSeat seat.old seat.new }
 {
@@ -276,8 +276,8 @@ fn take_all<R: Wait>(rt: &R, seat: &mut Seat)
     }
 }
 
-/// A board closed after each of its seats took jobs in a thread of its own, till none was left.
-fn taken_apart<R: Threads + Wait + Sync>(
+/// Deals a board, takes all jobs with one thread a seat, and closes it.
+fn take_with_threads<R: Threads + Wait + Sync>(
     rt: &R,
     alloc: Global,
     jobs: u32,
@@ -295,7 +295,7 @@ fn taken_apart<R: Threads + Wait + Sync>(
     Board::close(alloc, dealt).map_err(|_| JobFault::Memory)
 }
 
-/// Whether the jobs of the seat's own deque come first, in rising order.
+/// Returns whether the jobs of the seat's own deque come first, in rising order.
 fn own_come_first(list: &[u32], seat: u32, seats: u32) -> bool {
     let mut stolen = false;
     let mut least = seat;
@@ -311,7 +311,7 @@ fn own_come_first(list: &[u32], seat: u32, seats: u32) -> bool {
     true
 }
 
-/// Each job stands once in the seats' lists, in which their own jobs come first.
+/// Asserts that the seats took each job once, and their own jobs first.
 fn have_each_job_once(
     rt: &impl Abort,
     alloc: Global,
@@ -340,7 +340,7 @@ fn have_each_job_once(
 #[test]
 fn seats_apart_take_each_job_once(rt: HostRuntime) -> Result<(), Fail> {
     for (jobs, seats) in [(7u32, 3u32), (0, 2), (10000, 4)] {
-        let closed = taken_apart(&rt, rt.alloc(), jobs, seats)?;
+        let closed = take_with_threads(&rt, rt.alloc(), jobs, seats)?;
         assert_eq!(rt; closed.left.len(), 0, "{jobs} jobs");
         assert_eq!(rt; closed.taken.len(), seats as usize);
         have_each_job_once(&rt, rt.alloc(), &closed.taken, jobs, seats)?;

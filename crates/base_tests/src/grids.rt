@@ -1,4 +1,4 @@
-//! The parts of a grid, its cells by place, and its sinks.
+//! The header and cells of a grid, grids with other cells, and named sinks.
 ghost use Rattle.std.specs.Prelude.{◌≡◌, ◌*◌, ◌∷◌, [], pos, negsuc, None, Some, Contains};
 
 use crate::texts::{PIT, PIT_CELLS, expect_cells, grid_of};
@@ -7,7 +7,7 @@ use std::alloc::Global;
 use std::process::Abort;
 use std::test::Fail;
 
-/// The place in the middle of three by three cells, and others in and beside them.
+/// The middle of 3 by 3 cells; below, other places in or beside them.
 const MIDDLE: Place = Place { row: 1, col: 1 };
 
 const NORTH_EAST: Place = Place { row: 0, col: 2 };
@@ -20,11 +20,12 @@ const PAST_THE_ROWS: Place = Place { row: 3, col: 0 };
 
 const PAST_THE_COLUMNS: Place = Place { row: 0, col: 3 };
 
-/// Three by three cells: heights 5 around a 1 below 0, and no data at the south east.
+/// Returns 3 by 3 cells: heights 5 around a -1, and NODATA in the south-east.
 fn bowl(rt: &impl Abort, alloc: Global) -> Grid
     ensures cols { result.terrain.cols ≡ 3 }
     ensures rows { result.terrain.rows ≡ 3 }
-    ensures cells { result.terrain.cells ≡ Some (pos 5) ∷ Some (pos 5) ∷ Some (pos 5) ∷ Some (pos 5) ∷ Some (negsuc 0) ∷ Some (pos 5) ∷ Some (pos 5) ∷ Some (pos 5) ∷ None ∷ [] }
+    ensures cells { result.terrain.cells ≡ Some (pos 5) ∷ Some (pos 5) ∷ Some (pos 5) ∷ Some (pos 5)
+        ∷ Some (negsuc 0) ∷ Some (pos 5) ∷ Some (pos 5) ∷ Some (pos 5) ∷ None ∷ [] }
 {
     let text =
         b"ncols 3 nrows 3 xllcenter 100.5 yllcorner -2E1 cellsize 30.0 .5 .5 .5 .5 -.1 .5 .5 .5 -9999";
@@ -36,7 +37,7 @@ fn bowl(rt: &impl Abort, alloc: Global) -> Grid
     grid
 }
 
-/// The grid with these sinks.
+/// Returns the grid with these sinks.
 fn named(rt: &impl Abort, alloc: Global, grid: &Grid, sinks: &[Place]) -> Grid
     ensures cols { result.terrain.cols ≡ grid.now.terrain.cols }
     ensures rows { result.terrain.rows ≡ grid.now.terrain.rows }
@@ -45,7 +46,7 @@ fn named(rt: &impl Abort, alloc: Global, grid: &Grid, sinks: &[Place]) -> Grid
     grid.with_sinks(alloc, sinks).expect(rt, "sinks")
 }
 
-/// The cells of the bowl, filled.
+/// The filled heights of [`bowl`].
 const FILLED: [Option<Height>; 9] = [
     Some(5),
     Some(5),
@@ -58,7 +59,7 @@ const FILLED: [Option<Height>; 9] = [
     None,
 ];
 
-/// The grid with [`FILLED`] as its cells.
+/// Returns the grid with [`FILLED`] as its cells.
 fn filled(rt: &impl Abort, alloc: Global, grid: &Grid) -> Grid
     requires size { grid.now.terrain.cols * grid.now.terrain.rows ≡ 9 }
     requires high { Contains grid.now.terrain.cells (Some (pos 5)) }
@@ -69,19 +70,19 @@ fn filled(rt: &impl Abort, alloc: Global, grid: &Grid) -> Grid
     grid.with_cells(alloc, &cells).expect(rt, "memory")
 }
 
-/// Whether a place of the grid is an end cell.
+/// Returns whether a place of the grid is an end cell.
 fn is_edge(rt: &impl Abort, grid: &Grid, place: Place) -> bool {
     assert!(rt; place.row < grid.rows());
     assert!(rt; place.col < grid.cols());
     grid.is_edge(place)
 }
 
-/// These are the grid's sinks.
+/// Asserts the sinks of a grid.
 fn has_sinks(rt: &impl Abort, grid: &Grid, sinks: &[Place]) {
     assert_eq!(rt; grid.sinks(), sinks);
 }
 
-/// The grid refuses these sinks with this fault.
+/// Asserts that the grid refuses these sinks with this fault.
 fn refuses(rt: &impl Abort, alloc: Global, grid: &Grid, sinks: &[Place], fault: SinkFault) {
     assert_eq!(rt; grid.with_sinks(alloc, sinks).err(), Some(fault));
 }
@@ -128,7 +129,7 @@ fn other_cells(rt: HostRuntime) {
     assert_eq!(rt; grid.at(MIDDLE), Some(-1));
 }
 
-/// A pit of nines filled to its rim: the cells change, and nothing else does.
+/// A pit filled to its rim of nines: only the cells change.
 #[test]
 fn nine_nines(rt: HostRuntime) -> Result<(), NoMemory> {
     let pit = grid_of(&rt, rt.alloc(), 0, PIT, &PIT_CELLS);
@@ -147,7 +148,7 @@ fn nine_nines(rt: HostRuntime) -> Result<(), NoMemory> {
     Ok(())
 }
 
-/// The greatest is a basin's number where each cell of the largest grid is a sink.
+/// 16,777,216 is the number of cells, and so the most basins, of the largest grid.
 #[test]
 fn counts(rt: HostRuntime) {
     for number in [0, 1, 16_777_216] {
@@ -200,7 +201,7 @@ fn bad_sinks(rt: HostRuntime) {
     refuses(&rt, alloc, &grid, &on_nodata, SinkFault::OnNodata(1));
 }
 
-/// Repeats are counted, and too many go before one that lies outside.
+/// Repeats are counted. Too many sinks are reported before one outside the grid.
 #[test]
 fn most_sinks(rt: HostRuntime) -> Result<(), Fail> {
     let grid = bowl(&rt, rt.alloc());
@@ -211,7 +212,7 @@ fn most_sinks(rt: HostRuntime) -> Result<(), Fail> {
     Ok(())
 }
 
-/// With ample memory the first call names the sink. With `--fail-alloc` the second does.
+/// The first call adds the sink; with `--fail-alloc` the second call does.
 #[test]
 fn refused_sinks_are_named_once_more(rt: HostRuntime) {
     let pit = grid_of(&rt, rt.alloc(), 0, PIT, &PIT_CELLS);

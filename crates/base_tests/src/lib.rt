@@ -1,14 +1,14 @@
-//! Tests of grids, texts, tiles and jobs, over their public calls.
+//! Tests the public calls for grids, grid texts, tiles and jobs.
 //!
 //! Modules:
 //!
-//! - `boards`: jobs dealt to seats
-//! - `grids`: grids and sinks
-//! - `reading`: texts read
-//! - `texts`: shared texts
-//! - `tilings`: cutting and rims
-//! - `workers`: jobs on threads
-//! - `writing`: maps written
+//! - `boards`: boards of jobs and what their seats take
+//! - `grids`: parts, cells and sinks of a grid
+//! - `reading`: grid texts and their faults
+//! - `texts`: texts and checks that the tests share
+//! - `tilings`: tiles, rims, views and tile lists
+//! - `workers`: jobs run on threads, and their gates
+//! - `writing`: the text of grids and maps, and failing devices
 #![tactic(auto)]
 
 #[cfg(test)]

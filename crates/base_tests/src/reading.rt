@@ -1,4 +1,4 @@
-//! Texts read whole, in pieces, cut short, and from an interrupted reader.
+//! Reads texts whole, in pieces, cut short, and from an interrupted reader: cells and faults.
 ghost use Rattle.std.specs.Prelude.{◌≤◌, ◌<◌};
 
 use crate::texts::{LENIENT, LENIENT_CELLS, expect_cells, grid_of, have_heights};
@@ -10,10 +10,10 @@ use std::io;
 use std::io::Read;
 use std::process::Abort;
 
-/// Two columns and one row, with the lower left corner at 0 0.
+/// A header of 2 columns and 1 row, with the lower left corner at 0 0.
 const HEADER: &[u8] = b"ncols 2 nrows 1 xllcorner 0 yllcorner 0 cellsize 1";
 
-/// Reads the text in pieces of this length, with an empty piece before each and at the end.
+/// Reads `text` in pieces of `piece` bytes, with empty pieces before each and last.
 fn read_in_pieces(alloc: Global, scale: u8, text: &[u8], piece: usize) -> Result<Grid, GridFault>
     requires scale { scale ≤ 6 }
     requires piece { 0 < piece }
@@ -27,7 +27,7 @@ fn read_in_pieces(alloc: Global, scale: u8, text: &[u8], piece: usize) -> Result
     reader.finish()
 }
 
-/// Reads the text whole and cut in pieces: it spells these cells.
+/// Asserts that `text` spells these cells, read whole and in pieces.
 fn spells(rt: &impl Abort, alloc: Global, scale: u8, text: &[u8], cells: &[Option<Height>])
     requires { scale ≤ 6 }
 {
@@ -42,7 +42,7 @@ fn spells(rt: &impl Abort, alloc: Global, scale: u8, text: &[u8], cells: &[Optio
     }
 }
 
-/// Reads the text whole and cut in pieces: it is refused with this fault.
+/// Asserts that `text` is refused with this fault, read whole and in pieces.
 fn refuses(rt: &impl Abort, alloc: Global, text: &[u8], fault: GridFault) {
     assert_eq!(rt; read_text(alloc, 0, text).err(), Some(fault));
     for piece in [1, 2, 3, 7] {
@@ -156,7 +156,7 @@ fn cells_without_data(rt: HostRuntime) {
         b" NODATA_value -9999.5 3 -9999.5",
         &[Some(3), None],
     );
-    // A value past the heights, the greatest scaled value, and words that have none.
+    // NODATA below all heights, the greatest scaled value, and a word that has no scaled value.
     spells_after_header(
         &rt,
         rt.alloc(),
@@ -181,7 +181,7 @@ fn cells_without_data(rt: HostRuntime) {
         b" NODATA_value 1e99 3 1E99",
         GridFault::BadHeight(1),
     );
-    // A NODATA word has no value where it has an exponent, and equals its own bytes alone.
+    // A NODATA word with an exponent has no value: only the same bytes are NODATA.
     spells_after_header(
         &rt,
         rt.alloc(),
@@ -218,7 +218,7 @@ fn bad_heights(rt: HostRuntime) {
         b" 10000000000000000 4",
         GridFault::BadHeight(0),
     );
-    // 2^64 + 3 doesn't wrap, nor do 64 digits.
+    // 2^64 + 3 and 64 digits do not wrap around.
     refuses_after_header(
         &rt,
         rt.alloc(),
@@ -274,14 +274,14 @@ fn bad_keys(rt: HostRuntime) {
         b"ncols 2 nrows",
         GridFault::NoValue(Key::Nrows),
     );
-    // A byte order mark is no letter.
+    // A byte order mark does not begin with a letter, so it is no key.
     refuses(
         &rt,
         rt.alloc(),
         b"\xef\xbb\xbfncols 2",
         GridFault::MissingKey(Key::Ncols),
     );
-    // Nor is a letter of two bytes.
+    // An accented letter of two bytes begins no key either.
     refuses(
         &rt,
         rt.alloc(),
@@ -356,7 +356,7 @@ fn bad_values(rt: HostRuntime) {
 fn long_words(rt: HostRuntime) {
     let digits = b"ncols 11111111111111111111111111111111111111111111111111111111111111111";
     refuses(&rt, rt.alloc(), digits, GridFault::TooLong);
-    // It goes before any other fault of its word, also past the last height and before a missing key.
+    // `TooLong` precedes any other fault of its word, also `TooMany` and `MissingKey`.
     let long = b" 00000000000000000000000000000000000000000000000000000000000000000";
     refuses(&rt, rt.alloc(), long, GridFault::TooLong);
     let mut surplus = after_header(&rt, rt.alloc(), b" 3 4");
@@ -364,7 +364,7 @@ fn long_words(rt: HostRuntime) {
     refuses(&rt, rt.alloc(), &surplus, GridFault::TooLong);
 }
 
-/// The reader answers this to the next piece.
+/// Feeds the next piece, and asserts what the reader returns.
 fn answers(rt: &impl Abort, reader: &mut GridReader, piece: &[u8], answer: Result<(), GridFault>) {
     assert_eq!(rt; reader.feed(piece), answer);
 }
@@ -390,7 +390,7 @@ fn fault_of_a_word_once_it_has_ended(rt: HostRuntime) {
     assert_eq!(rt; reader.finish().err(), Some(fault));
 }
 
-/// So many of the first bytes of the header and two heights, and the fault of each such text.
+/// Cuts a text after each of its bytes, and checks the fault of each front part.
 #[test]
 fn each_front_part(rt: HostRuntime) {
     let text = after_header(&rt, rt.alloc(), b" 3 4");
@@ -422,7 +422,7 @@ fn each_front_part(rt: HostRuntime) {
     spells(&rt, rt.alloc(), 0, &text, &[Some(3), Some(4)]);
 }
 
-/// A reader that gives twenty bytes a call. It is interrupted at one call, and would go on.
+/// A reader of 20 bytes a call. One call fails as interrupted, later calls read on.
 #[derive(Drop)]
 struct Interrupted<'a> {
     left: &'a [u8],
@@ -441,9 +441,9 @@ impl Read for Interrupted<'_> {
     }
 }
 
-/// Reads a text of two heights through a reader that is interrupted after so many calls. Three calls give bytes,
-/// and the fourth says that there are no more.
-fn read_till(rt: &impl Abort, alloc: Global, text: &[u8], calls_before: u32) {
+/// Reads a text of two heights, interrupted after `calls_before` calls.
+/// Three calls read bytes, the fourth reads the end of the text.
+fn read_until(rt: &impl Abort, alloc: Global, text: &[u8], calls_before: u32) {
     let mut reader = Counted::new(Interrupted {
         left: text,
         calls_before,
@@ -468,6 +468,6 @@ fn read_till(rt: &impl Abort, alloc: Global, text: &[u8], calls_before: u32) {
 fn interrupted_read(rt: HostRuntime) {
     let text = after_header(&rt, rt.alloc(), b" 3 4");
     for calls_before in 0..5 {
-        read_till(&rt, rt.alloc(), &text, calls_before);
+        read_until(&rt, rt.alloc(), &text, calls_before);
     }
 }

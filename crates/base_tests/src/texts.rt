@@ -1,18 +1,18 @@
-//! Texts of grids that several tests read.
+//! Grid texts with their cells, and checks, that several tests share.
 ghost use Rattle.std.specs.Prelude.{◌≡◌, ◌≤◌, IsTrue};
 
 use ascii_grid::{Cell, Grid, Height, read_text};
 use std::alloc::Global;
 use std::process::Abort;
 
-/// A text of the lenient form, of two by two cells at scale 2: 12.50, -0.50, none and 7.00.
+/// A text of 2 by 2 cells at scale 2, with CR LF, an exponent and NODATA.
 pub const LENIENT: &[u8] =
     b"ncols         2\r\nnrows         2\r\nxllcenter     100.5\r\nyllcorner     -2E1\r\ncellsize      30.0\r\nNODATA_value  -3.40282346638528860e+38\r\n 12.50 -0.5\r\n -3.40282346638528860e+38 7\r\n";
 
 /// The cells of [`LENIENT`].
 pub const LENIENT_CELLS: [Option<Height>; 4] = [Some(1250), Some(-50), None, Some(700)];
 
-/// A text of three by three cells: 9 around a 1.
+/// A text of 3 by 3 cells: 9 around a 1.
 pub const PIT: &[u8] = b"ncols 3 nrows 3 xllcorner 0 yllcorner 0 cellsize 1 9 9 9 9 1 9 9 9 9";
 
 /// The cells of [`PIT`].
@@ -28,7 +28,7 @@ pub const PIT_CELLS: [Option<Height>; 9] = [
     Some(9),
 ];
 
-/// Whether the cells have these heights.
+/// Returns whether the cells have these heights.
 pub(crate) fn have_heights(cells: &[Cell], heights: &[Option<Height>]) -> bool
     ensures { IsTrue result → cells.now ≡ heights.now }
 {
@@ -43,7 +43,7 @@ pub(crate) fn have_heights(cells: &[Cell], heights: &[Option<Height>]) -> bool
     true
 }
 
-/// The grid of a text, which spells these cells.
+/// Returns the grid of a text, and asserts that it has these cells.
 pub(crate) fn grid_of(
     rt: &impl Abort,
     alloc: Global,

@@ -1,4 +1,4 @@
-//! Tilings, rims, views and lists put back.
+//! Cuts grids into tiles: counts, bounds, rims, views, and tile lists put back into one list.
 ghost use Rattle.std.specs.Prelude.{◌≡◌, IfOk};
 ghost use Rattle.tiles.specs.Cutting.{IsWithin};
 
@@ -15,7 +15,7 @@ const fn place(row: u32, col: u32) -> Place
     Place { row, col }
 }
 
-/// The grid of this size, cut into tiles of this side.
+/// Returns the tiling of a grid of this size into tiles of this side.
 fn cut(rt: &impl Abort, cols: u32, rows: u32, side: u32) -> Tiling
     ensures { result ≡ record { cols = cols; rows = rows; side = side } }
 {
@@ -32,7 +32,7 @@ fn tiling(rt: &impl Abort, cols: u32, rows: u32, side: u32) -> Result<Tiling, Ti
     Tiling::new(cols, rows, side)
 }
 
-/// A place of the grid.
+/// Returns a place, and asserts that it is in the grid.
 fn place_in(rt: &impl Abort, tiling: &Tiling, row: u32, col: u32) -> Place
     ensures { IsWithin tiling.now result }
 {
@@ -124,13 +124,13 @@ fn rim_of_one_tile(rt: HostRuntime) {
     }
 }
 
-/// Appends a place as `(row,col)`.
+/// Appends a place to a text, as `(row,col)`.
 fn push_place(rt: &impl Abort, alloc: Global, text: &mut String, place: Place) {
     let word = format!(in alloc; "({},{})", place.row, place.col).expect(rt, "a word");
     text.push_str(word.as_str()).expect(rt, "a text");
 }
 
-/// The rim of a tile has these places, as it is walked.
+/// Asserts that the rim of a tile has these places, in this order.
 fn has_rim(rt: &impl Abort, alloc: Global, tiling: &Tiling, tile: u32, rim: &str) {
     assert!(rt; tile < tiling.tiles());
     let mut walked = String::new(alloc);
@@ -162,7 +162,7 @@ fn rim_of_one_cell_ends(rt: HostRuntime) {
     assert_eq!(rt; rim.next(), None);
 }
 
-/// A cell on the rim of its tile has this number.
+/// Asserts the number of a rim cell, and the place of the number.
 fn has_rim_number(rt: &impl Abort, tiling: &Tiling, row: u32, col: u32, number: u32) {
     let place = place_in(rt, tiling, row, col);
     assert_eq!(rt; tiling.rim_number(place), number, "row {row}, column {col}");
@@ -200,7 +200,7 @@ fn cells_of_bounds_in_row_order(rt: HostRuntime) {
     assert_eq!(rt; bounds.side_count(), 14);
 }
 
-/// These places lie beside one of five by three cells, in other tiles.
+/// Asserts which neighbours of a cell of 5 by 3 cells are in other tiles.
 fn has_outer(rt: &impl Abort, alloc: Global, side: u32, row: u32, col: u32, outer: &str) {
     let tiling = cut(rt, 5, 3, side);
     let place = place_in(rt, &tiling, row, col);
@@ -221,7 +221,7 @@ fn neighbours_in_other_tiles(rt: HostRuntime) {
     has_outer(&rt, alloc, 1, 1, 1, around);
 }
 
-/// The view has this cell at a place.
+/// Asserts that the view has this cell at a place.
 fn shows(rt: &impl Abort, view: &TileView<'_, u32>, row: u32, col: u32, cell: Option<u32>) {
     let shown = view.at(place(row, col)).copied();
     assert_eq!(rt; shown, cell, "row {row}, column {col}");

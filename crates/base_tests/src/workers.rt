@@ -1,4 +1,4 @@
-//! Jobs run by workers: results, faults, refused threads, and what gates see.
+//! Runs jobs on workers: results, faults, refused threads, and the calls of gates.
 ghost use Rattle.std.specs.Prelude.{◌≤◌};
 
 use crate::texts::expect_numbers;
@@ -11,10 +11,10 @@ use std::thread;
 use std::thread::Threads;
 use tile_jobs::{Gate, JobFault, NoGate, Work, run_jobs, run_jobs_capped};
 
-/// Looks enough for any other worker to come.
+/// How often a held job checks for others: enough for any worker to arrive.
 const MOST_LOOKS: u32 = 10_000_000;
 
-/// The square of each number below `most`.
+/// Work whose job `j` returns the square of `j`, for `j` below `most`.
 #[derive(Drop)]
 struct Squares {
     most: u32,
@@ -35,7 +35,7 @@ impl Work for Squares {
     }
 }
 
-/// Work that has no memory for one job.
+/// Work of which one job fails for want of memory.
 #[derive(Drop)]
 struct Hungry {
     most: u32,
@@ -59,17 +59,17 @@ impl Work for Hungry {
     }
 }
 
-/// Lets a job in once the jobs that it waits for have entered, and remembers the order.
+/// A gate that holds each job until others have entered, and records the order.
 #[derive(Drop)]
 struct Turns {
     // bit k of entry j: job j waits for job k
     waits: [u8; 4],
-    // how often a held job looks for those that it waits for
+    // how often a held job checks for the jobs that it waits for
     looks: u32,
-    // the place of each job's entry, from 1
+    // the position of each job in the order of entering, from 1; 0 before it enters
     entries: [AtomicU64; 4],
     count: AtomicU64,
-    // how many jobs were let in with no more looks left
+    // the jobs that ran because their checks were used up
     missed: AtomicU64,
 }
 
@@ -98,7 +98,7 @@ impl Turns {
         true
     }
 
-    /// The place of the job's entry from 1, or 0 where it did not enter.
+    /// Returns the job's position in the order of entering, from 1; 0 if it did not.
     fn place_of(&self, job: usize) -> u64 {
         self.entries
             .get(job)
@@ -127,7 +127,7 @@ impl Gate for Turns {
     }
 }
 
-/// The squares of the numbers below `jobs`, by work that has those below `most`.
+/// Returns the squares below `jobs`, by work that allows jobs below `most`.
 fn run_squares<R: Threads + Wait + Sync>(
     rt: &R,
     alloc: Global,
@@ -141,7 +141,7 @@ fn run_squares<R: Threads + Wait + Sync>(
     run_jobs(rt, alloc, &Squares { most }, jobs, workers, &NoGate)
 }
 
-/// Runs so many jobs, which enter by turns.
+/// Runs `jobs` jobs that pass the gate `turns`.
 fn run_by_turns<R: Threads + Wait + Sync>(
     rt: &R,
     alloc: Global,
@@ -203,7 +203,7 @@ fn bad_workers(rt: HostRuntime) {
     }
 }
 
-/// Runs so many jobs, of which one has no memory.
+/// Runs `most` jobs, of which `job` fails for want of memory.
 fn run_hungry<R: Threads + Wait + Sync>(
     rt: &R,
     alloc: Global,
@@ -246,7 +246,7 @@ fn two_jobs_meet(rt: HostRuntime) -> Result<(), Fail> {
     Ok(())
 }
 
-/// With ample memory the answers, and with `--fail-alloc` those or a told refusal.
+/// With `--fail-alloc` a run returns a fault or all its results.
 #[test]
 fn refused_memory_is_told(rt: HostRuntime) {
     for workers in [1, 3] {
@@ -258,7 +258,7 @@ fn refused_memory_is_told(rt: HostRuntime) {
     }
 }
 
-/// With lists that were dealt beforehand one of the three held jobs waits in vain.
+/// Without stealing, one of the three held jobs would wait in vain.
 #[test]
 fn idle_worker_steals(rt: HostRuntime) -> Result<(), Fail> {
     for waits in [[0b110, 0, 0, 0], [0, 0b101, 0, 0], [0, 0, 0b011, 0]] {
@@ -269,7 +269,7 @@ fn idle_worker_steals(rt: HostRuntime) -> Result<(), Fail> {
     Ok(())
 }
 
-/// Jobs 0 and 2 are the first worker's own, 1 and 3 the second's.
+/// Jobs 0 and 2 belong to the first worker, 1 and 3 to the second.
 #[test]
 fn own_jobs_first(rt: HostRuntime) -> Result<(), Fail> {
     let turns = Turns::new([0b1000, 0, 0, 0]);
@@ -283,7 +283,7 @@ fn own_jobs_first(rt: HostRuntime) -> Result<(), Fail> {
     Ok(())
 }
 
-/// What a job and its gate have seen.
+/// How often a job entered its gate, was let in, and ran.
 #[derive(Drop)]
 struct Visit {
     entered: AtomicU64,
@@ -291,11 +291,11 @@ struct Visit {
     ran: AtomicU64,
 }
 
-/// Jobs that count how often they enter and run, and the gate that they pass.
+/// Work and gate that count how often each job enters and runs.
 #[derive(Drop)]
 struct Visits {
     visits: Vec<Visit>,
-    // how many jobs entered after they had run, or ran before they were let in
+    // the jobs that entered after they had run, or ran before they were let in
     early: AtomicU64,
 }
 
@@ -353,7 +353,7 @@ impl Work for Visits {
 }
 
 impl Visit {
-    /// How often the job entered, and how often it ran.
+    /// Returns how often the job entered, and how often it ran.
     fn times(&self) -> (u64, u64) {
         (
             self.entered.load(Ordering::SeqCst),
@@ -362,7 +362,7 @@ impl Visit {
     }
 }
 
-/// Runs the jobs with at most `starts` threads started.
+/// Runs the jobs; at most `starts` threads can be started.
 fn run_capped<R: Threads + Wait + Sync>(
     rt: &R,
     alloc: Global,
@@ -376,7 +376,7 @@ fn run_capped<R: Threads + Wait + Sync>(
     run_jobs_capped(rt, alloc, visits, jobs, workers, visits, starts)
 }
 
-/// Each job entered once, and ran once after it was let in.
+/// Asserts that each job entered once, and ran once after it was let in.
 fn have_run_once(rt: &impl Abort, visits: &Visits, workers: u32) {
     for (job, visit) in visits.visits.iter().enumerate() {
         assert_eq!(rt; visit.times(), (1, 1), "job {job}, {workers} workers");
@@ -394,14 +394,14 @@ fn each_job_enters_once_and_then_runs_once(rt: HostRuntime) -> Result<(), Fail> 
     Ok(())
 }
 
-/// No job ran twice.
+/// Asserts that no job ran twice.
 fn have_run_at_most_once(rt: &impl Abort, visits: &Visits) {
     for (job, visit) in visits.visits.iter().enumerate() {
         assert!(rt; visit.times().1 <= 1, "job {job}");
     }
 }
 
-/// Four workers of whom not all start return no results.
+/// Asserts that four workers, if some do not start, return `NoThread`.
 fn refuses_starts<R: Abort + Threads + Wait + Sync>(
     rt: &R,
     alloc: Global,
@@ -420,7 +420,7 @@ fn refuses_starts<R: Abort + Threads + Wait + Sync>(
     Ok(())
 }
 
-/// Four workers need four threads, however few the jobs; one worker needs none.
+/// Four workers need four threads, even for fewer jobs. One worker needs none.
 #[test]
 fn threads_that_cannot_be_started(rt: HostRuntime) -> Result<(), Fail> {
     for jobs in [5, 0, 1, 2] {
@@ -434,7 +434,7 @@ fn threads_that_cannot_be_started(rt: HostRuntime) -> Result<(), Fail> {
     Ok(())
 }
 
-/// A held job holds its worker: where as many are held as there are workers, no other job enters.
+/// A held job blocks its worker. If all workers are blocked, no other job enters.
 #[test]
 fn held_workers_take_no_job(rt: HostRuntime) -> Result<(), Fail> {
     for (workers, waits) in [(1, [0b10, 0, 0, 0]), (2, [0b100, 0b100, 0, 0])] {

@@ -1,4 +1,4 @@
-//! Grids and maps as they are written, also to devices that fail.
+//! Writes grids and maps: their bytes, and devices that fail or are interrupted.
 ghost use Rattle.std.specs.Prelude.{◌≡◌, ◌*◌, ◌≤◌};
 
 use crate::texts::{LENIENT, LENIENT_CELLS, PIT, PIT_CELLS, grid_of};
@@ -12,8 +12,8 @@ use std::test::Fail;
 /// More bytes than a test writes.
 const ALL: usize = 20_000;
 
-/// A writer that takes some bytes a call, and has room for so many in all. It may be interrupted at one
-/// call, and would go on.
+/// A writer that takes `each` bytes a call, until `room` bytes are used up.
+/// The call `interrupted_at` fails as interrupted; later calls write on.
 #[derive(Drop)]
 struct Taker {
     taken: Vec<u8>,
@@ -71,7 +71,7 @@ const LENIENT_WRITTEN: &[u8] =
 const LENIENT_FLOW: &[u8] =
     b"ncols         2\nnrows         2\nxllcenter     100.5\nyllcorner     -2E1\ncellsize      30.0\nNODATA_value  -9999\n1 0\n-9999 64\n";
 
-/// A header in another order and in both cases, with a corner, a centre and no line breaks.
+/// A header in mixed order and case, with a corner, a centre and no line feeds.
 const MIXED: &[u8] = b"CELLSIZE 1 NROWS 1 yllCenter +.5 NCOLS 2 XLLCORNER 0 7 8";
 
 const MIXED_WRITTEN: &[u8] =
@@ -92,7 +92,7 @@ const PIT_WRITTEN: &[u8] =
 const WHOLE: &[u8] =
     b"ncols         1\nnrows         4\nxllcorner     0\nyllcenter     0\ncellsize      1\nNODATA_value  -9999\n-1000000000000000\n1000000000000000\n0\n-1\n";
 
-/// Writes the grid's heights, and has the writer back.
+/// Writes the grid's heights, checks the failures, and returns the writer.
 fn written(rt: &impl Abort, grid: &Grid, mut taker: Taker, failures: u64) -> Taker {
     let mut out = Counted::new(&mut taker);
     let result = write_heights(grid, &mut out);
@@ -110,14 +110,14 @@ fn written(rt: &impl Abort, grid: &Grid, mut taker: Taker, failures: u64) -> Tak
     taker
 }
 
-/// Writes the grid's heights, without a failure: these bytes are taken and flushed.
+/// Asserts that the grid's heights are written as `text` and flushed.
 fn writes(rt: &impl Abort, grid: &Grid, taker: Taker, text: &[u8]) {
     let taker = written(rt, grid, taker, 0);
     assert_eq!(rt; taker.taken.as_slice(), text, "{} bytes a call", taker.each);
     assert_eq!(rt; taker.flushed, text.len());
 }
 
-/// Writes the cells of a text.
+/// Reads `text`, and asserts that its heights are written as `written`.
 fn writes_cells(
     rt: &impl Abort,
     alloc: Global,
@@ -141,7 +141,7 @@ fn lenient_grid(rt: &impl Abort, alloc: Global) -> Grid
     grid
 }
 
-/// Thirty rows of a hundred cells without data.
+/// Returns a grid of 30 rows of 100 NODATA cells.
 fn empty_cells(rt: &impl Abort, alloc: Global) -> Result<Grid, Fail> {
     let size = "ncols 100 nrows 30 xllcorner 0 yllcenter 0 cellsize 1";
     let cells = vec![in alloc; None; 3000]?;
@@ -228,7 +228,7 @@ fn decimals_of_each_scale(rt: HostRuntime) {
     );
 }
 
-/// The text does not hold a grid's sinks.
+/// The written text is the same with and without sinks.
 #[test]
 fn sinks_are_not_written(rt: HostRuntime) {
     let pit = grid_of(&rt, rt.alloc(), 0, PIT, &PIT_CELLS);
@@ -248,7 +248,7 @@ fn ten_bytes_and_a_failure(rt: HostRuntime) {
     }
 }
 
-/// What a writer has taken of [`empty_cells`].
+/// Returns the bytes that a writer takes of [`empty_cells`].
 fn taken_of_empty(
     rt: &impl Abort,
     alloc: Global,
@@ -260,7 +260,7 @@ fn taken_of_empty(
     Ok(written(rt, &grid, Taker::new(alloc, each, room), failures).taken)
 }
 
-/// The byte at a place of rows of a hundred cells without data.
+/// Returns the byte at `at` in the rows of [`empty_cells`].
 fn byte_of_empty(at: usize) -> u8 {
     let end = if at % 600 == 599 { b'\n' } else { b' ' };
     if at % 6 == 5 { end } else { b"-9999"[at % 6] }
@@ -285,9 +285,9 @@ fn failure_past_the_first_page(rt: HostRuntime) -> Result<(), Fail> {
     Ok(())
 }
 
-/// Writes fifty bytes a call, with an interruption at this call, past which the writer would go on. A part
-/// of the text is taken.
-fn written_till(rt: &impl Abort, alloc: Global, grid: &Grid, call: usize, failures: u64) {
+/// Writes 50 bytes a call, interrupted at `call`.
+/// Asserts that only the bytes of the earlier calls were taken.
+fn write_until(rt: &impl Abort, alloc: Global, grid: &Grid, call: usize, failures: u64) {
     let mut taker = Taker::new(alloc, 50, ALL);
     taker.interrupted_at = Some(call);
     let taker = written(rt, grid, taker, failures);
@@ -299,12 +299,12 @@ fn written_till(rt: &impl Abort, alloc: Global, grid: &Grid, call: usize, failur
     assert!(rt; LENIENT_WRITTEN.starts_with(taken));
 }
 
-/// The last call flushes.
+/// Interrupts each write, the flush, and then no call.
 #[test]
 fn interrupted_write(rt: HostRuntime) {
     let grid = lenient_grid(&rt, rt.alloc());
     let writes = LENIENT_WRITTEN.len().div_ceil(50);
     for call in 0..writes + 2 {
-        written_till(&rt, rt.alloc(), &grid, call, u64::from(call <= writes));
+        write_until(&rt, rt.alloc(), &grid, call, u64::from(call <= writes));
     }
 }

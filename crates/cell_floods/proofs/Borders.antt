@@ -1,4 +1,4 @@
--- Where the cells of bordered rows stand.
+-- The nodes of the cells of bordered rows.
 use Rattle.std.proofs.Common.{◌≡◌, ℕ, zero, suc, ◌+◌, ◌-◌, ◌*◌, ◌<◌, ◌≤◌, inl, inr, ℤ, Bool, List, [], ◌∷◌, ◌++◌, length, get_or, take, replicate, Option, None, Some, ◌∙◌, sym, ap, refl, arith, length-append, add-one}
 use Rattle.std.proofs.Math.Nat.{add-sub_cancel_left}
 use Rattle.std.proofs.lemmas.Bool.{cases_lt, cases_eq}
@@ -14,14 +14,14 @@ use Rattle.terrain.proofs.Places.{same_place, entry-inside}
 use Rattle.terrain.proofs.Options.{cases_option, none_some, none_done}
 use Rattle.floods.proofs.Heaps.{replicated}
 
--- each row has this many cells
+-- Each row has this many cells.
 abbrev pub AreRows : (ℕ → List (Option ℤ)) → ℕ → ℕ → Type 0
 AreRows row cols count = (r : ℕ) → r < count → length (row r) ≡ cols
 
 fewer : (row : ℕ → List (Option ℤ)) (cols count : ℕ) → AreRows row cols (suc count) → AreRows row cols count
 fewer row cols count h r below = h r (omega arith)
 
--- a row more, and all rows
+-- Adding one row, and then the last row of the border.
 pub row_more : (row : ℕ → List (Option ℤ)) (stride count : ℕ) (cells now next : List (Option ℤ)) → now ≡ first_rows row stride count → next ≡ now ++ (None ∷ cells ++ None ∷ []) → cells ≡ row count → next ≡ first_rows row stride (count + 1)
 row_more row stride count cells now next is more here =
     more ∙ ap (λ z. z ++ (None ∷ cells ++ None ∷ [])) is ∙ ap (λ (z : List (Option ℤ)). first_rows row stride count ++ (None ∷ z ++ None ∷ [])) here ∙ ap (first_rows row stride) (sym (add-one count))
@@ -39,7 +39,7 @@ length-first_rows row cols (suc count) h =
     let inner = length-append (row count) (None ∷ []) in
     omega (arith, was, here, joined, inner)
 
--- the cells of one bordered row
+-- The entry of a column in one bordered row.
 row_at : (xs : List (Option ℤ)) (c : ℕ) → c < length xs → get_or (None ∷ xs ++ None ∷ []) (suc c) None ≡ get_or xs c None
 row_at xs c below = get_or_append_left xs (None ∷ []) None c below
 
@@ -107,7 +107,7 @@ length-bordered_rows row cols count h =
     let last = length-replicate {A = Option ℤ} (cols + 2) None in
     omega (arith, len, joined, last)
 
--- the rows are those of the window
+-- The rows are those of the window.
 abbrev pub ShowRows : Terrain → Bounds → (ℕ → List (Option ℤ)) → Type 0
 ShowRows t w row = (r c : ℕ) → r < w.rows → c < w.cols → get_or (row r) c None ≡ height_at t (record { row = w.top + r; col = w.left + c })
 
@@ -133,13 +133,12 @@ net_of_rows t w row are show sinks has = record {
   sinks = has;
 }
 
--- a cell of the window is above the first row of its net
+-- The node of a place of the window is past the first row of its net.
 pub above_row : (w : Bounds) (p : Place) → w.cols + 2 < node_at w p
 above_row w p = omega (arith, mul-le 1 (w.cols + 2) (p.row - w.top + 1) (w.cols + 2) (omega arith) (omega arith))
 
--- such a list is bordered
-pub bordered : (t : Terrain) (w : Bounds) (n : Cells) → w.rows ≤ 4096 → w.cols ≤ 4096 → IsNetOf t w n → IsBordered n
-bordered t w n few_rows few_cols net = record {
+pub bordered_list : (t : Terrain) (w : Bounds) (n : Cells) → w.rows ≤ 4096 → w.cols ≤ 4096 → IsNetOf t w n → IsBordered n
+bordered_list t w n few_rows few_cols net = record {
   narrow = omega (arith, net.stride, few_cols);
   few = omega (arith, net.size, mul-le (w.rows + 2) (w.cols + 2) 4098 4098 (omega arith) (omega arith));
   border = λ a some.
@@ -151,7 +150,7 @@ bordered t w n few_rows few_cols net = record {
       (omega (arith, stride, low, p.2), omega (arith, stride, size, room, p.2));
 }
 
--- the rows of a list in row order
+-- The entries of a row of a list in row order.
 row_cell : (cols : ℕ) (xs : List (Option ℤ)) (r c : ℕ) → c < cols → get_or (row_of cols xs r) c None ≡ get_or xs (r * cols + c) None
 row_cell cols xs r c below =
     ap (λ (z : List (Option ℤ)). get_or z c None) (between_is xs (r * cols) (r * cols + cols))

@@ -1,4 +1,4 @@
--- The ways from a cell to those around it.
+-- The ways from a cell to the cells around it.
 use Rattle.std.proofs.Common.{◌≡◌, ℕ, pos, map, ◌+◌, ◌-◌, ◌<◌, ◌⊎◌, inl, inr, ℤ, List, [], ◌∷◌, ◌++◌, length, get_or, take, Option, None, Some, ◌∙◌, sym, ap, subst, refl, arith}
 use Rattle.std.specs.Int.{int_max}
 use Rattle.std.specs.List.{Contains, All, filter_map, cons_option}
@@ -10,17 +10,17 @@ use Rattle.floods.specs.Walk.{HasJust}
 use Rattle.cell_floods.specs.Cells.{Cells, cell_at, IsBeside, IsCellJoin, IsPassed, cells_around, way_to}
 use Rattle.std.specs.Prelude.{◌≤ℤ◌}
 use Rattle.std.proofs.lemmas.Int.{ints, clamps}
-use Rattle.floods.specs.declared.queue.Waiting.{Waiting}
-use Rattle.floods.specs.Flood.{entry_of, MakesWait, AreNoted, Follows}
+use Rattle.floods.specs.declared.queue.Candidate.{Candidate}
+use Rattle.floods.specs.Flood.{entry_of, Queues, AreNoted, Follows}
 use Rattle.floods.specs.Notes.{height_or_lack}
-use Rattle.floods.specs.declared.queue.Waits.{Waits}
+use Rattle.floods.specs.declared.queue.Queue.{Queue}
 use Rattle.floods.proofs.Noting.{passed_low, more_followed}
 use Rattle.floods.proofs.Noting.{no_ways as no_ways_yet}
 use Rattle.terrain.proofs.Orders.{trans, le_of_same}
 use Rattle.terrain.proofs.Options.{cases_option}
 use Rattle.floods.proofs.Heaps.{cons_head, cons_tail, cons_cases, all_by_contains}
 
--- what a list gives, and from what
+-- The items that `filter_map` keeps, and the items they come from.
 put_first : {Y : Type 0} (o : Option Y) (ys : List Y) (y : Y) → o ≡ Some y → Contains (cons_option o ys) y
 put_first None ys y e = absurd (cc)
 put_first (Some x) ys y e = subst (λ z. Contains (z ∷ ys) y) (sym (same_Some x y e)) (cons_head y ys)
@@ -47,12 +47,11 @@ Contains-from_filter_map f (z ∷ zs) y h = elim (put_cases (f z) (filter_map f 
   | inr later ↦ let x = Contains-from_filter_map f zs y later in (x.0, cons_tail z zs x.0 x.1, x.2)
 ]
 
--- one more item
 pub filter_map_more : {X Y : Type 0} (f : X → Option Y) (xs : List X) (i : ℕ) (d : X) → i < length xs → filter_map f (take (i + 1) xs) ≡ filter_map f (take i xs) ++ cons_option (f (get_or xs i d)) []
 filter_map_more f xs i d below = ap (filter_map f) (take_more xs i d below) ∙ filter_map-append f (take i xs) (get_or xs i d ∷ [])
 
--- the ways to some cells have been followed, and then those to others
-pub more_cells : (f : ℕ → Option Spill) (labels : List (Option ℕ)) (from : Waiting) (xs ys : List ℕ) (levels between after : List (Option ℤ)) (old now new : Waits)
+-- Following the ways to some cells and then to others follows the ways to all.
+pub more_cells : (f : ℕ → Option Spill) (labels : List (Option ℕ)) (from : Candidate) (xs ys : List ℕ) (levels between after : List (Option ℤ)) (old now new : Queue)
     → Follows labels from (filter_map f xs) levels between old now → Follows labels from (filter_map f ys) between after now new → Follows labels from (filter_map f (xs ++ ys)) levels after old new
 more_cells f labels from xs ys levels between after old now new s t =
     subst (λ (ways : List Spill). Follows labels from ways levels after old new) (sym (filter_map-append f xs ys)) (more_followed labels from (filter_map f xs) (filter_map f ys) levels between after old now new s t)
@@ -70,7 +69,7 @@ none_by (Some x) h = absurd (h x refl)
 all_eight : {X : Type 0} (P : X → Type 0) (a b c d e f g h : X) → P a → P b → P c → P d → P e → P f → P g → P h → All P (a ∷ b ∷ c ∷ d ∷ e ∷ f ∷ g ∷ h ∷ [])
 all_eight P a b c d e f g h pa pb pc pd pe pf pg ph = All-cons P a (b ∷ c ∷ d ∷ e ∷ f ∷ g ∷ h ∷ []) pa (All-cons P b (c ∷ d ∷ e ∷ f ∷ g ∷ h ∷ []) pb (All-cons P c (d ∷ e ∷ f ∷ g ∷ h ∷ []) pc (All-cons P d (e ∷ f ∷ g ∷ h ∷ []) pd (All-cons P e (f ∷ g ∷ h ∷ []) pe (All-cons P f (g ∷ h ∷ []) pf (All-cons P g (h ∷ []) pg (All-cons P h [] ph (All-nil P))))))))
 
--- the eight cells around are those beside
+-- The eight cells around a cell are its neighbours.
 pub all_beside : (s a : ℕ) → s < a → All (IsBeside s a) (cells_around s a)
 all_beside s a h =
     let nw : a ≡ (a - s - 1) + s + 1 = omega arith in
@@ -92,14 +91,14 @@ beside_around s a b h (inr (inr (inl e))) = (2, omega arith, omega arith)
 beside_around s a b h (inr (inr (inr (inl e)))) = (1, omega arith, omega arith)
 beside_around s a b h (inr (inr (inr (inr e)))) = (0, omega arith, omega arith)
 
--- a way that is there leads to a data cell
+-- A way leads to a data cell.
 way_found : (cells : List (Option ℤ)) (x : ℤ) (b : ℕ) (way : Spill) → way_to cells x b ≡ Some way → (y : ℤ) × (get_or cells b None ≡ Some y) × (record { to = b; height = int_max y x } ≡ way)
 way_found cells x b way e = elim (cases_option (get_or cells b None)) [
   | inl none ↦ let no = way_none cells x b none in absurd (cc)
   | inr found ↦ (found.0, found.1, same_Some _ way (sym (way_some cells x b found.0 found.1) ∙ e))
 ]
 
--- the ways of a cell are its joins
+-- The ways from a data cell are its joins.
 pub just_ways : (n : Cells) (a : ℕ) (x : ℤ) → cell_at n a ≡ Some x → n.stride < a → HasJust (IsCellJoin n a) (filter_map (way_to n.cells x) (cells_around n.stride a))
 just_ways n a x here above = record {
   only = all_by_contains (λ way. IsCellJoin n a way.to way.height) _ (λ way h.
@@ -120,32 +119,30 @@ just_ways n a x here above = record {
       (way_some n.cells x b j.to_height j.to_cell ∙ ap (λ z. Some (record { to = b; height = z })) (ap (λ z. int_max j.to_height z) (sym same) ∙ j.greater));
 }
 
--- a cell with no data has no joins
 pub no_ways : (n : Cells) (a : ℕ) → cell_at n a ≡ None → HasJust (IsCellJoin n a) []
 no_ways n a none = record {
   only = All-nil (λ way. IsCellJoin n a way.to way.height);
   every = λ b h j. let some = j.from_cell in absurd (cc);
 }
 
--- the crest by a way, of the two heights and the level
 pub crest_by : (other height level : ℤ) → int_max other (int_max height level) ≡ int_max (int_max other height) level
 crest_by other height level = omega (arith, ints, clamps)
 
--- a cell that has been noted as low needs no way
-no_higher_way : (cells : List (Option ℤ)) (labels : List (Option ℕ)) (levels : List (Option ℤ)) (from : Waiting) (to : ℕ) (height crest : ℤ) (waiting : List Waiting) → AreNoted labels levels waiting → ((h : ℤ) → get_or cells to None ≡ Some h → crest ≡ int_max h (int_max height from.height.0)) → (l : ℤ) × (entry_of levels to ≡ Some l) × (l ≤ℤ crest) → MakesWait labels from (cons_option (way_to cells height to) []) waiting waiting
+-- A cell whose noted crest is as low needs no way.
+no_higher_way : (cells : List (Option ℤ)) (labels : List (Option ℕ)) (levels : List (Option ℤ)) (from : Candidate) (to : ℕ) (height crest : ℤ) (waiting : List Candidate) → AreNoted labels levels waiting → ((h : ℤ) → get_or cells to None ≡ Some h → crest ≡ int_max h (int_max height from.height.0)) → (l : ℤ) × (entry_of levels to ≡ Some l) × (l ≤ℤ crest) → Queues labels from (cons_option (way_to cells height to) []) waiting waiting
 no_higher_way cells labels levels from to height crest waiting noted is low = elim (cases_option (get_or cells to None)) [
-  | inl none ↦ subst (λ o. MakesWait labels from (cons_option o []) waiting waiting) (sym (way_none cells height to none)) (no_ways_yet labels from waiting)
-  | inr found ↦ subst (λ o. MakesWait labels from (cons_option o []) waiting waiting) (sym (way_some cells height to found.0 found.1))
+  | inl none ↦ subst (λ o. Queues labels from (cons_option o []) waiting waiting) (sym (way_none cells height to none)) (no_ways_yet labels from waiting)
+  | inr found ↦ subst (λ o. Queues labels from (cons_option o []) waiting waiting) (sym (way_some cells height to found.0 found.1))
       (passed_low labels levels from (record { to = to; height = int_max found.0 height }) waiting low.0 noted low.1 (trans _ _ _ low.2 (le_of_same _ _ (is found.0 found.1 ∙ crest_by found.0 height from.height.0))))
 ]
 
--- and so does one that is passed
-pub passed_way : (cells : List (Option ℤ)) (labels : List (Option ℕ)) (levels : List (Option ℤ)) (heights : List ℤ) (from : Waiting) (to : ℕ) (height : ℤ) (waiting : List Waiting)
+-- A skipped cell needs no way.
+pub passed_way : (cells : List (Option ℤ)) (labels : List (Option ℕ)) (levels : List (Option ℤ)) (heights : List ℤ) (from : Candidate) (to : ℕ) (height : ℤ) (waiting : List Candidate)
     → AreNoted labels levels waiting → heights ≡ map height_or_lack levels → to < length levels
-    → IsPassed (get_or cells to None) (int_max height from.height.0) (get_or heights to (pos 0)) → MakesWait labels from (cons_option (way_to cells height to) []) waiting waiting
+    → IsPassed (get_or cells to None) (int_max height from.height.0) (get_or heights to (pos 0)) → Queues labels from (cons_option (way_to cells height to) []) waiting waiting
 passed_way cells labels levels heights from to height waiting noted stand inside passed =
     elim (cases_option (get_or cells to None)) [
-      | inl none ↦ subst (λ o. MakesWait labels from (cons_option o []) waiting waiting) (sym (way_none cells height to none)) (no_ways_yet labels from waiting)
+      | inl none ↦ subst (λ o. Queues labels from (cons_option o []) waiting waiting) (sym (way_none cells height to none)) (no_ways_yet labels from waiting)
       | inr found ↦
           let p = passed found.0 found.1 in
           let here : get_or heights to (pos 0) ≡ height_or_lack (entry_of levels to) = ap (λ l. get_or l to (pos 0)) stand ∙ get_or-map height_or_lack levels to None (pos 0) inside in

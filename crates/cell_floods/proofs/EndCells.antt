@@ -13,7 +13,7 @@ use Rattle.tiles.specs.Cutting.{View, IsWithin, IsInBounds, bounds_of, cell_show
 use Rattle.tiles.proofs.Shown.{shown_within}
 use Rattle.cell_floods.specs.TileFlood.{AreEndHeights, IsEndHeight}
 
--- a view shows the grid's cell at each place next to one of the tile
+-- A view shows the height at each place that touches a cell of its tile.
 pub near_shown : (v : View (Option ℤ)) (p q : Place) → IsInBounds (bounds_of v.cutting v.tile) p
     → Touches p q → height_at (terrain_of v) q ≡ unwrap_or (cell_shown v q) None
 near_shown v p q inside near = elim (cases_lt q.row v.cutting.rows) [
@@ -37,7 +37,7 @@ near_shown v p q inside near = elim (cases_lt q.row v.cutting.rows) [
     | inr unseen ↦ sym (ap (λ (o : Option (Option ℤ)). unwrap_or o None) (cond-false _ _ _ unseen))
   ]
 
--- For the first entries of a table their heights, where they are end cells.
+-- As `AreEndHeights`, for the first `count` labels.
 pub record AreFirstEnds (t : Terrain) (places : List (Option Place)) (count : ℕ) (ends : List (Option ℤ)) : Type 0 where
   pub size : length ends ≡ count
   pub none : (k : ℕ) → k < count → get_or places k None ≡ None → get_or ends k None ≡ None
@@ -78,7 +78,7 @@ all_ends t places count ends below above s = record {
   ];
 }
 
--- a cell that is an end cell or not
+-- The end height of a cell, by whether it is an end cell.
 pub end_found : (t : Terrain) (p : Place) (end : Bool) (cell : Option ℤ) → height_at t p ≡ cell
     → (IsTrue end → HasGapAround t p ⊎ Contains t.sinks p) → end ≡ true → IsEndHeight t p cell
 end_found t p end None is found holds = λ is_end. none_done (height_at t p) is (has_data is_end) where
@@ -95,12 +95,12 @@ end_missed t p end missed fails (inr sink) = false≢true (sym fails ∙ missed 
 pub touches_itself : (p : Place) → Touches p p
 touches_itself p = record { row_down = omega arith; row_up = omega arith; col_right = omega arith; col_left = omega arith }
 
--- three cells side by side as a view shows them: those at a place and on both sides of it
+-- The three cells are those at a place and on both sides of it in its row.
 abbrev pub AreBeside : View (Option ℤ) → Place → List (Option ℤ) → Type 0
 AreBeside v p cells = (k : ℕ) (d : Option ℤ) → k < 3
     → get_or cells k d ≡ get_or v.cells (index_of v.cutting.cols p + k - 1) d
 
--- the height at a place is that of one of three cells side by side
+-- The height at a place is that of one of the three cells.
 beside_shown : (v : View (Option ℤ)) (p q : Place) (cells : List (Option ℤ)) → IsWithin v.cutting q
     → q.row ≡ p.row → p.col ≤ q.col + 1 → q.col ≤ p.col + 1 → AreBeside v p cells
     → height_at (terrain_of v) q ≡ get_or cells (q.col + 1 - p.col) None
@@ -111,7 +111,7 @@ beside_shown v p q cells within row left right are =
     ∙ ap (λ n. get_or v.cells n None) at
     ∙ sym (are (q.col + 1 - p.col) None (omega (arith, right, left)))
 
--- one of three cells has no data, where not all have
+-- If not all three cells have data, one of them has none.
 some_gap : (cells : List (Option ℤ)) → length cells ≡ 3
     → (((k : ℕ) → k < length cells → is_some (get_or cells k None) ≡ true) → ⊥)
     → (k : ℕ) × (k < 3) × (is_some (get_or cells k None) ≡ false)
@@ -132,7 +132,7 @@ some_gap cells size not_all = elim (cases_Bool (is_some (get_or cells 0 None))) 
   all (suc (suc zero)) a b c low = c
   all (suc (suc (suc k))) a b c low = absurd (omega (arith, low))
 
--- so there is a gap around a place that touches the three
+-- A gap among three cells of a row is a gap around the middle one and the cells above and below it.
 pub gap_beside : (v : View (Option ℤ)) (cell p : Place) (cells : List (Option ℤ))
     → length cells ≡ 3 → AreBeside v p cells → p.col ≡ cell.col → 0 < cell.col
     → cell.row ≤ p.row + 1 → p.row ≤ cell.row + 1
@@ -162,7 +162,7 @@ gap_beside v cell p cells size are col some above below not_all =
       ],
     ))
 
--- where all three have data, none of them is a gap
+-- Where all three have data, none of them is a gap.
 pub no_gap_beside : (v : View (Option ℤ)) (cell p q : Place) (cells : List (Option ℤ))
     → length cells ≡ 3 → AreBeside v p cells → p.col ≡ cell.col → (p.row < v.cutting.rows) × (p.col + 1 < v.cutting.cols)
     → Touches cell q → q.row ≡ p.row
@@ -176,7 +176,6 @@ no_gap_beside v cell p q cells size are col within touch row all none =
     let there = all (q.col + 1 - p.col) (omega (arith, size, right, left)) in
     absurd (cc (sym none ∙ ap is_some shown ∙ there))
 
--- a place without data is no end cell
 pub no_data_ends : (t : Terrain) (p : Place) → height_at t p ≡ None → IsEndHeight t p None
 no_data_ends t p none (inl edge) = none_done (height_at t p) none edge.0
 no_data_ends t p none (inr sink) = none_done (height_at t p) none sink.0

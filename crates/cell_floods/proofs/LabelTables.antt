@@ -10,7 +10,7 @@ use Rattle.terrain.proofs.Options.{none_some}
 use Rattle.terrain.specs.declared.place.Place.{Place}
 use Rattle.cell_floods.specs.Labels.{labels_by, IsTable, IsListedAt}
 
--- a table that keeps its entries keeps the labels
+-- A table that keeps its entries keeps the labels of cells.
 labels_kept : (old new : List (Option Place)) (cells : List ℕ) → All (λ k. k < length old) cells → ((k : ℕ) → k < length old → get_or new k None ≡ get_or old k None) → labels_by new cells ≡ labels_by old cells
 labels_kept old new [] inside kept = refl
 labels_kept old new (k ∷ cells) inside kept =
@@ -29,7 +29,7 @@ listed_length index label old new at = elim at.only [
   | inr added ↦ (omega (arith, ap length added.1, length_push old label), omega (arith, ap length added.1, length_push old label))
 ]
 
--- a place at another index stood in the table before
+-- A place at another index was in the table before.
 listed_before : (index : ℕ) (label : Option Place) (old new : List (Option Place)) → IsListedAt index label old new → (k : ℕ) (p : Place) → k ≢ index → get_or new k None ≡ Some p → get_or old k None ≡ Some p
 listed_before index label old new at k p other e = elim at.only [
   | inl same ↦ ap (λ (z : List (Option Place)). get_or z k None) (sym same) ∙ e
@@ -41,7 +41,7 @@ listed_before index label old new at k p other e = elim at.only [
       ]
 ]
 
--- one more cell
+-- One more cell with its index in the table.
 pub cell_listed : (index : ℕ) (label : Option Place) (old new : List (Option Place)) (cells more : List ℕ) → 0 < length old → IsTable old cells → IsListedAt index label old new → more ≡ cells ++ index ∷ [] → IsTable new more
 cell_listed index label old new cells more some table at is =
     let long = listed_length index label old new at in

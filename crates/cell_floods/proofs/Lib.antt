@@ -1,13 +1,13 @@
--- a window of cells as a net
+-- A rectangle of cells as a net.
 mod CellWays
 mod Runs
 mod Borders
 pub mod Windows
--- the whole grid, and a tile that a view shows
+-- The nets of a whole grid and of a tile.
 mod Nets
--- the flood of a tile
+-- The flood of a tile.
 mod LabelTables
 pub mod TileWindows
 pub mod Where
--- end cells among its labels
+-- End cells among the labels of a tile.
 mod EndCells

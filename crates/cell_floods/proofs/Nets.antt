@@ -1,4 +1,4 @@
--- The nets of a whole grid and of a tile that a view shows, and the flood of a whole grid.
+-- The nets of a whole grid and of a tile, and the flood of a whole grid.
 use Rattle.std.proofs.Common.{◌⊎◌, ◌≡◌, ℕ, zero, suc, ◌+◌, ◌-◌, ◌*◌, ◌<◌, ◌≤◌, inl, inr, ℤ, Bool, List, [], ◌∷◌, length, map, ◌++◌, refl, get_or, take, drop, Option, None, is_some, ◌∙◌, sym, ap, arith, length-append, length-drop, length-take-le, subst}
 use Rattle.std.proofs.Math.Nat.{add-sub_cancel_left}
 use Rattle.std.proofs.lemmas.Bool.{cases_eq}
@@ -23,14 +23,13 @@ use Rattle.tiles.proofs.Cut.{bounds_inside}
 use Rattle.tiles.proofs.Shown.{row_end, get_or-row_shown}
 use Rattle.cell_floods.proofs.Borders.{AreRows, ShowRows, net_of_rows}
 
--- the entries of a row inside the border end within the list, and the list is short
+-- A row inside the border lies in the list, and its indexes are small.
 pub inner_row_ends : (rows cols row len : ℕ) → len ≡ (rows + 2) * (cols + 2) → cols ≤ 4096 → rows ≤ 4096 → row < rows → ((row + 1) * (cols + 2) + 1 + cols ≤ len) × (len ≤ 16793604)
 inner_row_ends rows cols row len size few_cols few_rows below = (
   omega (arith, mul-le (row + 2) (cols + 2) (rows + 2) (cols + 2) (omega arith) (omega arith), size),
   omega (arith, mul-le (rows + 2) (cols + 2) 4098 4098 (omega arith) (omega arith), size),
 )
 
--- the entries inside the border
 pub length-inner_rows : {X : Type 0} (list : List X) (cols count : ℕ) → (count + 1) * (cols + 2) ≤ length list → length (inner_rows list cols count) ≡ count * cols
 length-inner_rows list cols zero h = omega arith
 length-inner_rows list cols (suc count) h =
@@ -39,7 +38,6 @@ length-inner_rows list cols (suc count) h =
     let row : length (drop from (take (from + cols) list)) ≡ cols = length-drop from (take (from + cols) list) ∙ ap (λ n. n - from) (length-take-le (from + cols) list (omega arith)) ∙ omega arith in
     length-append (inner_rows list cols count) _ ∙ omega (arith, was, ap length (between_is list from (from + cols)) ∙ row)
 
--- the entries inside the border, each taken for another
 pub inner_rows-map : {X Y : Type 0} (f : X → Y) (list : List X) (cols count : ℕ) → inner_rows (map f list) cols count ≡ map f (inner_rows list cols count)
 inner_rows-map f list cols zero = refl
 inner_rows-map f list cols (suc count) =
@@ -72,7 +70,7 @@ inner_rows_at list cols (suc count) h r c below inside =
       move : (k c s : ℕ) → (k + 1) * s + 1 + c ≡ (k + 1) * s + (c + 1)
       move k c s = omega arith
 
--- the rim of the whole terrain is its edge
+-- A source of the window that is the whole terrain is an end cell.
 source_is_end : (t : Terrain) (p : Place) → IsInBounds (whole t) p → IsWindowSource t (whole t) p → IsEnd t p
 source_is_end t p inside (inr sink) = inr sink
 source_is_end t p inside (inl source) = inl (source.0, elim source.1 [ inl rim ↦ gap_at_end t.cols t.rows p (none_outside t) (at rim) | inr gap ↦ gap ]) where
@@ -85,7 +83,7 @@ source_is_end t p inside (inl source) = inl (source.0, elim source.1 [ inl rim �
 data_in_window : (t : Terrain) (p : Place) → IsDataCell t p → IsInBounds (whole t) p
 data_in_window t p some = let inside = data_inside t p some in (omega arith, omega (arith, inside), omega arith, omega (arith, inside))
 
--- a path of the terrain is a path in the window that is the whole of it
+-- A path of the terrain is a path of the window that is the whole terrain.
 whole_path : (t : Terrain) (p : Place) (rest : List Place) → IsPath t p rest → IsWindowPath t (whole t) p rest
 whole_path t p [] path = end_is_source t (whole t) p path
 whole_path t p (q ∷ rest) path = (path.0, data_in_window t q path.0.to_data, whole_path t q rest path.1)
@@ -100,7 +98,7 @@ whole_level t p label level inside l = record {
   least = λ rest path. l.least rest (whole_path t p rest path);
 }
 
--- the levels of a flood of the whole terrain are its filled heights
+-- The levels of a flood of the whole terrain are its filled heights.
 pub whole_filled : (t : Terrain) (n : Cells) (levels : List (Option ℤ)) (labels : List (Option ℕ)) → IsNetOf t (whole t) n → IsFlooded (IsCellJoin n) (source_of n) (length n.cells) levels labels → IsFilled t (inner_rows levels t.cols t.rows)
 whole_filled t n levels labels net flooded =
     let size : length levels ≡ (t.rows + 2) * (t.cols + 2) = flooded.levels_size ∙ net.size in
@@ -124,7 +122,7 @@ whole_filled t n levels labels net flooded =
         minus : (n : ℕ) → n ≡ n - 0
         minus n = omega arith
 
--- the rows of a view
+-- A row of a view has the width of its tile.
 row_shown_length : (v : View (Option ℤ)) → IsView v → AreRows (row_shown v) (bounds_of v.cutting v.tile).cols (bounds_of v.cutting v.tile).rows
 row_shown_length v is r below =
     let b = bounds_of v.cutting v.tile in
@@ -142,5 +140,3 @@ row_shown_cells v is r c below inside =
 
 pub net_of_view : (v : View (Option ℤ)) (b : Bounds) (items : List (Option ℤ)) (places : List Place) (sinks : List Bool) → IsView v → b ≡ bounds_of v.cutting v.tile → items ≡ bordered_rows (row_shown v) ((bounds_of v.cutting v.tile).cols + 2) (bounds_of v.cutting v.tile).rows → HasSinks b places sinks → IsNetOf (with_sinks (terrain_of v) places) (bounds_of v.cutting v.tile) (record { stride = b.cols + 2; cells = items; sinks = sinks })
 net_of_view v b items places sinks is same are has = rw (same, are) (net_of_rows (with_sinks (terrain_of v) places) (bounds_of v.cutting v.tile) (row_shown v) (row_shown_length v is) (row_shown_cells v is) sinks (subst (λ w. HasSinks w places sinks) same has))
-
--- sources and paths of a tile

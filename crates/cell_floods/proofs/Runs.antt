@@ -1,10 +1,9 @@
--- Runs of cells all of which have data.
+-- Runs of cells that all have data.
 use Rattle.std.proofs.Common.{◌≡◌, ℕ, ◌+◌, ◌-◌, ◌<◌, ◌≤◌, ℤ, List, length, get_or, drop, slice_range, Option, None, IsSome, ◌∙◌, sym, ap, subst, arith}
 use Rattle.std.specs.List.{EachIndex}
 use Rattle.std.proofs.lemmas.List.{get_or-take, get_or-drop, length-take-le, length-drop}
 use Rattle.cell_floods.specs.Cells.{AreAllThere}
 
--- an entry of a part
 part_at : (entries : List (Option ℤ)) (first count index : ℕ) → index < count → get_or (slice_range entries first (first + count)) index None ≡ get_or entries (first + index) None
 part_at entries first count index below = get_or-take (first + count - first) (drop first entries) index None (omega (arith, below)) ∙ get_or-drop first entries index None
 
@@ -12,7 +11,7 @@ part_length : (entries : List (Option ℤ)) (first count : ℕ) → first + coun
 part_length entries first count inside =
     length-take-le (first + count - first) (drop first entries) (omega (arith, inside, length-drop first entries)) ∙ omega arith
 
--- a part all of whose entries are there
+-- The data cells of a part are those of the list, and the other way round.
 pub part_there : (entries : List (Option ℤ)) (first count : ℕ) → first + count ≤ length entries → EachIndex (slice_range entries first (first + count)) (λ k. IsSome (get_or (slice_range entries first (first + count)) k None)) → AreAllThere entries first (first + count)
 part_there entries first count inside all index from below =
     let at : index ≡ first + (index - first) = omega (arith, from) in

@@ -83,7 +83,6 @@ tile_level t c tile h l cuts p label level i w = record {
   own = λ source height. w.own (window_source t c tile p i source) height;
 }
 
--- a node's place
 place_back : (b : Bounds) (p : Place) → IsInBounds b p → place_of_node b.top b.left b.cols (node_at b p) ≡ p
 place_back b p i =
     let col : p.col - b.left + 1 < b.cols + 2 = omega (arith, i) in
@@ -91,7 +90,7 @@ place_back b p i =
     (ap (λ n. b.top + n - 1) (div-mul-add (p.row - b.top + 1) (b.cols + 2) (p.col - b.left + 1) col) ∙ omega (arith, i))
     (ap (λ n. b.left + n - 1) (mod-mul-add (p.row - b.top + 1) (b.cols + 2) (p.col - b.left + 1) col) ∙ omega (arith, i))
 
--- what the lists of a tile have at a place, in those of its net
+-- An entry of a tile's list, by the list of its net.
 inner_entry : {X : Type 0} (b : Bounds) (list : List (Option X)) (p : Place) → length list ≡ (b.rows + 2) * (b.cols + 2) → IsInBounds b p → entry_in b (inner_rows list b.cols b.rows) p ≡ get_or list (node_at b p) None
 inner_entry b list p size i =
     entry_in-inside b (inner_rows list b.cols b.rows) p i
@@ -103,7 +102,7 @@ mapped_entry b xs p size i =
     ∙ get_or-map (label_of_node b) xs _ None None (omega (arith, size, index_in_below b p i))
     ∙ ap (label_of_node b) (sym (entry_in-inside b xs p i))
 
--- What the levels and labels in a tile's row order say of its cells.
+-- `IsTileFlood` of the levels and labels alone.
 pub record AreTileLevels (t : Terrain) (c : Cutting) (tile : ℕ) (b : Bounds) (levels : List (Option ℤ)) (labels : List (Option Place)) : Type 0 where
   pub bounds : b ≡ bounds_of c tile
   pub limits : IsWithinLimits b
@@ -113,7 +112,7 @@ pub record AreTileLevels (t : Terrain) (c : Cutting) (tile : ℕ) (b : Bounds) (
       MatchOption (height_at t p) ((entry_in b levels p ≡ None) × (entry_in b labels p ≡ None))
       (λ _. (level : ℤ) × (label : Place) × (entry_in b levels p ≡ Some level) × (entry_in b labels p ≡ Some label) × IsTileLevel t c p level label)
 
--- a tile is small, and ends within the longest grid
+-- A tile is small, and ends within the limits of a grid.
 pub bounds_limits : (t : Cutting) (b : Bounds) → IsCutting t → AreBounds t b → IsWithinLimits b
 bounds_limits t b h inside = (omega arith, omega arith)
 
@@ -146,7 +145,7 @@ pub tile_flood_is : (t : Terrain) (c : Cutting) (tile : ℕ) (n : Cells) (b : Bo
 tile_flood_is t c tile n b levels levels_in labels labels_in h l cuts net flooded same x y =
     rw (y, x, same) (tile_flooded t c tile n levels labels h l cuts net flooded)
 
--- a label of a net's flood is a node of the net
+-- A label of a net's flood is a node of the net.
 walk_end_below : (n : Cells) (a : ℕ) (walk : List Spill) → a < length n.cells → IsWalk (IsCellJoin n) (source_of n) a walk → end_of a walk < length n.cells
 walk_end_below n a [] low walk = low
 walk_end_below n a (step ∷ rest) low walk = walk_end_below n step.to rest (some_inside n.cells step.to walk.0.to_height walk.0.to_cell) walk.1
@@ -182,14 +181,14 @@ inner_below count list cols (suc rows) below k node e =
           ]
     ]
 
--- the labels of the cells inside the border are nodes of the net, and there is one for each cell
+-- There is a label entry for each cell inside the border, and the labels are nodes of the net.
 pub inner_labels : (b : Bounds) (n : Cells) (levels : List (Option ℤ)) (labels : List (Option ℕ)) → length n.cells ≡ (b.rows + 2) * (b.cols + 2) → IsFlooded (IsCellJoin n) (source_of n) (length n.cells) levels labels →
     AreNodesBelow ((b.rows + 2) * (b.cols + 2)) (inner_rows labels b.cols b.rows) × (length (inner_rows labels b.cols b.rows) ≡ b.rows * b.cols)
 inner_labels b n levels labels size flooded =
     let long = flooded.labels_size ∙ size in
     (inner_below _ labels b.cols b.rows (subst (λ (k : ℕ). AreNodesBelow k labels) long (labels_below n levels labels flooded)), length-inner_rows labels b.cols b.rows (omega (arith, long)))
 
--- the lists of a tile, of the heights and numbers that stand for the levels and labels of its net
+-- The lists of heights and numbers inside the border, by the levels and labels of the net.
 pub inner_lists : (b : Bounds) (levels : List (Option ℤ)) (labels : List (Option ℕ)) (raw heights : List ℤ) (numbers nodes : List ℕ) → raw ≡ map height_or_lack levels → labels ≡ numbered_labels numbers → heights ≡ inner_rows raw b.cols b.rows → nodes ≡ inner_rows numbers b.cols b.rows →
     (heights ≡ map height_or_lack (inner_rows levels b.cols b.rows)) × (numbered_labels nodes ≡ inner_rows labels b.cols b.rows)
 inner_lists b levels labels raw heights numbers nodes raw_is labels_are heights_are nodes_are = (

@@ -1,4 +1,4 @@
--- Levels stand where labels do.
+-- A cell has a level exactly if it has a label.
 use Rattle.std.proofs.Common.{◌≡◌, ◌==◌, ℕ, zero, suc, ◌+◌, ◌*◌, ◌<◌, inl, inr, ℤ, pos, List, [], ◌∷◌, map, length, get_or, Option, None, Some, is_some, option_map, sym, ap, subst, ◌∙◌, refl, arith}
 use Rattle.std.proofs.lemmas.Bool.{cases_lt, eqb-true}
 use Rattle.std.proofs.lemmas.List.{get_or-map, get_or_past, length-map}
@@ -40,7 +40,7 @@ one_back None (Some z) e = absurd (cc)
 one_back (Some p) None e = absurd (cc)
 one_back (Some p) (Some z) e = refl
 
--- levels that stand where the labels do are those of their heights
+-- Levels of labelled cells are the `levels_where` of their heights.
 pub levels_back : (labels : List (Option Place)) (levels : List (Option ℤ)) → length labels ≡ length levels → ((i : ℕ) → is_some (get_or labels i None) ≡ is_some (get_or levels i None)) → levels_where labels (map height_or_lack levels) ≡ levels
 levels_back [] [] e each = refl
 levels_back [] (level ∷ levels) e each = absurd (omega (arith, e))
@@ -53,7 +53,7 @@ some_below : (i m n : ℕ) → i < m * n → 0 < n
 some_below i m zero low = absurd (omega (arith, low))
 some_below i m (suc n) low = omega arith
 
--- in a tile they stand together
+-- In a tile a cell has a level exactly if it has a label.
 both_stand : (t : Terrain) (c : Cutting) (tile : ℕ) (b : Bounds) (levels : List (Option ℤ)) (labels : List (Option Place)) → IsCutting c → tile < tile_count c → AreTileLevels t c tile b levels labels → (i : ℕ) → is_some (get_or labels i None) ≡ is_some (get_or levels i None)
 both_stand t c tile b levels labels h l is i = elim (cases_lt i (b.rows * b.cols)) [
   | inr past ↦
@@ -74,14 +74,14 @@ both_stand t c tile b levels labels h l is i = elim (cases_lt i (b.rows * b.cols
       sym (ap is_some label) ∙ both ∙ ap is_some level
 ]
 
--- a flood whose levels are kept as heights where the labels are
+-- The levels of a tile are those of its heights and labels.
 pub levels_where_are : (t : Terrain) (c : Cutting) (tile : ℕ) (b : Bounds) (levels : List (Option ℤ)) (labels : List (Option Place)) (heights : List ℤ) → IsCutting c → tile < tile_count c → heights ≡ map height_or_lack levels
     → AreTileLevels t c tile b levels labels → AreTileLevels t c tile b (levels_where labels heights) labels
 levels_where_are t c tile b levels labels heights h l are is =
     subst (λ (zs : List (Option ℤ)). AreTileLevels t c tile b zs labels)
     (sym (ap (levels_where labels) are ∙ levels_back labels levels (is.labels_size ∙ sym is.levels_size) (both_stand t c tile b levels labels h l is))) is
 
--- the label of a cell is a cell of its tile
+-- The end of a path in a tile is a data cell.
 label_data : (t : Terrain) (c : Cutting) (p : Place) (rest : List Place) → IsTilePath t c p rest → IsDataCell t (last_of p rest)
 label_data t c p [] path = elim path [ inl rim ↦ rim.0 | inr end ↦ first_is_data t p [] end ]
 label_data t c p (q ∷ rest) path = label_data t c q rest path.2
@@ -96,7 +96,7 @@ last_in_tile t c p (q ∷ rest) path = last_in_tile t c q rest path.2 ∙ path.1
 pub label_in_tile : (t : Terrain) (c : Cutting) (p label : Place) (level : ℤ) → IsTileLevel t c p level label → tile_of_place c label ≡ tile_of_place c p
 label_in_tile t c p label level l = subst (λ (q : Place). tile_of_place c q ≡ tile_of_place c p) l.reached.3 (last_in_tile t c p l.reached.0 l.reached.1)
 
--- each label of a tile is one of its cells
+-- Each label of a tile is one of its cells.
 pub labels_inside : (t : Terrain) (c : Cutting) (tile : ℕ) (b : Bounds) (levels : List (Option ℤ)) (labels : List (Option Place)) → IsCutting c → tile < tile_count c → Cuts c t → AreTileLevels t c tile b levels labels → (k : ℕ) (label : Place) → get_or labels k None ≡ Some label → IsInTile c tile label
 labels_inside t c tile b levels labels h l cuts is k label e = elim (cases_lt k (b.rows * b.cols)) [
   | inr past ↦ none_some _ label (get_or_past labels k None (omega (arith, past, is.labels_size))) e
@@ -114,7 +114,7 @@ labels_inside t c tile b levels labels h l cuts is k label e = elim (cases_lt k 
       ]
 ]
 
--- and so is each place of their table
+-- What holds of all labels holds of each place of their table.
 pub table_inside : (P : Place → Type 0) (labels places : List (Option Place)) (cells : List ℕ) → labels ≡ labels_by places cells → IsTable places cells → ((k : ℕ) (p : Place) → get_or labels k None ≡ Some p → P p) → (k : ℕ) (p : Place) → get_or places k None ≡ Some p → P p
 table_inside P labels places cells are table inside k p e =
     let held = Any-from_list_any (λ n. n == k) cells (table.used k p e) in
@@ -129,14 +129,14 @@ all_inside P places inside = All-from_get_or (λ (o : Option Place). IfSome o P)
   | inr found ↦ subst (λ (o : Option Place). IfSome o P) (sym found.1) (inside k found.0 found.1)
 ])
 
--- the level of a cell with this label
+-- The level of a cell, by its label and height.
 pub level_shown : (f : Flood) (labels : List (Option Place)) (heights : List ℤ) (i : ℕ) (label : Option Place) → f.levels ≡ levels_where labels heights → f.labels ≡ labels → length labels ≡ length heights → label ≡ get_or f.labels i None
     → get_or f.levels i None ≡ option_map (λ _. get_or heights i (pos 0)) label
 level_shown f labels heights i label levels_are labels_are fit is =
     ap (λ (z : List (Option ℤ)). get_or z i None) levels_are ∙ levels_where-at labels heights i fit
     ∙ ap (option_map (λ _. get_or heights i (pos 0))) (sym (is ∙ ap (λ (z : List (Option Place)). get_or z i None) labels_are))
 
--- there is a height for each cell
+-- There is a height for each cell.
 pub heights_whole : (b : Bounds) (levels : List (Option ℤ)) (nodes : List (Option ℕ)) (places : List (Option Place)) (cells : List ℕ) (heights : List ℤ) → length levels ≡ (b.rows + 2) * (b.cols + 2) → length nodes ≡ (b.rows + 2) * (b.cols + 2)
     → heights ≡ map height_or_lack (inner_rows levels b.cols b.rows) → labels_by places cells ≡ map (label_of_node b) (inner_rows nodes b.cols b.rows) → length heights ≡ length cells
 heights_whole b levels nodes places cells heights levels_long nodes_long are labels =

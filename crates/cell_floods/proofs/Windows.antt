@@ -1,4 +1,4 @@
--- Windows of a terrain: the numbers of their cells in a net, their paths, and what a flood of the net gives.
+-- Windows of a terrain: their nodes in a net, their paths, and the flood of the net.
 use Rattle.std.proofs.lemmas.Option.{MatchOption-at_some, MatchOption-at_none}
 use Rattle.std.proofs.Common.{◌≡◌, ◌≢◌, ℕ, zero, suc, ◌+◌, ◌-◌, ◌*◌, ◌<◌, ◌≤◌, ◌⊎◌, inl, inr, ℤ, pos, ◌≤ℤ◌, true, ◌||◌, List, [], ◌∷◌, length, get_or, Option, None, Some, IsSome, is_some, is_none, unwrap_or, ◌∙◌, sym, ap, subst, refl, arith, Bool, false, set}
 use Rattle.std.specs.Int.{int_max}
@@ -34,11 +34,11 @@ use Rattle.tiles.proofs.Cut.{in_bounds_from}
 abbrev pub IsOnRim : Bounds → Place → Type 0
 IsOnRim w p = (p.row ≡ w.top) ⊎ (p.row + 1 ≡ w.top + w.rows) ⊎ (p.col ≡ w.left) ⊎ (p.col + 1 ≡ w.left + w.cols)
 
--- A data cell on the rim of the window, or one with a gap around it.
+-- A data cell on the rim of the window or with a gap around it.
 abbrev pub IsGapSource : Terrain → Bounds → Place → Type 0
 IsGapSource t w p = IsDataCell t p × (IsOnRim w p ⊎ HasGapAround t p)
 
--- Such a cell, or a sink.
+-- A source of the window: a gap source or a sink.
 abbrev pub IsWindowSource : Terrain → Bounds → Place → Type 0
 IsWindowSource t w p = IsGapSource t w p ⊎ IsSink t p
 
@@ -46,12 +46,12 @@ pub end_is_source : (t : Terrain) (w : Bounds) (p : Place) → IsEnd t p → IsW
 end_is_source t w p (inl edge) = inl (edge.0, inr edge.1)
 end_is_source t w p (inr sink) = inr sink
 
--- A path that stays in the window and ends at a source of it.
+-- A path that stays in the window and ends at a source of the window.
 abbrev pub IsWindowPath : Terrain → Bounds → Place → List Place → Type 0
 IsWindowPath t w p [] = IsWindowSource t w p
 IsWindowPath t w p (q ∷ rest) = IsNeighbour t p q × IsInBounds w q × IsWindowPath t w q rest
 
--- numbers of cells in neighbouring rows and columns
+-- Nodes of neighbouring rows and columns.
 next_row : (s r c d : ℕ) → d ≤ c + 1 → c ≤ d + 1 → IsAfter s (r * s + c) ((r + 1) * s + d)
 next_row s r c d up down = elim (cases_order c d) [
   | inl same ↦ inr (inr (inl (omega arith)))
@@ -73,7 +73,7 @@ rows_beside s r c q d up down right left differ = elim (cases_order r q) [
   ]
 ]
 
--- rows and columns of cells whose numbers are beside each other
+-- Rows and columns of two neighbouring nodes, the first node before the second.
 abbrev AreNear : ℕ → ℕ → ℕ → ℕ → Type 0
 AreNear r c q d = ((q ≡ r) × (d ≡ c + 1)) ⊎ ((q ≡ r + 1) × (d ≤ c + 1) × (c ≤ d + 1))
 
@@ -94,7 +94,7 @@ near_rows s (suc r) c b one low (inr (inr (inl e))) = (r, c + 1, omega arith, om
 near_rows s (suc r) c b one low (inr (inr (inr (inl e)))) = (r, c, omega arith, omega arith, omega arith, omega arith, omega arith)
 near_rows s (suc r) c b one low (inr (inr (inr (inr e)))) = (r, c - 1, omega arith, omega arith, omega arith, omega arith, omega arith)
 
--- the row and column of a place of the window, counted from its border
+-- The row and column of a place of the window, counted with its border.
 abbrev row_in : Bounds → Place → ℕ
 row_in w p = p.row - w.top + 1
 
@@ -124,7 +124,7 @@ pub beside_touch : (w : Bounds) (p q : Place) → IsInBounds w p → IsInBounds 
 beside_touch w p q a b (inl h) = near_touch w p q a b (after_rows (w.cols + 2) (row_in w p) (col_in w p) (row_in w q) (col_in w q) (omega (arith, a)) (omega (arith, b)) h)
 beside_touch w p q a b (inr h) = turn q p (near_touch w q p b a (after_rows (w.cols + 2) (row_in w q) (col_in w q) (row_in w p) (col_in w p) (omega (arith, b)) (omega (arith, a)) h))
 
--- a number has one place
+-- A node has one place.
 pub node_injective : (w : Bounds) (p q : Place) → IsInBounds w p → IsInBounds w q → node_at w p ≡ node_at w q → p ≡ q
 node_injective w p q a b e =
     let both = same_from_place (row_in w p) (col_in w p) (row_in w q) (col_in w q) (w.cols + 2) (omega (arith, a)) (omega (arith, b)) e in
@@ -138,7 +138,7 @@ pub data_is : {X : Type 0} (o : Option X) → IsSome o → (x : X) × (o ≡ Som
 data_is None e = absurd (cc)
 data_is (Some x) e = (x, refl)
 
--- the rim, as a case to split on
+-- A place of the window is on its rim or away from it.
 pub cases_rim : (w : Bounds) (p : Place) → IsInBounds w p → IsOnRim w p ⊎ ((w.top + 1 ≤ p.row) × (p.row + 2 ≤ w.top + w.rows) × (w.left + 1 ≤ p.col) × (p.col + 2 ≤ w.left + w.cols))
 cases_rim w p a = elim (cases_eq p.row w.top) [
   | inl top ↦ inl (inl top)
@@ -154,14 +154,14 @@ cases_rim w p a = elim (cases_eq p.row w.top) [
   ]
 ]
 
--- what touches a place of the window lies in it too, or the place is on its rim
+-- A place of the window is on its rim, or all places that touch it lie in the window.
 pub beyond : (w : Bounds) (p q : Place) → IsInBounds w p → Touches p q → IsOnRim w p ⊎ IsInBounds w q
 beyond w p q a t = elim (cases_rim w p a) [
   | inl rim ↦ inl rim
   | inr inner ↦ inr (omega (arith, inner, t.row_up), omega (arith, inner, t.row_down), omega (arith, inner, t.col_left), omega (arith, inner, t.col_right))
 ]
 
--- the place with this row and column
+-- The place at this row and column, counted with the border.
 abbrev place_in : Bounds → ℕ → ℕ → Place
 place_in w r c = record { row = w.top + r - 1; col = w.left + c - 1 }
 
@@ -171,7 +171,7 @@ node_of_place w r c a b =
       back : (x y : ℕ) → 1 ≤ y → x + y - 1 - x + 1 ≡ y
       back x y h = omega arith
 
--- a number of the border has no data
+-- A node of the border has no data.
 border_none : (t : Terrain) (w : Bounds) (n : Cells) → IsNetOf t w n → (r c : ℕ) → c < w.cols + 2 → ((1 ≤ r) → (r ≤ w.rows) → (1 ≤ c) → (c ≤ w.cols) → ⊥) → cell_at n (r * (w.cols + 2) + c) ≡ None
 border_none t w n net r c narrow outside = elim (cases_option (cell_at n (r * (w.cols + 2) + c))) [
   | inl none ↦ none
@@ -181,7 +181,7 @@ border_none t w n net r c narrow outside = elim (cases_option (cell_at n (r * (w
       absurd (outside (omega (arith, p.1, both.0)) (omega (arith, p.1, both.0)) (omega (arith, p.1, both.1)) (omega (arith, p.1, both.1)))
 ]
 
--- a gap beside a cell of the window makes it a source of the window
+-- A cell of the window with a gap beside it is a source of the window.
 pub gap_is_source : (t : Terrain) (w : Bounds) (n : Cells) → IsNetOf t w n → (p : Place) → IsInBounds w p → IsDataCell t p → (b : ℕ) → IsBeside (w.cols + 2) (node_at w p) b → cell_at n b ≡ None → IsGapSource t w p
 gap_is_source t w n net p a some b beside none = (
   some,
@@ -197,7 +197,7 @@ gap_is_source t w n net p a some b beside none = (
   ],
 )
 
--- such a source of the window has a gap beside it
+-- A cell on the rim of the window has a gap beside it.
 rim_gap : (t : Terrain) (w : Bounds) (n : Cells) → IsNetOf t w n → (p : Place) → IsInBounds w p → IsOnRim w p → (b : ℕ) × IsBeside (w.cols + 2) (node_at w p) b × (cell_at n b ≡ None)
 rim_gap t w n net p a (inl e) =
     let first : row_in w p ≡ 1 = omega (arith, e, a) in
@@ -226,7 +226,7 @@ source_gap t w n net p a source = elim source.1 [
     | inr in_window ↦ (node_at w q, touch_beside w p q a in_window touches (λ e. none_done (height_at t q) none (subst (IsDataCell t) e source.0)), net.inside q in_window ∙ none)
   ]
 
--- sources of the net are sources of the window
+-- Sources of the window are sources of the net, and the other way round.
 pub source_there : (t : Terrain) (w : Bounds) (n : Cells) → IsNetOf t w n → (p : Place) → IsInBounds w p → IsWindowSource t w p → source_of n (node_at w p) ≡ height_at t p
 source_there t w n net p a (inr sink) = cond-true _ _ _ (or_right (has_gap_around n (node_at w p)) _ ((net.sinks p a).1 sink.1)) ∙ net.inside p a
 source_there t w n net p a (inl source) =
@@ -264,7 +264,7 @@ path_end t w p (q ∷ rest) inside path = path_end t w q rest path.1 path.2
 joined_crest : (h k c : ℤ) → k ≤ℤ c → int_max (int_max k h) c ≡ int_max h c
 joined_crest h k c low = omega (arith, ints, clamps)
 
--- a path in the window is a walk of its net
+-- A path in the window is a walk of its net.
 pub walk_of : (t : Terrain) (w : Bounds) (n : Cells) → IsNetOf t w n → (p : Place) (rest : List Place) → IsInBounds w p → IsWindowPath t w p rest → (walk : List Spill) × IsWalk (IsCellJoin n) (source_of n) (node_at w p) walk × (walk_crest (source_of n) (node_at w p) walk ≡ crest t p rest) × (end_of (node_at w p) walk ≡ node_at w (last_of p rest))
 walk_of t w n net p [] inside path =
     let there = source_there t w n net p inside path in
@@ -288,7 +288,7 @@ walk_of t w n net p (q ∷ rest) inside path =
       further.3,
     )
 
--- a walk of the net is a path in the window
+-- A walk of the net is a path in the window.
 pub path_of : (t : Terrain) (w : Bounds) (n : Cells) → IsNetOf t w n → (walk : List Spill) (p : Place) → IsInBounds w p → IsWalk (IsCellJoin n) (source_of n) (node_at w p) walk → (rest : List Place) × IsWindowPath t w p rest × (crest t p rest ≡ walk_crest (source_of n) (node_at w p) walk) × (end_of (node_at w p) walk ≡ node_at w (last_of p rest))
 path_of t w n net [] p inside walk =
     let h = data_is (source_of n (node_at w p)) walk in
@@ -311,7 +311,7 @@ path_of t w n net (step ∷ steps) p inside walk =
       ap (λ a. end_of a steps) (sym q.2) ∙ further.3,
     )
 
--- a path to an end cell goes through the window at no greater crest
+-- A path to an end cell gives a path in the window, at no greater crest.
 pub path_in_window : (t : Terrain) (w : Bounds) (p : Place) (rest : List Place) → IsInBounds w p → IsPath t p rest → (inner : List Place) × IsWindowPath t w p inner × (crest t p inner ≤ℤ crest t p rest)
 path_in_window t w p [] inside path = ([], end_is_source t w p path, ≤ℤ_refl _)
 path_in_window t w p (q ∷ rest) inside path = elim (beyond w p q inside path.0.touches) [
@@ -321,14 +321,14 @@ path_in_window t w p (q ∷ rest) inside path = elim (beyond w p q inside path.0
       (q ∷ further.0, (path.0, there, further.1), max_least _ _ _ (max_left (height_of t p) (crest t q rest)) (trans _ _ _ further.2 (max_right (height_of t p) (crest t q rest))))
 ]
 
--- The level is the least crest of the paths in the window, and the label ends a path of that crest.
--- A source whose level is its own height is its own label.
+-- The level is the least crest of the paths in the window, and a path of that crest ends at the
+-- label. A source whose level is its own height is its own label.
 pub record IsWindowLevel (t : Terrain) (w : Bounds) (p : Place) (level : ℤ) (label : Place) : Type 0 where
   pub reached : (rest : List Place) × IsWindowPath t w p rest × (crest t p rest ≡ level) × (last_of p rest ≡ label)
   pub least : (rest : List Place) → IsWindowPath t w p rest → level ≤ℤ crest t p rest
   pub own : IsWindowSource t w p → height_at t p ≡ Some level → label ≡ p
 
--- what a flood of the net of a window says of a cell with data
+-- A data cell of the window has its level and label in the flood of the net.
 pub record HasWindowLevel (t : Terrain) (w : Bounds) (levels : List (Option ℤ)) (labels : List (Option ℕ)) (p : Place) : Type 0 where
   pub level : ℤ
   pub label : Place
@@ -368,7 +368,7 @@ window_level t w n levels labels net flooded p inside some =
           }
     ]
 
--- a cell without data has neither
+-- A cell without data has no level and no label.
 pub window_none : (t : Terrain) (w : Bounds) (n : Cells) (levels : List (Option ℤ)) (labels : List (Option ℕ)) → IsNetOf t w n → IsFlooded (IsCellJoin n) (source_of n) (length n.cells) levels labels → (p : Place) → IsInBounds w p → height_at t p ≡ None → node_at w p < length n.cells → (get_or levels (node_at w p) None ≡ None) × (get_or labels (node_at w p) None ≡ None)
 window_none t w n levels labels net flooded p inside none below =
     elim (cases_option (get_or levels (node_at w p) None)) [
@@ -379,7 +379,7 @@ window_none t w n levels labels net flooded p inside none below =
           none_done (height_at t p) none (path_data t w p path.0 path.1)
     ]
 
--- The first places are marked where they lie in the window.
+-- `HasSinks` of the first places.
 pub record HasFirstSinks (w : Bounds) (places : List Place) (count : ℕ) (sinks : List Bool) : Type 0 where
   pub size : length sinks ≡ (w.rows + 2) * (w.cols + 2)
   pub only : (p : Place) → IsInBounds w p → is_sink sinks (node_at w p) ≡ true → Contains places p

@@ -1,4 +1,5 @@
--- Levels and labels inside one tile.
+-- Levels and labels of the cells of one tile.
+-- Public.
 use Rattle.std.specs.Prelude.{◌≡◌, ℕ, ◌*◌, ◌⊎◌, ℤ, ◌≤ℤ◌, List, [], ◌∷◌, length, Option, None, Some, IsTrue, MatchOption, option_map, slice_index_or}
 use Rattle.terrain.specs.Raster.{Terrain}
 use Rattle.terrain.specs.Neighbours.{height_at, IsDataCell, IsNeighbour, IsEnd}
@@ -9,27 +10,30 @@ use Rattle.cell_floods.specs.Cells.{last_of}
 use Rattle.cell_floods.specs.Labels.{LabelTable, IsTable, labels_by}
 use Rattle.tiles.specs.Cutting.{Cutting, IsWithinLimits, tile_of_place, bounds_of, is_on_rim, entry_in, IsInTile, cell_count}
 
--- A data cell on the rim of its tile, or an end cell.
+-- A source of a tile: a data cell on its rim, or an end cell.
 abbrev pub IsTileSource : Terrain → Cutting → Place → Type 0
 IsTileSource t c p = (IsDataCell t p × IsTrue (is_on_rim c p)) ⊎ IsEnd t p
 
--- A path that stays in one tile and ends at a source of it.
+-- A path that stays in one tile and ends at a source of the tile.
 abbrev pub IsTilePath : Terrain → Cutting → Place → List Place → Type 0
 IsTilePath t c p [] = IsTileSource t c p
-IsTilePath t c p (q ∷ rest) = IsNeighbour t p q × (tile_of_place c q ≡ tile_of_place c p) × IsTilePath t c q rest
+IsTilePath t c p (q ∷ rest) =
+    IsNeighbour t p q × (tile_of_place c q ≡ tile_of_place c p) × IsTilePath t c q rest
 
--- The level is the least crest of the paths in the tile, and the label ends a path of that crest. A
--- source whose level is its own height is its own label.
-pub record IsTileLevel (t : Terrain) (c : Cutting) (p : Place) (level : ℤ) (label : Place) : Type 0 where
-  pub reached : (rest : List Place) × IsTilePath t c p rest × (crest t p rest ≡ level) × (last_of p rest ≡ label)
+-- The level is the least crest of the paths in the tile, and a path of that crest ends at the
+-- label. A source whose level is its own height is its own label.
+pub record IsTileLevel (t : Terrain) (c : Cutting) (p : Place) (level : ℤ)
+    (label : Place) : Type 0 where
+  pub reached : (rest : List Place) × IsTilePath t c p rest × (crest t p rest ≡ level)
+      × (last_of p rest ≡ label)
   pub least : (rest : List Place) → IsTilePath t c p rest → level ≤ℤ crest t p rest
   pub own : IsTileSource t c p → height_at t p ≡ Some level → label ≡ p
 
--- The height where the place is an end cell, and None where it is none.
+-- The height of an end cell, and None at any other place.
 abbrev pub IsEndHeight : Terrain → Place → Option ℤ → Type 0
 IsEndHeight t p end = MatchOption end (IsEnd t p → ⊥) (λ h. IsEnd t p × (height_at t p ≡ Some h))
 
--- For each entry of a table of labels its height, where the entry is a place and that an end cell.
+-- The height of each label of the table that is an end cell, and None for any other entry.
 pub record AreEndHeights (t : Terrain) (places : List (Option Place)) (ends : List (Option ℤ))
     : Type 0 where
   pub size : length ends ≡ length places
@@ -37,8 +41,7 @@ pub record AreEndHeights (t : Terrain) (places : List (Option Place)) (ends : Li
   pub each : (k : ℕ) (p : Place)
       → slice_index_or places k None ≡ Some p → IsEndHeight t p (slice_index_or ends k None)
 
--- The bounds of a tile, its levels and labels in its row order, the table of its labels, and the
--- heights of those that are end cells.
+-- A tile's bounds; levels and labels in its row order; the table of labels; their end heights.
 pub record Flood : Type 0 where
   pub bounds : Bounds
   pub levels : List (Option ℤ)
@@ -46,13 +49,14 @@ pub record Flood : Type 0 where
   pub table : LabelTable
   pub ends : List (Option ℤ)
 
--- The levels of cells, of their labels and heights: a cell without a label has none.
+-- The level of each cell: its height, None for a cell without a label.
 abbrev pub levels_where : List (Option Place) → List ℤ → List (Option ℤ)
 levels_where [] heights = []
 levels_where (label ∷ labels) [] = []
-levels_where (label ∷ labels) (height ∷ heights) = option_map (λ _. height) label ∷ levels_where labels heights
+levels_where (label ∷ labels) (height ∷ heights) =
+    option_map (λ _. height) label ∷ levels_where labels heights
 
--- The flood with these heights, labels and heights of end cells.
+-- The flood with these bounds, heights, labels and heights of end cells.
 abbrev pub flood_of : Bounds → List ℤ → LabelTable → List (Option ℤ) → Flood
 flood_of b heights table ends =
     let labels = labels_by table.places table.indexes in
@@ -64,13 +68,15 @@ flood_of b heights table ends =
       ends = ends;
     }
 
+-- The level at a place, None outside the tile.
 abbrev pub level_in : Flood → Place → Option ℤ
 level_in f p = entry_in f.bounds f.levels p
 
+-- The label at a place, None outside the tile.
 abbrev pub label_in : Flood → Place → Option Place
 label_in f p = entry_in f.bounds f.labels p
 
--- What holds of every flood of a tile.
+-- What holds of each `TileFlood`: a table of labels, and levels and labels for all cells.
 pub record IsFlood (f : Flood) : Type 0 where
   pub labels : f.labels ≡ labels_by f.table.places f.table.indexes
   pub table : IsTable f.table.places f.table.indexes
@@ -78,12 +84,13 @@ pub record IsFlood (f : Flood) : Type 0 where
   pub levels_size : length f.levels ≡ f.bounds.rows * f.bounds.cols
   pub labels_size : length f.labels ≡ f.bounds.rows * f.bounds.cols
 
--- Each data cell of the tile has its level and label, and a cell without data neither.
+-- The flood of a tile: each data cell has its level and label, and a cell without data has neither.
 pub record IsTileFlood (t : Terrain) (c : Cutting) (tile : ℕ) (f : Flood) : Type 0 where
   pub bounds : f.bounds ≡ bounds_of c tile
   pub levels_size : length f.levels ≡ cell_count c tile
   pub labels_size : length f.labels ≡ cell_count c tile
   pub each : (p : Place) → IsInTile c tile p →
       MatchOption (height_at t p) ((level_in f p ≡ None) × (label_in f p ≡ None))
-      (λ _. (level : ℤ) × (label : Place) × (level_in f p ≡ Some level) × (label_in f p ≡ Some label) × IsTileLevel t c p level label)
+      (λ _. (level : ℤ) × (label : Place) × (level_in f p ≡ Some level)
+      × (label_in f p ≡ Some label) × IsTileLevel t c p level label)
   pub ends : AreEndHeights t f.table.places f.ends

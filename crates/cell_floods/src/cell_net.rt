@@ -1,18 +1,18 @@
 //! A rectangle of cells as a net: [`CellNet`].
 //!
-//! A border of gaps gives each cell eight cells around it. A cell with a gap around it is a source,
-//! as edge cells and rim cells are.
+//! A border of gaps gives each cell eight cells around it. It makes rim cells sources, as gaps make
+//! edge cells sources.
 ghost use Rattle.std.specs.Prelude.{◌≡◌, None, ◌+◌, ◌-◌, ◌*◌, ◌^◌, ◌<◌, ◌≤◌, ◌∷◌, ◌++◌, ◌↔◌, [], EachIndex, IsSome, IsTrue, length, All, IfOk, OnOk, is_none, slice_index_or, replicate};
 ghost use Rattle.std.specs.List.{list_any, filter_map, cons_option};
 ghost use Rattle.std.specs.Bool.{OnTrue};
 ghost use Rattle.floods.specs.Walk.{HasNoSource};
-ghost use Rattle.floods.specs.Flood.{waiting_in, InOrder, Follows, AreNoted};
+ghost use Rattle.floods.specs.Flood.{candidates_in, InOrder, Follows, AreNoted};
 ghost use Rattle.terrain.specs.Sinks.{with_sinks};
 ghost use Rattle.cell_floods.specs.Cells.{Cells, cells_around, way_to, whole, IsNetOf, IsCellJoin, IsPassed, source_of, AreAllThere, bordered_rows, inner_rows, row_of};
 ghost use Rattle.tiles.specs.Cutting.{bounds_of, row_shown, terrain_of};
 
 use crate::sinks::{is_sink, window_sinks};
-use floods::{HeightList, Net, NodeLabels, Spill, Waiting, Waits, push_way};
+use floods::{Candidate, HeightList, Net, NodeLabels, Queue, Spill, queue_neighbour};
 use smallvec::SmallVec;
 use std::alloc::{AllocError, Global};
 use std::cmp::Reverse;
@@ -20,9 +20,9 @@ use std::marker::Model;
 use terrain::{Cell, Grid, Height, NO_DATA, NoMemory, Place};
 use tiles::{Bounds, TileView};
 
-/// The cells of a rectangle with a border of cells without data around them, so that each cell of
-/// the rectangle has eight around it. Data cells beside each other are joined at the greater of
-/// their heights, and a data cell that has a gap around it or is a sink is a source.
+/// A rectangle of cells as a net, with a border of cells without data.
+/// Neighbouring data cells are joined at the greater of their heights. A data cell with a gap
+/// around it is a source, and so is a sink.
 #[derive(Drop)]
 pub struct CellNet {
     stride: u32,
@@ -35,15 +35,17 @@ impl Model for CellNet {
 
     ghost Value = { Cells };
 
-    ghost view = { λ n. record { stride = n.stride; cells = n.cells.items; sinks = n.sinks.items } };
+    ghost view = { λ n.
+        record { stride = n.stride; cells = n.cells.items; sinks = n.sinks.items } };
 
-    ghost invariant = { λ n. IsBordered (record { stride = n.stride; cells = n.cells.items; sinks = n.sinks.items }) };
+    ghost invariant = { λ n. IsBordered
+        (record { stride = n.stride; cells = n.cells.items; sinks = n.sinks.items }) };
 }
 
-/// So many cells of a row at a time are passed over where they and all cells around them have data.
+/// The length of a run of nodes, which is skipped at once if none is a source.
 const RUN: u32 = 16;
 
-/// The eight cells around one that is not on the border.
+/// Returns the eight nodes around one that is not on the border.
 #[inline(always)]
 fn around(stride: u32, node: u32) -> [u32; 8]
     requires above { stride < node }
@@ -64,7 +66,7 @@ fn around(stride: u32, node: u32) -> [u32; 8]
     ]
 }
 
-/// Whether a cell has no data.
+/// Returns whether a node has no data.
 #[inline(always)]
 fn is_gap(cells: &[Cell], node: u32) -> bool
     requires { node < length cells.now }
@@ -73,7 +75,7 @@ fn is_gap(cells: &[Cell], node: u32) -> bool
     cells[node as usize].height().is_none()
 }
 
-/// Whether one of these cells has no data.
+/// Returns whether one of these nodes has no data.
 #[inline(always)]
 fn any_gap(cells: &[Cell], around: &[u32; 8]) -> bool
     requires { All (λ b. b < length cells.now) around.now }
@@ -82,7 +84,7 @@ fn any_gap(cells: &[Cell], around: &[u32; 8]) -> bool
     around.iter().any(|&node| is_gap(cells, node))
 }
 
-/// The way from a cell of this height to another one, where that has data.
+/// Returns the way from a cell of this height to node `to`; `None` without data.
 #[inline(always)]
 fn way_to(cells: &[Cell], height: Height, to: u32) -> Option<Spill>
     requires { to < length cells.now }
@@ -95,7 +97,7 @@ fn way_to(cells: &[Cell], height: Height, to: u32) -> Option<Spill>
     })
 }
 
-/// The ways from a cell of this height to those of the cells around it that have data.
+/// Returns the ways from a cell of this height to those of `around` with data.
 fn ways_to(alloc: Global, cells: &[Cell], height: Height, around: [u32; 8]) -> SmallVec<Spill, 8>
     requires { All (λ b. b < length cells.now) around }
     ensures { result.items ≡ filter_map (way_to cells.now height) around }
@@ -109,118 +111,124 @@ fn ways_to(alloc: Global, cells: &[Cell], height: Height, around: [u32; 8]) -> S
     ways
 }
 
-/// Makes the cell at the end of a way wait, where it has no label yet and does not wait as low. It stands apart, so that what is
-/// asked of each of the eight cells around stays short.
+/// Out-of-line copy of [`queue_neighbour`], to keep the hot path small.
 #[inline(never)]
-fn push_way_apart(
-    waits: &mut Waits,
+fn queue_neighbour_out_of_line(
+    queue: &mut Queue,
     way: Spill,
-    from: &Waiting,
+    from: &Candidate,
     labels: &NodeLabels,
     levels: &mut HeightList,
 ) -> Result<(), AllocError>
-    requires order { InOrder waits.old }
+    requires order { InOrder queue.old }
     requires inside { way.to < length labels.now }
-    requires noted { AreNoted labels.now levels.old (waiting_in waits.old) }
-    ensures { OnOk result (Follows labels.now from.now (way ∷ []) levels.old levels.new waits.old waits.new) }
+    requires noted { AreNoted labels.now levels.old (candidates_in queue.old) }
+    ensures { OnOk result
+        (Follows labels.now from.now (way ∷ []) levels.old levels.new queue.old queue.new) }
 {
-    push_way(waits, way, from, labels, levels)
+    queue_neighbour(queue, way, from, labels, levels)
 }
 
-/// Whether a cell has no data, or is noted no higher than the greater of its own height and this one.
+/// Returns whether a neighbour needs no queueing.
+/// It has no data, or `noted` is at most the greater of its height and `top`.
 #[inline(always)]
 fn is_passed(cell: Cell, top: Height, noted: Height) -> bool
     ensures { OnTrue result (IsPassed cell top noted) }
 {
     let number = cell.number();
-    // No data stands above all heights, so that one comparison tells both. The others always hold, and are here for
-    // the proof: no height stands for no data.
+    // The number of no data is above all heights, so the last comparison covers both cases. The
+    // others always hold: they give the prover that no height is the number of no data.
     top < NO_DATA && Cell::of(number) == cell && noted <= number.max(top)
 }
 
-/// Makes one of the cells around a cell of this height wait, where it has data and no label yet and does not wait as low.
+/// Queues the cell `to` unless it has no data, a label or a crest as low.
 #[inline(always)]
 fn push_cell(
-    waits: &mut Waits,
+    queue: &mut Queue,
     cells: &[Cell],
     to: u32,
     height: Height,
-    from: &Waiting,
+    from: &Candidate,
     labels: &NodeLabels,
     levels: &mut HeightList,
 ) -> Result<(), AllocError>
-    requires order { InOrder waits.old }
+    requires order { InOrder queue.old }
     requires cell { to < length cells.now }
     requires inside { to < length labels.now }
-    requires noted { AreNoted labels.now levels.old (waiting_in waits.old) }
-    ensures { OnOk result (Follows labels.now from.now (cons_option (way_to cells.now height to) []) levels.old levels.new waits.old waits.new) }
+    requires noted { AreNoted labels.now levels.old (candidates_in queue.old) }
+    ensures { OnOk result (Follows labels.now from.now (cons_option (way_to cells.now height to) [])
+        levels.old levels.new queue.old queue.new) }
 {
     let Reverse(level) = from.height;
     let noted = levels.heights()[to as usize];
-    // Most cells around are passed.
+    // Most neighbours return here.
     if is_passed(cells[to as usize], height.max(level), noted) {
         return Ok(());
     }
     let Some(way) = way_to(cells, height, to) else {
         return Ok(());
     };
-    push_way_apart(waits, way, from, labels, levels)
+    queue_neighbour_out_of_line(queue, way, from, labels, levels)
 }
 
-/// Makes those of three cells side by side wait that have data and no label yet and do not wait as low.
+/// Queues three cells side by side, each as [`push_cell`] does.
 #[inline(always)]
 fn push_three(
-    waits: &mut Waits,
+    queue: &mut Queue,
     cells: &[Cell],
     middle: u32,
     height: Height,
-    from: &Waiting,
+    from: &Candidate,
     labels: &NodeLabels,
     levels: &mut HeightList,
 ) -> Result<(), AllocError>
-    requires order { InOrder waits.old }
+    requires order { InOrder queue.old }
     requires some { 0 < middle }
     requires cells { middle + 1 < length cells.now }
     requires inside { length labels.now ≡ length cells.now }
     requires few { length cells.now < 2 ^ 32 }
-    requires noted { AreNoted labels.now levels.old (waiting_in waits.old) }
-    ensures { OnOk result (Follows labels.now from.now (filter_map (way_to cells.now height) ((middle - 1) ∷ middle ∷ (middle + 1) ∷ [])) levels.old levels.new waits.old waits.new) }
+    requires noted { AreNoted labels.now levels.old (candidates_in queue.old) }
+    ensures { OnOk result (Follows labels.now from.now
+        (filter_map (way_to cells.now height) ((middle - 1) ∷ middle ∷ (middle + 1) ∷ []))
+        levels.old levels.new queue.old queue.new) }
 {
-    push_cell(waits, cells, middle - 1, height, from, labels, levels)?;
-    push_cell(waits, cells, middle, height, from, labels, levels)?;
-    push_cell(waits, cells, middle + 1, height, from, labels, levels)?;
+    push_cell(queue, cells, middle - 1, height, from, labels, levels)?;
+    push_cell(queue, cells, middle, height, from, labels, levels)?;
+    push_cell(queue, cells, middle + 1, height, from, labels, levels)?;
     Ok(())
 }
 
-/// Makes those of the cells around a cell of this height wait that have data and no label yet and do not wait as low. No loop
-/// goes over them, since each has a test of its own then, which a processor foresees better.
+/// Queues the eight cells around `from.node`, each as [`push_cell`] does.
+/// Eight calls, not a loop: the processor then predicts the branch of each call by itself.
 #[inline(always)]
 fn push_around(
-    waits: &mut Waits,
+    queue: &mut Queue,
     cells: &[Cell],
     stride: u32,
     height: Height,
-    from: &Waiting,
+    from: &Candidate,
     labels: &NodeLabels,
     levels: &mut HeightList,
 ) -> Result<(), AllocError>
-    requires order { InOrder waits.old }
+    requires order { InOrder queue.old }
     requires above { stride < from.now.node }
     requires below { from.now.node + stride + 1 < length cells.now }
     requires few { length cells.now < 2 ^ 32 }
     requires inside { length labels.now ≡ length cells.now }
-    requires noted { AreNoted labels.now levels.old (waiting_in waits.old) }
-    ensures { OnOk result (Follows labels.now from.now (filter_map (way_to cells.now height) (cells_around stride from.now.node)) levels.old levels.new waits.old waits.new) }
+    requires noted { AreNoted labels.now levels.old (candidates_in queue.old) }
+    ensures { OnOk result (Follows labels.now from.now
+        (filter_map (way_to cells.now height) (cells_around stride from.now.node)) levels.old
+        levels.new queue.old queue.new) }
 {
     let node = from.node;
-    push_three(waits, cells, node - stride, height, from, labels, levels)?;
-    push_cell(waits, cells, node - 1, height, from, labels, levels)?;
-    push_cell(waits, cells, node + 1, height, from, labels, levels)?;
-    push_three(waits, cells, node + stride, height, from, labels, levels)?;
+    push_three(queue, cells, node - stride, height, from, labels, levels)?;
+    push_cell(queue, cells, node - 1, height, from, labels, levels)?;
+    push_cell(queue, cells, node + 1, height, from, labels, levels)?;
+    push_three(queue, cells, node + stride, height, from, labels, levels)?;
     Ok(())
 }
 
-/// Whether all of these cells have data.
+/// Returns whether all of these cells have data.
 #[inline(always)]
 pub(crate) fn have_data(cells: &[Cell]) -> bool
     ensures { IsTrue result ↔ EachIndex cells.now (λ k. IsSome (slice_index_or cells.now k None)) }
@@ -228,9 +236,9 @@ pub(crate) fn have_data(cells: &[Cell]) -> bool
     cells.iter().all(|cell| cell.height().is_some())
 }
 
-/// Whether so many cells from a first one on have data.
+/// Returns whether `count` cells, from index `first` on, have data.
 #[inline(always)]
-fn are_there(cells: &[Cell], first: usize, count: usize) -> bool
+fn have_data_from(cells: &[Cell], first: usize, count: usize) -> bool
     requires { first + count ≤ length cells.now }
     ensures { IsTrue result ↔ AreAllThere cells.now first (first + count) }
 {
@@ -238,8 +246,8 @@ fn are_there(cells: &[Cell], first: usize, count: usize) -> bool
 }
 
 impl CellNet {
-    /// Whether the cells of a run from this one on and all cells around them have data, in a net
-    /// without sinks: then none of the run is a source.
+    /// Returns `true` only if none of the [`RUN`] nodes from `node` on is a source.
+    /// Tests that the net has no sinks, and that these nodes and all around them have data.
     #[inline]
     fn is_run_with_data(&self, node: u32) -> bool
         ensures few { length self.now.cells < 2 ^ 32 }
@@ -252,9 +260,9 @@ impl CellNet {
         self.sinks.is_empty()
             && stride < first
             && first + stride + count <= self.cells.len() + 1
-            && are_there(&self.cells, first - stride - 1, count)
-            && are_there(&self.cells, first - 1, count)
-            && are_there(&self.cells, first + stride - 1, count)
+            && have_data_from(&self.cells, first - stride - 1, count)
+            && have_data_from(&self.cells, first - 1, count)
+            && have_data_from(&self.cells, first + stride - 1, count)
     }
 }
 
@@ -299,8 +307,8 @@ impl Net for CellNet {
     fn spread(
         &self,
         _alloc: Global,
-        waits: &mut Waits,
-        from: &Waiting,
+        queue: &mut Queue,
+        from: &Candidate,
         labels: &NodeLabels,
         levels: &mut HeightList,
     ) -> Result<(), NoMemory> {
@@ -308,7 +316,7 @@ impl Net for CellNet {
             return Ok(());
         };
         push_around(
-            waits,
+            queue,
             &self.cells,
             self.stride,
             height,
@@ -329,7 +337,7 @@ impl Net for CellNet {
         }
     }
 
-    /// Runs begin at each RUN-th node alone: so a gap is not met again from each node before it.
+    /// Tests runs from multiples of [`RUN`] alone, so that each gap fails few tests.
     #[inline]
     fn next_candidate(&self, from: u32) -> u32 {
         let mut node = from;
@@ -340,7 +348,7 @@ impl Net for CellNet {
     }
 }
 
-/// Adds so many cells without data.
+/// Adds `count` cells without data.
 fn push_gaps(list: &mut Vec<Cell>, count: usize) -> Result<(), AllocError>
     ensures { OnOk result (list.new.items ≡ list.old.items ++ replicate count None) }
 {
@@ -361,8 +369,13 @@ fn push_row(list: &mut Vec<Cell>, row: &[Cell]) -> Result<(), AllocError>
     Ok(())
 }
 
-/// The rows of a list in row order, with a border.
-fn bordered(alloc: Global, cells: &[Cell], cols: u32, rows: u32) -> Result<Vec<Cell>, AllocError>
+/// Returns the rows of a list with a border of cells without data.
+fn bordered_list(
+    alloc: Global,
+    cells: &[Cell],
+    cols: u32,
+    rows: u32,
+) -> Result<Vec<Cell>, AllocError>
     requires size { length cells.now ≡ cols * rows }
     requires few_cols { cols ≤ 4096 }
     requires few_rows { rows ≤ 4096 }
@@ -380,7 +393,7 @@ fn bordered(alloc: Global, cells: &[Cell], cols: u32, rows: u32) -> Result<Vec<C
     Ok(list)
 }
 
-/// The rows of a tile, with a border.
+/// Returns the rows of a tile with a border of cells without data.
 fn bordered_tile(alloc: Global, view: &TileView<'_, Cell>) -> Result<Vec<Cell>, AllocError>
     ensures { let b = bounds_of view.now.cutting view.now.tile in
         IfOk result (λ v. v.items ≡ bordered_rows (row_shown view.now) (b.cols + 2) b.rows) }
@@ -397,7 +410,14 @@ fn bordered_tile(alloc: Global, view: &TileView<'_, Cell>) -> Result<Vec<Cell>, 
 }
 
 impl CellNet {
-    /// The whole grid as a net.
+    /// Makes the net of a whole grid, with the grid's sinks.
+    ///
+    /// # Examples
+    ///
+    /// ```ignore
+    /// let net = CellNet::of_grid(alloc, &grid)?;
+    /// let Flooded { level, label } = flood(alloc, &net)?;
+    /// ```
     pub fn of_grid(alloc: Global, grid: &Grid) -> Result<CellNet, NoMemory>
         ensures { IfOk result (IsNetOf grid.now.terrain (whole grid.now.terrain)) }
     {
@@ -407,7 +427,7 @@ impl CellNet {
             rows: grid.rows(),
             cols: grid.cols(),
         };
-        let cells = bordered(alloc, grid.cells(), bounds.cols, bounds.rows)?;
+        let cells = bordered_list(alloc, grid.cells(), bounds.cols, bounds.rows)?;
         let sinks = window_sinks(alloc, bounds, grid.sinks())?;
         Ok(CellNet {
             stride: bounds.cols + 2,
@@ -416,13 +436,14 @@ impl CellNet {
         })
     }
 
-    /// A tile as a net of its own, with those of these sinks that lie in it.
+    /// Makes the net of a tile, with those of `sinks` that lie in the tile.
     pub fn of_view(
         alloc: Global,
         view: &TileView<'_, Cell>,
         sinks: &[Place],
     ) -> Result<CellNet, NoMemory>
-        ensures { IfOk result (IsNetOf (with_sinks (terrain_of view.now) sinks.now) (bounds_of view.now.cutting view.now.tile)) }
+        ensures { IfOk result (IsNetOf (with_sinks (terrain_of view.now) sinks.now)
+            (bounds_of view.now.cutting view.now.tile)) }
     {
         let bounds = view.bounds();
         let cells = bordered_tile(alloc, view)?;
@@ -436,7 +457,7 @@ impl CellNet {
 }
 
 impl CellNet {
-    /// Which cells are sinks, once the net has been flooded.
+    /// Frees the net but for the list of its sinks, and returns that list.
     pub(crate) fn into_sinks(self) -> Vec<bool>
         ensures { result.items ≡ self.sinks }
     {
@@ -444,7 +465,8 @@ impl CellNet {
     }
 }
 
-/// The entries of a [`CellNet`] inside its border of gaps, in row order: those of its `rows` times `cols` cells.
+/// Returns the entries inside the border of a [`CellNet`]'s list, in row order.
+/// `cols` and `rows` are the size of the rectangle without its border.
 pub(crate) fn without_border<T: Copy>(
     alloc: Global,
     list: &[T],

@@ -1,6 +1,6 @@
-//! Which labels of a tile are end cells: edge cells and named sinks.
+//! Which labels of a tile are end cells: edge cells and sinks.
 //!
-//! A tile's view shows the cells around its rim, so no other tile is asked.
+//! A tile's view includes the cells around its rim, so no other tile is read.
 ghost use Rattle.std.specs.Prelude.{◌≡◌, ◌↔◌, ◌⊎◌, ◌<◌, IsTrue, IfOk, IfSome, List, None, Some, Contains};
 ghost use Rattle.std.specs.List.{All};
 ghost use Rattle.terrain.specs.Neighbours.{HasGapAround};
@@ -16,7 +16,7 @@ use std::alloc::{AllocError, Global};
 use terrain::{Cell, Place};
 use tiles::TileView;
 
-/// Whether one of the eight places around a cell of the tile is off the grid or has no data.
+/// Returns whether a place around a cell is off the grid or has no data.
 fn has_gap(view: &TileView<'_, Cell>, cell: Place) -> bool
     requires cell { IsInBounds (bounds_of view.now.cutting view.now.tile) cell }
     requires few { (cell.row < 4096) × (cell.col < 4096) }
@@ -36,7 +36,7 @@ fn has_gap(view: &TileView<'_, Cell>, cell: Place) -> bool
     false
 }
 
-/// Whether a place of the tile has a gap around it or is a sink.
+/// Returns whether a place of the tile has a gap around it or is a sink.
 #[inline]
 fn is_end(view: &TileView<'_, Cell>, sinks: &[bool], place: Place) -> bool
     requires { IsInBounds (bounds_of view.now.cutting view.now.tile) place }
@@ -51,7 +51,7 @@ fn is_end(view: &TileView<'_, Cell>, sinks: &[bool], place: Place) -> bool
     is_sink(sinks, node as u32)
 }
 
-/// The cell of a label that is an end cell, and one without data for any other label.
+/// Returns the cell of a label that is an end cell; for others, one without data.
 #[inline]
 fn end_height(view: &TileView<'_, Cell>, sinks: &[bool], label: Option<Place>) -> Cell
     requires { IfSome label (IsInBounds (bounds_of view.now.cutting view.now.tile)) }
@@ -73,7 +73,7 @@ fn end_height(view: &TileView<'_, Cell>, sinks: &[bool], label: Option<Place>) -
     }
 }
 
-/// The height of each label that is an end cell, in the order of the labels' table.
+/// Returns the height of each label that is an end cell, in table order.
 pub(crate) fn end_heights(
     alloc: Global,
     view: &TileView<'_, Cell>,

@@ -11,10 +11,10 @@ use std::marker::Model;
 use terrain::Place;
 use tiles::Bounds;
 
-/// The index of the cells without a label: the first entry of the table.
+/// The index of cells without a label: the first entry of the table, `None`.
 const NO_LABEL: u32 = 0;
 
-/// The labels of the cells of a tile, each once, and for each cell which of them is its own.
+/// The labels of a tile's cells: a table of places, and each cell's index into it.
 #[derive(Drop)]
 pub struct Labels {
     places: Vec<Option<Place>>,
@@ -31,7 +31,7 @@ impl Model for Labels {
 }
 
 impl Labels {
-    /// The labels that cells of the tile have, each once. The first entry is None, for the cells without data.
+    /// The table: `None` for cells without data, then each label of the tile once.
     #[inline(always)]
     pub fn places(&self) -> &[Option<Place>]
         ensures value { result.now ≡ self.now.places }
@@ -40,7 +40,7 @@ impl Labels {
         &self.places
     }
 
-    /// The index of each cell's label among the places, in the tile's row order.
+    /// The index of each cell's label in the table, in the tile's row order.
     #[inline(always)]
     pub fn indexes(&self) -> &[u32]
         ensures { result.now ≡ self.now.indexes }
@@ -48,16 +48,17 @@ impl Labels {
         &self.indexes
     }
 
-    /// Whether the cell with this index in the tile's row order has a label. Its place is not looked up.
+    /// Returns whether the cell at an index has a label, without reading the table.
     #[inline(always)]
     pub(crate) fn has(&self, index: usize) -> bool
         requires { index < length self.now.indexes }
-        ensures { result ≡ is_some (slice_index_or (labels_by self.now.places self.now.indexes) index None) }
+        ensures { result
+            ≡ is_some (slice_index_or (labels_by self.now.places self.now.indexes) index None) }
     {
         self.indexes[index] != NO_LABEL
     }
 
-    /// The label of the cell with this index in the tile's row order.
+    /// Returns the label of the cell at an index of the tile's row order.
     #[inline(always)]
     pub(crate) fn at(&self, index: usize) -> Option<Place>
         requires { index < length self.now.indexes }
@@ -67,7 +68,7 @@ impl Labels {
     }
 }
 
-/// The place of a node of the tile's net.
+/// Returns the place of a node of the tile's net.
 #[inline(always)]
 fn place_of(bounds: Bounds, node: u32) -> Place
     requires { (bounds.top ≤ 4096) × (bounds.left ≤ 4096) × (bounds.cols ≤ 4096) }
@@ -80,8 +81,8 @@ fn place_of(bounds: Bounds, node: u32) -> Place
     }
 }
 
-/// Where the place of a node stands in the table; it is added when the node is met first. `met` has this
-/// index for each node that was met, and 0 for the others.
+/// Returns the index of a node's place in the table; adds the place if it is new.
+/// `met` has this index for each node met before, and 0 for the others.
 #[inline(always)]
 fn index_of_label(
     places: &mut Vec<Option<Place>>,
@@ -94,7 +95,8 @@ fn index_of_label(
     requires node { IfSome node (λ a. a < length met.old) }
     requires first { slice_index_or places.old.items 0 None ≡ None }
     requires met { AreMet bounds met.old places.old.items }
-    ensures index { IfOk result (λ index. IsListedAt index (label_of_node bounds node) places.old.items places.new.items) }
+    ensures index { IfOk result (λ index.
+        IsListedAt index (label_of_node bounds node) places.old.items places.new.items) }
     ensures met { OnOk result (AreMet bounds met.new places.new.items) }
 {
     let Some(node) = node else {
@@ -110,7 +112,7 @@ fn index_of_label(
     Ok(index)
 }
 
-/// A table of labels with no place yet, with room for those of all cells on the rim.
+/// Makes a table of `None` alone, with room for a label at each rim cell.
 fn empty_table(alloc: Global, bounds: Bounds) -> Result<Vec<Option<Place>>, AllocError>
     requires { IsWithinLimits bounds }
     ensures { IfOk result (λ v. v.items ≡ None ∷ []) }
@@ -121,14 +123,16 @@ fn empty_table(alloc: Global, bounds: Bounds) -> Result<Vec<Option<Place>>, Allo
     Ok(places)
 }
 
-/// The table of a tile's labels. `nodes` has for each cell the node that is its label in the tile's net, or what stands for none
-/// ([`label_of`]).
+/// Makes the table of a tile's labels.
+/// `nodes` has each cell's label as a node of the tile's net, as [`label_of`] decodes it.
 pub(crate) fn labels_of(alloc: Global, bounds: Bounds, nodes: &[u32]) -> Result<Labels, AllocError>
     requires limits { IsWithinLimits bounds }
     requires size { length nodes.now ≡ bounds.rows * bounds.cols }
-    requires nodes { AreNodesBelow ((bounds.rows + 2) * (bounds.cols + 2)) (numbered_labels nodes.now) }
+    requires nodes { AreNodesBelow ((bounds.rows + 2) * (bounds.cols + 2))
+        (numbered_labels nodes.now) }
     ensures labels { IfOk result (λ labels.
-        labels_by labels.places labels.indexes ≡ map (label_of_node bounds) (numbered_labels nodes.now)) }
+        labels_by labels.places labels.indexes
+        ≡ map (label_of_node bounds) (numbered_labels nodes.now)) }
     ensures table { IfOk result (λ labels. IsTable labels.places labels.indexes) }
 {
     let count = (bounds.rows as usize + 2) * (bounds.cols as usize + 2);

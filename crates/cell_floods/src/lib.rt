@@ -1,15 +1,15 @@
-//! Cells of a grid or a tile as a net, and their floods.
+//! The cells of a tile or a grid as a net, and the flood of that net.
 //!
 //! [`tile_flood`] floods one tile, [`filled_heights`] a whole grid at once. Depends on `floods` and
 //! `tiles`.
 //!
-//! Modules, from what is called to what it depends on:
+//! Modules, callers first:
 //!
 //! - `tile`: the flood of one tile
 //! - `whole`: the flood of a whole grid
 //! - `cell_net`: a rectangle of cells as a net
-//! - `sinks`: sinks of a window
-//! - `labels`: a tile's table of labels
+//! - `sinks`: the sinks in a rectangle of cells
+//! - `labels`: the table of a tile's labels
 //! - `ends`: which labels are end cells
 #![tactic(auto)]
 

@@ -1,4 +1,4 @@
-//! Which cells of a window are named sinks.
+//! Which cells of a rectangle are sinks.
 ghost use Rattle.std.specs.Prelude.{◌≡◌, ◌<◌, ◌+◌, ◌*◌, false, IfOk};
 ghost use Rattle.std.specs.List.{list_any};
 ghost use Rattle.tiles.specs.Cutting.{IsInBounds, IsWithinLimits, is_in_bounds};
@@ -8,7 +8,7 @@ use std::alloc::{AllocError, Global};
 use terrain::Place;
 use tiles::Bounds;
 
-/// Whether a node is a sink, of those of [`window_sinks`].
+/// Returns whether a node is a sink, by the list of [`window_sinks`].
 #[inline(always)]
 pub(crate) fn is_sink(sinks: &[bool], node: u32) -> bool
     ensures { result ≡ is_sink sinks.now node }
@@ -16,7 +16,7 @@ pub(crate) fn is_sink(sinks: &[bool], node: u32) -> bool
     sinks.get(node as usize).copied().unwrap_or(false)
 }
 
-/// Whether one of these places lies in the bounds.
+/// Returns whether one of these places lies in the bounds.
 fn is_any_in(bounds: Bounds, places: &[Place]) -> bool
     requires { IsWithinLimits bounds }
     ensures { result ≡ list_any (is_in_bounds bounds) places.now }
@@ -24,7 +24,7 @@ fn is_any_in(bounds: Bounds, places: &[Place]) -> bool
     places.iter().any(|&place| bounds.contains(place))
 }
 
-/// The number of the node of a place, among the cells of the bounds and their border.
+/// Returns the node of a place, among the cells of the bounds and their border.
 pub(crate) fn node_in(bounds: Bounds, place: Place) -> usize
     requires limits { IsWithinLimits bounds }
     requires inside { IsInBounds bounds place }
@@ -36,7 +36,8 @@ pub(crate) fn node_in(bounds: Bounds, place: Place) -> usize
     row * (bounds.cols as usize + 2) + col
 }
 
-/// For each cell of the bounds and their border whether it is one of these places, or an empty list where none is.
+/// Returns for each node whether it is one of these places.
+/// The nodes are the cells of the bounds and their border. The list is empty if none is.
 pub(crate) fn window_sinks(
     alloc: Global,
     bounds: Bounds,

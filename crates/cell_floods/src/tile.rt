@@ -1,7 +1,7 @@
 //! The flood of one tile: [`tile_flood`].
 //!
-//! A cell's level is the least crest of its paths inside the tile, and its label where such a path
-//! ends: at an end cell or on the rim.
+//! A cell's level is the least crest of its paths inside the tile. Its label is where a path of
+//! that crest ends: at an end cell or on the rim.
 ghost use Rattle.std.specs.Prelude.{◌≡◌, IfOk, length, true, false, MatchOption, None, is_none, slice_index_or, ◌<◌};
 ghost use Rattle.terrain.specs.Sinks.{with_sinks};
 ghost use Rattle.tiles.specs.Cutting.{terrain_of, is_in_bounds, index_in};
@@ -17,15 +17,16 @@ use std::marker::Model;
 use terrain::{Cell, Height, NoMemory, Place};
 use tiles::{Bounds, TileView};
 
-/// The level of each cell of a tile, which is the least crest of the paths that stay in the tile and end on its rim or at an
-/// end cell, and its label, the place where such a path ends. Both are in the tile's row order.
+/// The level and the label of each cell of a tile, in the tile's row order.
+/// A level, in units, is the least crest of the cell's paths inside the tile. Paths end on the
+/// tile's rim or at an end cell. The label is the place where a path of that crest ends.
 #[derive(Drop)]
 pub struct TileFlood {
     bounds: Bounds,
-    /// The level of each cell that has a label.
+    /// An entry for each cell: its level, if it has a label.
     heights: Vec<Height>,
     labels: Labels,
-    /// The height of each label that is an end cell, and no data for any other label.
+    /// The height of each label that is an end cell, and no data for any other.
     ends: Vec<Cell>,
     ghost whole: { length heights.items ≡ length labels.indexes },
 }
@@ -50,7 +51,7 @@ impl TileFlood {
         self.bounds
     }
 
-    /// The level at a place, None outside the tile and where there is no data.
+    /// Returns the level at a place; `None` outside the tile and without data.
     #[inline]
     pub fn level(&self, place: Place) -> Option<Height>
         ensures { result ≡ level_in self.now place }
@@ -59,7 +60,7 @@ impl TileFlood {
         self.level_at(index)
     }
 
-    /// The label at a place, None outside the tile and where there is no data: just where there is no level.
+    /// Returns the label at a place; `None` exactly where there is no level.
     #[inline(always)]
     pub fn label(&self, place: Place) -> Option<Place>
         ensures value { result ≡ label_in self.now place }
@@ -69,10 +70,11 @@ impl TileFlood {
         self.label_at(index)
     }
 
-    /// Where a place stands in the tile's row order, None outside the tile.
+    /// Returns a place's index in the tile's row order; `None` outside the tile.
     #[inline(always)]
     pub fn index_of(&self, place: Place) -> Option<usize>
-        ensures { MatchOption result (is_in_bounds self.now.bounds place ≡ false) (λ index. (is_in_bounds self.now.bounds place ≡ true)
+        ensures { MatchOption result (is_in_bounds self.now.bounds place ≡ false)
+            (λ index. (is_in_bounds self.now.bounds place ≡ true)
             × (index ≡ index_in self.now.bounds place) × (index < length self.now.labels)) }
     {
         if self.bounds.contains(place) {
@@ -82,7 +84,7 @@ impl TileFlood {
         }
     }
 
-    /// The level of the cell with this index in the tile's row order: None just where there is no label.
+    /// Returns the level at an index of the tile's row order; `None` without a label.
     #[inline(always)]
     pub fn level_at(&self, index: usize) -> Option<Height>
         requires { index < length self.now.labels }
@@ -96,7 +98,7 @@ impl TileFlood {
         }
     }
 
-    /// The label of the cell with this index in the tile's row order: None just where there is no level.
+    /// Returns the label at an index of the tile's row order; `None` without a level.
     #[inline(always)]
     pub fn label_at(&self, index: usize) -> Option<Place>
         requires { index < length self.now.labels }
@@ -106,7 +108,8 @@ impl TileFlood {
         self.labels.at(index)
     }
 
-    /// The levels of the tile's cells, in its row order. What stands for a cell without a label is no level.
+    /// The levels of the tile's cells, in its row order.
+    /// The entry of a cell without a label is not a level.
     #[inline(always)]
     pub fn heights(&self) -> &[Height]
         ensures levels { self.now.levels ≡ levels_where self.now.labels result.now }
@@ -115,7 +118,7 @@ impl TileFlood {
         &self.heights
     }
 
-    /// The labels of the tile's cells, by a table.
+    /// The labels of the tile's cells, as a table and each cell's index into it.
     #[inline(always)]
     pub fn labels(&self) -> &Labels
         ensures value { result.now ≡ self.now.table }
@@ -125,8 +128,8 @@ impl TileFlood {
         &self.labels
     }
 
-    /// The height of each label that is an end cell, and no data for any other, in the order of the
-    /// table.
+    /// The height of each label that is an end cell, in the order of the table.
+    /// Any other label has no data here.
     #[inline(always)]
     pub fn ends(&self) -> &[Cell]
         ensures value { result.now ≡ self.now.ends }
@@ -136,8 +139,17 @@ impl TileFlood {
     }
 }
 
-/// The least crest of each cell's paths in the tile, and where a path of that crest ends: on the rim, at an edge cell, or at one
-/// of these sinks.
+/// Finds the level and the label of each cell of a tile.
+///
+/// Paths end on the rim, at edge cells, and at those of `sinks` that lie in the tile.
+///
+/// # Examples
+///
+/// ```ignore
+/// let view = tiling.view(grid.cells(), tile);
+/// let flood = tile_flood(alloc, &view, grid.sinks())?;
+/// let level = flood.level(place);
+/// ```
 pub fn tile_flood(
     alloc: Global,
     view: &TileView<'_, Cell>,

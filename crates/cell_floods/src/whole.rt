@@ -1,6 +1,6 @@
-//! The filled heights of a grid by one flood: [`filled_heights`].
+//! Filled heights of a grid by one flood: [`filled_heights`].
 //!
-//! Tests compare the tiles with it.
+//! Tests compare the filling by tiles with it.
 ghost use Rattle.std.specs.Prelude.{IfOk};
 ghost use Rattle.drainage.specs.Filled.{IsFilled};
 
@@ -9,7 +9,14 @@ use floods::flood;
 use std::alloc::Global;
 use terrain::{Grid, Height, NoMemory};
 
-/// The filled height of each cell of the grid, in row order.
+/// Returns the filled height of each cell of a grid, in row order.
+///
+/// # Examples
+///
+/// ```ignore
+/// let heights = filled_heights(alloc, &grid)?;
+/// let height = heights[(row * grid.cols() + col) as usize];
+/// ```
 pub fn filled_heights(alloc: Global, grid: &Grid) -> Result<Vec<Option<Height>>, NoMemory>
     ensures { IfOk result (λ v. IsFilled grid.now.terrain v.items) }
 {

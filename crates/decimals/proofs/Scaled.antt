@@ -1,4 +1,4 @@
--- The value of a decimal text, from its parts, and of a whole number in digits.
+-- The scaled value of a decimal text by its parts, and of a plain whole number.
 use Rattle.std.proofs.Common.{◌≡◌, ℕ, ◌+◌, ◌*◌, ◌-◌, ◌^◌, ◌<◌, ◌≤◌, min, Bool, true, false, ◌&&◌, ◌||◌, cond, nat_le, nat_lt, ◌==◌, List, [], ◌∷◌, ◌++◌, length, take, drop, fold, replicate, Option, None, Some, ℤ, pos, neg_ℤ, inl, inr, arith, refl, ap, sym, ◌∙◌, suc, zero, add-one}
 use Rattle.std.specs.List.{list_any, list_all, position_or_len, before_first, after_first}
 use Rattle.std.specs.Char.{is_ascii_digit}
@@ -14,12 +14,12 @@ use Rattle.std.proofs.Math.Nat.{pow-suc, pow-le-pow_right}
 use Rattle.std.proofs.lemmas.Nat.{mul-le, pow-add}
 use Rattle.decimals.specs.Plain.{IsPlain}
 
--- digits in two parts, the first with one at least
+-- digits, tested in two parts of which the first is not empty
 pub are_digits_joined : (a b : List ℕ) → 0 < length a → are_digits (a ++ b) ≡ (list_all is_ascii_digit a && list_all is_ascii_digit b)
 are_digits_joined [] b h = absurd (omega arith)
 are_digits_joined (x ∷ xs) b h = list_all-append is_ascii_digit (x ∷ xs) b
 
--- the first digits of a fraction, with zeros behind it
+-- the first d digits of a fraction, padded with zeros
 take-padded : (d k : ℕ) (xs : List ℕ) → d ≤ k → take d (xs ++ replicate k 48) ≡ take d xs ++ replicate (d - min d (length xs)) 48
 take-padded zero k xs h = ap (λ (n : ℕ). replicate n 48) (let none : 0 ≡ 0 - min 0 (length xs) = omega arith in none)
 take-padded (suc d) k [] h = take-replicate (suc d) k 48 h ∙ ap (λ (n : ℕ). replicate n 48) (let all : suc d ≡ suc d - min (suc d) 0 = omega arith in all)
@@ -27,14 +27,14 @@ take-padded (suc d) k (x ∷ xs) h =
     let left : d - min d (length xs) ≡ suc d - min (suc d) (suc (length xs)) = omega arith in
     ap (λ z. x ∷ z) (take-padded d k xs (omega arith)) ∙ ap (λ n. x ∷ take d xs ++ replicate n 48) left
 
--- digits, their first fractional digits and zeros, one after another
+-- the number of a whole part and a padded fraction, as three folds
 pub number_of-padded : (d : ℕ) (a xs : List ℕ) → number_of (a ++ take d (xs ++ replicate d 48)) ≡ fold (λ n b. 10 * n + (b - 48)) (fold (λ n b. 10 * n + (b - 48)) (number_of a) (take d xs)) (replicate (d - min d (length xs)) 48)
 number_of-padded d a xs =
     ap (λ z. number_of (a ++ z)) (take-padded d d xs (omega arith))
     ∙ fold-append (λ n b. 10 * n + (b - 48)) 0 a (take d xs ++ replicate (d - min d (length xs)) 48)
     ∙ fold-append (λ n b. 10 * n + (b - 48)) (number_of a) (take d xs) (replicate (d - min d (length xs)) 48)
 
--- where no element passes, what stands before the first is all, and nothing stands after it
+-- where no element passes, all elements are before the first that does
 position-none : (p : ℕ → Bool) (xs : List ℕ) → list_any p xs ≡ false → position_or_len p xs ≡ length xs
 position-none p [] h = refl
 position-none p (x ∷ xs) h = let parts = or_parts (p x) (list_any p xs) h in rw parts.0 (omega (arith, position-none p xs parts.1))
@@ -51,11 +51,11 @@ list_any-without_sign p (b ∷ bs) h =
     let parts = or_parts (p b) (list_any p bs) h in
     cond_both (b == 43 || b == 45) bs (b ∷ bs) (λ z. list_any p z ≡ false) (λ _. parts.1) (λ _. h)
 
--- a word with no exponent is its own mantissa, but for the sign
+-- without an exponent, the mantissa is the word without its sign
 mantissa-plain : (w : Word) → has_exponent w ≡ false → mantissa w ≡ without_sign w
 mantissa-plain w h = before_first-none is_exponent_mark (without_sign w) (list_any-without_sign is_exponent_mark w h)
 
--- no scaled value where a part isn't digits
+-- no scaled value without digits alone in both parts
 pub scaled_value-not_digits : (d : ℕ) (w a b : Word) → has_exponent w ≡ false → a ≡ before_first is_point (without_sign w) → b ≡ after_first is_point (without_sign w) → are_digits (a ++ b) ≡ false → scaled_value d w ≡ None
 scaled_value-not_digits d w a b h p q e =
     let m = mantissa-plain w h in
@@ -66,14 +66,14 @@ option_map-cond : (t : Bool) (n : ℕ) (g : ℕ → ℤ) → cond t (Some (g n))
 option_map-cond true n g = refl
 option_map-cond false n g = refl
 
--- the scaled value of digits, by their size
+-- the scaled value of a word whose parts are digits, by its size
 pub scaled_value-digits : (d : ℕ) (w a b : Word) (size : Option ℕ) → has_exponent w ≡ false → a ≡ before_first is_point (without_sign w) → b ≡ after_first is_point (without_sign w) → are_digits (a ++ b) ≡ true → size ≡ cond (list_all (λ x. x == 48) (drop d b) && nat_le (number_of (a ++ take d (b ++ replicate d 48))) (10 ^ 18)) (Some (number_of (a ++ take d (b ++ replicate d 48)))) None → scaled_value d w ≡ option_map (λ n. cond (is_negative w) (neg_ℤ (pos n)) (pos n)) size
 scaled_value-digits d w a b size h p q e k =
     let m = mantissa-plain w h in
     let digits : are_digits (whole_part w ++ fraction w) ≡ true = rw (m, ← p, ← q) e in
     rw (k, digits, h, m, ← p, ← q) (option_map-cond _ _ (λ n. cond (is_negative w) (neg_ℤ (pos n)) (pos n)))
 
--- the size found, where only zeros stand behind the digits that count
+-- the size, saturated at 10^18 + 1, where only zeros follow the scale
 pub size-kept : (x : Bool) (n size : ℕ) → x ≡ true → size ≡ min n 1000000000000000001 → then_some (nat_lt size 1000000000000000001) size ≡ cond (x && nat_le n (10 ^ 18)) (Some n) None
 size-kept x n size h e =
     elim (cases_lt n 1000000000000000001) [
@@ -117,7 +117,6 @@ fold-zeros n (suc k) = fold-zeros (10 * n + 0) k ∙ rw (pow-suc 10 k) (omega ar
 drop-none : (d : ℕ) → drop {A = ℕ} d [] ≡ []
 drop-none d = drop_all d [] (omega arith)
 
--- what digits are scaled to
 scaled_digits : (d : ℕ) (xs : List ℕ) → number_of (xs ++ take d ([] ++ replicate d 48)) ≡ number_of xs * 10 ^ d
 scaled_digits d xs =
     number_of-padded d xs []
@@ -125,7 +124,6 @@ scaled_digits d xs =
     ∙ fold-zeros (number_of xs) (d - min d 0)
     ∙ ap (λ k. number_of xs * 10 ^ k) (omega arith)
 
--- a word that is digits but for its sign
 pub scaled_value-plain : (d : ℕ) (w xs : List ℕ) → without_sign w ≡ xs → has_exponent w ≡ false → 0 < length xs → list_all is_ascii_digit xs ≡ true → number_of xs * 10 ^ d ≤ 10 ^ 18 → scaled_value d w ≡ Some (cond (is_negative w) (neg_ℤ (pos (number_of xs * 10 ^ d))) (pos (number_of xs * 10 ^ d)))
 scaled_value-plain d w xs bare plain some digits small =
     let no_marks = any-digits is_point xs no_point digits in
@@ -141,7 +139,7 @@ bare_digits (x ∷ xs) rest h k =
     let b = digit_bounds x (and_parts (is_ascii_digit x) (list_all is_ascii_digit xs) k).0 in
     (rw (ne_eqb x 43 (λ e. omega arith), ne_eqb x 45 (λ e. omega arith)) refl, ne_eqb x 45 (λ e. omega arith))
 
--- plain digits, and the same after `-`
+-- plain digits at the front, without and with `-`
 pub IsPlain-positive : (d : ℕ) (bytes : List ℕ) (len : ℕ) → 0 < len → len ≤ 16 → len ≤ length bytes → list_all is_ascii_digit (take len bytes) ≡ true → number_of (take len bytes) * 10 ^ d ≤ 10 ^ 18 → IsPlain d bytes len (pos (number_of (take len bytes) * 10 ^ d))
 IsPlain-positive d bytes len some short within digits small =
     let xs = take len bytes in
@@ -171,12 +169,12 @@ IsPlain-negative d (b ∷ bs) rest len sign e some short within digits small =
       whole = ap (list_any is_separator) at ∙ any-digits is_separator xs no_separator digits;
     }
 
--- a number of few digits is small, and still is with zeros behind it
+-- bounds of a number by its digits, and of its product with 10^d
 pub below_power : (n k m : ℕ) → n < 10 ^ k → k ≤ m → n < 10 ^ m
 below_power n k m h le = omega (arith, h, pow-le-pow_right {n = 10} (omega arith) {i = k} {j = m} le)
 
-pub padded_small : (n len d unit : ℕ) → n < 10 ^ len → unit ≡ 10 ^ d → len + d ≤ 16 → n * unit ≤ 10 ^ 16
-padded_small n len d unit h is few =
+pub padded_small : (n len d power_of_ten : ℕ) → n < 10 ^ len → power_of_ten ≡ 10 ^ d → len + d ≤ 16 → n * power_of_ten ≤ 10 ^ 16
+padded_small n len d power_of_ten h is few =
     let most : n * 10 ^ d ≤ 10 ^ len * 10 ^ d = mul-le n (10 ^ d) (10 ^ len) (10 ^ d) (omega (arith, h)) (omega arith) in
     let power = pow-le-pow_right {n = 10} (omega arith) {i = len + d} {j = 16} few in
     rw is (omega (arith, most, pow-add 10 len d, power))

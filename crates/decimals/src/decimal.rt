@@ -1,6 +1,6 @@
-//! Decimal texts, and the whole numbers that they spell at a scale.
+//! Decimal texts and their values at a scale.
 //!
-//! [`scaled_value`] reads a whole word, [`plain_number`] the digits at the front of a text.
+//! [`scaled_value`] parses a whole word, [`plain_number`] the digits at the front of a text.
 ghost use Rattle.std.specs.Prelude.{◌<◌, true, length, ◌≡◌, IfSome, pos, neg_ℤ, ◌≤◌, not, ℕ, ◌+◌, ◌*◌, ◌-◌, ◌^◌, ◌++◌, ◌&&◌, ◌==◌, nat_le, take, drop, replicate, min, fold, if◌then◌else◌, Option, Some, None};
 ghost use Rattle.std.specs.List.{before_first, after_first, position, list_all, list_any};
 ghost use Rattle.std.specs.Char.{is_ascii_digit};
@@ -9,11 +9,12 @@ ghost use Rattle.decimals.specs.Plain.{IsPlain};
 
 use crate::digits::{OVER, all_digits, are_digits, digits_after};
 
-/// The most digits of a height in scaled units.
+/// The most digits of a height in units: those of 10^15.
 const HEIGHT_DIGITS: usize = 16;
 
-/// Whether the word is a decimal text: a sign or none, digits with at most one point among, before or
-/// after them, and an exponent or none.
+/// Whether a word is a decimal text, as `-12.5` or `3E2`.
+///
+/// It has an optional sign, one or more digits with at most one point, and an optional exponent.
 pub fn is_decimal(word: &[u8]) -> bool
     ensures { result ≡ is_decimal word.now }
 {
@@ -24,7 +25,7 @@ pub fn is_decimal(word: &[u8]) -> bool
         && (!has_exponent(word) || are_digits(without_sign(exponent)))
 }
 
-/// Whether a decimal text is above zero: it has no `-`, and of its digits before the exponent one is not 0.
+/// Whether a decimal text has no `-`, and a digit other than 0 before its exponent.
 pub fn is_above_zero(word: &[u8]) -> bool
     ensures { result ≡ is_above_zero word.now }
 {
@@ -33,8 +34,18 @@ pub fn is_above_zero(word: &[u8]) -> bool
     !is_negative(word) && (has_other_than_zero(whole) || has_other_than_zero(fraction))
 }
 
-/// The word times 10^scale. None where it is no decimal text or has an exponent, where a digit other than 0
-/// stands past the scale, and where the number is not from -10^18 to 10^18.
+/// Returns the value of a decimal text in units of 10^-scale.
+///
+/// `None` if the word is no decimal text or has an exponent, if it has a digit other than 0 past
+/// the scale, and if its value is not from -10^18 to 10^18.
+///
+/// # Examples
+///
+/// ```ignore
+/// assert_eq!(scaled_value(2, b"-0.5"), Some(-50));
+/// assert_eq!(scaled_value(0, b"4.000"), Some(4));
+/// assert_eq!(scaled_value(0, b"4.5"), None);
+/// ```
 pub fn scaled_value(scale: u8, word: &[u8]) -> Option<i64>
     ensures { result ≡ scaled_value scale word.now }
 {
@@ -49,9 +60,10 @@ pub fn scaled_value(scale: u8, word: &[u8]) -> Option<i64>
     Some(signed(is_negative(word), size))
 }
 
-/// The digits at the front of the bytes, as far as they go but at most 16, with `-` before them or without, as a word of their
-/// own: how many bytes these are, and their number times 10^scale. The text's word may go on behind them. None where no digit
-/// stands in front, or where these are more than a height at the scale can have.
+/// Parses up to 16 digits at the front of a text, after an optional `-`.
+///
+/// Returns the length in bytes, with the sign, and the value times 10^scale. The word may go on.
+/// `None` if there is no digit, or if the number of digits and the scale add up to more than 16.
 #[inline(always)]
 pub fn plain_number(scale: u8, bytes: &[u8]) -> Option<(usize, i64)>
     requires { scale ≤ 6 }
@@ -65,11 +77,12 @@ pub fn plain_number(scale: u8, bytes: &[u8]) -> Option<(usize, i64)>
     Some((len, signed(false, size)))
 }
 
-/// The digits at the front, times 10^scale. With more digits in all than a height can have they are left alone.
+/// Returns the length of the digits at the front, and their number times 10^scale.
 #[inline(always)]
 fn plain_size(scale: u8, bytes: &[u8]) -> Option<(usize, u64)>
     requires { scale ≤ 6 }
-    ensures within { IfSome result (λ r. (0 < r.0) × (r.0 ≤ HEIGHT_DIGITS) × (r.0 ≤ length bytes.now)) }
+    ensures within { IfSome result
+        (λ r. (0 < r.0) × (r.0 ≤ HEIGHT_DIGITS) × (r.0 ≤ length bytes.now)) }
     ensures digits { IfSome result (λ r. list_all is_ascii_digit (take r.0 bytes.now) ≡ true) }
     ensures value { IfSome result (λ r. r.1 ≡ number_of (take r.0 bytes.now) * 10 ^ scale) }
     ensures small { IfSome result (λ r. r.1 ≤ 10 ^ 18) }
@@ -78,10 +91,10 @@ fn plain_size(scale: u8, bytes: &[u8]) -> Option<(usize, u64)>
     if len == 0 || len + scale as usize > HEIGHT_DIGITS {
         return None;
     }
-    Some((len, number * unit(scale)))
+    Some((len, number * power_of_ten(scale)))
 }
 
-/// Digits as far as they go, not past the most that a height has, and their number.
+/// Returns the length, at most 16, of the digits at the front, and their number.
 #[inline(always)]
 fn digits_in_front(bytes: &[u8]) -> (usize, u64)
     ensures within { (result.0 ≤ HEIGHT_DIGITS) × (result.0 ≤ length bytes.now) }
@@ -111,7 +124,7 @@ fn leading_digits(bytes: &[u8]) -> (usize, u64)
 }
 
 #[inline(always)]
-fn unit(scale: u8) -> u64
+fn power_of_ten(scale: u8) -> u64
     requires { scale ≤ 6 }
     ensures power { result ≡ 10 ^ scale }
     ensures small { result ≤ 1000000 }
@@ -155,7 +168,7 @@ fn has_exponent(word: &[u8]) -> bool
     word.iter().any(|b| is_exponent_mark(*b))
 }
 
-/// What stands before and after the first mark of an exponent.
+/// Returns the bytes before and after the first `e` or `E`.
 fn split_at_exponent(word: &[u8]) -> (&[u8], &[u8])
     ensures before { result.0.now ≡ before_first is_exponent_mark word.now }
     ensures after { result.1.now ≡ after_first is_exponent_mark word.now }
@@ -172,7 +185,7 @@ fn exponent_at(word: &[u8]) -> Option<usize>
     word.iter().position(|b| is_exponent_mark(*b))
 }
 
-/// What stands before and after the first point.
+/// Returns the bytes before and after the first point.
 fn split_at_point(word: &[u8]) -> (&[u8], &[u8])
     ensures before { result.0.now ≡ before_first is_point word.now }
     ensures after { result.1.now ≡ after_first is_point word.now }
@@ -212,12 +225,14 @@ fn has_other_than_zero(bytes: &[u8]) -> bool
     bytes.iter().any(|b| *b != b'0')
 }
 
-/// The digits that count at the scale, as a number of at most 10^18. Behind them only 0 may stand.
+/// Returns the unsigned value times 10^scale, if it is whole and at most 10^18.
 fn scaled_size(scale: u8, whole: &[u8], fraction: &[u8]) -> Option<u64>
     ensures small { IfSome result (λ size. size ≤ 10 ^ 18) }
     ensures value { result ≡ (if list_all (λ b. b == 48) (drop scale fraction.now)
-        && nat_le (number_of (whole.now ++ take scale (fraction.now ++ replicate scale 48))) (10 ^ 18)
-        then Some (number_of (whole.now ++ take scale (fraction.now ++ replicate scale 48))) else None) }
+        && nat_le (number_of (whole.now ++ take scale (fraction.now ++ replicate scale 48)))
+        (10 ^ 18)
+        then Some (number_of (whole.now ++ take scale (fraction.now ++ replicate scale 48)))
+        else None) }
 {
     let kept = usize::from(scale).min(fraction.len());
     if !only_zeros(&fraction[kept..]) {
@@ -237,11 +252,12 @@ fn signed(negative: bool, size: u64) -> i64
     if negative { -value } else { value }
 }
 
-/// A number with so many zeros behind it, not above [`OVER`].
+/// Returns a number with zeros appended, at most [`OVER`].
 fn zeros_after(number: u64, zeros: usize) -> u64
     requires { number ≤ OVER }
     ensures small { result ≤ OVER }
-    ensures value { (n : ℕ) → number ≡ min n OVER → result ≡ min (fold (λ n b. 10 * n + (b - 48)) n (replicate zeros 48)) OVER }
+    ensures value { (n : ℕ) → number ≡ min n OVER →
+        result ≡ min (fold (λ n b. 10 * n + (b - 48)) n (replicate zeros 48)) OVER }
 {
     let mut value = number;
     for _ in 0..zeros {

@@ -1,12 +1,12 @@
-//! Decimal texts and digits, and the whole numbers that they spell.
+//! Parses decimal words and digits into whole numbers.
 //!
-//! Begin with [`scaled_value`] for heights and [`whole_number`] for command-line words. Its
-//! definitions are in `terrain`'s `Decimal` and `Words`.
+//! Begin with [`scaled_value`] for heights and [`whole_number`] for command-line words. The
+//! definitions are in `Decimal` and `Words` of `terrain`.
 //!
-//! Modules, from what is called to what it depends on:
+//! Modules, callers first:
 //!
-//! - `decimal`: decimal texts and their numbers at a scale
-//! - `digits`: whole numbers by their digits
+//! - `decimal`: decimal texts and their values at a scale
+//! - `digits`: whole numbers without sign or point
 #![tactic(auto)]
 
 mod decimal;

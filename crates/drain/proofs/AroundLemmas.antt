@@ -1,4 +1,4 @@
--- Heights and steps of what stands on the ways from a cell.
+-- Heights and steps on the eight ways from a cell.
 use Rattle.std.proofs.Common.{◌≡◌, ℕ, zero, suc, ◌+◌, ◌*◌, ◌<◌, ◌<ℤ◌, ◌-ℤ◌, ◌%◌, inl, inr, Bool, true, eqb, List, [], ◌∷◌, get_or, Option, None, Some, ℤ, pos, negsuc, sym, ap, refl, ◌∙◌, arith}
 use Rattle.std.proofs.lemmas.Int.{ints}
 use Rattle.std.proofs.lemmas.Bool.{cases_Bool, and_parts, eqb-true, cond-true, cond-false, false≢true}
@@ -18,7 +18,7 @@ use Rattle.drain.proofs.Counted.{height_is}
 use Rattle.drainage.proofs.Reach.{data_inside}
 use Rattle.terrain.proofs.EightWays.{eight, zip_some}
 
--- what stands on a way is a neighbour's
+-- height and steps on a way are those of a neighbour
 pub on_way : (t : Terrain) (steps : List (Option ℕ)) (p : Place) (a : Around) (way : ℕ) (w : ℤ × ℕ) → IsLaidAround t steps p a → way < 8 → get_or a.ways way None ≡ Some w →
     (q : Place) × (place_on way p ≡ Some q) × (height_at t q ≡ Some w.0) × (entry_at t.cols t.rows steps q ≡ Some w.1)
 on_way t steps p a way w f below e =
@@ -50,7 +50,7 @@ below-positive_part x y h = let above : pos 0 <ℤ (x -ℤ y) = part (x -ℤ y) 
 pub steps_at : (t : Terrain) (steps : List (Option ℕ)) (q : Place) → AreSteps t steps → IsDataCell t q → (n : ℕ) × (entry_at t.cols t.rows steps q ≡ Some n) × IsSteps t q n
 steps_at t steps q are is = MatchOption-at_some _ _ (height_of t q) (height_is t q is) (are.each q (data_inside t q is))
 
--- a way with a weight leads down
+-- a way of positive weight leads down
 pub weight-drop : (way drop : ℕ) → 0 < weight way drop → 0 < drop
 weight-drop way zero h = absurd (elim (cases_Bool (eqb (way % 2) 0)) [
   | inl e ↦ (let is : weight way 0 ≡ 2 * (0 * 0) = cond-true _ _ _ e in omega arith)
@@ -67,7 +67,7 @@ some_onward a None h = absurd (false≢true h)
 some_onward a (Some w) h =
     let both = and_parts _ _ h in (w, refl, (Decides-int_eq w.0 a.level).0 both.0, eqb-true _ _ both.1)
 
--- what a way from a place shows
+-- height and steps on a way from a place
 abbrev pub shown_on : Terrain → List (Option ℕ) → Place → ℕ → Option (ℤ × ℕ)
 shown_on t steps p way = option_zip (entry_on t.cols t.rows t.cells way p) (entry_on t.cols t.rows steps way p)
 

@@ -1,4 +1,4 @@
--- The counts that the first round begins with.
+-- The initial counts of the first round.
 use Rattle.std.proofs.Common.{◌≡◌, ℕ, suc, ◌+◌, ◌*◌, ◌<◌, ◌≤◌, ◌⊎◌, inl, inr, List, [], ◌∷◌, map, length, get_or, Option, None, Some, slice_set, unwrap_or, Contains, ℤ, sym, ap, subst, refl, ◌∙◌, arith}
 use Rattle.std.proofs.lemmas.Bool.{cases_eq, cases_lt}
 use Rattle.std.proofs.lemmas.List.{get_or_default, get_or_past, get_or-map, get_or-set_same, get_or-set_other, length-map, length-set}
@@ -15,12 +15,12 @@ use Rattle.tile_maps.specs.Maps.{AreMadeBelow}
 use Rattle.drainage.specs.StepCounts.{known, no_count}
 use Rattle.drainage.proofs.ToldCounts.{known_number}
 use Rattle.drainage.proofs.Reach.{data_inside}
-use Rattle.drain.specs.Beginning.{DrainsAnyway, IsBegun, IsBegunSpot, AreBegun, AreBegunSpots}
-use Rattle.drain.specs.Entering.{lent_terrain}
+use Rattle.drain.specs.Beginning.{IsEdgeOrHasLower, IsBegun, IsBegunSpot, AreBegun, AreBegunSpots}
+use Rattle.drain.specs.Entering.{sinkless_terrain}
 use Rattle.drain.specs.Lowering.{place_at}
-use Rattle.drain.specs.Rounds.{AreWalked, IsLent, IsRound}
+use Rattle.drain.specs.Rounds.{AreWalked, IsSource, IsRound}
 use Rattle.drain.specs.Steps.{DrainsAtOnce}
-use Rattle.drain.specs.Window.{AreCounts, AreLent, AreShown, IsHandedOut, IsSettled, IsSpot, Shows, area_of, count_on, known_counts, spot_index}
+use Rattle.drain.specs.Window.{AreCounts, AreWindowCounts, AreShown, IsCopied, IsSettled, IsSpot, Shows, area_of, count_on, known_counts, spot_index}
 use Rattle.drain.proofs.DrainedLemmas.{same_terrain}
 use Rattle.drain.proofs.Few.{drains_data}
 use Rattle.drain.proofs.Nearby.{drains_at_once}
@@ -30,15 +30,15 @@ use Rattle.drain.proofs.Spreading.{spot_below}
 use Rattle.drain.proofs.TileRound.{round_from}
 use Rattle.drain.proofs.Unique.{at_place, place_at-index_of}
 
--- the count at a spot
-pub begun_shown : (t : Terrain) (b : Bounds) (s q : Place) (n : ℕ) → Shows b s q → n ≤ no_count → IsBegun (DrainsAnyway t) q (known n) → IsBegunSpot (DrainsAnyway t) b s n
+-- the initial count of a place is that of its spot
+pub begun_shown : (t : Terrain) (b : Bounds) (s q : Place) (n : ℕ) → Shows b s q → n ≤ no_count → IsBegun (IsEdgeOrHasLower t) q (known n) → IsBegunSpot (IsEdgeOrHasLower t) b s n
 begun_shown t b s q n there few here = (
   few,
-  λ p shows. subst (λ (r : Place). IsBegun (DrainsAnyway t) r (known n)) (shows_same b s q p there shows) here,
+  λ p shows. subst (λ (r : Place). IsBegun (IsEdgeOrHasLower t) r (known n)) (shows_same b s q p there shows) here,
   λ off. absurd (shows_none b s q there off),
 )
 
--- the same cells drain
+-- two properties that agree at each place give the same initial counts
 begun_by : (A B : Place → Type 0) (b : Bounds) (s : Place) (n : ℕ) → ((p : Place) → Shows b s p → A p → B p) → ((p : Place) → Shows b s p → B p → A p) → IsBegunSpot A b s n → IsBegunSpot B b s n
 begun_by A B b s n to from is = (
   is.0,
@@ -49,9 +49,9 @@ begun_by A B b s n to from is = (
 abbrev pub sink_at : List Place → ℕ → Place
 sink_at sinks index = get_or sinks index (make_place 0 0)
 
--- it drains anyway, or is one of the first sinks
+-- the cell is an edge cell, has a lower neighbour, or is one of the first sinks
 abbrev pub DrainsBefore : Terrain → List Place → ℕ → Place → Type 0
-DrainsBefore t sinks end p = DrainsAnyway t p ⊎ (IsDataCell t p × (k : ℕ) × (k < end) × (k < length sinks) × (get_or sinks k p ≡ p))
+DrainsBefore t sinks end p = IsEdgeOrHasLower t p ⊎ (IsDataCell t p × (k : ℕ) × (k < end) × (k < length sinks) × (get_or sinks k p ≡ p))
 
 abbrev pub AreBegunBefore : Terrain → List Place → ℕ → Bounds → List ℕ → Type 0
 AreBegunBefore t sinks end b counts = AreBegunSpots (DrainsBefore t sinks end) b counts
@@ -62,8 +62,8 @@ spots_by A B b counts to from are = record {
   each = λ s spot below. begun_by A B b s _ (λ p shows. to s p spot shows) (λ p shows. from s p spot shows) (are.each s spot below);
 }
 
-pub before_any : (t : Terrain) (sinks : List Place) (b : Bounds) (counts : List ℕ) → AreBegunSpots (DrainsAnyway t) b counts → AreBegunBefore t sinks 0 b counts
-before_any t sinks b counts are = spots_by (DrainsAnyway t) (DrainsBefore t sinks 0) b counts (λ s p spot shows drains. inl drains) (λ s p spot shows drains. elim drains [ inl anyway ↦ anyway | inr sink ↦ absurd (omega (arith, sink.2)) ]) are
+pub before_any : (t : Terrain) (sinks : List Place) (b : Bounds) (counts : List ℕ) → AreBegunSpots (IsEdgeOrHasLower t) b counts → AreBegunBefore t sinks 0 b counts
+before_any t sinks b counts are = spots_by (IsEdgeOrHasLower t) (DrainsBefore t sinks 0) b counts (λ s p spot shows drains. inl drains) (λ s p spot shows drains. elim drains [ inl anyway ↦ anyway | inr sink ↦ absurd (omega (arith, sink.2)) ]) are
 
 pub before_all : (t : Terrain) (sinks : List Place) (end : ℕ) (b : Bounds) (counts : List ℕ) → sinks ≡ t.sinks → length sinks ≤ end → AreBegunBefore t sinks end b counts → AreBegunSpots (DrainsAtOnce t) b counts
 before_all t sinks end b counts named all are =
@@ -98,13 +98,13 @@ module _ (t : Terrain) (sinks : List Place) (index : ℕ) (b : Bounds) (counts :
     | inr ne ↦ inr (one.0, one.1, omega (arith, one.2, ne), one.3, one.4)
   ]
 
-  -- one that no spot shows, or without data
+  -- a sink outside the window or without data changes no count
   pub sink_passed : ((s : Place) → IsSpot b s → Shows b s (sink_at sinks index) → IsDataCell t (sink_at sinks index) → ⊥) → AreBegunBefore t sinks (index + 1) b counts
   sink_passed out =
       spots_by (DrainsBefore t sinks index) (DrainsBefore t sinks (index + 1)) b counts (λ s p spot shows. later p)
       (λ s p spot shows. earlier p (λ same is. out s spot (subst (λ (q : Place). Shows b s q) same shows) (subst (λ (q : Place). IsDataCell t q) same is))) before
 
-  -- the count of a spot that shows it
+  -- a sink with data in the window sets the count of its spot
   pub sink_put : (r : Place) → IsSpot b r → Shows b r (sink_at sinks index) → IsDataCell t (sink_at sinks index) → AreBegunBefore t sinks (index + 1) b (slice_set counts (spot_index b r) 0)
   sink_put r spot on here = record {
     size = length-set counts (spot_index b r) 0 ∙ before.size;
@@ -130,7 +130,7 @@ module _ (t : Terrain) (sinks : List Place) (index : ℕ) (b : Bounds) (counts :
         λ off. absurd (elim off [ inl a ↦ omega (arith, a, on.0) | inr a ↦ omega (arith, a, on.1) ]),
       )
 
--- a cell has one count to begin with
+-- a cell has one initial count
 one_begun : (Drains : Place → Type 0) (p : Place) (x y : Option ℕ) → IsBegun Drains p x → IsBegun Drains p y → x ≡ y
 one_begun Drains p None None f g = refl
 one_begun Drains p (Some n) y f g = let drains = (f.only n refl).0 in f.zero drains ∙ sym (g.zero drains)
@@ -140,7 +140,7 @@ told_back : (counts : List ℕ) → AreCounts counts → counts ≡ known_counts
 told_back [] few = refl
 told_back (n ∷ counts) few = ap (λ (m : ℕ). m ∷ counts) (sym (known_number n (few 0))) ∙ ap (λ (xs : List ℕ). unwrap_or (known n) no_count ∷ xs) (told_back counts (λ k. few (suc k)))
 
--- the counts at the spots are those of any list that begins with them
+-- the initial counts at the spots are those of any list of initial counts
 module _ (t : Terrain) (b : Bounds) (counts : List ℕ) (begun : List (Option ℕ)) (are : AreBegunSpots (DrainsAtOnce t) b counts) where
   pub begun_small : AreCounts counts
   begun_small k = elim (cases_lt k (area_of b)) [
@@ -148,7 +148,7 @@ module _ (t : Terrain) (b : Bounds) (counts : List ℕ) (begun : List (Option �
     | inr past ↦ omega (arith, get_or_past counts k 0 (omega (arith, are.size)))
   ]
 
-  pub begun_window : AreBegun t begun → AreLent t.cols t.rows begun b counts
+  pub begun_window : AreBegun t begun → AreWindowCounts t.cols t.rows begun b counts
   begun_window first = record {
     shown = map known counts;
     size = length-map counts known ∙ are.size;
@@ -178,7 +178,7 @@ begun_at t p = elim (drains_at_once t p) [
 abbrev begun_in : Terrain → ℕ → Option ℕ
 begun_in t k = (begun_at t (place_at t.cols k)).0
 
--- there is such a list
+-- each terrain has a list of initial counts
 pub some_begun : (t : Terrain) → (begun : List (Option ℕ)) × AreBegun t begun
 some_begun t =
     let count = t.cols * t.rows in
@@ -194,14 +194,14 @@ some_begun t =
       },
     )
 
--- a round from these counts
+-- a search from the initial counts is a round
 pub begun_round : (t : Terrain) (v : View (Option ℤ)) (c : Cutting) (tile : ℕ) (b : Bounds) (levels : List (Option ℤ)) (old new : List ℕ) (list begun : List (Option ℕ)) →
     v ≡ record { cutting = c; tile = tile; cells = t.cells } → Cuts c t → IsCutting v.cutting → b ≡ bounds_of v.cutting v.tile → AreShown v.cutting.cols v.cutting.rows v.cells None b levels →
-    AreBegunSpots (DrainsAtOnce t) b old → AreBegun t begun → IsSettled b levels old new → AreMadeBelow b (IsHandedOut b new) (b.rows * b.cols) list →
-    IsRound (IsLent (lent_terrain c t.cells) begun) (lent_terrain c t.cells) c tile begun list
+    AreBegunSpots (DrainsAtOnce t) b old → AreBegun t begun → IsSettled b levels old new → AreMadeBelow b (IsCopied b new) (b.rows * b.cols) list →
+    IsRound (IsSource (sinkless_terrain c t.cells) begun) (sinkless_terrain c t.cells) c tile begun list
 begun_round t v c tile b levels old new list begun e cuts lawful bounds shown are first settled out =
     let w : View (Option ℤ) = record { cutting = c; tile = tile; cells = t.cells } in
     let here = subst (λ (z : View (Option ℤ)). IsCutting z.cutting × (b ≡ bounds_of z.cutting z.tile) × AreShown z.cutting.cols z.cutting.rows z.cells None b levels) e (lawful, bounds, shown) in
-    let lent = subst (λ (n : ℕ). AreLent n c.rows begun b old) (sym cuts.0) (subst (λ (n : ℕ). AreLent t.cols n begun b old) (sym cuts.1) (begun_window t b old begun are first)) in
-    let walks = subst (λ (x : Terrain). AreWalked (IsLent x begun) x begun) (same_terrain t c.cols c.rows t.cells cuts.0 cuts.1 refl) (begun_counting t begun first).walked in
-    round_from w (record { cutting = c; tile = tile; cells = begun }) b levels old new list here.0 here.1 here.2 lent walks settled out
+    let input = subst (λ (n : ℕ). AreWindowCounts n c.rows begun b old) (sym cuts.0) (subst (λ (n : ℕ). AreWindowCounts t.cols n begun b old) (sym cuts.1) (begun_window t b old begun are first)) in
+    let walks = subst (λ (x : Terrain). AreWalked (IsSource x begun) x begun) (same_terrain t c.cols c.rows t.cells cuts.0 cuts.1 refl) (begun_counting t begun first).walked in
+    round_from w (record { cutting = c; tile = tile; cells = begun }) b levels old new list here.0 here.1 here.2 input walks settled out

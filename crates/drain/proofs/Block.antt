@@ -1,4 +1,4 @@
--- Which cells drain, whichever sinks are named, by the cells around them.
+-- Edge cells and cells with a lower neighbour, by the eight cells around them.
 use Rattle.std.proofs.Common.{◌≡◌, ◌≢◌, ℕ, ◌+◌, ◌<◌, ◌≤◌, ◌<ℤ◌, inl, inr, List, get_or, Bool, true, false, Option, None, Some, is_some, ℤ, sym, ap, subst, refl, ◌∙◌, arith}
 use Rattle.std.specs.Bool.{MatchBool}
 use Rattle.std.proofs.lemmas.Int.{ints}
@@ -9,12 +9,12 @@ use Rattle.terrain.specs.Raster.{Terrain}
 use Rattle.terrain.specs.Neighbours.{IsInside, height_at, index_of, Touches, IsEdge, HasGapAround, height_of}
 use Rattle.terrain.specs.declared.place.Place.{Place}
 use Rattle.terrain.specs.Ways.{around_index}
-use Rattle.drain.specs.Beginning.{DrainsAnyway, IsGapOrLower, IsOutermost}
-use Rattle.drain.proofs.AmidLemmas.{cell_on_way}
+use Rattle.drain.specs.Beginning.{IsEdgeOrHasLower, IsGapOrLower, IsOutermost}
+use Rattle.drain.proofs.InteriorLemmas.{cell_on_way}
 use Rattle.terrain.proofs.EightWays.{way_to}
 use Rattle.terrain.proofs.Heights.{height_is}
 
-drains_from : (t : Terrain) (p q : Place) (level : ℤ) (o : Option ℤ) → height_at t p ≡ Some level → Touches p q → height_at t q ≡ o → IsGapOrLower level o → DrainsAnyway t p
+drains_from : (t : Terrain) (p q : Place) (level : ℤ) (o : Option ℤ) → height_at t p ≡ Some level → Touches p q → height_at t q ≡ o → IsGapOrLower level o → IsEdgeOrHasLower t p
 drains_from t p q level None is touch there gap = inr (ap is_some is, inr (inr (q, touch, ap is_some there)))
 drains_from t p q level (Some h) is touch there lower =
     inl (q, (record { different = differ; touches = touch; from_data = ap is_some is; to_data = ap is_some there }, below))
@@ -26,11 +26,11 @@ drains_from t p q level (Some h) is touch there lower =
     differ e = let same : height_of t p ≡ height_of t q = ap (λ (r : Place). height_of t r) e in let less = below in omega (arith, ints)
 
 module _ (t : Terrain) (p : Place) (level : ℤ) (cells : List (Option ℤ)) (at : List ℕ) (cells_are : cells ≡ t.cells) (at_is : at ≡ around_index t.cols (index_of t.cols p))
-    (inside : IsInside t p) (amid : IsOutermost t p → ⊥) (is : height_at t p ≡ Some level) where
-  -- one of the cells around has no data or is lower
-  pub around_drains : (way : ℕ) × (way < 8) × IsGapOrLower level (get_or cells (get_or at way 0) None) → DrainsAnyway t p
+    (inside : IsInside t p) (interior : IsOutermost t p → ⊥) (is : height_at t p ≡ Some level) where
+  -- a gap or a lower cell around it makes a cell an edge cell or gives it a lower neighbour
+  pub around_drains : (way : ℕ) × (way < 8) × IsGapOrLower level (get_or cells (get_or at way 0) None) → IsEdgeOrHasLower t p
   around_drains (way, below, found) =
-      let q = cell_on_way t p cells at cells_are at_is inside amid way below in
+      let q = cell_on_way t p cells at cells_are at_is inside interior way below in
       drains_from t p q.0 level (get_or cells (get_or at way 0) None) is q.1.touches (sym q.2) found
 
   lower_at : (q : Place) (o : Option ℤ) → height_at t q ≡ o → height_of t q <ℤ height_of t p → IsGapOrLower level o
@@ -41,19 +41,19 @@ module _ (t : Terrain) (p : Place) (level : ℤ) (cells : List (Option ℤ)) (at
   gap_at None e = tt
   gap_at (Some h) e = absurd (false≢true (sym e))
 
-  -- none of them has no data or is lower
+  -- a cell without a gap or a lower cell around it is no edge cell and has no lower neighbour
   module _ (none : (way : ℕ) → way < 8 → IsGapOrLower level (get_or cells (get_or at way 0) None) → ⊥) where
     kept : (q : Place) → Touches p q → p ≢ q → IsGapOrLower level (height_at t q) → ⊥
     kept q touch differ bad =
         let way = way_to p q touch differ in
-        let r = cell_on_way t p cells at cells_are at_is inside amid way.0 way.1 in
+        let r = cell_on_way t p cells at cells_are at_is inside interior way.0 way.1 in
         let one : r.0 ≡ q = same_Some r.0 q (sym r.1.on ∙ way.2) in
         none way.0 way.1 (subst (λ (o : Option ℤ). IsGapOrLower level o) (sym (r.2 ∙ ap (λ (s : Place). height_at t s) one)) bad)
 
-    pub around_keeps : DrainsAnyway t p → ⊥
+    pub around_keeps : IsEdgeOrHasLower t p → ⊥
     around_keeps (inl (q, (next, less))) = kept q next.touches next.different (lower_at q (height_at t q) refl less)
-    around_keeps (inr (has, inl e)) = amid (inl e)
-    around_keeps (inr (has, inr (inl e))) = amid (inr (inl e))
+    around_keeps (inr (has, inl e)) = interior (inl e)
+    around_keeps (inr (has, inr (inl e))) = interior (inr (inl e))
     around_keeps (inr (has, inr (inr (q, touch, gap)))) =
         kept q touch (λ e. false≢true (sym gap ∙ sym (ap (λ (s : Place). is_some (height_at t s)) e) ∙ has)) (gap_at (height_at t q) gap)
 

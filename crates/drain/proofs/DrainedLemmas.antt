@@ -1,4 +1,4 @@
--- Codes and steps together make a map of directions along which the pair of height and steps falls.
+-- Along directions the pair of height and steps falls.
 use Rattle.std.proofs.Common.{◌≡◌, ℕ, ◌<◌, inl, inr, List, [], Option, None, Some, MatchOption, is_some, ℤ, sym, ap, subst, ◌∙◌}
 use Rattle.std.proofs.lemmas.Bool.{cases_lt}
 use Rattle.std.proofs.lemmas.Option.{MatchOption-at_some, MatchOption-at_none, same_Some, none-some}
@@ -13,7 +13,7 @@ use Rattle.drainage.specs.Drained.{IsDraining}
 use Rattle.drain.proofs.Pointing.{direction_leads}
 use Rattle.terrain.proofs.Options.{cases_option}
 
--- what holds at each place inside, and is the same outside, is the same everywhere
+-- two lists that have entries at the same places inside have them at the same places everywhere
 everywhere : {X Y : Type 0} (cols rows : ℕ) (xs : List (Option X)) (ys : List (Option Y)) → ((p : Place) → p.row < rows → p.col < cols → is_some (entry_at cols rows xs p) ≡ is_some (entry_at cols rows ys p)) →
     (p : Place) → is_some (entry_at cols rows xs p) ≡ is_some (entry_at cols rows ys p)
 everywhere cols rows xs ys same p = elim (cases_lt p.row rows) [
@@ -24,7 +24,7 @@ everywhere cols rows xs ys same p = elim (cases_lt p.row rows) [
   | inr past ↦ ap is_some (entry-below cols rows xs p past) ∙ sym (ap is_some (entry-below cols rows ys p past))
 ]
 
--- a list that has numbers exactly where a terrain has data
+-- a list with a number at each data cell alone has entries where the terrain has data
 same_where : (t : Terrain) (Is : Place → ℕ → Type 0) (xs : List (Option ℕ)) →
     ((p : Place) → IsInside t p → MatchOption (height_at t p) (entry_at t.cols t.rows xs p ≡ None) (λ _. (n : ℕ) × (entry_at t.cols t.rows xs p ≡ Some n) × Is p n)) →
     (p : Place) → is_some (entry_at t.cols t.rows xs p) ≡ is_some (height_at t p)
@@ -50,6 +50,6 @@ are_draining t steps codes are all = record {
       ];
 }
 
--- a terrain without its sinks, by its parts
+-- a terrain without sinks is given by its size and cells
 pub same_terrain : (t : Terrain) (cols rows : ℕ) (cells : List (Option ℤ)) → cols ≡ t.cols → rows ≡ t.rows → cells ≡ t.cells → with_sinks t [] ≡ record { cols = cols; rows = rows; cells = cells; sinks = [] }
 same_terrain t cols rows cells a b c = cc

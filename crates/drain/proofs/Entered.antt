@@ -1,14 +1,14 @@
--- Cells of rims, and the places of a rim one by one.
+-- Cells of rims, and places inside a tile.
 use Rattle.std.proofs.Common.{◌≡◌, ℕ, suc, ◌<◌, ◌∙◌, inl, inr, true, List, ◌∷◌, sym, subst, refl, arith, ◌+◌}
 use Rattle.std.specs.Prelude.{Contains}
 use Rattle.std.proofs.lemmas.Bool.{cases_eq, eq-eqb, or_left, or_right}
 use Rattle.terrain.specs.Neighbours.{Touches}
 use Rattle.terrain.specs.declared.place.Place.{Place}
 use Rattle.tiles.specs.Cutting.{Cutting, IsCutting, IsWithin, IsInTile, bounds_of, is_on_rim, tile_count, tile_of_place}
-use Rattle.drain.specs.Entering.{IsAmid}
+use Rattle.drain.specs.Entering.{IsInterior}
 use Rattle.tiles.proofs.Cut.{in_bounds, in_tile, tile_of_place_below}
 
--- a place with a neighbour outside its tile lies in the tile's first or last row or column
+-- a place beside another tile lies on its tile's rim
 pub on_rim : (c : Cutting) (p q : Place) → IsCutting c → IsWithin c p → (IsInTile c (tile_of_place c p) q → ⊥) → Touches p q → is_on_rim c p ≡ true
 on_rim c p q lawful within other touch =
     let tile = tile_of_place c p in
@@ -29,13 +29,13 @@ on_rim c p q lawful within other touch =
       ]
     ]
 
--- a place amid a tile touches none of another
-pub amid_tile : (c : Cutting) (tile : ℕ) (p q : Place) → IsCutting c → tile < tile_count c → IsAmid (bounds_of c tile) p → Touches p q → tile_of_place c q ≡ tile_of_place c p
-amid_tile c tile p q lawful below amid touch =
-    (in_tile c tile q lawful below (omega (arith, amid.0, touch.row_up), omega (arith, amid.1, touch.row_down), omega (arith, amid.2, touch.col_left), omega (arith, amid.3, touch.col_right))).1
-    ∙ sym (in_tile c tile p lawful below (omega (arith, amid.0), omega (arith, amid.1), omega (arith, amid.2), omega (arith, amid.3))).1
+-- a place inside a tile, off the rim, touches only places of that tile
+pub interior_tile : (c : Cutting) (tile : ℕ) (p q : Place) → IsCutting c → tile < tile_count c → IsInterior (bounds_of c tile) p → Touches p q → tile_of_place c q ≡ tile_of_place c p
+interior_tile c tile p q lawful below interior touch =
+    (in_tile c tile q lawful below (omega (arith, interior.0, touch.row_up), omega (arith, interior.1, touch.row_down), omega (arith, interior.2, touch.col_left), omega (arith, interior.3, touch.col_right))).1
+    ∙ sym (in_tile c tile p lawful below (omega (arith, interior.0), omega (arith, interior.1), omega (arith, interior.2), omega (arith, interior.3))).1
 
--- the places that are left where one is taken
+-- a list contains the places of its tail
 pub left_of : (x : Place) (xs ys : List Place) (p : Place) → xs ≡ x ∷ ys → Contains ys p → Contains xs p
 left_of x xs ys p e has = subst (λ (zs : List Place). Contains zs p) (sym e) (suc has.0, omega (arith, has.1), has.2)
 

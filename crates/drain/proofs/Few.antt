@@ -10,13 +10,13 @@ use Rattle.drain.proofs.Local.{one_number_of_steps}
 use Rattle.drainage.proofs.Pigeonhole.{pigeonhole}
 use Rattle.drain.proofs.Counted.{height_is}
 
--- the cell after so many moves of a walk
+-- the cell after k moves of a walk
 abbrev pub cell_on : Place → List Place → ℕ → Place
 cell_on p rest zero = p
 cell_on p [] (suc i) = p
 cell_on p (q ∷ rest) (suc i) = cell_on q rest i
 
--- a walk whose ends have data begins where there is data
+-- a level walk to a data cell begins at a data cell
 pub data_on_level_walk : (Ends : Place → Type 0) (t : Terrain) → ((p : Place) → Ends p → IsDataCell t p) → (p : Place) (rest : List Place) → IsLevelWalk Ends t p rest → IsDataCell t p
 data_on_level_walk Ends t end_data p [] w = end_data p w
 data_on_level_walk Ends t end_data p (q ∷ rest) w = w.0.from_data
@@ -29,7 +29,7 @@ drains_data t p (inr (inr sink)) = sink.0
 pub data_on_walk : (t : Terrain) (p : Place) (rest : List Place) → IsFlatWalk t p rest → IsDataCell t p
 data_on_walk t = data_on_level_walk (DrainsAtOnce t) t (drains_data t)
 
--- what follows the first move of a shortest walk is a shortest walk
+-- the rest of a shortest walk is a shortest walk
 rest_is_shortest : (t : Terrain) (p q : Place) (rest : List Place) → IsFlatWalk t p (q ∷ rest) → IsSteps t p (suc (length rest)) → IsSteps t q (length rest)
 rest_is_shortest t p q rest w s = record {
   reached = (rest, w.2, refl);

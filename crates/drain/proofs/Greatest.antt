@@ -1,23 +1,23 @@
--- The greatest of a list of numbers, and where it first stands.
+-- The greatest number of a list, and its first index.
 use Rattle.std.proofs.Common.{◌≡◌, ℕ, zero, suc, ◌+◌, ◌<◌, ◌≤◌, ◌⊎◌, max, Bool, true, false, eqb, List, [], ◌∷◌, length, get_or, fold, Some, inl, inr, sym, ap, subst, refl, ◌∙◌, arith}
 use Rattle.std.proofs.lemmas.Bool.{cases_eq, cases_lt, false≢true, eq-eqb, ne_eqb, lt-ltb, cond-true, or_from}
 use Rattle.std.specs.List.{position, position_or_len, list_any}
 use Rattle.std.proofs.lemmas.List.Sums.{position_or_len_is, fails_before_first}
 
--- no greater than a bound of all
+-- a bound of all numbers bounds their greatest
 pub fold-max_least : (xs : List ℕ) (a m : ℕ) → a ≤ m → ((k : ℕ) → k < length xs → get_or xs k 0 ≤ m) → fold max a xs ≤ m
 fold-max_least [] a m le all = le
 fold-max_least (x ∷ xs) a m le all =
     let x_le : x ≤ m = all 0 (omega arith) in
     fold-max_least xs (max a x) m (omega arith) (λ k h. all (suc k) (omega arith))
 
--- the first place that passes
+-- the first index that passes the test
 pub position_is : {X : Type 0} (p : X → Bool) (xs : List X) (i : ℕ) (d : X) → i < length xs → ((k : ℕ) → k < i → p (get_or xs k d) ≡ false) → p (get_or xs i d) ≡ true → position p xs ≡ Some i
 position_is p xs i d within before here =
     let at : position_or_len p xs ≡ i = position_or_len_is p xs i d (omega arith) before (λ _. here) in
     rw at (cond-true _ _ _ (lt-ltb _ _ within))
 
--- Among the first so many numbers this is the greatest, and where it isn't 0 it first stands at this place.
+-- The greatest of the first `seen` numbers. If it is above 0, its first index is `place`.
 pub record IsFirstGreatest (xs : List ℕ) (seen greatest place : ℕ) : Type 0 where
   pub bound : (k : ℕ) → k < seen → get_or xs k 0 ≤ greatest
   pub within : 0 < greatest → place < seen
@@ -32,7 +32,6 @@ none_seen xs place = record {
   before = λ k h _. omega arith;
 }
 
--- the greatest, with one number more
 pub next_greatest : (xs : List ℕ) (seen greatest place x g p : ℕ) → IsFirstGreatest xs seen greatest place → x ≡ get_or xs seen 0 →
     ((greatest < x) × (g ≡ x) × (p ≡ seen)) ⊎ ((x ≤ greatest) × (g ≡ greatest) × (p ≡ place)) → IsFirstGreatest xs (seen + 1) g p
 next_greatest xs seen greatest place x g p f is (inl (more, g_is, p_is)) = record {
@@ -73,12 +72,11 @@ is_position xs greatest place f some =
     (λ k h. ne_eqb _ _ (λ e. (let lt : get_or xs k 0 < greatest = f.before k some h in absurd (omega arith))))
     (eq-eqb _ _ (f.at some))
 
--- no element passes
 pub none_passes : {X : Type 0} (p : X → Bool) (xs : List X) (d : X) → ((k : ℕ) → k < length xs → p (get_or xs k d) ≡ false) → list_any p xs ≡ false
 none_passes p [] d h = refl
 none_passes p (x ∷ xs) d h = or_from _ _ (h 0 (omega arith)) (none_passes p xs d (λ k lt. h (suc k) (omega arith)))
 
--- an element that passes has a first place
+-- if an element passes, one is the first
 pub first_passes : {X : Type 0} (p : X → Bool) (xs : List X) (d : X) → list_any p xs ≡ true → (i : ℕ) × (position p xs ≡ Some i)
 first_passes p xs d some = elim (cases_lt (position_or_len p xs) (length xs)) [
   | inl within ↦ (position_or_len p xs, cond-true _ _ _ (lt-ltb _ _ within))

@@ -1,4 +1,4 @@
--- What a search keeps of the counts of its tile, row by row.
+-- The counts that a search keeps, row by row.
 use Rattle.std.proofs.Common.{◌≡◌, ◌≢◌, ℕ, zero, suc, ◌+◌, ◌-◌, ◌*◌, ◌/◌, ◌%◌, ◌<◌, inl, inr, Bool, true, false, List, [], ◌∷◌, Vec, Global, length, Option, Some, None, cond, unwrap_or, option_and_then, sym, ap, subst, refl, ◌∙◌, arith}
 use Rattle.std.specs.Prelude.{slice_get, slice_set}
 use Rattle.std.proofs.lemmas.Bool.{cases_eq, cases_Bool}
@@ -11,7 +11,7 @@ use Rattle.drain.specs.Lowering.{count_of, counts_in, kept_at, kept_of, place_at
 use Rattle.drain.specs.declared.lowering.Lowered.{Lowered}
 use Rattle.drain.proofs.Unique.{index-place_at, place_at-index_of}
 
--- a cell of the tile, and any other
+-- the kept count of a cell of the tile
 kept_inside : (c : Cutting) (tile : ℕ) (l : Lowered) (k : ℕ) → is_in_bounds (bounds_of c tile) (place_at c.cols k) ≡ true →
     kept_of c tile l k ≡ kept_at l (k / c.cols - (bounds_of c tile).top) (k % c.cols - (bounds_of c tile).left)
 unfolding kept_of
@@ -38,7 +38,7 @@ count_here c tile steps l p b counts within e inside row =
     ∙ ap (λ (o : Option (Vec ℕ Global)). option_and_then (λ (row : Vec ℕ Global). slice_get row.items (p.col - (bounds_of c tile).left)) o) at
     ∙ ap (λ (x : Bounds). slice_get counts.items (p.col - x.left)) (sym e))
 
--- nothing in an empty row
+-- an empty row keeps no count
 row_none : (rows : Option (Vec ℕ Global)) (col : ℕ) → ((row : Vec ℕ Global) → rows ≡ Some row → row.items ≡ []) → option_and_then (λ (counts : Vec ℕ Global). slice_get counts.items col) rows ≡ None
 row_none None col none = refl
 row_none (Some row) col none = ap (λ (xs : List ℕ). slice_get xs col) (none row refl)
@@ -63,7 +63,7 @@ slice_get-set_other (y ∷ ys) zero (suc j) x other = refl
 slice_get-set_other (y ∷ ys) (suc i) zero x other = refl
 slice_get-set_other (y ∷ ys) (suc i) (suc j) x other = slice_get-set_other ys i j x (λ e. other (ap suc e))
 
--- a count is put in the row of its cell, of which the others are kept, or are those that were lent
+-- A count is set in the row of its cell; the row's other counts are as they were.
 pub record IsPut (c : Cutting) (steps : List (Option ℕ)) (old new : Lowered) (p : Place) (n : ℕ) (b : Bounds) : Type 0 where
   pub inside : IsInBounds b p
   pub below : p.row - b.top < length old.rows.items
@@ -77,7 +77,7 @@ pub record IsPut (c : Cutting) (steps : List (Option ℕ)) (old new : Lowered) (
 abbrev in_row : Option (Vec ℕ Global) → ℕ → Option ℕ
 in_row o q = option_and_then (λ (counts : Vec ℕ Global). slice_get counts.items q) o
 
--- another cell of its row
+-- another cell of the row has its count as before
 put_beside : (c : Cutting) (tile : ℕ) (steps : List (Option ℕ)) (old new : Lowered) (p : Place) (n k : ℕ) → IsPut c steps old new p n (bounds_of c tile) →
     is_in_bounds (bounds_of c tile) (place_at c.cols k) ≡ true → k / c.cols ≡ p.row → k ≢ index_of c.cols p → counts_in c tile steps new k ≡ counts_in c tile steps old k
 put_beside c tile steps old new p n k put in_b row other =

@@ -1,4 +1,4 @@
--- Where what stands around a cell is laid out, the weights and ways on give its direction.
+-- The surroundings of a cell give its direction.
 use Rattle.std.proofs.Common.{◌≡◌, ℕ, ◌+◌, ◌*◌, ◌<◌, ◌≤◌, ◌<ℤ◌, ◌-ℤ◌, inl, inr, true, eqb, ltb, cond, max, fold, List, [], ◌∷◌, length, get_or, Option, None, Some, is_some, unwrap_or, MatchOption, ℤ, pos, sym, ap, subst, refl, ◌∙◌, arith}
 use Rattle.std.proofs.lemmas.Bool.{cases_Bool, cases_lt, and_from, eq-eqb, eqb-true, lt-ltb, le-ltb, cond-true, cond-false, false≢true}
 use Rattle.std.proofs.lemmas.Bool.Decides.{Decides-int_eq}
@@ -39,14 +39,14 @@ module _ (t : Terrain) (steps : List (Option ℕ)) (p : Place) (a : Around) (are
   own : IsSteps t p a.steps
   own = let n = steps_at t steps p are is_data in subst (λ k. IsSteps t p k) (same_Some _ _ (sym n.1 ∙ laid.own_steps)) n.2
 
-  -- a cell without steps drains at once, and no other does
+  -- a cell of 0 steps drains at once
   pub without_steps : a.steps ≡ 0 → DrainsAtOnce t p
   without_steps none = ended (DrainsAtOnce t) t p own.reached.0 own.reached.1 (own.reached.2 ∙ none)
 
   pub with_steps : 0 < a.steps → DrainsAtOnce t p → ⊥
   with_steps some drains = let least : a.steps ≤ length {A = Place} [] = own.least [] drains in omega (arith, some)
 
-  -- a data cell stands on its way
+  -- the surroundings have each neighbour on its way
   shown : (q : Place) (way : ℕ) → way < 8 → place_on way p ≡ Some q → IsDataCell t q → (n : ℕ) × (get_or a.ways way None ≡ Some (height_of t q, n)) × IsSteps t q n
   shown q way below e is =
       let n = steps_at t steps q are is in (
@@ -57,7 +57,7 @@ module _ (t : Terrain) (steps : List (Option ℕ)) (p : Place) (a : Around) (are
         n.2,
       )
 
-  -- what a lower neighbour weighs stands among the weights
+  -- the weight of a lower neighbour is that of its way
   weighs : (q : Place) (way : ℕ) → way < 8 → place_on way p ≡ Some q → IsLower t p q → (get_or (weights a) way 0 ≡ weight_of t p q) × (0 < get_or (weights a) way 0)
   weighs q way below e (next, less) =
       let there = shown q way below e next.to_data in
@@ -85,7 +85,7 @@ module _ (t : Terrain) (steps : List (Option ℕ)) (p : Place) (a : Around) (are
       let under = (le-fold_max (weights a) 0 way.0).1 (omega (arith, length-weights a, laid.count, way.1)) in
       omega (arith, some, under, none)
 
-  -- on a way with a weight stands a lower neighbour
+  -- a way of positive weight leads to a lower neighbour
   lower_on : (way : ℕ) → way < 8 → 0 < get_or (weights a) way 0 → (q : Place) × (place_on way p ≡ Some q) × IsLower t p q
   lower_on way below some =
       let is = get_or-weights a way (omega (arith, laid.count, below)) in
@@ -97,7 +97,7 @@ module _ (t : Terrain) (steps : List (Option ℕ)) (p : Place) (a : Around) (are
         (next_on_way t p q.0 way below q.1 is_data (ap is_some q.2), subst (λ z. z <ℤ height_of t p) (sym there) (subst (λ z. w.0.0 <ℤ z) (sym here) w.2)),
       )
 
-  -- the first way of greatest weight leads to the first of the steepest
+  -- the first way of greatest weight leads to the first steepest neighbour
   steepest_first : (greatest way : ℕ) → greatest ≡ fold max 0 (weights a) → 0 < greatest → position (λ w. eqb w greatest) (weights a) ≡ Some way →
       PointsToFirst (IsSteepest t p) p (code_of (Some way)) × HasLower t p
   steepest_first greatest way is some at =
@@ -132,12 +132,12 @@ module _ (t : Terrain) (steps : List (Option ℕ)) (p : Place) (a : Around) (are
   pub is_outlet : (code : ℕ) → fold max 0 (weights a) ≤ 0 → DrainsAtOnce t p → code ≡ 0 → IsDirection t p code
   is_outlet code none drains e = record { steepest = λ lower. absurd (no_lower none lower); outlet = λ _ _. e; onward = λ stays. absurd (stays drains) }
 
-  -- a neighbour of equal height with one step fewer is one that a way leads on to
+  -- the way to an equal neighbour with one step fewer leads on
   leads_to : (q : Place) (way : ℕ) → way < 8 → place_on way p ≡ Some q → IsNeighbour t p q → height_at t q ≡ height_at t p → (n : ℕ) → IsSteps t q n → n + 1 ≡ a.steps →
       leads_on a (get_or a.ways way None) ≡ true
-  leads_to q way below e next level n counted one =
+  leads_to q way below e next level n count_steps one =
       let there = shown q way below e next.to_data in
-      let same : there.0 ≡ n = one_number_of_steps t q there.0 n there.2 counted in
+      let same : there.0 ≡ n = one_number_of_steps t q there.0 n there.2 count_steps in
       let equal : height_of t q ≡ a.level = ap (λ (o : Option ℤ). unwrap_or o (pos 0)) level ∙ here in
       subst (λ (o : Option (ℤ × ℕ)). leads_on a o ≡ true) (sym there.1) (and_from _ _ ((Decides-int_eq (height_of t q) a.level).1 equal) (eq-eqb _ _ (omega (arith, same, one))))
 
@@ -152,9 +152,9 @@ module _ (t : Terrain) (steps : List (Option ℕ)) (p : Place) (a : Around) (are
       let fewer : n.0 + 1 ≡ a.steps = ap (λ k. k + 1) (same_Some _ _ (sym n.1 ∙ q.3)) ∙ w.3 in
       let first : PointsToFirst (IsOnward t p) p (code_of (Some way)) = record {
         one = (q.0, toward-code p way below ∙ q.1, (next, q.2 ∙ ap Some w.2 ∙ sym laid.level, n.0, n.2, subst (λ k. IsSteps t p k) (sym fewer) own));
-        first = λ other r e (beside, level, m, counted, above).
+        first = λ other r e (beside, level, m, count_steps, above).
             let k = way_toward p r other e in
-            let leads = leads_to r k.0 k.1 k.3 beside level m counted (one_number_of_steps t p (m + 1) a.steps above own) in
+            let leads = leads_to r k.0 k.1 k.3 beside level m count_steps (one_number_of_steps t p (m + 1) a.steps above own) in
             elim (cases_lt k.0 way) [
               | inl before ↦ absurd (false≢true (sym (found.2 k.0 before) ∙ leads))
               | inr after ↦ omega (arith, codes_rise way k.0 after k.1, k.2)
@@ -171,7 +171,7 @@ module _ (t : Terrain) (steps : List (Option ℕ)) (p : Place) (a : Around) (are
       let above : a.steps ≤ length (q ∷ n.2.reached.0) = own.least (q ∷ n.2.reached.0) (walk.0, walk.1, n.2.reached.1) in
       list_any_at (leads_on a) a.ways way.0 None (omega (arith, laid.count, way.1)) (leads_to q way.0 way.1 way.2 walk.0 walk.1 n.0 n.2 (omega (arith, under, above, n.2.reached.2, size)))
 
-  -- a cell that does not drain at once leads on
+  -- a cell that does not drain at once has a way that leads on
   pub leads : (DrainsAtOnce t p → ⊥) → list_any (leads_on a) a.ways ≡ true
   leads stays = leads_by own.reached.0 own.reached.1 own.reached.2 stays
 
@@ -198,7 +198,7 @@ fitting t steps p a lawful are around =
       ];
     }
 
--- what `direction` answers is the direction of the cell around which this stands
+-- `direction_of` the surroundings of a cell is its direction
 pub direction_is : (t : Terrain) (steps : List (Option ℕ)) (p : Place) (a : Around) → AreSteps t steps → IsAround t steps p a → IsDirection t p (direction_of a)
 direction_is t steps p a are around = elim (cases_lt 0 (fold max 0 (weights a))) [
   | inl some ↦

@@ -13,7 +13,6 @@ least_of_none b levels counts from level bound = record {
   one = inl refl;
 }
 
--- the least, with one spot more
 pub least_with : (b : Bounds) (levels : List (Option ℤ)) (counts : List ℕ) (from : Place) (col : ℕ) (level : Option ℤ) (bound least next : ℕ)
     → IsLeastAlong b levels counts from col level bound least → from.col ≤ col → next ≤ least
     → (level_on b levels (make_place from.row col) ≡ level → next ≤ count_on b counts (make_place from.row col) + 1)

@@ -1,21 +1,21 @@
 -- worked rows
 mod Rows
--- steps: one number for each cell, reached where nothing changes
+-- steps: one number for each cell, and the counts that no round changes
 pub mod Local
 pub mod Quiet
 pub mod Few
 pub mod Nearby
 pub mod Counted
--- lists of the entries of a tile
+-- from tiles' lists to the map of codes
 pub mod TileLists
--- a round over a tile
+-- the search over a window
 pub mod Spreading
 pub mod Noted
 pub mod Least
 pub mod Spots
 pub mod Begun
 pub mod TileRound
--- a search within a tile, and rounds of such
+-- the search of a later round, and rounds over all tiles
 pub mod Kept
 pub mod Lowered
 pub mod Noting
@@ -30,7 +30,7 @@ pub mod Greatest
 pub mod Weights
 pub mod Pointing
 pub mod Laid
-pub mod AmidLemmas
+pub mod InteriorLemmas
 pub mod Unique
 pub mod Steepest
 -- the map of directions

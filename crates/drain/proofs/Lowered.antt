@@ -1,4 +1,4 @@
--- A search within a tile: how far it has come, one change more at a time.
+-- The search of a later round in its tile, change by change.
 use Rattle.std.proofs.Common.{◌≡◌, ◌≢◌, ℕ, zero, suc, ◌+◌, ◌*◌, ◌^◌, ◌<◌, ◌≤◌, ◌⊎◌, inl, inr, List, [], ◌∷◌, ◌++◌, length, Vec, Global, Option, Some, None, unwrap_or, IfSome, sym, ap, subst, refl, ◌∙◌, arith}
 use Rattle.std.specs.Prelude.{slice_get}
 use Rattle.std.proofs.lemmas.Bool.{cases_eq, cases_lt}
@@ -12,8 +12,8 @@ use Rattle.terrain.specs.declared.place.Place.{Place}
 use Rattle.tiles.specs.declared.bounds.Bounds.{Bounds}
 use Rattle.tiles.specs.Cutting.{Cutting, IsCutting, IsWithin, IsInTile, IsInBounds, bounds_of, tile_of_place}
 use Rattle.tiles.proofs.Cut.{in_bounds, in_tile, tile_of_place_below}
-use Rattle.drain.specs.Rounds.{IsLent, IsWalked, AreCounting}
-use Rattle.drain.specs.Lowering.{count_of, counts_in, total, AreLevel, IsEvenInside, IsChange, IsLowered, IsTold, IsLoweredTo, IsEntered, IsAmong, MayGoOn}
+use Rattle.drain.specs.Rounds.{IsSource, IsWalked, AreCounting}
+use Rattle.drain.specs.Lowering.{count_of, counts_in, total, AreLevel, IsEvenInside, IsChange, IsLowered, IsReported, IsLoweredTo, IsEntered, IsAmong, MayGoOn}
 use Rattle.drain.specs.declared.changes.Change.{Change}
 use Rattle.drain.specs.Entering.{AreEntries, IsRun}
 use Rattle.drain.specs.declared.changes.Entry.{Entry}
@@ -28,7 +28,7 @@ unfolding total
 total_low zero f g low = omega arith
 total_low (suc n) f g low = omega (arith, low n, total_low n f g low)
 
--- counts that are no greater, and of which one is less
+-- the sum falls if no count rises and one falls
 pub total_less : (n : ℕ) (f g : ℕ → ℕ) → ((k : ℕ) → g k ≤ f k) → (j : ℕ) → j < n → g j < f j → total n g < total n f
 unfolding total
 total_less zero f g low j below less = absurd (omega arith)
@@ -37,12 +37,13 @@ total_less (suc n) f g low j below less = elim (cases_eq j n) [
   | inr ne ↦ omega (arith, low n, total_less n f g low j (omega arith) less)
 ]
 
--- inside the tile no count would be made less by a neighbour's, but where that stands in the list from a place on
-pub record IsEvenButTold (t : Terrain) (c : Cutting) (tile : ℕ) (steps : List (Option ℕ)) (l : Lowered) (from : ℕ) : Type 0 where
+-- Inside the tile each count is at most one above that of a level neighbour, unless the neighbour's
+-- change waits at index `from` or later.
+pub record IsEvenButReported (t : Terrain) (c : Cutting) (tile : ℕ) (steps : List (Option ℕ)) (l : Lowered) (from : ℕ) : Type 0 where
   pub within : (p q : Place) → IsInTile c tile p → IsInTile c tile q → AreLevel t p q →
-      (counts_in c tile steps l (index_of c.cols p) ≤ counts_in c tile steps l (index_of c.cols q) + 1) ⊎ IsTold c tile steps l from q
+      (counts_in c tile steps l (index_of c.cols p) ≤ counts_in c tile steps l (index_of c.cols q) + 1) ⊎ IsReported c tile steps l from q
 
--- no count is above the one that stands for none
+-- no count is above the mark for an unknown one
 small_walk : (Ends : Place → Type 0) (t : Terrain) (p : Place) (o : Option ℕ) → IfSome o (IsWalked Ends t p) → unwrap_or o (2 ^ 24) ≤ 2 ^ 24
 small_walk Ends t p None walked = omega arith
 small_walk Ends t p (Some n) walked = omega (arith, walked.0)
@@ -50,7 +51,7 @@ small_walk Ends t p (Some n) walked = omega (arith, walked.0)
 pub small : (t : Terrain) (steps : List (Option ℕ)) (k : ℕ) → AreCounting t steps → count_of steps k ≤ 2 ^ 24
 small t steps k counting = elim (cases_lt k (t.cols * t.rows)) [
   | inl below ↦ at_place (λ (i : ℕ). count_of steps i ≤ 2 ^ 24) t.cols t.rows (λ p row col.
-      let here = small_walk (IsLent t steps) t p (entry_at t.cols t.rows steps p) (counting.walked p) in
+      let here = small_walk (IsSource t steps) t p (entry_at t.cols t.rows steps p) (counting.walked p) in
       let same = ap (λ (o : Option ℕ). unwrap_or o (2 ^ 24)) (entry-inside t.cols t.rows steps p row col) in omega (arith, here, same)) k below
   | inr past ↦ (let none = ap (λ (o : Option ℕ). unwrap_or o (2 ^ 24)) (get_or_past steps k None (omega (arith, past, counting.size))) in omega (arith, none))
 ]
@@ -62,16 +63,15 @@ module _ (t : Terrain) (c : Cutting) (tile : ℕ) (steps : List (Option ℕ)) wh
   change_low : (f g : ℕ → ℕ) (x : Change) → ((k : ℕ) → g k ≤ f k) → IsChange t c tile steps f x → IsChange t c tile steps g x
   change_low f g x low is = record { inside = is.inside; walked = is.walked; less = is.less; least = omega (arith, is.least, low (index_of c.cols x.place)) }
 
-  -- what is told of a place stays told where its count stays
+  -- a reported place stays reported while its count stays
   told_still : (old new : Lowered) (from : ℕ) (p : Place) → ((k : ℕ) → k < length old.changes.items → slice_get new.changes.items k ≡ slice_get old.changes.items k) →
-      counts_in c tile steps new (index_of c.cols p) ≡ counts_in c tile steps old (index_of c.cols p) → IsTold c tile steps old from p → IsTold c tile steps new from p
-  told_still old new from p kept same told = (
-    told.0,
-    told.1,
-    kept told.0 (slice_get_within old.changes.items told.0 _ told.2) ∙ told.2 ∙ ap (λ (n : ℕ). Some (let x : Change = record { place = p; count = n } in x)) (sym same),
+      counts_in c tile steps new (index_of c.cols p) ≡ counts_in c tile steps old (index_of c.cols p) → IsReported c tile steps old from p → IsReported c tile steps new from p
+  told_still old new from p kept same reported = (
+    reported.0,
+    reported.1,
+    kept reported.0 (slice_get_within old.changes.items reported.0 _ reported.2) ∙ reported.2 ∙ ap (λ (n : ℕ). Some (let x : Change = record { place = p; count = n } in x)) (sym same),
   )
 
-  -- nothing is changed
   pub reached_same : (Done : Place → Type 0) (bound : ℕ) (l : Lowered) → ((p : Place) → Done p → counts_in c tile steps l (index_of c.cols p) ≤ bound) → IsLoweredTo t c tile steps Done bound l l
   reached_same Done bound l near = record {
     low = λ k. omega arith;
@@ -79,7 +79,7 @@ module _ (t : Terrain) (c : Cutting) (tile : ℕ) (steps : List (Option ℕ)) wh
     rows = refl;
     longer = omega arith;
     kept = λ k below. refl;
-    told = λ p within. inl refl;
+    reported = λ p within. inl refl;
     added = λ k x past is. absurd (omega (arith, slice_get_within l.changes.items k x is));
     left = omega arith;
   }
@@ -88,9 +88,9 @@ module _ (t : Terrain) (c : Cutting) (tile : ℕ) (steps : List (Option ℕ)) wh
   reached_none Done bound l none = reached_same Done bound l (λ p done. absurd (none p done))
 
   pub reached_all : (First Done : Place → Type 0) (bound : ℕ) (old new : Lowered) → ((p : Place) → Done p → First p) → IsLoweredTo t c tile steps First bound old new → IsLoweredTo t c tile steps Done bound old new
-  reached_all First Done bound old new each f = record { low = f.low; near = λ p done. f.near p (each p done); rows = f.rows; longer = f.longer; kept = f.kept; told = f.told; added = f.added; left = f.left }
+  reached_all First Done bound old new each f = record { low = f.low; near = λ p done. f.near p (each p done); rows = f.rows; longer = f.longer; kept = f.kept; reported = f.reported; added = f.added; left = f.left }
 
-  -- some places after others
+  -- a search goes on to further places
   pub reached_then : (First Next Done : Place → Type 0) (bound : ℕ) (old mid new : Lowered) → ((p : Place) → Done p → First p ⊎ Next p) →
       IsLoweredTo t c tile steps First bound old mid → IsLoweredTo t c tile steps Next bound mid new → IsLoweredTo t c tile steps Done bound old new
   reached_then First Next Done bound old mid new each f g = record {
@@ -102,11 +102,11 @@ module _ (t : Terrain) (c : Cutting) (tile : ℕ) (steps : List (Option ℕ)) wh
     rows = g.rows ∙ f.rows;
     longer = omega (arith, f.longer, g.longer);
     kept = λ k below. g.kept k (omega (arith, f.longer)) ∙ f.kept k below;
-    told = λ p within. elim (g.told p within) [
-      | inr told ↦ inr (told.0, omega (arith, told.1, f.longer), told.2)
-      | inl same ↦ elim (f.told p within) [
+    reported = λ p within. elim (g.reported p within) [
+      | inr reported ↦ inr (reported.0, omega (arith, reported.1, f.longer), reported.2)
+      | inl same ↦ elim (f.reported p within) [
         | inl before ↦ inl (same ∙ before)
-        | inr told ↦ inr (told_still mid new (length old.changes.items) p g.kept same told)
+        | inr reported ↦ inr (told_still mid new (length old.changes.items) p g.kept same reported)
       ]
     ];
     added = λ k x past is. elim (cases_lt k (length mid.changes.items)) [
@@ -116,8 +116,8 @@ module _ (t : Terrain) (c : Cutting) (tile : ℕ) (steps : List (Option ℕ)) wh
     left = omega (arith, f.left, g.left);
   }
 
-  -- one cell gets less
-  pub reached_put : (old new : Lowered) (x : Change) → IsInTile c tile x.place → IsWalked (IsLent t steps) t x.place x.count → x.count < counts_in c tile steps old (index_of c.cols x.place) →
+  -- a search lowers one cell
+  pub reached_put : (old new : Lowered) (x : Change) → IsInTile c tile x.place → IsWalked (IsSource t steps) t x.place x.count → x.count < counts_in c tile steps old (index_of c.cols x.place) →
       ((k : ℕ) → counts_in c tile steps old k ≤ count_of steps k) →
       counts_in c tile steps new (index_of c.cols x.place) ≡ x.count → ((k : ℕ) → k ≢ index_of c.cols x.place → counts_in c tile steps new k ≡ counts_in c tile steps old k) →
       length new.rows.items ≡ length old.rows.items → new.changes.items ≡ old.changes.items ++ x ∷ [] → IsLoweredTo t c tile steps (λ p. p ≡ x.place) x.count old new
@@ -137,7 +137,7 @@ module _ (t : Terrain) (c : Cutting) (tile : ℕ) (steps : List (Option ℕ)) wh
         rows = rows;
         longer = omega (arith, size);
         kept = λ k below. ap (λ (xs : List Change). slice_get xs k) pushed ∙ slice_get-append_left old.changes.items (x ∷ []) k below;
-        told = λ p within. elim (cases_place p x.place) [
+        reported = λ p within. elim (cases_place p x.place) [
           | inl e ↦ inr (
             length old.changes.items,
             omega arith,
@@ -158,16 +158,16 @@ module _ (t : Terrain) (c : Cutting) (tile : ℕ) (steps : List (Option ℕ)) wh
         );
       }
 
-  -- what a search has come to, after it came further
+  -- the counts stay lowered by the changes alone
   pub lowered_then : (Done : Place → Type 0) (bound : ℕ) (old new : Lowered) → IsLowered t c tile steps (counts_in c tile steps old) old.changes.items → IsLoweredTo t c tile steps Done bound old new →
       IsLowered t c tile steps (counts_in c tile steps new) new.changes.items
   lowered_then Done bound old new f g = record {
     low = λ k. omega (arith, f.low k, g.low k);
-    told = λ p within. elim (g.told p within) [
-      | inr told ↦ inr (told.0, told.2)
-      | inl same ↦ elim (f.told p within) [
+    reported = λ p within. elim (g.reported p within) [
+      | inr reported ↦ inr (reported.0, reported.2)
+      | inl same ↦ elim (f.reported p within) [
         | inl before ↦ inl (same ∙ before)
-        | inr told ↦ (let now = told_still old new 0 p g.kept same (told.0, omega arith, told.1) in inr (now.0, now.2))
+        | inr reported ↦ (let now = told_still old new 0 p g.kept same (reported.0, omega arith, reported.1) in inr (now.0, now.2))
       ]
     ];
     each = λ x among. elim (cases_lt among.0 (length old.changes.items)) [
@@ -176,12 +176,12 @@ module _ (t : Terrain) (c : Cutting) (tile : ℕ) (steps : List (Option ℕ)) wh
     ];
   }
 
-  -- after an entry
-  pub even_enter : (Done : Place → Type 0) (bound : ℕ) (old new : Lowered) (done : ℕ) → done ≤ length old.changes.items → IsEvenButTold t c tile steps old done → IsLoweredTo t c tile steps Done bound old new →
-      IsEvenButTold t c tile steps new done
+  -- evenness after an entry
+  pub even_enter : (Done : Place → Type 0) (bound : ℕ) (old new : Lowered) (done : ℕ) → done ≤ length old.changes.items → IsEvenButReported t c tile steps old done → IsLoweredTo t c tile steps Done bound old new →
+      IsEvenButReported t c tile steps new done
   even_enter Done bound old new done few even g = record {
-    within = λ p q i j side. elim (g.told q j.0) [
-      | inr told ↦ inr (told.0, omega (arith, told.1), told.2)
+    within = λ p q i j side. elim (g.reported q j.0) [
+      | inr reported ↦ inr (reported.0, omega (arith, reported.1), reported.2)
       | inl same ↦ elim (even.within p q i j side) [
         | inl le ↦ inl (omega (arith, le, same, g.low (index_of c.cols p)))
         | inr waits ↦ inr (told_still old new done q g.kept same waits)
@@ -189,12 +189,12 @@ module _ (t : Terrain) (c : Cutting) (tile : ℕ) (steps : List (Option ℕ)) wh
     ];
   }
 
-  -- after one was spread from
-  pub even_spread : (old new : Lowered) (done : ℕ) (from : Change) → slice_get old.changes.items done ≡ Some from → IsEvenButTold t c tile steps old done →
-      IsLoweredTo t c tile steps (λ p. IsInTile c tile p × Touches from.place p × (height_at t p ≡ height_at t from.place)) (from.count + 1) old new → IsEvenButTold t c tile steps new (done + 1)
+  -- evenness after a change has spread
+  pub even_spread : (old new : Lowered) (done : ℕ) (from : Change) → slice_get old.changes.items done ≡ Some from → IsEvenButReported t c tile steps old done →
+      IsLoweredTo t c tile steps (λ p. IsInTile c tile p × Touches from.place p × (height_at t p ≡ height_at t from.place)) (from.count + 1) old new → IsEvenButReported t c tile steps new (done + 1)
   even_spread old new done from here even g = record {
-    within = λ p q i j side. elim (g.told q j.0) [
-      | inr told ↦ inr (told.0, omega (arith, told.1, slice_get_within old.changes.items done from here), told.2)
+    within = λ p q i j side. elim (g.reported q j.0) [
+      | inr reported ↦ inr (reported.0, omega (arith, reported.1, slice_get_within old.changes.items done from here), reported.2)
       | inl same ↦ elim (even.within p q i j side) [
         | inl le ↦ inl (omega (arith, le, same, g.low (index_of c.cols p)))
         | inr waits ↦ elim (cases_eq waits.0 done) [
@@ -209,8 +209,8 @@ module _ (t : Terrain) (c : Cutting) (tile : ℕ) (steps : List (Option ℕ)) wh
     ];
   }
 
-  -- none is left
-  pub even_end : (l : Lowered) (done : ℕ) → length l.changes.items ≤ done → IsEvenButTold t c tile steps l done → IsEvenInside t c tile (counts_in c tile steps l)
+  -- evenness when no change waits
+  pub even_end : (l : Lowered) (done : ℕ) → length l.changes.items ≤ done → IsEvenButReported t c tile steps l done → IsEvenInside t c tile (counts_in c tile steps l)
   even_end l done all even = record {
     within = λ p q i j side. elim (even.within p q i j side) [
       | inl le ↦ le
@@ -218,7 +218,7 @@ module _ (t : Terrain) (c : Cutting) (tile : ℕ) (steps : List (Option ℕ)) wh
     ];
   }
 
--- of its own tile
+-- a change of a tile is a change of its cell's tile
 change_own : (t : Terrain) (c : Cutting) (tile : ℕ) (steps : List (Option ℕ)) (l : Lowered) (x : Change) → IsChange t c tile steps (counts_in c tile steps l) x →
     IsChange t c (tile_of_place c x.place) steps (counts_in c (tile_of_place c x.place) steps l) x
 change_own t c tile steps l x is = subst (λ (k : ℕ). IsChange t c k steps (counts_in c k steps l) x) (sym is.inside.1) is
@@ -227,7 +227,7 @@ pub low_own : (c : Cutting) (tile : ℕ) (steps : List (Option ℕ)) (l : Lowere
     (k : ℕ) → counts_in c (tile_of_place c p) steps l k ≤ count_of steps k
 low_own c tile steps l p own low = subst (λ (i : ℕ). (k : ℕ) → counts_in c i steps l k ≤ count_of steps k) (sym own) low
 
--- a search may go on from each of its changes
+-- a search may spread from each of its changes
 pub ready_at : (t : Terrain) (c : Cutting) (tile : ℕ) (steps : List (Option ℕ)) (b : Bounds) (l : Lowered) (x : Change) → AreCounting t steps → b ≡ bounds_of c tile → length l.rows.items ≡ b.rows → IsLowered t c tile steps (counts_in c tile steps l) l.changes.items →
     IsAmong l.changes.items x → MayGoOn t c steps b l x
 ready_at t c tile steps b l x counting bounds rows lowered among =
@@ -240,7 +240,7 @@ ready_at t c tile steps b l x counting bounds rows lowered among =
       low = low_own c tile steps l x.place change.inside.1 lowered.low;
     }
 
--- and still may when it has gone on
+-- a search may still spread from a change after spreading further
 pub ready_still : (t : Terrain) (c : Cutting) (steps : List (Option ℕ)) (b : Bounds) (Done : Place → Type 0) (bound : ℕ) (old new : Lowered) (x : Change) → MayGoOn t c steps b old x → IsLoweredTo t c (tile_of_place c x.place) steps Done bound old new → MayGoOn t c steps b new x
 ready_still t c steps b Done bound old new x ready reached = record {
   counting = ready.counting;
@@ -250,38 +250,36 @@ ready_still t c steps b Done bound old new x ready reached = record {
   low = λ k. omega (arith, reached.low k, ready.low k);
 }
 
--- before the first entry
 pub begun : (t : Terrain) (c : Cutting) (tile : ℕ) (steps : List (Option ℕ)) (l : Lowered) → ((k : ℕ) (row : Vec ℕ Global) → slice_get l.rows.items k ≡ Some row → row.items ≡ []) → l.changes.items ≡ [] → IsEvenInside t c tile (count_of steps) →
-    IsLowered t c tile steps (counts_in c tile steps l) l.changes.items × IsEvenButTold t c tile steps l 0
+    IsLowered t c tile steps (counts_in c tile steps l) l.changes.items × IsEvenButReported t c tile steps l 0
 begun t c tile steps l none empty even =
     let same : (k : ℕ) → counts_in c tile steps l k ≡ count_of steps k = λ k. ap (λ (o : Option ℕ). unwrap_or o (count_of steps k)) (kept_none c tile l none k) in (
       record {
         low = λ k. omega (arith, same k);
-        told = λ p within. inl (same (index_of c.cols p));
+        reported = λ p within. inl (same (index_of c.cols p));
         each = λ x among. absurd (omega (arith, slice_get_within l.changes.items among.0 x among.1, ap (λ (xs : List Change). length xs) empty));
       },
       record { within = λ p q i j side. inl (omega (arith, even.within p q i j side, same (index_of c.cols p), same (index_of c.cols q))) },
     )
 
--- a place in a tile's bounds that lies beside one of the tile
+-- a place in the bounds of a cell's tile is of that tile
 pub beside_in_tile : (c : Cutting) (p q : Place) (b : Bounds) → IsCutting c → IsWithin c p → b ≡ bounds_of c (tile_of_place c p) → IsInBounds b q → Touches p q → IsInTile c (tile_of_place c p) q × Touches p q
 beside_in_tile c p q b lawful within e inside touch = (in_tile c (tile_of_place c p) q lawful (tile_of_place_below c p lawful within) (subst (λ (x : Bounds). IsInBounds x q) e inside), touch)
 
--- the bounds of a place's tile
+-- a cell of a place's tile lies in the tile's bounds
 pub own_bounds : (c : Cutting) (p q : Place) (b : Bounds) → IsCutting c → b ≡ bounds_of c (tile_of_place c p) → IsInTile c (tile_of_place c p) q → IsInBounds b q
 own_bounds c p q b lawful e inside = subst (λ (x : Bounds). IsInBounds x q) (sym e) (in_bounds c (tile_of_place c p) q lawful inside)
 
--- by another name of the tile
 pub reached_tile : (t : Terrain) (c : Cutting) (tile other : ℕ) (steps : List (Option ℕ)) (Done : Place → Type 0) (bound : ℕ) (old new : Lowered) → tile ≡ other →
     IsLoweredTo t c tile steps Done bound old new → IsLoweredTo t c other steps Done bound old new
 reached_tile t c tile other steps Done bound old new e f = subst (λ (k : ℕ). IsLoweredTo t c k steps Done bound old new) e f
 
--- an entry of a run is into its tile
+-- an entry of a run is for the run's tile
 pub entry_own : (t : Terrain) (c : Cutting) (steps : List (Option ℕ)) (entries : List Entry) (run : Run) (k : ℕ) (e : Entry) → AreEntries t c steps entries → IsRun entries run → run.from ≤ k → k < run.end → slice_get entries k ≡ Some e →
     tile_of_place c e.change.place ≡ run.tile
 entry_own t c steps entries run k e are is past below at = (are e (k, at)).inside.1 ∙ is.own k e past below at
 
--- entries that came in stay so
+-- entries stay applied while counts fall
 pub entered_low : (c : Cutting) (entries : List Entry) (from end : ℕ) (f g : ℕ → ℕ) → ((k : ℕ) → g k ≤ f k) → IsEntered c entries from end f → IsEntered c entries from end g
 entered_low c entries from end f g low is = record { each = λ k e past below here. omega (arith, is.each k e past below here, low (index_of c.cols e.change.place)) }
 

@@ -1,4 +1,4 @@
--- What can be decided around a cell: neighbours, cells that drain at once, and walks of so many moves.
+-- Decidable facts around a cell: neighbours, draining at once, and walks of k moves.
 use Rattle.std.proofs.Common.{◌≡◌, ℕ, zero, suc, ◌<ℤ◌, Bool, Decides, ◌&&◌, ◌||◌, ◌⊎◌, inl, inr, List, [], ◌∷◌, length, Option, Some, unwrap_or, ℤ, pos, int_lt, sym, ap, refl, ◌∙◌, arith}
 use Rattle.std.specs.List.{list_any}
 use Rattle.std.specs.Ordering.{int_eq}
@@ -11,14 +11,13 @@ use Rattle.drainage.proofs.Heights.{known}
 use Rattle.drainage.proofs.Reach.{field, is_next, is_end_cell, any_found, any_touching, next_true, true_next, end_true, true_end}
 use Rattle.drain.specs.Steps.{HasLower, DrainsAtOnce, IsFlatWalk}
 
--- holds, or does not
 abbrev pub Decided : Type 0 → Type 0
 Decided P = P ⊎ (P → ⊥)
 
 decided : {P : Type 0} (b : Bool) → Decides b P → Decided P
 decided b d = elim (cases_Bool b) [ inl holds ↦ inl (d.0 holds) | inr fails ↦ inr (not_from_Decides b d fails) ]
 
--- whether something holds of a neighbour
+-- whether a neighbour has a property is decidable
 beside : (t : Terrain) (test : Place → Bool) (P : Place → Type 0) (p : Place) → ((q : Place) → IsNeighbour t p q → Decides (test q) (P q)) →
     Decides (list_any (λ q. is_next t p q && test q) (field t)) ((q : Place) × IsNeighbour t p q × P q)
 beside t test P p decides = (
@@ -54,7 +53,7 @@ level t p q next =
     Decides-like _ (λ e. known (height_at t q) next.to_data ∙ ap Some e ∙ sym (known (height_at t p) next.from_data))
     (λ e. ap (λ (o : Option ℤ). unwrap_or o (pos 0)) e) (Decides-int_eq (height_of t q) (height_of t p))
 
--- a walk of so many moves
+-- a flat walk of k moves
 abbrev pub WalksIn : Terrain → Place → ℕ → Type 0
 WalksIn t p n = (rest : List Place) × IsFlatWalk t p rest × (length rest ≡ n)
 

@@ -1,4 +1,4 @@
--- Which spots' counts a search changed, and which are left to spread from.
+-- The spots that a search lowered, and those that still have to spread.
 use Rattle.std.proofs.Common.{◌≡◌, ◌≢◌, ℕ, ◌+◌, ◌<◌, ◌≤◌, ◌⊎◌, inl, inr, All, List, [], ◌∷◌, ◌++◌, length, get_or, set, Option, Some, ℤ, sym, ap, subst, refl, ◌∙◌, arith}
 use Rattle.std.specs.Prelude.{slice_get}
 use Rattle.std.proofs.lemmas.Bool.{cases_eq}
@@ -29,17 +29,16 @@ noted_then b old mid new xs ys zs f g = record {
   ];
 }
 
--- a count that no other spot has is kept where one is set
+-- setting the count of one spot keeps that of another
 other_kept : (b : Bounds) (counts : List ℕ) (s r : Place) (i n : ℕ) → i ≡ spot_index b s → IsSpot b s → IsSpot b r → r ≢ s → count_on b (set counts i n) r ≡ count_on b counts r
 other_kept b counts s r i n e spot other ne =
     let apart : spot_index b r ≢ i = λ at. ne (index_injective (b.cols + 2) r s other.1 spot.1 (at ∙ e)) in
     get_or-set_other counts i (spot_index b r) n 0 apart
 
--- a spot stands in a list beside those before, if it is one of the tile's
+-- a spot of the tile is appended to a list; another spot leaves the list as it is
 abbrev pub IsAdded : Bounds → Place → List Place → List Place → Type 0
 IsAdded b s xs ys = (IsInner b s × (ys ≡ xs ++ s ∷ [])) ⊎ ((IsInner b s → ⊥) × (ys ≡ xs))
 
--- a count is set, and its spot added
 pub noted_set : (b : Bounds) (counts : List ℕ) (s : Place) (i n : ℕ) (xs ys : List Place) → i ≡ spot_index b s → IsSpot b s → IsAdded b s xs ys → AreNoted b counts (set counts i n) xs ys
 noted_set b counts s i n xs ys e spot (inl (inside, is)) = record {
   longer = omega (arith, length_push xs s, ap (λ (zs : List Place). length zs) is);
@@ -55,7 +54,6 @@ noted_set b counts s i n xs ys e spot (inr (off, is)) = record {
   each = λ r inner. inl (other_kept b counts s r i n e spot (spot_from_inner b r inner) (λ one. off (subst (λ (p : Place). IsInner b p) one inner)));
 }
 
--- nothing is moved
 pub reached_same : {b : Bounds} {levels : List (Option ℤ)} {spot : Place} {Done : Place → Type 0} {counts : List ℕ} {xs : List Place} →
     ((r : Place) → Done r → level_on b levels spot ≡ level_on b levels r → count_on b counts r ≤ count_on b counts spot + 1) → IsReached b levels spot Done counts counts xs xs
 reached_same {b} {levels} {spot} {Done} {counts} {xs} near = record {
@@ -71,7 +69,6 @@ pub reached_none : {b : Bounds} {levels : List (Option ℤ)} {spot : Place} {Don
     IsReached b levels spot Done counts counts xs xs
 reached_none none = reached_same (λ r done _. absurd (none r done))
 
--- a spot is reached
 pub reached_set : (b : Bounds) (levels : List (Option ℤ)) (counts : List ℕ) (from to : Place) (i j : ℕ) (xs ys : List Place) → i ≡ spot_index b from → j ≡ spot_index b to → IsSpot b from →
     IsSpot b to × Touches from to → length counts ≡ area_of b → level_on b levels from ≡ level_on b levels to → get_or counts i 0 + 1 < get_or counts j 0 → IsAdded b to xs ys →
     IsReached b levels from (λ r. r ≡ to) counts (set counts j (get_or counts i 0 + 1)) xs ys
@@ -98,7 +95,6 @@ reached_set b levels counts from to i j xs ys e f spot other size level less add
       ];
     }
 
--- some spots are reached after others
 pub reached_then : {b : Bounds} {levels : List (Option ℤ)} {spot : Place} {First Next Done : Place → Type 0} {old mid new : List ℕ} {xs ys zs : List Place} →
     IsReached b levels spot First old mid xs ys → IsReached b levels spot Next mid new ys zs → ((r : Place) → Done r → First r ⊎ Next r) → IsReached b levels spot Done old new xs zs
 reached_then {b} {levels} {spot} {First} {Next} {Done} {old} {mid} {new} {xs} {ys} {zs} f g each = record {
@@ -113,12 +109,11 @@ reached_then {b} {levels} {spot} {First} {Next} {Done} {old} {mid} {new} {xs} {y
   left = omega (arith, f.left, g.left);
 }
 
--- all of some spots are reached
 pub reached_all : {b : Bounds} {levels : List (Option ℤ)} {spot : Place} {First Done : Place → Type 0} {old new : List ℕ} {xs ys : List Place} → IsReached b levels spot First old new xs ys →
     ((r : Place) → Done r → First r) → IsReached b levels spot Done old new xs ys
 reached_all f each = record { spread = f.spread; near = λ r done. f.near r (each r done); own = f.own; noted = f.noted; inner = f.inner; left = f.left }
 
--- before the first is spread from
+-- evenness before the first spot spreads
 pub even_begin : (b : Bounds) (levels : List (Option ℤ)) (old counts : List ℕ) (reached : List Place) → ((s : Place) → IsInner b s → IsNear b levels old counts s) → AreNoted b old counts [] reached →
     IsEvenBut b levels counts reached 0
 even_begin b levels old counts reached near noted = record {
@@ -128,7 +123,7 @@ even_begin b levels old counts reached near noted = record {
   ];
 }
 
--- one is spread from
+-- evenness after a spot has spread
 pub even_spread : {b : Bounds} {levels : List (Option ℤ)} {counts new : List ℕ} {waiting after : List Place} {done : ℕ} {spot : Place} → IsEvenBut b levels counts waiting done →
     slice_get waiting done ≡ Some spot → IsReached b levels spot (Touches spot) counts new waiting after → IsEvenBut b levels new after (done + 1)
 even_spread {b} {levels} {counts} {new} {waiting} {after} {done} {spot} even here reached = record {
@@ -150,7 +145,7 @@ even_spread {b} {levels} {counts} {new} {waiting} {after} {done} {spot} even her
         let same : count_on b new s ≡ count_on b counts spot = ap (λ (p : Place). count_on b new p) (sym one) ∙ reached.own in
         omega (arith, from, same)
 
--- none is left
+-- evenness when no spot waits
 pub even_end : (b : Bounds) (levels : List (Option ℤ)) (counts : List ℕ) (waiting : List Place) (done : ℕ) → IsEvenBut b levels counts waiting done → length waiting ≤ done → IsEven b levels counts
 even_end b levels counts waiting done even none = record {
   each = λ s r inner other touch level. elim (even.each s r inner other touch level) [

@@ -1,4 +1,4 @@
--- Entries that are noted, one more at a time.
+-- The list of entries, entry by entry.
 use Rattle.std.proofs.Common.{◌≡◌, ◌≢◌, ℕ, ◌+◌, ◌^◌, ◌<◌, ◌≤◌, ◌⊎◌, inl, inr, List, [], ◌∷◌, ◌++◌, length, Option, Some, ℤ, is_some, unwrap_or, sym, ap, subst, refl, ◌∙◌, arith}
 use Rattle.std.specs.Prelude.{slice_get, Contains}
 use Rattle.std.proofs.lemmas.Bool.{cases_eq}
@@ -10,31 +10,29 @@ use Rattle.std.proofs.lemmas.List.Sorted.{Contains-permutation, IsPermutation-sy
 use Rattle.terrain.specs.Raster.{Terrain}
 use Rattle.terrain.specs.Neighbours.{height_at, entry_at, index_of, Touches}
 use Rattle.terrain.proofs.Places.{entry-inside}
-use Rattle.drain.specs.Rounds.{IsLent, AreCounting}
+use Rattle.drain.specs.Rounds.{IsSource, AreCounting}
 use Rattle.drain.proofs.Few.{data_on_level_walk}
 use Rattle.drain.proofs.TileRound.{walked_on, some_of_known}
 use Rattle.drain.proofs.Lowered.{small}
 use Rattle.terrain.specs.declared.place.Place.{Place}
 use Rattle.tiles.specs.Cutting.{Cutting, IsWithin, tile_of_place}
 use Rattle.drain.specs.Lowering.{AreLevel, IsAmong, count_of}
-use Rattle.drain.specs.Entering.{lent_terrain, IsEntry, AreEntries, IsEvenOrEntered, AreEntered}
+use Rattle.drain.specs.Entering.{sinkless_terrain, IsEntry, AreEntries, IsEvenOrEntered, AreEntered}
 use Rattle.drain.specs.declared.changes.Change.{Change}
 use Rattle.drain.specs.declared.changes.Entry.{Entry}
 
 module _ (t : Terrain) (c : Cutting) (steps : List (Option ℕ)) where
-  -- what is told stays so in a longer list
+  -- a pair stays covered in a longer list
   pub entered_still : (old new : List Entry) (p q : Place) → ((e : Entry) → IsAmong old e → IsAmong new e) → IsEvenOrEntered c steps old p q → IsEvenOrEntered c steps new p q
   entered_still old new p q kept (inl le) = inl le
-  entered_still old new p q kept (inr told) = inr (told.0, kept told.0 told.1, told.2, told.3)
+  entered_still old new p q kept (inr reported) = inr (reported.0, kept reported.0 reported.1, reported.2, reported.3)
 
-  -- nothing is noted
   pub noted_same : (Done : Place → Place → Type 0) (entries : List Entry) → ((p q : Place) → Done p q → AreLevel t p q → IsEvenOrEntered c steps entries p q) → AreEntered t c steps Done entries entries
   noted_same Done entries done = record { kept = λ e among. among; each = λ all. all; done = done }
 
   pub noted_none : (Done : Place → Place → Type 0) (entries : List Entry) → ((p q : Place) → Done p q → ⊥) → AreEntered t c steps Done entries entries
   noted_none Done entries none = noted_same Done entries (λ p q done side. absurd (none p q done))
 
-  -- some after others
   pub noted_then : (First Next Done : Place → Place → Type 0) (old mid new : List Entry) → ((p q : Place) → Done p q → AreLevel t p q → First p q ⊎ Next p q) →
       AreEntered t c steps First old mid → AreEntered t c steps Next mid new → AreEntered t c steps Done old new
   noted_then First Next Done old mid new each f g = record {
@@ -49,10 +47,9 @@ module _ (t : Terrain) (c : Cutting) (steps : List (Option ℕ)) where
   pub noted_all : (First Done : Place → Place → Type 0) (old new : List Entry) → ((p q : Place) → Done p q → AreLevel t p q → First p q) → AreEntered t c steps First old new → AreEntered t c steps Done old new
   noted_all First Done old new each f = record { kept = f.kept; each = f.each; done = λ p q done side. f.done p q (each p q done side) side }
 
-  -- one is noted
   pub noted_push : (Done : Place → Place → Type 0) (old new : List Entry) (e : Entry) → new ≡ old ++ e ∷ [] → IsEntry t c steps e →
       ((p q : Place) → Done p q → AreLevel t p q → (e.change.place ≡ p) × (e.change.count ≤ count_of steps (index_of c.cols q) + 1)) → AreEntered t c steps Done old new
-  noted_push Done old new e pushed entry told =
+  noted_push Done old new e pushed entry reported =
       let last : slice_get new (length old) ≡ Some e = ap (λ (xs : List Entry). slice_get xs (length old)) pushed ∙ slice_get-append_right old (e ∷ []) (length old) 0 (omega arith) in
       let size : length new ≡ length old + 1 = ap (λ (xs : List Entry). length xs) pushed ∙ length_push old e in
       let front : (k : ℕ) → k < length old → slice_get new k ≡ slice_get old k = λ k below. ap (λ (xs : List Entry). slice_get xs k) pushed ∙ slice_get-append_left old (e ∷ []) k below in
@@ -62,17 +59,16 @@ module _ (t : Terrain) (c : Cutting) (steps : List (Option ℕ)) where
           | inl at ↦ (let one : e ≡ d = same_Some e d (sym last ∙ ap (λ (k : ℕ). slice_get new k) (sym at) ∙ among.1) in subst (λ (x : Entry). IsEntry t c steps x) one entry)
           | inr ne ↦ all d (among.0, sym (front among.0 (omega (arith, size, slice_get_within new among.0 d among.1))) ∙ among.1)
         ];
-        done = λ p q done side. (let is = told p q done side in inr (e, (length old, last), is.0, is.1));
+        done = λ p q done side. (let is = reported p q done side in inr (e, (length old, last), is.0, is.1));
       }
 
--- an element stands somewhere
 pub among_from : {X : Type 0} (xs : List X) (x : X) → Contains xs x → IsAmong xs x
 among_from xs x has = (has.0, slice_get-get_or xs has.0 x has.1 ∙ ap Some has.2)
 
 pub contains_from : {X : Type 0} (xs : List X) (x : X) → IsAmong xs x → Contains xs x
 contains_from xs x among = (among.0, slice_get_within xs among.0 x among.1, get_or_from_slice_get xs among.0 x x among.1)
 
--- in another order
+-- a permutation has the same elements
 pub among_in_order : {X : Type 0} (xs ys : List X) (x : X) → IsPermutation xs ys → IsAmong xs x → IsAmong ys x
 among_in_order xs ys x same among = among_from ys x (Contains-permutation xs ys x same (contains_from xs x among))
 
@@ -83,16 +79,16 @@ noted_in_order t c steps Done new ys same noted = (
   λ p q done side. entered_still t c steps new ys p q (λ e among. among_in_order new ys e same among) (noted.done p q done side),
 )
 
--- what one cell's count makes of another
-pub entry_from : (c : Cutting) (levels : List (Option ℤ)) (steps : List (Option ℕ)) (from : Change) (to : Place) (tile : ℕ) → AreCounting (lent_terrain c levels) steps → IsWithin c from.place →
-    from.count ≡ count_of steps (index_of c.cols from.place) → IsWithin c to → Touches to from.place → height_at (lent_terrain c levels) to ≡ height_at (lent_terrain c levels) from.place →
-    from.count + 1 < count_of steps (index_of c.cols to) → tile ≡ tile_of_place c to → IsEntry (lent_terrain c levels) c steps (record { tile = tile; change = record { place = to; count = from.count + 1 } })
+-- one step more than a level neighbour is an entry if it lowers the cell's count
+pub entry_from : (c : Cutting) (levels : List (Option ℤ)) (steps : List (Option ℕ)) (from : Change) (to : Place) (tile : ℕ) → AreCounting (sinkless_terrain c levels) steps → IsWithin c from.place →
+    from.count ≡ count_of steps (index_of c.cols from.place) → IsWithin c to → Touches to from.place → height_at (sinkless_terrain c levels) to ≡ height_at (sinkless_terrain c levels) from.place →
+    from.count + 1 < count_of steps (index_of c.cols to) → tile ≡ tile_of_place c to → IsEntry (sinkless_terrain c levels) c steps (record { tile = tile; change = record { place = to; count = from.count + 1 } })
 entry_from c levels steps from to tile counting within count inside touch level less at =
-    let t = lent_terrain c levels in
+    let t = sinkless_terrain c levels in
     let below : from.count + 1 < 2 ^ 24 = omega (arith, less, small t steps (index_of c.cols to) counting) in
     let known = some_of_known (entry_at c.cols c.rows steps from.place) from.count (count ∙ ap (λ (o : Option ℕ). unwrap_or o (2 ^ 24)) (sym (entry-inside c.cols c.rows steps from.place within.0 within.1))) (omega arith) in
     let walk = MatchOption-at_some _ _ from.count known (counting.walked from.place) in
-    let is_data = data_on_level_walk (IsLent t steps) t (λ p lent. lent.0) from.place walk.1 walk.2 in
+    let is_data = data_on_level_walk (IsSource t steps) t (λ p input. input.0) from.place walk.1 walk.2 in
     let differ : to ≢ from.place = λ e. (let same = ap (λ (q : Place). count_of steps (index_of c.cols q)) e in omega (arith, same, less, count)) in
     record {
       inside = (inside, sym at);

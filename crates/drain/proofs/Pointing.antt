@@ -1,4 +1,4 @@
--- Where codes point, and that a cell has one direction, along which the pair of height and steps falls.
+-- Codes as ways. Along a direction the pair of height and steps falls.
 use Rattle.std.proofs.Common.{◌≡◌, ◌≢◌, ℕ, ◌+◌, ◌^◌, ◌<◌, ◌≤◌, inl, inr, List, Option, None, Some, eqb, sym, ap, refl, ◌∙◌, arith}
 use Rattle.std.proofs.Math.Nat.{pow-le-pow_right}
 use Rattle.std.proofs.lemmas.Bool.{eqb-true}
@@ -19,7 +19,7 @@ use Rattle.terrain.proofs.Options.{cases_option}
 use Rattle.drain.proofs.Nearby.{has_lower, end_cell}
 use Rattle.drain.proofs.AroundLemmas.{steps_at}
 
--- what a code points to lies on the way whose code it is
+-- the place to which a code points lies on the way of that code
 pub way_toward : (p q : Place) (code : ℕ) → place_toward code p ≡ Some q → (way : ℕ) × (way < 8) × (code ≡ code_of (Some way)) × (place_on way p ≡ Some q)
 way_toward p q code e = elim (cases_option (way_of code)) [
   | inl none ↦ absurd (none-some q (sym (ap (λ (o : Option ℕ). option_and_then (λ way. place_on way p) o) none) ∙ e))
@@ -31,7 +31,7 @@ way_toward p q code e = elim (cases_option (way_of code)) [
 code_power : (way : ℕ) → way < 8 → code_of (Some way) ≡ 2 ^ way
 code_power = eight (λ way. code_of (Some way) ≡ 2 ^ way) refl refl refl refl refl refl refl refl
 
--- a later way has a greater code
+-- codes do not fall from one way to a later one
 pub codes_rise : (way other : ℕ) → way ≤ other → other < 8 → code_of (Some way) ≤ code_of (Some other)
 codes_rise way other le below =
     let powers : 2 ^ way ≤ 2 ^ other = pow-le-pow_right (omega arith) le in
@@ -59,7 +59,7 @@ one_direction t p m n a b = elim (has_lower t p) [
   ]
 ]
 
--- a code but 0 leads to a data cell, and the pair of height and steps falls along it
+-- a code other than 0 leads to a data cell with a lesser pair of height and steps
 pub direction_leads : (t : Terrain) (steps codes : List (Option ℕ)) (p : Place) (code : ℕ) → AreSteps t steps → IsDirection t p code → code ≢ 0 →
     (q : Place) × (place_toward code p ≡ Some q) × IsDataCell t q × Falls (record { terrain = t; steps = steps; codes = codes }) p q
 direction_leads t steps codes p code are d some = elim (has_lower t p) [

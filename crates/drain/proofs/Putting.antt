@@ -1,4 +1,4 @@
--- Counts put in the place of greater ones, one change more at a time.
+-- Counts lowered by changes, change by change.
 use Rattle.std.proofs.Common.{◌≡◌, ℕ, ◌^◌, ◌<◌, ◌≤◌, ◌⊎◌, inl, inr, List, length, get_or, slice_set, Option, None, Some, unwrap_or, sym, ap, subst, refl, ◌∙◌, arith}
 use Rattle.std.proofs.lemmas.Bool.{cases_eq}
 use Rattle.std.proofs.lemmas.List.{get_or-set_same, get_or-set_other, length-set}
@@ -8,7 +8,6 @@ use Rattle.drain.specs.Rounding.{ArePut}
 use Rattle.drain.specs.declared.changes.Change.{Change}
 
 module _ (cols : ℕ) where
-  -- one count that is less than the one in its place
   pub put_one : (x : Change) (old : List (Option ℕ)) (count : Option ℕ) → count ≡ Some x.count → index_of cols x.place < length old → x.count < count_of old (index_of cols x.place) →
       ArePut cols old (slice_set old (index_of cols x.place) count) (λ y. y ≡ x)
   put_one x old count is inside less = record {
@@ -18,7 +17,7 @@ module _ (cols : ℕ) where
       | inr ne ↦ (let same = ap (λ (o : Option ℕ). unwrap_or o (2 ^ 24)) (get_or-set_other old (index_of cols x.place) k count None ne) in omega (arith, same))
     ];
     done = λ y e. subst (λ (z : Change). count_of (slice_set old (index_of cols x.place) count) (index_of cols z.place) ≤ z.count) (sym e) (omega (arith, at));
-    told = λ k. elim (cases_eq k (index_of cols x.place)) [
+    reported = λ k. elim (cases_eq k (index_of cols x.place)) [
       | inl e ↦ inr (x, refl, sym e, subst (λ (n : ℕ). get_or (slice_set old (index_of cols x.place) count) n None ≡ Some x.count) (sym e) (put ∙ is))
       | inr ne ↦ inl (get_or-set_other old (index_of cols x.place) k count None ne)
     ];
@@ -30,7 +29,6 @@ module _ (cols : ℕ) where
       at : count_of (slice_set old (index_of cols x.place) count) (index_of cols x.place) ≡ x.count
       at = ap (λ (o : Option ℕ). unwrap_or o (2 ^ 24)) (put ∙ is)
 
-  -- some after others
   pub put_then : (First Next Given : Change → Type 0) (old mid new : List (Option ℕ)) → ((x : Change) → Given x → First x ⊎ Next x) → ((x : Change) → First x → Given x) → ((x : Change) → Next x → Given x) →
       ArePut cols old mid First → ArePut cols mid new Next → ArePut cols old new Given
   put_then First Next Given old mid new each first next f g = record {
@@ -40,9 +38,9 @@ module _ (cols : ℕ) where
       | inl a ↦ omega (arith, f.done x a, g.low (index_of cols x.place))
       | inr b ↦ g.done x b
     ];
-    told = λ k. elim (g.told k) [
+    reported = λ k. elim (g.reported k) [
       | inr b ↦ inr (b.0, next b.0 b.1, b.2, b.3)
-      | inl same ↦ elim (f.told k) [
+      | inl same ↦ elim (f.reported k) [
         | inl before ↦ inl (same ∙ before)
         | inr a ↦ inr (a.0, first a.0 a.1, a.2, same ∙ a.3)
       ]
@@ -54,7 +52,7 @@ module _ (cols : ℕ) where
     size = f.size;
     low = f.low;
     done = λ x given. f.done x (each x given);
-    told = λ k. elim (f.told k) [
+    reported = λ k. elim (f.reported k) [
       | inl same ↦ inl same
       | inr a ↦ inr (a.0, back a.0 a.1, a.2, a.3)
     ];

@@ -1,4 +1,4 @@
--- Where a round over all tiles changes nothing, the counts are the steps.
+-- If a round over all tiles changes nothing, the counts are the steps.
 use Rattle.std.proofs.Common.{◌≡◌, inl, inr, ℕ, ◌*◌, ◌^◌, ◌<◌, ◌≤◌, List, [], ◌∷◌, length, Option, None, Some, is_some, IfSome, MatchOption, sym, ap, subst, refl, ◌∙◌, arith}
 use Rattle.std.proofs.lemmas.Bool.{false≢true}
 use Rattle.std.proofs.lemmas.Option.{MatchOption-at_some}
@@ -11,7 +11,7 @@ use Rattle.terrain.specs.declared.place.Place.{Place}
 use Rattle.tiles.specs.Cutting.{Cutting, Cuts, IsCutting, tile_of_place, IsInTile, tile_entry}
 use Rattle.drain.specs.Beginning.{HasZeros, AreBegun, IsQuiet}
 use Rattle.drain.specs.Steps.{DrainsAtOnce, IsLevelWalk, IsFlatWalk, IsSteps, AreSteps}
-use Rattle.drain.specs.Rounds.{IsLent, IsWalked, AreWalked, IsOneAbove, IsRound, AreCounting, AreSettled}
+use Rattle.drain.specs.Rounds.{IsSource, IsWalked, AreWalked, IsOneAbove, IsRound, AreCounting, AreSettled}
 use Rattle.drain.proofs.Counted.{has_steps}
 use Rattle.drainage.proofs.Reach.{data_inside}
 use Rattle.terrain.proofs.Options.{cases_option}
@@ -31,7 +31,7 @@ pub ended : (Ends : Place → Type 0) (t : Terrain) (p : Place) (rest : List Pla
 ended Ends t p [] walk none = walk
 ended Ends t p (q ∷ rest) walk none = absurd (omega (arith, none))
 
--- neighbours are neighbours whichever sinks are named
+-- sinks do not change neighbours
 next_with : (t : Terrain) (sinks : List Place) (p q : Place) → IsNeighbour t p q → IsNeighbour (with_sinks t sinks) p q
 next_with t sinks p q next = record { different = next.different; touches = next.touches; from_data = next.from_data; to_data = next.to_data }
 
@@ -39,25 +39,25 @@ walk_to : (A B : Place → Type 0) (t : Terrain) (sinks : List Place) → ((p : 
 walk_to A B t sinks to p [] walk = to p walk
 walk_to A B t sinks to p (q ∷ rest) walk = (next_with t sinks p q walk.0, walk.1, walk_to A B t sinks to q rest walk.2)
 
--- walks to ends that are ends of another kind too, whichever sinks are named
+-- a walk to an end of one kind is a walk to an end of a wider kind, with any sinks
 pub walked_to : (A B : Place → Type 0) (t : Terrain) (sinks : List Place) → ((p : Place) → A p → B p) → (p : Place) (n : ℕ) → IsWalked A t p n → IsWalked B (with_sinks t sinks) p n
 walked_to A B t sinks to p n w = (w.0, w.1, walk_to A B t sinks to p w.1 w.2, w.3)
 
 pub are_walked_to : (A B : Place → Type 0) (t : Terrain) (sinks : List Place) (steps : List (Option ℕ)) → ((p : Place) → A p → B p) → AreWalked A t steps → AreWalked B (with_sinks t sinks) steps
 are_walked_to A B t sinks steps to walked p = if_some (entry_at t.cols t.rows steps p) (IsWalked B (with_sinks t sinks) p) (λ n e. walked_to A B t sinks to p n (MatchOption-at_some _ _ n e (walked p)))
 
--- where each count is of a walk and at most one above its neighbours' on the flat, the counts are the steps
+-- counts of walks, each at most one above its neighbours' on the flat, are the steps
 module _ (t : Terrain) (steps : List (Option ℕ)) (zeros : HasZeros t steps) (all_walked : AreWalked (DrainsAtOnce t) t steps)
     (near : (p q : Place) → IsNeighbour t p q → height_at t q ≡ height_at t p → IsOneAbove (entry_at t.cols t.rows steps p) (entry_at t.cols t.rows steps q)) where
   -- a walk bounds the count of its first cell
-  counted : (rest : List Place) (p : Place) → IsFlatWalk t p rest → length rest < 2 ^ 24 → (n : ℕ) × (entry_at t.cols t.rows steps p ≡ Some n) × (n ≤ length rest)
-  counted [] p w few = (0, zeros p w, omega arith)
-  counted (q ∷ rest) p w few =
-      let next = counted rest q w.2 (omega arith) in
+  count_steps : (rest : List Place) (p : Place) → IsFlatWalk t p rest → length rest < 2 ^ 24 → (n : ℕ) × (entry_at t.cols t.rows steps p ≡ Some n) × (n ≤ length rest)
+  count_steps [] p w few = (0, zeros p w, omega arith)
+  count_steps (q ∷ rest) p w few =
+      let next = count_steps rest q w.2 (omega arith) in
       let here = near p q w.0 w.1 next.0 next.1 (omega (arith, next.2)) in
       (here.0, here.1, omega (arith, here.2, next.2))
 
-  -- a count is of a real walk
+  -- a count is the length of a flat walk
   walked : (p : Place) (n : ℕ) → entry_at t.cols t.rows steps p ≡ Some n → IsWalked (DrainsAtOnce t) t p n
   walked p n e = MatchOption-at_some _ _ n e (all_walked p)
 
@@ -65,13 +65,13 @@ module _ (t : Terrain) (steps : List (Option ℕ)) (zeros : HasZeros t steps) (a
   data_counts lawful filled p is =
       let least = has_steps t p filled is in
       let few : least.0 < 2 ^ 24 = steps_are_few t p least.0 lawful least.1 in
-      let count = counted least.1.reached.0 p least.1.reached.1 (omega (arith, few, least.1.reached.2)) in
+      let count = count_steps least.1.reached.0 p least.1.reached.1 (omega (arith, few, least.1.reached.2)) in
       let real = walked p count.0 count.1 in
       let above : least.0 ≤ length real.1 = least.1.least real.1 real.2 in
       let same : least.0 ≡ count.0 = omega (arith, count.2, least.1.reached.2, real.3) in
       (count.0, count.1, subst (λ n. IsSteps t p n) same least.1)
 
-  -- where there is no data, there is no count
+  -- a cell without data has no count
   uncounted : (p : Place) → height_at t p ≡ None → entry_at t.cols t.rows steps p ≡ None
   uncounted p none = elim (cases_option (entry_at t.cols t.rows steps p)) [
     | inl e ↦ e
@@ -84,31 +84,30 @@ module _ (t : Terrain) (steps : List (Option ℕ)) (zeros : HasZeros t steps) (a
     each = λ p inside. match_from (height_at t p) (λ none. uncounted p none) (λ h some. data_counts lawful filled p (ap is_some some));
   }
 
--- a place in tile order
 pub in_own_tile : (t : Terrain) (c : Cutting) (p : Place) → Cuts c t → (p.row < t.rows) × (p.col < t.cols) → IsInTile c (tile_of_place c p) p
 in_own_tile t c p cuts inside = ((omega (arith, inside.0, cuts.1), omega (arith, inside.1, cuts.0)), refl)
 
--- the cells that are lent 0 to begin with are those that drain at once
-pub begun_lent : (t : Terrain) (counts : List (Option ℕ)) → AreBegun t counts → (p : Place) → DrainsAtOnce t p → IsLent t counts p
+-- the sources of the initial counts are the cells that drain at once
+pub begun_lent : (t : Terrain) (counts : List (Option ℕ)) → AreBegun t counts → (p : Place) → DrainsAtOnce t p → IsSource t counts p
 begun_lent t counts begun p drains = let is = drains_data t p drains in (is, (begun.each p (data_inside t p is)).zero drains)
 
-lent_drains : (t : Terrain) (counts : List (Option ℕ)) → AreBegun t counts → (p : Place) → IsLent t counts p → DrainsAtOnce t p
-lent_drains t counts begun p lent = ((begun.each p (data_inside t p lent.0)).only 0 lent.1).0
+lent_drains : (t : Terrain) (counts : List (Option ℕ)) → AreBegun t counts → (p : Place) → IsSource t counts p → DrainsAtOnce t p
+lent_drains t counts begun p input = ((begun.each p (data_inside t p input.0)).only 0 input.1).0
 
--- each count to begin with is 0, of a walk of no moves
+-- each initial count is 0, the length of a walk without moves
 pub begun_walked : (Ends : Place → Type 0) (t : Terrain) (counts : List (Option ℕ)) → AreBegun t counts → ((p : Place) → DrainsAtOnce t p → Ends p) → AreWalked Ends t counts
 begun_walked Ends t counts begun to p = if_some (entry_at t.cols t.rows counts p) (IsWalked Ends t p) (λ n e.
     let at = (begun.each p (inside_from_entry t.cols t.rows counts p n e)).only n e in
     (omega (arith, at.1), [], to p at.0, sym at.1))
 
--- the rounds see no sinks
+-- the initial counts, over the terrain without sinks
 pub begun_counting : (t : Terrain) (counts : List (Option ℕ)) → AreBegun t counts → AreCounting (with_sinks t []) counts
 begun_counting t counts begun = record {
   size = begun.size;
-  walked = are_walked_to (IsLent t counts) (IsLent t counts) t [] counts (λ p lent. lent) (begun_walked (IsLent t counts) t counts begun (begun_lent t counts begun));
+  walked = are_walked_to (IsSource t counts) (IsSource t counts) t [] counts (λ p input. input) (begun_walked (IsSource t counts) t counts begun (begun_lent t counts begun));
 }
 
--- a round that goes to ends goes to what those are besides, whichever sinks are named
+-- a round to ends of one kind is a round to ends of a wider kind, with any sinks
 pub round_to : (A B : Place → Type 0) (t : Terrain) (sinks : List Place) (c : Cutting) (tile : ℕ) (old new : List (Option ℕ)) → ((p : Place) → A p → B p) →
     IsRound A t c tile old new → IsRound B (with_sinks t sinks) c tile old new
 round_to A B t sinks c tile old new to round = record {
@@ -132,12 +131,12 @@ counts_are_steps t c steps lists cuts cutting zeros quiet lawful filled size =
     (near.0, sym (quiet.same (tile_of_place c p) p here) ∙ near.1, near.2))
     lawful filled size
 
--- what is settled of counts that begin with 0 where a cell drains at once, and nowhere else
+-- the final counts after the initial ones are the steps
 pub settled_is_steps : (c : Cutting) (t : Terrain) (begun steps : List (Option ℕ)) → Cuts c t → IsTerrain t → IsFilled t t.cells → AreBegun t begun → AreSettled c (with_sinks t []) begun steps → AreSteps t steps
 settled_is_steps c t begun steps cuts lawful filled first settled =
     still_is_steps t steps
-    (λ p drains. ((settled.same_lent p).0 (begun_lent t begun first p drains)).1)
-    (are_walked_to (IsLent t steps) (DrainsAtOnce t) (with_sinks t []) t.sinks steps (λ p lent. lent_drains t begun first p ((settled.same_lent p).1 lent)) settled.counting.walked)
+    (λ p drains. ((settled.same_sources p).0 (begun_lent t begun first p drains)).1)
+    (are_walked_to (IsSource t steps) (DrainsAtOnce t) (with_sinks t []) t.sinks steps (λ p input. lent_drains t begun first p ((settled.same_sources p).1 input)) settled.counting.walked)
     (λ p q next level.
     let inside = in_own_tile t c p cuts (data_inside t p next.from_data) in
     (settled.still (tile_of_place c p) (tile_of_place_below c p settled.cutting inside.0)).near p q inside (next_with t [] p q next) level)

@@ -1,4 +1,4 @@
--- What the spots of a tile and the places around it show.
+-- The values at the spots of a window.
 use Rattle.std.proofs.Common.{◌≡◌, ℕ, ◌+◌, ◌-◌, ◌*◌, ◌<◌, ◌≤◌, true, false, inl, inr, List, [], ◌∷◌, ◌++◌, length, get_or, Option, unwrap_or, sym, ap, subst, refl, ◌∙◌, arith}
 use Rattle.std.proofs.lemmas.Bool.{cases_Bool, cases_eq, cases_lt, cond-true, cond-false, and_from, and_left, le-leb}
 use Rattle.std.proofs.lemmas.List.{get_or_append_left, get_or-append_right, length-append, get_or_push, length_push}
@@ -10,13 +10,13 @@ use Rattle.terrain.specs.declared.place.Place.{Place}
 use Rattle.tiles.specs.declared.bounds.Bounds.{Bounds}
 use Rattle.tiles.specs.Cutting.{Cutting, View, AreBounds, bounds_of, is_within, is_shown, cell_shown, row_shown}
 use Rattle.drainage.specs.StepCounts.{known}
-use Rattle.drain.specs.Window.{IsInner, IsHandedOut, count_on, spot_index, area_of, IsSpot, Shows, IsOff, IsShown, AreMadeSpots, AreShownBelow, AreShown}
+use Rattle.drain.specs.Window.{IsInner, IsCopied, count_on, spot_index, area_of, IsSpot, Shows, IsOff, IsShown, AreMadeSpots, AreShownBelow, AreShown}
 use Rattle.tile_maps.specs.Maps.{AreMadeBelow}
 use Rattle.drain.proofs.Spreading.{spot_below}
 use Rattle.tile_maps.proofs.TileLists.{made_next}
 use Rattle.tiles.proofs.TileRows.{row_has}
 
--- the place of a spot is shown, if it is in the grid
+-- a view has the place of each spot on the grid
 shows_within : (c : Cutting) (tile : ℕ) (b : Bounds) (s p : Place) → b ≡ bounds_of c tile → IsSpot b s → Shows b s p → is_within c p ≡ true → is_shown c tile p ≡ true
 shows_within c tile b s p e spot shows within =
     let top : b.top ≡ (bounds_of c tile).top = ap (λ (z : Bounds). z.top) e in
@@ -32,7 +32,7 @@ shows_within c tile b s p e spot shows within =
 not_shown : (c : Cutting) (tile : ℕ) (p : Place) → is_within c p ≡ false → is_shown c tile p ≡ false
 not_shown c tile p out = and_left _ _ (and_left _ _ (and_left _ _ (and_left _ _ out)))
 
--- a view has at the place of a spot what the grid has there
+-- a view and the grid have one value at the place of a spot
 pub shown_is : {X : Type 0} (v : View X) (none : X) (b : Bounds) (s p : Place) → b ≡ bounds_of v.cutting v.tile → IsSpot b s → Shows b s p →
     unwrap_or (cell_shown v p) none ≡ entry_or v.cutting.cols v.cutting.rows v.cells none p
 shown_is {X = X} v none b s p e spot shows =
@@ -43,7 +43,7 @@ shown_is {X = X} v none b s p e spot shows =
       | inr out ↦ ap (λ (o : Option X). unwrap_or o none) (cond-false _ _ _ (not_shown v.cutting v.tile p out)) ∙ sym (cond-false _ _ _ out)
     ]
 
--- a spot shows one place, or is off the grid
+-- a spot shows at most one place
 pub shows_same : (b : Bounds) (s p q : Place) → Shows b s p → Shows b s q → p ≡ q
 shows_same b s p q here there = same_place p q (omega (arith, here.0, there.0)) (omega (arith, here.1, there.1))
 
@@ -51,7 +51,6 @@ pub shows_none : (b : Bounds) (s p : Place) → Shows b s p → IsOff b s → �
 shows_none b s p shows (inl off) = omega (arith, shows.0, off)
 shows_none b s p shows (inr off) = omega (arith, shows.1, off)
 
--- the same, at the place that it shows
 pub shown_at : {X : Type 0} (v : View X) (none : X) (b : Bounds) (s q : Place) (o : Option X) (x : X) → b ≡ bounds_of v.cutting v.tile → IsSpot b s →
     Shows b s q → o ≡ cell_shown v q → x ≡ unwrap_or o none → IsShown v.cutting.cols v.cutting.rows v.cells none b s x
 shown_at {X = X} v none b s q o x e spot there is value = (
@@ -59,7 +58,6 @@ shown_at {X = X} v none b s q o x e spot there is value = (
   λ off. absurd (shows_none b s q there off),
 )
 
--- one spot more
 pub made_push : {X : Type 0} (Has : Place → X → Type 0) (b : Bounds) (s : Place) (lack : X) (list : List X) (x : X) → IsSpot b s →
     AreMadeSpots Has b (spot_index b s) lack list → Has s x → AreMadeSpots Has b (spot_index b s + 1) lack (list ++ x ∷ [])
 made_push {X = X} Has b s lack list x spot before here = record {
@@ -78,7 +76,7 @@ pub shown_push : {X : Type 0} (cols rows : ℕ) (entries : List X) (none : X) (b
     AreShownBelow cols rows entries none b (spot_index b s) shown → IsShown cols rows entries none b s x → AreShownBelow cols rows entries none b (spot_index b s + 1) (shown ++ x ∷ [])
 shown_push cols rows entries none b s shown x spot before here = made_push (IsShown cols rows entries none b) b s none shown x spot before here
 
--- the row of a place in row order
+-- the row of an index
 row_is : (width row : ℕ) (s : Place) → s.col < width → row * width ≤ index_of width s → index_of width s < row * width + width → s.row ≡ row
 row_is width row s inside low high = elim (cases_lt s.row row) [
   | inl less ↦ (let up : (s.row + 1) * width ≤ row * width = mul-le-mul_right width (omega arith) in absurd (omega (arith, up)))
@@ -88,7 +86,7 @@ row_is width row s inside low high = elim (cases_lt s.row row) [
   ]
 ]
 
--- what a row of the tile has at a spot
+-- the value at a spot, by the tile's row
 row_spot : {X : Type 0} (v : View X) (none : X) (b : Bounds) (s : Place) → b ≡ bounds_of v.cutting v.tile → AreBounds v.cutting b → IsInner b s →
     IsShown v.cutting.cols v.cutting.rows v.cells none b s (get_or (row_shown v (s.row - 1)) (s.col - 1) none)
 row_spot v none b s e fits inner = (
@@ -102,7 +100,6 @@ row_spot v none b s e fits inner = (
   λ off. absurd (elim off [ inl a ↦ omega (arith, a, inner.first_row) | inr a ↦ omega (arith, a, inner.first_col) ]),
 )
 
--- the spots of a row of the tile more
 pub shown_row : {X : Type 0} (v : View X) (none : X) (b : Bounds) (row : ℕ) (shown entries : List X) → b ≡ bounds_of v.cutting v.tile → AreBounds v.cutting b → 1 ≤ row → row ≤ b.rows →
     entries ≡ row_shown v (row - 1) → length entries ≡ b.cols → AreShownBelow v.cutting.cols v.cutting.rows v.cells none b (row * (b.cols + 2) + 1) shown →
     AreShownBelow v.cutting.cols v.cutting.rows v.cells none b (row * (b.cols + 2) + 1 + b.cols) (shown ++ entries)
@@ -128,7 +125,7 @@ pub shown_all : {X : Type 0} (cols rows : ℕ) (entries : List X) (none : X) (b 
     AreShownBelow cols rows entries none b end shown → AreShown cols rows entries none b shown
 shown_all cols rows entries none b end shown whole f = λ s spot. f.each s spot (omega (arith, spot_below b s spot))
 
--- all spots that a list shows, where the bounds go by another name
+-- the list of all spots, under equal bounds
 pub shown_whole : {X : Type 0} (cols rows : ℕ) (entries : List X) (none : X) (b c : Bounds) (end : ℕ) (shown : List X) → b ≡ c → end ≡ (b.rows + 2) * (b.cols + 2) →
     AreShownBelow cols rows entries none b end shown → (length shown ≡ area_of c) × AreShown cols rows entries none c shown
 shown_whole {X = X} cols rows entries none b c end shown same whole f = (
@@ -136,10 +133,9 @@ shown_whole {X = X} cols rows entries none b c end shown same whole f = (
   subst (λ (z : Bounds). AreShown {X = X} cols rows entries none z shown) same (shown_all cols rows entries none b end shown (omega (arith, whole)) f),
 )
 
--- one count more
 pub handed_next : (b : Bounds) (counts : List ℕ) (row col : ℕ) (list : List (Option ℕ)) (x : Option ℕ) → row < b.rows → col < b.cols →
-    AreMadeBelow b (IsHandedOut b counts) (row * b.cols + col) list → x ≡ known (count_on b counts (make_place (row + 1) (col + 1))) →
-    AreMadeBelow b (IsHandedOut b counts) (row * b.cols + (col + 1)) (list ++ x ∷ [])
+    AreMadeBelow b (IsCopied b counts) (row * b.cols + col) list → x ≡ known (count_on b counts (make_place (row + 1) (col + 1))) →
+    AreMadeBelow b (IsCopied b counts) (row * b.cols + (col + 1)) (list ++ x ∷ [])
 handed_next b counts row col list x below beside before is =
-    made_next b (IsHandedOut b counts) row col list x below beside before
+    made_next b (IsCopied b counts) row col list x below beside before
     (λ s shows. is ∙ ap (λ (r : Place). known (count_on b counts r)) (sym (same_place s (make_place (row + 1) (col + 1)) (omega (arith, shows.0)) (omega (arith, shows.1)))))

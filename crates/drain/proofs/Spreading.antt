@@ -1,4 +1,4 @@
--- Moves from spot to spot: they join, keep the length, and raise no count.
+-- Moves between spots: they chain, keep the length, and raise no count.
 use Rattle.std.proofs.Common.{◌≡◌, ◌≢◌, ℕ, ◌+◌, ◌<◌, ◌≤◌, ◌⊎◌, inl, inr, List, length, get_or, set, sum, ℤ, Option, sym, ap, subst, refl, ◌∙◌, arith}
 use Rattle.std.proofs.lemmas.Bool.{cases_eq, cases_lt}
 use Rattle.std.proofs.lemmas.List.{length-set, get_or-set_same, get_or-set_other, get_or_past}
@@ -43,7 +43,6 @@ spread-length b levels old new (moved counts some s r n before earlier spot othe
 pub spread_none : (b : Bounds) (levels : List (Option ℤ)) (counts : List ℕ) → IsSpread b levels counts counts
 spread_none b levels counts = same
 
--- moves after moves
 pub spread_on : (b : Bounds) (levels : List (Option ℤ)) (old mid new : List ℕ) → IsSpread b levels old mid → IsSpread b levels mid new → IsSpread b levels old new
 spread_on b levels old mid new first same = first
 spread_on b levels old mid new first (moved counts some s r n before earlier spot other touch differ level from less) =
@@ -71,7 +70,7 @@ near_after b levels old mid new s near less = record {
 pub touches_back : (p q : Place) → Touches p q → Touches q p
 touches_back p q t = record { row_down = t.row_up; row_up = t.row_down; col_right = t.col_left; col_left = t.col_right }
 
--- one move from what a spot had, to what some spot around it had
+-- a move that lowers a spot to one more than the old count of an adjacent spot
 pub pulled : (b : Bounds) (levels : List (Option ℤ)) (old counts : List ℕ) (s : Place) (i n : ℕ) → i ≡ spot_index b s → IsSpot b s → IsSpread b levels old counts
     → ((n ≡ get_or counts i 0) ⊎ ((r : Place) × IsSpot b r × Touches r s × (level_on b levels r ≡ level_on b levels s) × (n ≡ count_on b old r + 1) × (n < get_or counts i 0)))
     → n < get_or counts i 0 → IsSpread b levels old (set counts i n)

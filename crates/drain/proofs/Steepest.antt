@@ -1,4 +1,4 @@
--- The furthest ways down, and the steepest of all.
+-- The greatest drops of each parity, and the steepest way of all.
 use Rattle.std.proofs.Common.{◌≡◌, ℕ, zero, suc, ◌+◌, ◌*◌, ◌<◌, ◌≤◌, ◌≢◌, ◌<ℤ◌, ◌≤ℤ◌, ◌-ℤ◌, ◌/◌, ◌%◌, ◌⊎◌, inl, inr, eqb, ltb, length, get_or, List, Option, None, Some, IfSome, unwrap_or, Bool, true, false, ◌&&◌, ℤ, nat_abs, SFits, pos, negsuc, refl, sym, ap, subst, ◌∙◌, arith}
 use Rattle.std.proofs.lemmas.Bool.{cases_Bool, cases_eq, cases_lt, false≢true, eq-eqb, ne_eqb, lt-ltb, le-ltb, cond-true, cond-false}
 use Rattle.std.specs.Int.{int_min}
@@ -9,10 +9,10 @@ use Rattle.std.specs.Bool.{then_some, MatchBool}
 use Rattle.std.specs.List.{position}
 use Rattle.terrain.specs.Raster.{IsHeight}
 use Rattle.terrain.proofs.Heights.{height_width}
-use Rattle.drain.specs.Amid.{HasHeights, drop_by, drop_on, height_on, IsFurthest, IsLowestBefore, IsSteepestWay}
+use Rattle.drain.specs.Interior.{HasHeights, drop_by, drop_on, height_on, IsFurthest, IsLowestBefore, IsSteepestWay}
 use Rattle.drain.specs.Steepness.{weight, weights, positive_part}
 use Rattle.drain.specs.declared.around.Around.{Around}
-use Rattle.drain.proofs.AmidLemmas.{drop_is}
+use Rattle.drain.proofs.InteriorLemmas.{drop_is}
 use Rattle.drain.proofs.Greatest.{IsFirstGreatest, fold-max_least, is_fold, is_position}
 use Rattle.drain.proofs.Weights.{length-weights, get_or-weights, square-above_zero}
 
@@ -28,21 +28,20 @@ pub drop_fits : (z : ℤ) → pos 0 ≤ℤ z → z <ℤ pos 9223372036854775808 
 drop_fits (pos n) low high = record { sfits = omega (arith, ints) }
 drop_fits (negsuc n) low high = absurd (omega (arith, ints))
 
--- what is not lower does not lie further down
+-- a height that is not lower has no greater drop
 no_further_down : (level low h : ℤ) → low ≤ℤ h → drop_by level (Some h) ≤ drop_by level (Some low)
 no_further_down level low h le = elim (part_of (level -ℤ h)) [
   | inl is ↦ elim (part_of (level -ℤ low)) [ inl e ↦ omega (arith, ints) | inr e ↦ omega (arith, ints) ]
   | inr is ↦ omega arith
 ]
 
--- what is lower lies further down
+-- a lower height has a greater drop
 further_down : (level low h : ℤ) → h <ℤ low → low ≤ℤ level → drop_by level (Some low) < drop_by level (Some h)
 further_down level low h lt le = elim (part_of (level -ℤ h)) [
   | inl is ↦ elim (part_of (level -ℤ low)) [ inl e ↦ omega (arith, ints) | inr e ↦ omega (arith, ints) ]
   | inr is ↦ absurd (omega (arith, ints))
 ]
 
--- a height, or the level
 pub or_level : (o : Option ℤ) (level : ℤ) → IfSome o IsHeight → IsHeight level → IsHeight (unwrap_or o level)
 or_level None level given height = height
 or_level (Some h) level given height = given
@@ -63,7 +62,7 @@ lowest_next level heights parity turn lowest before = record {
       (λ more. let same : int_min lowest (height_on level heights parity turn) ≡ height_on level heights parity turn = omega (arith, ints, clamps) in inr (turn, omega arith, sym same));
 }
 
--- the way of a kind
+-- a way of a parity, by its turn
 turn_of : (parity other : ℕ) → parity < 2 → other % 2 ≡ parity → other ≡ 2 * (other / 2) + parity
 turn_of parity other two e = omega arith
 
@@ -88,7 +87,7 @@ module _ (level : ℤ) (heights : List (Option ℤ)) (parity : ℕ) (lowest : �
       level_drop : drop_by level (Some level) ≡ 0
       level_drop = elim (part_of (level -ℤ level)) [ inl e ↦ omega (arith, ints) | inr e ↦ e.0 ]
 
-  -- the first way that is the lowest leads furthest, or none leads down
+  -- the first lowest way has the greatest drop, or none leads down
   pub first_is_furthest : (turns : ℕ) → turns < 4 → ((turn : ℕ) → turn < turns → height_on level heights parity turn ≢ lowest) → (turns < 3 → height_on level heights parity turns ≡ lowest) →
       IsFurthest level heights parity 8 (drop_by level (Some lowest)) (2 * turns + parity)
   first_is_furthest turns few past here = record {
@@ -118,13 +117,12 @@ module _ (level : ℤ) (heights : List (Option ℤ)) (parity : ℕ) (lowest : �
         ]
       ]
 
--- so many ways are past while none has been the lowest
+-- Of the ways seen, `turns` come before the first lowest one.
 pub record ArePast (level : ℤ) (heights : List (Option ℤ)) (parity : ℕ) (lowest : ℤ) (turns turn : ℕ) (is_past : Bool) : Type 0 where
   pub past : (other : ℕ) → other < turns → lowest <ℤ height_on level heights parity other
   pub all : is_past ≡ true → turns ≡ turn
   pub here : is_past ≡ false → (turns < turn) × (height_on level heights parity turns ≤ℤ lowest)
 
--- one way more
 pub past_next : (level : ℤ) (heights : List (Option ℤ)) (parity : ℕ) (lowest : ℤ) (turns turn next : ℕ) (is_past above : Bool) → ArePast level heights parity lowest turns turn is_past →
     MatchBool above (lowest <ℤ height_on level heights parity turn) (height_on level heights parity turn ≤ℤ lowest) →
     ((is_past && above ≡ true) × (next ≡ turns + 1)) ⊎ ((is_past && above ≡ false) × (next ≡ turns)) → ArePast level heights parity lowest next (turn + 1) (is_past && above)
@@ -150,7 +148,6 @@ past_next level heights parity lowest turns turn next false above so_far is (inr
   here = λ _. let there = so_far.here refl in (omega (arith, there.0, same), subst (λ (n : ℕ). height_on level heights parity n ≤ℤ lowest) (sym same) there.1);
 }
 
--- of the four ways
 pub past_all : (level : ℤ) (heights : List (Option ℤ)) (parity : ℕ) (lowest : ℤ) (turns turn : ℕ) (is_past : Bool) → parity < 2 → IsLowestBefore level heights parity 4 lowest → turn ≡ 3 →
     ArePast level heights parity lowest turns turn is_past → IsFurthest level heights parity 8 (drop_by level (Some lowest)) (2 * turns + parity)
 past_all level heights parity lowest turns turn is_past two is three so_far =
@@ -177,7 +174,7 @@ zero_square n e = elim (cases_eq n 0) [ inl none ↦ none | inr some ↦ (let ab
 above_zero : (n : ℕ) {m : ℕ} → m < 2 * (n * n) → 0 < n
 above_zero n more = elim (cases_eq n 0) [ inl none ↦ absurd (omega (arith, more, ap (λ k. k * k) none)) | inr some ↦ omega arith ]
 
--- twice a square is a square of 0 alone
+-- twice a square is a square only for 0
 pub no_root_of_two : (most a b : ℕ) → a + b ≤ most → 2 * (a * a) ≡ b * b → a ≡ 0
 no_root_of_two zero a b few e = omega arith
 no_root_of_two (suc n) a b few e =
@@ -269,7 +266,7 @@ module _ (a : Around) (level : ℤ) (heights : List (Option ℤ)) (has : HasHeig
               );
         }
 
-    -- at equal weights no way leads down
+    -- weights are equal only if no way leads down
     across_heavier : 2 * (o * o) ≤ d * d → 0 < d → 2 * (o * o) < d * d
     across_heavier much some =
         elim (cases_eq (2 * (o * o)) (d * d)) [
@@ -282,7 +279,6 @@ module _ (a : Around) (level : ℤ) (heights : List (Option ℤ)) (has : HasHeig
         let most = fold-max_least (weights a) 0 0 (omega arith) (bounded 0 (omega (arith, ap (λ k. k * k) level)) (omega (arith, ap (λ k. k * k) flat))) in
         record { none = λ _. omega (arith, most); some = λ other e. absurd (none-some other e) }
 
-    -- the heavier of the two
     pub heavier_is : (drop way : ℕ) → ((d * d < 2 * (o * o)) × (drop ≡ o) × (way ≡ straight)) ⊎ ((2 * (o * o) ≤ d * d) × (drop ≡ d) × (way ≡ across)) → IsSteepestWay a (then_some (ltb 0 drop) way)
     heavier_is drop way (inl (more, drop_is, way_is)) = let some : 0 < o = above_zero o more in
         subst (λ b. IsSteepestWay a (then_some b way)) (sym (lt-ltb 0 drop (omega arith)))

@@ -1,4 +1,4 @@
--- The lists of a tile that the map of codes is made of, one entry more at a time.
+-- From the codes of tiles to the codes of the terrain.
 use Rattle.std.proofs.Common.{ℕ, ◌+◌, ◌*◌, ◌<◌, List, ◌∷◌, ◌++◌, [], Option, arith}
 use Rattle.terrain.specs.Raster.{Terrain}
 use Rattle.terrain.proofs.Places.{make_place}
@@ -14,7 +14,7 @@ pub coded_next : (t : Terrain) (b : Bounds) (row col : ℕ) (list : List (Option
     AreMadeBelow b (IsCodeAt t) (row * b.cols + col) list → IsCodeAt t (make_place (b.top + row) (b.left + col)) x → AreMadeBelow b (IsCodeAt t) (row * b.cols + (col + 1)) (list ++ x ∷ [])
 coded_next t b = made_next b (IsCodeAt t)
 
--- a tile's bounds lie in a terrain of the cutting's size
+-- a tile's bounds lie in the terrain that is cut
 pub part_of : (t : Terrain) (c : Cutting) (b : Bounds) → IsCutting c → Cuts c t → AreBounds c b → IsPartOf t b
 part_of t c b lawful cuts fits = record {
   few_rows = omega (arith, lawful.few_rows, cuts.1);
@@ -23,6 +23,6 @@ part_of t c b lawful cuts fits = record {
   cols = omega (arith, cuts.0, fits.cols_inside);
 }
 
--- the map that the tiles' lists are put back to, by places of the terrain
+-- the map of codes has the direction of each cell
 pub coded_map : (t : Terrain) (c : Cutting) (codes : List (Option ℕ)) → Cuts c t → IsMadeMap c (IsCodeAt t) codes → AreDirections t codes
 coded_map t c codes cuts made = let all = map_of_size c t.cols t.rows (IsCodeAt t) codes cuts.0 cuts.1 made in record { size = all.0; each = all.1 }

@@ -1,4 +1,4 @@
--- What the search over a tile and the places around it leaves is a round over the tile.
+-- The search over a window is a round over its tile.
 use Rattle.std.proofs.Common.{◌≡◌, ◌≢◌, ℕ, ◌+◌, ◌-◌, ◌*◌, ◌^◌, ◌<◌, ◌≤◌, inl, inr, List, ◌∷◌, length, get_or, set, Option, None, Some, is_some, unwrap_or, IfSome, ℤ, sym, ap, subst, refl, ◌∙◌, arith}
 use Rattle.std.proofs.lemmas.Bool.{cases_eq, cases_lt}
 use Rattle.std.proofs.lemmas.List.{get_or-map, get_or-set_same, get_or-set_other, get_or_past, length-map}
@@ -10,19 +10,19 @@ use Rattle.terrain.specs.declared.place.Place.{Place}
 use Rattle.tiles.specs.declared.bounds.Bounds.{Bounds}
 use Rattle.tiles.specs.Cutting.{Cutting, IsCutting, IsInBounds, IsInTile, bounds_of, tile_entry, View, terrain_of}
 use Rattle.tiles.proofs.Cut.{in_bounds}
-use Rattle.drain.specs.Rounds.{IsLent, IsWalked, AreWalked, IsOneAbove, IsRound}
+use Rattle.drain.specs.Rounds.{IsSource, IsWalked, AreWalked, IsOneAbove, IsRound}
 use Rattle.tile_maps.specs.Maps.{AreMadeBelow, IsMadeTile}
 use Rattle.tile_maps.proofs.TileLists.{made_tile, entry_of_tile}
 use Rattle.drainage.specs.StepCounts.{known, no_count}
 use Rattle.drainage.proofs.ToldCounts.{known-some, known-none}
-use Rattle.drain.specs.Window.{AreCounts, spot_index, area_of, IsSpot, IsInner, Shows, IsShown, AreShown, level_on, count_on, IsSpread, same, moved, IsSettled, known_counts, IsHandedOut, AreLent}
+use Rattle.drain.specs.Window.{AreCounts, spot_index, area_of, IsSpot, IsInner, Shows, IsShown, AreShown, level_on, count_on, IsSpread, same, moved, IsSettled, known_counts, IsCopied, AreWindowCounts}
 use Rattle.drain.proofs.Spreading.{spot_below, spread_not_above, spread_counts, spread-length, spot_from_inner}
 use Rattle.drain.proofs.Counted.{height_is}
 use Rattle.drain.proofs.Spots.{shows_same}
 use Rattle.drain.proofs.Unique.{at_place}
 use Rattle.drain.proofs.Few.{data_on_level_walk}
 
--- a spot that shows something shows a place
+-- a spot with a value shows a place
 is_on : {X : Type 0} (cols rows : ℕ) (entries : List (Option X)) (b : Bounds) (s : Place) (o : Option X) (x : X) → IsShown cols rows entries None b s o → o ≡ Some x →
     (p : Place) × Shows b s p × (entry_at cols rows entries p ≡ Some x)
 is_on {X = X} cols rows entries b s o x shown is =
@@ -36,9 +36,9 @@ is_on {X = X} cols rows entries b s o x shown is =
       ]
     ]
 
--- each count that is known is of a walk to a cell that is lent 0, from the place that its spot shows
+-- Each known count is the length of a walk to a source, from the place of its spot.
 IsSound : Terrain → List (Option ℕ) → Bounds → List ℕ → Type 0
-IsSound t steps b counts = (s : Place) → IsSpot b s → count_on b counts s < no_count → (p : Place) × Shows b s p × IsWalked (IsLent t steps) t p (count_on b counts s)
+IsSound t steps b counts = (s : Place) → IsSpot b s → count_on b counts s < no_count → (p : Place) × Shows b s p × IsWalked (IsSource t steps) t p (count_on b counts s)
 
 count-known : (b : Bounds) (shown : List (Option ℕ)) (s : Place) → length shown ≡ area_of b → IsSpot b s → count_on b (known_counts shown) s ≡ unwrap_or (get_or shown (spot_index b s) None) no_count
 count-known b shown s size spot = get_or-map (λ (o : Option ℕ). unwrap_or o no_count) shown (spot_index b s) None 0 (omega (arith, size, spot_below b s spot))
@@ -47,7 +47,7 @@ pub some_of_known : (o : Option ℕ) (n : ℕ) → n ≡ unwrap_or o no_count �
 some_of_known None n e less = absurd (omega arith)
 some_of_known (Some m) n e less = ap Some (sym e)
 
-sound_begin : (t : Terrain) (b : Bounds) (steps shown : List (Option ℕ)) → length shown ≡ area_of b → AreShown t.cols t.rows steps None b shown → AreWalked (IsLent t steps) t steps → IsSound t steps b (known_counts shown)
+sound_begin : (t : Terrain) (b : Bounds) (steps shown : List (Option ℕ)) → length shown ≡ area_of b → AreShown t.cols t.rows steps None b shown → AreWalked (IsSource t steps) t steps → IsSound t steps b (known_counts shown)
 unfolding IsSound
 sound_begin t b steps shown size on walked = λ s spot less.
     let n = count_on b (known_counts shown) s in
@@ -69,16 +69,16 @@ apart_places b s r p q f g ne e =
     let col : q.col ≡ p.col = ap (λ (x : Place). x.col) e in
     ne (same_place s r (omega (arith, f.0, g.0, row)) (omega (arith, f.1, g.1, col)))
 
--- a step from a walked cell to a neighbour on its level
-pub walked_on : (t : Terrain) (steps : List (Option ℕ)) (p q : Place) (m n : ℕ) → IsNeighbour t q p → height_at t p ≡ height_at t q → IsWalked (IsLent t steps) t p m → n ≡ m + 1 → n < 2 ^ 24 → IsWalked (IsLent t steps) t q n
+-- a level walk with one more move in front
+pub walked_on : (t : Terrain) (steps : List (Option ℕ)) (p q : Place) (m n : ℕ) → IsNeighbour t q p → height_at t p ≡ height_at t q → IsWalked (IsSource t steps) t p m → n ≡ m + 1 → n < 2 ^ 24 → IsWalked (IsSource t steps) t q n
 walked_on t steps p q m n next level walk is less = (less, p ∷ walk.1, (next, level, walk.2), omega (arith, walk.3, is))
 
 sound_moved : (t : Terrain) (steps : List (Option ℕ)) (b : Bounds) (levels : List (Option ℤ)) (some : List ℕ) (s r : Place) (n : ℕ) → AreShown t.cols t.rows t.cells None b levels → IsSound t steps b some →
-    IsSpot b s → IsSpot b r → Touches s r → s ≢ r → level_on b levels s ≡ level_on b levels r → n ≡ count_on b some s + 1 → n < no_count → (q : Place) × Shows b r q × IsWalked (IsLent t steps) t q n
+    IsSpot b s → IsSpot b r → Touches s r → s ≢ r → level_on b levels s ≡ level_on b levels r → n ≡ count_on b some s + 1 → n < no_count → (q : Place) × Shows b r q × IsWalked (IsSource t steps) t q n
 unfolding IsSound
 sound_moved t steps b levels some s r n on sound spot other touch differ level is less =
     let from = sound s spot (omega (arith, is)) in
-    let known_place = data_on_level_walk (IsLent t steps) t (λ z lent. lent.0) from.0 from.2.1 from.2.2 in
+    let known_place = data_on_level_walk (IsSource t steps) t (λ z input. input.0) from.0 from.2.1 from.2.2 in
     let height = height_is t from.0 known_place in
     let here : level_on b levels s ≡ Some (height_of t from.0) = (on s spot).0 from.0 from.1 ∙ height in
     let to = is_on t.cols t.rows t.cells b r (level_on b levels r) (height_of t from.0) (on r other) (sym level ∙ here) in (
@@ -89,16 +89,16 @@ sound_moved t steps b levels some s r n on sound spot other touch differ level i
           (height ∙ sym to.2) from.2 is less,
     )
 
-sound_set : (t : Terrain) (steps : List (Option ℕ)) (b : Bounds) (counts : List ℕ) (r : Place) (n : ℕ) → length counts ≡ area_of b → IsSpot b r → IsSound t steps b counts → ((q : Place) × Shows b r q × IsWalked (IsLent t steps) t q n) → IsSound t steps b (set counts (spot_index b r) n)
+sound_set : (t : Terrain) (steps : List (Option ℕ)) (b : Bounds) (counts : List ℕ) (r : Place) (n : ℕ) → length counts ≡ area_of b → IsSpot b r → IsSound t steps b counts → ((q : Place) × Shows b r q × IsWalked (IsSource t steps) t q n) → IsSound t steps b (set counts (spot_index b r) n)
 unfolding IsSound
 sound_set t steps b counts r n size spot sound moved_to = λ s inside less. elim (cases_place s r) [
   | inl e ↦ (let at : count_on b (set counts (spot_index b r) n) r ≡ n = get_or-set_same counts (spot_index b r) n 0 (omega (arith, size, spot_below b r spot)) in
-      subst (λ (x : Place). (p : Place) × Shows b x p × IsWalked (IsLent t steps) t p (count_on b (set counts (spot_index b r) n) x)) (sym e)
-      (moved_to.0, moved_to.1, subst (λ m. IsWalked (IsLent t steps) t moved_to.0 m) (sym at) moved_to.2))
+      subst (λ (x : Place). (p : Place) × Shows b x p × IsWalked (IsSource t steps) t p (count_on b (set counts (spot_index b r) n) x)) (sym e)
+      (moved_to.0, moved_to.1, subst (λ m. IsWalked (IsSource t steps) t moved_to.0 m) (sym at) moved_to.2))
   | inr ne ↦ (let apart : spot_index b s ≢ spot_index b r = λ i. ne (index_injective (b.cols + 2) s r inside.1 spot.1 i) in
       let at : count_on b (set counts (spot_index b r) n) s ≡ count_on b counts s = get_or-set_other counts (spot_index b r) (spot_index b s) n 0 apart in
       let was = sound s inside (omega (arith, at)) in
-      (was.0, was.1, subst (λ m. IsWalked (IsLent t steps) t was.0 m) (sym at) was.2))
+      (was.0, was.1, subst (λ m. IsWalked (IsSource t steps) t was.0 m) (sym at) was.2))
 ]
 
 sound_after : (t : Terrain) (steps : List (Option ℕ)) (b : Bounds) (levels : List (Option ℤ)) (old new : List ℕ) → AreShown t.cols t.rows t.cells None b levels → length old ≡ area_of b → AreCounts old → IsSound t steps b old → IsSpread b levels old new → IsSound t steps b new
@@ -108,7 +108,7 @@ sound_after t steps b levels old new on size small sound (moved counts some s r 
     (sound_moved t steps b levels some s r n on (sound_after t steps b levels old some on size small sound earlier) spot other touch differ level from
     (omega (arith, less, spread_counts b levels old counts small before (spot_index b r))))
 
--- the spot that shows a place of the tile
+-- the spot of a place of the tile
 spot_of : Bounds → Place → Place
 spot_of b p = make_place (p.row + 1 - b.top) (p.col + 1 - b.left)
 
@@ -119,7 +119,7 @@ spot_inner b p i = (
   (omega (arith, i.0), omega (arith, i.2)),
 )
 
--- a place that touches one of the tile is shown too
+-- a place beside one of the tile has a spot
 spot_beside : (b : Bounds) (p q s : Place) → IsInner b s → Shows b s p → Touches p q → (r : Place) × IsSpot b r × Shows b r q × Touches s r
 spot_beside b p q s i f t = (
   make_place (q.row + 1 - b.top) (q.col + 1 - b.left),
@@ -149,14 +149,14 @@ known-if n P h = elim (cases_lt n no_count) [
   | inr more ↦ subst (λ (o : Option ℕ). IfSome o P) (sym (known-none n more)) tt
 ]
 
-count_small : (t : Terrain) (b : Bounds) (s : Place) (steps : List (Option ℕ)) (o : Option ℕ) → IsShown t.cols t.rows steps None b s o → AreWalked (IsLent t steps) t steps → unwrap_or o no_count ≤ no_count
+count_small : (t : Terrain) (b : Bounds) (s : Place) (steps : List (Option ℕ)) (o : Option ℕ) → IsShown t.cols t.rows steps None b s o → AreWalked (IsSource t steps) t steps → unwrap_or o no_count ≤ no_count
 count_small t b s steps None on walks = omega arith
 count_small t b s steps (Some n) on walks =
     let place = is_on t.cols t.rows steps b s (Some n) n on refl in
     let real = MatchOption-at_some _ _ n place.2 (walks place.0) in omega (arith, real.0)
 
--- the counts that are seen are below the one for none
-pub counts_small : (t : Terrain) (b : Bounds) (steps shown : List (Option ℕ)) → length shown ≡ area_of b → AreShown t.cols t.rows steps None b shown → AreWalked (IsLent t steps) t steps → AreCounts (known_counts shown)
+-- known counts are below the mark for an unknown one
+pub counts_small : (t : Terrain) (b : Bounds) (steps shown : List (Option ℕ)) → length shown ≡ area_of b → AreShown t.cols t.rows steps None b shown → AreWalked (IsSource t steps) t steps → AreCounts (known_counts shown)
 counts_small t b steps shown size seen walks k = elim (cases_lt k (area_of b)) [
   | inl less ↦ at_place (λ i. get_or (known_counts shown) i 0 ≤ no_count) (b.cols + 2) (b.rows + 2)
       (λ s row col. omega (arith, count-known b shown s size (row, col), count_small t b s steps (get_or shown (spot_index b s) None) (seen s (row, col)) walks)) k less
@@ -165,36 +165,36 @@ counts_small t b steps shown size seen walks k = elim (cases_lt k (area_of b)) [
 
 module _ (t : Terrain) (c : Cutting) (tile : ℕ) (b : Bounds) (steps shown : List (Option ℕ)) (levels : List (Option ℤ)) (new : List ℕ) (list : List (Option ℕ))
     (cutting : IsCutting c) (bounds : b ≡ bounds_of c tile) (on : AreShown t.cols t.rows t.cells None b levels) (size : length shown ≡ area_of b)
-    (seen : AreShown t.cols t.rows steps None b shown) (walks : AreWalked (IsLent t steps) t steps) (settled : IsSettled b levels (known_counts shown) new)
-    (out : AreMadeBelow b (IsHandedOut b new) (b.rows * b.cols) list) where
+    (seen : AreShown t.cols t.rows steps None b shown) (walks : AreWalked (IsSource t steps) t steps) (settled : IsSettled b levels (known_counts shown) new)
+    (out : AreMadeBelow b (IsCopied b new) (b.rows * b.cols) list) where
   in_bounds_of : (p : Place) → IsInTile c tile p → IsInBounds b p
   in_bounds_of p i = subst (λ (z : Bounds). IsInBounds z p) (sym bounds) (in_bounds c tile p cutting i)
 
   small : AreCounts (known_counts shown)
   small = counts_small t b steps shown size seen walks
 
-  handed : IsMadeTile c tile (IsHandedOut b new) list
-  handed = made_tile c tile b (IsHandedOut b new) list cutting bounds out
+  handed : IsMadeTile c tile (IsCopied b new) list
+  handed = made_tile c tile b (IsCopied b new) list cutting bounds out
 
-  -- what is handed out at a place of the tile
+  -- the tile's list has the count of each place's spot
   entry_is : (p : Place) → IsInTile c tile p → tile_entry c tile list p ≡ known (count_on b new (spot_of b p))
-  entry_is p i = entry_of_tile c tile (IsHandedOut b new) list cutting handed p i (spot_of b p) (spot_inner b p (in_bounds_of p i)).1
+  entry_is p i = entry_of_tile c tile (IsCopied b new) list cutting handed p i (spot_of b p) (spot_inner b p (in_bounds_of p i)).1
 
-  -- what was lent at a place that a spot shows
+  -- the old count of a place is that of its spot
   lent_is : (s q : Place) (m : ℕ) → IsSpot b s → Shows b s q → entry_at t.cols t.rows steps q ≡ Some m → count_on b (known_counts shown) s ≡ m
   lent_is s q m spot f e =
       count-known b shown s size spot ∙ ap (λ (o : Option ℕ). unwrap_or o no_count) ((seen s spot).0 q f ∙ e)
 
-  walked_here : (p : Place) → IsInTile c tile p → IfSome (tile_entry c tile list p) (IsWalked (IsLent t steps) t p)
+  walked_here : (p : Place) → IsInTile c tile p → IfSome (tile_entry c tile list p) (IsWalked (IsSource t steps) t p)
   unfolding IsSound
   walked_here p i =
       let inner = spot_inner b p (in_bounds_of p i) in
       let sound = sound_after t steps b levels (known_counts shown) new on (length-map shown (λ (o : Option ℕ). unwrap_or o no_count) ∙ size) small (sound_begin t b steps shown size seen walks) settled.spread in
-      subst (λ (o : Option ℕ). IfSome o (IsWalked (IsLent t steps) t p)) (sym (entry_is p i))
-      (known-if (count_on b new (spot_of b p)) (IsWalked (IsLent t steps) t p) (λ less. place_one p inner.1 (sound (spot_of b p) (spot_from_inner b (spot_of b p) inner.0) less)))
+      subst (λ (o : Option ℕ). IfSome o (IsWalked (IsSource t steps) t p)) (sym (entry_is p i))
+      (known-if (count_on b new (spot_of b p)) (IsWalked (IsSource t steps) t p) (λ less. place_one p inner.1 (sound (spot_of b p) (spot_from_inner b (spot_of b p) inner.0) less)))
     where
-      place_one : (p : Place) → Shows b (spot_of b p) p → (q : Place) × Shows b (spot_of b p) q × IsWalked (IsLent t steps) t q (count_on b new (spot_of b p)) → IsWalked (IsLent t steps) t p (count_on b new (spot_of b p))
-      place_one p f h = subst (λ (x : Place). IsWalked (IsLent t steps) t x (count_on b new (spot_of b p))) (shows_same b (spot_of b p) h.0 p h.1 f) h.2
+      place_one : (p : Place) → Shows b (spot_of b p) p → (q : Place) × Shows b (spot_of b p) q × IsWalked (IsSource t steps) t q (count_on b new (spot_of b p)) → IsWalked (IsSource t steps) t p (count_on b new (spot_of b p))
+      place_one p f h = subst (λ (x : Place). IsWalked (IsSource t steps) t x (count_on b new (spot_of b p))) (shows_same b (spot_of b p) h.0 p h.1 f) h.2
 
   near_here : (p q : Place) → IsInTile c tile p → IsNeighbour t p q → height_at t q ≡ height_at t p → IsOneAbove (tile_entry c tile list p) (entry_at t.cols t.rows steps q)
   near_here p q i next level m e less =
@@ -230,7 +230,7 @@ module _ (t : Terrain) (c : Cutting) (tile : ℕ) (b : Bounds) (steps shown : Li
       let few : count_on b new s < no_count = omega (arith, fewer, was, real.0) in
       (count_on b new s, entry_is p i ∙ known-some (count_on b new s) few, omega (arith, fewer, was))
 
-  pub is_round : IsRound (IsLent t steps) t c tile steps list
+  pub is_round : IsRound (IsSource t steps) t c tile steps list
   is_round = record {
     size = handed.size;
     walked = walked_here;
@@ -239,21 +239,21 @@ module _ (t : Terrain) (c : Cutting) (tile : ℕ) (b : Bounds) (steps shown : Li
     kept = kept_here;
   }
 
--- what the search was lent, by the bounds that it works on
+-- the counts of the window, by its bounds
 pub lent_to : (v : View (Option ℤ)) (w : View (Option ℕ)) (b : Bounds) (old : List ℕ) → w.cutting ≡ v.cutting → w.tile ≡ v.tile → b ≡ bounds_of v.cutting v.tile →
-    AreLent w.cutting.cols w.cutting.rows w.cells (bounds_of w.cutting w.tile) old → AreLent v.cutting.cols v.cutting.rows w.cells b old
-lent_to v w b old cutting tile bounds lent =
-    subst (λ (z : Bounds). AreLent v.cutting.cols v.cutting.rows w.cells z old) (sym bounds)
-    (subst (λ (k : ℕ). AreLent v.cutting.cols v.cutting.rows w.cells (bounds_of v.cutting k) old) tile
-    (subst (λ (z : Cutting). AreLent z.cols z.rows w.cells (bounds_of z w.tile) old) cutting lent))
+    AreWindowCounts w.cutting.cols w.cutting.rows w.cells (bounds_of w.cutting w.tile) old → AreWindowCounts v.cutting.cols v.cutting.rows w.cells b old
+lent_to v w b old cutting tile bounds input =
+    subst (λ (z : Bounds). AreWindowCounts v.cutting.cols v.cutting.rows w.cells z old) (sym bounds)
+    (subst (λ (k : ℕ). AreWindowCounts v.cutting.cols v.cutting.rows w.cells (bounds_of v.cutting k) old) tile
+    (subst (λ (z : Cutting). AreWindowCounts z.cols z.rows w.cells (bounds_of z w.tile) old) cutting input))
 
-pub lent_small : (t : Terrain) (b : Bounds) (steps : List (Option ℕ)) (old : List ℕ) → AreLent t.cols t.rows steps b old → AreWalked (IsLent t steps) t steps → AreCounts old
-lent_small t b steps old lent walks = subst (λ (xs : List ℕ). AreCounts xs) (sym lent.value) (counts_small t b steps lent.shown lent.size lent.seen walks)
+pub lent_small : (t : Terrain) (b : Bounds) (steps : List (Option ℕ)) (old : List ℕ) → AreWindowCounts t.cols t.rows steps b old → AreWalked (IsSource t steps) t steps → AreCounts old
+lent_small t b steps old input walks = subst (λ (xs : List ℕ). AreCounts xs) (sym input.value) (counts_small t b steps input.shown input.size input.seen walks)
 
 pub round_from : (v : View (Option ℤ)) (w : View (Option ℕ)) (b : Bounds) (levels : List (Option ℤ)) (old new : List ℕ) (list : List (Option ℕ)) →
-    IsCutting v.cutting → b ≡ bounds_of v.cutting v.tile → AreShown v.cutting.cols v.cutting.rows v.cells None b levels → AreLent v.cutting.cols v.cutting.rows w.cells b old →
-    AreWalked (IsLent (terrain_of v) w.cells) (terrain_of v) w.cells → IsSettled b levels old new → AreMadeBelow b (IsHandedOut b new) (b.rows * b.cols) list →
-    IsRound (IsLent (terrain_of v) w.cells) (terrain_of v) v.cutting v.tile w.cells list
-round_from v w b levels old new list cutting bounds on lent walks settled out =
-    is_round (terrain_of v) v.cutting v.tile b w.cells lent.shown levels new list cutting bounds on lent.size lent.seen walks
-    (subst (λ (xs : List ℕ). IsSettled b levels xs new) lent.value settled) out
+    IsCutting v.cutting → b ≡ bounds_of v.cutting v.tile → AreShown v.cutting.cols v.cutting.rows v.cells None b levels → AreWindowCounts v.cutting.cols v.cutting.rows w.cells b old →
+    AreWalked (IsSource (terrain_of v) w.cells) (terrain_of v) w.cells → IsSettled b levels old new → AreMadeBelow b (IsCopied b new) (b.rows * b.cols) list →
+    IsRound (IsSource (terrain_of v) w.cells) (terrain_of v) v.cutting v.tile w.cells list
+round_from v w b levels old new list cutting bounds on input walks settled out =
+    is_round (terrain_of v) v.cutting v.tile b w.cells input.shown levels new list cutting bounds on input.size input.seen walks
+    (subst (λ (xs : List ℕ). IsSettled b levels xs new) input.value settled) out

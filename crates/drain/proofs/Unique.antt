@@ -1,5 +1,4 @@
--- Each data cell of a filled terrain has one direction; what holds at each place holds of the list, and there is one list
--- of directions.
+-- Each data cell of a filled terrain has one direction, so a terrain has one list of directions.
 use Rattle.std.proofs.Common.{◌≡◌, ℕ, ◌+◌, ◌*◌, ◌/◌, ◌%◌, ◌<◌, ◌≤◌, inl, inr, List, length, get_or, Option, None, Some, sym, ap, subst, ◌∙◌, arith, map, is_some, MatchOption, ℤ, refl}
 use Rattle.std.proofs.lemmas.Bool.{cases_eq}
 use Rattle.std.proofs.lemmas.Option.{MatchOption-at_none, MatchOption-at_some}
@@ -34,7 +33,7 @@ some_cols cols rows i h = elim (cases_eq cols 0) [
   | inr ne ↦ omega arith
 ]
 
--- what holds of each place inside holds at each index
+-- a property of each place inside holds at each index
 pub at_place : (P : ℕ → Type 0) (cols rows : ℕ) → ((p : Place) → p.row < rows → p.col < cols → P (index_of cols p)) → (i : ℕ) → i < cols * rows → P i
 at_place P cols rows each i h =
     let some : 1 ≤ cols = some_cols cols rows i h in
@@ -42,7 +41,7 @@ at_place P cols rows each i h =
     let col : i % cols < cols = mod_below i cols some in
     subst P (index-place_at cols i) (each (place_at cols i) row col)
 
--- lists with the same entries at each place are one
+-- lists with equal entries at each place are equal
 pub same_entries : {X : Type 0} (cols rows : ℕ) (xs ys : List (Option X)) → length xs ≡ cols * rows → length ys ≡ cols * rows
     → ((p : Place) → p.row < rows → p.col < cols → entry_at cols rows xs p ≡ entry_at cols rows ys p) → xs ≡ ys
 same_entries cols rows xs ys m n same =

@@ -43,7 +43,7 @@ drop_from_weight way drop h = elim (cases_eq drop 0) [ inl e ↦ e | inr ne ↦ 
           | inr e ↦ (let is : weight way drop ≡ drop * drop = cond-false _ _ _ e in omega arith)
         ]
 
--- where no weight is above 0, no way leads down
+-- if no weight is above 0, no way leads down
 pub no_way_down : (a : Around) → fold max 0 (weights a) ≤ 0 → list_any (λ w. ltb 0 (drop_to a.level w)) a.ways ≡ false
 no_way_down a h =
     none_passes (λ w. ltb 0 (drop_to a.level w)) a.ways None
@@ -54,7 +54,7 @@ no_way_down a h =
     let none : drop_to a.level (get_or a.ways k None) ≡ 0 = drop_from_weight k _ own in
     le-ltb _ _ (omega arith))
 
--- a cell that fits its surroundings and has no way down is an end cell or has a way that leads on
+-- a fitting cell that has no way down and is no end cell has a way that leads on
 pub drains_onward : (a : Around) → IsFitting a → fold max 0 (weights a) ≤ 0 → a.edge ≡ false → list_any (leads_on a) a.ways ≡ true
 drains_onward a f low inside = go a low inside f.drains
   where

@@ -1,4 +1,5 @@
--- The counts that the rounds begin with.
+-- The initial counts of the first round: 0 at each cell that drains at once.
+-- Public.
 use Rattle.std.specs.Prelude.{◌≡◌, ◌⊎◌, ◌≤◌, ◌<◌, ℕ, ◌+◌, ◌-◌, ◌*◌, ℤ, ◌<ℤ◌, List, length, Option, None, Some}
 use Rattle.terrain.specs.Neighbours.{IsInside, entry_at, IsEdge}
 use Rattle.terrain.specs.Raster.{Terrain}
@@ -10,30 +11,33 @@ use Rattle.drain.specs.Rounds.{IsRound}
 use Rattle.drain.specs.Window.{AreMadeSpots, IsOff, Shows, area_of}
 use Rattle.drainage.specs.StepCounts.{known, no_count}
 
--- The cell has no data or is lower.
+-- The cell has no data or lies below this level.
 abbrev pub IsGapOrLower : ℤ → Option ℤ → Type 0
 IsGapOrLower level None = Unit {0}
 IsGapOrLower level (Some height) = height <ℤ level
 
--- The cell drains at once, whichever sinks are named.
-abbrev pub DrainsAnyway : Terrain → Place → Type 0
-DrainsAnyway t p = HasLower t p ⊎ IsEdge t p
+-- The cell has a lower neighbour or is an edge cell; named sinks do not count.
+abbrev pub IsEdgeOrHasLower : Terrain → Place → Type 0
+IsEdgeOrHasLower t p = HasLower t p ⊎ IsEdge t p
 
--- A cell that drains has the count 0, and no other has any.
+-- The count is 0 if the cell drains, and `None` otherwise.
 pub record IsBegun (Drains : Place → Type 0) (p : Place) (count : Option ℕ) : Type 0 where
   pub zero : Drains p → count ≡ Some 0
   pub only : (n : ℕ) → count ≡ Some n → Drains p × (n ≡ 0)
 
--- The list has the count 0 at each cell that drains at once, and no other, in row order.
+-- The initial counts in row order: 0 at each cell that drains at once, `None` elsewhere.
 pub record AreBegun (t : Terrain) (counts : List (Option ℕ)) : Type 0 where
   pub size : length counts ≡ t.cols * t.rows
-  pub each : (p : Place) → IsInside t p → IsBegun (DrainsAtOnce t) p (entry_at t.cols t.rows counts p)
+  pub each : (p : Place) → IsInside t p →
+      IsBegun (DrainsAtOnce t) p (entry_at t.cols t.rows counts p)
 
--- The number at a spot is the count of the place that it shows, and off the grid there is none.
+-- The initial count at a spot: that of the place that it shows, and none off the grid.
 abbrev pub IsBegunSpot : (Place → Type 0) → Bounds → Place → ℕ → Type 0
-IsBegunSpot Drains b s count = (count ≤ no_count) × ((p : Place) → Shows b s p → IsBegun Drains p (known count)) × (IsOff b s → known count ≡ None)
+IsBegunSpot Drains b s count = (count ≤ no_count)
+    × ((p : Place) → Shows b s p → IsBegun Drains p (known count))
+    × (IsOff b s → known count ≡ None)
 
--- The numbers at the spots of a tile and the places around it.
+-- The initial counts of a tile and the places around it.
 abbrev pub AreBegunSpots : (Place → Type 0) → Bounds → List ℕ → Type 0
 AreBegunSpots Drains b counts = AreMadeSpots (IsBegunSpot Drains b) b (area_of b) 0 counts
 
@@ -41,16 +45,19 @@ AreBegunSpots Drains b counts = AreMadeSpots (IsBegunSpot Drains b) b (area_of b
 abbrev pub HasZeros : Terrain → List (Option ℕ) → Type 0
 HasZeros t counts = (p : Place) → DrainsAtOnce t p → entry_at t.cols t.rows counts p ≡ Some 0
 
--- A round over all tiles leaves each count as it was. There is one list for each tile.
-pub record IsQuiet (t : Terrain) (c : Cutting) (steps : List (Option ℕ)) (lists : ℕ → List (Option ℕ)) : Type 0 where
-  pub rounds : (tile : ℕ) → tile < tile_count c → IsRound (DrainsAtOnce t) t c tile steps (lists tile)
-  pub same : (tile : ℕ) (p : Place) → IsInTile c tile p → tile_entry c tile (lists tile) p ≡ entry_at t.cols t.rows steps p
+-- A round over all tiles changes no count; `lists` has the counts of each tile after it.
+pub record IsQuiet (t : Terrain) (c : Cutting) (steps : List (Option ℕ))
+    (lists : ℕ → List (Option ℕ)) : Type 0 where
+  pub rounds : (tile : ℕ) → tile < tile_count c →
+      IsRound (DrainsAtOnce t) t c tile steps (lists tile)
+  pub same : (tile : ℕ) (p : Place) → IsInTile c tile p →
+      tile_entry c tile (lists tile) p ≡ entry_at t.cols t.rows steps p
 
 -- The place lies in the first or last row or column.
 abbrev pub IsOutermost : Terrain → Place → Type 0
 IsOutermost t p = (p.row ≡ 0) ⊎ (p.col ≡ 0) ⊎ (p.row ≡ t.rows - 1) ⊎ (p.col ≡ t.cols - 1)
 
--- The bounds lie in the terrain, which is within the limits.
+-- The bounds lie in the terrain, whose axes are within the limit.
 pub record IsPartOf (t : Terrain) (b : Bounds) : Type 0 where
   pub few_rows : t.rows ≤ longest_axis
   pub few_cols : t.cols ≤ longest_axis

@@ -1,5 +1,6 @@
--- The direction of each cell. The heights of the terrain are its filled heights.
+-- The D8 direction of each cell. The heights of the terrain are its filled heights.
 -- Source: the D8 method of Jenson and Domingue (1988), with this project's ties and outlets.
+-- Trust base.
 use Rattle.std.specs.Prelude.{◌≡◌, ℕ, ◌+◌, ◌*◌, ◌≤◌, ◌||◌, ◌==◌, if◌then◌else◌, List, length, Option, None, Some, MatchOption}
 use Rattle.std.specs.Int.{int_gap}
 use Rattle.terrain.specs.Raster.{Terrain}
@@ -8,38 +9,41 @@ use Rattle.terrain.specs.Ways.{place_toward}
 use Rattle.terrain.specs.declared.place.Place.{Place}
 use Rattle.drain.specs.Steps.{IsLower, HasLower, DrainsAtOnce, IsSteps}
 
--- The weight of the drop to a lower neighbour: the square of drop over distance, twice. That is twice the square of
--- the drop along a row or column, and the square across a diagonal.
+-- The weight of the drop to a lower neighbour: twice the square of drop over distance. That is
+-- twice the drop's square along a row or column, and its square across a diagonal.
 abbrev pub weight_of : Terrain → Place → Place → ℕ
 weight_of t p q =
     let drop = int_gap (height_of t q) (height_of t p) in
     if p.row == q.row || p.col == q.col then 2 * (drop * drop) else drop * drop
 
--- A lower neighbour than which none is heavier.
+-- A lower neighbour of the greatest weight.
 abbrev pub IsSteepest : Terrain → Place → Place → Type 0
-IsSteepest t p q = IsLower t p q × ((other : Place) → IsLower t p other → weight_of t p other ≤ weight_of t p q)
+IsSteepest t p q = IsLower t p q
+    × ((other : Place) → IsLower t p other → weight_of t p other ≤ weight_of t p q)
 
 -- A neighbour of equal height with one step fewer.
 abbrev pub IsOnward : Terrain → Place → Place → Type 0
-IsOnward t p q = IsNeighbour t p q × (height_at t q ≡ height_at t p) × (n : ℕ) × IsSteps t q n × IsSteps t p (n + 1)
+IsOnward t p q = IsNeighbour t p q × (height_at t q ≡ height_at t p) × (n : ℕ) × IsSteps t q n
+    × IsSteps t p (n + 1)
 
--- The code points from p to such a place, and no smaller code does.
+-- The code is the smallest that points from p to a place with the property.
 pub record PointsToFirst (IsSuch : Place → Type 0) (p : Place) (code : ℕ) : Type 0 where
   pub one : (q : Place) × (place_toward code p ≡ Some q) × IsSuch q
   pub first : (other : ℕ) (q : Place) → place_toward other p ≡ Some q → IsSuch q → code ≤ other
 
--- The direction of a data cell: to the first of its steepest neighbours where one is lower; else 0 at an end cell,
--- which is an outlet; else to the first neighbour of equal height with one step fewer.
+-- The direction of a data cell: to a steepest neighbour if one is lower; else 0 at an end cell, an
+-- outlet; else to an equal neighbour with one step fewer. Among equals it is the smallest code.
 pub record IsDirection (t : Terrain) (p : Place) (code : ℕ) : Type 0 where
   pub steepest : HasLower t p → PointsToFirst (IsSteepest t p) p code
   pub outlet : (HasLower t p → ⊥) → IsEnd t p → code ≡ 0
   pub onward : (DrainsAtOnce t p → ⊥) → PointsToFirst (IsOnward t p) p code
 
--- The code is the direction of a data cell, and there is none where there is no data.
+-- The code is the direction of a data cell, or `None` where there is no data.
 abbrev pub IsCodeAt : Terrain → Place → Option ℕ → Type 0
-IsCodeAt t p code = MatchOption (height_at t p) (code ≡ None) (λ _. (n : ℕ) × (code ≡ Some n) × IsDirection t p n)
+IsCodeAt t p code = MatchOption (height_at t p) (code ≡ None)
+    (λ _. (n : ℕ) × (code ≡ Some n) × IsDirection t p n)
 
--- The list has the direction of each data cell in row order, and None where there is no data.
+-- The list has the direction of each data cell in row order, and `None` where there is no data.
 pub record AreDirections (t : Terrain) (codes : List (Option ℕ)) : Type 0 where
   pub size : length codes ≡ t.cols * t.rows
   pub each : (p : Place) → IsInside t p → IsCodeAt t p (entry_at t.cols t.rows codes p)

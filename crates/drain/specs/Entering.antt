@@ -1,51 +1,59 @@
--- What comes from one tile into another.
+-- Entries: lower counts that cells of one tile offer to neighbours in another.
+-- Private.
 use Rattle.std.specs.Prelude.{◌≡◌, ℕ, ◌+◌, ◌<◌, ◌≤◌, ◌⊎◌, ℤ, List, [], length, Option, Some, slice_get}
 use Rattle.terrain.specs.Raster.{Terrain}
 use Rattle.terrain.specs.Neighbours.{index_of}
 use Rattle.terrain.specs.declared.place.Place.{Place}
 use Rattle.tiles.specs.declared.bounds.Bounds.{Bounds}
 use Rattle.tiles.specs.Cutting.{Cutting, IsInTile}
-use Rattle.drain.specs.Rounds.{IsLent, IsWalked}
+use Rattle.drain.specs.Rounds.{IsSource, IsWalked}
 use Rattle.drain.specs.Lowering.{AreLevel, IsAmong, count_of}
 use Rattle.drain.specs.declared.changes.Entry.{Entry}
 use Rattle.drain.specs.declared.changes.Run.{Run}
 
--- The place and all around it lie in the bounds.
-abbrev pub IsAmid : Bounds → Place → Type 0
-IsAmid b p = (b.top < p.row) × (p.row + 1 < b.top + b.rows) × (b.left < p.col) × (p.col + 1 < b.left + b.cols)
+-- The place and the eight places around it lie in the bounds.
+abbrev pub IsInterior : Bounds → Place → Type 0
+IsInterior b p = (b.top < p.row) × (p.row + 1 < b.top + b.rows) × (b.left < p.col)
+    × (p.col + 1 < b.left + b.cols)
 
--- The terrain of a list of the size of a cutting's grid. It has no sinks.
-abbrev pub lent_terrain : Cutting → List (Option ℤ) → Terrain
-lent_terrain c levels = record { cols = c.cols; rows = c.rows; cells = levels; sinks = [] }
+-- The terrain of a list of heights, with the size of a cutting's grid and without sinks.
+abbrev pub sinkless_terrain : Cutting → List (Option ℤ) → Terrain
+sinkless_terrain c levels = record { cols = c.cols; rows = c.rows; cells = levels; sinks = [] }
 
--- A cell of the tile would get less, the length of a walk.
+-- An entry is for a cell of its tile. Its count is a walk's length, below the cell's own count.
 pub record IsEntry (t : Terrain) (c : Cutting) (steps : List (Option ℕ)) (e : Entry) : Type 0 where
   pub inside : IsInTile c e.tile e.change.place
-  pub walked : IsWalked (IsLent t steps) t e.change.place e.change.count
+  pub walked : IsWalked (IsSource t steps) t e.change.place e.change.count
   pub less : e.change.count < count_of steps (index_of c.cols e.change.place)
 
+-- Each element of the list is an entry.
 abbrev pub AreEntries : Terrain → Cutting → List (Option ℕ) → List Entry → Type 0
 AreEntries t c steps entries = (e : Entry) → IsAmong entries e → IsEntry t c steps e
 
--- A count would not be made less by a neighbour's, or an entry tells that it would.
+-- The count of p is at most one above that of q, or an entry for p lowers it so far.
 abbrev pub IsEvenOrEntered : Cutting → List (Option ℕ) → List Entry → Place → Place → Type 0
-IsEvenOrEntered c steps entries p q = (count_of steps (index_of c.cols p) ≤ count_of steps (index_of c.cols q) + 1)
-    ⊎ ((e : Entry) × IsAmong entries e × (e.change.place ≡ p) × (e.change.count ≤ count_of steps (index_of c.cols q) + 1))
+IsEvenOrEntered c steps entries p q =
+    (count_of steps (index_of c.cols p) ≤ count_of steps (index_of c.cols q) + 1)
+    ⊎ ((e : Entry) × IsAmong entries e × (e.change.place ≡ p)
+    × (e.change.count ≤ count_of steps (index_of c.cols q) + 1))
 
--- A list of entries has grown, and tells of all neighbours in a relation.
-pub record AreEntered (t : Terrain) (c : Cutting) (steps : List (Option ℕ)) (Done : Place → Place → Type 0) (old new : List Entry) : Type 0 where
+-- The new list has the old entries and more: it covers all level pairs in `Done`.
+pub record AreEntered (t : Terrain) (c : Cutting) (steps : List (Option ℕ))
+    (Done : Place → Place → Type 0) (old new : List Entry) : Type 0 where
   pub kept : (e : Entry) → IsAmong old e → IsAmong new e
   pub each : AreEntries t c steps old → AreEntries t c steps new
   pub done : (p q : Place) → Done p q → AreLevel t p q → IsEvenOrEntered c steps new p q
 
--- The entries of a run are into its tile.
+-- The run is a range of the list, and its entries are for its tile.
 pub record IsRun (entries : List Entry) (run : Run) : Type 0 where
   pub ordered : run.from ≤ run.end
   pub below : run.end ≤ length entries
-  pub own : (k : ℕ) (e : Entry) → run.from ≤ k → k < run.end → slice_get entries k ≡ Some e → e.tile ≡ run.tile
+  pub own : (k : ℕ) (e : Entry) → run.from ≤ k → k < run.end → slice_get entries k ≡ Some e →
+      e.tile ≡ run.tile
 
--- The runs of all tiles, in the order of the tiles. Each entry is in one.
+-- The runs of all tiles, in the order of the tiles; each entry is in one of them.
 pub record AreRuns (entries : List Entry) (tiles : ℕ) (runs : List Run) : Type 0 where
   pub size : length runs ≡ tiles
   pub each : (k : ℕ) (run : Run) → slice_get runs k ≡ Some run → (run.tile ≡ k) × IsRun entries run
-  pub covered : (k : ℕ) → k < length entries → (run : Run) × IsAmong runs run × (run.from ≤ k) × (k < run.end)
+  pub covered : (k : ℕ) → k < length entries →
+      (run : Run) × IsAmong runs run × (run.from ≤ k) × (k < run.end)

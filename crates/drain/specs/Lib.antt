@@ -9,4 +9,4 @@ pub mod Window
 pub mod Stages
 pub mod Beginning
 pub mod Fitting
-pub mod Amid
+pub mod Interior

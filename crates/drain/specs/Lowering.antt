@@ -1,4 +1,5 @@
--- How the counts of one tile are made less by those that come into it. Counts are told by the index of their cell.
+-- How a tile's entries lower its counts. Counts are functions of row-order indexes here.
+-- Private.
 use Rattle.std.specs.Prelude.{◌≡◌, ℕ, zero, suc, ◌+◌, ◌-◌, ◌*◌, ◌/◌, ◌%◌, ◌^◌, ◌<◌, ◌≤◌, ◌⊎◌, List, Vec, length, Option, None, Some, if◌then◌else◌, option_and_then, slice_get, slice_index_or, unwrap_or}
 use Rattle.std.specs.declared.alloc.Global.{Global}
 use Rattle.terrain.specs.Raster.{Terrain}
@@ -6,97 +7,118 @@ use Rattle.terrain.specs.Neighbours.{height_at, index_of, IsNeighbour}
 use Rattle.terrain.specs.declared.place.Place.{Place}
 use Rattle.tiles.specs.declared.bounds.Bounds.{Bounds}
 use Rattle.tiles.specs.Cutting.{Cutting, IsWithin, IsInTile, bounds_of, is_in_bounds, tile_of_place}
-use Rattle.drain.specs.Rounds.{IsLent, IsWalked, AreCounting}
+use Rattle.drain.specs.Rounds.{IsSource, IsWalked, AreCounting}
 use Rattle.drain.specs.declared.changes.Change.{Change}
 use Rattle.drain.specs.declared.changes.Entry.{Entry}
 use Rattle.drain.specs.declared.lowering.Lowered.{Lowered}
 
--- The element stands in the list.
+-- The list contains the element.
 abbrev pub IsAmong : {X : Type 0} → List X → X → Type 0
 IsAmong xs x = (k : ℕ) × (slice_get xs k ≡ Some x)
 
--- Neighbours of one height.
+-- The cells are neighbours of one height.
 pub record AreLevel (t : Terrain) (p q : Place) : Type 0 where
   pub next : IsNeighbour t p q
   pub level : height_at t q ≡ height_at t p
 
--- A count of a list in row order; one more than the greatest where none is known.
+-- The count at a row-order index, 2^24 if none is known.
 abbrev pub count_of : List (Option ℕ) → ℕ → ℕ
 count_of steps k = unwrap_or (slice_index_or steps k None) (2 ^ 24)
 
--- The place of an index in row order.
+-- The place of a row-order index.
 abbrev pub place_at : ℕ → ℕ → Place
 place_at cols k = record { row = k / cols; col = k % cols }
 
--- The count that a search keeps of a row and a column of its tile.
+-- The count that a search keeps for a row and a column of its tile, if any.
 abbrev pub kept_at : Lowered → ℕ → ℕ → Option ℕ
-kept_at l row col = option_and_then (λ (counts : Vec ℕ Global). slice_get counts.items col) (slice_get l.rows.items row)
+kept_at l row col = option_and_then (λ (counts : Vec ℕ Global). slice_get counts.items col)
+    (slice_get l.rows.items row)
 
--- The count that a search keeps of a cell.
+-- The count that a search keeps for the cell at an index, if any.
 unfoldable pub kept_of : Cutting → ℕ → Lowered → ℕ → Option ℕ
 kept_of c tile l k =
     let b = bounds_of c tile in
     let p = place_at c.cols k in
     if is_in_bounds b p then kept_at l (p.row - b.top) (p.col - b.left) else None
 
--- The counts that a search has come to, over those that it was lent.
+-- The current count at an index: the one that the search keeps, else the one of the round's input.
 abbrev pub counts_in : Cutting → ℕ → List (Option ℕ) → Lowered → ℕ → ℕ
 counts_in c tile steps l k = unwrap_or (kept_of c tile l k) (count_of steps k)
 
--- The counts below an index, added up.
+-- The sum of the counts below an index.
 unfoldable pub total : ℕ → (ℕ → ℕ) → ℕ
 total zero counts = 0
 total (suc n) counts = counts n + total n counts
 
--- Inside the tile no count would be made less by a neighbour's.
+-- Inside the tile each count is at most one above those of its level neighbours.
 pub record IsEvenInside (t : Terrain) (c : Cutting) (tile : ℕ) (counts : ℕ → ℕ) : Type 0 where
-  pub within : (p q : Place) → IsInTile c tile p → IsInTile c tile q → AreLevel t p q → counts (index_of c.cols p) ≤ counts (index_of c.cols q) + 1
+  pub within : (p q : Place) → IsInTile c tile p → IsInTile c tile q → AreLevel t p q →
+      counts (index_of c.cols p) ≤ counts (index_of c.cols q) + 1
 
--- A cell of the tile gets less than it was lent, the length of a walk, and it ends with no more.
-pub record IsChange (t : Terrain) (c : Cutting) (tile : ℕ) (steps : List (Option ℕ)) (counts : ℕ → ℕ) (x : Change) : Type 0 where
+-- A change lowers a cell of the tile below its input count, to the length of a walk; the cell's
+-- current count is no greater.
+pub record IsChange (t : Terrain) (c : Cutting) (tile : ℕ) (steps : List (Option ℕ))
+    (counts : ℕ → ℕ) (x : Change) : Type 0 where
   pub inside : IsInTile c tile x.place
-  pub walked : IsWalked (IsLent t steps) t x.place x.count
+  pub walked : IsWalked (IsSource t steps) t x.place x.count
   pub less : x.count < count_of steps (index_of c.cols x.place)
   pub least : counts (index_of c.cols x.place) ≤ x.count
 
--- A search may go on from this change, in the bounds of its tile, over counts that are no more than it was lent.
-pub record MayGoOn (t : Terrain) (c : Cutting) (steps : List (Option ℕ)) (b : Bounds) (l : Lowered) (x : Change) : Type 0 where
+-- A search may spread from this change in the bounds of its tile; no count is above the input's.
+pub record MayGoOn (t : Terrain) (c : Cutting) (steps : List (Option ℕ)) (b : Bounds) (l : Lowered)
+    (x : Change) : Type 0 where
   pub counting : AreCounting t steps
-  pub change : IsChange t c (tile_of_place c x.place) steps (counts_in c (tile_of_place c x.place) steps l) x
+  pub change : IsChange t c (tile_of_place c x.place) steps
+      (counts_in c (tile_of_place c x.place) steps l) x
   pub bounds : b ≡ bounds_of c (tile_of_place c x.place)
   pub rows : length l.rows.items ≡ b.rows
   pub low : (k : ℕ) → counts_in c (tile_of_place c x.place) steps l k ≤ count_of steps k
 
--- The counts differ from those that were lent by these changes alone.
-pub record IsLowered (t : Terrain) (c : Cutting) (tile : ℕ) (steps : List (Option ℕ)) (counts : ℕ → ℕ) (changes : List Change) : Type 0 where
+-- The counts differ from those of the input by these changes alone.
+pub record IsLowered (t : Terrain) (c : Cutting) (tile : ℕ) (steps : List (Option ℕ))
+    (counts : ℕ → ℕ) (changes : List Change) : Type 0 where
   pub low : (k : ℕ) → counts k ≤ count_of steps k
-  pub told : (p : Place) → IsWithin c p → (counts (index_of c.cols p) ≡ count_of steps (index_of c.cols p))
+  pub reported : (p : Place) → IsWithin c p →
+      (counts (index_of c.cols p) ≡ count_of steps (index_of c.cols p))
       ⊎ IsAmong changes (record { place = p; count = counts (index_of c.cols p) })
   pub each : (x : Change) → IsAmong changes x → IsChange t c tile steps counts x
 
--- A change tells what a place has come to, and stands in the list from a place on.
-abbrev pub IsTold : Cutting → ℕ → List (Option ℕ) → Lowered → ℕ → Place → Type 0
-IsTold c tile steps l from p = (k : ℕ) × (from ≤ k) × (slice_get l.changes.items k ≡ Some (record { place = p; count = counts_in c tile steps l (index_of c.cols p) }))
+-- From index `from` on, the list of changes has the place with its current count.
+abbrev pub IsReported : Cutting → ℕ → List (Option ℕ) → Lowered → ℕ → Place → Type 0
+IsReported c tile steps l from p =
+    (k : ℕ) × (from ≤ k) × (slice_get l.changes.items k
+    ≡ Some (record { place = p; count = counts_in c tile steps l (index_of c.cols p) }))
 
--- How far a search has come: some places have at most a bound, and the changes since are told.
-pub record IsLoweredTo (t : Terrain) (c : Cutting) (tile : ℕ) (steps : List (Option ℕ)) (Done : Place → Type 0) (bound : ℕ) (old new : Lowered) : Type 0 where
+-- A search went on from old to new: places in `Done` have at most `bound`, and the added changes
+-- have each lowered count.
+pub record IsLoweredTo (t : Terrain) (c : Cutting) (tile : ℕ) (steps : List (Option ℕ))
+    (Done : Place → Type 0) (bound : ℕ) (old new : Lowered) : Type 0 where
   pub low : (k : ℕ) → counts_in c tile steps new k ≤ counts_in c tile steps old k
   pub near : (p : Place) → Done p → counts_in c tile steps new (index_of c.cols p) ≤ bound
   pub rows : length new.rows.items ≡ length old.rows.items
   pub longer : length old.changes.items ≤ length new.changes.items
-  pub kept : (k : ℕ) → k < length old.changes.items → slice_get new.changes.items k ≡ slice_get old.changes.items k
-  pub told : (p : Place) → IsWithin c p → (counts_in c tile steps new (index_of c.cols p) ≡ counts_in c tile steps old (index_of c.cols p))
-      ⊎ IsTold c tile steps new (length old.changes.items) p
-  pub added : (k : ℕ) (x : Change) → length old.changes.items ≤ k → slice_get new.changes.items k ≡ Some x → IsChange t c tile steps (counts_in c tile steps new) x
-  -- each that was added took something off the counts
-  pub left : length new.changes.items + total (c.cols * c.rows) (counts_in c tile steps new) ≤ length old.changes.items + total (c.cols * c.rows) (counts_in c tile steps old)
+  pub kept : (k : ℕ) → k < length old.changes.items →
+      slice_get new.changes.items k ≡ slice_get old.changes.items k
+  pub reported : (p : Place) → IsWithin c p →
+      (counts_in c tile steps new (index_of c.cols p)
+      ≡ counts_in c tile steps old (index_of c.cols p))
+      ⊎ IsReported c tile steps new (length old.changes.items) p
+  pub added : (k : ℕ) (x : Change) → length old.changes.items ≤ k →
+      slice_get new.changes.items k ≡ Some x →
+      IsChange t c tile steps (counts_in c tile steps new) x
+  -- each added change lowered the sum of the counts
+  pub left : length new.changes.items + total (c.cols * c.rows) (counts_in c tile steps new)
+      ≤ length old.changes.items + total (c.cols * c.rows) (counts_in c tile steps old)
 
--- Nothing of the tile has more than these entries bring.
-pub record IsEntered (c : Cutting) (entries : List Entry) (from end : ℕ) (counts : ℕ → ℕ) : Type 0 where
-  pub each : (k : ℕ) (e : Entry) → from ≤ k → k < end → slice_get entries k ≡ Some e → counts (index_of c.cols e.change.place) ≤ e.change.count
+-- No cell has a count above that of its entries in this run.
+pub record IsEntered (c : Cutting) (entries : List Entry) (from end : ℕ)
+    (counts : ℕ → ℕ) : Type 0 where
+  pub each : (k : ℕ) (e : Entry) → from ≤ k → k < end → slice_get entries k ≡ Some e →
+      counts (index_of c.cols e.change.place) ≤ e.change.count
 
--- What the job of a tile answers: as many changes as make it even inside, after its entries came in.
-pub record IsTileAnswer (t : Terrain) (c : Cutting) (tile : ℕ) (steps : List (Option ℕ)) (entries : List Entry) (from end : ℕ) (changes : List Change) : Type 0 where
+-- The result of a tile's job: changes that apply its entries and make it even inside.
+pub record IsTileAnswer (t : Terrain) (c : Cutting) (tile : ℕ) (steps : List (Option ℕ))
+    (entries : List Entry) (from end : ℕ) (changes : List Change) : Type 0 where
   pub counts : ℕ → ℕ
   pub lowered : IsLowered t c tile steps counts changes
   pub even : IsEvenInside t c tile counts

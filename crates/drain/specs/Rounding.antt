@@ -1,4 +1,5 @@
--- Rounds after the first: the jobs of the tiles, what they answer and what they leave.
+-- Rounds after the first: the jobs of the tiles, the changes they return, and the state they leave.
+-- Private.
 use Rattle.std.specs.Prelude.{◌≡◌, ◌≢◌, ℕ, ◌*◌, ◌<◌, ◌≤◌, ◌⊎◌, ℤ, List, length, Option, None, Some, Vec, slice_get, slice_index_or}
 use Rattle.std.specs.declared.alloc.Global.{Global}
 use Rattle.std.specs.List.Sorted.{IsNonDecreasingBy}
@@ -6,28 +7,35 @@ use Rattle.terrain.specs.Raster.{Terrain}
 use Rattle.terrain.specs.Neighbours.{index_of}
 use Rattle.terrain.specs.declared.place.Place.{Place}
 use Rattle.tiles.specs.Cutting.{Cutting, IsCutting, tile_count, tile_of_place}
-use Rattle.drain.specs.Rounds.{LendSame, AreCounting}
+use Rattle.drain.specs.Rounds.{HaveSameSources, AreCounting}
 use Rattle.drain.specs.Lowering.{AreLevel, IsAmong, IsEvenInside, IsTileAnswer, count_of, total}
-use Rattle.drain.specs.Entering.{lent_terrain, AreEntries, AreRuns, IsEvenOrEntered}
+use Rattle.drain.specs.Entering.{sinkless_terrain, AreEntries, AreRuns, IsEvenOrEntered}
 use Rattle.drain.specs.declared.changes.Change.{Change}
 use Rattle.drain.specs.declared.changes.Entry.{Entry}
 use Rattle.drain.specs.declared.changes.Run.{Run}
 use Rattle.drain.specs.declared.rounds.Counting.{Counting}
 
--- Counts on their way, and what comes over the rims of tiles, in the order of the tiles.
+-- The state between rounds: heights, counts so far, and entries sorted by tile.
 pub record Rounding : Type 0 where
   pub cutting : Cutting
   pub levels : List (Option ℤ)
   pub steps : List (Option ℕ)
   pub entries : List Entry
 
+-- The state that the code keeps.
 abbrev pub rounding_of : Counting → Rounding
-rounding_of c = record { cutting = c.tiling.now; levels = c.levels.now; steps = c.steps.items; entries = c.entries.items }
+rounding_of c = record {
+  cutting = c.tiling.now;
+  levels = c.levels.now;
+  steps = c.steps.items;
+  entries = c.entries.items;
+}
 
+-- The terrain of the state's heights, without sinks.
 abbrev pub levels_of : Rounding → Terrain
-levels_of r = lent_terrain r.cutting r.levels
+levels_of r = sinkless_terrain r.cutting r.levels
 
--- Each tile is even inside, and the entries tell where one would be lessened from outside.
+-- Each tile is even inside, and the entries cover each cell that a neighbouring tile would lower.
 pub record IsRounding (r : Rounding) : Type 0 where
   pub cutting : IsCutting r.cutting
   pub size : length r.levels ≡ r.cutting.cols * r.cutting.rows
@@ -35,54 +43,63 @@ pub record IsRounding (r : Rounding) : Type 0 where
   pub even : (tile : ℕ) → IsEvenInside (levels_of r) r.cutting tile (count_of r.steps)
   pub entries : AreEntries (levels_of r) r.cutting r.steps r.entries
   pub sorted : IsNonDecreasingBy (λ e. e.tile) r.entries
-  pub entered : (p q : Place) → AreLevel (levels_of r) p q → tile_of_place r.cutting p ≢ tile_of_place r.cutting q → IsEvenOrEntered r.cutting r.steps r.entries p q
+  pub entered : (p q : Place) → AreLevel (levels_of r) p q →
+      tile_of_place r.cutting p ≢ tile_of_place r.cutting q →
+      IsEvenOrEntered r.cutting r.steps r.entries p q
 
--- A round has a job for each tile, with the tile's number: a run of entries, which may be none.
+-- The jobs of a round: job k lowers tile k by its run of entries, which may be empty.
 pub record Jobs : Type 0 where
   pub rounding : Rounding
   pub runs : List Run
 
+-- The state is lawful, and the runs are those of its entries.
 pub record AreJobs (j : Jobs) : Type 0 where
   pub rounding : IsRounding j.rounding
   pub runs : AreRuns j.rounding.entries (tile_count j.rounding.cutting) j.runs
 
--- What is answered of the tile of a run.
+-- The changes are a result for the tile of the run.
 abbrev pub IsRunAnswer : Rounding → Run → List Change → Type 0
-IsRunAnswer r run changes = IsTileAnswer (levels_of r) r.cutting run.tile r.steps r.entries run.from run.end changes
+IsRunAnswer r run changes =
+    IsTileAnswer (levels_of r) r.cutting run.tile r.steps r.entries run.from run.end changes
 
--- What a job answers.
+-- The changes are a result of the job.
 abbrev pub IsAnswer : Jobs → ℕ → List Change → Type 0
-IsAnswer j job changes = (run : Run) → slice_get j.runs job ≡ Some run → IsRunAnswer j.rounding run changes
+IsAnswer j job changes =
+    (run : Run) → slice_get j.runs job ≡ Some run → IsRunAnswer j.rounding run changes
 
--- The entry at this place is in a run that has its answer.
+-- The entry at index k is in a run whose result is among these.
 abbrev pub IsAnsweredAt : Rounding → List (Vec Change Global) → ℕ → Type 0
-IsAnsweredAt r outs k = (list : Vec Change Global) × IsAmong outs list × (run : Run) × (run.from ≤ k) × (k < run.end) × IsRunAnswer r run list.items
+IsAnsweredAt r outs k = (list : Vec Change Global) × IsAmong outs list × (run : Run)
+    × (run.from ≤ k) × (k < run.end) × IsRunAnswer r run list.items
 
--- The answers of a round, whoever made them: each is of a run, and each entry has one.
+-- The results of a round: each is of a run, and each entry is in a run with a result.
 pub record AreAnswered (r : Rounding) (outs : List (Vec Change Global)) : Type 0 where
-  pub each : (list : Vec Change Global) → IsAmong outs list → (run : Run) × IsRunAnswer r run list.items
+  pub each : (list : Vec Change Global) → IsAmong outs list →
+      (run : Run) × IsRunAnswer r run list.items
   pub covered : (k : ℕ) → k < length r.entries → IsAnsweredAt r outs k
 
--- The change is one that a job answered.
+-- The change is among the results.
 abbrev pub IsGiven : List (Vec Change Global) → Change → Type 0
-IsGiven outs x = (j : ℕ) × (list : Vec Change Global) × (slice_get outs j ≡ Some list) × IsAmong list.items x
+IsGiven outs x =
+    (j : ℕ) × (list : Vec Change Global) × (slice_get outs j ≡ Some list) × IsAmong list.items x
 
--- Where a change tells less, it is put in the place of the count.
+-- The new counts are the old ones lowered by these changes.
 pub record ArePut (cols : ℕ) (old new : List (Option ℕ)) (Given : Change → Type 0) : Type 0 where
   pub size : length new ≡ length old
   pub low : (k : ℕ) → count_of new k ≤ count_of old k
   pub done : (x : Change) → Given x → count_of new (index_of cols x.place) ≤ x.count
-  pub told : (k : ℕ) → (slice_index_or new k None ≡ slice_index_or old k None)
-      ⊎ ((x : Change) × Given x × (index_of cols x.place ≡ k) × (slice_index_or new k None ≡ Some x.count))
+  pub reported : (k : ℕ) → (slice_index_or new k None ≡ slice_index_or old k None)
+      ⊎ ((x : Change) × Given x × (index_of cols x.place ≡ k)
+      × (slice_index_or new k None ≡ Some x.count))
 
--- All counts, added up.
+-- The sum of all counts.
 abbrev pub left_in : Rounding → ℕ
 left_in r = total (r.cutting.cols * r.cutting.rows) (count_of r.steps)
 
--- What rounds leave.
+-- A later state: still lawful, of the same heights and sources, and with no greater sum of counts.
 pub record IsNext (old new : Rounding) : Type 0 where
   pub rounding : IsRounding new
   pub same_cutting : new.cutting ≡ old.cutting
   pub same_levels : new.levels ≡ old.levels
-  pub same_lent : LendSame (levels_of old) old.steps new.steps
+  pub same_sources : HaveSameSources (levels_of old) old.steps new.steps
   pub low : left_in new ≤ left_in old

@@ -1,15 +1,17 @@
--- What the jobs after the rounds work on.
+-- The input of the jobs that find codes.
+-- Private.
 use Rattle.std.specs.Prelude.{ℕ, List, Option}
 use Rattle.terrain.specs.Raster.{Terrain, IsTerrain}
 use Rattle.tiles.specs.Cutting.{Cutting, Cuts}
 use Rattle.drain.specs.Steps.{AreSteps}
 
--- A terrain with its steps, and how it is cut.
+-- A terrain, a list of steps and a cutting into tiles.
 pub record SteppedTerrain : Type 0 where
   pub terrain : Terrain
   pub steps : List (Option ℕ)
   pub cutting : Cutting
 
+-- The steps are those of the terrain, and the cutting is of its grid.
 pub record IsSteppedTerrain (t : SteppedTerrain) : Type 0 where
   pub lawful : IsTerrain t.terrain
   pub steps : AreSteps t.terrain t.steps

@@ -1,5 +1,6 @@
--- A tile with the places around it, one row and one column more on each side: what the search for steps
--- works on. A spot of it is a place counted from the row and the column before the tile's first.
+-- The window of a tile: the tile with one row and one column more on each side. A spot is a place
+-- in the window, counted from the row and the column before the tile's first.
+-- Private.
 use Rattle.std.specs.Prelude.{◌≡◌, ◌≢◌, ℕ, ◌+◌, ◌*◌, ◌<◌, ◌≤◌, ◌⊎◌, ℤ, List, All, map, sum, length, Option, None, Some, slice_get, slice_index_or, slice_set, unwrap_or}
 use Rattle.terrain.specs.Neighbours.{entry_or, index_of, Touches}
 use Rattle.terrain.specs.declared.place.Place.{Place}
@@ -7,24 +8,26 @@ use Rattle.tiles.specs.declared.bounds.Bounds.{Bounds}
 use Rattle.tile_maps.specs.Maps.{AreMadeBelow}
 use Rattle.drainage.specs.StepCounts.{known, no_count}
 
+-- The number of spots.
 abbrev pub area_of : Bounds → ℕ
 area_of b = (b.cols + 2) * (b.rows + 2)
 
--- Where a spot stands in row order.
+-- The row-order index of a spot.
 abbrev pub spot_index : Bounds → Place → ℕ
 spot_index b s = index_of (b.cols + 2) s
 
+-- The spot lies in the window.
 abbrev pub IsSpot : Bounds → Place → Type 0
 IsSpot b s = (s.row < b.rows + 2) × (s.col < b.cols + 2)
 
--- The spot is one of the tile's.
+-- The spot lies in the tile itself.
 pub record IsInner (b : Bounds) (s : Place) : Type 0 where
   pub first_row : 1 ≤ s.row
   pub last_row : s.row ≤ b.rows
   pub first_col : 1 ≤ s.col
   pub last_col : s.col ≤ b.cols
 
--- The spot shows the place.
+-- The spot of the window is the place p of the grid.
 abbrev pub Shows : Bounds → Place → Place → Type 0
 Shows b s p = (b.top + s.row ≡ p.row + 1) × (b.left + s.col ≡ p.col + 1)
 
@@ -32,105 +35,127 @@ Shows b s p = (b.top + s.row ≡ p.row + 1) × (b.left + s.col ≡ p.col + 1)
 abbrev pub IsOff : Bounds → Place → Type 0
 IsOff b s = (b.top + s.row ≡ 0) ⊎ (b.left + s.col ≡ 0)
 
--- What a list in row order has at the place of a spot; off the grid what stands for none.
+-- The value at a spot: the list's entry at its place, and `none` off the grid.
 abbrev pub IsShown : {X : Type 0} → ℕ → ℕ → List X → X → Bounds → Place → X → Type 0
-IsShown cols rows entries none b s x = ((p : Place) → Shows b s p → x ≡ entry_or cols rows entries none p) × (IsOff b s → x ≡ none)
+IsShown cols rows entries none b s x =
+    ((p : Place) → Shows b s p → x ≡ entry_or cols rows entries none p) × (IsOff b s → x ≡ none)
 
+-- The height at a spot.
 abbrev pub level_on : Bounds → List (Option ℤ) → Place → Option ℤ
 level_on b levels s = slice_index_or levels (spot_index b s) None
 
+-- The count at a spot.
 abbrev pub count_on : Bounds → List ℕ → Place → ℕ
 count_on b counts s = slice_index_or counts (spot_index b s) 0
 
--- No count is greater than the one that stands for none.
+-- No count is above `no_count`, which marks an unknown one.
 abbrev pub AreCounts : List ℕ → Type 0
 AreCounts counts = (k : ℕ) → slice_index_or counts k 0 ≤ no_count
 
--- The counts come from the old ones by moves from spot to spot on one level: a move gives a spot one more than
--- a spot that it touches has after some moves, where that is less than its own.
+-- The counts come from the old ones by moves between spots on one level. A move lowers a spot to
+-- one more than the count that an adjacent spot has after some moves.
 pub data IsSpread (b : Bounds) (levels : List (Option ℤ)) (old : List ℕ) : List ℕ → Type 0 where
   same : IsSpread b levels old old
-  moved : (counts : List ℕ) (some : List ℕ) (s r : Place) (n : ℕ) → IsSpread b levels old counts → IsSpread b levels old some
-      → IsSpot b s → IsSpot b r → Touches s r → s ≢ r → level_on b levels s ≡ level_on b levels r → n ≡ count_on b some s + 1
+  moved : (counts : List ℕ) (some : List ℕ) (s r : Place) (n : ℕ) → IsSpread b levels old counts →
+      IsSpread b levels old some
+      → IsSpot b s → IsSpot b r → Touches s r → s ≢ r → level_on b levels s ≡ level_on b levels r →
+      n ≡ count_on b some s + 1
       → n < count_on b counts r → IsSpread b levels old (slice_set counts (spot_index b r) n)
 
--- One more than the least count of a row's spots from one on, up to a column, on a level; the bound where none is less.
-pub record IsLeastAlong (b : Bounds) (levels : List (Option ℤ)) (counts : List ℕ) (from : Place) (end : ℕ) (level : Option ℤ) (bound least : ℕ) : Type 0 where
+-- One more than the least count on a level, in one row from a spot to a column; at most the bound.
+pub record IsLeastAlong (b : Bounds) (levels : List (Option ℤ)) (counts : List ℕ) (from : Place)
+    (end : ℕ) (level : Option ℤ) (bound least : ℕ) : Type 0 where
   pub low : least ≤ bound
-  pub each : (r : Place) → r.row ≡ from.row → from.col ≤ r.col → r.col < end → level_on b levels r ≡ level → least ≤ count_on b counts r + 1
+  pub each : (r : Place) → r.row ≡ from.row → from.col ≤ r.col → r.col < end →
+      level_on b levels r ≡ level → least ≤ count_on b counts r + 1
   pub one : (least ≡ bound) ⊎ ((r : Place) × (r.row ≡ from.row) × (from.col ≤ r.col) × (r.col < end)
       × (level_on b levels r ≡ level) × (least ≡ count_on b counts r + 1) × (least < bound))
 
--- No number of the list is greater than the one in its place.
+-- No number of the new list is above the old one at its index.
 pub record IsNotAbove (new old : List ℕ) : Type 0 where
   pub each : (k : ℕ) → slice_index_or new k 0 ≤ slice_index_or old k 0
 
--- The count of a spot is at most one above the old count of each spot that it touches on its level.
-pub record IsNear (b : Bounds) (levels : List (Option ℤ)) (old new : List ℕ) (s : Place) : Type 0 where
-  pub each : (r : Place) → Touches s r → level_on b levels r ≡ level_on b levels s → count_on b new s ≤ count_on b old r + 1
+-- The spot's new count is at most one above the old counts of adjacent spots on its level.
+pub record IsNear (b : Bounds) (levels : List (Option ℤ)) (old new : List ℕ)
+    (s : Place) : Type 0 where
+  pub each : (r : Place) → Touches s r → level_on b levels r ≡ level_on b levels s →
+      count_on b new s ≤ count_on b old r + 1
 
--- A list has grown, and the spots of the tile whose counts changed are among those that were added.
+-- The list of spots has grown by at least those spots of the tile whose counts changed.
 pub record AreNoted (b : Bounds) (old new : List ℕ) (before after : List Place) : Type 0 where
   pub longer : length before ≤ length after
   pub kept : (k : ℕ) → k < length before → slice_get after k ≡ slice_get before k
-  pub each : (s : Place) → IsInner b s → (count_on b new s ≡ count_on b old s) ⊎ ((k : ℕ) × (length before ≤ k) × (slice_get after k ≡ Some s))
+  pub each : (s : Place) → IsInner b s → (count_on b new s ≡ count_on b old s)
+      ⊎ ((k : ℕ) × (length before ≤ k) × (slice_get after k ≡ Some s))
 
--- How far a search has come from a spot: moves lead from the old counts to the new, and where those of some places
--- are on its level, they have at most one more than it has and keeps.
-pub record IsReached (b : Bounds) (levels : List (Option ℤ)) (spot : Place) (Done : Place → Type 0) (old new : List ℕ) (before after : List Place) : Type 0 where
+-- A search has spread from a spot to the places in `Done`: those on its level have at most one more
+-- than its count, which is unchanged.
+pub record IsReached (b : Bounds) (levels : List (Option ℤ)) (spot : Place) (Done : Place → Type 0)
+    (old new : List ℕ) (before after : List Place) : Type 0 where
   pub spread : IsSpread b levels old new
-  pub near : (r : Place) → Done r → level_on b levels spot ≡ level_on b levels r → count_on b new r ≤ count_on b old spot + 1
+  pub near : (r : Place) → Done r → level_on b levels spot ≡ level_on b levels r →
+      count_on b new r ≤ count_on b old spot + 1
   pub own : count_on b new spot ≡ count_on b old spot
   pub noted : AreNoted b old new before after
   pub inner : All (IsInner b) before → All (IsInner b) after
-  -- each that was added took something off the counts
+  -- each added spot lowered the sum of the counts
   pub left : length after + sum new ≤ length before + sum old
 
--- Each count of the tile is at most one above those that its spot touches on its level, but where it touches
--- one that stands in the list from a place on.
-pub record IsEvenBut (b : Bounds) (levels : List (Option ℤ)) (counts : List ℕ) (waiting : List Place) (from : ℕ) : Type 0 where
-  pub each : (s r : Place) → IsInner b s → IsInner b r → Touches s r → level_on b levels r ≡ level_on b levels s →
-      (count_on b counts r ≤ count_on b counts s + 1) ⊎ ((k : ℕ) × (from ≤ k) × (slice_get waiting k ≡ Some s))
+-- Each count of the tile is at most one above those of adjacent spots on its level, except spots
+-- that wait in the list from index `from` on.
+pub record IsEvenBut (b : Bounds) (levels : List (Option ℤ)) (counts : List ℕ)
+    (waiting : List Place) (from : ℕ) : Type 0 where
+  pub each : (s r : Place) → IsInner b s → IsInner b r → Touches s r →
+      level_on b levels r ≡ level_on b levels s →
+      (count_on b counts r ≤ count_on b counts s + 1)
+      ⊎ ((k : ℕ) × (from ≤ k) × (slice_get waiting k ≡ Some s))
 
--- Each count of the tile is at most one above those that its spot touches on its level.
+-- Each count of the tile is at most one above those of adjacent spots of the tile on its level.
 pub record IsEven (b : Bounds) (levels : List (Option ℤ)) (counts : List ℕ) : Type 0 where
-  pub each : (s r : Place) → IsInner b s → IsInner b r → Touches s r → level_on b levels r ≡ level_on b levels s →
+  pub each : (s r : Place) → IsInner b s → IsInner b r → Touches s r →
+      level_on b levels r ≡ level_on b levels s →
       count_on b counts r ≤ count_on b counts s + 1
 
--- The list has what each spot shows.
+-- The list has the value of each spot, in row order.
 abbrev pub AreShown : {X : Type 0} → ℕ → ℕ → List X → X → Bounds → List X → Type 0
-AreShown cols rows entries none b shown = (s : Place) → IsSpot b s → IsShown cols rows entries none b s (slice_index_or shown (spot_index b s) none)
+AreShown cols rows entries none b shown = (s : Place) → IsSpot b s →
+    IsShown cols rows entries none b s (slice_index_or shown (spot_index b s) none)
 
--- The list has something for each spot that stands before a place in row order, and nothing more.
-pub record AreMadeSpots {X : Type 0} (Has : Place → X → Type 0) (b : Bounds) (end : ℕ) (lack : X) (list : List X) : Type 0 where
+-- The list has an element with the property for each spot before index `end`, and no more.
+pub record AreMadeSpots {X : Type 0} (Has : Place → X → Type 0) (b : Bounds) (end : ℕ) (lack : X)
+    (list : List X) : Type 0 where
   pub size : length list ≡ end
-  pub each : (s : Place) → IsSpot b s → spot_index b s < end → Has s (slice_index_or list (spot_index b s) lack)
+  pub each : (s : Place) → IsSpot b s → spot_index b s < end →
+      Has s (slice_index_or list (spot_index b s) lack)
 
--- The list has what each spot shows that stands before a place in row order, and nothing more.
+-- The list has the value of each spot before index `end`, and no more.
 abbrev pub AreShownBelow : {X : Type 0} → ℕ → ℕ → List X → X → Bounds → ℕ → List X → Type 0
-AreShownBelow cols rows entries none b end shown = AreMadeSpots (IsShown cols rows entries none b) b end none shown
+AreShownBelow cols rows entries none b end shown =
+    AreMadeSpots (IsShown cols rows entries none b) b end none shown
 
--- The counts as numbers.
+-- The counts as numbers, `no_count` for an unknown one.
 abbrev pub known_counts : List (Option ℕ) → List ℕ
 known_counts shown = map (λ o. unwrap_or o no_count) shown
 
--- What is handed out at a place: the count of the spot that shows it, where it is known.
-abbrev pub IsHandedOut : Bounds → List ℕ → Place → Option ℕ → Type 0
-IsHandedOut b counts p x = (s : Place) → Shows b s p → x ≡ known (count_on b counts s)
+-- The value is the count of the place's spot, `None` if it is not known.
+abbrev pub IsCopied : Bounds → List ℕ → Place → Option ℕ → Type 0
+IsCopied b counts p x = (s : Place) → Shows b s p → x ≡ known (count_on b counts s)
 
--- Moves lead from the old counts to the new, each spot of the tile is near to the old counts around it, and no
--- move is left inside the tile.
+-- A search has ended: moves lead from the old counts to the new, each spot of the tile is near the
+-- old counts around it, and no move is left inside the tile.
 pub record IsSettled (b : Bounds) (levels : List (Option ℤ)) (old new : List ℕ) : Type 0 where
   pub spread : IsSpread b levels old new
   pub near : (s : Place) → IsInner b s → IsNear b levels old new s
   pub even : IsEven b levels new
 
--- What a round leaves of a tile, of the counts of the tile and the places around it.
+-- The counts of a tile after a round from the old counts of its window.
 abbrev pub IsRoundOf : Bounds → List (Option ℤ) → List ℕ → List (Option ℕ) → Type 0
-IsRoundOf b levels old list = (new : List ℕ) × IsSettled b levels old new × AreMadeBelow b (IsHandedOut b new) (b.rows * b.cols) list
+IsRoundOf b levels old list = (new : List ℕ) × IsSettled b levels old new
+    × AreMadeBelow b (IsCopied b new) (b.rows * b.cols) list
 
--- The counts are those that the spots show, as numbers.
-pub record AreLent (cols rows : ℕ) (entries : List (Option ℕ)) (b : Bounds) (counts : List ℕ) : Type 0 where
+-- The counts of the window are the values of its spots, as numbers.
+pub record AreWindowCounts (cols rows : ℕ) (entries : List (Option ℕ)) (b : Bounds)
+    (counts : List ℕ) : Type 0 where
   pub shown : List (Option ℕ)
   pub size : length shown ≡ area_of b
   pub seen : AreShown cols rows entries None b shown

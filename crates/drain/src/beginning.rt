@@ -1,23 +1,23 @@
-//! The counts that the first round begins with: 0 where a cell drains at once.
+//! The initial counts of the first round: 0 where a cell drains at once.
 //!
-//! A cell does at the grid's end, with a gap or a lower cell around it, or as a named sink.
+//! A data cell drains at once on the grid's border, beside NODATA or a lower cell, or as a sink.
 ghost use Rattle.std.specs.Prelude.{◌≡◌, ℕ, ◌+◌, ◌*◌, ◌<◌, ◌≤◌, ◌↔◌, Some, None, length, IsTrue, OnOk, IfOk, slice_index_or};
 ghost use Rattle.std.specs.Bool.{MatchBool};
 ghost use Rattle.terrain.specs.Neighbours.{IsInside, height_at};
 ghost use Rattle.drainage.specs.StepCounts.{known, no_count};
-ghost use Rattle.drain.specs.Beginning.{DrainsAnyway, IsGapOrLower, IsOutermost, IsBegun, IsBegunSpot, AreBegunSpots, IsPartOf};
+ghost use Rattle.drain.specs.Beginning.{IsEdgeOrHasLower, IsGapOrLower, IsOutermost, IsBegun, IsBegunSpot, AreBegunSpots, IsPartOf};
 ghost use Rattle.drain.specs.Steps.{DrainsAtOnce};
 ghost use Rattle.drain.specs.Window.{AreMadeSpots, IsSpot};
 
-use crate::amid::cells_around;
+use crate::interior::cells_around;
 use crate::looking::{place_shown, spot_of};
-use crate::window::Ground;
+use crate::window::Window;
 use drainage::NO_COUNT;
 use std::alloc::{AllocError, Global};
 use terrain::{Cell, Grid, Height, Place};
 use tiles::Bounds;
 
-/// Whether a cell has no data or is lower than this level.
+/// Returns whether a cell has no data or lies below `level`.
 #[inline(always)]
 fn is_gap_or_lower(level: Height, cell: Option<Height>) -> bool
     ensures { IsTrue result ↔ IsGapOrLower level cell }
@@ -28,13 +28,15 @@ fn is_gap_or_lower(level: Height, cell: Option<Height>) -> bool
     }
 }
 
-/// Whether one of these eight cells has no data or is lower than this level.
+/// Returns whether a cell at one of these indexes has no data or is below `level`.
 #[inline(always)]
 fn any_gap_or_lower(cells: &[Cell], at: &[usize; 8], level: Height) -> bool
     requires { (way : ℕ) → way < 8 → slice_index_or at.now way 0 < length cells.now }
     ensures { MatchBool result
-        ((way : ℕ) × (way < 8) × IsGapOrLower level (slice_index_or cells.now (slice_index_or at.now way 0) None))
-        ((way : ℕ) → way < 8 → IsGapOrLower level (slice_index_or cells.now (slice_index_or at.now way 0) None) → ⊥) }
+        ((way : ℕ) × (way < 8)
+        × IsGapOrLower level (slice_index_or cells.now (slice_index_or at.now way 0) None))
+        ((way : ℕ) → way < 8 →
+        IsGapOrLower level (slice_index_or cells.now (slice_index_or at.now way 0) None) → ⊥) }
 {
     for way in 0..8 {
         let index = at[way];
@@ -45,7 +47,7 @@ fn any_gap_or_lower(cells: &[Cell], at: &[usize; 8], level: Height) -> bool
     false
 }
 
-/// Whether a place lies in the first or last row or column.
+/// Returns whether a place lies in the grid's first or last row or column.
 #[inline(always)]
 pub(crate) fn is_outermost(grid: &Grid, place: Place) -> bool
     requires { IsInside grid.now.terrain place }
@@ -54,13 +56,14 @@ pub(crate) fn is_outermost(grid: &Grid, place: Place) -> bool
     place.row == 0 || place.col == 0 || place.row == grid.rows() - 1 || place.col == grid.cols() - 1
 }
 
-/// Whether a data cell has a lower neighbour or is an edge cell: it drains, whichever sinks are named.
+/// Returns whether a data cell is an edge cell or has a lower neighbour.
 #[inline(always)]
 #[tactic(auto, using(crate::proofs::Block::outermost_edge))]
-fn drains_anyway(grid: &Grid, place: Place, level: Height) -> bool
+fn is_edge_or_has_lower(grid: &Grid, place: Place, level: Height) -> bool
     requires inside { IsInside grid.now.terrain place }
     requires level { height_at grid.now.terrain place ≡ Some level }
-    ensures { MatchBool result (DrainsAnyway grid.now.terrain place) (DrainsAnyway grid.now.terrain place → ⊥) }
+    ensures { MatchBool result (IsEdgeOrHasLower grid.now.terrain place)
+        (IsEdgeOrHasLower grid.now.terrain place → ⊥) }
 {
     if is_outermost(grid, place) {
         return true;
@@ -70,25 +73,25 @@ fn drains_anyway(grid: &Grid, place: Place, level: Height) -> bool
     any_gap_or_lower(cells, &at, level)
 }
 
-/// The count of a cell: 0 where it drains, whichever sinks are named, and none elsewhere.
+/// Returns 0 for an edge cell or one with a lower neighbour, else [`NO_COUNT`].
 #[inline(always)]
 fn begin_at(grid: &Grid, place: Place) -> u32
     requires { IsInside grid.now.terrain place }
-    ensures begun { IsBegun (DrainsAnyway grid.now.terrain) place (known result) }
+    ensures begun { IsBegun (IsEdgeOrHasLower grid.now.terrain) place (known result) }
     ensures few { result ≤ no_count }
 {
     match grid.at(place) {
-        Some(level) if drains_anyway(grid, place, level) => 0,
+        Some(level) if is_edge_or_has_lower(grid, place, level) => 0,
         _ => NO_COUNT,
     }
 }
 
-/// The count at a spot of the window of a tile, none off the grid.
+/// Returns the initial count at a spot without sinks, `NO_COUNT` off the grid.
 #[inline(always)]
 fn begin_spot(grid: &Grid, bounds: Bounds, spot: Place) -> u32
     requires inside { IsPartOf grid.now.terrain bounds }
     requires spot { IsSpot bounds spot }
-    ensures { IsBegunSpot (DrainsAnyway grid.now.terrain) bounds spot result }
+    ensures { IsBegunSpot (IsEdgeOrHasLower grid.now.terrain) bounds spot result }
 {
     match place_shown(bounds, spot) {
         Some(place) if place.row < grid.rows() && place.col < grid.cols() => begin_at(grid, place),
@@ -96,7 +99,7 @@ fn begin_spot(grid: &Grid, bounds: Bounds, spot: Place) -> u32
     }
 }
 
-/// Begins the counts of one row of spots.
+/// Appends the initial counts, without sinks, of one row of the window.
 fn begin_along(
     grid: &Grid,
     bounds: Bounds,
@@ -105,8 +108,10 @@ fn begin_along(
 ) -> Result<(), AllocError>
     requires inside { IsPartOf grid.now.terrain bounds }
     requires row { row < bounds.rows + 2 }
-    requires counts { AreMadeSpots (IsBegunSpot (DrainsAnyway grid.now.terrain) bounds) bounds (row * (bounds.cols + 2)) 0 counts.old.items }
-    ensures { OnOk result (AreMadeSpots (IsBegunSpot (DrainsAnyway grid.now.terrain) bounds) bounds ((row + 1) * (bounds.cols + 2)) 0 counts.new.items) }
+    requires counts { AreMadeSpots (IsBegunSpot (IsEdgeOrHasLower grid.now.terrain) bounds) bounds
+        (row * (bounds.cols + 2)) 0 counts.old.items }
+    ensures { OnOk result (AreMadeSpots (IsBegunSpot (IsEdgeOrHasLower grid.now.terrain) bounds)
+        bounds ((row + 1) * (bounds.cols + 2)) 0 counts.new.items) }
 {
     for col in 0..bounds.cols + 2 {
         counts.push(begin_spot(grid, bounds, Place { row, col }))?;
@@ -114,32 +119,34 @@ fn begin_along(
     Ok(())
 }
 
-/// Puts the count 0 at the spot of each named sink that has data.
-fn begin_at_sinks(grid: &Grid, ground: &Ground, counts: &mut [u32])
-    requires inside { IsPartOf grid.now.terrain ground.now.bounds }
-    requires counts { AreBegunSpots (DrainsAnyway grid.now.terrain) ground.now.bounds counts.old }
-    ensures { AreBegunSpots (DrainsAtOnce grid.now.terrain) ground.now.bounds counts.new }
+/// Sets the count of each named sink in the window to 0, if it has data.
+fn begin_at_sinks(grid: &Grid, window: &Window, counts: &mut [u32])
+    requires inside { IsPartOf grid.now.terrain window.now.bounds }
+    requires counts { AreBegunSpots (IsEdgeOrHasLower grid.now.terrain) window.now.bounds
+        counts.old }
+    ensures { AreBegunSpots (DrainsAtOnce grid.now.terrain) window.now.bounds counts.new }
 {
     for sink in grid.sinks() {
-        let Some(spot) = spot_of(ground.bounds, *sink) else {
+        let Some(spot) = spot_of(window.bounds, *sink) else {
             continue;
         };
         if grid.at(*sink).is_some() {
-            counts[ground.index(spot)] = 0;
+            counts[window.index(spot)] = 0;
         }
     }
 }
 
-/// The counts of a tile and the places around it that the first round begins with.
+/// Returns the initial counts of a tile and the places around it.
 pub(crate) fn begun_counts(
     alloc: Global,
     grid: &Grid,
-    ground: &Ground,
+    window: &Window,
 ) -> Result<Vec<u32>, AllocError>
-    requires inside { IsPartOf grid.now.terrain ground.now.bounds }
-    ensures { IfOk result (λ counts. AreBegunSpots (DrainsAtOnce grid.now.terrain) ground.now.bounds counts.items) }
+    requires inside { IsPartOf grid.now.terrain window.now.bounds }
+    ensures { IfOk result (λ counts.
+        AreBegunSpots (DrainsAtOnce grid.now.terrain) window.now.bounds counts.items) }
 {
-    let bounds = ground.bounds;
+    let bounds = window.bounds;
     let mut counts = Vec::with_capacity(
         alloc,
         (bounds.rows as usize + 2) * (bounds.cols as usize + 2),
@@ -147,6 +154,6 @@ pub(crate) fn begun_counts(
     for row in 0..bounds.rows + 2 {
         begin_along(grid, bounds, row, &mut counts)?;
     }
-    begin_at_sinks(grid, ground, &mut counts);
+    begin_at_sinks(grid, window, &mut counts);
     Ok(counts)
 }

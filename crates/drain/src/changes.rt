@@ -1,22 +1,22 @@
-//! A shorter count for a cell, and one that is offered from an adjacent tile.
+//! Lower counts: a cell's new one, and one that an adjacent tile offers.
 
 use terrain::Place;
 
-/// A cell and the count that it gets.
+/// A cell and its new, lower count.
 #[derive(Clone, Copy)]
 pub(crate) struct Change {
     pub(crate) place: Place,
     pub(crate) count: u32,
 }
 
-/// What a cell of a tile would get by a neighbour in another tile.
+/// A lower count that a neighbour in another tile offers to a cell of `tile`.
 #[derive(Clone, Copy)]
 pub(crate) struct Entry {
     pub(crate) tile: u32,
     pub(crate) change: Change,
 }
 
-/// The entries into one tile: those from one place in the list of all up to another, or none.
+/// The entries into one tile: indexes `from..end` of the sorted list, maybe none.
 #[derive(Clone, Copy)]
 pub(crate) struct Run {
     pub(crate) tile: u32,

@@ -1,4 +1,4 @@
-//! Steps and directions of a filled grid, by tiles and workers: [`directions`].
+//! Steps and directions of a filled grid, computed tile by tile: [`directions`].
 ghost use Rattle.std.specs.Prelude.{◌≡◌, [], IfOk, OnOk, length};
 ghost use Rattle.terrain.specs.Raster.{Terrain, IsTerrain};
 ghost use Rattle.terrain.specs.Sinks.{with_sinks};
@@ -14,7 +14,7 @@ ghost use Rattle.drainage.specs.Drained.{AllFlowEnds, directed_of};
 use crate::first::first_round;
 use crate::rounds::settle;
 use crate::stages::Codes;
-use crate::window::Ground;
+use crate::window::Window;
 use crate::{looking, window};
 use drainage::{Directions, Filled, StepCount};
 use std::alloc::{AllocError, Global};
@@ -23,27 +23,30 @@ use std::sync::Wait;
 use std::thread::Threads;
 use terrain::{Cell, Grid, NoMemory};
 use tile_jobs::{Gate, JobFault};
-use tile_maps::Crew;
+use tile_maps::Runner;
 use tiles::{TileView, Tiling};
 
-/// One round over one tile, as far as it can go, from the counts of the tile and the places around it.
+/// Returns the counts of a window's tile after one round from the counts `old`.
 pub(crate) fn round(
     alloc: Global,
-    ground: &Ground,
+    window: &Window,
     old: &[u32],
 ) -> Result<Vec<StepCount>, AllocError>
-    requires size { length old.now ≡ area_of ground.now.bounds }
+    requires size { length old.now ≡ area_of window.now.bounds }
     requires counts { AreCounts old.now }
-    ensures { IfOk result (λ v. IsRoundOf ground.now.bounds ground.now.levels.items old.now v.items) }
+    ensures { IfOk result
+        (λ v. IsRoundOf window.now.bounds window.now.levels.items old.now v.items) }
 {
-    let counts = window::settled(alloc, ground, old)?;
-    let list = looking::hand_out(alloc, ground, &counts)?;
+    let counts = window::settled_counts(alloc, window, old)?;
+    let list = looking::copy_counts(alloc, window, &counts)?;
     Ok(list)
 }
 
-/// One round of counting steps over one tile, which it answers in its row order: a search from all counts that
-/// are lent, as far as it goes inside the tile. No count rises or is lost. Which sinks the terrain has is the lender's
-/// affair: it lends 0 there. For want of memory nothing is handed out.
+/// Returns a tile's step counts after one round of counting, in row order.
+///
+/// Searches from all counts in `steps`, in the tile and around it, until none in the tile falls.
+/// No count rises or is lost. `steps` must be 0 at each cell that drains at once, named sinks
+/// included.
 pub fn flat_steps(
     alloc: Global,
     levels: &TileView<'_, Cell>,
@@ -55,33 +58,48 @@ pub fn flat_steps(
     requires tile { steps.now.tile ≡ levels.now.tile }
     requires zeros { HasZeros terrain steps.now.cells }
     requires walked { AreWalked (DrainsAtOnce terrain) terrain steps.now.cells }
-    ensures { IfOk result (λ v. IsRound (DrainsAtOnce terrain) terrain levels.now.cutting levels.now.tile steps.now.cells v.items) }
+    ensures { IfOk result (λ v. IsRound (DrainsAtOnce terrain) terrain levels.now.cutting
+        levels.now.tile steps.now.cells v.items) }
 {
-    let ground = looking::ground(alloc, levels)?;
+    let window = looking::window(alloc, levels)?;
     let old = looking::counts(alloc, steps)?;
-    let counts = round(alloc, &ground, &old)?;
-    Ok(looking::told(alloc, &counts)?)
+    let counts = round(alloc, &window, &old)?;
+    Ok(looking::step_numbers(alloc, &counts)?)
 }
 
-/// The steps of each cell of a filled grid, which is within the limits.
-fn counted<R: Threads + Wait + Sync, G: Gate + Sync>(
-    crew: &Crew<'_, R, G>,
+/// Counts the steps of each cell: a first round, then more until none changes.
+fn count_steps<R: Threads + Wait + Sync, G: Gate + Sync>(
+    runner: &Runner<'_, R, G>,
     filled: &Filled,
     tiling: &Tiling,
 ) -> Result<Vec<StepCount>, JobFault>
     requires { Cuts tiling.now filled.now.terrain }
     ensures steps { IfOk result (λ s. AreSteps filled.now.terrain s.items) }
     ensures lawful { OnOk result (IsTerrain filled.now.terrain) }
-    ensures workers { RefusesWorkers crew.now.workers result }
+    ensures workers { RefusesWorkers runner.now.workers result }
 {
     let grid = filled.grid();
-    let first = first_round(crew, grid, tiling)?;
-    let steps = settle(crew, tiling, grid.cells(), first)?;
+    let first = first_round(runner, grid, tiling)?;
+    let steps = settle(runner, tiling, grid.cells(), first)?;
     Ok(steps)
 }
 
-/// The direction of each cell of a filled grid. The tiles' rounds are jobs of the workers. Nothing is handed out
-/// where memory or a thread is refused.
+/// Returns the D8 direction of each cell of a filled grid.
+///
+/// Jobs count the steps of each tile in rounds, then find its codes.
+///
+/// # Errors
+///
+/// [`JobFault::BadWorkers`] if `workers` is 0 or above 64. [`JobFault::NoThread`] if a thread
+/// cannot be started. [`JobFault::Memory`] if memory runs out.
+///
+/// # Examples
+///
+/// ```ignore
+/// let filled = filled(&rt, rt.alloc(), &grid, &tiling, 4, &NoGate)?;
+/// let directions = directions(&rt, rt.alloc(), &filled, &tiling, 4, &NoGate)?;
+/// let codes = directions.codes();
+/// ```
 pub fn directions<R: Threads + Wait + Sync, G: Gate + Sync>(
     rt: &R,
     alloc: Global,
@@ -97,19 +115,19 @@ pub fn directions<R: Threads + Wait + Sync, G: Gate + Sync>(
     ensures ends { IfOk result (λ d. AllFlowEnds (directed_of d)) }
     ensures workers { RefusesWorkers workers result }
 {
-    let crew = Crew {
+    let runner = Runner {
         rt,
         alloc,
         workers,
         gate,
     };
     let grid = filled.grid();
-    let steps = counted(&crew, filled, tiling)?;
-    let told = Snapshot::of(&steps);
-    let codes = crew.made(Codes {
+    let steps = count_steps(&runner, filled, tiling)?;
+    let reported = Snapshot::of(&steps);
+    let codes = runner.made(Codes {
         grid,
         steps,
         tiling,
     })?;
-    Ok(Directions::new(grid, told, codes))
+    Ok(Directions::new(grid, reported, codes))
 }

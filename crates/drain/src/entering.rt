@@ -1,4 +1,4 @@
-//! Shorter steps that enter a tile from the tiles around it.
+//! Smaller counts that adjacent tiles offer to a tile.
 ghost use Rattle.std.specs.Prelude.{◌≡◌, ◌≢◌, ◌+◌, ◌*◌, ◌<◌, ◌≤◌, ◌↔◌, length, Some, IsTrue, OnOk};
 ghost use Rattle.terrain.specs.declared.place.Place.{Place};
 ghost use Rattle.drain.specs.declared.changes.Change.{Change};
@@ -6,7 +6,7 @@ ghost use Rattle.terrain.specs.Neighbours.{height_at, index_of, Touches};
 ghost use Rattle.tiles.specs.Cutting.{IsCutting, AreBounds, IsWithin, IsInTile, tile_count, tile_of_place};
 ghost use Rattle.drain.specs.Rounds.{AreCounting};
 ghost use Rattle.drain.specs.Lowering.{IsAmong, count_of};
-ghost use Rattle.drain.specs.Entering.{lent_terrain, AreEntered, IsAmid};
+ghost use Rattle.drain.specs.Entering.{sinkless_terrain, AreEntered, IsInterior};
 
 use crate::changes::{Change, Entry};
 use drainage::StepCount;
@@ -14,9 +14,9 @@ use std::alloc::AllocError;
 use terrain::{Cell, Place};
 use tiles::{Bounds, Tiling};
 
-/// What a round is lent: the filled heights and the counts of a grid that is cut into tiles.
+/// Input of a round: filled heights and counts of a tiled grid, in row order.
 #[derive(Clone, Copy)]
-pub(crate) struct Lent<'a> {
+pub(crate) struct RoundInput<'a> {
     pub(crate) tiling: &'a Tiling,
     pub(crate) levels: &'a [Cell],
     pub(crate) steps: &'a [StepCount],
@@ -25,8 +25,8 @@ pub(crate) struct Lent<'a> {
     ghost steps_size: { length steps.now ≡ tiling.now.cols * tiling.now.rows },
 }
 
-impl<'a> Lent<'a> {
-    /// Where a cell stands in row order.
+impl<'a> RoundInput<'a> {
+    /// Returns the row-order index of a cell.
     #[inline(always)]
     pub(crate) fn index(&self, place: Place) -> usize
         requires { IsWithin self.now.tiling.now place }
@@ -36,18 +36,19 @@ impl<'a> Lent<'a> {
         place.index_in(self.tiling.cols())
     }
 
-    /// Whether two cells have one filled height, or none.
+    /// Returns whether two cells have one filled height, or both have no data.
     #[inline(always)]
     pub(crate) fn is_level(&self, place: Place, other: Place) -> bool
         requires place { IsWithin self.now.tiling.now place }
         requires other { IsWithin self.now.tiling.now other }
-        ensures { IsTrue result ↔ (height_at (lent_terrain self.now.tiling.now self.now.levels.now) other
-            ≡ height_at (lent_terrain self.now.tiling.now self.now.levels.now) place) }
+        ensures { IsTrue result
+            ↔ (height_at (sinkless_terrain self.now.tiling.now self.now.levels.now) other
+            ≡ height_at (sinkless_terrain self.now.tiling.now self.now.levels.now) place) }
     {
         self.levels[self.index(other)].is_level_with(self.levels[self.index(place)])
     }
 
-    /// The count of a cell, by its index.
+    /// Returns the count of the cell at this index, `NO_COUNT` where none is known.
     #[inline(always)]
     pub(crate) fn count(&self, index: usize) -> u32
         requires { index < self.now.tiling.now.cols * self.now.tiling.now.rows }
@@ -56,14 +57,17 @@ impl<'a> Lent<'a> {
         self.steps[index].number()
     }
 
-    /// Notes a cell that touches another, if it would get less by that one's count.
+    /// Queues an entry for `to` if it is level with `from` and its count would fall.
     #[inline(always)]
     fn note(&self, from: Change, to: Place, entries: &mut Vec<Entry>) -> Result<(), AllocError>
-        requires counting { AreCounting (lent_terrain self.now.tiling.now self.now.levels.now) self.now.steps.now }
+        requires counting { AreCounting (sinkless_terrain self.now.tiling.now self.now.levels.now)
+            self.now.steps.now }
         requires from { IsWithin self.now.tiling.now from.place }
-        requires count { from.count ≡ count_of self.now.steps.now (index_of self.now.tiling.now.cols from.place) }
+        requires count { from.count
+            ≡ count_of self.now.steps.now (index_of self.now.tiling.now.cols from.place) }
         requires to { IsWithin self.now.tiling.now to × Touches to from.place }
-        ensures { OnOk result (AreEntered (lent_terrain self.now.tiling.now self.now.levels.now) self.now.tiling.now self.now.steps.now
+        ensures { OnOk result (AreEntered (sinkless_terrain self.now.tiling.now self.now.levels.now)
+            self.now.tiling.now self.now.steps.now
             (λ p q. (p ≡ to) × (q ≡ from.place)) entries.old.items entries.new.items) }
     {
         let count = from.count + 1;
@@ -80,14 +84,18 @@ impl<'a> Lent<'a> {
         Ok(())
     }
 
-    /// Notes those of a row that would get less by the count of a cell.
+    /// Queues entries for the cells of one row that the count of `from` would lower.
     #[inline(always)]
     fn note_along(&self, from: Change, row: u32, entries: &mut Vec<Entry>) -> Result<(), AllocError>
-        requires counting { AreCounting (lent_terrain self.now.tiling.now self.now.levels.now) self.now.steps.now }
+        requires counting { AreCounting (sinkless_terrain self.now.tiling.now self.now.levels.now)
+            self.now.steps.now }
         requires from { IsWithin self.now.tiling.now from.place }
-        requires count { from.count ≡ count_of self.now.steps.now (index_of self.now.tiling.now.cols from.place) }
-        requires row { (row < self.now.tiling.now.rows) × (row ≤ from.place.row + 1) × (from.place.row ≤ row + 1) }
-        ensures { OnOk result (AreEntered (lent_terrain self.now.tiling.now self.now.levels.now) self.now.tiling.now self.now.steps.now
+        requires count { from.count
+            ≡ count_of self.now.steps.now (index_of self.now.tiling.now.cols from.place) }
+        requires row { (row < self.now.tiling.now.rows) × (row ≤ from.place.row + 1)
+            × (from.place.row ≤ row + 1) }
+        ensures { OnOk result (AreEntered (sinkless_terrain self.now.tiling.now self.now.levels.now)
+            self.now.tiling.now self.now.steps.now
             (λ p q. (p.row ≡ row) × (q ≡ from.place)) entries.old.items entries.new.items) }
     {
         let first = from.place.col.max(1) - 1;
@@ -98,15 +106,17 @@ impl<'a> Lent<'a> {
         Ok(())
     }
 
-    /// Notes the cells around one that would get less by its count.
+    /// Queues entries for the cells around `place` that its count would lower.
     pub(crate) fn note_around(
         &self,
         place: Place,
         entries: &mut Vec<Entry>,
     ) -> Result<(), AllocError>
-        requires counting { AreCounting (lent_terrain self.now.tiling.now self.now.levels.now) self.now.steps.now }
+        requires counting { AreCounting (sinkless_terrain self.now.tiling.now self.now.levels.now)
+            self.now.steps.now }
         requires place { IsWithin self.now.tiling.now place }
-        ensures { OnOk result (AreEntered (lent_terrain self.now.tiling.now self.now.levels.now) self.now.tiling.now self.now.steps.now
+        ensures { OnOk result (AreEntered (sinkless_terrain self.now.tiling.now self.now.levels.now)
+            self.now.tiling.now self.now.steps.now
             (λ p q. q ≡ place) entries.old.items entries.new.items) }
     {
         let from = Change {
@@ -121,12 +131,16 @@ impl<'a> Lent<'a> {
         Ok(())
     }
 
-    /// Notes what comes out of a tile over its rim.
+    /// Queues entries for the cells around a tile's rim that it would lower.
+    /// Inside the tile none is left to lower.
     pub(crate) fn note_rim(&self, tile: u32, entries: &mut Vec<Entry>) -> Result<(), AllocError>
-        requires counting { AreCounting (lent_terrain self.now.tiling.now self.now.levels.now) self.now.steps.now }
+        requires counting { AreCounting (sinkless_terrain self.now.tiling.now self.now.levels.now)
+            self.now.steps.now }
         requires tile { tile < tile_count self.now.tiling.now }
-        ensures { OnOk result (AreEntered (lent_terrain self.now.tiling.now self.now.levels.now) self.now.tiling.now self.now.steps.now
-            (λ p q. IsInTile self.now.tiling.now tile q × (tile_of_place self.now.tiling.now p ≢ tile)) entries.old.items entries.new.items) }
+        ensures { OnOk result (AreEntered (sinkless_terrain self.now.tiling.now self.now.levels.now)
+            self.now.tiling.now self.now.steps.now
+            (λ p q. IsInTile self.now.tiling.now tile q
+            × (tile_of_place self.now.tiling.now p ≢ tile)) entries.old.items entries.new.items) }
     {
         for place in self.tiling.rim(tile) {
             self.note_around(place, entries)?;
@@ -134,12 +148,12 @@ impl<'a> Lent<'a> {
         Ok(())
     }
 
-    /// Whether a place and all places around it lie in the bounds of a tile.
+    /// Returns whether a place and the eight around it lie in `bounds`.
     #[inline(always)]
-    fn is_amid(&self, bounds: Bounds, place: Place) -> bool
+    fn is_interior(&self, bounds: Bounds, place: Place) -> bool
         requires bounds { AreBounds self.now.tiling.now bounds }
         requires place { IsWithin self.now.tiling.now place }
-        ensures { IsTrue result ↔ IsAmid bounds place }
+        ensures { IsTrue result ↔ IsInterior bounds place }
     {
         bounds.top < place.row
             && place.row + 1 < bounds.top + bounds.rows
@@ -147,16 +161,21 @@ impl<'a> Lent<'a> {
             && place.col + 1 < bounds.left + bounds.cols
     }
 
-    /// Notes what comes out of tiles by these of their cells, most of which are amid the tile of the first.
+    /// Queues entries for the cells whose counts these changed cells would lower.
+    /// Most changes lie inside the first one's tile, off its rim, and reach no other tile.
     pub(crate) fn note_changes(
         &self,
         changes: &[Change],
         entries: &mut Vec<Entry>,
     ) -> Result<(), AllocError>
-        requires counting { AreCounting (lent_terrain self.now.tiling.now self.now.levels.now) self.now.steps.now }
-        requires changes { (x : Change) → IsAmong changes.now x → IsWithin self.now.tiling.now x.place }
-        ensures { OnOk result (AreEntered (lent_terrain self.now.tiling.now self.now.levels.now) self.now.tiling.now self.now.steps.now
-            (λ p q. (x : Change) × IsAmong changes.now x × (x.place ≡ q) × (tile_of_place self.now.tiling.now p ≢ tile_of_place self.now.tiling.now q))
+        requires counting { AreCounting (sinkless_terrain self.now.tiling.now self.now.levels.now)
+            self.now.steps.now }
+        requires changes { (x : Change) → IsAmong changes.now x →
+            IsWithin self.now.tiling.now x.place }
+        ensures { OnOk result (AreEntered (sinkless_terrain self.now.tiling.now self.now.levels.now)
+            self.now.tiling.now self.now.steps.now
+            (λ p q. (x : Change) × IsAmong changes.now x × (x.place ≡ q)
+            × (tile_of_place self.now.tiling.now p ≢ tile_of_place self.now.tiling.now q))
             entries.old.items entries.new.items) }
     {
         let Some(first) = changes.first() else {
@@ -164,7 +183,7 @@ impl<'a> Lent<'a> {
         };
         let bounds = self.tiling.bounds(self.tiling.tile_of(first.place));
         for change in changes {
-            if !self.is_amid(bounds, change.place) {
+            if !self.is_interior(bounds, change.place) {
                 self.note_around(change.place, entries)?;
             }
         }

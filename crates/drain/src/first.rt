@@ -1,14 +1,14 @@
 //! The first round: each tile counts steps on its own.
 //!
-//! It begins at the cells that drain at once, in the tile and around it (`beginning`), and searches
-//! by `window`.
+//! The search starts at the cells that drain at once, in the tile and around it (`beginning`), and
+//! runs in `window`.
 ghost use Rattle.std.specs.Prelude.{ℕ, List, Option, IfOk};
 ghost use Rattle.tile_jobs.specs.Fault.{RefusesWorkers};
 ghost use Rattle.tiles.specs.Cutting.{Cuts, IsCutting};
 ghost use Rattle.drain.specs.Beginning.{AreBegun};
-ghost use Rattle.drain.specs.Rounds.{LendSame, AreCounting};
+ghost use Rattle.drain.specs.Rounds.{HaveSameSources, AreCounting};
 ghost use Rattle.drain.specs.Lowering.{IsEvenInside, count_of};
-ghost use Rattle.drain.specs.Entering.{lent_terrain};
+ghost use Rattle.drain.specs.Entering.{sinkless_terrain};
 
 use crate::beginning::begun_counts;
 use crate::draining::round;
@@ -19,10 +19,10 @@ use std::sync::Wait;
 use std::thread::Threads;
 use terrain::Grid;
 use tile_jobs::{Gate, JobFault, Work};
-use tile_maps::Crew;
+use tile_maps::Runner;
 use tiles::Tiling;
 
-/// What the jobs of the first round work on: a filled grid.
+/// Input of the first round's jobs: a filled grid and its tiling.
 #[derive(Drop)]
 struct FirstRound<'a> {
     grid: &'a Grid,
@@ -34,41 +34,45 @@ impl<'a> Work for FirstRound<'a> {
     ghost use Rattle.std.specs.Prelude.{ℕ, List, Option};
     ghost use Rattle.tiles.specs.Cutting.{tile_count};
     ghost use Rattle.drain.specs.Beginning.{AreBegun};
-    ghost use Rattle.drain.specs.Rounds.{IsLent, IsRound};
-    ghost use Rattle.drain.specs.Entering.{lent_terrain};
+    ghost use Rattle.drain.specs.Rounds.{IsSource, IsRound};
+    ghost use Rattle.drain.specs.Entering.{sinkless_terrain};
 
     type Out = Vec<StepCount>;
 
     ghost most = { λ f. tile_count f.tiling.now };
 
-    ghost gives = { λ f tile out. let t = lent_terrain f.tiling.now f.grid.now.terrain.cells in
-        (begun : List (Option ℕ)) → AreBegun f.grid.now.terrain begun → IsRound (IsLent t begun) t f.tiling.now tile begun out.items };
+    ghost gives = { λ f tile out. let t = sinkless_terrain f.tiling.now f.grid.now.terrain.cells in
+        (begun : List (Option ℕ)) → AreBegun f.grid.now.terrain begun →
+        IsRound (IsSource t begun) t f.tiling.now tile begun out.items };
 
     fn run(&self, alloc: Global, job: u32) -> Result<Vec<StepCount>, JobFault> {
         let levels = self.tiling.view(self.grid.cells(), job);
-        let ground = looking::ground(alloc, &levels)?;
-        let begun = begun_counts(alloc, self.grid, &ground)?;
-        let list = round(alloc, &ground, &begun)?;
+        let window = looking::window(alloc, &levels)?;
+        let begun = begun_counts(alloc, self.grid, &window)?;
+        let list = round(alloc, &window, &begun)?;
         Ok(list)
     }
 }
 
-/// What one round over each tile leaves of the counts that it begins with.
+/// Runs the first round on every tile and returns the counts of the grid.
 pub(crate) fn first_round<R: Threads + Wait + Sync, G: Gate + Sync>(
-    crew: &Crew<'_, R, G>,
+    runner: &Runner<'_, R, G>,
     grid: &Grid,
     tiling: &Tiling,
 ) -> Result<Vec<StepCount>, JobFault>
     requires { Cuts tiling.now grid.now.terrain }
     ensures lawful { IfOk result (λ _. IsCutting tiling.now) }
-    ensures counting { IfOk result (λ v. AreCounting (lent_terrain tiling.now grid.now.terrain.cells) v.items) }
+    ensures counting { IfOk result
+        (λ v. AreCounting (sinkless_terrain tiling.now grid.now.terrain.cells) v.items) }
     ensures begun { IfOk result (λ v. (begun : List (Option ℕ)) × AreBegun grid.now.terrain begun
-        × LendSame (lent_terrain tiling.now grid.now.terrain.cells) begun v.items) }
-    ensures even { IfOk result (λ v. (tile : ℕ) → IsEvenInside (lent_terrain tiling.now grid.now.terrain.cells) tiling.now tile (count_of v.items)) }
-    ensures workers { RefusesWorkers crew.now.workers result }
+        × HaveSameSources (sinkless_terrain tiling.now grid.now.terrain.cells) begun v.items) }
+    ensures even { IfOk result (λ v. (tile : ℕ) →
+        IsEvenInside (sinkless_terrain tiling.now grid.now.terrain.cells) tiling.now tile
+        (count_of v.items)) }
+    ensures workers { RefusesWorkers runner.now.workers result }
 {
-    let lists = crew.run(&FirstRound { grid, tiling }, tiling.tiles())?;
-    match tiling.put_back(crew.alloc, &lists) {
+    let lists = runner.run(&FirstRound { grid, tiling }, tiling.tiles())?;
+    match tiling.put_back(runner.alloc, &lists) {
         Ok(whole) => Ok(whole),
         Err(_) => Err(JobFault::Memory),
     }

@@ -1,4 +1,4 @@
-//! Facts of the definitions alone.
+//! Consequences of the definitions of steps and directions.
 ghost use Rattle.std.specs.Prelude.{◌≡◌, ℕ, ◌*◌, ◌^◌, ◌<◌, List, length, Option};
 ghost use Rattle.terrain.specs.Raster.{Terrain, IsTerrain};
 ghost use Rattle.terrain.specs.Neighbours.{IsDataCell};
@@ -18,38 +18,41 @@ pub fn steps_are_one()
     ensures { (t : Terrain) (p : Place) (m n : ℕ) → IsSteps t p m → IsSteps t p n → m ≡ n }
 {}
 
-/// Where a terrain's filled heights are its own, each data cell has a number of steps.
+/// In a filled terrain each data cell has a number of steps.
 #[tactic(auto, using(crate::proofs::Counted::has_steps))]
 pub fn each_has_steps()
-    ensures { (t : Terrain) (p : Place) → IsTerrain t → IsFilled t t.cells → IsDataCell t p → (n : ℕ) × IsSteps t p n }
+    ensures { (t : Terrain) (p : Place) → IsTerrain t → IsFilled t t.cells → IsDataCell t p →
+        (n : ℕ) × IsSteps t p n }
 {}
 
-/// A cell of a grid has fewer steps than the grid may have cells: a shortest walk meets no cell twice.
+/// A cell has fewer than 2^24 steps: a shortest walk meets no cell twice.
 pub fn steps_are_few()
     ensures { (t : Terrain) (p : Place) (n : ℕ) → IsTerrain t → IsSteps t p n → n < 2 ^ 24 }
 {}
 
-/// Where a terrain's filled heights are its own, each data cell has exactly one direction.
+/// In a filled terrain each data cell has exactly one direction.
 #[tactic(auto, using(crate::proofs::Unique::has_direction))]
 pub fn each_has_direction()
     ensures { (t : Terrain) (p : Place) → IsTerrain t → IsFilled t t.cells → IsDataCell t p →
         (code : ℕ) × IsDirection t p code × ((other : ℕ) → IsDirection t p other → other ≡ code) }
 {}
 
-/// Of what stands around a cell, `direction` answers its direction.
+/// `direction_of` a cell's surroundings is the direction of the cell.
 #[tactic(auto, using(crate::proofs::Laid::direction_is))]
 pub fn direction_is_of_cell()
-    ensures { (t : Terrain) (steps : List (Option ℕ)) (p : Place) (a : Around) → AreSteps t steps → IsAround t steps p a →
+    ensures { (t : Terrain) (steps : List (Option ℕ)) (p : Place) (a : Around) → AreSteps t steps →
+        IsAround t steps p a →
         IsDirection t p (direction_of a) }
 {}
 
 /// A terrain has at most one map of directions.
 #[tactic(auto, using(crate::proofs::Unique::one_list_of_directions))]
 pub fn directions_are_one()
-    ensures { (t : Terrain) (codes others : List (Option ℕ)) → AreDirections t codes → AreDirections t others → codes ≡ others }
+    ensures { (t : Terrain) (codes others : List (Option ℕ)) → AreDirections t codes →
+        AreDirections t others → codes ≡ others }
 {}
 
-/// Where a round over all tiles changes nothing, the counts are the steps.
+/// If a round over all tiles changes no count, the counts are the steps.
 #[tactic(auto, using(crate::proofs::Quiet::counts_are_steps))]
 pub fn quiet_is_counted()
     ensures { (t : Terrain) (c : Cutting) (steps : List (Option ℕ)) (lists : ℕ → List (Option ℕ)) →

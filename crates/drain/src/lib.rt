@@ -1,35 +1,35 @@
-//! Steps of flats and directions of flow over a filled grid.
+//! Steps of flats and D8 directions over a filled grid.
 //!
-//! Begin with [`directions`]. [`direction`] is the rule at one cell, [`flat_steps`] one round of
-//! counting over one tile. Depends on `drainage` and `tile_maps`.
+//! Begin with [`directions`]. [`direction`] is the rule at one cell; [`flat_steps`] runs one round
+//! of counting over one tile. Depends on `drainage` and `tile_maps`.
 //!
-//! Modules, from what is called to what it depends on:
+//! Modules, callers first:
 //!
 //! - `draining`: `directions`, which runs all stages
 //! - `first`: the first round
-//! - `beginning`: which cells drain at once
-//! - `window`: the search over one tile
-//! - `looking`: a tile and the places around it
+//! - `beginning`: finds the cells that drain at once
+//! - `window`: searches one tile for steps
+//! - `looking`: copies a tile and the places around it
 //! - `rounds`: later rounds
-//! - `entering`: steps from other tiles
-//! - `lowering`: a later round's search
-//! - `changes`: counts that became less
-//! - `runs`: each tile's entries
+//! - `entering`: lower counts from adjacent tiles
+//! - `lowering`: the search of a later round
+//! - `changes`: types of lower counts
+//! - `runs`: sorts entries by tile
 //! - `stages`: the map of codes
 //! - `surroundings`: the codes of a tile
-//! - `amid`: codes inside the grid
+//! - `interior`: codes of interior cells
 //! - `steepness`: the rule at one cell
-//! - `around`: what surrounds one cell
-//! - `laws`: facts of the definitions
+//! - `around`: the surroundings of one cell
+//! - `laws`: consequences of the definitions
 #![tactic(auto)]
 
-mod amid;
 mod around;
 mod beginning;
 mod changes;
 mod draining;
 mod entering;
 mod first;
+mod interior;
 pub mod laws;
 mod looking;
 mod lowering;

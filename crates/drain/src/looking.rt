@@ -1,17 +1,17 @@
-//! Copies a tile with the places around it, and a tile's counts back.
+//! Copies a tile and the places around it to a window, and a tile's counts back.
 ghost use Rattle.std.specs.Prelude.{◌≡◌, ◌+◌, ◌-◌, ◌*◌, ◌<◌, ◌≤◌, length, map, MatchOption, None, OnOk, IfOk};
 ghost use Rattle.terrain.specs.declared.place.Place.{Place};
 ghost use Rattle.tiles.specs.Cutting.{IsCutting, AreBounds, bounds_of};
-ghost use Rattle.drain.specs.Window.{area_of, IsSpot, IsOff, Shows, IsShown, AreShown, AreShownBelow, AreLent, IsHandedOut};
+ghost use Rattle.drain.specs.Window.{area_of, IsSpot, IsOff, Shows, IsShown, AreShown, AreShownBelow, AreWindowCounts, IsCopied};
 ghost use Rattle.tile_maps.specs.Maps.{AreMadeBelow};
 
-use crate::window::Ground;
+use crate::window::Window;
 use drainage::{NO_COUNT, StepCount};
 use std::alloc::{AllocError, Global};
 use terrain::{Cell, Place};
 use tiles::{Bounds, TileView};
 
-/// The place that a spot shows, None where that lies north or west of the grid.
+/// Returns the place at a spot, `None` if it lies north or west of the grid.
 #[inline(always)]
 pub(crate) fn place_shown(bounds: Bounds, spot: Place) -> Option<Place>
     requires bounds { (bounds.top + bounds.rows ≤ 4096) × (bounds.left + bounds.cols ≤ 4096) }
@@ -29,10 +29,11 @@ pub(crate) fn place_shown(bounds: Bounds, spot: Place) -> Option<Place>
     })
 }
 
-/// The spot that shows a place, where one does.
+/// Returns the spot of a place, `None` if it lies outside the window.
 pub(crate) fn spot_of(bounds: Bounds, place: Place) -> Option<Place>
     requires { (bounds.top + bounds.rows ≤ 4096) × (bounds.left + bounds.cols ≤ 4096) }
-    ensures { MatchOption result ((s : Place) → IsSpot bounds s → Shows bounds s place → ⊥) (λ s. IsSpot bounds s × Shows bounds s place) }
+    ensures { MatchOption result ((s : Place) → IsSpot bounds s → Shows bounds s place → ⊥)
+        (λ s. IsSpot bounds s × Shows bounds s place) }
 {
     let Bounds {
         top,
@@ -54,14 +55,15 @@ pub(crate) fn spot_of(bounds: Bounds, place: Place) -> Option<Place>
     })
 }
 
-/// What a view has at the place of a spot; off the grid what stands for none.
+/// Returns a view's value at a spot, `none` off the grid.
 #[inline(always)]
-fn shown<T: Copy>(view: &TileView<'_, T>, none: T, bounds: Bounds, spot: Place) -> T
+fn spot_value<T: Copy>(view: &TileView<'_, T>, none: T, bounds: Bounds, spot: Place) -> T
     requires bounds { bounds ≡ bounds_of view.now.cutting view.now.tile }
     requires inside { AreBounds view.now.cutting bounds }
     requires lawful { IsCutting view.now.cutting }
     requires spot { IsSpot bounds spot }
-    ensures { IsShown view.now.cutting.cols view.now.cutting.rows view.now.cells none bounds spot result }
+    ensures { IsShown view.now.cutting.cols view.now.cutting.rows view.now.cells none bounds spot
+        result }
 {
     match place_shown(bounds, spot) {
         Some(place) => view.at(place).copied().unwrap_or(none),
@@ -69,7 +71,7 @@ fn shown<T: Copy>(view: &TileView<'_, T>, none: T, bounds: Bounds, spot: Place) 
     }
 }
 
-/// Takes one row of spots, one by one.
+/// Appends a window row north or south of the tile, spot by spot.
 fn look_beside<T: Copy + Drop>(
     view: &TileView<'_, T>,
     none: T,
@@ -81,16 +83,18 @@ fn look_beside<T: Copy + Drop>(
     requires inside { AreBounds view.now.cutting bounds }
     requires lawful { IsCutting view.now.cutting }
     requires row { row < bounds.rows + 2 }
-    requires list { AreShownBelow view.now.cutting.cols view.now.cutting.rows view.now.cells none bounds (row * (bounds.cols + 2)) list.old.items }
-    ensures { OnOk result (AreShownBelow view.now.cutting.cols view.now.cutting.rows view.now.cells none bounds ((row + 1) * (bounds.cols + 2)) list.new.items) }
+    requires list { AreShownBelow view.now.cutting.cols view.now.cutting.rows view.now.cells none
+        bounds (row * (bounds.cols + 2)) list.old.items }
+    ensures { OnOk result (AreShownBelow view.now.cutting.cols view.now.cutting.rows view.now.cells
+        none bounds ((row + 1) * (bounds.cols + 2)) list.new.items) }
 {
     for col in 0..bounds.cols + 2 {
-        list.push(shown(view, none, bounds, Place { row, col }))?;
+        list.push(spot_value(view, none, bounds, Place { row, col }))?;
     }
     Ok(())
 }
 
-/// Takes one row of spots that the tile lies in: its first, the tile's own row, and its last.
+/// Appends a window row of the tile: the first spot, the tile's row, the last spot.
 fn look_across<T: Copy + Drop>(
     view: &TileView<'_, T>,
     none: T,
@@ -102,26 +106,30 @@ fn look_across<T: Copy + Drop>(
     requires inside { AreBounds view.now.cutting bounds }
     requires lawful { IsCutting view.now.cutting }
     requires row { (1 ≤ row) × (row ≤ bounds.rows) }
-    requires list { AreShownBelow view.now.cutting.cols view.now.cutting.rows view.now.cells none bounds (row * (bounds.cols + 2)) list.old.items }
-    ensures { OnOk result (AreShownBelow view.now.cutting.cols view.now.cutting.rows view.now.cells none bounds ((row + 1) * (bounds.cols + 2)) list.new.items) }
+    requires list { AreShownBelow view.now.cutting.cols view.now.cutting.rows view.now.cells none
+        bounds (row * (bounds.cols + 2)) list.old.items }
+    ensures { OnOk result (AreShownBelow view.now.cutting.cols view.now.cutting.rows view.now.cells
+        none bounds ((row + 1) * (bounds.cols + 2)) list.new.items) }
 {
-    let first = shown(view, none, bounds, Place { row, col: 0 });
+    let first = spot_value(view, none, bounds, Place { row, col: 0 });
     let col = bounds.cols + 1;
-    let last = shown(view, none, bounds, Place { row, col });
+    let last = spot_value(view, none, bounds, Place { row, col });
     list.push(first)?;
     list.extend_from_slice(view.row(row - 1))?;
     list.push(last)?;
     Ok(())
 }
 
-/// What a view has at each spot, in row order; off the grid what stands for none.
+/// Returns a view's values at all spots, in row order, and `none` off the grid.
 fn look<T: Copy + Drop>(
     alloc: Global,
     view: &TileView<'_, T>,
     none: T,
 ) -> Result<Vec<T>, AllocError>
-    ensures { IfOk result (λ v. (length v.items ≡ area_of (bounds_of view.now.cutting view.now.tile))
-        × AreShown view.now.cutting.cols view.now.cutting.rows view.now.cells none (bounds_of view.now.cutting view.now.tile) v.items) }
+    ensures { IfOk result
+        (λ v. (length v.items ≡ area_of (bounds_of view.now.cutting view.now.tile))
+        × AreShown view.now.cutting.cols view.now.cutting.rows view.now.cells none
+        (bounds_of view.now.cutting view.now.tile) v.items) }
 {
     let bounds = view.bounds();
     let mut list = Vec::with_capacity(
@@ -136,25 +144,27 @@ fn look<T: Copy + Drop>(
     Ok(list)
 }
 
-/// The filled heights of a tile and the places around it.
-pub(crate) fn ground(alloc: Global, levels: &TileView<'_, Cell>) -> Result<Ground, AllocError>
+/// Copies the filled heights of a tile and the places around it.
+pub(crate) fn window(alloc: Global, levels: &TileView<'_, Cell>) -> Result<Window, AllocError>
     ensures lawful { IfOk result (λ _. IsCutting levels.now.cutting) }
     ensures bounds { IfOk result (λ g. g.bounds ≡ bounds_of levels.now.cutting levels.now.tile) }
-    ensures shown { IfOk result (λ g. AreShown levels.now.cutting.cols levels.now.cutting.rows levels.now.cells None g.bounds g.levels.items) }
+    ensures shown { IfOk result (λ g. AreShown levels.now.cutting.cols levels.now.cutting.rows
+        levels.now.cells None g.bounds g.levels.items) }
 {
     let bounds = levels.bounds();
-    Ok(Ground {
+    Ok(Window {
         bounds,
         levels: look(alloc, levels, Cell::no_data())?,
     })
 }
 
-/// The counts of a tile and the places around it.
+/// Copies the counts of a tile and the places around it; `NO_COUNT` for `None`.
 pub(crate) fn counts(
     alloc: Global,
     steps: &TileView<'_, Option<u32>>,
 ) -> Result<Vec<u32>, AllocError>
-    ensures { IfOk result (λ v. AreLent steps.now.cutting.cols steps.now.cutting.rows steps.now.cells (bounds_of steps.now.cutting steps.now.tile) v.items) }
+    ensures { IfOk result (λ v. AreWindowCounts steps.now.cutting.cols steps.now.cutting.rows
+        steps.now.cells (bounds_of steps.now.cutting steps.now.tile) v.items) }
 {
     let shown = look(alloc, steps, None)?;
     shown
@@ -163,48 +173,55 @@ pub(crate) fn counts(
         .collect(alloc)
 }
 
-/// Hands out the counts of one row of the tile.
+/// Appends the counts of one row of the tile.
 #[tactic(auto, using(crate::proofs::Spots::handed_next))]
-fn hand_out_along(
-    ground: &Ground,
+fn copy_counts_along(
+    window: &Window,
     counts: &[u32],
     row: u32,
     list: &mut Vec<StepCount>,
 ) -> Result<(), AllocError>
-    requires size { length counts.now ≡ area_of ground.now.bounds }
-    requires row { row < ground.now.bounds.rows }
-    requires list { AreMadeBelow ground.now.bounds (IsHandedOut ground.now.bounds counts.now) (row * ground.now.bounds.cols) list.old.items }
-    ensures { OnOk result (AreMadeBelow ground.now.bounds (IsHandedOut ground.now.bounds counts.now) ((row + 1) * ground.now.bounds.cols) list.new.items) }
+    requires size { length counts.now ≡ area_of window.now.bounds }
+    requires row { row < window.now.bounds.rows }
+    requires list { AreMadeBelow window.now.bounds (IsCopied window.now.bounds counts.now)
+        (row * window.now.bounds.cols) list.old.items }
+    ensures { OnOk result (AreMadeBelow window.now.bounds (IsCopied window.now.bounds counts.now)
+        ((row + 1) * window.now.bounds.cols) list.new.items) }
 {
-    for col in 0..ground.bounds.cols {
+    for col in 0..window.bounds.cols {
         let spot = Place {
             row: row + 1,
             col: col + 1,
         };
-        list.push(StepCount::of(counts[ground.index(spot)]))?;
+        list.push(StepCount::of(counts[window.index(spot)]))?;
     }
     Ok(())
 }
 
-/// Hands out the counts of the tile, in its row order.
-pub(crate) fn hand_out(
+/// Returns the counts of the window's tile, in row order.
+pub(crate) fn copy_counts(
     alloc: Global,
-    ground: &Ground,
+    window: &Window,
     counts: &[u32],
 ) -> Result<Vec<StepCount>, AllocError>
-    requires { length counts.now ≡ area_of ground.now.bounds }
-    ensures { IfOk result (λ v. AreMadeBelow ground.now.bounds (IsHandedOut ground.now.bounds counts.now) (ground.now.bounds.rows * ground.now.bounds.cols) v.items) }
+    requires { length counts.now ≡ area_of window.now.bounds }
+    ensures { IfOk result (λ v. AreMadeBelow window.now.bounds
+        (IsCopied window.now.bounds counts.now) (window.now.bounds.rows * window.now.bounds.cols)
+        v.items) }
 {
-    let Bounds { rows, cols, .. } = ground.bounds;
+    let Bounds { rows, cols, .. } = window.bounds;
     let mut list = Vec::with_capacity(alloc, rows as usize * cols as usize)?;
     for row in 0..rows {
-        hand_out_along(ground, counts, row, &mut list)?;
+        copy_counts_along(window, counts, row, &mut list)?;
     }
     Ok(list)
 }
 
-/// The numbers of steps that these counts tell.
-pub(crate) fn told(alloc: Global, counts: &[StepCount]) -> Result<Vec<Option<u32>>, AllocError>
+/// Returns the known counts as numbers, `None` for the others.
+pub(crate) fn step_numbers(
+    alloc: Global,
+    counts: &[StepCount],
+) -> Result<Vec<Option<u32>>, AllocError>
     ensures { IfOk result (λ v. v.items ≡ map (λ count. count) counts.now) }
 {
     counts.iter().map(|count| count.known()).collect(alloc)

@@ -1,6 +1,6 @@
 //! The search of a later round, over counts that all jobs share.
 //!
-//! It begins at what enters the tile, and returns the changes alone.
+//! It starts at the entries into the tile and returns only the changed counts.
 ghost use Rattle.std.specs.Prelude.{◌≡◌, ℕ, ◌+◌, ◌*◌, ◌<◌, ◌≤◌, ◌≢◌, true, [], Vec, length, OnOk, IfOk, Some, slice_get, unwrap_or};
 ghost use Rattle.std.specs.Bool.{OnFalse};
 ghost use Rattle.std.specs.declared.alloc.Global.{Global};
@@ -8,18 +8,18 @@ ghost use Rattle.terrain.specs.declared.place.Place.{Place};
 ghost use Rattle.terrain.specs.Neighbours.{height_at, index_of, Touches};
 ghost use Rattle.tiles.specs.Cutting.{IsWithin, IsInTile, bounds_of, tile_count, tile_of_place};
 ghost use Rattle.drain.specs.declared.changes.Entry.{Entry};
-ghost use Rattle.drain.specs.Rounds.{IsLent, IsWalked, AreCounting};
-ghost use Rattle.drain.specs.Entering.{lent_terrain, AreEntries, IsRun};
+ghost use Rattle.drain.specs.Rounds.{IsSource, IsWalked, AreCounting};
+ghost use Rattle.drain.specs.Entering.{sinkless_terrain, AreEntries, IsRun};
 ghost use Rattle.drain.specs.Lowering.{IsEvenInside, IsLoweredTo, IsTileAnswer, MayGoOn, count_of, counts_in};
 
 use crate::changes::{Change, Entry, Run};
-use crate::entering::Lent;
+use crate::entering::RoundInput;
 use std::alloc::{AllocError, Global};
 use terrain::Place;
 use tiles::Bounds;
 
-/// What a search has made less: of each row of the tile the counts up to the last that it changed, and each change, in
-/// turn.
+/// The counts that a search has lowered, and each change in order.
+/// `rows` has each tile row's counts from its first cell to the last that was lowered.
 #[derive(Drop)]
 struct Lowered {
     rows: Vec<Vec<u32>>,
@@ -27,26 +27,30 @@ struct Lowered {
 }
 
 impl Lowered {
-    /// The count that a cell has come to.
+    /// Returns the current count of a cell.
     #[inline(always)]
-    fn count(&self, lent: &Lent<'_>, bounds: Bounds, place: Place) -> u32
-        requires within { IsWithin lent.now.tiling.now place }
-        requires bounds { bounds ≡ bounds_of lent.now.tiling.now (tile_of_place lent.now.tiling.now place) }
+    fn count(&self, input: &RoundInput<'_>, bounds: Bounds, place: Place) -> u32
+        requires within { IsWithin input.now.tiling.now place }
+        requires bounds { bounds
+            ≡ bounds_of input.now.tiling.now (tile_of_place input.now.tiling.now place) }
         requires rows { length self.now.rows.items ≡ bounds.rows }
-        ensures { let c = lent.now.tiling.now in result ≡ counts_in c (tile_of_place c place) lent.now.steps.now self.now (index_of c.cols place) }
+        ensures { let c = input.now.tiling.now in
+            result ≡ counts_in c (tile_of_place c place) input.now.steps.now self.now
+            (index_of c.cols place) }
     {
         let row = &self.rows[(place.row - bounds.top) as usize];
         match row.get((place.col - bounds.left) as usize) {
             Some(count) => *count,
-            None => lent.count(lent.index(place)),
+            None => input.count(input.index(place)),
         }
     }
 }
 
-/// Rows in which nothing is changed.
-fn rows_before(alloc: Global, rows: u32) -> Result<Vec<Vec<u32>>, AllocError>
+/// Returns `rows` empty rows: no count is lowered yet.
+fn empty_rows(alloc: Global, rows: u32) -> Result<Vec<Vec<u32>>, AllocError>
     ensures size { IfOk result (λ v. length v.items ≡ rows) }
-    ensures empty { IfOk result (λ v. (k : ℕ) (row : Vec ℕ Global) → slice_get v.items k ≡ Some row → row.items ≡ []) }
+    ensures empty { IfOk result
+        (λ v. (k : ℕ) (row : Vec ℕ Global) → slice_get v.items k ≡ Some row → row.items ≡ []) }
 {
     let mut list = Vec::with_capacity(alloc, rows as usize)?;
     for _row in 0..rows {
@@ -55,53 +59,64 @@ fn rows_before(alloc: Global, rows: u32) -> Result<Vec<Vec<u32>>, AllocError>
     Ok(list)
 }
 
-/// Puts a count in a row, after those before it, which are lent from the row's first cell on.
+/// Sets the count at `col` of a row that begins at index `first` of the grid.
+/// A shorter row first gets the shared counts up to there.
 fn put_in_row(
-    lent: &Lent<'_>,
+    input: &RoundInput<'_>,
     first: usize,
     row: &mut Vec<u32>,
     col: usize,
     count: u32,
 ) -> Result<(), AllocError>
-    requires { first + col < lent.now.tiling.now.cols * lent.now.tiling.now.rows }
+    requires { first + col < input.now.tiling.now.cols * input.now.tiling.now.rows }
     ensures here { OnOk result (slice_get row.new.items col ≡ Some count) }
-    ensures others { OnOk result ((k : ℕ) → k ≢ col → unwrap_or (slice_get row.new.items k) (count_of lent.now.steps.now (first + k))
-        ≡ unwrap_or (slice_get row.old.items k) (count_of lent.now.steps.now (first + k))) }
+    ensures others { OnOk result ((k : ℕ) → k ≢ col →
+        unwrap_or (slice_get row.new.items k) (count_of input.now.steps.now (first + k))
+        ≡ unwrap_or (slice_get row.old.items k) (count_of input.now.steps.now (first + k))) }
 {
     for next in row.len()..col + 1 {
-        row.push(lent.count(first + next))?;
+        row.push(input.count(first + next))?;
     }
     row[col] = count;
     Ok(())
 }
 
-/// Gives a cell a count, if it has a greater one.
+/// Lowers a cell to `change.count` and records the change, if its count is greater.
 #[inline(always)]
 fn lower(
-    lent: &Lent<'_>,
+    input: &RoundInput<'_>,
     bounds: Bounds,
     lowered: &mut Lowered,
     change: Change,
 ) -> Result<(), AllocError>
-    requires counting { let c = lent.now.tiling.now in AreCounting (lent_terrain c lent.now.levels.now) lent.now.steps.now }
-    requires within { IsWithin lent.now.tiling.now change.place }
-    requires bounds { bounds ≡ bounds_of lent.now.tiling.now (tile_of_place lent.now.tiling.now change.place) }
+    requires counting { let c = input.now.tiling.now in
+        AreCounting (sinkless_terrain c input.now.levels.now) input.now.steps.now }
+    requires within { IsWithin input.now.tiling.now change.place }
+    requires bounds { bounds
+        ≡ bounds_of input.now.tiling.now (tile_of_place input.now.tiling.now change.place) }
     requires rows { length lowered.old.rows.items ≡ bounds.rows }
-    requires walked { let c = lent.now.tiling.now in let t = lent_terrain c lent.now.levels.now in
-        change.count < counts_in c (tile_of_place c change.place) lent.now.steps.now lowered.old (index_of c.cols change.place) → IsWalked (IsLent t lent.now.steps.now) t change.place change.count }
-    requires low { let c = lent.now.tiling.now in (k : ℕ) → counts_in c (tile_of_place c change.place) lent.now.steps.now lowered.old k ≤ count_of lent.now.steps.now k }
-    ensures { let c = lent.now.tiling.now in OnOk result (IsLoweredTo (lent_terrain c lent.now.levels.now) c (tile_of_place c change.place) lent.now.steps.now
+    requires walked { let c = input.now.tiling.now in
+        let t = sinkless_terrain c input.now.levels.now in
+        change.count < counts_in c (tile_of_place c change.place) input.now.steps.now lowered.old
+        (index_of c.cols change.place) →
+        IsWalked (IsSource t input.now.steps.now) t change.place change.count }
+    requires low { let c = input.now.tiling.now in
+        (k : ℕ) → counts_in c (tile_of_place c change.place) input.now.steps.now lowered.old k
+        ≤ count_of input.now.steps.now k }
+    ensures { let c = input.now.tiling.now in
+        OnOk result (IsLoweredTo (sinkless_terrain c input.now.levels.now) c
+        (tile_of_place c change.place) input.now.steps.now
         (λ p. p ≡ change.place) change.count lowered.old lowered.new) }
 {
     let Place { row, col } = change.place;
-    if change.count < lowered.count(lent, bounds, change.place) {
-        let first = lent.index(Place {
+    if change.count < lowered.count(input, bounds, change.place) {
+        let first = input.index(Place {
             row,
             col: bounds.left,
         });
         let counts = &mut lowered.rows[(row - bounds.top) as usize];
         put_in_row(
-            lent,
+            input,
             first,
             counts,
             (col - bounds.left) as usize,
@@ -112,71 +127,85 @@ fn lower(
     Ok(())
 }
 
-/// Gives a cell beside one of a tile, and in that tile, one more than the count of that, if they are on one level and
-/// it has more.
+/// Lowers `to` to the count of `from` plus 1, if both are on one level.
 #[inline(always)]
 fn reach(
-    lent: &Lent<'_>,
+    input: &RoundInput<'_>,
     bounds: Bounds,
     lowered: &mut Lowered,
     from: Change,
     to: Place,
 ) -> Result<(), AllocError>
-    requires ready { let c = lent.now.tiling.now in MayGoOn (lent_terrain c lent.now.levels.now) c lent.now.steps.now bounds lowered.old from }
-    requires to { IsInTile lent.now.tiling.now (tile_of_place lent.now.tiling.now from.place) to × Touches from.place to }
-    ensures { let c = lent.now.tiling.now in let t = lent_terrain c lent.now.levels.now in OnOk result (IsLoweredTo t c (tile_of_place c from.place) lent.now.steps.now
-        (λ p. (p ≡ to) × (height_at t p ≡ height_at t from.place)) (from.count + 1) lowered.old lowered.new) }
+    requires ready { let c = input.now.tiling.now in
+        MayGoOn (sinkless_terrain c input.now.levels.now) c input.now.steps.now bounds lowered.old
+        from }
+    requires to { IsInTile input.now.tiling.now (tile_of_place input.now.tiling.now from.place) to
+        × Touches from.place to }
+    ensures { let c = input.now.tiling.now in let t = sinkless_terrain c input.now.levels.now in
+        OnOk result (IsLoweredTo t c (tile_of_place c from.place) input.now.steps.now
+        (λ p. (p ≡ to) × (height_at t p ≡ height_at t from.place)) (from.count + 1) lowered.old
+        lowered.new) }
 {
-    if lent.is_level(from.place, to) {
+    if input.is_level(from.place, to) {
         let count = from.count + 1;
-        lower(lent, bounds, lowered, Change { place: to, count })?;
+        lower(input, bounds, lowered, Change { place: to, count })?;
     }
     Ok(())
 }
 
-/// Does so for the cells of a row.
+/// Lowers the level cells of one row around `from` to its count plus 1.
 #[inline(always)]
 fn reach_along(
-    lent: &Lent<'_>,
+    input: &RoundInput<'_>,
     bounds: Bounds,
     lowered: &mut Lowered,
     from: Change,
     row: u32,
 ) -> Result<(), AllocError>
-    requires ready { let c = lent.now.tiling.now in MayGoOn (lent_terrain c lent.now.levels.now) c lent.now.steps.now bounds lowered.old from }
-    requires row { (bounds.top ≤ row) × (row < bounds.top + bounds.rows) × (row ≤ from.place.row + 1) × (from.place.row ≤ row + 1) }
-    ensures { let c = lent.now.tiling.now in let t = lent_terrain c lent.now.levels.now in OnOk result (IsLoweredTo t c (tile_of_place c from.place) lent.now.steps.now
-        (λ p. IsInTile c (tile_of_place c from.place) p × Touches from.place p × (height_at t p ≡ height_at t from.place) × (p.row ≡ row)) (from.count + 1) lowered.old lowered.new) }
+    requires ready { let c = input.now.tiling.now in
+        MayGoOn (sinkless_terrain c input.now.levels.now) c input.now.steps.now bounds lowered.old
+        from }
+    requires row { (bounds.top ≤ row) × (row < bounds.top + bounds.rows)
+        × (row ≤ from.place.row + 1) × (from.place.row ≤ row + 1) }
+    ensures { let c = input.now.tiling.now in let t = sinkless_terrain c input.now.levels.now in
+        OnOk result (IsLoweredTo t c (tile_of_place c from.place) input.now.steps.now
+        (λ p. IsInTile c (tile_of_place c from.place) p × Touches from.place p
+        × (height_at t p ≡ height_at t from.place) × (p.row ≡ row)) (from.count + 1) lowered.old
+        lowered.new) }
 {
     let first = from.place.col.max(bounds.left + 1) - 1;
     let end = (from.place.col + 2).min(bounds.left + bounds.cols);
     for col in first..end {
-        reach(lent, bounds, lowered, from, Place { row, col })?;
+        reach(input, bounds, lowered, from, Place { row, col })?;
     }
     Ok(())
 }
 
-/// Does so for the cells around it.
+/// Lowers the level cells around `from` in its tile to its count plus 1.
 fn spread(
-    lent: &Lent<'_>,
+    input: &RoundInput<'_>,
     bounds: Bounds,
     lowered: &mut Lowered,
     from: Change,
 ) -> Result<(), AllocError>
-    requires { let c = lent.now.tiling.now in MayGoOn (lent_terrain c lent.now.levels.now) c lent.now.steps.now bounds lowered.old from }
-    ensures { let c = lent.now.tiling.now in let t = lent_terrain c lent.now.levels.now in OnOk result (IsLoweredTo t c (tile_of_place c from.place) lent.now.steps.now
-        (λ p. IsInTile c (tile_of_place c from.place) p × Touches from.place p × (height_at t p ≡ height_at t from.place)) (from.count + 1) lowered.old lowered.new) }
+    requires { let c = input.now.tiling.now in
+        MayGoOn (sinkless_terrain c input.now.levels.now) c input.now.steps.now bounds lowered.old
+        from }
+    ensures { let c = input.now.tiling.now in let t = sinkless_terrain c input.now.levels.now in
+        OnOk result (IsLoweredTo t c (tile_of_place c from.place) input.now.steps.now
+        (λ p. IsInTile c (tile_of_place c from.place) p × Touches from.place p
+        × (height_at t p ≡ height_at t from.place)) (from.count + 1) lowered.old lowered.new) }
 {
     let first = from.place.row.max(bounds.top + 1) - 1;
     let end = (from.place.row + 2).min(bounds.top + bounds.rows);
     for row in first..end {
-        reach_along(lent, bounds, lowered, from, row)?;
+        reach_along(input, bounds, lowered, from, row)?;
     }
     Ok(())
 }
 
-/// Whether an entry comes in before the next change is spread from. So changes come in the order of their counts,
-/// if entries do.
+/// Returns whether an entry is due before the next change is spread.
+/// Changes are then recorded in the order of their counts, since entries are sorted by count.
 #[inline(always)]
 fn comes_first(entry: Entry, changes: &[Change], done: usize) -> bool
     ensures { OnFalse result (done < length changes.now) }
@@ -187,23 +216,29 @@ fn comes_first(entry: Entry, changes: &[Change], done: usize) -> bool
     }
 }
 
-/// What becomes less in a tile by the entries of its run.
+/// Lowers a tile's counts by the entries of its run and returns the changes.
 pub(crate) fn lower_tile(
     alloc: Global,
-    lent: &Lent<'_>,
+    input: &RoundInput<'_>,
     entries: &[Entry],
     run: Run,
 ) -> Result<Vec<Change>, AllocError>
-    requires counting { let c = lent.now.tiling.now in AreCounting (lent_terrain c lent.now.levels.now) lent.now.steps.now }
+    requires counting { let c = input.now.tiling.now in
+        AreCounting (sinkless_terrain c input.now.levels.now) input.now.steps.now }
     requires run { IsRun entries.now run }
-    requires tile { run.tile < tile_count lent.now.tiling.now }
-    requires entries { let c = lent.now.tiling.now in AreEntries (lent_terrain c lent.now.levels.now) c lent.now.steps.now entries.now }
-    requires even { let c = lent.now.tiling.now in (tile : ℕ) → IsEvenInside (lent_terrain c lent.now.levels.now) c tile (count_of lent.now.steps.now) }
-    ensures { let c = lent.now.tiling.now in IfOk result (λ v. IsTileAnswer (lent_terrain c lent.now.levels.now) c run.tile lent.now.steps.now
+    requires tile { run.tile < tile_count input.now.tiling.now }
+    requires entries { let c = input.now.tiling.now in
+        AreEntries (sinkless_terrain c input.now.levels.now) c input.now.steps.now entries.now }
+    requires even { let c = input.now.tiling.now in
+        (tile : ℕ) → IsEvenInside (sinkless_terrain c input.now.levels.now) c tile
+        (count_of input.now.steps.now) }
+    ensures { let c = input.now.tiling.now in
+        IfOk result (λ v.
+        IsTileAnswer (sinkless_terrain c input.now.levels.now) c run.tile input.now.steps.now
         entries.now run.from run.end v.items) }
 {
-    let bounds = lent.tiling.bounds(run.tile);
-    let rows = rows_before(alloc, bounds.rows)?;
+    let bounds = input.tiling.bounds(run.tile);
+    let rows = empty_rows(alloc, bounds.rows)?;
     let mut lowered = Lowered {
         rows,
         changes: Vec::new(alloc),
@@ -213,11 +248,11 @@ pub(crate) fn lower_tile(
     while next < run.end || done < lowered.changes.len() {
         if next < run.end && comes_first(entries[next], &lowered.changes, done) {
             let entry = entries[next];
-            lower(lent, bounds, &mut lowered, entry.change)?;
+            lower(input, bounds, &mut lowered, entry.change)?;
             next += 1;
         } else {
             let change = lowered.changes[done];
-            spread(lent, bounds, &mut lowered, change)?;
+            spread(input, bounds, &mut lowered, change)?;
             done += 1;
         }
     }

@@ -1,4 +1,4 @@
-//! Entries sorted by their tiles, and the run of each tile.
+//! Sorts entries by tile and finds the run of each tile.
 ghost use Rattle.std.specs.Prelude.{◌≡◌, ◌≢◌, ℕ, ◌<◌, ◌≤◌, length, OnOk, IfOk, Some, slice_get};
 ghost use Rattle.std.specs.List.Sorted.{IsNonDecreasingBy, IsPermutation};
 ghost use Rattle.drain.specs.declared.changes.Entry.{Entry};
@@ -8,7 +8,7 @@ ghost use Rattle.drain.specs.Entering.{AreRuns};
 use crate::changes::{Entry, Run};
 use std::alloc::{AllocError, Global};
 
-/// Puts entries in the order of their tiles, and those of a tile in the order of their counts.
+/// Sorts entries by tile, and those of one tile by count.
 pub(crate) fn sort(entries: &mut Vec<Entry>) -> Result<(), AllocError>
     ensures sorted { OnOk result (IsNonDecreasingBy (λ e. e.tile) entries.new.items) }
     ensures same { OnOk result (IsPermutation entries.old.items entries.new.items) }
@@ -18,11 +18,12 @@ pub(crate) fn sort(entries: &mut Vec<Entry>) -> Result<(), AllocError>
     Ok(())
 }
 
-/// The end of the entries of a tile that begin at a place in the list.
+/// Returns where the entries of a tile end that begin at index `from`.
 pub(crate) fn run_end(entries: &[Entry], tile: u32, from: usize) -> usize
     requires { from ≤ length entries.now }
     ensures ordered { (from ≤ result) × (result ≤ length entries.now) }
-    ensures own { (k : ℕ) (e : Entry) → from ≤ k → k < result → slice_get entries.now k ≡ Some e → e.tile ≡ tile }
+    ensures own { (k : ℕ) (e : Entry) → from ≤ k → k < result → slice_get entries.now k ≡ Some e →
+        e.tile ≡ tile }
     ensures other { (e : Entry) → slice_get entries.now result ≡ Some e → e.tile ≢ tile }
 {
     for k in from..entries.len() {
@@ -33,7 +34,7 @@ pub(crate) fn run_end(entries: &[Entry], tile: u32, from: usize) -> usize
     entries.len()
 }
 
-/// The runs of all tiles, in the order of the tiles. Most are empty where entries are few.
+/// Returns the run of each tile, in the order of the tiles; a run may be empty.
 pub(crate) fn runs_of(alloc: Global, entries: &[Entry], tiles: u32) -> Result<Vec<Run>, AllocError>
     requires sorted { IsNonDecreasingBy (λ e. e.tile) entries.now }
     requires tiles { (e : Entry) → IsAmong entries.now e → e.tile < tiles }

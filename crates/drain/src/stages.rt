@@ -7,7 +7,7 @@ use terrain::{Grid, NoMemory};
 use tile_maps::TileMap;
 use tiles::Tiling;
 
-/// The codes of all cells. The steps go with it.
+/// The map of codes: a filled grid, its tiling, and its steps, freed with the map.
 #[derive(Drop)]
 pub(crate) struct Codes<'a> {
     pub(crate) grid: &'a Grid,
@@ -20,9 +20,14 @@ impl<'a> Model for Codes<'a> {
 
     ghost Value = { SteppedTerrain };
 
-    ghost view = { λ m. record { terrain = m.grid.now.terrain; steps = m.steps.items; cutting = m.tiling.now } };
+    ghost view = { λ m. record {
+      terrain = m.grid.now.terrain;
+      steps = m.steps.items;
+      cutting = m.tiling.now;
+    } };
 
-    ghost invariant = { λ m. IsSteppedTerrain (record { terrain = m.grid.now.terrain; steps = m.steps.items; cutting = m.tiling.now }) };
+    ghost invariant = { λ m. IsSteppedTerrain
+        (record { terrain = m.grid.now.terrain; steps = m.steps.items; cutting = m.tiling.now }) };
 }
 
 impl<'a> TileMap for Codes<'a> {

@@ -1,13 +1,13 @@
-//! The direction of one cell: the steepest drop, or one step fewer.
+//! The direction of one cell: down the steepest way, else to a neighbour with one step fewer.
 //!
-//! Among equals the smallest code counts. [`direction`] is the rule; `steepest` compares drops
+//! Of equal ways the smallest code is taken. [`direction`] is the rule; `steepest` compares drops
 //! exactly.
 ghost use Rattle.std.specs.Prelude.{◌≡◌, ◌*◌, ◌<◌, ◌≤◌, ◌<ℤ◌, ◌≤ℤ◌, ℕ, IfSome, IsTrue, Some, None, option_map, slice_index_or, position};
 ghost use Rattle.std.specs.Bool.{MatchBool};
 ghost use Rattle.std.specs.List.{list_any};
 ghost use Rattle.terrain.specs.Raster.{IsHeight, greatest_drop};
 ghost use Rattle.drain.specs.Steepness.{direction_of, leads_on};
-ghost use Rattle.drain.specs.Amid.{HasHeights, IsFurthest, IsLowestBefore, IsSteepestWay, drop_by, height_on};
+ghost use Rattle.drain.specs.Interior.{HasHeights, IsFurthest, IsLowestBefore, IsSteepestWay, drop_by, height_on};
 ghost use Rattle.drain.specs.Fitting.{IsFitting};
 ghost use Rattle.drain.specs.declared.around.Around.{Around};
 
@@ -15,15 +15,15 @@ use crate::around::Around;
 use drainage::Code;
 use terrain::Height;
 
-/// The furthest way down: how far it leads down, 0 where no way does, and which way it is.
+/// The greatest drop of some ways, and its way. The drop is 0 if none leads down.
 #[derive(Clone, Copy)]
 struct Fall {
     drop: u64,
     way: usize,
 }
 
-/// The height on a way along rows and columns, which are the even ones, or across diagonals, which are the odd ones:
-/// this level where there is none.
+/// Returns the height on way `2 * turn + parity`, `level` if there is none.
+/// Even ways lead along a row or column, odd ones across a diagonal.
 #[inline(always)]
 fn height_on(level: Height, heights: &[Option<Height>; 8], parity: usize, turn: usize) -> Height
     requires { (parity < 2) × (turn < 4) }
@@ -32,7 +32,7 @@ fn height_on(level: Height, heights: &[Option<Height>; 8], parity: usize, turn: 
     heights[2 * turn + parity].unwrap_or(level)
 }
 
-/// The lowest height on the ways of one kind, this level where none is lower.
+/// Returns the lowest height on the ways of one parity, `level` if none is lower.
 #[inline(always)]
 fn lowest(level: Height, heights: &[Option<Height>; 8], parity: usize) -> Height
     requires parity { parity < 2 }
@@ -48,7 +48,7 @@ fn lowest(level: Height, heights: &[Option<Height>; 8], parity: usize) -> Height
     lowest
 }
 
-/// Whether a height is above another one.
+/// Returns whether `height` is above `lowest`.
 #[inline(always)]
 fn is_above(height: Height, lowest: Height) -> bool
     ensures { MatchBool result (lowest <ℤ height) (height ≤ℤ lowest) }
@@ -56,8 +56,8 @@ fn is_above(height: Height, lowest: Height) -> bool
     height > lowest
 }
 
-/// The first way of one kind that has the lowest height.
-// By sums alone, since a branch on which way it is would seldom be foreseen.
+/// Returns the first way of one parity that has the lowest height.
+// Sums instead of branches: a processor seldom predicts which way is lowest.
 #[inline(always)]
 fn first_lowest(
     level: Height,
@@ -80,7 +80,7 @@ fn first_lowest(
     2 * turns + parity
 }
 
-/// The furthest way down of one kind. Among equals the first.
+/// Returns the greatest drop on the ways of one parity, and the first way with it.
 #[inline(always)]
 fn furthest(level: Height, heights: &[Option<Height>; 8], parity: usize) -> Fall
     requires parity { parity < 2 }
@@ -96,7 +96,7 @@ fn furthest(level: Height, heights: &[Option<Height>; 8], parity: usize) -> Fall
     }
 }
 
-/// The square of a drop.
+/// Returns the square of a drop.
 #[inline(always)]
 fn square(drop: u64) -> u128
     requires { drop ≤ greatest_drop }
@@ -106,7 +106,7 @@ fn square(drop: u64) -> u128
     drop as u128 * drop as u128
 }
 
-/// The first of the steepest ways down, of the heights on them.
+/// Returns the first of the steepest ways down, `None` if no way leads down.
 #[inline(always)]
 pub(crate) fn steepest(level: Height, heights: &[Option<Height>; 8]) -> Option<usize>
     requires level { IsHeight level }
@@ -124,7 +124,7 @@ pub(crate) fn steepest(level: Height, heights: &[Option<Height>; 8]) -> Option<u
     (fall.drop > 0).then_some(fall.way)
 }
 
-/// The height of a neighbour.
+/// Returns the height of a neighbour.
 #[inline(always)]
 fn height_of(neighbour: Option<(Height, u32)>) -> Option<Height>
     ensures { result ≡ option_map (λ w. w.0) neighbour }
@@ -135,7 +135,7 @@ fn height_of(neighbour: Option<(Height, u32)>) -> Option<Height>
     }
 }
 
-/// The heights on the eight ways.
+/// Returns the heights on the eight ways.
 fn heights_around(around: &Around) -> [Option<Height>; 8]
     ensures { HasHeights around.now around.now.level result }
 {
@@ -152,7 +152,7 @@ fn heights_around(around: &Around) -> [Option<Height>; 8]
     ]
 }
 
-/// Whether the neighbour has this level and one step fewer.
+/// Returns whether the neighbour on `way` is level, with one step fewer.
 #[inline(always)]
 fn leads_onward(around: &Around, way: usize) -> bool
     requires { way < 8 }
@@ -166,7 +166,7 @@ fn leads_onward(around: &Around, way: usize) -> bool
     }
 }
 
-/// The first way that leads on over the flat.
+/// Returns the first way to a neighbour on the flat with one step fewer.
 #[tactic(auto, using(crate::proofs::Greatest::position_is))]
 fn onward(around: &Around) -> usize
     requires { IsTrue (list_any (leads_on around.now) around.now.ways) }
@@ -181,7 +181,19 @@ fn onward(around: &Around) -> usize
     unreachable!()
 }
 
-/// Which way a cell drains, of what stands around it.
+/// Returns the D8 direction of a cell by its surroundings.
+///
+/// Water takes the steepest way down. Without one, an end cell is an outlet, and any other cell
+/// drains to a neighbour on the flat with one step fewer. Of equal ways the smallest code is taken.
+///
+/// # Examples
+///
+/// ```ignore
+/// let (side, corner, n) = (Some((15, 0)), Some((13, 0)), None);
+/// let ways = [side, corner, n, n, n, n, n, n];
+/// let around = Around { level: 20, steps: 0, edge: true, ways };
+/// let code = direction(&around).number(); // 1, east: 2 * 5^2 is more than 7^2
+/// ```
 #[tactic(auto, using(crate::proofs::Weights::drains_onward))]
 pub fn direction(around: &Around) -> Code
     requires { IsFitting around.now }

@@ -1,6 +1,7 @@
 //! The codes of a tile's cells.
 //!
-//! The grid's outermost cells take theirs by [`Around`](crate::Around), the others by `amid`.
+//! Cells in the grid's outermost rows and columns go through [`Around`](crate::Around), others
+//! through `interior`.
 ghost use Rattle.std.specs.Prelude.{◌≡◌, ◌+◌, ◌*◌, ◌<◌, Some, None, length, OnOk, IfOk};
 ghost use Rattle.std.specs.Option.{option_zip};
 ghost use Rattle.terrain.specs.Raster.{IsTerrain};
@@ -12,16 +13,16 @@ ghost use Rattle.drain.specs.Beginning.{IsOutermost, IsPartOf};
 ghost use Rattle.drain.specs.Fitting.{IsAround};
 ghost use Rattle.tile_maps.specs.Maps.{AreMadeBelow};
 
-use crate::amid::code_amid;
 use crate::around::Around;
 use crate::beginning::is_outermost;
+use crate::interior::interior_code;
 use crate::steepness::direction;
 use drainage::{Code, StepCount};
 use std::alloc::{AllocError, Global};
 use terrain::{Grid, Height, Place, place_on};
 use tiles::Bounds;
 
-/// Filled height and steps of the cell that lies one way from a place, where that is one of the grid's with data.
+/// Returns height and steps of the data cell on `way`, `None` if there is none.
 #[inline(always)]
 fn entry_on(grid: &Grid, steps: &[StepCount], way: usize, place: Place) -> Option<(Height, u32)>
     requires size { length steps.now ≡ grid.now.terrain.cols * grid.now.terrain.rows }
@@ -42,7 +43,7 @@ fn entry_on(grid: &Grid, steps: &[StepCount], way: usize, place: Place) -> Optio
     }
 }
 
-/// What stands around a data cell of the first or last row or column, which is an edge cell.
+/// Returns the surroundings of a data cell of an outermost row or column.
 #[inline(always)]
 fn around(grid: &Grid, steps: &[StepCount], place: Place, level: Height, own: u32) -> Around
     requires size { length steps.now ≡ grid.now.terrain.cols * grid.now.terrain.rows }
@@ -70,7 +71,7 @@ fn around(grid: &Grid, steps: &[StepCount], place: Place, level: Height, own: u3
     }
 }
 
-/// The code of a data cell of the first or last row or column.
+/// Returns the code of a data cell of an outermost row or column.
 #[inline(never)]
 #[tactic(auto, using(crate::proofs::Laid::fitting))]
 fn code_outermost(grid: &Grid, steps: &[StepCount], place: Place, level: Height, own: u32) -> Code
@@ -85,7 +86,7 @@ fn code_outermost(grid: &Grid, steps: &[StepCount], place: Place, level: Height,
     direction(&around(grid, steps, place, level, own))
 }
 
-/// The code of a cell, None where there is no data.
+/// Returns the code of a cell, `None` where there is no data.
 #[inline(always)]
 fn code_at(grid: &Grid, steps: &[StepCount], place: Place) -> Option<Code>
     requires lawful { IsTerrain grid.now.terrain }
@@ -100,10 +101,10 @@ fn code_at(grid: &Grid, steps: &[StepCount], place: Place) -> Option<Code>
     if is_outermost(grid, place) {
         return Some(code_outermost(grid, steps, place, level, own));
     }
-    Some(code_amid(grid, steps, place, level, own))
+    Some(interior_code(grid, steps, place, level, own))
 }
 
-/// The codes of one row of a tile.
+/// Appends the codes of one row of a tile.
 fn codes_along(
     grid: &Grid,
     steps: &[StepCount],
@@ -115,8 +116,10 @@ fn codes_along(
     requires steps { AreSteps grid.now.terrain steps.now }
     requires inside { IsPartOf grid.now.terrain bounds }
     requires row { row < bounds.rows }
-    requires codes { AreMadeBelow bounds (IsCodeAt grid.now.terrain) (row * bounds.cols) codes.old.items }
-    ensures { OnOk result (AreMadeBelow bounds (IsCodeAt grid.now.terrain) ((row + 1) * bounds.cols) codes.new.items) }
+    requires codes { AreMadeBelow bounds (IsCodeAt grid.now.terrain) (row * bounds.cols)
+        codes.old.items }
+    ensures { OnOk result (AreMadeBelow bounds (IsCodeAt grid.now.terrain) ((row + 1) * bounds.cols)
+        codes.new.items) }
 {
     for col in 0..bounds.cols {
         let place = Place {
@@ -128,7 +131,7 @@ fn codes_along(
     Ok(())
 }
 
-/// The codes of a tile's cells, in its row order.
+/// Returns the codes of a tile's cells, in row order.
 pub(crate) fn codes_of_tile(
     alloc: Global,
     grid: &Grid,
@@ -138,7 +141,8 @@ pub(crate) fn codes_of_tile(
     requires lawful { IsTerrain grid.now.terrain }
     requires steps { AreSteps grid.now.terrain steps.now }
     requires inside { IsPartOf grid.now.terrain bounds }
-    ensures { IfOk result (λ codes. AreMadeBelow bounds (IsCodeAt grid.now.terrain) (bounds.rows * bounds.cols) codes.items) }
+    ensures { IfOk result (λ codes. AreMadeBelow bounds (IsCodeAt grid.now.terrain)
+        (bounds.rows * bounds.cols) codes.items) }
 {
     let mut codes = Vec::with_capacity(alloc, bounds.rows as usize * bounds.cols as usize)?;
     for row in 0..bounds.rows {

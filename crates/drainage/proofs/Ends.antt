@@ -1,4 +1,4 @@
--- Where the pair of filled height and steps falls along each code, every flow path ends.
+-- Every flow path ends, if height or steps fall along each code.
 use Rattle.std.proofs.Common.{◌≡◌, ◌≢◌, ℕ, zero, suc, ◌+◌, ◌<◌, ◌≤◌, ◌<ℤ◌, true, ◌⊎◌, inl, inr, Option, None, Some, is_some, unwrap_or, pos, sym, ap, subst, refl, ◌∙◌, arith}
 use Rattle.std.proofs.lemmas.Int.{ints}
 use Rattle.std.proofs.lemmas.Bool.{cases_eq}
@@ -14,7 +14,7 @@ use Rattle.drainage.proofs.Pigeonhole.{pigeonhole}
 abbrev steps_in : Drained → Place → Option ℕ
 steps_in d p = entry_at d.terrain.cols d.terrain.rows d.steps p
 
--- the pair of height and steps is lower at q
+-- `q` is lower than `p`, or as high with fewer steps
 IsBelow : Drained → Place → Place → Type 0
 IsBelow d p q = (height_of d.terrain q <ℤ height_of d.terrain p)
     ⊎ ((height_of d.terrain q ≡ height_of d.terrain p) × (unwrap_or (steps_in d q) 0 < unwrap_or (steps_in d p) 0))
@@ -40,15 +40,15 @@ unfolding IsBelow
 is_below d p q a b (inl f) = inl f
 is_below d p q a b (inr f) = inr (ap (λ h. unwrap_or h (pos 0)) f.0, f.1 (unwrap_or (steps_in d p) 0) (unwrap_or (steps_in d q) 0) (some_of _ 0 a) (some_of _ 0 b))
 
--- the code of a data cell, along the path
+-- the cell has a code
 IsCoded : Drained → Place → Type 0
 IsCoded d p = (code : ℕ) × (code_at (directed_of d) p ≡ Some code)
 
 outlet_stays : (d : Drained) (p : Place) → IsOutlet (directed_of d) p → next (directed_of d) p ≡ p
 outlet_stays d p e = ap (λ (o : Option ℕ). unwrap_or (option_and_then (λ code. place_toward code p) o) p) e
 
-goes_on : (d : Drained) (p q : Place) (code : ℕ) → code_at (directed_of d) p ≡ Some code → place_toward code p ≡ Some q → next (directed_of d) p ≡ q
-goes_on d p q code e toward = ap (λ (o : Option ℕ). unwrap_or (option_and_then (λ code. place_toward code p) o) p) e ∙ ap (λ (o : Option Place). unwrap_or o p) toward
+next_is : (d : Drained) (p q : Place) (code : ℕ) → code_at (directed_of d) p ≡ Some code → place_toward code p ≡ Some q → next (directed_of d) p ≡ q
+next_is d p q code e toward = ap (λ (o : Option ℕ). unwrap_or (option_and_then (λ code. place_toward code p) o) p) e ∙ ap (λ (o : Option Place). unwrap_or o p) toward
 
 coded_from : (d : Drained) → IsDraining d → (p : Place) → IsDataCell d.terrain p → IsCoded d p
 unfolding IsCoded
@@ -61,12 +61,12 @@ data_from : (d : Drained) → IsDraining d → (p : Place) → IsCoded d p → I
 unfolding IsCoded
 data_from d lawful p c = sym (lawful.same_data p) ∙ ap is_some c.1
 
--- where a cell is no outlet, its water goes on to a data cell below it
+-- the next cell of a cell that is no outlet is a data cell below it
 next_is_below : (d : Drained) → IsDraining d → (p : Place) → IsCoded d p → (IsOutlet (directed_of d) p → ⊥) → IsDataCell d.terrain (next (directed_of d) p) × IsBelow d p (next (directed_of d) p)
 unfolding IsCoded
 next_is_below d lawful p c none_here =
     let onward = lawful.leads p c.0 c.1 (λ zero_code. none_here (c.1 ∙ ap Some zero_code)) in
-    let to = sym (goes_on d p onward.0 c.0 c.1 onward.1) in (
+    let to = sym (next_is d p onward.0 c.0 c.1 onward.1) in (
       subst (λ (q : Place). IsDataCell d.terrain q) to onward.2,
       subst (λ (q : Place). IsBelow d p q) to
           (is_below d p onward.0 (stepped_from d lawful p (data_from d lawful p c)) (stepped_from d lawful onward.0 onward.2) onward.3),
@@ -88,7 +88,7 @@ coded_along d lawful p c (suc k) =
       | inr none_here ↦ coded_from d lawful (next (directed_of d) (follow (directed_of d) p k)) (next_is_below d lawful (follow (directed_of d) p k) here none_here).0
     ]
 
--- an outlet that was reached stays
+-- a path that has reached an outlet stays there
 ends_by : (d : Drained) (p : Place) (k m : ℕ) → k ≤ m → IsOutlet (directed_of d) (follow (directed_of d) p k) → IsOutlet (directed_of d) (follow (directed_of d) p m)
 ends_by d p k zero le out = let none : k ≡ 0 = omega arith in subst (λ (j : ℕ). IsOutlet (directed_of d) (follow (directed_of d) p j)) none out
 ends_by d p k (suc m) le out = elim (cases_eq k (suc m)) [
@@ -97,7 +97,7 @@ ends_by d p k (suc m) le out = elim (cases_eq k (suc m)) [
       ap (code_at (directed_of d)) (outlet_stays d (follow (directed_of d) p m) before) ∙ before)
 ]
 
--- with no outlet on the way, later cells are below earlier ones
+-- before an outlet is reached, later cells are below earlier ones
 below_along : (d : Drained) → IsDraining d → (p : Place) → IsCoded d p → (i j : ℕ) → i < j → ((k : ℕ) → k < j → IsOutlet (directed_of d) (follow (directed_of d) p k) → ⊥) → IsBelow d (follow (directed_of d) p i) (follow (directed_of d) p j)
 below_along d lawful p c i zero lt none_here = absurd (omega arith)
 below_along d lawful p c i (suc j) lt none_here =
@@ -107,7 +107,7 @@ below_along d lawful p c i (suc j) lt none_here =
       | inr ne ↦ below_trans d _ _ _ (below_along d lawful p c i j (omega arith) (λ k h. none_here k (omega arith))) last
     ]
 
--- an outlet comes before so many moves, or none does
+-- an outlet is reached in fewer than n moves, or it is not
 cases_reached : (d : Drained) → IsDraining d → (p : Place) → IsCoded d p → (n : ℕ) →
     ((k : ℕ) × (k < n) × IsOutlet (directed_of d) (follow (directed_of d) p k)) ⊎ ((k : ℕ) → k < n → IsOutlet (directed_of d) (follow (directed_of d) p k) → ⊥)
 cases_reached d lawful p c zero = inr (λ k h _. omega arith)

@@ -14,29 +14,29 @@ use Rattle.terrain.proofs.Places.{make_place}
 use Rattle.drainage.proofs.Heights.{first_is_data, height_below_crest}
 use Rattle.drainage.proofs.Reach.{field, any_place, data_inside, is_data, reaches, IsStable, HasLowPath, reaches_true, reaches_more, true_reaches}
 
--- one that passes the first test passes the second
+-- a second test that the first implies, split by the first
 one_more : (a b : Bool) → (a ≡ true → b ≡ true) → cond b 1 0 ≡ cond a 1 0 + cond (b && not a) 1 0
 one_more true true h = refl
 one_more true false h = let e = h refl in absurd (cc)
 one_more false true h = refl
 one_more false false h = refl
 
-counted : (P : Place → Bool) (x : Place) (xs : List Place) → count_by P (x ∷ xs) ≡ cond (P x) 1 0 + count_by P xs
-counted P x xs = sum_by-cons (λ y. cond (P y) 1 0) x xs
+count_by_cons : (P : Place → Bool) (x : Place) (xs : List Place) → count_by P (x ∷ xs) ≡ cond (P x) 1 0 + count_by P xs
+count_by_cons P x xs = sum_by-cons (λ y. cond (P y) 1 0) x xs
 
--- those that pass the second test are those that pass the first, and some more
+-- the places that pass Q are those that pass P and those that pass Q alone, where P implies Q
 count_split : (P Q : Place → Bool) → ((q : Place) → P q ≡ true → Q q ≡ true) → (xs : List Place) → count_by Q xs ≡ count_by P xs + count_by (λ q. Q q && not (P q)) xs
 count_split P Q w [] = refl
-count_split P Q w (x ∷ xs) = omega (arith, counted P x xs, counted Q x xs, counted (λ q. Q q && not (P q)) x xs, one_more (P x) (Q x) (w x), count_split P Q w xs)
+count_split P Q w (x ∷ xs) = omega (arith, count_by_cons P x xs, count_by_cons Q x xs, count_by_cons (λ q. Q q && not (P q)) x xs, one_more (P x) (Q x) (w x), count_split P Q w xs)
 
 some_counted : (P : Place → Bool) (xs : List Place) → list_any P xs ≡ true → 0 < count_by P xs
 some_counted P [] any = absurd (cc)
 some_counted P (x ∷ xs) any = elim (or_cases (P x) (list_any P xs) any) [
-  | inl here ↦ let one = ap (λ (b : Bool). cond {A = ℕ} b 1 0) here in omega (arith, counted P x xs, one)
-  | inr later ↦ omega (arith, counted P x xs, some_counted P xs later)
+  | inl here ↦ let one = ap (λ (b : Bool). cond {A = ℕ} b 1 0) here in omega (arith, count_by_cons P x xs, one)
+  | inr later ↦ omega (arith, count_by_cons P x xs, some_counted P xs later)
 ]
 
--- a step at which nothing more is reached
+-- if one more step reaches no more cells, the reached cells are stable
 stable_at : (t : Terrain) (c : ℤ) (k : ℕ) → count_by (reaches t c (suc k)) (field t) ≤ count_by (reaches t c k) (field t) → IsStable t c k
 stable_at t c k h p more = elim (cases_Bool (reaches t c k p)) [
   | inl reached ↦ reached
@@ -56,7 +56,7 @@ find_stable t c (suc n) k h = elim (cases_lt (count_by (reaches t c k) (field t)
   | inr same ↦ (k, stable_at t c k same)
 ]
 
--- a path that isn't above c, or none
+-- a cell has a path with a crest of at most c, or it has none
 decide_low : (t : Terrain) (c : ℤ) (p : Place) → HasLowPath t c p ⊎ (HasLowPath t c p → ⊥)
 decide_low t c p =
     let s = find_stable t c (length (field t)) 0 (omega arith) in
@@ -65,14 +65,14 @@ decide_low t c p =
       | inr not_reached ↦ inr (λ path. both_ways (reaches t c s.0 p) not_reached (true_reaches t c s.0 s.1 p path.0 path.1 path.2))
     ]
 
--- to the west there is a path
-west : (t : Terrain) (r c : ℕ) → IsDataCell t (make_place r c) → (rest : List Place) × IsPath t (make_place r c) rest
-west t r zero h = ([], inl (h, inr (inl refl)))
-west t r (suc c) h =
+-- each data cell has a path, straight west to an edge cell
+path_west : (t : Terrain) (r c : ℕ) → IsDataCell t (make_place r c) → (rest : List Place) × IsPath t (make_place r c) rest
+path_west t r zero h = ([], inl (h, inr (inl refl)))
+path_west t r (suc c) h =
     let touch : Touches (make_place r (suc c)) (make_place r c) = record { row_down = omega arith; row_up = omega arith; col_right = omega arith; col_left = omega arith } in
     elim (cases_Bool (is_data t (make_place r c))) [
       | inl seen ↦
-          let more = west t r c seen in
+          let more = path_west t r c seen in
           let next : IsNeighbour t (make_place r (suc c)) (make_place r c) = record {
             different = λ e. apart c (ap (λ (q : Place). q.col) e);
             touches = touch;
@@ -85,7 +85,6 @@ west t r (suc c) h =
       apart : (c : ℕ) → suc c ≡ c → ⊥
       apart c e = omega arith
 
--- below or not below
 less : (x y : ℤ) → (x ≤ℤ (y -ℤ pos 1)) ⊎ (y ≤ℤ x)
 less x y = grind (arith, ints)
 
@@ -95,17 +94,17 @@ not_less t p c none rest path = elim (less (crest t p rest) c) [
   | inr e ↦ e
 ]
 
--- the least crest, from one that isn't so far above the cell
-descend : (t : Terrain) (p : Place) (n : ℕ) (rest : List Place) → IsPath t p rest → crest t p rest ≤ℤ (height_of t p +ℤ pos n) → (level : ℤ) × IsFilledHeight t p level
-descend t p zero rest path low = (
+-- the least crest, searched down from a crest at most n above the cell
+least_crest : (t : Terrain) (p : Place) (n : ℕ) (rest : List Place) → IsPath t p rest → crest t p rest ≤ℤ (height_of t p +ℤ pos n) → (level : ℤ) × IsFilledHeight t p level
+least_crest t p zero rest path low = (
   crest t p rest,
   record {
     reached = (rest, path, refl);
     least = λ w _. trans (crest t p rest) (height_of t p) (crest t p w) (omega (arith, ints, low)) (height_below_crest t p w);
   },
 )
-descend t p (suc n) rest path low = elim (decide_low t (crest t p rest -ℤ pos 1) p) [
-  | inl found ↦ descend t p n found.0 found.1 (omega (arith, ints, found.2, low))
+least_crest t p (suc n) rest path low = elim (decide_low t (crest t p rest -ℤ pos 1) p) [
+  | inl found ↦ least_crest t p n found.0 found.1 (omega (arith, ints, found.2, low))
   | inr none ↦ (crest t p rest, record { reached = (rest, path, refl); least = not_less t p (crest t p rest) none })
 ]
 
@@ -117,5 +116,5 @@ within (negsuc a) (negsuc b) = omega (arith, ints)
 
 pub filled_height : (t : Terrain) (p : Place) → IsDataCell t p → (level : ℤ) × IsFilledHeight t p level
 filled_height t p h =
-    let w = west t p.row p.col h in
-    descend t p (unsigned_abs (crest t p w.0) + unsigned_abs (height_of t p)) w.0 w.1 (within (crest t p w.0) (height_of t p))
+    let w = path_west t p.row p.col h in
+    least_crest t p (unsigned_abs (crest t p w.0) + unsigned_abs (height_of t p)) w.0 w.1 (within (crest t p w.0) (height_of t p))

@@ -1,12 +1,12 @@
--- filled heights: one, those of the terrain, filled once and for all, and there at each cell
+-- filled heights: unique, heights of the terrain, stable under filling, and existing
 pub mod Uniqueness
 pub mod Heights
 pub mod FilledTwice
 pub mod Reach
 pub mod FilledExists
--- what a stored number of steps gives back
+-- stored numbers of steps, read back
 pub mod ToldCounts
--- codes and their ways
+-- codes and their directions
 pub mod Codes
 -- flow paths end
 pub mod Pigeonhole

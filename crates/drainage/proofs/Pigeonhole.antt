@@ -1,4 +1,4 @@
--- No more different numbers stand below a number than that.
+-- At most n different numbers are below n.
 use Rattle.std.proofs.Common.{◌≡◌, ◌≢◌, ℕ, ◌<◌, ◌≤◌, true, eqb, List, map, get_or, sym, ◌∙◌, arith}
 use Rattle.std.specs.List.{range_with_len, list_any}
 use Rattle.std.specs.Cmp.{nat_eq_equiv}

@@ -1,4 +1,4 @@
--- Which cells reach an end cell without passing a height: a test.
+-- A test whether a cell has a path to an end cell with a crest of at most c.
 use Rattle.std.proofs.Common.{◌≡◌, ℕ, zero, suc, ◌+◌, ◌*◌, ◌/◌, ◌%◌, ◌<◌, Bool, true, not, ◌&&◌, ◌||◌, leb, List, [], ◌∷◌, map, is_some, ℤ, ◌≤ℤ◌, ap, ◌∙◌, arith, inl, inr}
 use Rattle.std.specs.Prelude.{◌==◌, int_le}
 use Rattle.std.specs.List.{list_any, range_with_len}
@@ -16,7 +16,7 @@ use Rattle.terrain.proofs.Places.{make_place, same_place, index_below, inside_fr
 use Rattle.terrain.proofs.Listed.{place_is, is_place_from, listed_from_any, any_from_listed}
 use Rattle.drainage.proofs.Heights.{known, first_is_data}
 
--- the places of a field
+-- the places of the grid, and of one more row and column: the field
 abbrev pub place_at : ℕ → ℕ → Place
 place_at cols n = make_place (n / cols) (n % cols)
 
@@ -26,7 +26,7 @@ all_places cols rows = map (place_at cols) (range_with_len 0 (cols * rows))
 abbrev pub field : Terrain → List Place
 field t = all_places (t.cols + 1) (t.rows + 1)
 
--- where a place of a list passes a test
+-- a search of all places finds one that passes the test
 pub any_place : (P : Place → Bool) (cols rows : ℕ) (q : Place) → q.row < rows → q.col < cols → P q ≡ true → list_any P (all_places cols rows) ≡ true
 any_place P cols rows q a b k =
     let below = index_below cols rows q a b in
@@ -40,17 +40,16 @@ any_found P xs h = let any = Any-from_list_any P xs h in (any.1, any.4)
 pub any_weaker : (P Q : Place → Bool) → ((q : Place) → P q ≡ true → Q q ≡ true) → (xs : List Place) → list_any P xs ≡ true → list_any Q xs ≡ true
 any_weaker P Q w xs h = let any = Any-from_list_any P xs h in list_any-from_Any Q xs (any.0, any.1, any.2, any.3, w any.1 any.4)
 
--- a data cell is inside
 pub data_inside : (t : Terrain) (p : Place) → IsDataCell t p → (p.row < t.rows) × (p.col < t.cols)
 data_inside t p h = inside_from_entry t.cols t.rows t.cells p (height_of t p) (known (height_at t p) h)
 
--- what touches a data cell is in the field
+-- a search of the field finds each place that touches a data cell
 pub any_touching : (t : Terrain) (P : Place → Bool) (p q : Place) → IsDataCell t p → Touches p q → P q ≡ true → list_any P (field t) ≡ true
 any_touching t P p q h touch k =
     let inside = data_inside t p h in
     any_place P (t.cols + 1) (t.rows + 1) q (omega (arith, touch.row_down, inside.0)) (omega (arith, touch.col_right, inside.1)) k
 
--- tests of neighbours and of end cells
+-- tests for data cells, neighbours and end cells
 abbrev pub is_data : Terrain → Place → Bool
 is_data t p = is_some (height_at t p)
 
@@ -126,11 +125,11 @@ pub true_end : (t : Terrain) (p : Place) → IsEnd t p → is_end_cell t p ≡ t
 true_end t p (inl edge) = and_from (is_data t p) _ edge.0 (or_left (has_gap t p) _ (true_gap t p edge.0 edge.1))
 true_end t p (inr sink) = and_from (is_data t p) _ sink.0 (or_right (has_gap t p) _ (any_from_listed p t.sinks sink.1))
 
--- the cell is a data cell that isn't above c
+-- a data cell at or below c
 abbrev pub is_low : Terrain → ℤ → Place → Bool
 is_low t c p = is_data t p && int_le (height_of t p) c
 
--- in so many steps at most the cell reaches an end cell over cells that aren't above c
+-- the cell reaches an end cell in at most k steps over cells at or below c
 abbrev pub reaches : Terrain → ℤ → ℕ → Place → Bool
 reaches t c zero p = is_low t c p && is_end_cell t p
 reaches t c (suc k) p = is_low t c p && (is_end_cell t p || list_any (λ q. is_next t p q && reaches t c k q) (field t))
@@ -141,7 +140,7 @@ le_true x y h = grind (arith, h)
 true_le : (x y : ℤ) → x ≤ℤ y → int_le x y ≡ true
 true_le x y h = grind (arith, h)
 
--- a path that isn't above c
+-- a path with a crest of at most c
 abbrev pub HasLowPath : Terrain → ℤ → Place → Type 0
 HasLowPath t c p = (rest : List Place) × IsPath t p rest × (crest t p rest ≤ℤ c)
 
@@ -164,7 +163,7 @@ reaches_true t c (suc k) p h =
           )
     ]
 
--- a step more reaches no less
+-- one more step keeps every cell reached
 pub reaches_more : (t : Terrain) (c : ℤ) (k : ℕ) (p : Place) → reaches t c k p ≡ true → reaches t c (suc k) p ≡ true
 reaches_more t c zero p h =
     let a = and_parts (is_low t c p) (is_end_cell t p) h in
@@ -184,7 +183,7 @@ reaches_end : (t : Terrain) (c : ℤ) (k : ℕ) (p : Place) → is_low t c p ≡
 reaches_end t c zero p low e = and_from (is_low t c p) (is_end_cell t p) low e
 reaches_end t c (suc k) p low e = and_from (is_low t c p) (is_end_cell t p || list_any (λ q. is_next t p q && reaches t c k q) (field t)) low (or_left (is_end_cell t p) (list_any (λ q. is_next t p q && reaches t c k q) (field t)) e)
 
--- no cell more is reached by a step more
+-- one more step reaches no more cells
 abbrev pub IsStable : Terrain → ℤ → ℕ → Type 0
 IsStable t c k = (p : Place) → reaches t c (suc k) p ≡ true → reaches t c k p ≡ true
 

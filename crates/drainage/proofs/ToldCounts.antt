@@ -1,4 +1,4 @@
--- What a stored number of steps gives back.
+-- Stored numbers of steps, read back.
 use Rattle.std.proofs.Common.{◌≡◌, ℕ, ◌≤◌, ◌<◌, None, Some, unwrap_or, ap}
 use Rattle.std.proofs.lemmas.Bool.{cond-true, cond-false, lt-ltb, le-ltb}
 use Rattle.drainage.specs.StepCounts.{known, no_count}
@@ -10,6 +10,6 @@ known-some n less = cond-true _ _ _ (lt-ltb _ _ less)
 pub known-none : (n : ℕ) → no_count ≤ n → known n ≡ None
 known-none n more = cond-false _ _ _ (le-ltb _ _ more)
 
--- the law of `StepCount`'s view
+-- the inverse law of the view of `StepCount`
 pub known_number : (n : ℕ) → n ≤ no_count → unwrap_or (known n) no_count ≡ n
 known_number n few = ap (λ c. c.number) (the_inverse_ok (record { number = n }) few)

@@ -1,4 +1,4 @@
--- Least values are one.
+-- A cell has at most one filled height.
 use Rattle.std.proofs.Common.{◌≡◌, ℤ, ◌≤ℤ◌, subst, arith}
 use Rattle.terrain.specs.Raster.{Terrain}
 use Rattle.drainage.specs.Filled.{IsFilledHeight}

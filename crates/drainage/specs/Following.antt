@@ -1,29 +1,31 @@
--- Where water goes from a cell, move by move. A map of directions is a list of codes in row order.
+-- Flow paths: the cells met by following directions, up to an outlet.
 -- Source: Jenson and Domingue (1988).
+-- Trust base.
 use Rattle.std.specs.Prelude.{◌≡◌, ℕ, zero, suc, ◌*◌, List, Option, Some, unwrap_or, option_and_then}
 use Rattle.terrain.specs.Neighbours.{entry_at}
 use Rattle.terrain.specs.Ways.{place_toward}
 use Rattle.terrain.specs.declared.place.Place.{Place}
 
--- Codes in rows and columns; None where there is no data.
+-- A map of directions: a list of codes in row order, `None` where there is no data.
 pub record Directed : Type 0 where
   pub cols : ℕ
   pub rows : ℕ
   pub codes : List (Option ℕ)
 
+-- The code at a place; `None` outside the grid and where there is no data.
 abbrev pub code_at : Directed → Place → Option ℕ
 code_at d p = entry_at d.cols d.rows d.codes p
 
--- The cell to which the direction of a cell points; an outlet's water stays.
+-- The cell that a cell's direction points to; an outlet's next cell is itself.
 abbrev pub next : Directed → Place → Place
 next d p = unwrap_or (option_and_then (λ code. place_toward code p) (code_at d p)) p
 
--- The cell after so many moves.
+-- The cell reached from p after so many moves.
 abbrev pub follow : Directed → Place → ℕ → Place
 follow d p zero = p
 follow d p (suc k) = next d (follow d p k)
 
--- No flow path is longer than the grid has cells.
+-- A number of moves that is enough to end each flow path: the number of cells.
 abbrev pub moves : Directed → ℕ
 moves d = d.cols * d.rows
 
@@ -31,6 +33,7 @@ moves d = d.cols * d.rows
 abbrev pub last_of : Directed → Place → Place
 last_of d p = follow d p (moves d)
 
+-- The cell has code 0, of an outlet.
 abbrev pub IsOutlet : Directed → Place → Type 0
 IsOutlet d p = code_at d p ≡ Some 0
 

@@ -1,11 +1,11 @@
-//! One of the nine codes: a direction or an outlet.
+//! A direction code: one of eight directions, or an outlet.
 ghost use Rattle.std.specs.Prelude.{◌≡◌, ◌<◌, IfSome, Some};
 ghost use Rattle.terrain.specs.Ways.{code_of, way_of};
 ghost use Rattle.drainage.specs.CodeNumber.{IsCode};
 
 use std::marker::Model;
 
-/// One of the nine codes: 0 for an outlet, and E 1, SE 2, S 4, SW 8, W 16, NW 32, N 64, NE 128.
+/// A D8 code: E 1, SE 2, S 4, SW 8, W 16, NW 32, N 64, NE 128; an outlet has 0.
 #[derive(Clone, Copy, Debug, PartialEq, Eq)]
 pub struct Code {
     number: u8,
@@ -24,11 +24,11 @@ impl Model for Code {
     ghost inverse = { λ n. record { number = n } };
 }
 
-/// The codes of the eight ways, in their order.
+/// The codes of the eight directions, in the order of their numbers.
 const WAY_CODES: [u8; 8] = [1, 2, 4, 8, 16, 32, 64, 128];
 
 impl Code {
-    /// The code of an outlet.
+    /// Returns the code of an outlet, 0.
     #[inline(always)]
     pub fn outlet() -> Code
         ensures { result ≡ 0 }
@@ -36,7 +36,7 @@ impl Code {
         Code { number: 0 }
     }
 
-    /// The code of a way, counted from 0 in the order of the codes.
+    /// Returns the code of direction `way`, from 0 for E to 7 for NE.
     #[inline(always)]
     pub fn of_way(way: usize) -> Code
         requires { way < 8 }
@@ -47,7 +47,7 @@ impl Code {
         }
     }
 
-    /// The way whose code this is, counted from 0 in the order of the codes. None of an outlet.
+    /// Returns the direction, from 0 for E to 7 for NE, or `None` for an outlet.
     #[inline(always)]
     pub fn way(&self) -> Option<usize>
         ensures value { result ≡ way_of self.now }
@@ -59,6 +59,7 @@ impl Code {
         Some(self.number.trailing_zeros() as usize)
     }
 
+    /// Returns the code as a number.
     #[inline(always)]
     pub fn number(&self) -> u8
         ensures value { result ≡ self.now }

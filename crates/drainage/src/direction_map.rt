@@ -1,6 +1,4 @@
 //! A map of directions: the code of each cell.
-//!
-//! Its filled heights and steps, along which each flow path falls, are ghosts.
 ghost use Rattle.std.specs.Prelude.{◌≡◌};
 ghost use Rattle.terrain.specs.Neighbours.{IsInside};
 ghost use Rattle.drainage.specs.Drained.{IsDraining, directed_of};
@@ -12,8 +10,8 @@ use std::marker::Model;
 use std::snapshot::Snapshot;
 use terrain::{Grid, Place};
 
-/// The direction of each cell. Along each code but 0 the pair of filled height and steps falls: clauses see these, and
-/// only the codes are kept.
+/// The code of each cell of a grid, with its filled heights and steps as ghosts.
+/// Along each code but 0 the height falls, or it stays and the steps fall.
 #[derive(Drop)]
 pub struct Directions {
     cols: u32,
@@ -28,18 +26,34 @@ impl Model for Directions {
 
     ghost Value = { Drained };
 
-    ghost view = { λ d. record { terrain = d.grid.value.terrain; steps = d.steps.value.items; codes = d.codes.items } };
+    ghost view = { λ d. record {
+      terrain = d.grid.value.terrain;
+      steps = d.steps.value.items;
+      codes = d.codes.items;
+    } };
 
     ghost invariant = { λ d. (d.cols ≡ d.grid.value.terrain.cols)
-        × IsDraining (record { terrain = d.grid.value.terrain; steps = d.steps.value.items; codes = d.codes.items }) };
+        × IsDraining (record {
+          terrain = d.grid.value.terrain;
+          steps = d.steps.value.items;
+          codes = d.codes.items;
+        }) };
 }
 
 impl Directions {
-    /// Takes over the codes of a filled grid, row by row. Its steps are told, and may be gone by then: the pair of height and
-    /// steps falls along each code.
+    /// Makes a map of the codes of a filled grid, in row order.
+    /// `steps` is a ghost copy: the list itself may be freed before.
     pub fn new(grid: &Grid, steps: Snapshot<Vec<StepCount>>, codes: Vec<Option<Code>>) -> Self
-        requires { IsDraining (record { terrain = grid.now.terrain; steps = steps.value.items; codes = codes.items }) }
-        ensures { result ≡ record { terrain = grid.now.terrain; steps = steps.value.items; codes = codes.items } }
+        requires { IsDraining (record {
+          terrain = grid.now.terrain;
+          steps = steps.value.items;
+          codes = codes.items;
+        }) }
+        ensures { result ≡ record {
+          terrain = grid.now.terrain;
+          steps = steps.value.items;
+          codes = codes.items;
+        } }
     {
         Directions {
             cols: grid.cols(),
@@ -49,7 +63,7 @@ impl Directions {
         }
     }
 
-    /// The code at a place of the grid, None where there is no data.
+    /// Returns the code at `place`, or `None` if the cell has no data.
     #[inline(always)]
     pub fn code(&self, place: Place) -> Option<Code>
         requires { IsInside self.now.terrain place }
@@ -59,7 +73,7 @@ impl Directions {
         self.codes[place.index_in(self.cols)]
     }
 
-    /// The codes of all cells, in row order.
+    /// Returns the codes of all cells, in row order.
     #[inline(always)]
     pub fn codes(&self) -> &[Option<Code>]
         ensures value { result.now ≡ self.now.codes }

@@ -1,11 +1,11 @@
-//! A grid that needs no filling: [`Filled`].
+//! Filled grids: [`Filled`].
 ghost use Rattle.std.specs.Prelude.{◌≡◌};
 ghost use Rattle.drainage.specs.Filled.{IsOwnFilled};
 
 use std::marker::Model;
 use terrain::Grid;
 
-/// A grid whose filled heights are its own.
+/// A filled grid: the height of each cell is its filled height.
 #[derive(Drop)]
 pub struct Filled {
     grid: Grid,
@@ -23,7 +23,7 @@ impl Model for Filled {
 }
 
 impl Filled {
-    /// Takes over a grid in which each cell stands at its filled height.
+    /// Wraps a grid in which each cell has its filled height.
     pub fn from_grid(grid: Grid) -> Self
         requires { IsOwnFilled grid }
         ensures { result ≡ grid }
@@ -31,7 +31,7 @@ impl Filled {
         Filled { grid }
     }
 
-    /// The grid.
+    /// Returns the grid.
     pub fn grid(&self) -> &Grid
         ensures value { result.now ≡ self.now }
         ensures own { IsOwnFilled self.now }
@@ -39,7 +39,7 @@ impl Filled {
         &self.grid
     }
 
-    /// The grid, handed over.
+    /// Unwraps the grid.
     pub fn into_grid(self) -> Grid
         ensures { result ≡ self }
     {

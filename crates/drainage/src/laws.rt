@@ -1,4 +1,4 @@
-//! Facts of the definitions alone.
+//! Laws of the definitions of filled heights and flow paths.
 ghost use Rattle.std.specs.Prelude.{◌≡◌, ℤ, List, Option, Some, Contains};
 ghost use Rattle.terrain.specs.Raster.{Terrain, IsTerrain};
 ghost use Rattle.terrain.specs.Neighbours.{IsDataCell};
@@ -15,22 +15,25 @@ pub fn each_has_filled_height()
 /// A cell has at most one filled height.
 #[tactic(auto, using(crate::proofs::Uniqueness::one_filled_height))]
 pub fn filled_heights_are_one()
-    ensures { (t : Terrain) (p : Place) (l m : ℤ) → IsFilledHeight t p l → IsFilledHeight t p m → l ≡ m }
+    ensures { (t : Terrain) (p : Place) (l m : ℤ) → IsFilledHeight t p l → IsFilledHeight t p m →
+        l ≡ m }
 {}
 
-/// A filled height is a height of the terrain.
+/// A filled height is the height of some cell of the terrain.
 pub fn filled_heights_stand()
-    ensures { (t : Terrain) (p : Place) (level : ℤ) → IsFilledHeight t p level → Contains t.cells (Some level) }
+    ensures { (t : Terrain) (p : Place) (level : ℤ) → IsFilledHeight t p level →
+        Contains t.cells (Some level) }
 {}
 
-/// The filled heights of filled heights are their own.
+/// Filling a filled terrain changes nothing.
 #[tactic(auto, using(crate::proofs::FilledTwice::filled_twice))]
 pub fn filled_twice_is_filled()
-    ensures { (t : Terrain) (levels : List (Option ℤ)) → IsFilled t levels → IsFilled (record t { cells = levels }) levels }
+    ensures { (t : Terrain) (levels : List (Option ℤ)) → IsFilled t levels →
+        IsFilled (record t { cells = levels }) levels }
 {}
 
-/// Where the pair of filled height and steps falls along each code, every flow path ends at an
-/// outlet, and has no more cells than the grid.
+/// Every flow path ends at an outlet, if height or steps fall along each code.
+/// It ends within as many moves as the grid has cells.
 #[tactic(auto, using(crate::proofs::Ends::falling_ends))]
 pub fn falling_ends()
     ensures { (d : Drained) → IsTerrain d.terrain → IsDraining d → AllFlowEnds (directed_of d) }

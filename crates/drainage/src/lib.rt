@@ -1,15 +1,15 @@
-//! What the stages of drainage pass on: filled grids and maps of directions.
+//! The results that drainage stages pass on: filled grids and maps of directions.
 //!
-//! [`Filled`] is a grid whose filled heights are its own, [`Directions`] a map whose flow paths all
-//! end. `fill` makes the one, `drain` the other; `flow` and `relief` read them.
+//! In a [`Filled`] grid, each cell has its filled height. In [`Directions`], each flow path ends.
+//! `fill` makes filled grids, `drain` makes directions; `flow` and `relief` read them.
 //!
-//! Modules, from what is called to what it depends on:
+//! Modules, callers first:
 //!
-//! - `filled_grid`: a grid that needs no filling
+//! - `filled_grid`: a grid of filled heights
 //! - `direction_map`: the code of each cell
-//! - `code`: one of the nine codes
-//! - `step_count`: a number of steps or none
-//! - `laws`: facts of the definitions
+//! - `code`: a direction or an outlet
+//! - `step_count`: a number of steps, or unknown
+//! - `laws`: laws of the definitions
 #![tactic(auto)]
 
 mod code;

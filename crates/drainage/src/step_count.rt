@@ -1,14 +1,14 @@
-//! A number of steps of a flat, or none yet, in 4 bytes.
+//! A cell's steps in its flat, or unknown, in 4 bytes.
 ghost use Rattle.std.specs.Prelude.{◌≡◌, ◌≤◌, unwrap_or};
 ghost use Rattle.drainage.specs.StepCounts.{known, no_count};
 
 use std::marker::Model;
 
-/// Stands for a number of steps that is not known: greater than every number of steps.
+/// The stored number of unknown steps; greater than every number of steps.
 pub const NO_COUNT: u32 = 1 << 24;
 
-/// How many steps it is over level ground from a cell to where it drains, or that this is not known: in 4 bytes, where
-/// `Option<u32>` takes 8.
+/// The steps from a cell to one that drains at once, or unknown.
+/// Takes 4 bytes; an `Option<u32>` takes 8.
 #[derive(Clone, Copy, Debug)]
 pub struct StepCount {
     number: u32,
@@ -29,15 +29,17 @@ impl Model for StepCount {
 
     ghost inverse = { λ o. record { number = unwrap_or o no_count } };
 
-    ghost inverse_ok = { λ s few. ap (λ n. record { number = n }) (elim (cases_lt s.number no_count) [
-      | inl less ↦ ap (λ o. unwrap_or o no_count) (cond-true _ _ _ (lt-ltb _ _ less))
-      | inr more ↦
-          ap (λ o. unwrap_or o no_count) (cond-false _ _ _ (le-ltb _ _ more)) ∙ le_antisymm more few
-    ]) };
+    ghost inverse_ok = { λ s few.
+        ap (λ n. record { number = n }) (elim (cases_lt s.number no_count) [
+          | inl less ↦ ap (λ o. unwrap_or o no_count) (cond-true _ _ _ (lt-ltb _ _ less))
+          | inr more ↦
+              ap (λ o. unwrap_or o no_count) (cond-false _ _ _ (le-ltb _ _ more))
+              ∙ le_antisymm more few
+        ]) };
 }
 
 impl StepCount {
-    /// So many steps; [`NO_COUNT`] and more are not known.
+    /// Returns a count of `number` steps, unknown from [`NO_COUNT`] on.
     #[inline(always)]
     pub fn of(number: u32) -> StepCount
         ensures { result ≡ known number }
@@ -47,7 +49,7 @@ impl StepCount {
         }
     }
 
-    /// The number of steps, None where it is not known.
+    /// Returns the number of steps, or `None` if it is unknown.
     #[inline(always)]
     pub fn known(&self) -> Option<u32>
         ensures { result ≡ self.now }
@@ -59,7 +61,7 @@ impl StepCount {
         }
     }
 
-    /// The number of steps, [`NO_COUNT`] where it is not known.
+    /// Returns the number of steps, or [`NO_COUNT`] if it is unknown.
     #[inline(always)]
     pub fn number(&self) -> u32
         ensures value { result ≡ unwrap_or self.now no_count }

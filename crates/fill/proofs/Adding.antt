@@ -1,4 +1,4 @@
--- Joins that are added cell by cell.
+-- Adding joins cell by cell.
 use Rattle.std.proofs.Common.{◌≡◌, ◌≢◌, ◌==◌, ◌↔◌, Bool, ℕ, zero, suc, ◌+◌, ◌<◌, ◌⊎◌, inl, inr, ℤ, ◌≤ℤ◌, false, true, List, [], ◌∷◌, ◌++◌, length, get_or, set, Option, None, Some, ◌∙◌, sym, ap, subst, refl, arith}
 use Rattle.std.specs.Int.{int_max}
 use Rattle.std.specs.Int.Signed.{≤ℤ_refl}
@@ -14,23 +14,23 @@ use Rattle.terrain.specs.Ways.{before, place_if_both, place_on, ways_from}
 use Rattle.terrain.specs.declared.place.Place.{Place}
 use Rattle.terrain.proofs.EightWays.{Touches-from_ways}
 use Rattle.terrain.proofs.Places.{same_place}
-use Rattle.fill.specs.Gathering.{Marks, are_settled, Spared, IsSpared, Meets, IsPairFrom, IsBetween, IsLowBetween, IsPairOn, joins_of, Adds, AddsCovered, Covered, IsAfter}
+use Rattle.fill.specs.Gathering.{Marks, are_both_sources, Spared, IsSpared, Meets, IsPairFrom, IsBetween, IsLowBetween, IsPairOn, joins_of, Adds, AddsCovered, Covered, IsAfter}
 use Rattle.fill.specs.declared.spills.Join.{Join}
-use Rattle.fill.specs.declared.marks.Mark.{Mark}
+use Rattle.fill.specs.declared.marks.CellLabel.{CellLabel}
 use Rattle.floods.proofs.Heaps.{cons_head, cons_cases, one_held}
 
-abbrev join_between : Mark → Mark → Join
+abbrev join_between : CellLabel → CellLabel → Join
 join_between from to = record { from = from.node; to = to.node; height = int_max from.level to.level }
 
--- the join of two marks
-pub joins_of_apart : (sources : List (Option ℤ)) (from to : Mark) → from.node ≢ to.node → are_settled sources from.node to.node ≡ false → joins_of sources from (Some to) ≡ join_between from to ∷ []
+-- The joins of two marks.
+pub joins_of_apart : (sources : List (Option ℤ)) (from to : CellLabel) → from.node ≢ to.node → are_both_sources sources from.node to.node ≡ false → joins_of sources from (Some to) ≡ join_between from to ∷ []
 joins_of_apart sources from to differ apart = elim (cases_Bool (from.node == to.node)) [
   | inl same ↦ absurd (differ (eqb-true _ _ same))
   | inr other ↦ cond-false _ _ _ other ∙ cond-false _ _ _ apart
 ]
 
-pub joins_of_settled : (sources : List (Option ℤ)) (from to : Mark) → from.node ≢ to.node → are_settled sources from.node to.node ≡ true → joins_of sources from (Some to) ≡ []
-joins_of_settled sources from to differ settled = elim (cases_Bool (from.node == to.node)) [
+pub joins_of_two_sources : (sources : List (Option ℤ)) (from to : CellLabel) → from.node ≢ to.node → are_both_sources sources from.node to.node ≡ true → joins_of sources from (Some to) ≡ []
+joins_of_two_sources sources from to differ settled = elim (cases_Bool (from.node == to.node)) [
   | inl same ↦ absurd (differ (eqb-true _ _ same))
   | inr other ↦ cond-false _ _ _ other ∙ cond-true _ _ _ settled
 ]
@@ -38,12 +38,12 @@ joins_of_settled sources from to differ settled = elim (cases_Bool (from.node ==
 pub no_join : (j : Join) → Contains [] j → ⊥
 no_join j h = omega (arith, h.1)
 
-pub joins_of_is : (sources : List (Option ℤ)) (from : Mark) (o : Option Mark) (j : Join) → Contains (joins_of sources from o) j → (to : Mark) × (o ≡ Some to) × (from.node ≢ to.node) × (are_settled sources from.node to.node ≡ false) × (join_between from to ≡ j)
+pub joins_of_is : (sources : List (Option ℤ)) (from : CellLabel) (o : Option CellLabel) (j : Join) → Contains (joins_of sources from o) j → (to : CellLabel) × (o ≡ Some to) × (from.node ≢ to.node) × (are_both_sources sources from.node to.node ≡ false) × (join_between from to ≡ j)
 joins_of_is sources from None j h = absurd (no_join j h)
 joins_of_is sources from (Some to) j h = elim (cases_eq from.node to.node) [
   | inl same ↦ absurd (no_join j (subst (λ (z : List Join). Contains z j) (cond-true _ _ _ (eq-eqb _ _ same)) h))
-  | inr differ ↦ elim (cases_Bool (are_settled sources from.node to.node)) [
-    | inl settled ↦ absurd (no_join j (subst (λ (z : List Join). Contains z j) (joins_of_settled sources from to differ settled) h))
+  | inr differ ↦ elim (cases_Bool (are_both_sources sources from.node to.node)) [
+    | inl settled ↦ absurd (no_join j (subst (λ (z : List Join). Contains z j) (joins_of_two_sources sources from to differ settled) h))
     | inr apart ↦ elim (cons_cases _ [] j (subst (λ (z : List Join). Contains z j) (joins_of_apart sources from to differ apart) h)) [
       | inl same ↦ (to, refl, differ, apart, sym same)
       | inr none ↦ absurd (no_join j none)
@@ -51,15 +51,14 @@ joins_of_is sources from (Some to) j h = elim (cases_eq from.node to.node) [
   ]
 ]
 
--- a join covers itself
 pub covered_itself : (joins : List Join) (j : Join) → Contains joins j → Covered joins j
 covered_itself joins j h = (j, h, refl, refl, ≤ℤ_refl j.height)
 
--- what is covered stays so
+-- What is covered stays covered.
 covered_still : (now new : List Join) → ((j : Join) → Contains now j → Covered new j) → (j : Join) → Covered now j → Covered new j
 covered_still now new kept j c = let d = kept c.0 c.1 in (d.0, d.1, d.2 ∙ c.2, d.3 ∙ c.3, trans _ _ _ d.4 c.4)
 
--- a join that is added at the end
+-- A join pushed at the end has been added.
 pub adds_pushed : (old new : List Join) (j : Join) → new ≡ old ++ j ∷ [] → AddsCovered old (j ∷ []) new
 adds_pushed old new j is = subst (AddsCovered old (j ∷ [])) (sym is) (record {
   kept = λ k h. covered_itself _ k (Contains-append_left old (j ∷ []) k h);
@@ -67,7 +66,6 @@ adds_pushed old new j is = subst (AddsCovered old (j ∷ [])) (sym is) (record {
   every = λ k h. covered_itself _ k (Contains-append_right old (j ∷ []) k h);
 })
 
--- no join
 pub adds_nothing : (now none : List Join) → none ≡ [] → AddsCovered now none now
 adds_nothing now none is = subst (λ (z : List Join). AddsCovered now z now) (sym is) (record {
   kept = λ j h. covered_itself now j h;
@@ -75,7 +73,7 @@ adds_nothing now none is = subst (λ (z : List Join). AddsCovered now z now) (sy
   every = λ j h. absurd (no_join j h);
 })
 
--- one that takes the place of a join of the same labels
+-- Lowering a join to one of the same labels adds that one.
 pub adds_lower : (old : List Join) (at : ℕ) (met j : Join) → at < length old → met ≡ get_or old at met → met.from ≡ j.from → met.to ≡ j.to → j.height ≤ℤ met.height → AddsCovered old (j ∷ []) (set old at j)
 adds_lower old at met j inside is from to low = record {
   kept = λ k h. elim (cases_eq h.0 at) [
@@ -93,13 +91,12 @@ adds_lower old at met j inside is from to low = record {
   there : Contains (set old at j) j
   there = (at, omega (arith, inside, length-set old at j), get_or-set_same old at j j inside)
 
--- what is spared stays so
 spared_still : (marks : Marks) (out : Spared) (p q : Place) (now new : List Join) → ((j : Join) → Contains now j → Covered new j) → (j : Join) → IsSpared marks out p q ⊎ Covered now j → IsSpared marks out p q ⊎ Covered new j
 spared_still marks out p q now new kept j (inl spared) = inl spared
 spared_still marks out p q now new kept j (inr covered) = inr (covered_still now new kept j covered)
 
--- the join of two cells at a corner is spared, where one between is no higher
-pub spared_corner : (marks : Marks) (out : Spared) (p q middle : Place) (from : Mark) (between to : Option Mark)
+-- The join of two cells at a corner is left out if a cell between is no higher.
+pub spared_corner : (marks : Marks) (out : Spared) (p q middle : Place) (from : CellLabel) (between to : Option CellLabel)
     → IsBetween p q middle → marks p ≡ Some from → between ≡ marks middle → to ≡ marks q
     → q.row ≡ p.row + 1 → p.col ≢ q.col
     → IsLowBetween out from between to → IsSpared marks out p q
@@ -120,12 +117,11 @@ spared_corner marks out p q middle from between to is_middle from_is between_is 
   },
 )
 
--- the place to the west, in this row
 pub west_of : (row n : ℕ) (q : Place) → row ≡ q.row → q.col + 1 ≡ n → place_if_both (Some row) (before n) ≡ Some q
 west_of row zero q at next = absurd (omega (arith, next))
 west_of row (suc n) q at next = ap Some (same_place (record { row = row; col = n }) q at (omega (arith, next)))
 
--- a place after another lies on one of its first four ways
+-- A later neighbour lies on one of the first four ways.
 after_way : (p q : Place) → Touches p q → IsAfter p q → ((place_on 0 p ≡ Some q) ⊎ (place_on 1 p ≡ Some q)) ⊎ ((place_on 2 p ≡ Some q) ⊎ (place_on 3 p ≡ Some q))
 after_way p q t (inr beside) = inl (inl (ap Some (same_place (record { row = p.row; col = p.col + 1 }) q beside.0 (omega (arith, t.col_right, beside.1)))))
 after_way p q t (inl down) =
@@ -138,7 +134,7 @@ after_way p q t (inl down) =
       ]
     ]
 
--- the place on one of those ways lies in the same row or in the next
+-- A place on one of those ways is in the same row or in the next.
 west_row : (row n : ℕ) (q : Place) → place_if_both (Some row) (before n) ≡ Some q → row ≡ q.row
 west_row row zero q on = none_some (place_if_both (Some row) None) q refl on
 west_row row (suc n) q on = ap (λ (z : Place). z.row) (same_Some _ q on)
@@ -150,7 +146,7 @@ next_row p q (suc (suc zero)) few on differ = sym (ap (λ (z : Place). z.row) (s
 next_row p q (suc (suc (suc zero))) few on differ = sym (west_row (p.row + 1) p.col q on)
 next_row p q (suc (suc (suc (suc way)))) few on differ = absurd (omega (arith, few))
 
--- the place in the same column is the one below
+-- A place on one of those ways in the same column is the one below.
 west_col : (row n : ℕ) (q : Place) → place_if_both (Some row) (before n) ≡ Some q → q.col ≢ n
 west_col row zero q on same = none_some (place_if_both (Some row) None) q refl on
 west_col row (suc n) q on same = omega (arith, ap (λ (z : Place). z.col) (same_Some _ q on), same)
@@ -162,8 +158,8 @@ same_col p q (suc (suc zero)) few on same = sym (same_Some _ q on)
 same_col p q (suc (suc (suc zero))) few on same = absurd (west_col (p.row + 1) p.col q on same)
 same_col p q (suc (suc (suc (suc way)))) few on same = absurd (omega (arith, few))
 
--- the cell on a way has no mark, or its join was added
-pub adds_on_way : (marks : Marks) (out : Spared) (p q : Place) (way : ℕ) (wanted : Place → Bool) (from : Mark) (o : Option Mark) (old new : List Join) → marks p ≡ Some from → marks q ≡ o → way < 8 → place_on way p ≡ Some q → wanted q ≡ true → AddsCovered old (joins_of out.sources from o) new → Adds marks out (IsPairOn way p wanted) old new
+-- The cell on a way has no mark, or the join with it has been added.
+pub adds_on_way : (marks : Marks) (out : Spared) (p q : Place) (way : ℕ) (wanted : Place → Bool) (from : CellLabel) (o : Option CellLabel) (old new : List Join) → marks p ≡ Some from → marks q ≡ o → way < 8 → place_on way p ≡ Some q → wanted q ≡ true → AddsCovered old (joins_of out.sources from o) new → Adds marks out (IsPairOn way p wanted) old new
 adds_on_way marks out p q way wanted from o old new here there few on want s = record {
   kept = s.kept;
   only = λ j h. elim (s.only j h) [
@@ -189,16 +185,16 @@ adds_on_way marks out p q way wanted from o old new here there few on want s = r
   every = λ x r j at after met.
       let m = subst (λ (z : Place). Meets marks out z r j) at.0 met in
       let r_is : q ≡ r = same_Some q r (sym on ∙ at.1) in
-      let to : Mark = record { level = m.to_level; node = j.to } in
+      let to : CellLabel = record { level = m.to_level; node = j.to } in
       let mark_is : o ≡ Some to = sym there ∙ ap marks r_is ∙ m.to_is in
       let from_same = same_Some from (record { level = m.from_level; node = j.from }) (sym here ∙ m.from_is) in
       inr (s.every j
-      (subst (λ (f : Mark). Contains (joins_of out.sources f o) j) (sym from_same) (subst (λ (z : Option Mark). Contains (joins_of out.sources (record { level = m.from_level; node = j.from }) z) j) (sym mark_is)
+      (subst (λ (f : CellLabel). Contains (joins_of out.sources f o) j) (sym from_same) (subst (λ (z : Option CellLabel). Contains (joins_of out.sources (record { level = m.from_level; node = j.from }) z) j) (sym mark_is)
       (subst (λ (z : List Join). Contains z j) (sym (joins_of_apart out.sources (record { level = m.from_level; node = j.from }) to m.different m.apart))
       (subst (λ (h : ℤ). Contains (record { from = j.from; to = j.to; height = h } ∷ []) j) (sym m.greater) (cons_head j []))))));
 }
 
--- its join is left out
+-- The join with the cell on a way is left out.
 pub adds_spared : (marks : Marks) (out : Spared) (p q : Place) (way : ℕ) (wanted : Place → Bool) (old : List Join) → place_on way p ≡ Some q → IsSpared marks out p q → Adds marks out (IsPairOn way p wanted) old old
 adds_spared marks out p q way wanted old on spared = record {
   kept = λ j h. covered_itself old j h;
@@ -207,7 +203,6 @@ adds_spared marks out p q way wanted old on spared = record {
       inl (subst (λ (z : Place). IsSpared marks out z r) (sym at.0) (subst (IsSpared marks out p) (same_Some q r (sym on ∙ at.1)) spared));
 }
 
--- no place adds nothing
 pub adds_none : (marks : Marks) (out : Spared) (pairs : Place → Place → Type 0) (old new : List Join) → new ≡ old → ((p q : Place) → pairs p q → ⊥) → Adds marks out pairs old new
 adds_none marks out pairs old new same none = subst (Adds marks out pairs old) (sym same) (record {
   kept = λ j h. covered_itself old j h;
@@ -215,7 +210,7 @@ adds_none marks out pairs old new same none = subst (Adds marks out pairs old) (
   every = λ p q j at. absurd (none p q at);
 })
 
--- a cell with no mark has no joins
+-- A cell without a mark has no joins.
 pub no_mark_adds : (marks : Marks) (out : Spared) (p : Place) (wanted : Place → Bool) (old : List Join) → marks p ≡ None → Adds marks out (IsPairFrom p wanted) old old
 no_mark_adds marks out p wanted old none = record {
   kept = λ j h. covered_itself old j h;
@@ -223,7 +218,7 @@ no_mark_adds marks out p wanted old none = record {
   every = λ x q j at after m. none_some _ (record { level = m.from_level; node = j.from }) (ap marks at.0 ∙ none) m.from_is;
 }
 
--- one after another
+-- Adding the joins of some pairs and then of others adds those of all.
 pub adds_then : (marks : Marks) (out : Spared) (first later both : Place → Place → Type 0) (old now new : List Join) → ((p q : Place) → both p q ↔ (first p q ⊎ later p q)) → Adds marks out first old now → Adds marks out later now new → Adds marks out both old new
 adds_then marks out first later both old now new split a b = record {
   kept = λ j h. covered_still now new b.kept j (a.kept j h);
@@ -234,15 +229,15 @@ adds_then marks out first later both old now new split a b = record {
   every = λ p q j at after m. elim ((split p q).0 at) [ inl early ↦ spared_still marks out p q now new b.kept j (a.every p q j early after m) | inr late ↦ b.every p q j late after m ];
 }
 
--- and where the pairs are the same, as far as cells are marked and touch
-pub adds_as : (marks : Marks) (out : Spared) (first both : Place → Place → Type 0) (old new : List Join) → ((p q : Place) → first p q → both p q) → ((p q : Place) → Touches p q → IsAfter p q → (m : Mark) → marks p ≡ Some m → (n : Mark) → marks q ≡ Some n → both p q → first p q) → Adds marks out first old new → Adds marks out both old new
+-- Only pairs of cells that have marks and touch matter.
+pub adds_as : (marks : Marks) (out : Spared) (first both : Place → Place → Type 0) (old new : List Join) → ((p q : Place) → first p q → both p q) → ((p q : Place) → Touches p q → IsAfter p q → (m : CellLabel) → marks p ≡ Some m → (n : CellLabel) → marks q ≡ Some n → both p q → first p q) → Adds marks out first old new → Adds marks out both old new
 adds_as marks out first both old new wider narrower a = record {
   kept = a.kept;
   only = λ j h. elim (a.only j h) [ inl was ↦ inl was | inr made ↦ inr (made.0, made.1, wider made.0 made.1 made.2, made.3) ];
   every = λ p q j at after m. a.every p q j (narrower p q m.touches after _ m.from_is _ m.to_is at) after m;
 }
 
--- a cell with those on its first four ways
+-- The joins of a cell are those on its first four ways.
 pub adds_four : (marks : Marks) (out : Spared) (p : Place) (wanted : Place → Bool) (old first second third new : List Join)
     → Adds marks out (IsPairOn 0 p wanted) old first → Adds marks out (IsPairOn 1 p wanted) first second
     → Adds marks out (IsPairOn 2 p wanted) second third → Adds marks out (IsPairOn 3 p wanted) third new

@@ -1,4 +1,4 @@
--- What the floods say of cells, and the joins of cells amid a tile.
+-- The marks of cells, and the joins of inner cells of a tile.
 use Rattle.std.proofs.Common.{◌≡◌, ◌≢◌, ◌↔◌, ◌⊎◌, Bool, ℕ, ◌+◌, ◌-◌, ◌*◌, ◌<◌, ◌≤◌, inl, inr, ℤ, true, List, length, get_or, Option, None, Some, ◌∙◌, sym, ap, subst, refl, arith}
 use Rattle.std.specs.Prelude.{slice_get, option_and_then, option_map, MatchOption, IfSome}
 use Rattle.std.specs.List.{All}
@@ -17,22 +17,20 @@ use Rattle.cell_floods.specs.Labels.{labels_by, IsTable}
 use Rattle.fill.specs.Numbers.{first_of}
 use Rattle.fill.specs.Gathering.{Fit, LabelsInside, Marks, IsInner, IsPairFrom, IsPairOn, cells_after, AreEqualAfter, mark_of, mark_in, mark_among, Adds, mark_with, joins_of, Spared, IsBetween, IsLowBetween, IsSpared, AddsAfter, AddsCorner, AddsCovered}
 use Rattle.fill.specs.declared.spills.Join.{Join}
-use Rattle.fill.specs.declared.marks.Mark.{Mark}
+use Rattle.fill.specs.declared.marks.CellLabel.{CellLabel}
 use Rattle.std.proofs.lemmas.Nat.{mul-le}
 use Rattle.terrain.proofs.Options.{cases_option, none_some}
 use Rattle.fill.proofs.Adding.{adds_as, adds_four, adds_on_way, adds_spared, covered_itself, joins_of_is, no_mark_adds, spared_corner, west_of}
 use Rattle.tiles.proofs.TileOrder.{bounds_from_entry, entry_in-inside}
 
--- each place of the table of a flood whose labels lie in the grid lies in it
+-- If the labels of a flood lie in the grid, so do the places of its table.
 pub all_within : (c : Cutting) (f : Flood) (places : List (Option Place)) (cells : List ℕ) → f.labels ≡ labels_by places cells → IsTable places cells → LabelsInside c f → All (λ (o : Option Place). IfSome o (IsWithin c)) places
 all_within c f places cells are table inside = all_inside (IsWithin c) places (table_inside (IsWithin c) f.labels places cells are table inside)
 
--- there are as many entries as levels
 pub cells_size : (f : Flood) (places : List (Option Place)) (cells : List ℕ) → f.labels ≡ labels_by places cells → IsFlood f → length cells ≡ length f.levels
 cells_size f places cells are lawful =
     sym (length-map cells (λ k. get_or places k None)) ∙ ap length (sym are) ∙ lawful.labels_size ∙ sym lawful.levels_size
 
--- a label is an entry
 pub label_entry : (f : Flood) (p label : Place) → label_in f p ≡ Some label → (k : ℕ) × (get_or f.labels k None ≡ Some label)
 label_entry f p label e =
     let i = bounds_from_entry f.bounds f.labels p label e in
@@ -41,21 +39,20 @@ label_entry f p label e =
 pub mark_some : (node : ℕ) (o : Option ℤ) (l : Option Place) (level : ℤ) (label : Place) → o ≡ Some level → l ≡ Some label → mark_of node o l ≡ Some (record { level = level; node = node })
 mark_some node o l level label a b = rw (a, b) refl
 
-pub mark_parts : (node : ℕ) (o : Option ℤ) (l : Option Place) (m : Mark) → mark_of node o l ≡ Some m → (label : Place) × (o ≡ Some m.level) × (l ≡ Some label) × (node ≡ m.node)
+pub mark_parts : (node : ℕ) (o : Option ℤ) (l : Option Place) (m : CellLabel) → mark_of node o l ≡ Some m → (label : Place) × (o ≡ Some m.level) × (l ≡ Some label) × (node ≡ m.node)
 mark_parts node None l m e = absurd (cc)
 mark_parts node (Some level) None m e = absurd (cc)
 mark_parts node (Some level) (Some label) m e =
     let same = same_Some _ m e in
-    (label, ap (λ (z : Mark). Some z.level) same, refl, ap (λ (z : Mark). z.node) same)
+    (label, ap (λ (z : CellLabel). Some z.level) same, refl, ap (λ (z : CellLabel). z.node) same)
 
--- the mark of a cell of a tile
 pub mark_from_tile : (c : Cutting) (floods : List Flood) (tile : ℕ) (f : Flood) (p : Place) → slice_get floods tile ≡ Some f → tile_of_place c p ≡ tile → mark_in (first_of floods tile) f p ≡ mark_among c floods p
 mark_from_tile c floods tile f p e same =
     sym (ap (λ n. option_and_then (λ (g : Flood). mark_in (first_of floods n) g p) (slice_get floods n)) same
     ∙ ap (option_and_then (λ (g : Flood). mark_in (first_of floods tile) g p)) e)
 
--- What a flood says of a cell that has a mark.
-pub record IsMarked (c : Cutting) (floods : List Flood) (p : Place) (m : Mark) : Type 0 where
+-- The flood, level and label of a cell with this mark.
+pub record IsMarked (c : Cutting) (floods : List Flood) (p : Place) (m : CellLabel) : Type 0 where
   pub flood : Flood
   pub label : Place
   pub there : slice_get floods (tile_of_place c p) ≡ Some flood
@@ -64,7 +61,7 @@ pub record IsMarked (c : Cutting) (floods : List Flood) (p : Place) (m : Mark) :
   pub label_is : get_or flood.labels (index_in flood.bounds p) None ≡ Some label
   pub node_is : first_of floods (tile_of_place c p) + get_or flood.table.indexes (index_in flood.bounds p) 0 ≡ m.node
 
-pub marked : (c : Cutting) (floods : List Flood) (p : Place) (m : Mark) → mark_among c floods p ≡ Some m → IsMarked c floods p m
+pub marked : (c : Cutting) (floods : List Flood) (p : Place) (m : CellLabel) → mark_among c floods p ≡ Some m → IsMarked c floods p m
 marked c floods p m e = elim (cases_option (slice_get floods (tile_of_place c p))) [
   | inl none ↦ none_some (mark_among c floods p) m (ap (option_and_then (λ (g : Flood). mark_in (first_of floods (tile_of_place c p)) g p)) none) e
   | inr found ↦
@@ -87,8 +84,8 @@ marked c floods p m e = elim (cases_option (slice_get floods (tile_of_place c p)
       ]
 ]
 
--- outside the grid there are none
-pub marked_within : (c : Cutting) (floods : List Flood) (p : Place) (m : Mark) → IsCutting c → Fit c floods → mark_among c floods p ≡ Some m → IsWithin c p
+-- A cell with a mark lies in the grid.
+pub marked_within : (c : Cutting) (floods : List Flood) (p : Place) (m : CellLabel) → IsCutting c → Fit c floods → mark_among c floods p ≡ Some m → IsWithin c p
 marked_within c floods p m h fit e =
     let x = marked c floods p m e in
     let tile = tile_of_place c p in
@@ -101,11 +98,11 @@ mark_outside c floods p h fit outside = elim (cases_option (mark_among c floods 
   | inr some ↦ absurd (outside (marked_within c floods p some.0 h fit some.1))
 ]
 
--- a place in the bounds of a flood is of its tile
+-- A place in the bounds of a flood lies in its tile.
 pub held : (c : Cutting) (floods : List Flood) (tile : ℕ) (f : Flood) (p : Place) (b : Bounds) → IsCutting c → Fit c floods → tile < tile_count c → slice_get floods tile ≡ Some f → b ≡ f.bounds → is_in_bounds b p ≡ true → IsInTile c tile p
 held c floods tile f p b h fit below e same inside = in_tile c tile p h below (subst (λ b. IsInBounds b p) (same ∙ fit.bounds tile f e) (in_bounds_parts b p inside))
 
--- an entry of a flood is the mark of its cell
+-- The mark of a cell, by its index in its tile.
 pub entry_mark : (c : Cutting) (floods : List Flood) (tile : ℕ) (f : Flood) (q : Place) (i : ℕ) → IsCutting c → tile < tile_count c → slice_get floods tile ≡ Some f → f.bounds ≡ bounds_of c tile → IsInBounds (bounds_of c tile) q → i ≡ index_in (bounds_of c tile) q → mark_among c floods q ≡ mark_with (first_of floods tile) f i
 entry_mark c floods tile f q i h below e bounds inside at =
     let here = subst (λ (b : Bounds). IsInBounds b q) (sym bounds) inside in
@@ -114,19 +111,18 @@ entry_mark c floods tile f q i h below e bounds inside at =
     ∙ cond-true _ _ _ (in_bounds_from f.bounds q here)
     ∙ ap (λ n. mark_with (first_of floods tile) f n) index
 
--- an entry of a flood is what it says of its cell
 pub entry_in_mark : (f : Flood) (q : Place) (i : ℕ) → IsInBounds f.bounds q → i ≡ index_in f.bounds q → mark_in 0 f q ≡ mark_with 0 f i
 entry_in_mark f q i inside at = cond-true _ _ _ (in_bounds_from f.bounds q inside) ∙ ap (mark_with 0 f) (sym at)
 
--- what it says of is in its bounds
-pub mark_inside : (f : Flood) (p : Place) (m : Mark) → mark_in 0 f p ≡ Some m → IsInBounds f.bounds p
+-- A place with a mark in a flood lies in its bounds.
+pub mark_inside : (f : Flood) (p : Place) (m : CellLabel) → mark_in 0 f p ≡ Some m → IsInBounds f.bounds p
 mark_inside f p m is = elim (cases_Bool (is_in_bounds f.bounds p)) [
   | inl inside ↦ in_bounds_parts f.bounds p inside
   | inr out ↦ none_some (mark_in 0 f p) m (cond-false _ _ _ out) is
 ]
 
--- a cell with the same label gives no join
-pub same_label_adds : (f : Flood) (sources : List (Option ℤ)) (i j : ℕ) (from : Mark) (now : List Join) → mark_with 0 f i ≡ Some from → get_or f.table.indexes i 0 ≡ get_or f.table.indexes j 0 → AddsCovered now (joins_of sources from (mark_with 0 f j)) now
+-- Two cells of one label have no join.
+pub same_label_adds : (f : Flood) (sources : List (Option ℤ)) (i j : ℕ) (from : CellLabel) (now : List Join) → mark_with 0 f i ≡ Some from → get_or f.table.indexes i 0 ≡ get_or f.table.indexes j 0 → AddsCovered now (joins_of sources from (mark_with 0 f j)) now
 same_label_adds f sources i j from now is same = record {
   kept = λ x h. covered_itself now x h;
   only = λ x h. inl h;
@@ -137,11 +133,11 @@ same_label_adds f sources i j from now is same = record {
       absurd (m.2 (sym a.3 ∙ ap (λ n. 0 + n) same ∙ b.3));
 }
 
--- a cell whose entry is equal to the four after it gives no joins with them
+-- A cell with the label of its four later neighbours has no joins with them.
 pub equal_after_adds : (f : Flood) (out : Spared) (i width : ℕ) (now : List Join) → AreEqualAfter f.table.indexes i width → MatchOption (mark_with 0 f i) (now ≡ now) (λ from. AddsAfter f out from i width now now)
 equal_after_adds f out i width now e = elim (cases_option (mark_with 0 f i)) [
-  | inl none ↦ subst (λ (o : Option Mark). MatchOption o (now ≡ now) (λ from. AddsAfter f out from i width now now)) (sym none) refl
-  | inr found ↦ subst (λ (o : Option Mark). MatchOption o (now ≡ now) (λ from. AddsAfter f out from i width now now)) (sym found.1) (record {
+  | inl none ↦ subst (λ (o : Option CellLabel). MatchOption o (now ≡ now) (λ from. AddsAfter f out from i width now now)) (sym none) refl
+  | inr found ↦ subst (λ (o : Option CellLabel). MatchOption o (now ≡ now) (λ from. AddsAfter f out from i width now now)) (sym found.1) (record {
     after_first = now;
     after_second = now;
     after_third = now;
@@ -151,18 +147,17 @@ equal_after_adds f out i width now e = elim (cases_option (mark_with 0 f i)) [
     south_west = inr (near found.0 found.1 3 (omega arith));
   })
 ] where
-  near : (from : Mark) → mark_with 0 f i ≡ Some from → (way : ℕ) → way < 4 → AddsCovered now (joins_of out.sources from (mark_with 0 f (get_or (cells_after width i) way 0))) now
+  near : (from : CellLabel) → mark_with 0 f i ≡ Some from → (way : ℕ) → way < 4 → AddsCovered now (joins_of out.sources from (mark_with 0 f (get_or (cells_after width i) way 0))) now
   near from is way few = same_label_adds f out.sources i (get_or (cells_after width i) way 0) from now is (sym (e way 0 few))
 
--- every place is wanted
 abbrev pub anywhere : Place → Bool
 anywhere q = true
 
 pub adds_anywhere : (marks : Marks) (out : Spared) (p : Place) (old new : List Join) → Adds marks out (IsPairFrom p anywhere) old new → Adds marks out (λ q r. q ≡ p) old new
 adds_anywhere marks out p old new s = adds_as marks out (IsPairFrom p anywhere) (λ q r. q ≡ p) old new (λ q r at. at.0) (λ q r touch after m m_is n n_is at. (at, refl)) s
 
--- the joins of a cell with the four around it that come after it have been added
-pub inner_adds : (f : Flood) (out : Spared) (p : Place) (i : ℕ) (from : Mark) (old new : List Join) → IsInner f.bounds p → i ≡ index_in f.bounds p → mark_with 0 f i ≡ Some from → AddsAfter f out from i f.bounds.cols old new → Adds (mark_in 0 f) out (λ q r. q ≡ p) old new
+-- The joins of a cell with its four later neighbours have been added.
+pub inner_adds : (f : Flood) (out : Spared) (p : Place) (i : ℕ) (from : CellLabel) (old new : List Join) → IsInner f.bounds p → i ≡ index_in f.bounds p → mark_with 0 f i ≡ Some from → AddsAfter f out from i f.bounds.cols old new → Adds (mark_in 0 f) out (λ q r. q ≡ p) old new
 inner_adds f out p i from old new inner at is s =
     adds_anywhere (mark_in 0 f) out p old new (adds_four (mark_in 0 f) out p anywhere old s.after_first s.after_second s.after_third new
     (step 0 p.row east (i + 1) _ _ (omega arith) refl (omega (arith, inner), omega (arith, inner)) (omega (arith, inner), omega (arith, inner)) (omega (arith, at, inner)) s.east)
@@ -206,7 +201,7 @@ inner_adds f out p i from old new inner at is s =
         | inr added ↦ step way row col j now next few on rows cols index added
         | inl round ↦
             let near : Place = record { row = row; col = col } in
-            let spared : (middle : Place) (between : Option Mark) → IsBetween p near middle → mark_in 0 f middle ≡ between → IsLowBetween out from between (mark_with 0 f j) → IsSpared (mark_in 0 f) out p near = λ middle between is_middle there low.
+            let spared : (middle : Place) (between : Option CellLabel) → IsBetween p near middle → mark_in 0 f middle ≡ between → IsLowBetween out from between (mark_with 0 f j) → IsSpared (mark_in 0 f) out p near = λ middle between is_middle there low.
             spared_corner (mark_in 0 f) out p near middle from between (mark_with 0 f j) is_middle
             (entry_in_mark f p i (omega (arith, inner), omega (arith, inner), omega (arith, inner), omega (arith, inner)) at ∙ is)
             (sym there) (sym (entry_in_mark f near j (rows.0, rows.1, cols.0, cols.1) index)) next_row aside low in
@@ -217,7 +212,6 @@ inner_adds f out p i from old new inner at is s =
             ]))
       ]
 
--- such a cell has its joins added, where it has a mark
 pub inner_cell_adds : (f : Flood) (out : Spared) (p : Place) (i : ℕ) (old new : List Join) → IsInner f.bounds p → i ≡ index_in f.bounds p → MatchOption (mark_with 0 f i) (new ≡ old) (λ from. AddsAfter f out from i f.bounds.cols old new) → Adds (mark_in 0 f) out (λ q r. q ≡ p) old new
 inner_cell_adds f out p i old new inner at s = elim (cases_option (mark_with 0 f i)) [
   | inl none ↦
@@ -227,12 +221,12 @@ inner_cell_adds f out p i old new inner at s = elim (cases_option (mark_with 0 f
   | inr found ↦ inner_adds f out p i found.0 old new inner at found.1 (MatchOption-at_some _ _ found.0 found.1 s)
 ]
 
--- the cells of an inner row have a row of the tile after them
+-- A cell of an inner row has a row of the tile after it.
 pub inner_row_index : (b : Bounds) (row index : ℕ) → b.top ≤ row → row + 1 < b.top + b.rows → index + 1 < (row - b.top) * b.cols + b.cols → index + b.cols + 1 < b.rows * b.cols
 inner_row_index b row index above below last =
     omega (arith, last, mul-le (row - b.top + 2) b.cols b.rows b.cols (omega (arith, above, below)) (omega arith))
 
--- the inner cells of a row up to one, and it
+-- The inner cells of a row up to an index, and the one at it.
 pub inner_so_far : (b : Bounds) (row start index : ℕ) → b.top ≤ row → row + 1 < b.top + b.rows → start < index → index + 1 < start + b.cols → (p : Place) →
     (IsInner b p × (p.row ≡ row) × (p.col + start < b.left + (index + 1))) ↔ ((IsInner b p × (p.row ≡ row) × (p.col + start < b.left + index)) ⊎ (p ≡ record { row = row; col = b.left + (index - start) }))
 inner_so_far b row start index above below first last p = (
@@ -248,7 +242,7 @@ inner_so_far b row start index above below first last p = (
   ],
 )
 
--- the places of a row up to a column, and the one there
+-- The places of a row up to a column, and the one in it.
 pub row_so_far : (Inside : Place → Type 0) (row col : ℕ) → Inside (record { row = row; col = col }) → (p : Place) →
     (Inside p × (p.row ≡ row) × (p.col < col + 1)) ↔ ((Inside p × (p.row ≡ row) × (p.col < col)) ⊎ (p ≡ record { row = row; col = col }))
 row_so_far Inside row col inside p = (
@@ -262,12 +256,12 @@ row_so_far Inside row col inside p = (
   ],
 )
 
--- an entry with something stands in its list
+-- An index with an entry lies in the list.
 pub some_below : {X : Type 0} (xs : List (Option X)) (i : ℕ) (x : X) → get_or xs i None ≡ Some x → i < length xs
 some_below xs i x e = elim (cases_lt i (length xs)) [ inl low ↦ low | inr past ↦ none_some (get_or xs i None) x (get_or_past xs i None past) e ]
 
--- The mark whose label is counted from this number.
-abbrev pub shift : ℕ → Mark → Mark
+-- The mark with its label counted from this number.
+abbrev pub shift : ℕ → CellLabel → CellLabel
 shift first m = record { level = m.level; node = first + m.node }
 
 shift_with : (first : ℕ) (f : Flood) (i : ℕ) → mark_with first f i ≡ option_map (shift first) (mark_with 0 f i)
@@ -283,16 +277,16 @@ in_shift first f p = elim (cases_Bool (is_in_bounds f.bounds p)) [
   | inr out ↦ cond-false _ _ _ out ∙ ap (option_map (shift first)) (sym (cond-false _ _ _ out))
 ]
 
-pub shift_back : (first : ℕ) (o : Option Mark) (m : Mark) → option_map (shift first) o ≡ Some m → (n : Mark) × (o ≡ Some n) × (shift first n ≡ m)
+pub shift_back : (first : ℕ) (o : Option CellLabel) (m : CellLabel) → option_map (shift first) o ≡ Some m → (n : CellLabel) × (o ≡ Some n) × (shift first n ≡ m)
 shift_back first None m e = absurd (cc)
 shift_back first (Some n) m e = (n, refl, same_Some _ m e)
 
--- so is what all floods say of a place of a tile
+-- The mark of a place of a tile, by its mark in the flood.
 pub among_shift : (c : Cutting) (floods : List Flood) (tile : ℕ) (f : Flood) (p : Place) → slice_get floods tile ≡ Some f → tile_of_place c p ≡ tile → mark_among c floods p ≡ option_map (shift (first_of floods tile)) (mark_in 0 f p)
 among_shift c floods tile f p there here = sym (mark_from_tile c floods tile f p there here) ∙ in_shift (first_of floods tile) f p
 
--- the label of a mark is an index into the table
-pub index_inside : (f : Flood) (p : Place) (m : Mark) → IsFlood f → mark_in 0 f p ≡ Some m → m.node < length f.table.places
+-- The label of a mark is an index into the table.
+pub index_inside : (f : Flood) (p : Place) (m : CellLabel) → IsFlood f → mark_in 0 f p ≡ Some m → m.node < length f.table.places
 index_inside f p m lawful is =
     let inside = mark_inside f p m is in
     let i = index_in f.bounds p in

@@ -1,4 +1,4 @@
--- Lists of ways over one list of joins.
+-- Linked lists of ways over one list of joins.
 use Rattle.std.proofs.Common.{◌≡◌, ◌≢◌, ℕ, zero, suc, ◌+◌, ◌-◌, ◌<◌, ◌≤◌, ◌⊎◌, ◌↔◌, inl, inr, true, false, ℤ, pos, List, [], ◌∷◌, ◌++◌, length, get_or, set, replicate, ◌∙◌, sym, ap, subst, refl, arith}
 use Rattle.std.proofs.lemmas.Bool.{cases_eq, cases_lt, cond-true, cond-false, eq-eqb, ne_eqb}
 use Rattle.std.proofs.lemmas.List.{ext_get_or, length-map, length-set, length_push, length-replicate, get_or-replicate, get_or-set_same, get_or-set_other, get_or_append_left, get_or_push, get_or_default, get_or_past, append-nil, append_assoc}
@@ -11,18 +11,18 @@ use Rattle.fill.specs.Gathering.{turned, way_of}
 use Rattle.fill.specs.LabelNet.{AddsWays, IsJoinOf}
 use Rattle.fill.specs.Ways.{link_from, link_at, chain, ways_by, AreLinked, has_ways, is_some_way}
 use Rattle.fill.specs.declared.spills.Join.{Join}
-use Rattle.fill.specs.declared.ways.Befores.{Befores}
+use Rattle.fill.specs.declared.ways.PreviousJoins.{PreviousJoins}
 use Rattle.fill.specs.declared.ways.Link.{Link}
 use Rattle.fill.proofs.Adding.{no_join}
 
--- the last of the joins is the one where the chain begins
+-- A chain from the last join.
 chain_here : (link : ℕ → Link) (n : ℕ) → chain link (suc n) (suc n) ≡ (link n).way ∷ chain link n (link n).before
 chain_here link n = cond-true _ _ _ (eq-eqb (suc n) (suc n) refl)
 
 chain_less : (link : ℕ → Link) (n at : ℕ) → at ≤ n → chain link (suc n) at ≡ chain link n at
 chain_less link n at low = cond-false _ _ _ (ne_eqb at (suc n) (λ same. absurd (omega (arith, low, same))))
 
--- later joins are on no chain from an earlier one
+-- Later joins are on no chain from an earlier one.
 chain_upto : (link : ℕ → Link) (n at : ℕ) → at ≤ n → chain link n at ≡ chain link at at
 chain_upto link zero at low =
     let none : at ≡ 0 = omega (arith, low) in
@@ -32,17 +32,15 @@ chain_upto link (suc n) at low = elim (cases_eq at (suc n)) [
   | inr other ↦ chain_less link n at (omega (arith, low, other)) ∙ chain_upto link n at (omega (arith, low, other))
 ]
 
--- none is on the chain from none
 pub chain_none : (link : ℕ → Link) (n : ℕ) → chain link n 0 ≡ []
 chain_none link n = chain_upto link n 0 (omega arith)
 
--- a chain is its first way, and the chain from the join before
+-- A chain is its first way, and the chain from the join before.
 chain_step : (link : ℕ → Link) (n k : ℕ) → k < n → (link k).before ≤ k → chain link n (suc k) ≡ (link k).way ∷ chain link n (link k).before
 chain_step link n k low before =
     chain_upto link n (suc k) (omega (arith, low)) ∙ chain_here link k
     ∙ ap (λ z. (link k).way ∷ z) (chain_upto link k (link k).before before ∙ sym (chain_upto link n (link k).before (omega (arith, before, low))))
 
--- chains of the same links
 chain_same : (f g : ℕ → Link) (n at : ℕ) → ((i : ℕ) → i < n → f i ≡ g i) → chain f n at ≡ chain g n at
 chain_same f g zero at same = refl
 chain_same f g (suc n) at same = elim (cases_eq at (suc n)) [
@@ -56,17 +54,17 @@ chain_same f g (suc n) at same = elim (cases_eq at (suc n)) [
       ∙ sym (cond-false _ _ _ (ne_eqb at (suc n) (λ here. absurd (other here))))
 ]
 
-pub ways_at : (lasts : List ℕ) (joins : List Join) (befores : List Befores) (label : ℕ) → label < length lasts
+pub ways_at : (lasts : List ℕ) (joins : List Join) (befores : List PreviousJoins) (label : ℕ) → label < length lasts
     → get_or (ways_by lasts joins befores) label [] ≡ chain (link_at joins befores label) (length befores) (get_or lasts label 0)
 ways_at lasts joins befores label low =
     get_or-map-range_with_len (λ a. chain (link_at joins befores a) (length befores) (get_or lasts a 0)) 0 (length lasts) label label [] low (omega arith)
 
-pub ways_length : (lasts : List ℕ) (joins : List Join) (befores : List Befores) → length (ways_by lasts joins befores) ≡ length lasts
+pub ways_length : (lasts : List ℕ) (joins : List Join) (befores : List PreviousJoins) → length (ways_by lasts joins befores) ≡ length lasts
 ways_length lasts joins befores =
     length-map (range_with_len 0 (length lasts)) (λ a. chain (link_at joins befores a) (length befores) (get_or lasts a 0)) ∙ length-range_with_len 0 (length lasts)
 
--- no join yet
-module _ (labels : ℕ) (lasts : List ℕ) (joins : List Join) (befores : List Befores) (is : lasts ≡ replicate labels 0) (none : befores ≡ []) where
+-- No join yet.
+module _ (labels : ℕ) (lasts : List ℕ) (joins : List Join) (befores : List PreviousJoins) (is : lasts ≡ replicate labels 0) (none : befores ≡ []) where
   size : length lasts ≡ labels
   size = ap length is ∙ length-replicate {A = ℕ} labels 0
 
@@ -98,7 +96,7 @@ make_way to height = record { to = to; height = height }
 one : (x k : Join) → Contains (x ∷ []) k → k ≡ x
 one x k h = elim (cons_cases x [] k h) [ inl same ↦ same | inr none ↦ absurd (no_join k none) ]
 
--- one more way from a label, where it is that of one more join
+-- One more way from a label is that of one more join.
 one_way : (j : Join) (w : Spill) (old new : List Spill) (a b : ℕ) (h : ℤ) → new ≡ w ∷ old → (make_way b h ≡ w ↔ IsJoinOf (j ∷ []) a b h)
     → Contains new (make_way b h) ↔ (Contains old (make_way b h) ⊎ IsJoinOf (j ∷ []) a b h)
 one_way j w old new a b h is same = (
@@ -112,16 +110,16 @@ one_way j w old new a b h is same = (
   ]),
 )
 
--- one more join
-module _ (lasts : List ℕ) (joins : List Join) (befores : List Befores) (j : Join) (linked : AreLinked lasts joins befores) (more : length befores < length joins)
+-- One more join.
+module _ (lasts : List ℕ) (joins : List Join) (befores : List PreviousJoins) (j : Join) (linked : AreLinked lasts joins befores) (more : length befores < length joins)
     (is : get_or joins (length befores) (record { from = 0; to = 0; height = pos 0 }) ≡ j) (from : j.from < length lasts) (to : j.to < length lasts) where
   abbrev count : ℕ
   count = length befores
 
-  abbrev pub both : Befores
+  abbrev pub both : PreviousJoins
   both = record { from = get_or lasts j.from 0; to = get_or lasts j.to 0 }
 
-  abbrev pub after : List Befores
+  abbrev pub after : List PreviousJoins
   after = befores ++ both ∷ []
 
   abbrev pub lasts_after : List ℕ
@@ -133,7 +131,7 @@ module _ (lasts : List ℕ) (joins : List Join) (befores : List Befores) (j : Jo
   same_length : length lasts_after ≡ length lasts
   same_length = length-set (set lasts j.from (length after)) j.to (length after) ∙ length-set lasts j.from (length after)
 
-  -- links of earlier joins, and of this one
+  -- The links of earlier joins, and of this one.
   old_link : (label i : ℕ) → i < count → link_at joins after label i ≡ link_at joins befores label i
   old_link label i low = ap (link_from label (get_or joins i _)) (get_or_append_left befores (both ∷ []) _ i low)
 
@@ -152,7 +150,6 @@ module _ (lasts : List ℕ) (joins : List Join) (befores : List Befores) (j : Jo
   at_to : (label : ℕ) → label ≢ j.from → label ≡ j.to → link_from label j both ≡ record { way = way_of (turned j); before = get_or lasts label 0 }
   at_to label other same = link_of_to label (λ e. absurd (other (sym e))) ∙ ap (λ k. record { way = way_of (turned j); before = get_or lasts k 0 }) (sym same)
 
-  -- the last joins
   last_to : (label : ℕ) → label ≡ j.to → get_or lasts_after label 0 ≡ length after
   last_to label same = ap (λ k. get_or lasts_after k 0) same ∙ get_or-set_same (set lasts j.from (length after)) j.to (length after) 0 (omega (arith, to, length-set lasts j.from (length after)))
 
@@ -200,7 +197,7 @@ module _ (lasts : List ℕ) (joins : List Join) (befores : List Befores) (j : Jo
   abbrev new : List (List Spill)
   new = ways_by lasts_after joins after
 
-  -- the ways from either label
+  -- The ways from either label.
   here : (label : ℕ) (way : Spill) → label < length lasts → get_or lasts_after label 0 ≡ length after
       → link_from label j both ≡ record { way = way; before = get_or lasts label 0 } → get_or new label [] ≡ way ∷ get_or old label []
   here label way low last link =
@@ -271,8 +268,8 @@ module _ (lasts : List ℕ) (joins : List Join) (befores : List Befores) (j : Jo
     back : (a b : ℕ) (h : ℤ) → a ≡ j.to → make_way b h ≡ way_of (turned j) → j ≡ record { from = b; to = a; height = h }
     back a b h is_to way = ap (λ n. record { from = j.from; to = n; height = j.height }) (sym is_to) ∙ ap (λ (w : Spill). record { from = w.to; to = a; height = w.height }) (sym way)
 
--- whether there is a way
-pub some_way : (lasts : List ℕ) (joins : List Join) (befores : List Befores) (label : ℕ) → AreLinked lasts joins befores → label < length lasts
+-- Whether there is a way from a label.
+pub some_way : (lasts : List ℕ) (joins : List Join) (befores : List PreviousJoins) (label : ℕ) → AreLinked lasts joins befores → label < length lasts
     → (0 < get_or lasts label 0 → has_ways (ways_by lasts joins befores) label ≡ true) × (get_or lasts label 0 ≡ 0 → has_ways (ways_by lasts joins befores) label ≡ false)
 some_way lasts joins befores label linked low =
     let last : get_or lasts label 0 ≤ length befores = linked.begin label in (
@@ -284,19 +281,19 @@ some_way lasts joins befores label linked low =
       λ none. ap is_some_way (ways_at lasts joins befores label low ∙ ap (chain (link_at joins befores label) (length befores)) none ∙ chain_none (link_at joins befores label) (length befores)),
     )
 
--- The ways from a label are these, and then those from a join on.
-pub record IsOnChain (lasts : List ℕ) (joins : List Join) (befores : List Befores) (label : ℕ) (done : List Spill) (at : ℕ) : Type 0 where
+-- The ways from a label are `done`, and then those from join `at` on.
+pub record IsOnChain (lasts : List ℕ) (joins : List Join) (befores : List PreviousJoins) (label : ℕ) (done : List Spill) (at : ℕ) : Type 0 where
   pub inside : at ≤ length befores
   pub ways : done ++ chain (link_at joins befores label) (length befores) at ≡ get_or (ways_by lasts joins befores) label []
 
-pub chain_begun : (lasts : List ℕ) (joins : List Join) (befores : List Befores) (label at : ℕ) → AreLinked lasts joins befores → label < length lasts → at ≡ get_or lasts label at
+pub chain_begun : (lasts : List ℕ) (joins : List Join) (befores : List PreviousJoins) (label at : ℕ) → AreLinked lasts joins befores → label < length lasts → at ≡ get_or lasts label at
     → IsOnChain lasts joins befores label [] at
 chain_begun lasts joins befores label at linked low is =
     let same : at ≡ get_or lasts label 0 = is ∙ get_or_default lasts label at 0 low in
     let last : get_or lasts label 0 ≤ length befores = linked.begin label in
     record { inside = omega (arith, same, last); ways = ap (chain (link_at joins befores label) (length befores)) same ∙ sym (ways_at lasts joins befores label low) }
 
-module _ (lasts : List ℕ) (joins : List Join) (befores : List Befores) (label at : ℕ) (link : Link) (done : List Spill) (linked : AreLinked lasts joins befores) (some : 0 < at)
+module _ (lasts : List ℕ) (joins : List Join) (befores : List PreviousJoins) (label at : ℕ) (link : Link) (done : List Spill) (linked : AreLinked lasts joins befores) (some : 0 < at)
     (is : link ≡ link_at joins befores label (at - 1)) (on : IsOnChain lasts joins befores label done at) where
   abbrev links : ℕ → Link
   links = link_at joins befores label
@@ -327,7 +324,7 @@ module _ (lasts : List ℕ) (joins : List Join) (befores : List Befores) (label 
       subst (λ (z : List Spill). Contains z link.way) step
       (Contains-append_right done (link.way ∷ chain links (length befores) link.before) link.way (cons_head link.way (chain links (length befores) link.before)))
 
-pub chain_done : (lasts : List ℕ) (joins : List Join) (befores : List Befores) (label at : ℕ) (done : List Spill) → at ≡ 0 → IsOnChain lasts joins befores label done at
+pub chain_done : (lasts : List ℕ) (joins : List Join) (befores : List PreviousJoins) (label at : ℕ) (done : List Spill) → at ≡ 0 → IsOnChain lasts joins befores label done at
     → done ≡ get_or (ways_by lasts joins befores) label []
 chain_done lasts joins befores label at done none on =
     sym (append-nil done)

@@ -1,4 +1,4 @@
--- The end cells that are labels are the sources of the spill graph.
+-- The labels that are end cells are the sources of the spill graph.
 use Rattle.std.proofs.Common.{◌≡◌, ℕ, ◌+◌, ◌*◌, ◌<◌, ◌≤◌, ◌⊎◌, inl, inr, ℤ, List, length, get_or, set, replicate, Option, None, Some, IsSome, IfSome, is_some, ◌∙◌, sym, ap, subst, refl, arith}
 use Rattle.std.specs.Prelude.{slice_get}
 use Rattle.std.proofs.lemmas.Bool.{cases_eq, cases_lt}
@@ -20,7 +20,7 @@ use Rattle.fill.specs.Spills.{AreFloods, AreSpillSources, AreSourcesOf}
 use Rattle.fill.proofs.Rims.{has_tile_level, end_label, list_there, among_is}
 use Rattle.fill.proofs.CellMarks.{label_entry}
 
--- The heights of the first entries of the flood's table have been put at their nodes.
+-- `PutsEnds` of the first entries of the table.
 pub record PutsFirst (c : Cutting) (f : Flood) (count : ℕ) (old new : List (Option ℤ)) : Type 0 where
   pub size : length new ≡ length old
   pub only : (a : ℕ) → (get_or new a None ≡ get_or old a None) ⊎ IsEndAt c f a (get_or new a None)
@@ -29,7 +29,6 @@ pub record PutsFirst (c : Cutting) (f : Flood) (count : ℕ) (old new : List (Op
 pub none_put : (c : Cutting) (f : Flood) (old : List (Option ℤ)) → PutsFirst c f 0 old old
 none_put c f old = record { size = refl; only = λ a. inl refl; every = λ k p low. absurd (omega (arith, low)) }
 
--- one more entry
 pub one_put : (c : Cutting) (f : Flood) (k : ℕ) (label : Option Place) (end : Option ℤ) (old now : List (Option ℤ))
     → label ≡ get_or f.table.places k None → end ≡ get_or f.ends k None
     → IfSome label (IsWithin c) → length old ≡ c.cols * c.rows
@@ -99,7 +98,7 @@ put_length cols (Some p) (Some h) heights = length-set heights (index_of cols p)
 abbrev IsEndNode : Terrain → Cutting → ℕ → ℤ → Type 0
 IsEndNode t c a h = (p : Place) × (index_of c.cols p ≡ a) × IsEnd t p × (height_at t p ≡ Some h)
 
--- The heights are those of end cells, and those of the first tiles' labels are among them.
+-- The heights are those of end cells, with all of the first tiles.
 pub record HaveEnds (t : Terrain) (c : Cutting) (floods : List Flood) (count : ℕ) (heights : List (Option ℤ)) : Type 0 where
   pub size : length heights ≡ c.cols * c.rows
   pub only : (a : ℕ) (h : ℤ) → get_or heights a None ≡ Some h → IsEndNode t c a h
@@ -116,7 +115,7 @@ no_tile t c floods places heights size is = record {
   every = λ tile f k p h low. absurd (omega (arith, low));
 }
 
--- an entry of an end cell has its height
+-- An entry of an end cell has its height.
 end_is : (t : Terrain) (c : Cutting) (f : Flood) (a : ℕ) (o : Option ℤ)
     → AreEndHeights t f.table.places f.ends → IsEndAt c f a o
     → (h : ℤ) × (o ≡ Some h) × IsEndNode t c a h
@@ -125,7 +124,6 @@ end_is t c f a o ends at =
     let end = MatchOption-at_some _ _ some.0 some.1 (ends.each at.entry at.place at.listed) in
     (some.0, at.is ∙ some.1, (at.place, at.node, end.0, end.1))
 
--- one more tile
 pub one_tile : (t : Terrain) (c : Cutting) (floods : List Flood) (tile : ℕ) (f : Flood) (old new : List (Option ℤ))
     → AreFloods t c floods → slice_get floods tile ≡ Some f → IsFlood f → PutsEnds c f old new
     → HaveEnds t c floods tile old → HaveEnds t c floods (tile + 1) new
@@ -172,7 +170,7 @@ one_tile t c floods tile f old new are there lawful puts s = record {
     | inr found ↦ ap is_some found.1
   ]
 
--- so the heights of all tiles' end cells are the sources
+-- The heights of the end cells of all tiles are the sources.
 pub all_tiles : (t : Terrain) (c : Cutting) (floods : List Flood) (count : ℕ) (heights : List (Option ℤ))
     → AreFloods t c floods → length floods ≤ count → HaveEnds t c floods count heights
     → AreSourcesOf t c floods heights

@@ -1,4 +1,4 @@
--- The number of each tile's first label, and the heights of all labels that are end cells, tile by tile.
+-- The number of each tile's first label, and the heights of end cells by number.
 use Rattle.std.proofs.Common.{◌≡◌, ℕ, ◌+◌, ◌-◌, ◌*◌, ◌<◌, ◌≤◌, inl, inr, List, [], ◌∷◌, ◌++◌, length, get_or, take, None, Some, ◌∙◌, sym, ap, subst, refl, arith}
 use Rattle.std.proofs.Math.Nat.{mul-mul-mul_comm}
 use Rattle.std.proofs.lemmas.Nat.{mul-le}
@@ -18,7 +18,7 @@ use Rattle.cell_floods.specs.TileFlood.{Flood, IsFlood}
 use Rattle.fill.specs.Numbers.{AreFirsts, first_of, places_of}
 use Rattle.fill.specs.Spills.{AreFloods}
 
--- the lists of one more tile stand behind those of the tiles before it
+-- The list of one more tile comes after those of the tiles before it.
 pub flat_more : {X : Type 0} (g : Flood → List X) (floods : List Flood) (i : ℕ) (f : Flood) → i < length floods → f ≡ get_or floods i f → flat_map g (take (i + 1) floods) ≡ flat_map g (take i floods) ++ g f
 flat_more g floods i f low is =
     ap (flat_map g) (take_more floods i f low) ∙ flat_map-append g (take i floods) (get_or floods i f ∷ [])
@@ -68,7 +68,7 @@ one_first floods i f firsts new next after low is flood more sum small s = subst
   ];
 })
 
--- a tile has no more labels than one for each cell, and the entry for none
+-- A tile has at most one label for each cell, and the entry None.
 pub few_labels : (t : Terrain) (c : Cutting) (floods : List Flood) (tile : ℕ) (f : Flood) → AreFloods t c floods → slice_get floods tile ≡ Some f → IsFlood f → length f.table.places ≤ c.side * c.side + 1
 few_labels t c floods tile f are there lawful =
     let inside = bounds_inside c tile are.lawful (omega (arith, are.count, slice_get_within floods tile f there)) in
@@ -86,7 +86,7 @@ few_pieces n side some short any few =
     let more : k * side ≡ (k - 1 + 1) * side = ap (λ m. m * side) (omega (arith, one)) in
     omega (arith, last, more, short, few)
 
--- all labels of so many tiles have numbers of 32 bits
+-- The labels of all tiles have numbers of 32 bits.
 pub all_few : (c : Cutting) (n : ℕ) → IsCutting c → n ≤ tile_count c → n * (c.side * c.side + 1) ≤ 4294967295
 all_few c n h low =
     let square = c.side * c.side in

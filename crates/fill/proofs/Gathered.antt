@@ -19,28 +19,28 @@ use Rattle.cell_floods.proofs.Where.{labels_inside}
 use Rattle.floods.proofs.Heaps.{all_by_contains}
 use Rattle.floods.specs.declared.net.Spill.{Spill}
 use Rattle.drainage.proofs.Uniqueness.{between}
-use Rattle.fill.specs.Gathering.{Fit, LabelsInside, Spared, IsBypassed, mark_among, Meets, Covered, IsAfter, IsBefore, AreRising, AreLowest, AreGathered, are_settled, turned}
+use Rattle.fill.specs.Gathering.{Fit, LabelsInside, Spared, IsBypassed, mark_among, Meets, Covered, IsAfter, IsBefore, AreRising, AreLowest, AreGathered, are_both_sources, turned}
 use Rattle.fill.specs.LabelNet.{HasWaysOf, IsJoinOf, IsNumberPass, IsNumberGraph}
 use Rattle.fill.specs.Numbers.{places_of, ends_of, nodes_of, node_of_label}
 use Rattle.fill.specs.Parts.{IsGraph, graph_with}
 use Rattle.fill.specs.Placing.{AddsPlaced, join_at}
 use Rattle.fill.specs.Spills.{AreFloods, level_among, Carries, IsPass, AreSourcesOf, IsGraphOf}
 use Rattle.fill.specs.declared.spills.Join.{Join}
-use Rattle.fill.specs.declared.marks.Mark.{Mark}
+use Rattle.fill.specs.declared.marks.CellLabel.{CellLabel}
 use Rattle.fill.proofs.Adding.{no_join}
 use Rattle.fill.proofs.CellMarks.{label_entry, marked_within}
 use Rattle.fill.proofs.LabelGraphs.{leads_back}
 use Rattle.fill.proofs.Numbered.{AreLawful, IsNumbered, numbered, number_below, number_label, has_mark, ends_length, fit_of}
 use Rattle.fill.proofs.Rims.{neighbour_back, level_has_data, list_there, among_is}
 
--- labels are settled or not, and so both ways
+-- Whether both labels are sources does not depend on their order.
 and_turned : (a b : Bool) → (a && b) ≡ (b && a)
 and_turned true true = refl
 and_turned true false = refl
 and_turned false true = refl
 and_turned false false = refl
 
--- joins that rise have each two labels once
+-- Joins in order have each two labels once.
 one_join : (joins : List Join) → AreRising joins → (j k : Join) → Contains joins j → Contains joins k → j.from ≡ k.from → j.to ≡ k.to → j ≡ k
 one_join joins rise j k a b e f = elim (cases_order a.0 b.0) [
   | inl same ↦ sym (there a.0 j a.2 a.1) ∙ ap (λ n. get_or joins n j) same ∙ move b.0 b.1 b.2
@@ -71,7 +71,7 @@ meets_turned c floods out p q j m = record {
   greater = max_comm m.to_level m.from_level ∙ m.greater;
 }
 
--- the one of two places comes after the other
+-- Of two places one comes after the other.
 after_cases : (p q : Place) → p ≢ q → IsAfter p q ⊎ IsAfter q p
 after_cases p q differ = elim (cases_order p.row q.row) [
   | inr other ↦ elim other [ inl less ↦ inl (inl less) | inr more ↦ inr (inl more) ]
@@ -84,9 +84,9 @@ after_cases p q differ = elim (cases_order p.row q.row) [
 meets_differ : (c : Cutting) (floods : List Flood) (out : Spared) (p q : Place) (j : Join) → Meets (mark_among c floods) out p q j → p ≢ q
 meets_differ c floods out p q j m e =
     let same = same_Some (record { level = m.from_level; node = j.from }) (record { level = m.to_level; node = j.to }) (sym m.from_is ∙ ap (mark_among c floods) e ∙ m.to_is) in
-    m.different (ap (λ (z : Mark). z.node) same)
+    m.different (ap (λ (z : CellLabel). z.node) same)
 
--- floods of tiles fit
+-- The floods of tiles fit.
 fit_labels : (t : Terrain) (c : Cutting) (tile : ℕ) (f : Flood) → IsCutting c → tile < tile_count c → Cuts c t → IsTileFlood t c tile f → (k : ℕ) (label : Place) → get_or f.labels k None ≡ Some label → IsInTile c tile label
 fit_labels t c tile f h below cuts flood = labels_inside t c tile f.bounds f.levels f.labels h below cuts (record {
   bounds = flood.bounds;
@@ -96,16 +96,16 @@ fit_labels t c tile f h below cuts flood = labels_inside t c tile f.bounds f.lev
   each = flood.each;
 })
 
--- no join left out
+-- No join is left out.
 abbrev pub all_joined : Spared
 all_joined = record { sources = []; bypassed = false }
 
-none_settled : (a b : ℕ) → are_settled [] a b ≡ false
-none_settled a b =
+none_are_sources : (a b : ℕ) → are_both_sources [] a b ≡ false
+none_are_sources a b =
     let none : List (Option ℤ) = [] in
     ap (λ (o : Option ℤ). is_some o && is_some (get_or none b None)) (get_or_past none a None (omega arith))
 
--- labels of a tile's flood lie in the grid
+-- The labels of a tile's flood lie in the grid.
 pub labels_within : (t : Terrain) (c : Cutting) (floods : List Flood) (tile : ℕ) (f : Flood) → AreFloods t c floods → slice_get floods tile ≡ Some f → LabelsInside c f
 labels_within t c floods tile f are there k label at = (fit_labels t c tile f are.lawful (omega (arith, are.count, slice_get_within floods tile f there)) are.cuts (are.each tile f there) k label at).0
 
@@ -113,10 +113,10 @@ module _ (t : Terrain) (c : Cutting) (floods : List Flood) (are : AreFloods t c 
   fit : Fit c floods
   fit = fit_of t c floods are
 
-  mark_data : (p : Place) (m : Mark) (x : IsNumbered c floods p m) → mark_among c floods p ≡ Some m → IsDataCell t p
+  mark_data : (p : Place) (m : CellLabel) (x : IsNumbered c floods p m) → mark_among c floods p ≡ Some m → IsDataCell t p
   mark_data p m x e = level_has_data t c floods are.lawful are p m.level (marked_within c floods p m are.lawful fit e) x.level_is
 
-  -- a meeting is a pass of numbers
+  -- Cells that meet are a pass by number.
   meets_number : (out : Spared) (p q : Place) (j : Join) → Meets (mark_among c floods) out p q j → IsNumberPass t c floods j.from j.to j.height
   meets_number out p q j m =
       let x = numbered c floods p _ lawful m.from_is in
@@ -132,8 +132,8 @@ module _ (t : Terrain) (c : Cutting) (floods : List Flood) (are : AreFloods t c 
         greater = m.greater;
       }
 
-  -- and back, where the labels are not settled
-  number_meets : (out : Spared) (a b : ℕ) (h : ℤ) → a ≢ b → are_settled out.sources a b ≡ false → (x : IsNumberPass t c floods a b h) → Meets (mark_among c floods) out x.from x.to (record { from = a; to = b; height = h })
+  -- A pass by number is two cells that meet, unless both labels are sources.
+  number_meets : (out : Spared) (a b : ℕ) (h : ℤ) → a ≢ b → are_both_sources out.sources a b ≡ false → (x : IsNumberPass t c floods a b h) → Meets (mark_among c floods) out x.from x.to (record { from = a; to = b; height = h })
   number_meets out a b h differ apart x = record {
     touches = x.neighbours.touches;
     from_level = x.from_level;
@@ -145,8 +145,8 @@ module _ (t : Terrain) (c : Cutting) (floods : List Flood) (are : AreFloods t c 
     greater = x.greater;
   }
 
-  -- labels that meet are joined as low, in this or the other order
-  number_cover : (out : Spared) (joins : List Join) → AreGathered c floods out joins → (a b : ℕ) (h : ℤ) → a ≢ b → are_settled out.sources a b ≡ false → (x : IsNumberPass t c floods a b h) → ((out.bypassed ≡ true) × (IsBypassed (mark_among c floods) x.from x.to ⊎ IsBypassed (mark_among c floods) x.to x.from)) ⊎ ((low : ℤ) × IsJoinOf joins a b low × (low ≤ℤ h))
+  -- Labels that meet are joined as low, in one order or the other.
+  number_cover : (out : Spared) (joins : List Join) → AreGathered c floods out joins → (a b : ℕ) (h : ℤ) → a ≢ b → are_both_sources out.sources a b ≡ false → (x : IsNumberPass t c floods a b h) → ((out.bypassed ≡ true) × (IsBypassed (mark_among c floods) x.from x.to ⊎ IsBypassed (mark_among c floods) x.to x.from)) ⊎ ((low : ℤ) × IsJoinOf joins a b low × (low ≤ℤ h))
   number_cover out joins s a b h differ apart x =
       let m = number_meets out a b h differ apart x in
       elim (after_cases x.from x.to x.neighbours.different) [
@@ -174,7 +174,7 @@ module _ (t : Terrain) (c : Cutting) (floods : List Flood) (are : AreFloods t c 
     greater = max_comm x.to_level x.from_level ∙ x.greater;
   }
 
-  -- the joins are passes of numbers
+  -- Each join is a pass by number.
   joins_pass : (out : Spared) (joins : List Join) → AreGathered c floods out joins → (j : Join) → Contains joins j → IsNumberPass t c floods j.from j.to j.height
   joins_pass out joins s j there = let m = s.only j there in meets_number out m.0 m.1 j m.3
 
@@ -183,14 +183,14 @@ module _ (t : Terrain) (c : Cutting) (floods : List Flood) (are : AreFloods t c 
       let x = joins_pass out joins s j there in
       (number_below c floods x.from _ lawful x.from_is, number_below c floods x.to _ lawful x.to_is))
 
-  -- the graph by number
+  -- The spill graph by number.
   pub is_number_graph : (out : Spared) (sources : List (Option ℤ)) (joins : List Join) (ways : List (List Spill)) → AreGathered c floods out joins → out.sources ≡ sources → sources ≡ ends_of floods → length ways ≡ length sources → HasWaysOf joins ways → IsNumberGraph t c floods ways sources
   is_number_graph out sources joins ways s out_is is size has = record {
     count = size ∙ ap length is ∙ ends_length t c floods are;
     ends = is;
-    joined = λ a b h differ pass. elim (cases_Bool (are_settled sources a b)) [
+    joined = λ a b h differ pass. elim (cases_Bool (are_both_sources sources a b)) [
       | inl settled ↦ inl (inl (and_parts (is_some (get_or sources a None)) (is_some (get_or sources b None)) settled))
-      | inr apart ↦ elim (number_cover out joins s a b h differ (ap (λ z. are_settled z a b) out_is ∙ apart) pass) [
+      | inr apart ↦ elim (number_cover out joins s a b h differ (ap (λ z. are_both_sources z a b) out_is ∙ apart) pass) [
         | inl bypass ↦ inr bypass.1
         | inr low ↦ inl (inr (low.0, leads_back joins ways has a b low.0 ((has a b low.0).1 low.1), low.2))
       ]
@@ -201,22 +201,22 @@ module _ (t : Terrain) (c : Cutting) (floods : List Flood) (are : AreFloods t c 
     ];
   }
 
-  -- the place of a label by its number
-  node_is : (p : Place) (m : Mark) (x : IsNumbered c floods p m) → get_or (nodes_of c.cols floods) m.node 0 ≡ index_of c.cols x.label
+  -- The node of a label, by its number.
+  node_is : (p : Place) (m : CellLabel) (x : IsNumbered c floods p m) → get_or (nodes_of c.cols floods) m.node 0 ≡ index_of c.cols x.label
   node_is p m x = get_or-map (node_of_label c.cols) (places_of floods) m.node None 0 (number_below_of p m x) ∙ ap (node_of_label c.cols) (number_label c floods p m x) where
-    number_below_of : (p : Place) (m : Mark) → IsNumbered c floods p m → m.node < length (places_of floods)
+    number_below_of : (p : Place) (m : CellLabel) → IsNumbered c floods p m → m.node < length (places_of floods)
     number_below_of p m x = elim (cases_lt m.node (length (places_of floods))) [
       | inl low ↦ low
       | inr past ↦ absurd (cc (number_label c floods p m x, get_or_past (places_of floods) m.node None past))
     ]
 
-  label_node_below : (p : Place) (m : Mark) (x : IsNumbered c floods p m) → index_of c.cols x.label < c.cols * c.rows
+  label_node_below : (p : Place) (m : CellLabel) (x : IsNumbered c floods p m) → index_of c.cols x.label < c.cols * c.rows
   label_node_below p m x =
       let y = label_entry x.flood p x.label (sym (among_is (λ f. label_in f p) floods (tile_of_place c p) x.flood x.there) ∙ x.label_is) in
       let within = labels_within t c floods (tile_of_place c p) x.flood are x.there y.0 x.label y.1 in
       index_below c.cols c.rows x.label within.0 within.1
 
-  -- a pass of numbers is one of places
+  -- A pass by number is a pass by place.
   place_pass : (nodes : List ℕ) (j : Join) → nodes ≡ nodes_of c.cols floods → IsNumberPass t c floods j.from j.to j.height → IsPass t c floods (join_at nodes j).from (join_at nodes j).to j.height
   place_pass nodes j is pass =
       let x = numbered c floods pass.from _ lawful pass.from_is in
@@ -248,7 +248,7 @@ module _ (t : Terrain) (c : Cutting) (floods : List Flood) (are : AreFloods t c 
     greater = max_comm x.to_level x.from_level ∙ x.greater;
   }
 
-  -- the number of a label that a cell carries
+  -- The number of the label that a cell carries.
   carried : (p : Place) (a : ℕ) (level : ℤ) → Carries c floods p a → level_among c floods p ≡ Some level → IsWithin c p → (n : ℕ) × (mark_among c floods p ≡ Some (record { level = level; node = n })) × (get_or (nodes_of c.cols floods) n 0 ≡ a)
   carried p a level carries level_is within =
       let f = list_there floods (tile_of_place c p) (omega (arith, are.count, tile_of_place_below c p are.lawful within)) in
@@ -285,7 +285,7 @@ module _ (t : Terrain) (c : Cutting) (floods : List Flood) (are : AreFloods t c 
           greater = x.greater;
         } in
         let apart : m.0 ≢ n.0 = λ e. differ (sym m.2 ∙ ap (λ k. get_or (nodes_of c.cols floods) k 0) e ∙ n.2) in
-        let cover : (low : ℤ) × IsJoinOf joins m.0 n.0 low × (low ≤ℤ h) = elim (number_cover all_joined joins s m.0 n.0 h apart (none_settled m.0 n.0) number) [ inl bypass ↦ absurd (cc (bypass.0)) | inr low ↦ low ] in
+        let cover : (low : ℤ) × IsJoinOf joins m.0 n.0 low × (low ≤ℤ h) = elim (number_cover all_joined joins s m.0 n.0 h apart (none_are_sources m.0 n.0) number) [ inl bypass ↦ absurd (cc (bypass.0)) | inr low ↦ low ] in
         let from_is : get_or nodes m.0 0 ≡ a = ap (λ (z : List ℕ). get_or z m.0 0) is ∙ m.2 in
         let to_is : get_or nodes n.0 0 ≡ b = ap (λ (z : List ℕ). get_or z n.0 0) is ∙ n.2 in
         let made : Join = record { from = a; to = b; height = cover.0 } in
@@ -320,7 +320,6 @@ module _ (t : Terrain) (c : Cutting) (floods : List Flood) (are : AreFloods t c 
         let below = label_node_below x.from _ y in
         omega (arith, below, node_is x.from _ y, m.2)
 
-    -- what holds of the graph by places
     pub is_graph : (sources : List (Option ℤ)) → length sources ≡ c.cols * c.rows → IsGraph (graph_with c lowest sources)
     is_graph sources size = record {
       sources = size;
@@ -331,7 +330,7 @@ module _ (t : Terrain) (c : Cutting) (floods : List Flood) (are : AreFloods t c 
       rising = low.rising;
     }
 
-    -- it is the graph of the floods
+    -- The graph by places is the spill graph of the floods.
     pub is_graph_of : (sources : List (Option ℤ)) → AreSourcesOf t c floods sources → IsGraphOf t c floods (graph_with c lowest sources)
     is_graph_of sources srcs = record {
       count = refl;

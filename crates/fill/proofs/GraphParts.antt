@@ -1,4 +1,4 @@
--- Joins that rise by their labels, as a net.
+-- Joins in the order of their labels, as a net.
 use Rattle.std.proofs.Common.{◌≡◌, ℕ, ◌+◌, ◌<◌, inl, inr, List, length, get_or, sym, ap, subst, ◌∙◌, arith, ◌≢◌, ◌-◌, ◌≤◌, map, take, drop, length-drop}
 use Rattle.std.specs.List.{Contains}
 use Rattle.std.proofs.lemmas.Bool.{cases_eq, cases_lt}
@@ -12,7 +12,7 @@ use Rattle.fill.specs.Spills.{Graph, HasJoin}
 use Rattle.fill.specs.Gathering.{AreRising, IsBefore, way_of}
 use Rattle.floods.proofs.Heaps.{all_by_contains}
 
--- the first labels of joins that rise
+-- The first labels of joins in order.
 up : (joins : List Join) → AreRising joins → (m n : ℕ) (d : Join) → m ≤ n → n < length joins → (get_or joins m d).from ≤ (get_or joins n d).from
 up joins rise m n d low below = elim (cases_eq m n) [
   | inl same ↦ let e = ap (λ k. (get_or joins k d).from) same in omega (arith, e)
@@ -22,7 +22,7 @@ up joins rise m n d low below = elim (cases_eq m n) [
   first_up x y (inl a) = omega arith
   first_up x y (inr a) = omega (arith, a.0)
 
--- the search halves what is left
+-- One step of the binary search.
 pub below_more : (joins : List Join) (node middle : ℕ) (e : Join) → AreRising joins → middle < length joins → (get_or joins middle e).from < node → (k : ℕ) (d : Join) → k < middle + 1 → (get_or joins k d).from < node
 below_more joins node middle e rise inside low k d below =
     let same = ap (λ (j : Join). j.from) (get_or_default joins middle d e inside) in
@@ -33,13 +33,13 @@ above_more joins node middle e rise inside high k d above below =
     let same = ap (λ (j : Join). j.from) (get_or_default joins middle d e inside) in
     omega (arith, up joins rise middle k d above below, same, high)
 
--- past a join of a later node all are of later nodes
+-- Past a join of a later node all joins are of later nodes.
 pub past_node : (joins : List Join) (node end : ℕ) (e : Join) → AreRising joins → end < length joins → node ≤ (get_or joins end e).from → (get_or joins end e).from ≢ node → (k : ℕ) (d : Join) → end ≤ k → k < length joins → node < (get_or joins k d).from
 past_node joins node end e rise inside low differ k d above below =
     let far = above_more joins (node + 1) end e rise inside (omega (arith, low, differ)) k d above below in
     omega (arith, far)
 
--- the ways between are those of the node
+-- The ways between the two indexes are those of the node.
 pub just_node : (g : Graph) (joins : List Join) (node start end : ℕ) → IsGraph g → joins ≡ g.joins → start ≤ end → end ≤ length joins
     → ((k : ℕ) (d : Join) → k < start → (get_or joins k d).from < node) → ((k : ℕ) (d : Join) → start ≤ k → k < length joins → node ≤ (get_or joins k d).from)
     → ((k : ℕ) (d : Join) → k < end → (get_or joins k d).from ≤ node) → ((k : ℕ) (d : Join) → end ≤ k → k < length joins → node < (get_or joins k d).from)

@@ -13,7 +13,7 @@ use Rattle.fill.specs.Spills.{AreFloods}
 use Rattle.fill.specs.declared.filling.FloodedTile.{FloodedTile}
 use Rattle.fill.specs.declared.spills.Join.{Join}
 
--- of which entry another one is the image
+-- The item from which `map` makes an item.
 image_at : {X Y : Type 0} (g : X → Y) (xs : List X) (ys : List Y) (i : ℕ) (y : Y) → ys ≡ map g xs → slice_get ys i ≡ Some y → (x : X) × (slice_get xs i ≡ Some x) × (g x ≡ y)
 image_at {Y = Y} g xs ys i y is there =
     let low : i < length xs = omega (arith, slice_get_within ys i y there, ap length is, length-map xs g) in
@@ -27,7 +27,7 @@ module _ (t : Terrain) (c : Cutting) (tiles : List FloodedTile) (n : ℕ) (size 
   here : (tile : ℕ) (x : FloodedTile) → slice_get tiles tile ≡ Some x → IsTileFlood t c tile x.flood × IsInnerOf true x.flood x.joins.items
   here tile x e = subst (λ (y : FloodedTile). IsTileFlood t c tile y.flood × IsInnerOf true y.flood y.joins.items) (get_or_from_slice_get tiles tile x x e) (given tile x (omega (arith, size, slice_get_within tiles tile x e)))
 
-  -- the floods that the jobs gave
+  -- The floods that the jobs return.
   pub floods_given : IsCutting c → Cuts c t → n ≡ tile_count c → AreFloods t c floods
   floods_given h cuts same = record {
     lawful = h;
@@ -36,7 +36,7 @@ module _ (t : Terrain) (c : Cutting) (tiles : List FloodedTile) (n : ℕ) (size 
     each = λ tile f e. let x = image_at (λ (x : FloodedTile). x.flood) tiles floods tile f floods_are e in subst (IsTileFlood t c tile) x.2 (here tile x.0 x.1).0;
   }
 
-  -- and the joins inside them
+  -- The joins inside tiles that the jobs return.
   pub inner_given : (inner : List (Vec Join Global)) → inner ≡ map (λ (x : FloodedTile). x.joins) tiles → AreInner floods true inner
   inner_given inner inner_are = record {
     count = omega (arith, ap length floods_are, ap length inner_are, length-map tiles (λ (x : FloodedTile). x.flood), length-map tiles (λ (x : FloodedTile). x.joins));
@@ -48,7 +48,7 @@ module _ (t : Terrain) (c : Cutting) (tiles : List FloodedTile) (n : ℕ) (size 
         (subst (λ (z : Vec Join Global). IsInnerOf true x.0.flood z.items) (ap (λ (z : FloodedTile). z.joins) same ∙ y.2) (here tile x.0 x.1).1);
   }
 
--- The joins inside each of the first tiles, of which none is left out.
+-- The joins inside the first tiles, with none left out.
 pub record AreFirstInner (floods : List Flood) (count : ℕ) (inner : List (Vec Join Global)) : Type 0 where
   pub size : length inner ≡ count
   pub each : (tile : ℕ) (f : Flood) (joins : Vec Join Global) → slice_get floods tile ≡ Some f → slice_get inner tile ≡ Some joins → IsInnerOf false f joins.items

@@ -1,4 +1,4 @@
--- The graph by numbers: its ways are those of the joins, and its levels those of its flood.
+-- The spill graph by numbers: the ways of its joins, and the levels of its flood.
 use Rattle.std.proofs.Common.{◌≡◌, ℕ, zero, suc, ◌+◌, ◌<◌, ◌⊎◌, ◌↔◌, inl, inr, true, false, ℤ, pos, ◌≤ℤ◌, List, [], ◌∷◌, ◌++◌, length, get_or, replicate, Option, None, Some, is_some, unwrap_or, ◌∙◌, sym, ap, subst, refl, arith}
 use Rattle.std.specs.Prelude.{IsSome, MatchOption}
 use Rattle.std.specs.Int.{int_max}
@@ -20,21 +20,21 @@ use Rattle.fill.proofs.Adding.{no_join}
 no_way : (w : Spill) → Contains [] w → ⊥
 no_way w h = omega (arith, h.1)
 
--- a label with a way is one of the list
+-- A label with a way is one of the list.
 pub way_inside : (ways : List (List Spill)) (a : ℕ) (w : Spill) → Contains (get_or ways a []) w → a < length ways
 way_inside ways a w h = elim (cases_lt a (length ways)) [
   | inl low ↦ low
   | inr past ↦ absurd (no_way w (subst (λ (z : List Spill). Contains z w) (get_or_past ways a [] past) h))
 ]
 
--- no joins, and one join after others
+-- Adding no joins, and one more join.
 pub no_ways_added : (ways : List (List Spill)) → AddsWays [] ways ways
 no_ways_added ways = record {
   size = refl;
   each = λ a b h. (λ held. inl held, λ held. elim held [ inl old ↦ old | inr join ↦ elim join [ inl j ↦ absurd (no_join _ j) | inr j ↦ absurd (no_join _ j) ] ]);
 }
 
--- the joins of two lists
+-- The joins of two lists.
 join_of_both : (first second : List Join) (a b : ℕ) (h : ℤ) → IsJoinOf (first ++ second) a b h ↔ (IsJoinOf first a b h ⊎ IsJoinOf second a b h)
 join_of_both first second a b h = (
   λ held. elim held [
@@ -62,7 +62,7 @@ ways_then first second old now new s t = record {
   );
 }
 
--- all joins added to none
+-- The ways of all joins.
 pub ways_of_all : (joins : List Join) (labels : ℕ) (old ways : List (List Spill)) → old ≡ replicate labels [] → AddsWays joins old ways → HasWaysOf joins ways
 ways_of_all joins labels old ways none s a b h = (
   λ held. elim ((s.each a b h).0 held) [ inl was ↦ absurd (nothing was) | inr join ↦ join ],
@@ -74,20 +74,19 @@ ways_of_all joins labels old ways none s a b h = (
     | inr past ↦ no_way _ (subst (λ (z : List Spill). Contains z (record { to = b; height = h })) (ap (λ (z : List (List Spill)). get_or z a []) none ∙ get_or_past (replicate labels []) a [] (omega (arith, past, length-replicate {A = List Spill} labels []))) held)
   ]
 
--- such ways lead back
+-- Each way leads back.
 pub leads_back : (joins : List Join) (ways : List (List Spill)) → HasWaysOf joins ways → (a b : ℕ) (h : ℤ) → Contains (get_or ways a []) (record { to = b; height = h }) → HasWay ways a b h
 leads_back joins ways has a b h there =
     let back : Contains (get_or ways b []) (record { to = a; height = h }) = (has b a h).1 (elim ((has a b h).0 there) [ inl j ↦ inr j | inr j ↦ inl j ]) in
     record { from_node = way_inside ways a _ there; to_node = way_inside ways b _ back; there = there; back = back }
 
--- the ways from a label are the joined ones
+-- The ways from a label are its joins in the net.
 pub just_ways : (g : NumberNet) (a : ℕ) → IsNumberNet g → HasJust (HasWay g.ways a) (get_or g.ways a [])
 just_ways g a net = record {
   only = all_by_contains (λ (w : Spill). HasWay g.ways a w.to w.height) (get_or g.ways a []) (λ w there. net.back a w.to w.height there);
   every = λ b h way. way.there;
 }
 
--- the levels of a flood, or else the heights of sources
 pub levels_or-length : (heights sources : List (Option ℤ)) → length sources ≡ length heights → length (levels_or heights sources) ≡ length heights
 levels_or-length [] sources same = refl
 levels_or-length (x ∷ xs) [] same = absurd (omega (arith, same))
@@ -99,7 +98,7 @@ levels_or-at (x ∷ xs) [] a low same = absurd (omega (arith, same))
 levels_or-at (x ∷ xs) (y ∷ ys) zero low same = refl
 levels_or-at (x ∷ xs) (y ∷ ys) (suc a) low same = levels_or-at xs ys a (omega (arith, low)) (omega (arith, same))
 
--- A label's level is found by such sources as it is by all.
+-- The level of a label is the same by joined sources as by all sources.
 module _ (ways : List (List Spill)) (sources : List (Option ℤ)) where
   some_has : (a b : ℕ) (h : ℤ) → HasWay ways a b h → has_ways ways a ≡ true
   some_has a b h way = by (get_or ways a []) way.there where
@@ -110,7 +109,7 @@ module _ (ways : List (List Spill)) (sources : List (Option ℤ)) where
   source_is : (a : ℕ) → has_ways ways a ≡ true → joined_source ways sources a ≡ source_number sources a
   source_is a has = cond-true _ _ _ has
 
-  -- walks from a label with a way
+  -- Walks from a label with a way.
   walk_forth : (walk : List Spill) (a : ℕ) → has_ways ways a ≡ true → IsWalk (HasWay ways) (source_number sources) a walk
       → IsWalk (HasWay ways) (joined_source ways sources) a walk × (crest (joined_source ways sources) a walk ≡ crest (source_number sources) a walk)
   walk_forth [] a has walk = (subst (λ (o : Option ℤ). IsSome o) (sym (source_is a has)) walk, ap (λ (o : Option ℤ). unwrap_or o (pos 0)) (source_is a has))
@@ -154,7 +153,7 @@ module _ (ways : List (List Spill)) (sources : List (Option ℤ)) where
         low h some [] is = le_of_same _ _ (sym (ap (λ (o : Option ℤ). unwrap_or o (pos 0)) some))
         low h some (step ∷ rest) is = absurd (alone a none step.to step.height is.0)
 
-  -- what a label has by such sources
+  -- The level and the end of a label with a way.
   linked_level : (a : ℕ) (level : Option ℤ) (label : Option ℕ) → has_ways ways a ≡ true
       → MatchOption level (HasNoWalk (HasWay ways) (joined_source ways sources) a × (label ≡ None)) (λ h. (end : ℕ) × (label ≡ Some end) × IsLevel (HasWay ways) (joined_source ways sources) a h end)
       → IsNodeLevel a level label
@@ -175,14 +174,14 @@ module _ (ways : List (List Spill)) (sources : List (Option ℤ)) where
   no_walk_alone a none [] is = none_done (joined_source ways sources a) (cond-false _ _ _ none) is
   no_walk_alone a none (step ∷ rest) is = alone a none step.to step.height is.0
 
-  -- a label that has a way and no level has no height as a source
+  -- A label that has a way and no level is no source.
   no_source : (a : ℕ) → has_ways ways a ≡ true → HasNoWalk (HasWay ways) (joined_source ways sources) a → source_number sources a ≡ None
   no_source a has none = elim (cases_option (source_number sources a)) [
     | inl lacks ↦ lacks
     | inr some ↦ absurd (none [] (subst (λ (o : Option ℤ). IsSome o) (sym (source_is a has)) (ap is_some some.1)))
   ]
 
-  -- the labels of those levels
+  -- The labels that go with `levels_or`.
   abbrev labels_or : ℕ → List (Option ℕ) → List (Option ℤ) → List (Option ℕ)
   labels_or a [] rest = []
   labels_or a (label ∷ labels) [] = []

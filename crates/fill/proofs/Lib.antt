@@ -1,9 +1,9 @@
--- what the floods of tiles say of a cell
+-- The marks of cells.
 mod CellMarks
 mod NearTiles
--- raising by the levels of any net of labels
+-- Raising by the levels of any net of labels.
 mod Rims
--- the spill graph by number
+-- The spill graph by number.
 mod Adding
 mod Firsts
 mod Numbered
@@ -12,10 +12,10 @@ mod InnerLists
 mod Chains
 mod LabelGraphs
 mod GraphParts
--- and by place
+-- The spill graph by place.
 mod Lowest
 mod Placed
 pub mod Gathered
 mod EndSources
--- raising, and the tiles together
+-- Raising, and all tiles together.
 pub mod Raised

@@ -1,4 +1,4 @@
--- The lowest joins of each two labels.
+-- The lowest join of each two labels.
 use Rattle.terrain.proofs.Orders.{trans}
 use Rattle.std.proofs.Common.{◌≡◌, ℕ, ◌+◌, ◌-◌, ◌<◌, ◌≤◌, ◌⊎◌, inl, inr, ◌≤ℤ◌, false, List, [], ◌∷◌, ◌++◌, length, get_or, ◌∙◌, sym, ap, subst, refl, arith}
 use Rattle.std.specs.Ordering.{nat_cmp, int_cmp, ordering_then, is_lt}
@@ -41,13 +41,13 @@ before_trans x y z (inr a) (inl b) = inl (omega (arith, a.0))
 before_trans x y z (inr (e, inl a)) (inr (f, b)) = inr (e ∙ f, omega arith)
 before_trans x y z (inr (e, inr a)) (inr (f, b)) = inr (e ∙ f, omega (arith, a.0))
 
--- joins that are not above come before, where their labels differ
+-- Sorted joins with different labels are in the order of their labels.
 before_from : (x y : Join) → NotAbove x y → (x.from ≡ y.from → x.to ≡ y.to → ⊥) → IsBefore x y
 before_from x y (inl a) differ = inl a
 before_from x y (inr (e, inl a)) differ = inr (e, a)
 before_from x y (inr (e, inr a)) differ = absurd (differ e a.0)
 
--- sorted joins
+-- The joins are sorted.
 abbrev pub AreOrdered : List Join → Type 0
 AreOrdered joins = (m n : ℕ) (d : Join) → m ≤ n → n < length joins → NotAbove (get_or joins m d) (get_or joins n d)
 
@@ -57,13 +57,13 @@ join_order_total = then_total (on_total (λ j. j.from) nat_cmp_total) (then_tota
 pub ordered : (joins : List Join) → IsSorted join_order joins → AreOrdered joins
 ordered joins sorted m n d low below = not_above _ _ (sorted_far (λ x y. is_lt (join_order x y)) (ranks_by join_order_total (λ j. j)) joins sorted m n d low below)
 
--- of the first joins the lowest have been kept
+-- The lowest of the first joins have been kept.
 pub record HasKept (joins : List Join) (i : ℕ) (lowest : List Join) : Type 0 where
   pub only : (j : Join) → Contains lowest j → (k : ℕ) × (k < i) × (get_or joins k j ≡ j)
   pub every : (k : ℕ) (d : Join) → k < i → Covered lowest (get_or joins k d)
   pub rising : (m n : ℕ) (d : Join) → m < n → n < length lowest → IsBefore (get_or lowest m d) (get_or lowest n d)
 
--- one that repeats the labels before it is passed over
+-- A join that repeats the labels before it is skipped.
 pub kept_same : (joins : List Join) (i : ℕ) (lowest : List Join) → AreOrdered joins → i < length joins → HasKept joins i lowest → IsRepeat joins i → HasKept joins (i + 1) lowest
 kept_same joins i lowest order below s repeat = record {
   only = λ j h. let was = s.only j h in (was.0, omega (arith, was.1), was.2);
@@ -82,7 +82,7 @@ kept_same joins i lowest order below s repeat = record {
   height_up x y (inr (g, inl a)) e f = absurd (omega (arith, a, f))
   height_up x y (inr (g, inr a)) e f = a.1
 
--- any other is kept
+-- Any other join is kept.
 pub kept_more : (joins : List Join) (i : ℕ) (x : Join) (lowest : List Join) → AreOrdered joins → i < length joins → x ≡ get_or joins i x → HasKept joins i lowest → (IsRepeat joins i → ⊥) → HasKept joins (i + 1) (lowest ++ x ∷ [])
 kept_more joins i x lowest order below is s fresh = record {
   only = λ j h. elim (Contains-push_cases lowest x j h) [

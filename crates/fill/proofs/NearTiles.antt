@@ -1,4 +1,4 @@
--- The numbers of the tiles around a tile.
+-- The tiles around a tile.
 use Rattle.std.proofs.Common.{◌≡◌, ℕ, ◌+◌, ◌-◌, ◌*◌, ◌/◌, ◌%◌, ◌<◌, ◌≤◌, ◌∙◌, sym, ap, arith, inl, inr}
 use Rattle.std.proofs.lemmas.Bool.{cases_eq}
 use Rattle.std.proofs.lemmas.Nat.{div-add-mod'}
@@ -24,7 +24,7 @@ module _ (t : Cutting) (tile : ℕ) (b : Bounds) (lawful : IsCutting t) (of_tile
   short_cols : b.cols ≤ t.side
   short_cols = omega (arith, ap (λ (z : Bounds). z.cols) of_tile)
 
-  -- the tile with a row of this one is this one, and the tile with the row after them the one below
+  -- A tile has its own rows, and the tile below it the row after them.
   pub row_of_tile : (row : ℕ) → b.top ≤ row → row < b.top + b.rows → IsTileWithRow t tile row tile
   row_of_tile row top bottom =
       let same : row / t.side ≡ tile / across t = piece_is t.side (tile / across t) row (omega (arith, top, top_is)) (omega (arith, bottom, top_is, short_rows)) in
@@ -35,7 +35,7 @@ module _ (t : Cutting) (tile : ℕ) (b : Bounds) (lawful : IsCutting t) (of_tile
       let col : b.left / t.side ≡ tile_col = piece_is t.side tile_col b.left (omega (arith, left_is)) (omega (arith, left_is, lawful.some_side)) in
       is (omega (arith, at, inside)) ∙ ap (λ k. (b.top + b.rows) / t.side * across t + k) col ∙ ap (λ k. k / t.side * across t + tile_col) (sym at)
 
-  -- the tile of a place, by the one with its row
+  -- The tile of a place, by the tile with its row.
   module _ (p : Place) (first : ℕ) (within : IsWithin t p) (is : IsTileWithRow t tile p.row first) where
     pub tile_there : b.left ≤ p.col → p.col < b.left + b.cols → first ≡ tile_of_place t p
     tile_there left right =

@@ -1,4 +1,4 @@
--- The labels of all tiles by number: a cell's number tells its label, and its height where that is an end cell.
+-- The labels of all tiles by number: their places, and the heights of end cells.
 use Rattle.std.proofs.Common.{◌≡◌, ℕ, zero, suc, ◌+◌, ◌*◌, ◌<◌, ◌≤◌, ◌≤ℤ◌, ◌⊎◌, inl, inr, ℤ, List, [], ◌∷◌, length, get_or, take, Option, None, Some, ◌∙◌, sym, ap, subst, refl, arith}
 use Rattle.std.specs.Prelude.{slice_get, option_map}
 use Rattle.std.specs.List.{flat_map}
@@ -24,12 +24,12 @@ use Rattle.fill.specs.LabelNet.{source_number, IsNumberGraph}
 use Rattle.fill.specs.LabelNet.{HasWay}
 use Rattle.fill.specs.Numbers.{places_of, ends_of, first_of}
 use Rattle.fill.specs.Spills.{AreFloods, level_among, label_among}
-use Rattle.fill.specs.declared.marks.Mark.{Mark}
+use Rattle.fill.specs.declared.marks.CellLabel.{CellLabel}
 use Rattle.floods.specs.declared.net.Spill.{Spill}
 use Rattle.fill.proofs.CellMarks.{some_below, marked, marked_within, mark_from_tile, mark_some}
 use Rattle.fill.proofs.Rims.{IsLabelNet, LeadsRound, neighbour_back, level_has_data, has_tile_level, among_is, list_there}
 
--- lists of the same lengths stand at the same places
+-- Lists of equal lengths begin at equal indexes.
 flat_same : {X Y Z : Type 0} (g : X → List Y) (h : X → List Z) (xs : List X) (i : ℕ) → i ≤ length xs → ((k : ℕ) (d : X) → k < length xs → length (g (get_or xs k d)) ≡ length (h (get_or xs k d)))
     → length (flat_map g (take i xs)) ≡ length (flat_map h (take i xs))
 flat_same g h [] zero low same = refl
@@ -40,14 +40,14 @@ flat_same g h (x ∷ xs) (suc i) low same =
     let rest = flat_same g h xs i (omega (arith, low)) (λ k d below. same (suc k) d (omega (arith, below))) in
     length-append (g x) (flat_map g (take i xs)) ∙ omega (arith, here, rest) ∙ sym (length-append (h x) (flat_map h (take i xs)))
 
--- the place of a label by its number
+-- The place of a label, by its number.
 pub place_at : (floods : List Flood) (tile k : ℕ) (f : Flood) → slice_get floods tile ≡ Some f → k < length f.table.places → get_or (places_of floods) (first_of floods tile + k) None ≡ get_or f.table.places k None
 place_at floods tile k f there inside =
     let is = get_or_from_slice_get floods tile f f there in
     get_or-flat_map (λ (g : Flood). g.table.places) floods tile k f None (slice_get_within floods tile f there) (subst (λ (g : Flood). k < length g.table.places) (sym is) inside)
     ∙ ap (λ (g : Flood). get_or g.table.places k None) is
 
--- and the height of one that is an end cell
+-- The height of a label that is an end cell, by its number.
 pub end_at : (t : Terrain) (c : Cutting) (floods : List Flood) (tile k : ℕ) (f : Flood) → AreFloods t c floods → slice_get floods tile ≡ Some f → k < length f.table.places → get_or (ends_of floods) (first_of floods tile + k) None ≡ get_or f.ends k None
 end_at t c floods tile k f are there inside =
     let is = get_or_from_slice_get floods tile f f there in
@@ -61,7 +61,6 @@ end_at t c floods tile k f are there inside =
     ∙ get_or-flat_map (λ (g : Flood). g.ends) floods tile k f None low (subst (λ (g : Flood). k < length g.ends) (sym is) (omega (arith, own, inside)))
     ∙ ap (λ (g : Flood). get_or g.ends k None) is
 
--- there are as many of both
 pub ends_length : (t : Terrain) (c : Cutting) (floods : List Flood) → AreFloods t c floods → length (ends_of floods) ≡ length (places_of floods)
 ends_length t c floods are =
     let all : take (length floods) floods ≡ floods = take_all (length floods) floods (omega arith) in
@@ -84,8 +83,8 @@ fit_of t c floods are = record {
 abbrev pub AreLawful : List Flood → Type 0
 AreLawful floods = (tile : ℕ) (f : Flood) → slice_get floods tile ≡ Some f → IsFlood f
 
--- A cell with its mark, and its label's place in its tile's table.
-pub record IsNumbered (c : Cutting) (floods : List Flood) (p : Place) (m : Mark) : Type 0 where
+-- A cell's mark, and the index of its label in the table of its tile.
+pub record IsNumbered (c : Cutting) (floods : List Flood) (p : Place) (m : CellLabel) : Type 0 where
   pub flood : Flood
   pub entry : ℕ
   pub label : Place
@@ -96,7 +95,7 @@ pub record IsNumbered (c : Cutting) (floods : List Flood) (p : Place) (m : Mark)
   pub inside : entry < length flood.table.places
   pub node : first_of floods (tile_of_place c p) + entry ≡ m.node
 
-pub numbered : (c : Cutting) (floods : List Flood) (p : Place) (m : Mark) → AreLawful floods → mark_among c floods p ≡ Some m → IsNumbered c floods p m
+pub numbered : (c : Cutting) (floods : List Flood) (p : Place) (m : CellLabel) → AreLawful floods → mark_among c floods p ≡ Some m → IsNumbered c floods p m
 numbered c floods p m lawful e =
     let x = marked c floods p m e in
     let f = x.flood in
@@ -117,15 +116,15 @@ numbered c floods p m lawful e =
       node = x.node_is;
     }
 
--- the number tells the label
-pub number_label : (c : Cutting) (floods : List Flood) (p : Place) (m : Mark) (x : IsNumbered c floods p m) → get_or (places_of floods) m.node None ≡ Some x.label
+-- The label of a cell, by its number.
+pub number_label : (c : Cutting) (floods : List Flood) (p : Place) (m : CellLabel) (x : IsNumbered c floods p m) → get_or (places_of floods) m.node None ≡ Some x.label
 number_label c floods p m x =
     ap (λ n. get_or (places_of floods) n None) (sym x.node) ∙ place_at floods (tile_of_place c p) x.entry x.flood x.there x.inside ∙ x.listed
 
-pub number_below : (c : Cutting) (floods : List Flood) (p : Place) (m : Mark) → AreLawful floods → mark_among c floods p ≡ Some m → m.node < length (places_of floods)
+pub number_below : (c : Cutting) (floods : List Flood) (p : Place) (m : CellLabel) → AreLawful floods → mark_among c floods p ≡ Some m → m.node < length (places_of floods)
 number_below c floods p m lawful e = let x = numbered c floods p m lawful e in some_below (places_of floods) m.node x.label (number_label c floods p m x)
 
--- a cell with a level and a label has a mark
+-- A cell with a level and a label has a mark.
 pub has_mark : (c : Cutting) (floods : List Flood) (p : Place) (level : ℤ) (label : Place) (f : Flood) → slice_get floods (tile_of_place c p) ≡ Some f → level_among c floods p ≡ Some level → label_among c floods p ≡ Some label
     → (node : ℕ) × (mark_among c floods p ≡ Some (record { level = level; node = node }))
 has_mark c floods p level label f there level_is label_is =
@@ -141,15 +140,15 @@ has_mark c floods p level label f there level_is label_is =
 
 -- The number of a cell's label.
 abbrev pub number_among : Cutting → List Flood → Place → Option ℕ
-number_among c floods p = option_map (λ (m : Mark). m.node) (mark_among c floods p)
+number_among c floods p = option_map (λ (m : CellLabel). m.node) (mark_among c floods p)
 
-number_mark : (o : Option Mark) (a : ℕ) → option_map (λ (m : Mark). m.node) o ≡ Some a → (level : ℤ) × (o ≡ Some (record { level = level; node = a }))
+number_mark : (o : Option CellLabel) (a : ℕ) → option_map (λ (m : CellLabel). m.node) o ≡ Some a → (level : ℤ) × (o ≡ Some (record { level = level; node = a }))
 number_mark None a e = absurd (cc)
 number_mark (Some m) a e = (m.level, ap (λ n. Some (record { level = m.level; node = n })) (same_Some m.node a e))
 
--- so the graph by numbers is what raising asks for
+-- The spill graph by numbers is a net of labels, as raising needs.
 module _ (t : Terrain) (c : Cutting) (floods : List Flood) (are : AreFloods t c floods) (lawful : AreLawful floods) (ways : List (List Spill)) (sources : List (Option ℤ)) (graph : IsNumberGraph t c floods ways sources) where
-  source_is : (p : Place) (m : Mark) (x : IsNumbered c floods p m) → source_number sources m.node ≡ get_or x.flood.ends x.entry None
+  source_is : (p : Place) (m : CellLabel) (x : IsNumbered c floods p m) → source_number sources m.node ≡ get_or x.flood.ends x.entry None
   source_is p m x =
       ap (λ (z : List (Option ℤ)). get_or z m.node None) graph.ends ∙ ap (λ n. get_or (ends_of floods) n None) (sym x.node)
       ∙ end_at t c floods (tile_of_place c p) x.entry x.flood are x.there x.inside
@@ -161,7 +160,7 @@ module _ (t : Terrain) (c : Cutting) (floods : List Flood) (are : AreFloods t c 
         let within = data_within t c p are.cuts has in
         let f = list_there floods (tile_of_place c p) (omega (arith, are.count, tile_of_place_below c p are.lawful within)) in
         let m = has_mark c floods p l.level l.label f.0 f.1 l.level_is l.label_is in
-        (m.0, ap (option_map (λ (x : Mark). x.node)) m.1);
+        (m.0, ap (option_map (λ (x : CellLabel). x.node)) m.1);
     one = λ p q a p_is q_is.
         let m = number_mark (mark_among c floods p) a p_is in
         let n = number_mark (mark_among c floods q) a q_is in
@@ -205,15 +204,15 @@ module _ (t : Terrain) (c : Cutting) (floods : List Flood) (are : AreFloods t c 
           from_level = pass.from_level;
           to_level = pass.to_level;
           neighbours = pass.neighbours;
-          from_number = ap (option_map (λ (x : Mark). x.node)) pass.from_is;
-          to_number = ap (option_map (λ (x : Mark). x.node)) pass.to_is;
+          from_number = ap (option_map (λ (x : CellLabel). x.node)) pass.from_is;
+          to_number = ap (option_map (λ (x : CellLabel). x.node)) pass.to_is;
           from_is = (numbered c floods pass.from (record { level = pass.from_level; node = a }) lawful pass.from_is).level_is;
           to_is = (numbered c floods pass.to (record { level = pass.to_level; node = b }) lawful pass.to_is).level_is;
           greater = pass.greater;
         };
     end_source = λ p a z end own is height.
         let m = number_mark (mark_among c floods p) a is in
-        let mark : Mark = record { level = m.0; node = a } in
+        let mark : CellLabel = record { level = m.0; node = a } in
         let x = numbered c floods p mark lawful m.1 in
         let same : x.label ≡ p = same_Some x.label p (sym x.label_is ∙ own) in
         let ends = (are.each _ x.flood x.there).ends.each x.entry p (x.listed ∙ ap Some same) in
@@ -223,7 +222,7 @@ module _ (t : Terrain) (c : Cutting) (floods : List Flood) (are : AreFloods t c 
         ];
     source_end = λ p a z has is source.
         let m = number_mark (mark_among c floods p) a is in
-        let mark : Mark = record { level = m.0; node = a } in
+        let mark : CellLabel = record { level = m.0; node = a } in
         let x = numbered c floods p mark lawful m.1 in
         let at = MatchOption-at_some _ _ z (sym (source_is p mark x) ∙ source) ((are.each _ x.flood x.there).ends.each x.entry x.label x.listed) in
         (x.label, x.label_is, at.0, at.1);

@@ -32,7 +32,7 @@ placed_then nodes first second old now new s t = record {
 one_held : (j k : Join) → Contains (j ∷ []) k → k ≡ j
 one_held j k held = elim (cons_cases j [] k held) [ inl same ↦ same | inr none ↦ absurd (no_join k none) ]
 
--- a join whose places differ is added both ways
+-- A join of two places is added in both directions.
 pub one_placed : (nodes : List ℕ) (j x : Join) (placed : List Join) → placed_joins_of nodes j ≡ option_to_list (Some x) → AddsPlaced nodes (j ∷ []) placed ((placed ++ x ∷ []) ++ turned x ∷ [])
 one_placed nodes j x placed is = elim (cases_eq (join_at nodes j).from (join_at nodes j).to) [
   | inl same ↦ absurd (no_join x (subst (λ (z : List Join). Contains z x) (sym is ∙ cond-true _ _ _ (eq-eqb _ _ same)) (cons_head x [])))
@@ -60,7 +60,7 @@ one_placed nodes j x placed is = elim (cases_eq (join_at nodes j).from (join_at 
       }
 ]
 
--- any other is not
+-- A join of one place is not added.
 pub not_placed : (nodes : List ℕ) (j : Join) (placed : List Join) → placed_joins_of nodes j ≡ [] → AddsPlaced nodes (j ∷ []) placed placed
 not_placed nodes j placed is = record {
   kept = λ k there. there;

@@ -1,4 +1,4 @@
--- A raised tile has its filled heights, and the tiles together give the filled grid.
+-- Raised tiles have the filled heights, and together give the filled grid.
 use Rattle.std.proofs.Common.{◌≡◌, ℕ, ◌+◌, ◌*◌, ◌<◌, ◌≤◌, ◌⊎◌, inl, inr, ℤ, List, [], ◌∷◌, ◌++◌, length, get_or, map, Option, None, Some, is_some, ◌∙◌, sym, ap, subst, refl, arith, zero, suc, ◌/◌, ◌%◌, IfSome, MatchOption, mul_comm, pos}
 use Rattle.std.specs.Prelude.{slice_get, option_and_then, option_map}
 use Rattle.std.specs.Int.{int_max}
@@ -26,7 +26,7 @@ use Rattle.fill.specs.Spills.{AreEntries, AreFloods, level_among, label_among, A
 use Rattle.fill.specs.RaisedTiles.{IsRaisedTile, AreRaisedCells, raised_among, spill_with, spill_at}
 use Rattle.fill.specs.LabelNet.{HasWay, source_number, IsNumberGraph, AreNumberLevels}
 use Rattle.fill.specs.Numbers.{first_of}
-use Rattle.fill.specs.declared.marks.Mark.{Mark}
+use Rattle.fill.specs.declared.marks.CellLabel.{CellLabel}
 use Rattle.floods.specs.declared.net.Spill.{Spill}
 use Rattle.fill.proofs.CellMarks.{entry_mark, label_entry}
 use Rattle.fill.proofs.Numbered.{AreLawful, fit_of, has_mark, number_below, number_among, number_net}
@@ -46,7 +46,7 @@ use Rattle.tile_maps.specs.Maps.{IsMadeMap, IsMadeTile}
 use Rattle.tile_maps.proofs.Whole.{map_of_size, tile_of_entries}
 use Rattle.drainage.proofs.FilledTwice.{filled_twice}
 
--- no entry yet, and one more
+-- No entry yet, and one more.
 pub no_entries : (entry : ℕ → Option ℤ) (list : List (Option ℤ)) → list ≡ [] → AreEntries entry 0 list
 no_entries entry list none = record {
   size = ap length none;
@@ -65,18 +65,17 @@ one_entry entry i now next x more is s = subst (AreEntries entry (i + 1)) (sym m
   ];
 })
 
--- and all of them
 pub all_entries : (entry : ℕ → Option ℤ) (i count : ℕ) (list : List (Option ℤ))
     → i ≤ count → count ≤ i → AreEntries entry i list → AreEntries entry count list
 all_entries entry i count list below past s =
     subst (λ n. AreEntries entry n list) (omega (arith, below, past)) s
 
--- a level stands where a label does, and only there a cell is raised
+-- A cell has a level, and is raised, only if it has a label.
 raised_where : (c : Cutting) (levels : List (Option ℤ)) (height : ℤ) (label : Option Place) → greater_of (Some height) (spill_of c levels label) ≡ raised_by c levels (option_map (λ _. height) label) label
 raised_where c levels height None = refl
 raised_where c levels height (Some p) = refl
 
--- The heights, the labels' indexes and the levels of these raise each cell as its flood and these levels of all labels do.
+-- These heights and levels of labels raise each cell as the flood and all levels do.
 pub record IsRaisedBy (c : Cutting) (f : Flood) (levels : List (Option ℤ)) (heights : List ℤ) (labels : List ℕ) (spills : List (Option ℤ)) : Type 0 where
   pub heights_size : length heights ≡ length f.labels
   pub labels_size : length labels ≡ length f.labels
@@ -84,7 +83,7 @@ pub record IsRaisedBy (c : Cutting) (f : Flood) (levels : List (Option ℤ)) (he
   pub each : (i : ℕ) → i < length f.labels → greater_of (Some (get_or heights i (pos 0))) (get_or spills (get_or labels i 0) None)
       ≡ raised_by c levels (get_or f.levels i None) (get_or f.labels i None)
 
--- by the levels of the labels of its table a tile is raised
+-- A tile is raised by the levels of the labels in its table.
 by_table : (c : Cutting) (f : Flood) (places : List (Option Place)) (cells : List ℕ) (heights : List ℤ) (levels spills : List (Option ℤ)) → f.labels ≡ labels_by places cells → IsTable places cells
     → f.levels ≡ levels_where f.labels heights → length cells ≡ length heights → spills ≡ map (spill_of c levels) places → IsRaisedBy c f levels heights cells spills
 by_table c f places cells heights levels spills are table where_is long is = record {
@@ -116,7 +115,7 @@ raised_by_table c f places cells heights levels spills raised are table where_is
       each = λ i low. s.each i (omega (arith, low, same, by.heights_size)) ∙ by.each i (omega (arith, low, same));
     }
 
--- what a cell is raised to, where the level of its label stands as a cell
+-- A raised height, with the level of the label stored as a cell.
 greater_stored : (h : ℤ) (spill : Option ℤ) → h ≤ℤ no_data → cell_of (greater_of (Some h) (cell_of spill)) ≡ cell_of (greater_of (Some h) spill)
 greater_stored h None low = refl
 greater_stored h (Some z) low = elim (cases_Bool (int_eq z no_data)) [
@@ -127,7 +126,7 @@ greater_stored h (Some z) low = elim (cases_Bool (int_eq z no_data)) [
   | inr other ↦ ap (λ (o : Option ℤ). cell_of (greater_of (Some h) o)) (cond-false _ _ _ other)
 ]
 
--- what a tile raises a cell to
+-- A raised height of a tile, with the levels of its labels stored as cells.
 pub raised_stored : (first : ℕ) (f : Flood) (levels : List (Option ℤ)) (x : RaisedTile) (i : ℕ) → IsRaisedTile first f levels x → i < length f.labels → get_or x.heights.now i (pos 0) ≤ℤ no_data
     → cell_of (greater_of (Some (get_or x.heights.now i (pos 0))) (get_or x.spills.items (get_or x.labels.now i 0) None)) ≡ cell_of (greater_of (get_or f.levels i None) (spill_with levels (mark_with first f i)))
 raised_stored first f levels x i tile below low =
@@ -150,17 +149,17 @@ raised_stored first f levels x i tile below low =
     spill_by None level h k listed is = rw (← listed, is) refl
     spill_by (Some p) level h k listed is = rw (← listed, is) refl
 
--- the entries of labels are indexes into it
+-- The indexes of labels lie in the list of levels.
 pub stored_inside : (first : ℕ) (f : Flood) (levels : List (Option ℤ)) (x : RaisedTile) → IsRaisedTile first f levels x → All (λ k. k < length x.spills.items) x.labels.now
 stored_inside first f levels x tile i d below =
     let at : i < length f.table.indexes = omega (arith, below, ap length tile.labels) in
     omega (arith, tile.lawful.table.inside i d at, ap (λ (z : List ℕ). get_or z i d) tile.labels, tile.spills.size)
 
--- What the flood of its tile and the levels of labels by place raise a cell to.
+-- The raised height of a place, by the levels of labels by place.
 abbrev placed_among : Cutting → List Flood → List (Option ℤ) → Place → Option ℤ
 placed_among c floods levels p = raised_by c levels (level_among c floods p) (label_among c floods p)
 
--- what a flood and its tile's index say of a place of the tile
+-- The raised height of a place, by its index in its tile.
 pub raised_here : (c : Cutting) (floods : List Flood) (tile k : ℕ) (f : Flood) (levels : List (Option ℤ)) (p : Place) → IsCutting c → Fit c floods → slice_get floods tile ≡ Some f → IsInTile c tile p
     → k ≡ index_in (bounds_of c tile) p → raised_by c levels (get_or f.levels k None) (get_or f.labels k None) ≡ placed_among c floods levels p
 raised_here c floods tile k f levels p h fit there i at =
@@ -174,7 +173,7 @@ raised_here c floods tile k f levels p h fit there i at =
     let own_label = among_is (λ g. label_in g p) floods (tile_of_place c p) f own ∙ label in
     sym (ap (λ z. raised_by c levels z (get_or f.labels k None)) own_level) ∙ sym (ap (raised_by c levels (level_among c floods p)) own_label)
 
--- the same by number
+-- The raised height of a place, by its index and the levels of labels by number.
 number_here : (c : Cutting) (floods : List Flood) (tile k : ℕ) (f : Flood) (levels : List (Option ℤ)) (p : Place) → IsCutting c → Fit c floods → slice_get floods tile ≡ Some f → IsInTile c tile p
     → k ≡ index_in (bounds_of c tile) p → greater_of (get_or f.levels k None) (spill_with levels (mark_with (first_of floods tile) f k)) ≡ raised_among c floods levels p
 number_here c floods tile k f levels p h fit there i at =
@@ -188,7 +187,6 @@ number_here c floods tile k f levels p h fit there i at =
     let mark = entry_mark c floods tile f p k h below there bounds inside at in
     sym (ap (λ z. greater_of z (spill_with levels (mark_with (first_of floods tile) f k))) level) ∙ sym (ap (λ z. greater_of (level_among c floods p) (spill_with levels z)) mark)
 
--- a raised tile has what its cells are raised to
 pub raised_tile : (c : Cutting) (floods : List Flood) (tile : ℕ) (f : Flood) (levels raised : List (Option ℤ)) → IsCutting c → Fit c floods → slice_get floods tile ≡ Some f → IsRaised c f levels raised →
     (length raised ≡ cell_count c tile) × ((p : Place) → IsInTile c tile p → tile_entry c tile raised p ≡ placed_among c floods levels p)
 raised_tile c floods tile f levels raised h fit there is =
@@ -201,7 +199,7 @@ raised_tile c floods tile f levels raised h fit there is =
           tile_entry-in c tile raised p i ∙ is.each k low ∙ raised_here c floods tile k f levels p h fit there i refl,
     )
 
--- the cells of a tile have what its flood and the levels of all labels raise them to
+-- The raised cells of a tile, by the levels of labels by number.
 pub raised_cells : (c : Cutting) (floods : List Flood) (tile : ℕ) (f : Flood)
     (levels cells : List (Option ℤ)) → IsCutting c → Fit c floods → slice_get floods tile ≡ Some f
     → AreRaisedCells (first_of floods tile) f levels cells
@@ -218,7 +216,6 @@ raised_cells c floods tile f levels cells h fit there are =
     tile_entry-in c tile cells p i ∙ are.each k low
     ∙ ap cell_of (number_here c floods tile k f levels p h fit there i refl))
 
--- a label lies in the grid
 label_inside : (t : Terrain) (c : Cutting) (floods : List Flood) (p label : Place) → AreFloods t c floods → label_among c floods p ≡ Some label → IsWithin c label
 label_inside t c floods p label are e = elim (cases_option (slice_get floods (tile_of_place c p))) [
   | inl none ↦ none_some (label_among c floods p) label (ap (option_and_then (λ (g : Flood). label_in g p)) none) e
@@ -227,7 +224,7 @@ label_inside t c floods p label are e = elim (cases_option (slice_get floods (ti
       labels_within t c floods (tile_of_place c p) f.0 are f.1 entry.0 label entry.1
 ]
 
--- the spill graph is what raising asks for
+-- The spill graph by places is a net of labels, as raising needs.
 place_net : (t : Terrain) (c : Cutting) (floods : List Flood) (g : Graph) → AreFloods t c floods → IsGraphOf t c floods g → IsLabelNet t c floods (λ p. option_map (index_of c.cols) (label_among c floods p)) (HasJoin g) (source_in g)
 place_net t c floods g are graph = record {
   some = λ p has. let l = has_tile_level t c floods are.lawful are p has in (index_of c.cols l.label, ap (option_map (index_of c.cols)) l.label_is);
@@ -287,7 +284,7 @@ place_net t c floods g are graph = record {
       let x = from_option (label_among c floods p) a e in
       (x.0, x.1, x.2, label_inside t c floods p x.0 are x.1)
 
--- a cell is raised to its filled height, where it has a label's level in such a net
+-- A cell is raised to its filled height, by the levels of a net of labels.
 raised_filled : (t : Terrain) (c : Cutting) (floods : List Flood) (p : Place) → AreFloods t c floods → IsWithin c p → (spill : Option ℤ)
     → ((l : HasTileLevel t c floods p) → IsDataCell t p → (n : ℤ) × (spill ≡ Some n) × IsFilledHeight t p (int_max l.level n))
     → MatchOption (height_at t p) (greater_of (level_among c floods p) spill ≡ None) (λ _. (level : ℤ) × (greater_of (level_among c floods p) spill ≡ Some level) × IsFilledHeight t p level)
@@ -322,11 +319,11 @@ filled_tile t c floods tile f levels raised are there spill is =
           (filled.0, ap (spill_of c levels) l.label_is ∙ filled.1, filled.2)));
     }
 
--- a filled height is one of the grid's, and so a cell has it
+-- A filled height is a height of the grid, so a cell can store it.
 stands_in_cell : (t : Terrain) (p : Place) (level : ℤ) → IsTerrain t → IsFilledHeight t p level → cell_of (Some level) ≡ Some level
 stands_in_cell t p level lawful filled = stored_some level (All-contains (λ c. IfSome c IsHeight) t.cells (Some level) lawful.heights (filled_height_stands t p level filled)).1
 
--- the same of a cell, by the graph by numbers
+-- A cell is raised to its filled height, by the levels of labels by number.
 filled_cell : (t : Terrain) (c : Cutting) (floods : List Flood) (ways : List (List Spill)) (sources levels : List (Option ℤ)) → IsTerrain t → AreFloods t c floods → AreLawful floods → IsNumberGraph t c floods ways sources → AreNumberLevels ways sources levels → (p : Place) → IsWithin c p →
     (entry : Option ℤ) → entry ≡ cell_of (raised_among c floods levels p) → MatchOption (height_at t p) (entry ≡ None) (λ _. (level : ℤ) × (entry ≡ Some level) × IsFilledHeight t p level)
 filled_cell t c floods ways sources levels heights are lawful graph spill p within entry e =
@@ -335,13 +332,13 @@ filled_cell t c floods ways sources levels heights are lawful graph spill p with
     let m = has_mark c floods p l.level l.label f.0 f.1 l.level_is l.label_is in
     let below = number_below c floods p _ lawful m.1 in
     let filled = rims t c floods are.lawful are (number_among c floods) (HasWay ways) (source_number sources) (number_net t c floods are lawful ways sources graph)
-    (length ways) levels spill.0 spill.1 p m.0 l data_is (ap (option_map (λ (x : Mark). x.node)) m.1) (omega (arith, below, graph.count)) in
+    (length ways) levels spill.0 spill.1 p m.0 l data_is (ap (option_map (λ (x : CellLabel). x.node)) m.1) (omega (arith, below, graph.count)) in
     (filled.0, ap (spill_with levels) m.1 ∙ filled.1, filled.2)) in
     match_of (height_at t p) _ _
     (λ none. e ∙ ap cell_of (MatchOption-at_none _ _ none raised))
     (λ h some. let filled = MatchOption-at_some _ _ h some raised in (filled.0, e ∙ ap cell_of filled.1 ∙ stands_in_cell t p filled.0 heights filled.2, filled.2))
 
--- the whole grid, raised by such levels
+-- The whole grid is raised to its filled heights.
 pub filled_map : (t : Terrain) (c : Cutting) (floods : List Flood) (ways : List (List Spill)) (sources levels whole : List (Option ℤ)) → IsTerrain t → AreFloods t c floods → AreLawful floods → IsNumberGraph t c floods ways sources → AreNumberLevels ways sources levels →
     IsMadeMap c (λ p cell. cell ≡ cell_of (raised_among c floods levels p)) whole → IsFilled t whole
 filled_map t c floods ways sources levels whole heights are lawful graph spill made =
@@ -351,7 +348,6 @@ filled_map t c floods ways sources levels whole heights are lawful graph spill m
       each = λ p inside. filled_cell t c floods ways sources levels heights are lawful graph spill p (omega (arith, inside, are.cuts), omega (arith, inside, are.cuts)) (entry_at t.cols t.rows whole p) (all.1 p inside);
     }
 
--- the flood of a view is that of its terrain
 pub flood_of_view : (t : Terrain) (c : Cutting) (job : ℕ) (v : View (Option ℤ)) (cells : List (Option ℤ)) (sinks : List Place) (f : Flood) → Cuts c t → v ≡ record { cutting = c; tile = job; cells = cells } → cells ≡ t.cells → sinks ≡ t.sinks → IsTileFlood (with_sinks (terrain_of v) sinks) v.cutting v.tile f → IsTileFlood t c job f
 flood_of_view t c job v cells sinks f cuts view same named flood =
     subst (λ (x : Terrain). IsTileFlood x c job f)

@@ -1,4 +1,4 @@
--- The levels of the spill graph raise each tile's levels to the filled heights.
+-- The levels of the spill graph raise the levels of tiles to the filled heights.
 use Rattle.std.proofs.Common.{◌≡◌, ℕ, ◌<◌, inl, inr, ℤ, pos, ◌≤ℤ◌, List, [], ◌∷◌, length, get_or, Option, None, Some, is_some, unwrap_or, ◌∙◌, sym, ap, subst, refl, arith}
 use Rattle.std.specs.Prelude.{slice_get, option_and_then, IsSome, ◌≢◌, ◌⊎◌}
 use Rattle.std.specs.Int.Signed.{≤ℤ_refl}
@@ -26,7 +26,7 @@ use Rattle.terrain.proofs.Heights.{height_is}
 use Rattle.cell_floods.proofs.Windows.{data_is, path_in_window}
 use Rattle.cell_floods.proofs.TileWindows.{data_within, tile_path}
 
--- The level and the label of a cell among the floods.
+-- The level and the label of a cell in the flood of its tile.
 pub record HasTileLevel (t : Terrain) (c : Cutting) (floods : List Flood) (p : Place) : Type 0 where
   pub level : ℤ
   pub label : Place
@@ -58,7 +58,7 @@ has_tile_level t c floods h are p some =
       right = here.4;
     }
 
--- a cell with a level has data
+-- A cell with a level has data.
 pub level_has_data : (t : Terrain) (c : Cutting) (floods : List Flood) → IsCutting c → AreFloods t c floods → (p : Place) (l : ℤ) → IsWithin c p → level_among c floods p ≡ Some l → IsDataCell t p
 level_has_data t c floods h are p l within e = elim (cases_option (height_at t p)) [
   | inr found ↦ ap is_some found.1
@@ -69,7 +69,7 @@ level_has_data t c floods h are p l within e = elim (cases_option (height_at t p
       none_some _ l (among_is (λ f. level_in f p) floods tile f.0 f.1 ∙ here.0) e
 ]
 
--- a path to the edge that rises above no bound, one step longer, or below a higher bound
+-- A low path stays low with one more low step, and below a higher bound.
 low_step : (t : Terrain) (m : ℤ) (p q : Place) → IsNeighbour t p q → height_of t p ≤ℤ m → HasLowPath t m q → HasLowPath t m p
 low_step t m p q next low way = (q ∷ way.0, (next, way.1), max_least (height_of t p) (crest t q way.0) m low way.2)
 
@@ -84,7 +84,7 @@ neighbour_back t p q n = record {
   to_data = n.from_data;
 }
 
--- where a path in a tile does not rise above the bound, its first and its last cell have such a path or neither has
+-- If a path in a tile is below the bound, both of its ends have a low path or neither has.
 low_at_last : (t : Terrain) (c : Cutting) (m : ℤ) (p : Place) (rest : List Place) → IsTilePath t c p rest → crest t p rest ≤ℤ m → HasLowPath t m p → HasLowPath t m (last_of p rest)
 low_at_last t c m p [] path low way = way
 low_at_last t c m p (q ∷ rest) path low way =
@@ -97,7 +97,7 @@ low_at_first t c m p (q ∷ rest) path low way =
     low_step t m p q path.0 (trans _ _ _ (max_left (height_of t p) (crest t q rest)) low)
     (low_at_first t c m q rest path.2 (trans _ _ _ (max_right (height_of t p) (crest t q rest)) low) way)
 
--- so it is with a cell and its label, where its level is no higher than the bound
+-- A cell with a level below the bound has a low path exactly if its label has one.
 low_at_label : (t : Terrain) (c : Cutting) (p label : Place) (level m : ℤ) → IsTileLevel t c p level label → level ≤ℤ m → HasLowPath t m p → HasLowPath t m label
 low_at_label t c p label level m l le way =
     subst (HasLowPath t m) l.reached.3 (low_at_last t c m p l.reached.0 l.reached.1 (subst (λ z. z ≤ℤ m) (sym l.reached.2) le) way)
@@ -109,7 +109,7 @@ low_from_label t c p label level m l le way =
 pub level_high : (t : Terrain) (c : Cutting) (p label : Place) (level : ℤ) → IsTileLevel t c p level label → height_of t p ≤ℤ level
 level_high t c p label level l = subst (λ z. height_of t p ≤ℤ z) l.reached.2 (height_below_crest t p l.reached.0)
 
--- a level is at most the crest of each path
+-- A level is at most the crest of each path.
 level_low : (t : Terrain) (c : Cutting) (floods : List Flood) → IsCutting c → AreFloods t c floods → (p : Place) (l : HasTileLevel t c floods p) (rest : List Place) → IsPath t p rest → l.level ≤ℤ crest t p rest
 level_low t c floods h are p l rest path =
     let within = data_within t c p are.cuts (first_is_data t p rest path) in
@@ -117,7 +117,7 @@ level_low t c floods h are p l rest path =
     let inner = path_in_window t (bounds_of c tile) p rest (in_bounds c tile p h (within, refl)) path in
     trans _ _ _ (l.right.least inner.0 (tile_path t c tile h (tile_of_place_below c p h within) p inner.0 (within, refl) inner.1)) inner.2
 
--- an end cell has its own height as level, and is its own label
+-- A source has its own height as level, and is its own label.
 pub source_level : (t : Terrain) (c : Cutting) (p label : Place) (level : ℤ) → IsTileLevel t c p level label → IsTileSource t c p → level ≡ height_of t p
 source_level t c p label level l source =
     between _ _ (l.least [] source) (level_high t c p label level l)
@@ -127,7 +127,7 @@ end_label t c p label level l end =
     let height = data_is (height_at t p) (first_is_data t p [] end) in
     l.own (inr end) (height.1 ∙ ap Some (sym (height_is t p height.0 height.1) ∙ sym (source_level t c p label level l (inr end))))
 
--- the last cell of a path is not above its crest
+-- The last cell of a path is not above its crest.
 last_low : (t : Terrain) (p : Place) (rest : List Place) → height_of t (last_of p rest) ≤ℤ crest t p rest
 last_low t p [] = ≤ℤ_refl (height_of t p)
 last_low t p (q ∷ rest) = trans _ _ _ (last_low t q rest) (max_right (height_of t p) (crest t q rest))
@@ -145,11 +145,11 @@ pub record AreMeeting (t : Terrain) (c : Cutting) (floods : List Flood) (number 
   pub to_is : level_among c floods to ≡ Some to_level
   pub greater : int_max from_level to_level ≡ height
 
--- Cells of one row or column.
+-- The places lie in one row or column.
 abbrev IsStraight : Place → Place → Type 0
 IsStraight p q = (p.row ≡ q.row) ⊎ (p.col ≡ q.col)
 
--- A cell no higher than this leads round from a cell to one that touches it at a corner.
+-- A third cell, no higher than this, bypasses two cells that touch at a corner.
 pub record LeadsRound (t : Terrain) (c : Cutting) (floods : List Flood) (p q : Place) (height : ℤ) : Type 0 where
   pub middle : Place
   pub level : ℤ
@@ -162,8 +162,9 @@ pub record LeadsRound (t : Terrain) (c : Cutting) (floods : List Flood) (p q : P
   pub bent_row : p.row ≢ q.row
   pub bent_col : p.col ≢ q.col
 
--- The nodes of a net are numbers of the cells' labels. Cells that meet are joined no higher than they meet, unless
--- both labels are sources or another cell leads round, each join is that of cells that meet, and the sources are the labels that are end cells.
+-- The nodes of a net are numbers of labels. Cells that meet are joined at most as high, unless both
+-- labels are sources or a third cell bypasses the two. Each join is one of cells that meet, and the
+-- sources are the labels that are end cells.
 pub record IsLabelNet (t : Terrain) (c : Cutting) (floods : List Flood) (number : Place → Option ℕ) (joins : Joins) (source : Sources) : Type 0 where
   pub some : (p : Place) → IsDataCell t p → (a : ℕ) × (number p ≡ Some a)
   pub one : (p q : Place) (a : ℕ) → number p ≡ Some a → number q ≡ Some a → label_among c floods p ≡ label_among c floods q
@@ -173,7 +174,7 @@ pub record IsLabelNet (t : Terrain) (c : Cutting) (floods : List Flood) (number 
   pub source_end : (p : Place) (a : ℕ) (h : ℤ) → IsDataCell t p → number p ≡ Some a → source a ≡ Some h → (e : Place) × (label_among c floods p ≡ Some e) × IsEnd t e × (height_at t e ≡ Some h)
 
 module _ (t : Terrain) (c : Cutting) (floods : List Flood) (h : IsCutting c) (are : AreFloods t c floods) (number : Place → Option ℕ) (joins : Joins) (source : Sources) (net : IsLabelNet t c floods number joins source) where
-  -- a label that is a source has a walk of no steps
+  -- A label that is a source has a walk of no steps.
   source_walk : (p : Place) (a : ℕ) (l : HasTileLevel t c floods p) (m : ℤ) → IsDataCell t p → number p ≡ Some a → l.level ≤ℤ m → IsSome (source a) → (walk : List Spill) × IsWalk joins source a walk × (walk_crest source a walk ≤ℤ m)
   source_walk p a l m has is low some =
       let z = data_is (source a) some in
@@ -187,7 +188,7 @@ module _ (t : Terrain) (c : Cutting) (floods : List Flood) (h : IsCutting c) (ar
   abbrev HasLowWalk : ℕ → ℤ → Type 0
   HasLowWalk a m = (walk : List Spill) × IsWalk joins source a walk × (walk_crest source a walk ≤ℤ m)
 
-  -- one from a cell's label gives one from its neighbour's, where neither is higher
+  -- A low walk from a neighbour's label gives one from a cell's label, if both levels are low.
   walk_over : (p q : Place) (a b : ℕ) (m : ℤ) (l : HasTileLevel t c floods p) (k : HasTileLevel t c floods q) → IsNeighbour t p q → number p ≡ Some a → number q ≡ Some b → l.level ≤ℤ m → k.level ≤ℤ m
       → (LeadsRound t c floods p q (int_max l.level k.level) → HasLowWalk a m) → HasLowWalk b m → HasLowWalk a m
   walk_over p q a b m l k next is at from_low to_low round further = elim (cases_eq b a) [
@@ -223,7 +224,7 @@ module _ (t : Terrain) (c : Cutting) (floods : List Flood) (h : IsCutting c) (ar
       let low : r.level ≤ℤ m = trans _ _ _ (le_of_same _ _ level) (trans _ _ _ by.low (max_least _ _ _ from_low to_low)) in
       walk_straight p by.middle a n.0 m l r by.there by.there_straight is n.1 from_low low (walk_straight by.middle q n.0 b m r k by.on by.on_straight n.1 at low to_low further)) further
 
-  -- a path from a cell gives a walk from its label at no greater crest
+  -- A path from a cell gives a walk from its label at no greater crest.
   path_walk : (p : Place) (a : ℕ) (l : HasTileLevel t c floods p) (rest : List Place) → number p ≡ Some a → IsPath t p rest → HasLowWalk a (crest t p rest)
   path_walk p a l [] is path =
       let same = end_label t c p l.label l.level l.right path in
@@ -237,7 +238,7 @@ module _ (t : Terrain) (c : Cutting) (floods : List Flood) (h : IsCutting c) (ar
       let up = max_right (height_of t p) (crest t q rest) in
       walk_any p q a b.0 (crest t p (q ∷ rest)) l k path.0 is b.1 (level_low t c floods h are p l (q ∷ rest) path) (trans _ _ _ (level_low t c floods h are q k rest path.1) up) (further.0, further.1, trans _ _ _ further.2 up)
 
-  -- a walk from a cell's number gives a path from its label at no greater crest
+  -- A walk from a cell's number gives a path from its label at no greater crest.
   walk_path : (walk : List Spill) (p label : Place) (a : ℕ) → IsDataCell t p → number p ≡ Some a → label_among c floods p ≡ Some label → IsWalk joins source a walk → HasLowPath t (walk_crest source a walk) label
   walk_path [] p label a has is at walk =
       let height = data_is (source a) walk in
@@ -265,7 +266,7 @@ module _ (t : Terrain) (c : Cutting) (floods : List Flood) (h : IsCutting c) (ar
       let across = low_step t total pass.from pass.to pass.neighbours from_height (low_from_label t c pass.to y.label y.level total y.right to_low onward) in
       subst (HasLowPath t total) same (low_at_label t c pass.from x.label x.level total x.right from_low across)
 
-  -- the filled height of a cell is the greater of its level and its label's level
+  -- The filled height of a cell is the greater of its level and its label's level.
   pub rims : (nodes : ℕ) (levels : List (Option ℤ)) (labels : List (Option ℕ)) → IsFlooded joins source nodes levels labels → (p : Place) (a : ℕ) (l : HasTileLevel t c floods p) → IsDataCell t p → number p ≡ Some a → a < nodes → (n : ℤ) × (get_or levels a None ≡ Some n) × IsFilledHeight t p (int_max l.level n)
   rims nodes levels labels flooded p a l some is below =
       let any = (filled_height t p some).1.reached in

@@ -1,4 +1,4 @@
--- The joins inside a tile, with their labels counted from the tile's first number.
+-- The joins inside a tile, with labels counted from the tile's first number.
 use Rattle.std.proofs.Common.{◌≡◌, ℕ, ◌+◌, ◌<◌, ◌≤◌, ◌⊎◌, ◌&&◌, inl, inr, Bool, ℤ, List, ◌++◌, length, get_or, map, Option, None, Some, is_some, ◌∙◌, sym, ap, subst, arith}
 use Rattle.std.specs.Prelude.{slice_get, option_map}
 use Rattle.std.specs.List.{All, Contains}
@@ -17,14 +17,13 @@ use Rattle.tiles.specs.Cutting.{Cutting, IsInBounds, IsInTile, bounds_of, tile_o
 use Rattle.tiles.proofs.Cut.{in_bounds, in_tile}
 use Rattle.cell_floods.specs.TileFlood.{Flood}
 use Rattle.fill.specs.Numbers.{first_of}
-use Rattle.fill.specs.Gathering.{Adds, IsInnerOf, IsOutside, IsSpared, Meets, are_settled, mark_among, mark_in, shifted, spared_in, spared_of}
+use Rattle.fill.specs.Gathering.{Adds, IsInnerOf, IsOutside, IsSpared, Meets, are_both_sources, mark_among, mark_in, shifted, spared_in, spared_of}
 use Rattle.fill.specs.declared.spills.Join.{Join}
-use Rattle.fill.specs.declared.marks.Mark.{Mark}
+use Rattle.fill.specs.declared.marks.CellLabel.{CellLabel}
 use Rattle.fill.proofs.Adding.{adds_as, adds_then, covered_itself, no_join}
 use Rattle.fill.proofs.CellMarks.{among_shift, index_inside, mark_inside, marked_within, shift, shift_back}
 use Rattle.floods.proofs.Heaps.{all_by_contains}
 
--- an entry of a list, and its image
 contains_map : {X Y : Type 0} (g : X → Y) (xs : List X) (x : X) → Contains xs x → Contains (map g xs) (g x)
 contains_map g xs x h = (h.0, omega (arith, h.1, length-map xs g), get_or-map g xs h.0 x (g x) h.1 ∙ ap g h.2)
 
@@ -52,19 +51,19 @@ module _ (t : Terrain) (c : Cutting) (floods : List Flood) (are : AreFloods t c 
   mark_there : (p : Place) → IsInTile c tile p → mark_among c floods p ≡ option_map (shift first) (mark_in 0 f p)
   mark_there p inside = among_shift c floods tile f p there inside.1
 
-  mark_known : (p : Place) (m : Mark) → mark_in 0 f p ≡ Some m → mark_among c floods p ≡ Some (shift first m)
+  mark_known : (p : Place) (m : CellLabel) → mark_in 0 f p ≡ Some m → mark_among c floods p ≡ Some (shift first m)
   mark_known p m is = mark_there p (of_tile p (mark_inside f p m is)) ∙ ap (option_map (shift first)) is
 
-  mark_from : (p : Place) (m : Mark) → IsInTile c tile p → mark_among c floods p ≡ Some m → (n : Mark) × (mark_in 0 f p ≡ Some n) × (shift first n ≡ m)
+  mark_from : (p : Place) (m : CellLabel) → IsInTile c tile p → mark_among c floods p ≡ Some m → (n : CellLabel) × (mark_in 0 f p ≡ Some n) × (shift first n ≡ m)
   mark_from p m inside is = shift_back first (mark_in 0 f p) m (sym (mark_there p inside) ∙ is)
 
-  settled_there : (a b : ℕ) → a < length f.table.places → b < length f.table.places → are_settled (spared_of spare floods).sources (first + a) (first + b) ≡ are_settled (spared_in spare f).sources a b
+  settled_there : (a b : ℕ) → a < length f.table.places → b < length f.table.places → are_both_sources (spared_of spare floods).sources (first + a) (first + b) ≡ are_both_sources (spared_in spare f).sources a b
   settled_there a b a_low b_low = elim (cases_Bool spare) [
     | inl holds ↦
         let all : (k : ℕ) → k < length f.table.places → get_or (spared_of spare floods).sources (first + k) None ≡ get_or (spared_in spare f).sources k None = λ k low.
         ap (λ (z : List (Option ℤ)). get_or z (first + k) None) (cond-true _ _ _ holds) ∙ end_at t c floods tile k f are there low ∙ ap (λ (z : List (Option ℤ)). get_or z k None) (sym (cond-true _ _ _ holds)) in
         ap (λ o. is_some o && is_some (get_or (spared_of spare floods).sources (first + b) None)) (all a a_low) ∙ ap (λ o. is_some (get_or (spared_in spare f).sources a None) && is_some o) (all b b_low)
-    | inr fails ↦ ap (λ (z : List (Option ℤ)). are_settled z (first + a) (first + b)) (cond-false _ _ _ fails) ∙ ap (λ (z : List (Option ℤ)). are_settled z a b) (sym (cond-false _ _ _ fails))
+    | inr fails ↦ ap (λ (z : List (Option ℤ)). are_both_sources z (first + a) (first + b)) (cond-false _ _ _ fails) ∙ ap (λ (z : List (Option ℤ)). are_both_sources z a b) (sym (cond-false _ _ _ fails))
   ]
 
   meets_there : (p q : Place) (j : Join) → Meets (mark_in 0 f) (spared_in spare f) p q j → Meets (mark_among c floods) (spared_of spare floods) p q (shifted first j)
@@ -83,10 +82,10 @@ module _ (t : Terrain) (c : Cutting) (floods : List Flood) (are : AreFloods t c 
   meets_from p q j p_in q_in m =
       let x = mark_from p _ p_in m.from_is in
       let y = mark_from q _ q_in m.to_is in
-      let x_node : first + x.0.node ≡ j.from = ap (λ (z : Mark). z.node) x.2 in
-      let y_node : first + y.0.node ≡ j.to = ap (λ (z : Mark). z.node) y.2 in
-      let x_level : x.0.level ≡ m.from_level = ap (λ (z : Mark). z.level) x.2 in
-      let y_level : y.0.level ≡ m.to_level = ap (λ (z : Mark). z.level) y.2 in
+      let x_node : first + x.0.node ≡ j.from = ap (λ (z : CellLabel). z.node) x.2 in
+      let y_node : first + y.0.node ≡ j.to = ap (λ (z : CellLabel). z.node) y.2 in
+      let x_level : x.0.level ≡ m.from_level = ap (λ (z : CellLabel). z.level) x.2 in
+      let y_level : y.0.level ≡ m.to_level = ap (λ (z : CellLabel). z.level) y.2 in
       let settled = settled_there x.0.node y.0.node (index_inside f p x.0 (lawful tile f there) x.1) (index_inside f q y.0 (lawful tile f there) y.1) in (
         record { from = x.0.node; to = y.0.node; height = j.height },
         record {
@@ -96,7 +95,7 @@ module _ (t : Terrain) (c : Cutting) (floods : List Flood) (are : AreFloods t c 
           from_is = x.1;
           to_is = y.1;
           different = λ e. m.different (sym x_node ∙ ap (λ n. first + n) e ∙ y_node);
-          apart = sym settled ∙ ap (λ n. are_settled (spared_of spare floods).sources n (first + y.0.node)) x_node ∙ ap (λ n. are_settled (spared_of spare floods).sources j.from n) y_node ∙ m.apart;
+          apart = sym settled ∙ ap (λ n. are_both_sources (spared_of spare floods).sources n (first + y.0.node)) x_node ∙ ap (λ n. are_both_sources (spared_of spare floods).sources j.from n) y_node ∙ m.apart;
           greater = ap (λ z. int_max z y.0.level) x_level ∙ ap (λ z. int_max m.from_level z) y_level ∙ m.greater;
         },
         ap (λ n. record { from = n; to = first + y.0.node; height = j.height }) x_node ∙ ap (λ n. record { from = j.from; to = n; height = j.height }) y_node,
@@ -120,7 +119,7 @@ module _ (t : Terrain) (c : Cutting) (floods : List Flood) (are : AreFloods t c 
     },
   )
 
-  -- their numbers have 32 bits
+  -- The numbers of their labels have 32 bits.
   pub inner_few : (inner : List Join) → first_of floods tile + length f.table.places ≤ 4294967295 → IsInnerOf spare f inner → All (λ j. (first + j.from ≤ 4294967295) × (first + j.to ≤ 4294967295)) inner
   inner_few inner few s = all_by_contains (λ (j : Join). (first + j.from ≤ 4294967295) × (first + j.to ≤ 4294967295)) inner (λ j h. elim (s.only j h) [
     | inl none ↦ absurd (no_join j none)
@@ -130,7 +129,7 @@ module _ (t : Terrain) (c : Cutting) (floods : List Flood) (are : AreFloods t c 
         (omega (arith, few, from), omega (arith, few, to))
   ])
 
-  -- the joins inside the tile have been added
+  -- The joins inside the tile have been added.
   pub shift_adds : (inner old new : List Join) → IsInnerOf spare f inner → new ≡ old ++ map (shifted first) inner → Adds (mark_among c floods) (spared_of spare floods) (λ p q. IsInTile c tile p × IsInTile c tile q) old new
   shift_adds inner old new s is = subst (Adds (mark_among c floods) (spared_of spare floods) (λ p q. IsInTile c tile p × IsInTile c tile q) old) (sym is) (record {
     kept = λ j h. covered_itself _ j (Contains-append_left old (map (shifted first) inner) j h);
@@ -157,7 +156,7 @@ module _ (t : Terrain) (c : Cutting) (floods : List Flood) (are : AreFloods t c 
         ];
   })
 
-  -- and those over its rim
+  -- The joins inside the tile and those over its rim have been added.
   pub tile_adds : (old now new : List Join) → Adds (mark_among c floods) (spared_of spare floods) (λ p q. IsInTile c tile p × IsInTile c tile q) old now → Adds (mark_among c floods) (spared_of spare floods) (λ p q. IsInTile c tile p × IsOutside c tile q) now new → Adds (mark_among c floods) (spared_of spare floods) (λ p q. IsInTile c tile p) old new
   tile_adds old now new inside outside =
       adds_as (mark_among c floods) (spared_of spare floods) (λ p q. (IsInTile c tile p × IsInTile c tile q) ⊎ (IsInTile c tile p × IsOutside c tile q)) (λ p q. IsInTile c tile p) old new

@@ -1,17 +1,18 @@
--- The heights of labels that are end cells, put at their nodes. No public clause cites this.
+-- The heights of labels that are end cells, by node.
+-- Private.
 use Rattle.std.specs.Prelude.{◌≡◌, ℕ, ◌⊎◌, ℤ, List, length, set, Option, None, Some, IsSome, slice_index_or}
 use Rattle.terrain.specs.Neighbours.{index_of}
 use Rattle.terrain.specs.declared.place.Place.{Place}
 use Rattle.tiles.specs.Cutting.{Cutting, IsWithin}
 use Rattle.cell_floods.specs.TileFlood.{Flood}
 
--- The heights, with that of an end cell at the node of its label.
+-- The list with the height of an end cell written at the node of its label.
 abbrev pub put_end : ℕ → Option Place → Option ℤ → List (Option ℤ) → List (Option ℤ)
 put_end cols (Some p) (Some h) heights = set heights (index_of cols p) (Some h)
 put_end cols (Some p) None heights = heights
 put_end cols None end heights = heights
 
--- An end cell of the flood's table has this node, and this height.
+-- An end cell of the flood has this node and this height.
 pub record IsEndAt (c : Cutting) (f : Flood) (a : ℕ) (height : Option ℤ) : Type 0 where
   pub entry : ℕ
   pub place : Place
@@ -21,11 +22,12 @@ pub record IsEndAt (c : Cutting) (f : Flood) (a : ℕ) (height : Option ℤ) : T
   pub some : IsSome (slice_index_or f.ends entry None)
   pub is : height ≡ slice_index_or f.ends entry None
 
--- The heights of the flood's labels that are end cells have been put at their nodes.
+-- The heights of the flood's labels that are end cells have been written at their nodes.
 pub record PutsEnds (c : Cutting) (f : Flood) (old new : List (Option ℤ)) : Type 0 where
   pub size : length new ≡ length old
   pub only : (a : ℕ)
-      → (slice_index_or new a None ≡ slice_index_or old a None) ⊎ IsEndAt c f a (slice_index_or new a None)
+      → (slice_index_or new a None ≡ slice_index_or old a None)
+      ⊎ IsEndAt c f a (slice_index_or new a None)
   pub every : (k : ℕ) (p : Place)
       → slice_index_or f.table.places k None ≡ Some p → IsSome (slice_index_or f.ends k None)
       → IsEndAt c f (index_of c.cols p) (slice_index_or new (index_of c.cols p) None)

@@ -1,4 +1,5 @@
--- How the joins of a spill graph are gathered from the floods of the tiles.
+-- The joins of a spill graph, as gathered from the floods of the tiles.
+-- Public.
 use Rattle.std.specs.Prelude.{◌≡◌, ◌≢◌, ℕ, ◌+◌, ◌-◌, ◌*◌, ◌/◌, ◌%◌, ◌<◌, ◌≤◌, ◌⊎◌, ◌==◌, ◌&&◌, true, false, if◌then◌else◌, is_some, Bool, ℤ, ◌≤ℤ◌, List, [], ◌∷◌, length, Option, None, Some, slice_get, slice_index_or, option_and_then, Vec}
 use Rattle.std.specs.declared.alloc.Global.{Global}
 use Rattle.std.specs.Int.{int_max}
@@ -11,43 +12,49 @@ use Rattle.tiles.specs.Cutting.{Cutting, IsInBounds, IsInTile, IsWithin, across,
 use Rattle.cell_floods.specs.TileFlood.{Flood}
 use Rattle.fill.specs.Numbers.{ends_of, first_of}
 use Rattle.fill.specs.declared.spills.Join.{Join}
-use Rattle.fill.specs.declared.marks.Mark.{Mark}
+use Rattle.fill.specs.declared.marks.CellLabel.{CellLabel}
 use Rattle.floods.specs.declared.net.Spill.{Spill}
 
 -- The labels are places of the grid.
 abbrev pub LabelsInside : Cutting → Flood → Type 0
-LabelsInside c f = (i : ℕ) (label : Place) → slice_index_or f.labels i None ≡ Some label → IsWithin c label
+LabelsInside c f =
+    (i : ℕ) (label : Place) → slice_index_or f.labels i None ≡ Some label → IsWithin c label
 
--- The floods are of this cutting's tiles.
+-- The floods have the bounds and sizes of this cutting's tiles.
 pub record Fit (c : Cutting) (floods : List Flood) : Type 0 where
   pub count : length floods ≡ tile_count c
   pub bounds : (tile : ℕ) (f : Flood) → slice_get floods tile ≡ Some f → f.bounds ≡ bounds_of c tile
-  pub sizes : (tile : ℕ) (f : Flood) → slice_get floods tile ≡ Some f → length f.labels ≡ f.bounds.rows * f.bounds.cols
-  pub levels : (tile : ℕ) (f : Flood) → slice_get floods tile ≡ Some f → length f.levels ≡ f.bounds.rows * f.bounds.cols
+  pub sizes : (tile : ℕ) (f : Flood) → slice_get floods tile ≡ Some f →
+      length f.labels ≡ f.bounds.rows * f.bounds.cols
+  pub levels : (tile : ℕ) (f : Flood) → slice_get floods tile ≡ Some f →
+      length f.levels ≡ f.bounds.rows * f.bounds.cols
 
 -- A cell's level with its label's number.
-abbrev pub mark_of : ℕ → Option ℤ → Option Place → Option Mark
+abbrev pub mark_of : ℕ → Option ℤ → Option Place → Option CellLabel
 mark_of node (Some level) (Some label) = Some (record { level = level; node = node })
 mark_of node (Some level) None = None
 mark_of node None label = None
 
--- What a flood says of the cell with this index in its tile's row order. Its first label has this number.
-abbrev pub mark_with : ℕ → Flood → ℕ → Option Mark
-mark_with first f index = mark_of (first + slice_index_or f.table.indexes index 0) (slice_index_or f.levels index None) (slice_index_or f.labels index None)
+-- The mark of the cell at an index of its tile. The tile's first label has number `first`.
+abbrev pub mark_with : ℕ → Flood → ℕ → Option CellLabel
+mark_with first f index = mark_of (first + slice_index_or f.table.indexes index 0)
+    (slice_index_or f.levels index None) (slice_index_or f.labels index None)
 
--- What it says of a place, None outside its tile.
-abbrev pub mark_in : ℕ → Flood → Place → Option Mark
-mark_in first f p = if is_in_bounds f.bounds p then mark_with first f (index_in f.bounds p) else None
+-- The mark of a place, None outside the tile.
+abbrev pub mark_in : ℕ → Flood → Place → Option CellLabel
+mark_in first f p =
+    if is_in_bounds f.bounds p then mark_with first f (index_in f.bounds p) else None
 
--- What the flood of its tile says of a place.
-abbrev pub mark_among : Cutting → List Flood → Place → Option Mark
-mark_among c floods p = option_and_then (λ f. mark_in (first_of floods (tile_of_place c p)) f p) (slice_get floods (tile_of_place c p))
+-- The mark of a place, by the flood of its tile.
+abbrev pub mark_among : Cutting → List Flood → Place → Option CellLabel
+mark_among c floods p = option_and_then (λ f. mark_in (first_of floods (tile_of_place c p)) f p)
+    (slice_get floods (tile_of_place c p))
 
--- The level of each cell, and the number of its label: those of some places are known.
+-- The marks of some places.
 abbrev pub Marks : Type 0
-Marks = Place → Option Mark
+Marks = Place → Option CellLabel
 
--- Which joins are left out: those of two sources, and maybe those that lead round by another cell.
+-- The joins to leave out: those of two sources and, if `bypassed`, those of bypassed cells.
 pub record Spared : Type 0 where
   pub sources : List (Option ℤ)
   pub bypassed : Bool
@@ -56,13 +63,13 @@ pub record Spared : Type 0 where
 abbrev pub IsBetween : Place → Place → Place → Type 0
 IsBetween p q r = ((r.row ≡ q.row) × (r.col ≡ p.col)) ⊎ ((r.row ≡ p.row) × (r.col ≡ q.col))
 
--- The second cell touches the first from below at a corner, and a cell between them is no higher than one of them: its
--- joins with both lower all levels that theirs does.
+-- The second cell touches the first from below at a corner, and a cell between them is no higher
+-- than one of them. The joins of that cell with both are as low.
 pub record IsBypassed (marks : Marks) (p q : Place) : Type 0 where
   pub middle : Place
-  pub from : Mark
-  pub between : Mark
-  pub to : Mark
+  pub from : CellLabel
+  pub between : CellLabel
+  pub to : CellLabel
   pub is_middle : IsBetween p q middle
   pub from_is : marks p ≡ Some from
   pub between_is : marks middle ≡ Some between
@@ -71,12 +78,13 @@ pub record IsBypassed (marks : Marks) (p q : Place) : Type 0 where
   pub aside : p.col ≢ q.col
   pub low : between.level ≤ℤ int_max from.level to.level
 
--- Both labels are among these sources. The join of two sources lowers the level of neither.
-abbrev pub are_settled : List (Option ℤ) → ℕ → ℕ → Bool
-are_settled sources a b = is_some (slice_index_or sources a None) && is_some (slice_index_or sources b None)
+-- Both labels are in this list of sources.
+abbrev pub are_both_sources : List (Option ℤ) → ℕ → ℕ → Bool
+are_both_sources sources a b =
+    is_some (slice_index_or sources a None) && is_some (slice_index_or sources b None)
 
--- Cells that touch carry the two labels of the join, and its height is the greater of their levels. Not both labels
--- are among these sources.
+-- Two cells that touch have the two labels of the join, which differ and are not both sources. The
+-- height of the join is the greater of the levels of the cells.
 pub record Meets (marks : Marks) (out : Spared) (p q : Place) (j : Join) : Type 0 where
   pub touches : Touches p q
   pub from_level : ℤ
@@ -84,72 +92,81 @@ pub record Meets (marks : Marks) (out : Spared) (p q : Place) (j : Join) : Type 
   pub from_is : marks p ≡ Some (record { level = from_level; node = j.from })
   pub to_is : marks q ≡ Some (record { level = to_level; node = j.to })
   pub different : j.from ≢ j.to
-  pub apart : are_settled out.sources j.from j.to ≡ false
+  pub apart : are_both_sources out.sources j.from j.to ≡ false
   pub greater : int_max from_level to_level ≡ j.height
 
--- Two of these places give the join.
+-- A pair of these places gives the join.
 abbrev pub IsMeetingAt : Marks → Spared → (Place → Place → Type 0) → Join → Type 0
 IsMeetingAt marks out pairs j = (p q : Place) × pairs p q × Meets marks out p q j
 
--- The join of two cells is left out, since it leads round by another cell.
+-- The join of two cells is left out, since a third cell bypasses it.
 abbrev pub IsSpared : Marks → Spared → Place → Place → Type 0
 IsSpared marks out p q = (out.bypassed ≡ true) × IsBypassed marks p q
 
--- The joins that two marks give: one, where their labels differ and are not both among these sources.
-abbrev pub joins_of : List (Option ℤ) → Mark → Option Mark → List Join
+-- The join of two marks: none for one label or two sources, else one.
+abbrev pub joins_of : List (Option ℤ) → CellLabel → Option CellLabel → List Join
 joins_of sources from None = []
 joins_of sources from (Some to) =
     if from.node == to.node then [] else
-    (if are_settled sources from.node to.node then [] else (record { from = from.node; to = to.node; height = int_max from.level to.level }) ∷ [])
+    (if are_both_sources sources from.node to.node then []
+    else (record { from = from.node; to = to.node; height = int_max from.level to.level }) ∷ [])
 
--- A join of the same labels that is not higher.
+-- A listed join has the same labels and is at most as high.
 abbrev pub Covered : List Join → Join → Type 0
-Covered joins j = (k : Join) × Contains joins k × (k.from ≡ j.from) × (k.to ≡ j.to) × (k.height ≤ℤ j.height)
+Covered joins j =
+    (k : Join) × Contains joins k × (k.from ≡ j.from) × (k.to ≡ j.to) × (k.height ≤ℤ j.height)
 
--- The joins have been added, but for those that others cover. Joins may have been lowered to added ones.
+-- Joins have been added. Each old or added join is covered, and no other join is listed.
 pub record AddsCovered (old added new : List Join) : Type 0 where
   pub kept : (j : Join) → Contains old j → Covered new j
   pub only : (j : Join) → Contains new j → Contains old j ⊎ Contains added j
   pub every : (j : Join) → Contains added j → Covered new j
 
--- The place lies inside these bounds, and so do all four around it that come after it.
+-- The place and all four neighbours after it lie in these bounds.
 abbrev pub IsInner : Bounds → Place → Type 0
-IsInner b p = (b.top ≤ p.row) × (p.row + 1 < b.top + b.rows) × (b.left < p.col) × (p.col + 1 < b.left + b.cols)
+IsInner b p = (b.top ≤ p.row) × (p.row + 1 < b.top + b.rows) × (b.left < p.col)
+    × (p.col + 1 < b.left + b.cols)
 
--- The place lies in this row of the bounds, and not all four after it lie in them.
+-- The place lies in this row of the bounds, and a neighbour after it lies outside them.
 abbrev pub IsOnRimRow : Bounds → ℕ → Place → Type 0
 IsOnRimRow b row p = IsInBounds b p × (p.row ≡ row) × (IsInner b p → ⊥)
 
--- The four entries around this one that come after it in rows of this width, in the order of the codes.
+-- The indexes of the four neighbours after this entry, in the order of the codes.
 abbrev pub cells_after : ℕ → ℕ → List ℕ
 cells_after width i = (i + 1) ∷ (i + width + 1) ∷ (i + width) ∷ (i + width - 1) ∷ []
 
--- The entry is equal to these four.
+-- The entry equals its four neighbours after it.
 abbrev pub AreEqualAfter : List ℕ → ℕ → ℕ → Type 0
-AreEqualAfter xs i width = All (λ k. slice_index_or xs k 0 ≡ slice_index_or xs i 0) (cells_after width i)
+AreEqualAfter xs i width =
+    All (λ k. slice_index_or xs k 0 ≡ slice_index_or xs i 0) (cells_after width i)
 
--- Joins that lead round are left out, and the cell between two that touch at a corner is no higher than one of them.
-abbrev pub IsLowBetween : Spared → Mark → Option Mark → Option Mark → Type 0
+-- Bypassed joins are left out, and the middle mark is no higher than one of the other two.
+abbrev pub IsLowBetween : Spared → CellLabel → Option CellLabel → Option CellLabel → Type 0
 IsLowBetween out from between to =
-    (out.bypassed ≡ true) × (third end : Mark) × (between ≡ Some third) × (to ≡ Some end) × (third.level ≤ℤ int_max from.level end.level)
+    (out.bypassed ≡ true) × (third end : CellLabel) × (between ≡ Some third) × (to ≡ Some end)
+    × (third.level ≤ℤ int_max from.level end.level)
 
--- The join of a cell with the one at an index has been added, where there is one.
-abbrev pub AddsNear : Flood → Spared → Mark → ℕ → List Join → List Join → Type 0
-AddsNear f out from near old new = AddsCovered old (joins_of out.sources from (mark_with 0 f near)) new
+-- The join of a cell with the one at an index has been added, if there is one.
+abbrev pub AddsNear : Flood → Spared → CellLabel → ℕ → List Join → List Join → Type 0
+AddsNear f out from near old new =
+    AddsCovered old (joins_of out.sources from (mark_with 0 f near)) new
 
--- That join has been added, or one of the cells at two other indexes leads round.
-abbrev pub AddsCorner : Flood → Spared → Mark → ℕ → ℕ → ℕ → List Join → List Join → Type 0
+-- The join at a corner has been added, or a cell at one of two other indexes bypasses it.
+abbrev pub AddsCorner : Flood → Spared → CellLabel → ℕ → ℕ → ℕ → List Join → List Join → Type 0
 AddsCorner f out from below beside near old new =
-    ((IsLowBetween out from (mark_with 0 f below) (mark_with 0 f near) ⊎ IsLowBetween out from (mark_with 0 f beside) (mark_with 0 f near)) × (new ≡ old))
+    ((IsLowBetween out from (mark_with 0 f below) (mark_with 0 f near)
+    ⊎ IsLowBetween out from (mark_with 0 f beside) (mark_with 0 f near)) × (new ≡ old))
     ⊎ AddsNear f out from near old new
 
--- The joins of a cell with the four around it that come after it in rows of this width have been added.
-pub record AddsAfter (f : Flood) (out : Spared) (from : Mark) (i width : ℕ) (old new : List Join) : Type 0 where
+-- The joins of a cell with its four neighbours after it have been added.
+pub record AddsAfter (f : Flood) (out : Spared) (from : CellLabel) (i width : ℕ)
+    (old new : List Join) : Type 0 where
   pub after_first : List Join
   pub after_second : List Join
   pub after_third : List Join
   pub east : AddsNear f out from (i + 1) old after_first
-  pub south_east : AddsCorner f out from (i + width) (i + 1) (i + width + 1) after_first after_second
+  pub south_east : AddsCorner f out from (i + width) (i + 1) (i + width + 1) after_first
+      after_second
   pub south : AddsNear f out from (i + width) after_second after_third
   pub south_west : AddsCorner f out from (i + width) (i - 1) (i + width - 1) after_third new
 
@@ -157,79 +174,93 @@ pub record AddsAfter (f : Flood) (out : Spared) (from : Mark) (i width : ℕ) (o
 abbrev pub IsAfter : Place → Place → Type 0
 IsAfter p q = (p.row < q.row) ⊎ ((p.row ≡ q.row) × (p.col < q.col))
 
--- The first place is this one, and the second lies this way from it and is wanted.
+-- The first place is `p`, and the second is wanted and lies on this way from it.
 abbrev pub IsPairOn : ℕ → Place → (Place → Bool) → Place → Place → Type 0
 IsPairOn way p wanted q r = (q ≡ p) × (place_on way p ≡ Some r) × (wanted r ≡ true)
 
--- The first place is this one, and the second is wanted.
+-- The first place is `p`, and the second is wanted.
 abbrev pub IsPairFrom : Place → (Place → Bool) → Place → Place → Type 0
 IsPairFrom p wanted q r = (q ≡ p) × (wanted r ≡ true)
 
--- The place is not of this tile.
+-- The place is not in this tile.
 abbrev pub IsOutside : Cutting → ℕ → Place → Type 0
 IsOutside c tile p = IsInTile c tile p → ⊥
 
--- The tile with these bounds has this one below it, if any.
+-- `below` is the tile below the one with these bounds, if there is one.
 abbrev pub IsTileBelow : Cutting → Bounds → ℕ → Type 0
-IsTileBelow c b below = b.top + b.rows < c.rows → below ≡ tile_of_place c (record { row = b.top + b.rows; col = b.left })
+IsTileBelow c b below = b.top + b.rows < c.rows →
+    below ≡ tile_of_place c (record { row = b.top + b.rows; col = b.left })
 
--- The tile that stands in the column of this one, in the row of tiles with this row of the grid.
+-- `other` is the tile with this row of the grid, in the column of tiles of `tile`.
 abbrev pub IsTileWithRow : Cutting → ℕ → ℕ → ℕ → Type 0
 IsTileWithRow c tile row other = other ≡ row / c.side * across c + tile % across c
 
--- The joins of these pairs of places, of which the second comes after the first, have been added, but for those left out
--- and those that others cover, and no others. Joins may have been lowered to added ones.
-pub record Adds (marks : Marks) (out : Spared) (pairs : Place → Place → Type 0) (old new : List Join) : Type 0 where
+-- The joins of these pairs of places, the first before the second in row order, have been added,
+-- except those left out. Joins of the same labels may have been merged.
+pub record Adds (marks : Marks) (out : Spared) (pairs : Place → Place → Type 0)
+    (old new : List Join) : Type 0 where
   pub kept : (j : Join) → Contains old j → Covered new j
   pub only : (j : Join) → Contains new j → Contains old j ⊎ IsMeetingAt marks out pairs j
-  pub every : (p q : Place) (j : Join) → pairs p q → IsAfter p q → Meets marks out p q j → IsSpared marks out p q ⊎ Covered new j
+  pub every : (p q : Place) (j : Join) → pairs p q → IsAfter p q → Meets marks out p q j →
+      IsSpared marks out p q ⊎ Covered new j
 
 -- The join from its other label.
 abbrev pub turned : Join → Join
 turned j = record { from = j.to; to = j.from; height = j.height }
 
--- The first join has labels before those of the second.
+-- The labels of the first join come before those of the second.
 abbrev pub IsBefore : Join → Join → Type 0
 IsBefore j k = (j.from < k.from) ⊎ ((j.from ≡ k.from) × (j.to < k.to))
 
--- The joins rise by their labels.
+-- The joins are in the order of their labels, each two labels at most once.
 abbrev pub AreRising : List Join → Type 0
-AreRising joins = (m n : ℕ) (d : Join) → m < n → n < length joins → IsBefore (slice_index_or joins m d) (slice_index_or joins n d)
+AreRising joins = (m n : ℕ) (d : Join) → m < n → n < length joins →
+    IsBefore (slice_index_or joins m d) (slice_index_or joins n d)
 
--- Of the joins of two labels only a lowest is left, and they rise by their labels.
+-- The lowest join of each two labels, in the order of the labels.
 pub record AreLowest (joins lowest : List Join) : Type 0 where
   pub only : (j : Join) → Contains lowest j → Contains joins j
   pub every : (j : Join) → Contains joins j → Covered lowest j
   pub rising : AreRising lowest
 
--- The joins of all cells with those after them but those left out, each as low as those that were met.
-pub record AreGathered (c : Cutting) (floods : List Flood) (out : Spared) (joins : List Join) : Type 0 where
-  pub only : (j : Join) → Contains joins j → IsMeetingAt (mark_among c floods) out (λ p q. IsWithin c p) j
-  pub every : (p q : Place) (j : Join) → IsWithin c p → IsAfter p q → Meets (mark_among c floods) out p q j → IsSpared (mark_among c floods) out p q ⊎ Covered joins j
+-- The joins of all cells with the cells after them, except those left out.
+pub record AreGathered (c : Cutting) (floods : List Flood) (out : Spared)
+    (joins : List Join) : Type 0 where
+  pub only : (j : Join) → Contains joins j →
+      IsMeetingAt (mark_among c floods) out (λ p q. IsWithin c p) j
+  pub every : (p q : Place) (j : Join) → IsWithin c p → IsAfter p q →
+      Meets (mark_among c floods) out p q j →
+      IsSpared (mark_among c floods) out p q ⊎ Covered joins j
 
--- What is left out of all joins, and of those inside a tile: nothing, or what lowers no level.
+-- The joins to leave out over all tiles: none, or those that lower no level.
 abbrev pub spared_of : Bool → List Flood → Spared
 spared_of spare floods = record { sources = if spare then ends_of floods else []; bypassed = spare }
 
+-- The joins to leave out inside a tile: none, or those that lower no level.
 abbrev pub spared_in : Bool → Flood → Spared
 spared_in spare f = record { sources = if spare then f.ends else []; bypassed = spare }
 
--- The joins inside a tile. Labels are counted from 0.
+-- The joins inside a tile, with labels counted from 0.
 abbrev pub IsInnerOf : Bool → Flood → List Join → Type 0
-IsInnerOf spare f joins = Adds (mark_in 0 f) (spared_in spare f) (λ p q. IsInBounds f.bounds p) [] joins
+IsInnerOf spare f joins =
+    Adds (mark_in 0 f) (spared_in spare f) (λ p q. IsInBounds f.bounds p) [] joins
 
 -- The joins inside each tile.
-pub record AreInner (floods : List Flood) (spare : Bool) (inner : List (Vec Join Global)) : Type 0 where
+pub record AreInner (floods : List Flood) (spare : Bool)
+    (inner : List (Vec Join Global)) : Type 0 where
   pub count : length inner ≡ length floods
-  pub each : (tile : ℕ) (f : Flood) (joins : Vec Join Global) → slice_get floods tile ≡ Some f → slice_get inner tile ≡ Some joins → IsInnerOf spare f joins.items
+  pub each : (tile : ℕ) (f : Flood) (joins : Vec Join Global) → slice_get floods tile ≡ Some f →
+      slice_get inner tile ≡ Some joins → IsInnerOf spare f joins.items
 
--- The join whose labels are counted from this one.
+-- The join with its labels counted from this number.
 abbrev pub shifted : ℕ → Join → Join
 shifted first j = record { from = first + j.from; to = first + j.to; height = j.height }
 
--- The join before this one is of the same labels.
+-- The join before this one has the same labels.
 abbrev pub IsRepeat : List Join → ℕ → Type 0
-IsRepeat joins i = (0 < i) × ((d : Join) → ((slice_index_or joins (i - 1) d).from ≡ (slice_index_or joins i d).from) × ((slice_index_or joins (i - 1) d).to ≡ (slice_index_or joins i d).to))
+IsRepeat joins i = (0 < i) × ((d : Join) →
+    ((slice_index_or joins (i - 1) d).from ≡ (slice_index_or joins i d).from)
+    × ((slice_index_or joins (i - 1) d).to ≡ (slice_index_or joins i d).to))
 
 -- The way from the first label of a join.
 abbrev pub way_of : Join → Spill

@@ -1,4 +1,5 @@
--- The spill graph by the numbers of its labels. No public clause cites this.
+-- The spill graph by the numbers of its labels.
+-- Private.
 use Rattle.std.specs.Prelude.{◌≡◌, ◌≢◌, ℕ, ◌<◌, ◌≤◌, ◌⊎◌, ◌↔◌, ℤ, ◌≤ℤ◌, List, [], ◌∷◌, length, Option, None, Some, IsSome, if◌then◌else◌, slice_index_or}
 use Rattle.std.specs.Int.{int_max}
 use Rattle.std.specs.Option.{option_or}
@@ -15,27 +16,29 @@ use Rattle.fill.specs.Numbers.{places_of, ends_of}
 use Rattle.fill.specs.Ways.{has_ways}
 use Rattle.fill.specs.declared.spills.Join.{Join}
 
--- A way leads from a label to another at this height, and one leads back.
+-- A way leads from one label to another at this height, and one leads back.
 pub record HasWay (ways : List (List Spill)) (a b : ℕ) (height : ℤ) : Type 0 where
   pub from_node : a < length ways
   pub to_node : b < length ways
   pub there : Contains (slice_index_or ways a []) (record { to = b; height = height })
   pub back : Contains (slice_index_or ways b []) (record { to = a; height = height })
 
--- What contracts see of the graph: the ways from each label, and the heights of those that are end cells.
+-- The ways from each label, and the heights of the labels that are end cells.
 pub record NumberNet : Type 0 where
   pub ways : List (List Spill)
   pub sources : List (Option ℤ)
 
--- What holds of every such graph: each way leads back too.
+-- Every way leads back too.
 pub record IsNumberNet (g : NumberNet) : Type 0 where
   pub size : length g.sources ≡ length g.ways
   pub few : length g.ways ≤ 4294967295
-  pub back : (a b : ℕ) (h : ℤ) → Contains (slice_index_or g.ways a []) (record { to = b; height = h }) → HasWay g.ways a b h
+  pub back : (a b : ℕ) (h : ℤ) → Contains (slice_index_or g.ways a [])
+      (record { to = b; height = h }) → HasWay g.ways a b h
 
--- The labels are those of one of the joins, in this or the other order.
+-- A join of this height has these labels, in either order.
 abbrev pub IsJoinOf : List Join → ℕ → ℕ → ℤ → Type 0
-IsJoinOf joins a b h = Contains joins (record { from = a; to = b; height = h }) ⊎ Contains joins (record { from = b; to = a; height = h })
+IsJoinOf joins a b h = Contains joins (record { from = a; to = b; height = h })
+    ⊎ Contains joins (record { from = b; to = a; height = h })
 
 -- These joins have been added, each as two ways.
 pub record AddsWays (joins : List Join) (old new : List (List Spill)) : Type 0 where
@@ -45,27 +48,32 @@ pub record AddsWays (joins : List Join) (old new : List (List Spill)) : Type 0 w
 
 -- The ways are those of the joins.
 abbrev pub HasWaysOf : List Join → List (List Spill) → Type 0
-HasWaysOf joins ways = (a b : ℕ) (h : ℤ) → Contains (slice_index_or ways a []) (record { to = b; height = h }) ↔ IsJoinOf joins a b h
+HasWaysOf joins ways = (a b : ℕ) (h : ℤ) →
+    Contains (slice_index_or ways a []) (record { to = b; height = h }) ↔ IsJoinOf joins a b h
 
+-- The height of a source, by its number.
 abbrev pub source_number : List (Option ℤ) → ℕ → Option ℤ
 source_number sources a = slice_index_or sources a None
 
--- The height of a source from which there is a way.
+-- The height of a source that has a way.
 abbrev pub joined_source : List (List Spill) → List (Option ℤ) → ℕ → Option ℤ
 joined_source ways sources a = if has_ways ways a then source_number sources a else None
 
 -- The least crest from each label to a source.
 abbrev pub AreNumberLevels : List (List Spill) → List (Option ℤ) → List (Option ℤ) → Type 0
-AreNumberLevels ways sources levels = (labels : List (Option ℕ)) × IsFlooded (HasWay ways) (source_number sources) (length ways) levels labels
+AreNumberLevels ways sources levels = (labels : List (Option ℕ))
+    × IsFlooded (HasWay ways) (source_number sources) (length ways) levels labels
 
 -- The levels of a flood, or else the heights of sources.
 abbrev pub levels_or : List (Option ℤ) → List (Option ℤ) → List (Option ℤ)
 levels_or [] sources = []
 levels_or (height ∷ heights) [] = []
-levels_or (height ∷ heights) (source ∷ sources) = option_or height source ∷ levels_or heights sources
+levels_or (height ∷ heights) (source ∷ sources) =
+    option_or height source ∷ levels_or heights sources
 
--- Two neighbouring cells carry these labels, and the greater of their levels is this height.
-pub record IsNumberPass (t : Terrain) (c : Cutting) (floods : List Flood) (a b : ℕ) (height : ℤ) : Type 0 where
+-- Two neighbouring cells have these labels, and the greater of their levels is this height.
+pub record IsNumberPass (t : Terrain) (c : Cutting) (floods : List Flood) (a b : ℕ)
+    (height : ℤ) : Type 0 where
   pub from : Place
   pub to : Place
   pub from_level : ℤ
@@ -75,18 +83,22 @@ pub record IsNumberPass (t : Terrain) (c : Cutting) (floods : List Flood) (a b :
   pub to_is : mark_among c floods to ≡ Some (record { level = to_level; node = b })
   pub greater : int_max from_level to_level ≡ height
 
--- The graph of these floods, in which two labels that are both end cells may stand without a way, and so may two whose
--- cells touch at a corner where another cell leads round.
-pub record IsNumberGraph (t : Terrain) (c : Cutting) (floods : List Flood) (ways : List (List Spill)) (sources : List (Option ℤ)) : Type 0 where
+-- The spill graph of these floods. It may lack ways between two end cells, and between labels that
+-- a third cell bypasses at a corner.
+pub record IsNumberGraph (t : Terrain) (c : Cutting) (floods : List Flood)
+    (ways : List (List Spill)) (sources : List (Option ℤ)) : Type 0 where
   pub count : length ways ≡ length (places_of floods)
   pub ends : sources ≡ ends_of floods
   pub joined : (a b : ℕ) (h : ℤ) → a ≢ b → (x : IsNumberPass t c floods a b h)
-      → ((IsSome (source_number sources a) × IsSome (source_number sources b)) ⊎ ((low : ℤ) × HasWay ways a b low × (low ≤ℤ h)))
-      ⊎ (IsBypassed (mark_among c floods) x.from x.to ⊎ IsBypassed (mark_among c floods) x.to x.from)
+      → ((IsSome (source_number sources a) × IsSome (source_number sources b))
+      ⊎ ((low : ℤ) × HasWay ways a b low × (low ≤ℤ h)))
+      ⊎ (IsBypassed (mark_among c floods) x.from x.to
+      ⊎ IsBypassed (mark_among c floods) x.to x.from)
   pub joined_only : (a b : ℕ) (h : ℤ) → HasWay ways a b h → IsNumberPass t c floods a b h
 
--- The levels are those of such a graph.
-pub record AreLabelLevels (t : Terrain) (c : Cutting) (floods : List Flood) (levels : List (Option ℤ))
+-- The levels are those of a spill graph of these floods.
+pub record AreLabelLevels (t : Terrain) (c : Cutting) (floods : List Flood)
+    (levels : List (Option ℤ))
     : Type 0 where
   pub ways : List (List Spill)
   pub sources : List (Option ℤ)

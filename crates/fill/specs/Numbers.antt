@@ -1,14 +1,16 @@
--- The labels of all tiles by number: those of a tile stand behind those of the tiles before it. No public clause cites this.
+-- The labels of all tiles by number, counted tile by tile.
+-- Private.
 use Rattle.std.specs.Prelude.{◌≡◌, ℕ, ◌+◌, ◌<◌, ◌≤◌, ℤ, List, map, take, length, Option, None, Some, slice_get, slice_index_or}
 use Rattle.std.specs.List.{flat_map}
 use Rattle.terrain.specs.Neighbours.{index_of}
 use Rattle.terrain.specs.declared.place.Place.{Place}
 use Rattle.cell_floods.specs.TileFlood.{Flood, IsFlood}
 
--- The places of the labels, and the heights of those that are end cells.
+-- The places of the labels.
 abbrev pub places_of : List Flood → List (Option Place)
 places_of floods = flat_map (λ f. f.table.places) floods
 
+-- The heights of the labels that are end cells.
 abbrev pub ends_of : List Flood → List (Option ℤ)
 ends_of floods = flat_map (λ f. f.ends) floods
 
@@ -16,18 +18,20 @@ ends_of floods = flat_map (λ f. f.ends) floods
 abbrev pub first_of : List Flood → ℕ → ℕ
 first_of floods tile = length (places_of (take tile floods))
 
--- The number of each tile's first label. All numbers have 32 bits.
+-- The number of each tile's first label. All numbers fit in 32 bits.
 pub record AreFirsts (floods : List Flood) (firsts : List ℕ) : Type 0 where
   pub size : length firsts ≡ length floods
   pub each : (tile : ℕ) → tile < length floods → slice_index_or firsts tile 0 ≡ first_of floods tile
-  pub few : (tile : ℕ) (f : Flood) → slice_get floods tile ≡ Some f → first_of floods tile + length f.table.places ≤ 4294967295
+  pub few : (tile : ℕ) (f : Flood) → slice_get floods tile ≡ Some f →
+      first_of floods tile + length f.table.places ≤ 4294967295
   pub whole : length (places_of floods) ≤ 4294967295
   pub lawful : (tile : ℕ) (f : Flood) → slice_get floods tile ≡ Some f → IsFlood f
 
--- The place of a label in row order of the grid, and 0 for none.
+-- The node of the place of a label, and 0 for None.
 abbrev pub node_of_label : ℕ → Option Place → ℕ
 node_of_label cols (Some p) = index_of cols p
 node_of_label cols None = 0
 
+-- The nodes of all labels.
 abbrev pub nodes_of : ℕ → List Flood → List ℕ
 nodes_of cols floods = map (node_of_label cols) (places_of floods)

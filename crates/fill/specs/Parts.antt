@@ -1,4 +1,5 @@
 -- The joins of the spill graph by places.
+-- Public.
 use Rattle.std.specs.Prelude.{◌≡◌, ℕ, ◌*◌, ◌<◌, ◌≤◌, ℤ, List, length, Option, slice_index_or}
 use Rattle.std.specs.List.{Contains, All}
 use Rattle.tiles.specs.Cutting.{Cutting}
@@ -6,17 +7,18 @@ use Rattle.fill.specs.Gathering.{AreRising, turned}
 use Rattle.fill.specs.Spills.{Graph}
 use Rattle.fill.specs.declared.spills.Join.{Join}
 
--- The joins that begin at this node or a later one stand from here on.
+-- The joins from this node or a later one begin at `start`.
 pub record BeginAt (joins : List Join) (node start : ℕ) : Type 0 where
   pub few : start ≤ length joins
   pub below : (k : ℕ) (d : Join) → k < start → (slice_index_or joins k d).from < node
-  pub above : (k : ℕ) (d : Join) → start ≤ k → k < length joins → node ≤ (slice_index_or joins k d).from
+  pub above : (k : ℕ) (d : Join) → start ≤ k → k < length joins →
+      node ≤ (slice_index_or joins k d).from
 
 -- The graph with these joins and sources. Its nodes are the places of the grid.
 abbrev pub graph_with : Cutting → List Join → List (Option ℤ) → Graph
 graph_with c joins sources = record { nodes = c.cols * c.rows; joins = joins; sources = sources }
 
--- What holds of every graph: its joins rise, and stand there both ways.
+-- The joins are in order, each in both directions.
 pub record IsGraph (g : Graph) : Type 0 where
   pub sources : length g.sources ≡ g.nodes
   pub ends : All (λ j. (j.from < g.nodes) × (j.to < g.nodes)) g.joins

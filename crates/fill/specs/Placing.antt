@@ -1,4 +1,5 @@
--- Joins of labels by number, as joins of the labels' places. No public clause cites this.
+-- Joins of labels by number, as joins of places.
+-- Private.
 use Rattle.std.specs.Prelude.{◌≡◌, ◌≢◌, ℕ, ◌==◌, if◌then◌else◌, ◌⊎◌, List, [], ◌∷◌, slice_index_or}
 use Rattle.std.specs.List.{Contains}
 use Rattle.fill.specs.Gathering.{turned}
@@ -6,17 +7,24 @@ use Rattle.fill.specs.declared.spills.Join.{Join}
 
 -- The join of the places of two labels.
 abbrev pub join_at : List ℕ → Join → Join
-join_at nodes j = record { from = slice_index_or nodes j.from 0; to = slice_index_or nodes j.to 0; height = j.height }
+join_at nodes j = record {
+  from = slice_index_or nodes j.from 0;
+  to = slice_index_or nodes j.to 0;
+  height = j.height;
+}
 
--- Where these differ.
+-- That join, unless both labels are one place.
 abbrev pub placed_joins_of : List ℕ → Join → List Join
-placed_joins_of nodes j = if (join_at nodes j).from == (join_at nodes j).to then [] else join_at nodes j ∷ []
+placed_joins_of nodes j =
+    if (join_at nodes j).from == (join_at nodes j).to then [] else join_at nodes j ∷ []
 
--- The join is that of the places of one of these, in this or the other order.
+-- The join is that of the places of one of these joins, in either direction.
 abbrev pub IsPlacedOf : List ℕ → List Join → Join → Type 0
-IsPlacedOf nodes joins j = (k : Join) × Contains joins k × ((join_at nodes k).from ≢ (join_at nodes k).to) × ((j ≡ join_at nodes k) ⊎ (j ≡ turned (join_at nodes k)))
+IsPlacedOf nodes joins j = (k : Join) × Contains joins k
+    × ((join_at nodes k).from ≢ (join_at nodes k).to)
+    × ((j ≡ join_at nodes k) ⊎ (j ≡ turned (join_at nodes k)))
 
--- These joins have been added by the places of their labels, both ways.
+-- These joins have been added by the places of their labels, in both directions.
 pub record AddsPlaced (nodes : List ℕ) (joins old new : List Join) : Type 0 where
   pub kept : (j : Join) → Contains old j → Contains new j
   pub only : (j : Join) → Contains new j → Contains old j ⊎ IsPlacedOf nodes joins j

@@ -1,4 +1,5 @@
--- Tiles whose cells are raised by tables of their labels' levels. No public clause cites this.
+-- Tiles whose cells are raised to the levels of their labels.
+-- Private.
 use Rattle.std.specs.Prelude.{◌≡◌, ℕ, ◌+◌, ℤ, List, length, Option, None, slice_index_or, option_and_then}
 use Rattle.terrain.specs.StoredCells.{cell_of}
 use Rattle.terrain.specs.declared.place.Place.{Place}
@@ -6,40 +7,43 @@ use Rattle.tiles.specs.Cutting.{Cutting}
 use Rattle.cell_floods.specs.TileFlood.{Flood, IsFlood, levels_where}
 use Rattle.fill.specs.Gathering.{mark_among, mark_with}
 use Rattle.fill.specs.Spills.{AreEntries, greater_of, level_among}
-use Rattle.fill.specs.declared.marks.Mark.{Mark}
+use Rattle.fill.specs.declared.marks.CellLabel.{CellLabel}
 use Rattle.fill.specs.declared.raised_tiles.RaisedTile.{RaisedTile}
 
--- The level of a mark's label, of the levels by number.
-abbrev pub spill_with : List (Option ℤ) → Option Mark → Option ℤ
+-- The level of a mark's label, by the levels of labels by number.
+abbrev pub spill_with : List (Option ℤ) → Option CellLabel → Option ℤ
 spill_with levels mark = option_and_then (λ m. slice_index_or levels m.node None) mark
 
--- What the flood of its tile and these levels of the labels raise a cell to.
+-- The raised height of a place, by the flood of its tile and the levels of labels.
 abbrev pub raised_among : Cutting → List Flood → List (Option ℤ) → Place → Option ℤ
-raised_among c floods levels p = greater_of (level_among c floods p) (spill_with levels (mark_among c floods p))
+raised_among c floods levels p =
+    greater_of (level_among c floods p) (spill_with levels (mark_among c floods p))
 
--- The level of a label of a tile whose first label has this number.
+-- The level of the label at an index of a tile. The first label has number `first`.
 abbrev pub spill_at : List (Option ℤ) → ℕ → List (Option Place) → ℕ → Option ℤ
-spill_at levels first places k = option_and_then (λ _. slice_index_or levels (first + k) None) (slice_index_or places k None)
+spill_at levels first places k =
+    option_and_then (λ _. slice_index_or levels (first + k) None) (slice_index_or places k None)
 
 -- The levels of these labels, as cells.
 abbrev pub AreSpillCells : List (Option ℤ) → ℕ → List (Option Place) → List (Option ℤ) → Type 0
 AreSpillCells levels first places cells =
     AreEntries (λ k. cell_of (spill_at levels first places k)) (length places) cells
 
--- The tile raises each cell as its flood and these levels of all labels do.
-pub record IsRaisedTile (first : ℕ) (f : Flood) (levels : List (Option ℤ)) (x : RaisedTile) : Type 0 where
+-- The tile has the levels of this flood, and those of its labels in the spill graph.
+pub record IsRaisedTile (first : ℕ) (f : Flood) (levels : List (Option ℤ))
+    (x : RaisedTile) : Type 0 where
   pub lawful : IsFlood f
   pub heights : f.levels ≡ levels_where f.labels x.heights.now
   pub size : length x.heights.now ≡ length f.labels
   pub labels : x.labels.now ≡ f.table.indexes
   pub spills : AreSpillCells levels first f.table.places x.spills.items
 
--- What the cell with this index in the tile's row order is raised to.
+-- The raised height of the cell at an index of the tile's row order.
 abbrev pub raised_at : ℕ → Flood → List (Option ℤ) → ℕ → Option ℤ
 raised_at first f levels k =
     greater_of (slice_index_or f.levels k None) (spill_with levels (mark_with first f k))
 
--- The cells of a tile have what they are raised to.
+-- The raised cells of a tile.
 abbrev pub AreRaisedCells : ℕ → Flood → List (Option ℤ) → List (Option ℤ) → Type 0
 AreRaisedCells first f levels cells =
     AreEntries (λ k. cell_of (raised_at first f levels k)) (length f.labels) cells

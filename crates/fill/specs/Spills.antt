@@ -1,4 +1,5 @@
--- The spill graph: how the labels of all tiles are joined, and the levels that it gives them.
+-- The spill graph of all tiles: how labels are joined, and the levels that they get.
+-- Public.
 use Rattle.std.specs.Prelude.{◌≡◌, ◌≢◌, ℕ, ◌*◌, ◌<◌, ℤ, pos, ◌≤ℤ◌, List, length, Option, None, Some, MatchOption, slice_get, slice_index_or, option_and_then}
 use Rattle.std.specs.Int.{int_max}
 use Rattle.std.specs.List.{Contains}
@@ -18,19 +19,22 @@ pub record AreFloods (t : Terrain) (c : Cutting) (floods : List Flood) : Type 0 
   pub count : length floods ≡ tile_count c
   pub each : (tile : ℕ) (f : Flood) → slice_get floods tile ≡ Some f → IsTileFlood t c tile f
 
--- A cell's level and label in the flood of its tile.
+-- A cell's level in the flood of its tile.
 abbrev pub level_among : Cutting → List Flood → Place → Option ℤ
 level_among c floods p = option_and_then (λ f. level_in f p) (slice_get floods (tile_of_place c p))
 
+-- A cell's label in the flood of its tile.
 abbrev pub label_among : Cutting → List Flood → Place → Option Place
 label_among c floods p = option_and_then (λ f. label_in f p) (slice_get floods (tile_of_place c p))
 
--- The cell carries the label with this number.
+-- The cell has the label at this node.
 abbrev pub Carries : Cutting → List Flood → Place → ℕ → Type 0
-Carries c floods p a = (label : Place) × (label_among c floods p ≡ Some label) × (index_of c.cols label ≡ a)
+Carries c floods p a =
+    (label : Place) × (label_among c floods p ≡ Some label) × (index_of c.cols label ≡ a)
 
--- Two neighbouring cells carry these labels, and the greater of their levels is this height.
-pub record IsPass (t : Terrain) (c : Cutting) (floods : List Flood) (a b : ℕ) (height : ℤ) : Type 0 where
+-- Two neighbouring cells have these labels, and the greater of their levels is this height.
+pub record IsPass (t : Terrain) (c : Cutting) (floods : List Flood) (a b : ℕ)
+    (height : ℤ) : Type 0 where
   pub from : Place
   pub to : Place
   pub from_level : ℤ
@@ -43,57 +47,67 @@ pub record IsPass (t : Terrain) (c : Cutting) (floods : List Flood) (a b : ℕ) 
   pub greater : int_max from_level to_level ≡ height
 
 -- Two labels are joined at the least height of their passes.
-pub record IsJoined (t : Terrain) (c : Cutting) (floods : List Flood) (a b : ℕ) (height : ℤ) : Type 0 where
+pub record IsJoined (t : Terrain) (c : Cutting) (floods : List Flood) (a b : ℕ)
+    (height : ℤ) : Type 0 where
   pub different : a ≢ b
   pub pass : IsPass t c floods a b height
   pub least : (other : ℤ) → IsPass t c floods a b other → height ≤ℤ other
 
--- What contracts see of a spill graph: its nodes, its joins, each both ways, and its sources.
+-- A spill graph: its nodes, its joins in both directions, and the heights of its sources.
 pub record Graph : Type 0 where
   pub nodes : ℕ
   pub joins : List Join
   pub sources : List (Option ℤ)
 
+-- Two nodes are joined at this height.
 pub record HasJoin (g : Graph) (a b : ℕ) (height : ℤ) : Type 0 where
   pub from_node : a < g.nodes
   pub to_node : b < g.nodes
   pub there : Contains g.joins (record { from = a; to = b; height = height })
   pub back : Contains g.joins (record { from = b; to = a; height = height })
 
+-- The height of a source.
 abbrev pub source_in : Graph → ℕ → Option ℤ
 source_in g a = slice_index_or g.sources a None
 
--- A label that is an end cell is a source, at its height.
-pub record AreSpillSources (t : Terrain) (c : Cutting) (floods : List Flood) (g : Graph) : Type 0 where
-  pub each : (p : Place) (h : ℤ) → Carries c floods p (index_of c.cols p) → IsEnd t p → height_at t p ≡ Some h → source_in g (index_of c.cols p) ≡ Some h
+-- The sources are the labels that are end cells, at their heights.
+pub record AreSpillSources (t : Terrain) (c : Cutting) (floods : List Flood)
+    (g : Graph) : Type 0 where
+  pub each : (p : Place) (h : ℤ) → Carries c floods p (index_of c.cols p) → IsEnd t p →
+      height_at t p ≡ Some h → source_in g (index_of c.cols p) ≡ Some h
   pub only : (a : ℕ) (h : ℤ) → source_in g a ≡ Some h →
-      (p : Place) × (index_of c.cols p ≡ a) × Carries c floods p a × IsEnd t p × (height_at t p ≡ Some h)
+      (p : Place) × (index_of c.cols p ≡ a) × Carries c floods p a × IsEnd t p
+      × (height_at t p ≡ Some h)
 
--- The heights of the labels that are end cells, in row order of the grid.
-pub record AreSourcesOf (t : Terrain) (c : Cutting) (floods : List Flood) (sources : List (Option ℤ)) : Type 0 where
+-- The heights of labels that are end cells, in row order of the grid.
+pub record AreSourcesOf (t : Terrain) (c : Cutting) (floods : List Flood)
+    (sources : List (Option ℤ)) : Type 0 where
   pub size : length sources ≡ c.cols * c.rows
   pub right : (g : Graph) → g.sources ≡ sources → AreSpillSources t c floods g
 
--- The graph of these floods: its nodes, joins and sources. A node's number is its label's place in row order.
+-- The spill graph of these floods. A node is the index of a label's place in row order.
 pub record IsGraphOf (t : Terrain) (c : Cutting) (floods : List Flood) (g : Graph) : Type 0 where
   pub count : g.nodes ≡ c.cols * c.rows
-  pub joined : (a b : ℕ) (h : ℤ) → a ≢ b → IsPass t c floods a b h → (least : ℤ) × HasJoin g a b least
+  pub joined : (a b : ℕ) (h : ℤ) → a ≢ b → IsPass t c floods a b h →
+      (least : ℤ) × HasJoin g a b least
   pub joined_only : (a b : ℕ) (h : ℤ) → HasJoin g a b h → IsJoined t c floods a b h
   pub sources : AreSpillSources t c floods g
 
 -- The least crest from each node of the graph.
 abbrev pub AreLevelsOf : Graph → List (Option ℤ) → Type 0
-AreLevelsOf g levels = (labels : List (Option ℕ)) × IsFlooded (HasJoin g) (source_in g) g.nodes levels labels
+AreLevelsOf g levels =
+    (labels : List (Option ℕ)) × IsFlooded (HasJoin g) (source_in g) g.nodes levels labels
 
--- The levels of the graph of these floods.
+-- The levels of the spill graph of these floods.
 abbrev pub AreSpillLevels : Terrain → Cutting → List Flood → List (Option ℤ) → Type 0
 AreSpillLevels t c floods levels = (g : Graph) × IsGraphOf t c floods g × AreLevelsOf g levels
 
 -- The level of a label in the graph.
 abbrev pub spill_of : Cutting → List (Option ℤ) → Option Place → Option ℤ
-spill_of c levels label = option_and_then (λ p. slice_index_or levels (index_of c.cols p) None) label
+spill_of c levels label =
+    option_and_then (λ p. slice_index_or levels (index_of c.cols p) None) label
 
--- The greater of two levels, None where one of them is missing.
+-- The greater of two levels, None if one is missing.
 abbrev pub greater_of : Option ℤ → Option ℤ → Option ℤ
 greater_of (Some level) (Some spill) = Some (int_max level spill)
 greater_of (Some level) None = None
@@ -103,24 +117,28 @@ greater_of None spill = None
 abbrev pub raised_by : Cutting → List (Option ℤ) → Option ℤ → Option Place → Option ℤ
 raised_by c levels level label = greater_of level (spill_of c levels label)
 
--- The list has the entries of this rule, and so many.
+-- The list has `count` entries, each by this rule.
 pub record AreEntries (entry : ℕ → Option ℤ) (count : ℕ) (list : List (Option ℤ)) : Type 0 where
   pub size : length list ≡ count
   pub each : (k : ℕ) → k < count → slice_index_or list k None ≡ entry k
 
--- The greater of each height and the level of its label, which stands among the spills.
+-- The greater of each height and the level of its label. `labels` has indexes into `spills`.
 abbrev pub AreGreater : List ℤ → List ℕ → List (Option ℤ) → List (Option ℤ) → Type 0
 AreGreater heights labels spills raised =
     AreEntries (λ i. greater_of (Some (slice_index_or heights i (pos 0)))
     (slice_index_or spills (slice_index_or labels i 0) None)) (length heights) raised
 
-pub record IsRaised (c : Cutting) (f : Flood) (levels : List (Option ℤ)) (raised : List (Option ℤ)) : Type 0 where
+-- Each cell of the tile is raised by these levels.
+pub record IsRaised (c : Cutting) (f : Flood) (levels : List (Option ℤ))
+    (raised : List (Option ℤ)) : Type 0 where
   pub size : length raised ≡ length f.levels
   pub each : (i : ℕ) → i < length f.levels →
-      slice_index_or raised i None ≡ raised_by c levels (slice_index_or f.levels i None) (slice_index_or f.labels i None)
+      slice_index_or raised i None
+      ≡ raised_by c levels (slice_index_or f.levels i None) (slice_index_or f.labels i None)
 
 -- The list has the filled heights of a tile's cells, in its row order.
-pub record IsFilledTile (t : Terrain) (c : Cutting) (tile : ℕ) (levels : List (Option ℤ)) : Type 0 where
+pub record IsFilledTile (t : Terrain) (c : Cutting) (tile : ℕ)
+    (levels : List (Option ℤ)) : Type 0 where
   pub size : length levels ≡ cell_count c tile
   pub each : (p : Place) → IsInTile c tile p →
       MatchOption (height_at t p) (tile_entry c tile levels p ≡ None)

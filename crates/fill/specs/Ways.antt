@@ -1,24 +1,27 @@
--- Lists of ways, one for each label, over one list of joins: each join leads to those before it in the lists of its two
--- labels. Joins count from 1, and 0 stands for none. No public clause cites this.
+-- The ways of each label, as linked lists over one list of joins. Each join has the joins before it
+-- in the lists of its two labels. Joins count from 1, and 0 is none.
+-- Private.
 use Rattle.std.specs.Prelude.{ℕ, zero, suc, ◌≤◌, ◌<◌, ◌==◌, if◌then◌else◌, Bool, true, false, pos, List, [], ◌∷◌, map, length, slice_index_or}
 use Rattle.std.specs.List.{range_with_len}
 use Rattle.floods.specs.declared.net.Spill.{Spill}
 use Rattle.fill.specs.Gathering.{turned, way_of}
 use Rattle.fill.specs.declared.spills.Join.{Join}
-use Rattle.fill.specs.declared.ways.Befores.{Befores}
+use Rattle.fill.specs.declared.ways.PreviousJoins.{PreviousJoins}
 use Rattle.fill.specs.declared.ways.Link.{Link}
 
--- The way of a join from one of its labels, and the join before it in the list of that label.
-abbrev pub link_from : ℕ → Join → Befores → Link
+-- The way of a join from one of its labels, and the join before it in that list.
+abbrev pub link_from : ℕ → Join → PreviousJoins → Link
 link_from label j b =
     if j.from == label then record { way = way_of j; before = b.from }
     else record { way = way_of (turned j); before = b.to }
 
-abbrev pub link_at : List Join → List Befores → ℕ → ℕ → Link
+-- The link of the join at an index.
+abbrev pub link_at : List Join → List PreviousJoins → ℕ → ℕ → Link
 link_at joins befores label i =
-    link_from label (slice_index_or joins i (record { from = 0; to = 0; height = pos 0 })) (slice_index_or befores i (record { from = 0; to = 0 }))
+    link_from label (slice_index_or joins i (record { from = 0; to = 0; height = pos 0 }))
+    (slice_index_or befores i (record { from = 0; to = 0 }))
 
--- The ways from this join on, among so many joins, by the links of a label.
+-- The ways from join `at` on, by the links of a label.
 abbrev pub chain : (ℕ → Link) → ℕ → ℕ → List Spill
 chain link zero at = []
 chain link (suc count) at =
@@ -26,16 +29,19 @@ chain link (suc count) at =
     else chain link count at
 
 -- The ways from each label.
-abbrev pub ways_by : List ℕ → List Join → List Befores → List (List Spill)
+abbrev pub ways_by : List ℕ → List Join → List PreviousJoins → List (List Spill)
 ways_by lasts joins befores =
-    map (λ label. chain (link_at joins befores label) (length befores) (slice_index_or lasts label 0)) (range_with_len 0 (length lasts))
+    map (λ label. chain (link_at joins befores label) (length befores)
+    (slice_index_or lasts label 0)) (range_with_len 0 (length lasts))
 
--- Each join leads to earlier ones.
-pub record AreLinked (lasts : List ℕ) (joins : List Join) (befores : List Befores) : Type 0 where
+-- Each join is linked to earlier joins.
+pub record AreLinked (lasts : List ℕ) (joins : List Join)
+    (befores : List PreviousJoins) : Type 0 where
   pub fit : length befores ≤ length joins
   pub begin : (label : ℕ) → slice_index_or lasts label 0 ≤ length befores
   pub before : (label i : ℕ) → i < length befores → (link_at joins befores label i).before ≤ i
 
+-- The list has a way.
 abbrev pub is_some_way : List Spill → Bool
 is_some_way [] = false
 is_some_way (way ∷ rest) = true

@@ -1,6 +1,7 @@
 //! The filled heights of a grid, by tiles and workers: [`filled`].
 //!
-//! Jobs flood each tile, and raise it. Between the two the caller's thread floods the spill graph.
+//! One job floods each tile, another raises it. In between, the caller's thread floods the spill
+//! graph.
 ghost use Rattle.std.proofs.Props.{props};
 ghost use Rattle.std.specs.Prelude.{◌≡◌, ◌<◌, ◌≤◌, true, length, map, IfOk};
 ghost use Rattle.terrain.specs.Raster.{Terrain, IsTerrain};
@@ -27,7 +28,7 @@ use std::sync::Wait;
 use std::thread::Threads;
 use terrain::{Cell, Grid, NoMemory};
 use tile_jobs::{Gate, JobFault, Work};
-use tile_maps::Crew;
+use tile_maps::Runner;
 use tiles::Tiling;
 
 /// A tile's flood, and the joins inside the tile.
@@ -37,7 +38,7 @@ struct FloodedTile {
     joins: Vec<Join>,
 }
 
-/// Floods each tile.
+/// The jobs of the first stage: each floods a tile and finds the joins inside it.
 #[derive(Drop)]
 struct FloodTiles<'a> {
     grid: &'a Grid,
@@ -74,7 +75,7 @@ impl<'a> Work for FloodTiles<'a> {
     }
 }
 
-/// The floods of tiles, and the joins inside each.
+/// Splits the results into the floods and the lists of joins.
 fn into_lists(
     alloc: Global,
     tiles: Vec<FloodedTile>,
@@ -92,24 +93,24 @@ fn into_lists(
     Ok((floods, inner))
 }
 
-/// The flood of each tile, in tile order, and the joins inside each.
+/// Floods each tile in a job; returns the floods and inner joins in tile order.
 fn tile_floods<R: Threads + Wait + Sync, G: Gate + Sync>(
-    crew: &Crew<'_, R, G>,
+    runner: &Runner<'_, R, G>,
     grid: &Grid,
     tiling: &Tiling,
 ) -> Result<(Vec<TileFlood>, Vec<Vec<Join>>), JobFault>
     requires { Cuts tiling.now grid.now.terrain }
     ensures floods { IfOk result (λ r. AreFloods grid.now.terrain tiling.now r.0.items) }
     ensures inner { IfOk result (λ r. AreInner r.0.items true r.1.items) }
-    ensures workers { RefusesWorkers crew.now.workers result }
+    ensures workers { RefusesWorkers runner.now.workers result }
 {
     let jobs = tiling.tiles();
-    let tiles = crew.run(&FloodTiles { grid, tiling }, jobs)?;
-    let (floods, inner) = into_lists(crew.alloc, tiles)?;
+    let tiles = runner.run(&FloodTiles { grid, tiling }, jobs)?;
+    let (floods, inner) = into_lists(runner.alloc, tiles)?;
     Ok((floods, inner))
 }
 
-/// The spill graph of the floods, but for joins that lower no level.
+/// Makes the spill graph of the floods, without joins that lower no level.
 fn spill_graph(
     alloc: Global,
     tiles: &NumberedFloods<'_>,
@@ -132,7 +133,7 @@ fn spill_graph(
     Ok(graph)
 }
 
-/// The level of each label in the spill graph of the floods.
+/// Returns the level of each label in the spill graph of the floods.
 fn label_levels(
     alloc: Global,
     tiles: &NumberedFloods<'_>,
@@ -150,33 +151,33 @@ fn label_levels(
     Ok(levels)
 }
 
-/// The filled heights of all cells in row order, by the floods and their spill graph. A job raises
-/// each tile.
+/// Returns the filled height of each cell, in row order.
+/// Floods the spill graph on this thread, then raises each tile in a job.
 fn filled_cells<R: Threads + Wait + Sync, G: Gate + Sync>(
-    crew: &Crew<'_, R, G>,
+    runner: &Runner<'_, R, G>,
     tiling: &Tiling,
     floods: Vec<TileFlood>,
     inner: Vec<Vec<Join>>,
 ) -> Result<Vec<Cell>, JobFault>
     requires floods { (t : Terrain) × AreFloods t tiling.now floods.items }
     requires inner { AreInner floods.items true inner.items }
-    requires workers { (0 < crew.now.workers) × (crew.now.workers ≤ 64) }
+    requires workers { (0 < runner.now.workers) × (runner.now.workers ≤ 64) }
     ensures filled { IfOk result (λ v. (t : Terrain) → IsTerrain t
         → AreFloods t tiling.now floods.items → IsFilled t v.items) }
-    ensures workers { RefusesWorkers crew.now.workers result }
+    ensures workers { RefusesWorkers runner.now.workers result }
 {
-    let firsts = first_numbers(crew.alloc, tiling, &floods)?;
+    let firsts = first_numbers(runner.alloc, tiling, &floods)?;
     let tiles = NumberedFloods {
         tiling,
         floods: &floods,
         firsts: &firsts,
     };
-    let Ok(levels) = label_levels(crew.alloc, &tiles, &inner) else {
+    let Ok(levels) = label_levels(runner.alloc, &tiles, &inner) else {
         return Err(JobFault::Memory);
     };
     drop(tiles);
     drop(inner);
-    let cells = crew.made(RaisedTiles {
+    let cells = runner.made(RaisedTiles {
         tiling: *tiling,
         floods,
         firsts,
@@ -185,10 +186,22 @@ fn filled_cells<R: Threads + Wait + Sync, G: Gate + Sync>(
     Ok(cells)
 }
 
-/// The grid with each height replaced by its filled height.
+/// Returns the grid with each height replaced by its filled height.
 ///
-/// Each tile is flooded in a job of its own, and raised in another. Between the two the caller's
-/// thread floods the spill graph.
+/// One job floods each tile, another raises it. In between, the caller's thread floods the spill
+/// graph.
+///
+/// # Errors
+///
+/// [`JobFault::BadWorkers`] if `workers` is 0 or above 64. [`JobFault::NoThread`] if a thread
+/// cannot be started. [`JobFault::Memory`] if memory runs out.
+///
+/// # Examples
+///
+/// ```ignore
+/// let filled = filled(&rt, rt.alloc(), &grid, &tiling, 4, &NoGate)?;
+/// let cells = filled.grid().cells();
+/// ```
 pub fn filled<R: Threads + Wait + Sync, G: Gate + Sync>(
     rt: &R,
     alloc: Global,
@@ -201,14 +214,14 @@ pub fn filled<R: Threads + Wait + Sync, G: Gate + Sync>(
     ensures filled { IfOk result (λ f. IsFilledGrid grid.now f) }
     ensures workers { RefusesWorkers workers result }
 {
-    let crew = Crew {
+    let runner = Runner {
         rt,
         alloc,
         workers,
         gate,
     };
-    let (floods, inner) = tile_floods(&crew, grid, tiling)?;
-    let cells = filled_cells(&crew, tiling, floods, inner)?;
+    let (floods, inner) = tile_floods(&runner, grid, tiling)?;
+    let cells = filled_cells(&runner, tiling, floods, inner)?;
     let Ok(filled) = grid.frame().with_cells(alloc, cells) else {
         return Err(JobFault::Memory);
     };

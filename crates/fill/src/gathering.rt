@@ -11,7 +11,7 @@ use crate::rim_joins::push_rim_joins;
 use crate::spills::Join;
 use std::alloc::{AllocError, Global};
 
-/// Adds joins of labels that are counted from this one.
+/// Adds joins inside a tile, and renumbers them from `first`, its first label.
 fn push_shifted(joins: &mut Vec<Join>, first: u32, inner: &[Join]) -> Result<(), AllocError>
     requires { All (λ j. (first + j.from ≤ 4294967295) × (first + j.to ≤ 4294967295)) inner.now }
     ensures { OnOk result (joins.new.items ≡ joins.old.items ++ map (shifted first) inner.now) }
@@ -26,7 +26,7 @@ fn push_shifted(joins: &mut Vec<Join>, first: u32, inner: &[Join]) -> Result<(),
     Ok(())
 }
 
-/// The joins of all labels: those inside the tiles, and those over rims.
+/// Returns the joins of all labels: those inside tiles and those over rims.
 pub(crate) fn graph_joins(
     alloc: Global,
     tiles: &NumberedFloods<'_>,

@@ -1,6 +1,6 @@
 //! The joins inside a tile, by the indexes of its labels: [`inner_joins`].
 //!
-//! It looks at each two neighbouring cells once, from the first of them in row order.
+//! Looks at each two neighbouring cells once, from the first of them in row order.
 ghost use Rattle.std.specs.Prelude.{◌≡◌, ◌+◌, ◌<◌, ◌≤◌, [], Some, slice_index_or, MatchOption, IfOk, OnOk, length};
 ghost use Rattle.std.specs.Bool.{OnTrue};
 ghost use Rattle.tiles.specs.Cutting.{IsInBounds};
@@ -8,7 +8,7 @@ ghost use Rattle.fill.specs.Gathering.{IsInner, AreEqualAfter, Adds, AddsAfter, 
 
 use crate::join_table::JoinTable;
 use crate::left_out::{LeftOut, is_spared, join_of};
-use crate::marks::{Mark, mark_in, mark_of_entry};
+use crate::marks::{CellLabel, mark_in, mark_of_entry};
 use crate::rim_cells::{JoinList, KnownCells, push_join, push_rim_cells};
 use crate::spills::Join;
 use cell_floods::TileFlood;
@@ -25,7 +25,7 @@ impl KnownCells for TileFlood {
     ghost wanted = { λ f q. true };
 
     #[inline(always)]
-    fn mark(&self, place: Place) -> Option<Mark> {
+    fn mark(&self, place: Place) -> Option<CellLabel> {
         mark_in(self, place)
     }
 
@@ -35,7 +35,7 @@ impl KnownCells for TileFlood {
     }
 }
 
-/// Whether two cells with these indices in the tile's row order have one label, or neither any.
+/// Returns whether the cells at two indexes have one label, or both have none.
 #[inline(always)]
 fn has_same_label(flood: &TileFlood, first: usize, second: usize) -> bool
     requires first { first < length flood.now.labels }
@@ -47,14 +47,14 @@ fn has_same_label(flood: &TileFlood, first: usize, second: usize) -> bool
     indexes[first] == indexes[second]
 }
 
-/// Adds the join of two cells of a tile with these indices, where their labels differ.
+/// Adds the join of the cells at `index` and `near`, if their labels differ.
 #[inline(always)]
 fn push_near(
     table: &mut JoinTable,
     flood: &TileFlood,
     left_out: &LeftOut<'_>,
     index: usize,
-    from: Mark,
+    from: CellLabel,
     near: usize,
 ) -> Result<(), AllocError>
     requires index { index < length flood.now.labels }
@@ -68,15 +68,15 @@ fn push_near(
     push_join(table, left_out.sources, from, mark_of_entry(flood, near))
 }
 
-/// Adds the join of two cells of a tile that touch at a corner, where their labels differ and neither
-/// of the two cells between leads round.
+/// Adds the join of two cells that touch at a corner, if their labels differ.
+/// Leaves it out if a path by one of the two cells between them is as low.
 #[inline(always)]
 fn push_corner(
     table: &mut JoinTable,
     flood: &TileFlood,
     left_out: &LeftOut<'_>,
     index: usize,
-    from: Mark,
+    from: CellLabel,
     below: usize,
     beside: usize,
     near: usize,
@@ -105,14 +105,14 @@ fn push_corner(
     table.add(join)
 }
 
-/// Adds the joins of a cell with the four around it that come after it in row order. All are of
-/// the tile.
+/// Adds the joins of a cell with its four neighbours after it in row order.
+/// All four lie in the tile.
 fn push_after(
     table: &mut JoinTable,
     flood: &TileFlood,
     left_out: &LeftOut<'_>,
     index: usize,
-    from: Mark,
+    from: CellLabel,
     width: usize,
 ) -> Result<(), AllocError>
     requires some { 0 < index }
@@ -131,8 +131,8 @@ fn push_after(
     Ok(())
 }
 
-/// Whether an entry is equal to the four around it that come after it in rows of this width. All are compared, since a
-/// branch on which is the first that differs would seldom be foreseen.
+/// Returns whether an entry equals its four neighbours after it in row order.
+/// Compares all four without branches, since a processor seldom predicts which differs first.
 #[inline(always)]
 fn are_equal_after(labels: &[u32], index: usize, width: usize) -> bool
     requires some { 0 < index }
@@ -147,8 +147,8 @@ fn are_equal_after(labels: &[u32], index: usize, width: usize) -> bool
         & (labels[below + 1] == label)
 }
 
-/// Adds the joins of a cell with the four after it, which are of the tile. Most have one label, and
-/// none.
+/// Adds the joins of a cell with its four later neighbours, all in the tile.
+/// Most cells have one label with the four, and so no join.
 #[inline(always)]
 fn push_inner_cell(
     table: &mut JoinTable,
@@ -173,7 +173,7 @@ fn push_inner_cell(
     push_after(table, flood, left_out, index, from, width)
 }
 
-/// Adds the joins of the cells of one row of a tile that have all four after them in it.
+/// Adds the joins of a row's cells whose four later neighbours lie in the tile.
 fn push_inner_cells(
     table: &mut JoinTable,
     flood: &TileFlood,
@@ -195,7 +195,7 @@ fn push_inner_cells(
     Ok(())
 }
 
-/// Adds the joins of the cells of one row of a tile with those after them in it.
+/// Adds the joins of the cells of a row with their later neighbours in the tile.
 fn push_row(
     table: &mut JoinTable,
     flood: &TileFlood,
@@ -216,8 +216,8 @@ fn push_row(
     Ok(())
 }
 
-/// The joins of the cells of a tile with those after them in it, but those left out. Their labels are
-/// indexes into the table of the tile.
+/// Returns the joins inside a tile, except those left out.
+/// Labels are indexes into the table of the tile.
 pub(crate) fn inner_joins(
     alloc: Global,
     flood: &TileFlood,

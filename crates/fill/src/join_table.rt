@@ -1,4 +1,4 @@
-//! The joins of a tile so far: [`JoinTable`], which seldom has two of the same labels.
+//! The joins of one tile: [`JoinTable`], which seldom has two of the same labels.
 ghost use Rattle.std.specs.Prelude.{◌≡◌, ◌<◌, ◌≤◌, ◌∷◌, [], IfOk, OnOk, length};
 ghost use Rattle.std.specs.Bool.{OnTrue, OnFalse};
 ghost use Rattle.fill.specs.Gathering.{AddsCovered};
@@ -8,24 +8,24 @@ use crate::spills::Join;
 use std::alloc::{AllocError, Global};
 use std::marker::Model;
 
-/// How many slots a [`JoinTable`] has at first for each row and column of its tile.
+/// The first number of slots, for each row and column of a tile.
 ///
-/// As many as are mostly taken, and no more, since they are cleared for each tile.
+/// Enough for most tiles, and no more, since each tile clears them all.
 const SLOTS_A_LINE: usize = 16;
 
-/// How many joins there is room for at first for each row and column, so that few lists grow.
+/// The first capacity for joins, for each row and column, so that few lists grow.
 const JOINS_A_LINE: usize = 4;
 
-/// How many slots are looked at for a join.
+/// The greatest number of slots that are searched for a join.
 const MOST_PROBES: usize = 16;
 
-/// Joins, and where they stand by their labels: a join of the same labels is seldom added once more.
+/// A list of joins, with a hash table that finds most joins by their labels.
 #[derive(Drop)]
 pub(crate) struct JoinTable {
     alloc: Global,
     joins: Vec<Join>,
-    /// For each slot the index of a join, or one past all joins. Joins that stand in a slot after
-    /// their own have none free between.
+    /// The index of a join in each slot, and `usize::MAX` in a free slot.
+    /// Probing is linear: no free slot is between a join's own slot and the slot that it is in.
     slots: Vec<usize>,
     ghost some: { 0 < length slots.items },
 }
@@ -39,8 +39,8 @@ impl Model for JoinTable {
     ghost view = { λ table. table.joins.items };
 }
 
-/// A slot of so many for two labels: at first their own, and then those after it. Labels along a
-/// side of a tile often differ by a multiple of a power of two, so all of their bits are mixed.
+/// Returns the slot of two labels at a probe: first their own, then those after.
+/// Mixes all bits, since labels along a side often differ by a multiple of a power of two.
 #[inline(always)]
 fn slot_of(from: u32, to: u32, probe: usize, slots: usize) -> usize
     requires { 0 < slots }
@@ -51,10 +51,12 @@ fn slot_of(from: u32, to: u32, probe: usize, slots: usize) -> usize
         .wrapping_add(to)
         .wrapping_mul(0x9E37_79B1);
     let own = (mixed >> 8) as usize;
+    // The `min` changes nothing, but gives the prover the bound.
     (own.wrapping_add(probe) & (slots - 1)).min(slots - 1)
 }
 
-/// The slot of a join of these labels, or a free one. Where neither is near, it is the labels' own.
+/// Returns the slot of the join with these labels, or a free one.
+/// Returns the labels' own slot if [`MOST_PROBES`] slots hold other joins.
 #[inline(always)]
 fn slot_for(joins: &[Join], slots: &[usize], join: Join) -> usize
     requires { 0 < length slots.now }
@@ -72,7 +74,7 @@ fn slot_for(joins: &[Join], slots: &[usize], join: Join) -> usize
     slot_of(join.from, join.to, 0, slots.len())
 }
 
-/// Puts all joins into their slots.
+/// Enters all joins into the slots.
 fn fill_slots(joins: &[Join], slots: &mut [usize])
     requires { 0 < length slots.old }
     ensures { length slots.new ≡ length slots.old }
@@ -83,7 +85,8 @@ fn fill_slots(joins: &[Join], slots: &mut [usize])
     }
 }
 
-/// Whether the join at this index is of the same labels as this one. Then it is made as low.
+/// Lowers the join at an index to `join`, if it has the same labels.
+/// Returns whether it has.
 #[inline(always)]
 fn lowers(joins: &mut Vec<Join>, at: usize, join: Join) -> bool
     ensures lowered { OnTrue result (AddsCovered joins.old.items (join ∷ []) joins.new.items) }
@@ -103,7 +106,7 @@ fn lowers(joins: &mut Vec<Join>, at: usize, join: Join) -> bool
 }
 
 impl JoinTable {
-    /// For a tile of so many rows and columns.
+    /// Makes a table for a tile, whose rows and columns add up to `lines`.
     pub(crate) fn new(alloc: Global, lines: u32) -> Result<Self, AllocError>
         requires { lines ≤ 8192 }
         ensures { IfOk result (λ table. table ≡ []) }
@@ -117,7 +120,7 @@ impl JoinTable {
         })
     }
 
-    /// Makes twice as many slots.
+    /// Doubles the number of slots.
     #[inline(never)]
     fn grow(&mut self) -> Result<(), AllocError>
         ensures { OnOk result (self.new ≡ self.old) }
@@ -129,7 +132,7 @@ impl JoinTable {
         Ok(())
     }
 
-    /// Makes more slots, where more than half of them are taken.
+    /// Doubles the slots if there are more than half as many joins.
     #[inline(always)]
     fn make_room(&mut self) -> Result<(), AllocError>
         ensures { OnOk result (self.new ≡ self.old) }
@@ -140,8 +143,7 @@ impl JoinTable {
         self.grow()
     }
 
-    /// The joins, as they were added or lowered, in no more memory than they take: it is held until
-    /// the spill graph is made.
+    /// Returns the joins, and frees spare capacity, since they live until the graph.
     pub(crate) fn into_joins(self) -> Vec<Join>
         ensures { result.items ≡ self }
     {

@@ -1,17 +1,18 @@
-//! The spill graph by the numbers of its labels, and its levels: `filled` stands on it.
+//! The spill graph by the numbers of its labels: [`LabelGraph`], which `filled` uses.
 ghost use Rattle.std.specs.Prelude.{◌≡◌, ◌<◌, ◌≤◌, IfOk, length, slice_index_or, None};
 ghost use Rattle.std.specs.List.{All};
 ghost use Rattle.fill.specs.LabelNet.{AreNumberLevels, HasWaysOf};
 
 use crate::spills::Join;
 use crate::ways::WayLists;
-use floods::{FloodedNet, HeightList, Net, NodeLabels, Spill, Waiting, Waits, flood_net};
+use floods::{Candidate, FloodedNet, HeightList, Net, NodeLabels, Queue, Spill, flood_net};
 use smallvec::SmallVec;
 use std::alloc::{AllocError, Global};
 use std::marker::Model;
 use terrain::{Cell, Height, NoMemory};
 
-/// The labels of all tiles as a net, by their numbers. Joined labels that are end cells are sources.
+/// The spill graph: the labels of all tiles as a net, by their numbers.
+/// The sources are the end cells that have a join.
 #[derive(Drop)]
 pub(crate) struct LabelGraph {
     sources: Vec<Cell>,
@@ -40,7 +41,8 @@ impl Net for LabelGraph {
 
     ghost joined_inside = { λ g a b h j. j.to_node };
 
-    ghost joined_back = { λ g a b h j. record { from_node = j.to_node; to_node = j.from_node; there = j.back; back = j.there } };
+    ghost joined_back = { λ g a b h j.
+        record { from_node = j.to_node; to_node = j.from_node; there = j.back; back = j.there } };
 
     #[inline]
     fn nodes(&self) -> u32 {
@@ -55,12 +57,12 @@ impl Net for LabelGraph {
     fn spread(
         &self,
         _alloc: Global,
-        waits: &mut Waits,
-        from: &Waiting,
+        queue: &mut Queue,
+        from: &Candidate,
         labels: &NodeLabels,
         levels: &mut HeightList,
     ) -> Result<(), NoMemory> {
-        self.ways.spread(waits, from, labels, levels)?;
+        self.ways.spread(queue, from, labels, levels)?;
         Ok(())
     }
 
@@ -74,8 +76,8 @@ impl Net for LabelGraph {
     }
 }
 
-/// The level of each label in the spill graph, by number: the level of its flood, or else its own
-/// height, if it is an end cell that is joined to none.
+/// The level of each label in the spill graph, by number.
+/// An end cell without a join has its own height as level.
 #[derive(Drop)]
 pub(crate) struct LabelLevels {
     sources: Vec<Cell>,
@@ -93,7 +95,7 @@ impl Model for LabelLevels {
 }
 
 impl LabelLevels {
-    /// The level of a label.
+    /// Returns the level of a label.
     #[inline(always)]
     pub(crate) fn level(&self, number: usize) -> Option<Height>
         requires { number < length self.now }
@@ -107,14 +109,15 @@ impl LabelLevels {
 }
 
 impl LabelGraph {
-    /// The graph of these joins, and of the labels that are end cells.
+    /// Makes the graph of these joins; `sources` has the heights of end cells.
     pub(crate) fn of_joins(
         alloc: Global,
         sources: Vec<Cell>,
         joins: Vec<Join>,
     ) -> Result<LabelGraph, AllocError>
         requires few { length sources.items ≤ 4294967295 }
-        requires inside { All (λ j. (j.from < length sources.items) × (j.to < length sources.items)) joins.items }
+        requires inside { All (λ j. (j.from < length sources.items) × (j.to < length sources.items))
+            joins.items }
         ensures sources { IfOk result (λ g. g.sources ≡ sources.items) }
         ensures size { IfOk result (λ g. length g.ways ≡ length sources.items) }
         ensures ways { IfOk result (λ g. HasWaysOf joins.items g.ways) }
@@ -123,7 +126,8 @@ impl LabelGraph {
         Ok(LabelGraph { sources, ways })
     }
 
-    /// The least crest from each label to an end cell, None for a label that reaches none.
+    /// Returns the least crest from each label to an end cell.
+    /// `None` for a label that reaches none.
     pub(crate) fn levels(self, alloc: Global) -> Result<LabelLevels, NoMemory>
         ensures { IfOk result (λ levels. AreNumberLevels self.ways self.sources levels) }
     {

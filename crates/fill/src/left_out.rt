@@ -1,16 +1,17 @@
-//! Which joins of cells are left out of the spill graph: [`LeftOut`].
+//! Which joins are left out of the spill graph: [`LeftOut`].
 ghost use Rattle.std.specs.Prelude.{◌≡◌, [], false, None, slice_index_or, is_some};
 ghost use Rattle.std.specs.Bool.{OnTrue};
 ghost use Rattle.std.specs.Option.{option_to_list};
-ghost use Rattle.fill.specs.Gathering.{IsLowBetween, are_settled, joins_of};
+ghost use Rattle.fill.specs.Gathering.{IsLowBetween, are_both_sources, joins_of};
 
-use crate::marks::Mark;
+use crate::marks::CellLabel;
 use crate::spills::Join;
 use std::marker::Model;
 use terrain::Cell;
 
-/// Which joins are left out, since they lower no level: those of two of these sources, and maybe
-/// those of two cells that touch at their corners, where a third cell leads round.
+/// The joins to leave out, since they lower no level.
+/// These are the joins of two labels in `sources`. If `bypassed`, they include joins of cells that
+/// touch at a corner, where a path by a third cell is as low.
 #[derive(Drop)]
 pub(crate) struct LeftOut<'a> {
     pub(crate) sources: &'a [Cell],
@@ -26,7 +27,7 @@ impl<'a> Model for LeftOut<'a> {
 }
 
 impl<'a> LeftOut<'a> {
-    /// No join is left out.
+    /// Leaves no join out.
     pub(crate) fn nothing() -> Self
         ensures { result ≡ record { sources = []; bypassed = false } }
     {
@@ -37,7 +38,7 @@ impl<'a> LeftOut<'a> {
     }
 }
 
-/// Whether a label is among these sources. There is none past their end.
+/// Returns whether a label is in `sources`; `false` past the end of the list.
 #[inline(always)]
 fn is_source(sources: &[Cell], node: u32) -> bool
     ensures { result ≡ is_some (slice_index_or sources.now node None) }
@@ -48,24 +49,24 @@ fn is_source(sources: &[Cell], node: u32) -> bool
     }
 }
 
-/// Whether both labels are among these sources.
+/// Returns whether both labels are in `sources`.
 #[inline(always)]
-fn are_settled(sources: &[Cell], from: u32, to: u32) -> bool
-    ensures { result ≡ are_settled sources.now from to }
+fn are_both_sources(sources: &[Cell], from: u32, to: u32) -> bool
+    ensures { result ≡ are_both_sources sources.now from to }
 {
     is_source(sources, from) && is_source(sources, to)
 }
 
-/// The join of two marks, where their labels differ and are not both among these sources.
+/// Returns the join of two marks, unless they have one label or two sources.
 #[inline(always)]
-pub(crate) fn join_of(sources: &[Cell], from: Mark, to: Option<Mark>) -> Option<Join>
+pub(crate) fn join_of(sources: &[Cell], from: CellLabel, to: Option<CellLabel>) -> Option<Join>
     ensures { joins_of sources.now from to ≡ option_to_list result }
 {
     let to = to?;
     if from.node == to.node {
         return None;
     }
-    if are_settled(sources, from.node, to.node) {
+    if are_both_sources(sources, from.node, to.node) {
         return None;
     }
     Some(Join {
@@ -75,14 +76,14 @@ pub(crate) fn join_of(sources: &[Cell], from: Mark, to: Option<Mark>) -> Option<
     })
 }
 
-/// Whether the join of two cells that touch at their corners is left out: the cell between them is
-/// no higher than one of them, so that its joins with both do the same.
+/// Returns whether to leave out the join of two cells that touch at a corner.
+/// The cell between them is no higher than one of them, so its joins with both are as low.
 #[inline(always)]
 pub(crate) fn is_spared(
     left_out: &LeftOut<'_>,
-    from: Mark,
-    between: Option<Mark>,
-    to: Option<Mark>,
+    from: CellLabel,
+    between: Option<CellLabel>,
+    to: Option<CellLabel>,
 ) -> bool
     ensures { OnTrue result (IsLowBetween left_out.now from between to) }
 {

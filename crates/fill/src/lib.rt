@@ -1,26 +1,26 @@
 //! Filled heights: floods of tiles, the spill graph over them, and raising.
 //!
-//! Begin with [`filled`], which runs all stages. [`SpillGraph`] and [`raise`] are the stages one by
-//! one, and the calls of `cell_floods` and `floods` that they need are exported here.
+//! Begin with [`filled`], which runs all stages. [`SpillGraph`] and [`raise`] run single stages.
+//! The calls of `cell_floods` and `floods` that they need are exported here.
 //!
-//! Modules, from what is called to what it depends on:
+//! Modules, callers first:
 //!
 //! - `filling`: `filled`, which runs all stages
-//! - `numbers`: labels by number, and those that are end cells
-//! - `marks`: level and label of a cell
+//! - `numbers`: the numbers of labels, and the heights of end cells by number
+//! - `marks`: the level and the label of a cell
 //! - `left_out`: which joins lower no level
 //! - `rim_cells`: the joins of cells on a tile's rim
-//! - `join_table`: joins by their labels
+//! - `join_table`: the joins of one tile, by their labels
 //! - `inner_joins`: the joins inside a tile
-//! - `rim_joins`: the joins over its rim
+//! - `rim_joins`: the joins over a tile's rim
 //! - `gathering`: the joins of all tiles
-//! - `ways`: the ways from each label, by lists over one list of joins
-//! - `label_graph`: the graph by numbers, and its levels
-//! - `raised_tiles`: the filled heights of each tile, by number
+//! - `ways`: the ways from each label, as linked lists over one list of joins
+//! - `label_graph`: the spill graph by numbers of labels, and its levels
+//! - `raised_tiles`: the filled heights of each tile, by that graph
 //! - `placing`: joins by the places of their labels
-//! - `sources`: end cells by place
-//! - `spills`: the graph by places
-//! - `raising`: the filled heights of a tile
+//! - `sources`: the heights of end cells by place
+//! - `spills`: the spill graph by places of labels
+//! - `raising`: the filled heights of one tile, by that graph
 #![tactic(auto)]
 
 mod filling;

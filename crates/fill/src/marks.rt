@@ -1,4 +1,4 @@
-//! The level and the label of any cell, from the floods of all tiles.
+//! The level and the label of any cell, from the floods of all tiles: [`CellLabel`].
 ghost use Rattle.std.specs.Prelude.{◌≡◌, ◌+◌, ◌*◌, ◌<◌, ◌≤◌, length};
 ghost use Rattle.tiles.specs.Cutting.{IsCutting, IsInTile, IsWithin};
 ghost use Rattle.terrain.specs.Neighbours.{index_of};
@@ -9,14 +9,14 @@ use cell_floods::TileFlood;
 use terrain::{Height, Place};
 use tiles::Tiling;
 
-/// A cell's level, and the number of its label.
+/// A cell's level, in units, and the number of its label.
 #[derive(Clone, Copy, Debug, PartialEq, Eq)]
-pub struct Mark {
+pub struct CellLabel {
     pub level: Height,
     pub node: u32,
 }
 
-/// The number of a place: where it stands in row order of the whole grid.
+/// Returns the node of a place: its index in row order of the grid.
 #[inline(always)]
 pub(crate) fn node_of(tiling: &Tiling, place: Place) -> u32
     requires { IsWithin tiling.now place }
@@ -36,23 +36,23 @@ pub(crate) struct NumberedFloods<'a> {
     ghost numbers: { AreFirsts floods.now firsts.now },
 }
 
-/// What a flood says of the cell with this index in its tile's row order. The label is counted from 0.
+/// Returns the mark of the cell at an index, with labels counted from 0.
 #[inline(always)]
-pub(crate) fn mark_of_entry(flood: &TileFlood, index: usize) -> Option<Mark>
+pub(crate) fn mark_of_entry(flood: &TileFlood, index: usize) -> Option<CellLabel>
     requires { index < length flood.now.labels }
     ensures { result ≡ mark_with 0 flood.now index }
 {
     let level = flood.level_at(index)?;
-    Some(Mark {
+    Some(CellLabel {
         level,
         node: flood.labels().indexes()[index],
     })
 }
 
-/// What a flood says of a cell, None outside the tile and where there is no data. The label is counted
-/// from 0.
+/// Returns the mark of a place, with labels counted from 0.
+/// `None` outside the tile and without data.
 #[inline(always)]
-pub(crate) fn mark_in(flood: &TileFlood, place: Place) -> Option<Mark>
+pub(crate) fn mark_in(flood: &TileFlood, place: Place) -> Option<CellLabel>
     ensures { result ≡ mark_in 0 flood.now place }
 {
     let index = flood.index_of(place)?;
@@ -60,15 +60,15 @@ pub(crate) fn mark_in(flood: &TileFlood, place: Place) -> Option<Mark>
 }
 
 impl<'a> NumberedFloods<'a> {
-    /// What the flood of its own tile says of a place of the grid, None where there is no data.
+    /// Returns the mark of a place of tile `own`; `None` without data.
     #[inline(always)]
-    pub(crate) fn mark_of_tile(&self, own: u32, place: Place) -> Option<Mark>
+    pub(crate) fn mark_of_tile(&self, own: u32, place: Place) -> Option<CellLabel>
         requires lawful { IsCutting self.now.tiling.now }
         requires place { IsInTile self.now.tiling.now own place }
         ensures { result ≡ mark_among self.now.tiling.now self.now.floods.now place }
     {
         let mark = mark_in(&self.floods[own as usize], place)?;
-        Some(Mark {
+        Some(CellLabel {
             level: mark.level,
             node: self.firsts[own as usize] + mark.node,
         })

@@ -1,4 +1,4 @@
-//! The labels of all tiles by number: those of a tile stand behind those of the tiles before it.
+//! The numbers of all labels, counted tile by tile.
 ghost use Rattle.std.specs.Prelude.{◌≡◌, ◌+◌, ◌<◌, ◌≤◌, IfOk, length, map, slice_index_or};
 ghost use Rattle.std.specs.List.{flat_map};
 ghost use Rattle.terrain.specs.Raster.{Terrain};
@@ -10,7 +10,7 @@ use std::alloc::{AllocError, Global};
 use terrain::Cell;
 use tiles::Tiling;
 
-/// The number of the first label of each tile.
+/// Returns the number of the first label of each tile.
 pub(crate) fn first_numbers(
     alloc: Global,
     tiling: &Tiling,
@@ -28,7 +28,7 @@ pub(crate) fn first_numbers(
     Ok(firsts)
 }
 
-/// The heights of the labels that are end cells by number, and no data for all other labels.
+/// Returns the heights of end cells by label number; other labels have no data.
 pub(crate) fn label_ends(alloc: Global, floods: &[TileFlood]) -> Result<Vec<Cell>, AllocError>
     ensures { IfOk result (λ v. v.items ≡ ends_of floods.now) }
 {

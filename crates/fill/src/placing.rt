@@ -1,4 +1,4 @@
-//! The joins of labels by number, as joins of their places.
+//! Joins by the numbers of labels, as joins by places.
 ghost use Rattle.std.specs.Prelude.{◌≡◌, ◌↔◌, ◌<◌, ◌++◌, [], IfOk, IfSome, IsTrue, OnOk, length, map};
 ghost use Rattle.std.specs.Option.{option_to_list};
 ghost use Rattle.std.specs.List.{All};
@@ -16,7 +16,7 @@ use std::alloc::{AllocError, Global};
 use terrain::Place;
 use tiles::Tiling;
 
-/// The place of a label in row order of the grid, and 0 for none.
+/// Returns the node of a label's place, and 0 for `None`.
 #[inline(always)]
 fn node_or_first(tiling: &Tiling, label: Option<Place>) -> u32
     requires { IfSome label (IsWithin tiling.now) }
@@ -28,14 +28,15 @@ fn node_or_first(tiling: &Tiling, label: Option<Place>) -> u32
     }
 }
 
-/// Adds the places of these labels.
+/// Adds the nodes of these labels.
 fn push_nodes(
     nodes: &mut Vec<u32>,
     tiling: &Tiling,
     labels: &[Option<Place>],
 ) -> Result<(), AllocError>
     requires { All (λ label. IfSome label (IsWithin tiling.now)) labels.now }
-    ensures { OnOk result (nodes.new.items ≡ nodes.old.items ++ map (node_of_label tiling.now.cols) labels.now) }
+    ensures { OnOk result
+        (nodes.new.items ≡ nodes.old.items ++ map (node_of_label tiling.now.cols) labels.now) }
 {
     for label in labels {
         nodes.push(node_or_first(tiling, *label))?;
@@ -43,7 +44,7 @@ fn push_nodes(
     Ok(())
 }
 
-/// The places of all labels by number.
+/// Returns the node of each label, by number.
 pub(crate) fn label_nodes(
     alloc: Global,
     tiling: &Tiling,
@@ -59,7 +60,7 @@ pub(crate) fn label_nodes(
     Ok(nodes)
 }
 
-/// The join of the places of two labels, where these differ.
+/// Returns the join of the places of two labels; `None` if they are one place.
 #[inline(always)]
 fn place_join(join: Join, nodes: &[u32]) -> Option<Join>
     requires from { join.from < length nodes.now }
@@ -77,7 +78,7 @@ fn place_join(join: Join, nodes: &[u32]) -> Option<Join>
     Some(placed)
 }
 
-/// These joins by the places of their labels, both ways.
+/// Returns these joins by the places of their labels, each in both directions.
 pub(crate) fn placed_joins(
     alloc: Global,
     joins: &[Join],
@@ -96,7 +97,7 @@ pub(crate) fn placed_joins(
     Ok(placed)
 }
 
-/// Whether the join before this one is of the same labels.
+/// Returns whether the join before this one has the same labels.
 #[inline(always)]
 fn is_repeat(joins: &[Join], index: usize) -> bool
     requires { index < length joins.now }
@@ -110,7 +111,7 @@ fn is_repeat(joins: &[Join], index: usize) -> bool
     before.from == join.from && before.to == join.to
 }
 
-/// The lowest join of each two labels, in the order of the labels.
+/// Returns the lowest join of each two labels, in the order of the labels.
 pub(crate) fn lowest_joins(alloc: Global, mut joins: Vec<Join>) -> Result<Vec<Join>, AllocError>
     ensures { IfOk result (λ v. AreLowest joins.items v.items) }
 {

@@ -1,4 +1,4 @@
-//! The filled heights of each tile, made by a job each: [`RaisedTiles`].
+//! The filled heights of all tiles, one job a tile: [`RaisedTiles`].
 ghost use Rattle.std.proofs.Props.{props};
 ghost use Rattle.std.specs.Prelude.{◌≡◌, ℕ, ℤ, List, Option, ◌+◌, ◌<◌, ◌≤◌, ◌≤ℤ◌, pos, length, slice_index_or, option_and_then, None, Some, All, IfOk};
 ghost use Rattle.terrain.specs.StoredCells.{cell_of, no_data};
@@ -16,16 +16,16 @@ use terrain::{Cell, Height, NoMemory, Place};
 use tile_maps::TileMap;
 use tiles::Tiling;
 
-/// A flood's levels, and the level in the spill graph of each label in its table.
+/// A tile's levels, and the level in the spill graph of each label of its table.
 #[derive(Drop)]
 struct RaisedTile<'a> {
     heights: &'a [Height],
     labels: &'a [u32],
-    /// A level as a cell of this height, and no level as one without data.
+    /// The level of each label as a cell, without data if it has none.
     spills: Vec<Cell>,
 }
 
-/// The cell of this height, where there is one.
+/// Returns the cell of a height, without data for `None`.
 #[inline(always)]
 fn cell(height: Option<Height>) -> Cell
     ensures { result ≡ cell_of height }
@@ -36,11 +36,12 @@ fn cell(height: Option<Height>) -> Cell
     }
 }
 
-/// The level of the label with this number as a cell, one without data where it is no place.
+/// Returns the level of a label as a cell, without data if `label` is `None`.
 #[inline(always)]
 fn spill_cell(levels: &LabelLevels, number: usize, label: Option<Place>) -> Cell
     requires { number < length levels.now }
-    ensures { result ≡ cell_of (option_and_then (λ _. slice_index_or levels.now number None) label) }
+    ensures { result
+        ≡ cell_of (option_and_then (λ _. slice_index_or levels.now number None) label) }
 {
     match label {
         Some(_) => cell(levels.level(number)),
@@ -48,7 +49,7 @@ fn spill_cell(levels: &LabelLevels, number: usize, label: Option<Place>) -> Cell
     }
 }
 
-/// The levels of these labels as cells. The first of them has this number.
+/// Returns the levels of these labels as cells; the first label has number `first`.
 fn spill_cells(
     alloc: Global,
     levels: &LabelLevels,
@@ -67,7 +68,8 @@ fn spill_cells(
 }
 
 impl<'a> RaisedTile<'a> {
-    /// Of a flood and the levels of the spill graph. The tile's first label has this number.
+    /// Makes it from a tile's flood and the levels of the spill graph.
+    /// The tile's first label has number `first`.
     fn new(
         alloc: Global,
         flood: &'a TileFlood,
@@ -85,20 +87,24 @@ impl<'a> RaisedTile<'a> {
         })
     }
 
-    /// What the cell with this index in the tile's row order is raised to.
+    /// Returns the filled height of the cell at an index of the tile's row order.
     #[inline(always)]
     fn at(&self, index: usize) -> Cell
         requires height { index < length self.now.heights.now }
         requires label { index < length self.now.labels.now }
         requires inside { All (λ k. k < length self.now.spills.items) self.now.labels.now }
         ensures low { slice_index_or self.now.heights.now index (pos 0) ≤ℤ no_data }
-        ensures value { result ≡ cell_of (greater_of (Some (slice_index_or self.now.heights.now index (pos 0))) (slice_index_or self.now.spills.items (slice_index_or self.now.labels.now index 0) None)) }
+        ensures value { result ≡ cell_of (greater_of
+            (Some (slice_index_or self.now.heights.now index (pos 0)))
+            (slice_index_or self.now.spills.items (slice_index_or self.now.labels.now index 0)
+            None)) }
     {
-        // What stands for no data is above every height, so it stays.
+        // The number of NODATA is above all heights, so the maximum stays NODATA.
         let spill = self.spills[self.labels[index] as usize];
         Cell::of(self.heights[index].max(spill.number()))
     }
-    /// What the cells of the tile are raised to, in its row order.
+
+    /// Returns the filled heights of the tile, in its row order.
     fn cells(&self, alloc: Global) -> Result<Vec<Cell>, AllocError>
         requires size { length self.now.labels.now ≡ length self.now.heights.now }
         requires inside { All (λ k. k < length self.now.spills.items) self.now.labels.now }
@@ -113,7 +119,7 @@ impl<'a> RaisedTile<'a> {
     }
 }
 
-/// The filled heights of each tile, from its flood and the levels of the spill graph.
+/// The map of filled heights, from the floods and the levels of the spill graph.
 #[derive(Drop)]
 pub(crate) struct RaisedTiles {
     pub(crate) tiling: Tiling,

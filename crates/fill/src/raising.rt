@@ -1,6 +1,6 @@
 //! The filled heights of a tile: [`raise`].
 //!
-//! A cell's is the greater of its own level and its label's level in the spill graph.
+//! A filled height is the greater of the cell's level and its label's level in the spill graph.
 ghost use Rattle.std.specs.Prelude.{◌≡◌, ◌*◌, ◌<◌, ℕ, ℤ, List, Option, None, Some, length, map, slice_get, slice_index_or, IfOk, IfSome};
 ghost use Rattle.std.specs.List.{All};
 ghost use Rattle.terrain.specs.Raster.{Terrain};
@@ -15,7 +15,7 @@ use std::alloc::{AllocError, Global};
 use terrain::{Height, NoMemory, Place};
 use tiles::Tiling;
 
-/// The level of a label in the graph, None where there is no label.
+/// Returns the level of a label in the spill graph, `None` without a label.
 #[inline(always)]
 fn spill(tiling: &Tiling, levels: &[Option<Height>], label: Option<Place>) -> Option<Height>
     requires size { length levels.now ≡ tiling.now.cols * tiling.now.rows }
@@ -26,7 +26,7 @@ fn spill(tiling: &Tiling, levels: &[Option<Height>], label: Option<Place>) -> Op
     levels[node_of(tiling, label) as usize]
 }
 
-/// The levels of labels in the graph.
+/// Returns the levels of these labels in the spill graph.
 fn spills_of(
     alloc: Global,
     tiling: &Tiling,
@@ -44,7 +44,7 @@ fn spills_of(
     Ok(spills)
 }
 
-/// The greater of a cell's level and its label's, None where it has no label.
+/// Returns the greater of a cell's level and its label's, `None` without a label.
 #[inline(always)]
 fn greater(height: Height, spill: Option<Height>) -> Option<Height>
     ensures { result ≡ greater_of (Some height) spill }
@@ -55,8 +55,8 @@ fn greater(height: Height, spill: Option<Height>) -> Option<Height>
     }
 }
 
-/// The greater of each cell's level and its label's, where a cell's entry in `labels` is the index of its label's
-/// level in `spills`.
+/// Returns the greater of each cell's level and its label's level.
+/// An entry of `labels` is the index in `spills` of its label's level.
 fn greater_levels(
     alloc: Global,
     heights: &[Height],
@@ -75,7 +75,7 @@ fn greater_levels(
     Ok(raised)
 }
 
-/// The heights of a tile in its row order, of its flood and such levels.
+/// Returns the raised heights of a tile, in its row order.
 fn raised_by(
     alloc: Global,
     tiling: &Tiling,
@@ -91,8 +91,18 @@ fn raised_by(
     Ok(greater_levels(alloc, flood.heights(), labels.indexes(), &spills)?)
 }
 
-/// The filled heights of a tile in its row order, of its flood and the levels of the graph in which it
-/// was gathered.
+/// Returns the filled heights of a tile, in its row order.
+///
+/// `levels` are those of the [`SpillGraph`](crate::SpillGraph) that was gathered from all floods,
+/// `flood` among them.
+///
+/// # Examples
+///
+/// ```ignore
+/// let graph = SpillGraph::gather(alloc, &tiling, &floods)?;
+/// let levels = graph.levels(alloc)?;
+/// let heights = raise(alloc, &tiling, &floods[0], &levels)?;
+/// ```
 pub fn raise(
     alloc: Global,
     tiling: &Tiling,

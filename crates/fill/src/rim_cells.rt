@@ -1,6 +1,6 @@
-//! The joins of cells on a tile's rim with those after them in row order: [`push_rim_cells`].
+//! The joins of cells on a tile's rim with later cells in row order: [`push_rim_cells`].
 //!
-//! A [`KnownCells`] says what is known of cells, and with which of them joins are wanted.
+//! A [`KnownCells`] has the marks of cells, and selects the cells to join with.
 ghost use Rattle.std.specs.Prelude.{◌≡◌, ◌+◌, ◌<◌, ◌≤◌, ◌∷◌, [], List, Bool, Some, true, OnOk};
 ghost use Rattle.terrain.specs.declared.place.Place.{Place};
 ghost use Rattle.tiles.specs.Cutting.{IsInBounds, IsWithinLimits};
@@ -8,23 +8,23 @@ ghost use Rattle.fill.specs.Gathering.{Adds, AddsCovered, IsOnRimRow, IsPairFrom
 ghost use Rattle.fill.specs.declared.spills.Join.{Join};
 
 use crate::left_out::{LeftOut, is_spared, join_of};
-use crate::marks::Mark;
+use crate::marks::CellLabel;
 use crate::spills::Join;
 use std::alloc::AllocError;
 use terrain::{Cell, Place, place_on};
 use tiles::Bounds;
 
-/// What is known of the levels and labels of cells, and with which cells joins are wanted.
+/// The marks of cells, and which cells to join with.
 pub(crate) trait KnownCells {
     ghost marks: { Self → Marks };
 
     ghost wanted: { Self → Place → Bool };
 
-    /// The level and the label of a cell, None where there is no data.
-    fn mark(&self, place: Place) -> Option<Mark>
+    /// Returns the mark of a cell, `None` without data.
+    fn mark(&self, place: Place) -> Option<CellLabel>
         ensures { result ≡ marks self.now place };
 
-    /// Whether joins with the cell at this place are wanted.
+    /// Returns whether joins with the cell at this place are wanted.
     fn is_wanted(&self, place: Place) -> bool
         ensures { result ≡ wanted self.now place };
 }
@@ -33,18 +33,18 @@ pub(crate) trait KnownCells {
 pub(crate) trait JoinList {
     ghost joins: { Self → List Join };
 
-    /// Adds a join, or makes one of the same labels as low.
+    /// Adds a join, or lowers one of the same labels to it.
     fn add(&mut self, join: Join) -> Result<(), AllocError>
         ensures { OnOk result (AddsCovered (joins self.old) (join ∷ []) (joins self.new)) };
 }
 
-/// Adds the join of two cells, where their labels differ and are not both among these sources.
+/// Adds the join of two marks, unless they have one label or two sources.
 #[inline(always)]
 pub(crate) fn push_join<J: JoinList>(
     joins: &mut J,
     sources: &[Cell],
-    from: Mark,
-    to: Option<Mark>,
+    from: CellLabel,
+    to: Option<CellLabel>,
 ) -> Result<(), AllocError>
     ensures { OnOk result
         (AddsCovered (J.joins joins.old) (joins_of sources.now from to) (J.joins joins.new)) }
@@ -56,16 +56,17 @@ pub(crate) fn push_join<J: JoinList>(
     Ok(())
 }
 
-/// Adds the join of a cell with the one that lies this way from it, where it is wanted. At a corner neither of the
-/// two cells between them leads round.
+/// Adds the join of a cell with its neighbour on a way, if it is wanted.
+/// The way is 0 for east, 1 south-east, 2 south or 3 south-west; `below` is the mark to the south.
+/// Leaves out the join at a corner if a path by a cell between is as low.
 #[inline(always)]
 fn push_on_way<C: KnownCells, J: JoinList>(
     joins: &mut J,
     cells: &C,
     left_out: &LeftOut<'_>,
     place: Place,
-    from: Mark,
-    below: Option<Mark>,
+    from: CellLabel,
+    below: Option<CellLabel>,
     way: usize,
 ) -> Result<(), AllocError>
     requires limits { (place.row < 4096) × (place.col < 4096) }
@@ -103,8 +104,7 @@ fn push_on_way<C: KnownCells, J: JoinList>(
     joins.add(join)
 }
 
-/// Adds the joins of a cell with those after it, where they are wanted: east, south-east, south and
-/// south-west of it.
+/// Adds the wanted joins of a cell with its four neighbours after it in row order.
 fn push_cell<C: KnownCells, J: JoinList>(
     joins: &mut J,
     cells: &C,
@@ -129,7 +129,7 @@ fn push_cell<C: KnownCells, J: JoinList>(
     Ok(())
 }
 
-/// Adds the joins of all cells of one row of these bounds with those after them.
+/// Adds the wanted joins of all cells of a row with their later neighbours.
 fn push_row<C: KnownCells, J: JoinList>(
     joins: &mut J,
     cells: &C,
@@ -149,8 +149,8 @@ fn push_row<C: KnownCells, J: JoinList>(
     Ok(())
 }
 
-/// Adds the joins of those cells of a row of a tile that have not all cells after them in it: the
-/// first and the last, and in its last row all.
+/// Adds the wanted joins of each cell that has a later neighbour off the tile.
+/// In a row these are the first and the last cell; in the last row of the tile, all.
 pub(crate) fn push_rim_cells<C: KnownCells, J: JoinList>(
     joins: &mut J,
     cells: &C,

@@ -1,6 +1,6 @@
 //! The joins over the rim of a tile, by the numbers of labels: [`push_rim_joins`].
 //!
-//! It looks at each two neighbouring cells of two tiles once, from the first of them in row order.
+//! Looks at each two neighbouring cells of two tiles once, from the first of them in row order.
 ghost use Rattle.std.proofs.Props.{props};
 ghost use Rattle.std.specs.Bool.{OnTrue};
 ghost use Rattle.std.specs.Prelude.{◌≡◌, ◌+◌, ◌<◌, ◌≤◌, OnOk};
@@ -8,21 +8,21 @@ ghost use Rattle.tiles.specs.Cutting.{AreBounds, IsCutting, IsInTile, IsWithin, 
 ghost use Rattle.fill.specs.Gathering.{Adds, IsOutside, IsTileBelow, IsTileWithRow, mark_among};
 
 use crate::left_out::LeftOut;
-use crate::marks::{Mark, NumberedFloods};
+use crate::marks::{CellLabel, NumberedFloods};
 use crate::rim_cells::{JoinList, KnownCells, push_rim_cells};
 use crate::spills::Join;
 use std::alloc::AllocError;
 use terrain::Place;
 use tiles::Bounds;
 
-/// The cells of all tiles, as they are asked for from one of them: joins are wanted with the cells
-/// of other tiles alone.
+/// The cells of all tiles, read from one tile.
+/// Joins are wanted with cells of other tiles alone.
 #[derive(Drop)]
 struct CellsAround<'a> {
     tiles: &'a NumberedFloods<'a>,
     tile: u32,
     bounds: Bounds,
-    /// The tile below this one, if there is one.
+    /// The tile below this one, or this one if there is none.
     below: u32,
     ghost is_tile: { tile < tile_count tiles.now.tiling.now },
     ghost lawful: { IsCutting tiles.now.tiling.now } by { Prim.hlevel props },
@@ -31,7 +31,7 @@ struct CellsAround<'a> {
     ghost is_below: { IsTileBelow tiles.now.tiling.now bounds below },
 }
 
-/// Whether a place lies in these bounds, or touches one beside or below it.
+/// Returns whether a place lies in the bounds, or touches them beside or below.
 #[inline(always)]
 fn is_near(bounds: Bounds, place: Place) -> bool
     requires limits { IsWithinLimits bounds }
@@ -49,7 +49,7 @@ fn is_near(bounds: Bounds, place: Place) -> bool
 }
 
 impl<'a> CellsAround<'a> {
-    /// The cells around a tile with these bounds.
+    /// Makes the cells around a tile with these bounds.
     fn new(tiles: &'a NumberedFloods<'a>, tile: u32, bounds: Bounds) -> Self
         requires tile { tile < tile_count tiles.now.tiling.now }
         requires bounds { bounds ≡ bounds_of tiles.now.tiling.now tile }
@@ -81,7 +81,7 @@ impl<'a> CellsAround<'a> {
         }
     }
 
-    /// This tile, or the one below it: the one with this row of the grid.
+    /// Returns the tile with this row of the grid: this one, or the one below.
     #[inline(always)]
     fn tile_with_row(&self, row: u32) -> u32
         requires top { self.now.bounds.top ≤ row }
@@ -96,7 +96,8 @@ impl<'a> CellsAround<'a> {
         }
     }
 
-    /// The tile of a place of the grid. Next to this tile, where all are that a rim asks for, it takes no division.
+    /// Returns the tile of a place of the grid.
+    /// It needs no division near this tile, where all neighbours of its rim lie.
     #[inline(always)]
     fn tile_of(&self, place: Place) -> u32
         requires { IsWithin self.now.tiles.now.tiling.now place }
@@ -126,7 +127,7 @@ impl<'a> KnownCells for CellsAround<'a> {
     ghost wanted = { λ cells q. not (is_in_bounds cells.bounds q) };
 
     #[inline(always)]
-    fn mark(&self, place: Place) -> Option<Mark> {
+    fn mark(&self, place: Place) -> Option<CellLabel> {
         let tiling = self.tiles.tiling;
         if place.row >= tiling.rows() || place.col >= tiling.cols() {
             return None;
@@ -140,7 +141,7 @@ impl<'a> KnownCells for CellsAround<'a> {
     }
 }
 
-/// Labels of two tiles meet once, since cells on a rim are their own labels: so none is looked up.
+/// Searches for no join: rim cells are their own labels, so no two meet twice.
 impl JoinList for Vec<Join> {
     ghost joins = { λ list. list.items };
 
@@ -151,7 +152,7 @@ impl JoinList for Vec<Join> {
     }
 }
 
-/// Adds the joins of the cells of a tile with those after them in other tiles, but those left out.
+/// Adds the joins of a tile with later cells of other tiles, except those left out.
 pub(crate) fn push_rim_joins(
     joins: &mut Vec<Join>,
     tiles: &NumberedFloods<'_>,

@@ -1,6 +1,6 @@
 //! The sources of the spill graph by places: labels that are end cells.
 //!
-//! Each flood knows its own; `label_sources` puts the heights of all into one list.
+//! Each flood has the heights of its own. [`label_sources`] puts all into one list.
 ghost use Rattle.std.specs.Prelude.{◌≡◌, ◌*◌, IfOk, IfSome, length};
 ghost use Rattle.tiles.specs.Cutting.{IsCutting, IsWithin};
 ghost use Rattle.terrain.specs.Raster.{Terrain};
@@ -15,7 +15,7 @@ use std::alloc::{AllocError, Global};
 use terrain::{Cell, Height, Place};
 use tiles::Tiling;
 
-/// Puts the height of a label that is an end cell at its node.
+/// Writes the height of a label that is an end cell at its node.
 #[inline(always)]
 fn put_end(heights: &mut Vec<Option<Height>>, tiling: &Tiling, label: Option<Place>, end: Cell)
     requires label { IfSome label (IsWithin tiling.now) }
@@ -31,7 +31,7 @@ fn put_end(heights: &mut Vec<Option<Height>>, tiling: &Tiling, label: Option<Pla
     heights[node_of(tiling, place) as usize] = Some(height);
 }
 
-/// Puts the heights of a tile's labels that are end cells at their nodes.
+/// Writes the heights of a tile's labels that are end cells at their nodes.
 fn put_ends(heights: &mut Vec<Option<Height>>, tiling: &Tiling, flood: &TileFlood)
     requires labels { LabelsInside tiling.now flood.now }
     requires size { length heights.old.items ≡ tiling.now.cols * tiling.now.rows }
@@ -46,7 +46,7 @@ fn put_ends(heights: &mut Vec<Option<Height>>, tiling: &Tiling, flood: &TileFloo
     }
 }
 
-/// The heights of the labels that are end cells, in row order of the grid.
+/// Returns the heights of labels that are end cells, in row order of the grid.
 pub(crate) fn label_sources(
     alloc: Global,
     tiling: &Tiling,

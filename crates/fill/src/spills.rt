@@ -23,7 +23,7 @@ use std::marker::Model;
 use terrain::{Height, NoMemory};
 use tiles::Tiling;
 
-/// Two labels that are joined, and the height at which water passes from one to the other.
+/// Two joined labels, and the height in units at which water passes between them.
 #[derive(Clone, Copy, Debug, PartialEq, Eq, PartialOrd, Ord)]
 pub struct Join {
     pub from: u32,
@@ -32,7 +32,7 @@ pub struct Join {
 }
 
 impl Join {
-    /// The same join, from its other label.
+    /// Returns the join from its other label.
     #[inline(always)]
     pub(crate) fn turned(self) -> Join
         ensures { result ≡ turned self }
@@ -44,7 +44,7 @@ impl Join {
         }
     }
 
-    /// The way from its first label.
+    /// Returns the way from its first label to the other.
     #[inline(always)]
     pub(crate) fn way(self) -> Spill
         ensures { result ≡ way_of self }
@@ -56,13 +56,14 @@ impl Join {
     }
 }
 
-/// The labels of all tiles as a net. A node's number is its label's place in row order of the grid. Two
-/// labels are joined where two neighbouring cells carry them, at the least of the greater levels of such
-/// cells, and a label that is an end cell is a source.
+/// The spill graph: the labels of all tiles as a net, by their places.
+/// A node is a place's index in row order of the grid. Two labels are joined if neighbouring cells
+/// carry them. Two cells meet at the greater of their levels, and a join has the least of these
+/// heights. Labels that are end cells are sources.
 #[derive(Drop)]
 pub struct SpillGraph {
     tiling: Tiling,
-    // each stands there both ways
+    // each in both directions, in the order of the labels
     joins: Vec<Join>,
     sources: Vec<Option<Height>>,
 }
@@ -77,10 +78,11 @@ impl Model for SpillGraph {
 
     ghost view = { λ g. graph_with g.tiling g.joins.items g.sources.items };
 
-    ghost invariant = { λ g. IsCutting g.tiling × IsGraph (graph_with g.tiling g.joins.items g.sources.items) };
+    ghost invariant = { λ g. IsCutting g.tiling
+        × IsGraph (graph_with g.tiling g.joins.items g.sources.items) };
 }
 
-/// The first of the joins that begins at this node or a later one.
+/// Returns the index of the first join that begins at this node or a later one.
 fn first_from(joins: &[Join], node: u32) -> usize
     requires { AreRising joins.now }
     ensures { BeginAt joins.now node result }
@@ -98,14 +100,15 @@ fn first_from(joins: &[Join], node: u32) -> usize
     low
 }
 
-/// The end of the joins that begin at this node, of which the one at `start` is the first.
+/// Returns the index past the joins that begin at this node, from `start` on.
 fn end_of(joins: &[Join], start: usize, node: u32) -> usize
     requires rising { AreRising joins.now }
     requires begin { BeginAt joins.now node start }
     ensures from { start ≤ result }
     ensures few { result ≤ length joins.now }
     ensures below { (k : ℕ) (d : _) → k < result → (slice_index_or joins.now k d).from ≤ node }
-    ensures above { (k : ℕ) (d : _) → result ≤ k → k < length joins.now → node < (slice_index_or joins.now k d).from }
+    ensures above { (k : ℕ) (d : _) → result ≤ k → k < length joins.now →
+        node < (slice_index_or joins.now k d).from }
 {
     let mut end = start;
     while end < joins.len() && joins[end].from == node {
@@ -114,7 +117,7 @@ fn end_of(joins: &[Join], start: usize, node: u32) -> usize
     end
 }
 
-/// The ways of these joins.
+/// Returns the ways of these joins.
 fn ways_of(alloc: Global, joins: &[Join]) -> Result<SmallVec<Spill, 8>, AllocError>
     ensures { IfOk result (λ v. v.items ≡ map way_of joins.now) }
 {
@@ -136,7 +139,8 @@ impl Net for SpillGraph {
 
     ghost joined_inside = { λ g a b h j. j.to_node };
 
-    ghost joined_back = { λ g a b h j. record { from_node = j.to_node; to_node = j.from_node; there = j.back; back = j.there } };
+    ghost joined_back = { λ g a b h j.
+        record { from_node = j.to_node; to_node = j.from_node; there = j.back; back = j.there } };
 
     #[inline]
     fn nodes(&self) -> u32 {
@@ -155,7 +159,7 @@ impl Net for SpillGraph {
     }
 }
 
-/// The joins inside each tile, of which none is left out.
+/// Returns the joins inside each tile, and leaves none out.
 fn inner_joins_of(alloc: Global, floods: &[TileFlood]) -> Result<Vec<Vec<Join>>, AllocError>
     requires { (t : Terrain) × (c : Cutting) × AreFloods t c floods.now }
     ensures { IfOk result (λ v. AreInner floods.now false v.items) }
@@ -168,7 +172,14 @@ fn inner_joins_of(alloc: Global, floods: &[TileFlood]) -> Result<Vec<Vec<Join>>,
 }
 
 impl SpillGraph {
-    /// The graph of one flood for each tile, in tile order.
+    /// Makes the graph of the floods of all tiles, in tile order.
+    ///
+    /// # Examples
+    ///
+    /// ```ignore
+    /// let graph = SpillGraph::gather(alloc, &tiling, &floods)?;
+    /// let levels = graph.levels(alloc)?;
+    /// ```
     pub fn gather(
         alloc: Global,
         tiling: &Tiling,
@@ -197,7 +208,8 @@ impl SpillGraph {
         })
     }
 
-    /// The least crest from each label to an end cell, None at a place that is no label.
+    /// Returns the least crest from each label to an end cell.
+    /// The list is in row order of the grid, with `None` at a place that is no label.
     pub fn levels(&self, alloc: Global) -> Result<Vec<Option<Height>>, NoMemory>
         ensures { IfOk result (λ v. AreLevelsOf self.now v.items) }
     {

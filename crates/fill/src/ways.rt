@@ -1,35 +1,35 @@
-//! The ways from each label, by lists over one list of joins: [`WayLists`].
+//! The ways from each label, as linked lists over one list of joins: [`WayLists`].
 ghost use Rattle.std.specs.Prelude.{◌≡◌, ◌<◌, ◌≤◌, ◌-◌, [], All, IfOk, OnOk, length, replicate, slice_index_or};
-ghost use Rattle.floods.specs.Flood.{waiting_in, InOrder, AreNoted, Follows};
+ghost use Rattle.floods.specs.Flood.{candidates_in, InOrder, AreNoted, Follows};
 ghost use Rattle.fill.specs.LabelNet.{AddsWays};
 ghost use Rattle.fill.specs.Ways.{has_ways, link_at};
 
 use crate::spills::Join;
-use floods::{HeightList, NodeLabels, Spill, Waiting, Waits, push_way};
+use floods::{Candidate, HeightList, NodeLabels, Queue, Spill, queue_neighbour};
 use smallvec::SmallVec;
 use std::alloc::{AllocError, Global};
 use std::marker::Model;
 
-/// Stands for no join: joins count from 1 here.
+/// Marks the end of a list. Joins are counted from 1 here.
 const NO_JOIN: usize = 0;
 
 /// The joins before a join, in the lists of its two labels.
 #[derive(Clone, Copy)]
-struct Befores {
+struct PreviousJoins {
     from: usize,
     to: usize,
 }
 
-/// The way of a join from one of its labels, and the join before it in the list of that label.
+/// The way of a join from one of its labels, and the join before it in that list.
 #[derive(Clone, Copy)]
 struct Link {
     way: Spill,
     before: usize,
 }
 
-/// The link of a join in the list of one of its labels.
+/// Returns the link of join `at` in the list of `label`, one of its labels.
 #[inline(always)]
-fn link_at(joins: &[Join], befores: &[Befores], label: u32, at: usize) -> Link
+fn link_at(joins: &[Join], befores: &[PreviousJoins], label: u32, at: usize) -> Link
     requires some { 1 ≤ at }
     requires joins { at ≤ length joins.now }
     requires befores { at ≤ length befores.now }
@@ -50,13 +50,13 @@ fn link_at(joins: &[Join], befores: &[Befores], label: u32, at: usize) -> Link
     }
 }
 
-/// For each label the ways from it, the last join first.
+/// The ways from each label, the last join first.
 #[derive(Drop)]
 pub(crate) struct WayLists {
     /// The last join of each label.
     lasts: Vec<usize>,
     joins: Vec<Join>,
-    befores: Vec<Befores>,
+    befores: Vec<PreviousJoins>,
 }
 
 impl Model for WayLists {
@@ -72,7 +72,7 @@ impl Model for WayLists {
 }
 
 impl WayLists {
-    /// The ways of these joins, each from both of its labels, of which there are so many.
+    /// Makes lists for `labels` labels; each join is a way from both of its labels.
     pub(crate) fn of_joins(
         alloc: Global,
         labels: usize,
@@ -84,7 +84,7 @@ impl WayLists {
         let mut lasts = vec![in alloc; NO_JOIN; labels]?;
         let mut befores = Vec::with_capacity(alloc, joins.len())?;
         for join in &joins {
-            befores.push(Befores {
+            befores.push(PreviousJoins {
                 from: lasts[join.from as usize],
                 to: lasts[join.to as usize],
             })?;
@@ -98,7 +98,7 @@ impl WayLists {
         })
     }
 
-    /// How many labels there are.
+    /// The number of labels.
     #[inline(always)]
     pub(crate) fn len(&self) -> usize
         ensures { result ≡ length self.now }
@@ -106,7 +106,7 @@ impl WayLists {
         self.lasts.len()
     }
 
-    /// Whether there is a way from a label.
+    /// Returns whether there is a way from a label.
     #[inline(always)]
     pub(crate) fn has(&self, label: u32) -> bool
         requires { label < length self.now }
@@ -115,7 +115,7 @@ impl WayLists {
         self.lasts[label as usize] != NO_JOIN
     }
 
-    /// The ways from a label.
+    /// Returns the ways from a label.
     pub(crate) fn ways(&self, alloc: Global, label: u32) -> Result<SmallVec<Spill, 8>, AllocError>
         requires { label < length self.now }
         ensures { IfOk result (λ v. v.items ≡ slice_index_or self.now label []) }
@@ -130,27 +130,28 @@ impl WayLists {
         Ok(ways)
     }
 
-    /// Makes the labels wait to which ways from a label lead, those that have no label yet and do not
-    /// wait as low.
+    /// Queues each neighbour of `from` unless it has a label or a crest as low.
     #[inline]
     pub(crate) fn spread(
         &self,
-        waits: &mut Waits,
-        from: &Waiting,
+        queue: &mut Queue,
+        from: &Candidate,
         labels: &NodeLabels,
         levels: &mut HeightList,
     ) -> Result<(), AllocError>
         requires label { from.now.node < length self.now }
-        requires order { InOrder waits.old }
-        requires inside { All (λ way. way.to < length labels.now) (slice_index_or self.now from.now.node []) }
-        requires noted { AreNoted labels.now levels.old (waiting_in waits.old) }
-        ensures { OnOk result (Follows labels.now from.now (slice_index_or self.now from.now.node [])
-            levels.old levels.new waits.old waits.new) }
+        requires order { InOrder queue.old }
+        requires inside { All (λ way. way.to < length labels.now)
+            (slice_index_or self.now from.now.node []) }
+        requires noted { AreNoted labels.now levels.old (candidates_in queue.old) }
+        ensures { OnOk result
+            (Follows labels.now from.now (slice_index_or self.now from.now.node [])
+            levels.old levels.new queue.old queue.new) }
     {
         let mut at = self.lasts[from.node as usize];
         while at != NO_JOIN {
             let link = link_at(&self.joins, &self.befores, from.node, at);
-            push_way(waits, link.way, from, labels, levels)?;
+            queue_neighbour(queue, link.way, from, labels, levels)?;
             at = link.before;
         }
         Ok(())

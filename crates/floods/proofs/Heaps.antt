@@ -1,11 +1,11 @@
--- The state of a flood, and what a heap of waiting nodes has after each pop and push.
+-- The invariant of a flood, and the entries of the queue after each pop and push.
 use Rattle.std.proofs.Common.{[], ◌≡◌, ℕ, ◌<◌, ◌≤◌, ◌⊎◌, ℤ, List, length, Option, None, Some, IsSome, zero, suc, ◌+◌, ◌∷◌, get_or, set, replicate, ◌≤ℤ◌, sym, ap, subst, refl, ◌∙◌, arith, inl, inr}
 use Rattle.std.specs.Int.{int_max}
 use Rattle.std.specs.List.{Contains, All}
 use Rattle.floods.specs.Walk.{Joins, Sources, HasNoSource, IsWalk, crest, end_of, IsLevel}
-use Rattle.floods.specs.Flood.{entry_of, IsDone, SomeWaits, TakesLowest, PutsIn, HasNone, SourcesWait, HasSourcesNoted}
+use Rattle.floods.specs.Flood.{entry_of, IsDone, HasCandidate, TakesLowest, PutsIn, HasNone, AreSourcesQueued, HasSourcesNoted}
 use Rattle.floods.specs.declared.net.Spill.{Spill}
-use Rattle.floods.specs.declared.queue.Waiting.{Waiting}
+use Rattle.floods.specs.declared.queue.Candidate.{Candidate}
 use Rattle.std.proofs.lemmas.Int.{ints}
 use Rattle.std.proofs.lemmas.Bool.{cases_eq, cases_lt}
 use Rattle.std.proofs.lemmas.List.{get_or-set_same, get_or-set_other}
@@ -13,23 +13,23 @@ use Rattle.std.proofs.lemmas.List.Elements.{All-contains, All-contains_itself}
 use Rattle.std.proofs.lemmas.List.Sorted.{Contains-permutation, IsPermutation-sym}
 use Rattle.std.proofs.lemmas.Option.{same_Some}
 
--- A walk from the node has this crest and ends at the label.
-abbrev pub HasWalk : Joins → Sources → Waiting → Type 0
+-- Some walk from the entry's node has its height as crest and ends at its label.
+abbrev pub HasWalk : Joins → Sources → Candidate → Type 0
 HasWalk joins source w =
     (walk : List Spill) × IsWalk joins source w.node walk × (crest source w.node walk ≡ w.height.0) × (end_of w.node walk ≡ w.label)
 
--- The state of a flood: nodes that are done have their level and label; of the others each source waits,
--- and so does each neighbour of a node that is done.
-pub record IsFlooding (joins : Joins) (source : Sources) (nodes : ℕ) (levels : List (Option ℤ)) (labels : List (Option ℕ)) (waiting : List Waiting) : Type 0 where
+-- The invariant of a flood: nodes with labels have their final levels. Of the others, each source
+-- and each neighbour of a node with a label has an entry low enough.
+pub record IsFlooding (joins : Joins) (source : Sources) (nodes : ℕ) (levels : List (Option ℤ)) (labels : List (Option ℕ)) (waiting : List Candidate) : Type 0 where
   pub levels_size : length levels ≡ nodes
   pub labels_size : length labels ≡ nodes
   pub settled : (a b : ℕ) → entry_of labels a ≡ Some b → (l : ℤ) × (entry_of levels a ≡ Some l) × IsLevel joins source a l b
-  pub waits : All (λ w. (w.node < nodes) × HasWalk joins source w) waiting
-  pub sources : (a : ℕ) (h : ℤ) → a < nodes → source a ≡ Some h → entry_of labels a ≡ None → SomeWaits waiting a h
-  pub frontier : (a b : ℕ) (l h : ℤ) → a < nodes → joins a b h → IsSome (entry_of labels b) → entry_of levels b ≡ Some l → entry_of labels a ≡ None → SomeWaits waiting a (int_max h l)
+  pub queue : All (λ w. (w.node < nodes) × HasWalk joins source w) waiting
+  pub sources : (a : ℕ) (h : ℤ) → a < nodes → source a ≡ Some h → entry_of labels a ≡ None → HasCandidate waiting a h
+  pub frontier : (a b : ℕ) (l h : ℤ) → a < nodes → joins a b h → IsSome (entry_of labels b) → entry_of levels b ≡ Some l → entry_of labels a ≡ None → HasCandidate waiting a (int_max h l)
 
--- What has left the heap so far is done.
-pub record OnlyDoneLeft (labels : List (Option ℕ)) (old new : List Waiting) : Type 0 where
+-- Only entries with labels left the queue.
+pub record OnlyDoneLeft (labels : List (Option ℕ)) (old new : List Candidate) : Type 0 where
   pub left : All (Contains old) new
   pub kept : All (λ x. IsDone labels x ⊎ Contains new x) old
 
@@ -56,33 +56,33 @@ replicated x zero k = refl
 replicated x (suc n) zero = refl
 replicated x (suc n) (suc k) = replicated x n k
 
--- what waits with one more that is put in
-pub held_in : {x : Waiting} {old new : List Waiting} → PutsIn x old new → (y : Waiting) → Contains (x ∷ old) y → Contains new y
+-- The entries after one more is added.
+pub held_in : {x : Candidate} {old new : List Candidate} → PutsIn x old new → (y : Candidate) → Contains (x ∷ old) y → Contains new y
 held_in {x} {old} {new} perm y h = Contains-permutation (x ∷ old) new y perm h
 
-pub held_cases : {x : Waiting} {old new : List Waiting} → PutsIn x old new → (y : Waiting) → Contains new y → (y ≡ x) ⊎ Contains old y
+pub held_cases : {x : Candidate} {old new : List Candidate} → PutsIn x old new → (y : Candidate) → Contains new y → (y ≡ x) ⊎ Contains old y
 held_cases {x} {old} {new} perm y h = cons_cases x old y (Contains-permutation new (x ∷ old) y (IsPermutation-sym _ _ perm) h)
 
-pub nothing_left : (labels : List (Option ℕ)) (xs : List Waiting) → OnlyDoneLeft labels xs xs
+pub nothing_left : (labels : List (Option ℕ)) (xs : List Candidate) → OnlyDoneLeft labels xs xs
 nothing_left labels xs = record {
   left = All-contains_itself xs;
   kept = λ k d below. inr (All-contains_itself xs k d below);
 }
 
-pub one_left : (labels : List (Option ℕ)) (old now rest : List Waiting) (x : Waiting) → OnlyDoneLeft labels old now → PutsIn x rest now → IsDone labels x → OnlyDoneLeft labels old rest
+pub one_left : (labels : List (Option ℕ)) (old now rest : List Candidate) (x : Candidate) → OnlyDoneLeft labels old now → PutsIn x rest now → IsDone labels x → OnlyDoneLeft labels old rest
 one_left labels old now rest x s perm done = record {
   left = all_by_contains (Contains old) rest (λ y h. All-contains (Contains old) now y s.left (held_in perm y (cons_tail x rest y h)));
   kept = all_by_contains (λ y. IsDone labels y ⊎ Contains rest y) old (λ y h.
       elim (All-contains (λ z. IsDone labels z ⊎ Contains now z) old y s.kept h) [
         | inl d ↦ inl d
         | inr held ↦ elim (held_cases perm y held) [
-          | inl same ↦ inl (subst (λ (z : Waiting). IsDone labels z) (sym same) done)
+          | inl same ↦ inl (subst (λ (z : Candidate). IsDone labels z) (sym same) done)
           | inr still ↦ inr still
         ]
       ]);
 }
 
-pub first_open : (labels : List (Option ℕ)) (old now rest : List Waiting) (x : Waiting) → OnlyDoneLeft labels old now → PutsIn x rest now → All (λ y. x.height.0 ≤ℤ y.height.0) rest → entry_of labels x.node ≡ None → TakesLowest labels old x rest
+pub first_open : (labels : List (Option ℕ)) (old now rest : List Candidate) (x : Candidate) → OnlyDoneLeft labels old now → PutsIn x rest now → All (λ y. x.height.0 ≤ℤ y.height.0) rest → entry_of labels x.node ≡ None → TakesLowest labels old x rest
 first_open labels old now rest x s perm bound is_open =
     record {
       was_open = is_open;
@@ -91,7 +91,7 @@ first_open labels old now rest x s perm bound is_open =
           elim (All-contains (λ z. IsDone labels z ⊎ Contains now z) old y s.kept h) [
             | inl d ↦ inl d
             | inr held ↦ elim (held_cases perm y held) [
-              | inl same ↦ inr (omega (arith, ints, ap (λ (z : Waiting). z.height.0) same))
+              | inl same ↦ inr (omega (arith, ints, ap (λ (z : Candidate). z.height.0) same))
               | inr still ↦ inr (All-contains (λ z. x.height.0 ≤ℤ z.height.0) rest y bound still)
             ]
           ]);
@@ -103,19 +103,18 @@ first_open labels old now rest x s perm bound is_open =
           ]);
     }
 
--- what has left is done, and so is all where nothing is left
-pub all_done : (labels : List (Option ℕ)) (old now : List Waiting) → OnlyDoneLeft labels old now → HasNone now → All (IsDone labels) old
+-- If only entries with labels left, and none remains, all have labels.
+pub all_done : (labels : List (Option ℕ)) (old now : List Candidate) → OnlyDoneLeft labels old now → HasNone now → All (IsDone labels) old
 all_done labels old now s none = all_by_contains (IsDone labels) old (λ y h.
     elim (All-contains (λ z. IsDone labels z ⊎ Contains now z) old y s.kept h) [ inl d ↦ d | inr held ↦ absurd (none y held) ])
 
-pub no_sources : (source : Sources) (waiting : List Waiting) → HasNone waiting → SourcesWait 0 source waiting
+pub no_sources : (source : Sources) (waiting : List Candidate) → HasNone waiting → AreSourcesQueued 0 source waiting
 no_sources source waiting none = record {
   only = all_by_contains (λ w. (w.node < 0) × (source w.node ≡ Some w.height.0) × (w.label ≡ w.node)) waiting (λ w h. absurd (none w h));
   every = λ a h below e. absurd (omega (arith, below));
 }
 
--- a node that is no source
-pub source_passed : (source : Sources) (n : ℕ) (waiting : List Waiting) → SourcesWait n source waiting → source n ≡ None → SourcesWait (n + 1) source waiting
+pub source_passed : (source : Sources) (n : ℕ) (waiting : List Candidate) → AreSourcesQueued n source waiting → source n ≡ None → AreSourcesQueued (n + 1) source waiting
 source_passed source n waiting s none = record {
   only = λ k d below. let o = s.only k d below in (omega (arith, o.0), o.1, o.2);
   every = λ a h below e. elim (cases_eq a n) [
@@ -124,8 +123,7 @@ source_passed source n waiting s none = record {
   ];
 }
 
--- some nodes that are no sources
-pub sources_passed : (source : Sources) (n m : ℕ) (waiting : List Waiting) → SourcesWait n source waiting → n ≤ m → HasNoSource source n m → SourcesWait m source waiting
+pub sources_passed : (source : Sources) (n m : ℕ) (waiting : List Candidate) → AreSourcesQueued n source waiting → n ≤ m → HasNoSource source n m → AreSourcesQueued m source waiting
 sources_passed source n m waiting s up none = record {
   only = λ k d below. let o = s.only k d below in (omega (arith, o.0, up), o.1, o.2);
   every = λ a h below e. elim (cases_lt a n) [
@@ -134,12 +132,12 @@ sources_passed source n m waiting s up none = record {
   ];
 }
 
--- a source that waits
-pub source_more : (source : Sources) (n : ℕ) (h : ℤ) (now new : List Waiting) (w : Waiting) → SourcesWait n source now → source n ≡ Some h → w.node ≡ n → w.label ≡ n → w.height.0 ≡ h → PutsIn w now new → SourcesWait (n + 1) source new
+-- One more source is queued.
+pub source_more : (source : Sources) (n : ℕ) (h : ℤ) (now new : List Candidate) (w : Candidate) → AreSourcesQueued n source now → source n ≡ Some h → w.node ≡ n → w.label ≡ n → w.height.0 ≡ h → PutsIn w now new → AreSourcesQueued (n + 1) source new
 source_more source n h now new w s is node label height perm = record {
   only = all_by_contains (λ x. (x.node < n + 1) × (source x.node ≡ Some x.height.0) × (x.label ≡ x.node)) new (λ x held.
       elim (held_cases perm x held) [
-        | inl same ↦ subst (λ (x : Waiting). (x.node < n + 1) × (source x.node ≡ Some x.height.0) × (x.label ≡ x.node)) (sym same) (omega arith, ap source node ∙ is ∙ ap Some (sym height), label ∙ sym node)
+        | inl same ↦ subst (λ (x : Candidate). (x.node < n + 1) × (source x.node ≡ Some x.height.0) × (x.label ≡ x.node)) (sym same) (omega arith, ap source node ∙ is ∙ ap Some (sym height), label ∙ sym node)
         | inr was ↦ let o = All-contains (λ x. (x.node < n) × (source x.node ≡ Some x.height.0) × (x.label ≡ x.node)) now x s.only was in (omega (arith, o.0), o.1, o.2)
       ]);
   every = λ a k below e. elim (cases_eq a n) [
@@ -148,7 +146,7 @@ source_more source n h now new w s is node label height perm = record {
   ];
 }
 
--- the height of one more source is noted, or of a node that is none
+-- The levels as sources are noted one by one.
 pub none_noted : (source : Sources) (nodes : ℕ) → HasSourcesNoted 0 source (replicate nodes None)
 none_noted source nodes = record {
   each = λ a below. absurd (omega (arith, below));

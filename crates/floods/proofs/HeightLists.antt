@@ -1,4 +1,4 @@
--- Lists of heights, some of which are lacking.
+-- Reading and writing stored heights, some of them missing.
 use Rattle.terrain.proofs.Options.{none_some}
 use Rattle.std.proofs.Common.{◌≡◌, ℕ, zero, suc, ◌≤ℤ◌, ℤ, Bool, true, false, List, [], ◌∷◌, length, get_or, map, set, replicate, T, Option, None, Some, is_some, ◌∙◌, sym, ap, refl, arith, inl, inr, subst}
 use Rattle.std.specs.Int.Signed.{le_z}
@@ -15,7 +15,6 @@ length-where [] (h ∷ heights) e = e
 length-where (m ∷ marks) [] e = absurd (omega (arith, e))
 length-where (m ∷ marks) (h ∷ heights) e = ap suc (length-where marks heights (omega (arith, e)))
 
--- what is noted at an entry
 pub where-at : (marks : List Bool) (heights : List ℤ) (i : ℕ) → length marks ≡ length heights → get_or (heights_where marks heights) i None ≡ noted (get_or marks i false) (get_or heights i lack)
 where-at [] [] i e = refl
 where-at [] (h ∷ heights) i e = absurd (omega (arith, e))
@@ -23,7 +22,7 @@ where-at (m ∷ marks) [] i e = absurd (omega (arith, e))
 where-at (m ∷ marks) (h ∷ heights) zero e = refl
 where-at (m ∷ marks) (h ∷ heights) (suc i) e = where-at marks heights i (omega (arith, e))
 
--- the number of an entry that is marked, or is none that stands for a lack
+-- A marked number is a height, and so is one other than `lack`.
 pub noted_marked : (m : Bool) (h : ℤ) → m ≡ true → noted m h ≡ Some h
 noted_marked m h is = cond-true _ _ _ is
 
@@ -55,7 +54,7 @@ pub where-lacking : (n : ℕ) → heights_where (replicate n false) (replicate n
 where-lacking zero = refl
 where-lacking (suc n) = ap (λ z. None ∷ z) (where-lacking n)
 
--- tests of a machine, and what they tell
+-- Facts from comparisons of stored numbers.
 tells : (b : Bool) → T b → b ≡ true
 tells true h = refl
 tells false h = absurd h
@@ -66,7 +65,7 @@ is_low a b e = record { le = T_from_true _ e }
 pub low_is : (a b : ℤ) → a ≤ℤ b → le_z a b ≡ true
 low_is a b h = tells _ h.le
 
--- an entry that is noted no higher, by the number that stands for it
+-- A stored number at most h is an entry at most h.
 pub no_higher : (marks : List Bool) (heights : List ℤ) (seen : List (Option ℤ)) (i : ℕ) (h : ℤ) → length marks ≡ length heights → heights_where marks heights ≡ seen → noted (get_or marks i false) (get_or heights i lack) ≡ Some (get_or heights i lack) → get_or heights i lack ≤ℤ h
     → (x : ℤ) × (get_or seen i None ≡ Some x) × (x ≤ℤ h)
 no_higher marks heights seen i h size view is low = (get_or heights i lack, ap (λ (l : List (Option ℤ)). get_or l i None) (sym view) ∙ where-at marks heights i size ∙ is, low)
@@ -84,7 +83,7 @@ no_higher_is marks heights seen i h size view s =
     let here = sym (where-at marks heights i size) ∙ ap (λ (l : List (Option ℤ)). get_or l i None) view ∙ s.1 in
     (ap is_some here, subst (λ z. z ≤ℤ h) (sym (from_noted _ _ s.0 here)) s.2)
 
--- how all entries stand
+-- The stored numbers of all entries.
 stands : (m : Bool) (h : ℤ) → h ≡ height_or_lack (noted m h)
 stands true h = refl
 stands false h = elim (cases_Bool (int_eq h lack)) [

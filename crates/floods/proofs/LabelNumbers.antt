@@ -1,4 +1,4 @@
--- Labels as numbers.
+-- Reading and writing stored labels.
 use Rattle.std.proofs.Common.{◌≡◌, ℕ, zero, suc, ◌<◌, List, ◌∷◌, set, replicate, None, Some, ◌∙◌, ap, refl, Bool, true, false, if◌then◌else◌, ◌==◌, arith}
 use Rattle.std.proofs.lemmas.Bool.{eqb-true}
 use Rattle.std.proofs.lemmas.List.{map-set}

@@ -1,7 +1,7 @@
--- what is noted of nodes
+-- Stored levels and labels.
 pub mod HeightLists
 pub mod LabelNumbers
--- the flood of a net
+-- The flood of a net.
 pub mod Steps
 pub mod Heaps
 pub mod WaitLists

@@ -1,4 +1,4 @@
--- Ways followed one by one, and what is noted of the nodes that they lead to.
+-- Neighbours queued one by one, and the levels noted for them.
 use Rattle.std.proofs.Common.{◌≡◌, ℕ, ◌<◌, List, [], ◌∷◌, ◌++◌, length, get_or, set, map, take, drop, ℤ, ◌≤ℤ◌, Option, None, Some, IsSome, ◌+◌, sym, ap, subst, refl, ◌∙◌, arith, ◌⊎◌, inl, inr, to_z, of_z}
 use Rattle.std.specs.Int.{int_max}
 use Rattle.std.specs.Int.Signed.{≤ℤ_refl}
@@ -15,67 +15,65 @@ use Rattle.std.proofs.lemmas.List.Elements.{All-contains, All-contains_itself, C
 use Rattle.std.proofs.Math.Seq.{take-append_seam}
 use Rattle.std.proofs.lemmas.Option.{same_Some}
 use Rattle.floods.specs.declared.net.Spill.{Spill}
-use Rattle.floods.specs.declared.queue.Waiting.{Waiting}
-use Rattle.floods.specs.declared.queue.Waits.{Waits}
+use Rattle.floods.specs.declared.queue.Candidate.{Candidate}
+use Rattle.floods.specs.declared.queue.Queue.{Queue}
 use Rattle.floods.specs.Walk.{Sources}
-use Rattle.floods.specs.Flood.{AreOwn, InOrder, PutsIn, waiting_in, entry_of, SomeWaits, ComesBy, waiting_by, MakesWait, AreNoted, KeepsDone, Follows}
+use Rattle.floods.specs.Flood.{AreOwn, InOrder, PutsIn, candidates_in, entry_of, HasCandidate, IsCandidateBy, candidate_by, Queues, AreNoted, KeepsDone, Follows}
 use Rattle.floods.proofs.Heaps.{all_by_contains, cons_head, cons_tail, held_in, held_cases, one_held}
 
--- a way that is not followed, since nothing is won by it
-pub passed : (labels : List (Option ℕ)) (from : Waiting) (way : Spill) (waiting : List Waiting) → (entry_of labels way.to ≡ None → SomeWaits waiting way.to (int_max way.height from.height.0)) → MakesWait labels from (way ∷ []) waiting waiting
+-- A neighbour with a label or a crest as low is not queued.
+pub passed : (labels : List (Option ℕ)) (from : Candidate) (way : Spill) (waiting : List Candidate) → (entry_of labels way.to ≡ None → HasCandidate waiting way.to (int_max way.height from.height.0)) → Queues labels from (way ∷ []) waiting waiting
 passed labels from way waiting reached = record {
   kept = All-contains_itself waiting;
   made = λ k d below. inl (All-contains_itself waiting k d below);
-  reached = all_by_contains (λ y. entry_of labels y.to ≡ None → SomeWaits waiting y.to (int_max y.height from.height.0)) (way ∷ []) (λ y h. subst (λ (y : Spill). entry_of labels y.to ≡ None → SomeWaits waiting y.to (int_max y.height from.height.0)) (sym (one_held way y h)) reached);
+  reached = all_by_contains (λ y. entry_of labels y.to ≡ None → HasCandidate waiting y.to (int_max y.height from.height.0)) (way ∷ []) (λ y h. subst (λ (y : Spill). entry_of labels y.to ≡ None → HasCandidate waiting y.to (int_max y.height from.height.0)) (sym (one_held way y h)) reached);
 }
 
--- the node at its end is done
-pub passed_done : (labels : List (Option ℕ)) (from : Waiting) (way : Spill) (waiting : List Waiting) → IsSome (entry_of labels way.to) → MakesWait labels from (way ∷ []) waiting waiting
+pub passed_done : (labels : List (Option ℕ)) (from : Candidate) (way : Spill) (waiting : List Candidate) → IsSome (entry_of labels way.to) → Queues labels from (way ∷ []) waiting waiting
 passed_done labels from way waiting done = passed labels from way waiting (λ none. none_done (entry_of labels way.to) none done)
 
--- the node at its end waits as low
-pub passed_low : (labels : List (Option ℕ)) (levels : List (Option ℤ)) (from : Waiting) (way : Spill) (waiting : List Waiting) (h : ℤ) → AreNoted labels levels waiting → entry_of levels way.to ≡ Some h → h ≤ℤ int_max way.height from.height.0 → MakesWait labels from (way ∷ []) waiting waiting
+pub passed_low : (labels : List (Option ℕ)) (levels : List (Option ℤ)) (from : Candidate) (way : Spill) (waiting : List Candidate) (h : ℤ) → AreNoted labels levels waiting → entry_of levels way.to ≡ Some h → h ≤ℤ int_max way.height from.height.0 → Queues labels from (way ∷ []) waiting waiting
 passed_low labels levels from way waiting h s noted low = passed labels from way waiting (λ none.
-    let x = s.waits way.to h none noted in
+    let x = s.queue way.to h none noted in
     (x.0, x.1, x.2, trans _ _ _ x.3 low))
 
--- a way that is followed
-pub followed : (labels : List (Option ℕ)) (from : Waiting) (way : Spill) (old new : List Waiting) → PutsIn (waiting_by from way) old new → MakesWait labels from (way ∷ []) old new
+-- A neighbour is queued.
+pub followed : (labels : List (Option ℕ)) (from : Candidate) (way : Spill) (old new : List Candidate) → PutsIn (candidate_by from way) old new → Queues labels from (way ∷ []) old new
 followed labels from way old new perm = record {
-  kept = all_by_contains (Contains new) old (λ y h. held_in perm y (cons_tail (waiting_by from way) old y h));
-  made = all_by_contains (λ y. Contains old y ⊎ ComesBy from (way ∷ []) y) new (λ y h.
+  kept = all_by_contains (Contains new) old (λ y h. held_in perm y (cons_tail (candidate_by from way) old y h));
+  made = all_by_contains (λ y. Contains old y ⊎ IsCandidateBy from (way ∷ []) y) new (λ y h.
       elim (held_cases perm y h) [
         | inl same ↦ inr (way, cons_head way [], same)
         | inr held ↦ inl held
       ]);
-  reached = all_by_contains (λ y. entry_of labels y.to ≡ None → SomeWaits new y.to (int_max y.height from.height.0)) (way ∷ []) (λ y h. subst (λ (y : Spill). entry_of labels y.to ≡ None → SomeWaits new y.to (int_max y.height from.height.0)) (sym (one_held way y h)) (λ _. here));
+  reached = all_by_contains (λ y. entry_of labels y.to ≡ None → HasCandidate new y.to (int_max y.height from.height.0)) (way ∷ []) (λ y h. subst (λ (y : Spill). entry_of labels y.to ≡ None → HasCandidate new y.to (int_max y.height from.height.0)) (sym (one_held way y h)) (λ _. here));
 } where
-  here : SomeWaits new way.to (int_max way.height from.height.0)
-  here = (waiting_by from way, held_in perm _ (cons_head (waiting_by from way) old), refl, ≤ℤ_refl _)
+  here : HasCandidate new way.to (int_max way.height from.height.0)
+  here = (candidate_by from way, held_in perm _ (cons_head (candidate_by from way) old), refl, ≤ℤ_refl _)
 
--- the crest by a way that is followed is noted
-pub noted : (labels : List (Option ℕ)) (levels : List (Option ℤ)) (from : Waiting) (way : Spill) (old new : List Waiting) → way.to < length labels → AreNoted labels levels old → PutsIn (waiting_by from way) old new → AreNoted labels (set levels way.to (Some (int_max way.height from.height.0))) new
+-- The crest of a queued neighbour is noted as its level.
+pub noted : (labels : List (Option ℕ)) (levels : List (Option ℤ)) (from : Candidate) (way : Spill) (old new : List Candidate) → way.to < length labels → AreNoted labels levels old → PutsIn (candidate_by from way) old new → AreNoted labels (set levels way.to (Some (int_max way.height from.height.0))) new
 noted labels levels from way old new below s perm = record {
   size = length-set levels way.to (Some crest) ∙ s.size;
-  waits = λ a h none found. elim (cases_eq a way.to) [
+  queue = λ a h none found. elim (cases_eq a way.to) [
     | inl same ↦
         let found_there : entry_of (set levels way.to (Some crest)) way.to ≡ Some h = subst (λ (n : ℕ). entry_of (set levels way.to (Some crest)) n ≡ Some h) same found in
         let is : crest ≡ h = same_Some _ _ (sym (get_or-set_same levels way.to (Some crest) None (omega (arith, below, s.size))) ∙ found_there) in
-        (waiting_by from way, held_in perm _ (cons_head (waiting_by from way) old), sym same, le_of_same crest h is)
+        (candidate_by from way, held_in perm _ (cons_head (candidate_by from way) old), sym same, le_of_same crest h is)
     | inr n ↦
-        let x = s.waits a h none (sym (get_or-set_other levels way.to a (Some crest) None n) ∙ found) in
-        (x.0, held_in perm x.0 (cons_tail (waiting_by from way) old x.0 x.1), x.2, x.3)
+        let x = s.queue a h none (sym (get_or-set_other levels way.to a (Some crest) None n) ∙ found) in
+        (x.0, held_in perm x.0 (cons_tail (candidate_by from way) old x.0 x.1), x.2, x.3)
   ];
 } where
   crest : ℤ
   crest = int_max way.height from.height.0
 
--- what is known of the sources stands: a crest below what was noted of a source is below its height
-pub own_by_way : (source : Sources) (labels : List (Option ℕ)) (levels : List (Option ℤ)) (from : Waiting) (way : Spill) (old new : List Waiting) → way.to < length labels → length levels ≡ length labels → entry_of labels way.to ≡ None → ((h : ℤ) × (entry_of levels way.to ≡ Some h) × (h ≤ℤ int_max way.height from.height.0) → ⊥) → PutsIn (waiting_by from way) old new → AreOwn source labels levels old → AreOwn source labels (set levels way.to (Some (int_max way.height from.height.0))) new
+-- `AreOwn` is kept: a crest below the level of a source is below the source's height.
+pub own_by_way : (source : Sources) (labels : List (Option ℕ)) (levels : List (Option ℤ)) (from : Candidate) (way : Spill) (old new : List Candidate) → way.to < length labels → length levels ≡ length labels → entry_of labels way.to ≡ None → ((h : ℤ) × (entry_of levels way.to ≡ Some h) × (h ≤ℤ int_max way.height from.height.0) → ⊥) → PutsIn (candidate_by from way) old new → AreOwn source labels levels old → AreOwn source labels (set levels way.to (Some (int_max way.height from.height.0))) new
 own_by_way source labels levels from way old new below size none lower perm s = record {
   own = all_by_contains (λ y. source y.node ≡ Some y.height.0 → y.label ≡ y.node) new (λ y h.
       elim (held_cases perm y h) [
-        | inl same ↦ subst (λ (y : Waiting). source y.node ≡ Some y.height.0 → y.label ≡ y.node) (sym same) (λ is. absurd (lower (s.low way.to crest below is none)))
+        | inl same ↦ subst (λ (y : Candidate). source y.node ≡ Some y.height.0 → y.label ≡ y.node) (sym same) (λ is. absurd (lower (s.low way.to crest below is none)))
         | inr held ↦ All-contains (λ y. source y.node ≡ Some y.height.0 → y.label ≡ y.node) old y s.own held
       ]);
   low = λ a h inside is open_here.
@@ -93,69 +91,65 @@ own_by_way source labels levels from way old new below size none lower perm s = 
   high : (l h : ℤ) → entry_of levels way.to ≡ Some l → l ≤ℤ h → crest ≤ℤ h
   high l h there low = by_lt_z crest l (λ less. omega (arith, ints, less, low)) (λ up. absurd (lower (l, there, up)))
 
--- a node that is not done is noted, and the others keep their levels
 pub keeps_done : (labels : List (Option ℕ)) (levels : List (Option ℤ)) (a : ℕ) (level : Option ℤ) → entry_of labels a ≡ None → KeepsDone labels levels (set levels a level)
 keeps_done labels levels a level none = λ b done. elim (cases_eq b a) [
   | inl same ↦ none_done (entry_of labels a) none (subst (λ (n : ℕ). IsSome (entry_of labels n)) same done)
   | inr n ↦ get_or-set_other levels a b level None n
 ]
 
--- the crest by a way, as a machine keeps it
+-- The crest as a number of 64 bits.
 pub kept_crest : (height level greater : ℤ) → SFits height_width height → SFits height_width level → SFits height_width greater → greater ≡ int_max (to_z height_width (of_z height_width height)) (to_z height_width (of_z height_width level)) → to_z height_width (of_z height_width greater) ≡ int_max height level
 kept_crest height level greater fits_height fits_level fits_greater e =
     to_z-of_z height_width greater fits_greater ∙ (rw (to_z-of_z height_width height fits_height, to_z-of_z height_width level fits_level) at e)
 
--- no way so far
-pub no_ways : (labels : List (Option ℕ)) (from : Waiting) (waiting : List Waiting) → MakesWait labels from [] waiting waiting
+pub no_ways : (labels : List (Option ℕ)) (from : Candidate) (waiting : List Candidate) → Queues labels from [] waiting waiting
 no_ways labels from waiting = record {
   kept = All-contains_itself waiting;
   made = λ k d below. inl (All-contains_itself waiting k d below);
   reached = λ k d below. absurd (omega (arith, below));
 }
 
--- some ways, and others after them
-pub more_ways : (labels : List (Option ℕ)) (from : Waiting) (ways last : List Spill) (old now new : List Waiting) → MakesWait labels from ways old now → MakesWait labels from last now new → MakesWait labels from (ways ++ last) old new
+-- Two runs of neighbours, one after the other.
+pub more_ways : (labels : List (Option ℕ)) (from : Candidate) (ways last : List Spill) (old now new : List Candidate) → Queues labels from ways old now → Queues labels from last now new → Queues labels from (ways ++ last) old new
 more_ways labels from ways last old now new s t = record {
   kept = all_by_contains (Contains new) old (λ y h. All-contains (Contains new) now y t.kept (All-contains (Contains now) old y s.kept h));
-  made = all_by_contains (λ y. Contains old y ⊎ ComesBy from (ways ++ last) y) new (λ y h.
-      elim (All-contains (λ z. Contains now z ⊎ ComesBy from last z) new y t.made h) [
-        | inl held ↦ elim (All-contains (λ z. Contains old z ⊎ ComesBy from ways z) now y s.made held) [
+  made = all_by_contains (λ y. Contains old y ⊎ IsCandidateBy from (ways ++ last) y) new (λ y h.
+      elim (All-contains (λ z. Contains now z ⊎ IsCandidateBy from last z) new y t.made h) [
+        | inl held ↦ elim (All-contains (λ z. Contains old z ⊎ IsCandidateBy from ways z) now y s.made held) [
           | inl was ↦ inl was
           | inr by ↦ inr (by.0, Contains-append_left ways last by.0 by.1, by.2)
         ]
         | inr by ↦ inr (by.0, Contains-append_right ways last by.0 by.1, by.2)
       ]);
-  reached = all_by_contains (λ y. entry_of labels y.to ≡ None → SomeWaits new y.to (int_max y.height from.height.0)) (ways ++ last) (λ y h none.
+  reached = all_by_contains (λ y. entry_of labels y.to ≡ None → HasCandidate new y.to (int_max y.height from.height.0)) (ways ++ last) (λ y h none.
       elim (Contains-append_cases ways last y h) [
         | inl early ↦
-            let x = All-contains (λ z. entry_of labels z.to ≡ None → SomeWaits now z.to (int_max z.height from.height.0)) ways y s.reached early none in
+            let x = All-contains (λ z. entry_of labels z.to ≡ None → HasCandidate now z.to (int_max z.height from.height.0)) ways y s.reached early none in
             (x.0, All-contains (Contains new) now x.0 t.kept x.1, x.2, x.3)
-        | inr late ↦ All-contains (λ z. entry_of labels z.to ≡ None → SomeWaits new z.to (int_max z.height from.height.0)) last y t.reached late none
+        | inr late ↦ All-contains (λ z. entry_of labels z.to ≡ None → HasCandidate new z.to (int_max z.height from.height.0)) last y t.reached late none
       ]);
 }
 
--- ways by which nothing is won
-pub stays : (labels : List (Option ℕ)) (levels : List (Option ℤ)) (from : Waiting) (ways : List Spill) (waits : Waits) → InOrder waits → AreNoted labels levels (waiting_in waits) → MakesWait labels from ways (waiting_in waits) (waiting_in waits) → Follows labels from ways levels levels waits waits
-stays labels levels from ways waits order noted passed = record { order = order; noted = noted; kept = λ a done. refl; own = λ source s. s; waits = passed }
+-- No neighbour needs an entry.
+pub stays : (labels : List (Option ℕ)) (levels : List (Option ℤ)) (from : Candidate) (ways : List Spill) (queue : Queue) → InOrder queue → AreNoted labels levels (candidates_in queue) → Queues labels from ways (candidates_in queue) (candidates_in queue) → Follows labels from ways levels levels queue queue
+stays labels levels from ways queue order noted passed = record { order = order; noted = noted; kept = λ a done. refl; own = λ source s. s; queue = passed }
 
--- no way so far
-pub none_followed : (labels : List (Option ℕ)) (levels : List (Option ℤ)) (from : Waiting) (waits : Waits) → InOrder waits → AreNoted labels levels (waiting_in waits) → Follows labels from [] levels levels waits waits
-none_followed labels levels from waits order noted = stays labels levels from [] waits order noted (no_ways labels from (waiting_in waits))
+pub none_followed : (labels : List (Option ℕ)) (levels : List (Option ℤ)) (from : Candidate) (queue : Queue) → InOrder queue → AreNoted labels levels (candidates_in queue) → Follows labels from [] levels levels queue queue
+none_followed labels levels from queue order noted = stays labels levels from [] queue order noted (no_ways labels from (candidates_in queue))
 
--- some ways have been followed, and then others
-pub more_followed : (labels : List (Option ℕ)) (from : Waiting) (ways last : List Spill) (levels between after : List (Option ℤ)) (old now new : Waits) → Follows labels from ways levels between old now → Follows labels from last between after now new → Follows labels from (ways ++ last) levels after old new
+pub more_followed : (labels : List (Option ℕ)) (from : Candidate) (ways last : List Spill) (levels between after : List (Option ℤ)) (old now new : Queue) → Follows labels from ways levels between old now → Follows labels from last between after now new → Follows labels from (ways ++ last) levels after old new
 more_followed labels from ways last levels between after old now new s t = record {
   order = t.order;
   noted = t.noted;
   kept = λ a done. t.kept a done ∙ s.kept a done;
   own = λ source o. t.own source (s.own source o);
-  waits = more_ways labels from ways last (waiting_in old) (waiting_in now) (waiting_in new) s.waits t.waits;
+  queue = more_ways labels from ways last (candidates_in old) (candidates_in now) (candidates_in new) s.queue t.queue;
 }
 
--- a slice of a whole list, written back
+-- A slice of a whole list, written back, is the list.
 pub written_back : {X : Type 0} (n : ℕ) (xs items : List X) → length xs ≡ n → take n (xs ++ drop (length xs) items) ≡ xs
 written_back n xs items e = subst (λ k. take k (xs ++ drop (length xs) items) ≡ xs) e (take-append_seam xs (drop (length xs) items))
 
--- one more entry of a list by another
+-- One more element of a mapped list.
 pub mapped_more : {X Y : Type 0} (f : X → Y) (xs : List X) (i : ℕ) (d : X) (now next : List Y) (y : Y) → i < length xs → now ≡ map f (take i xs) → next ≡ now ++ y ∷ [] → y ≡ f (get_or xs i d) → next ≡ map f (take (i + 1) xs)
 mapped_more f xs i d now next y low is more here = more ∙ ap (λ z. z ++ y ∷ []) is ∙ ap (λ z. map f (take i xs) ++ z ∷ []) here ∙ sym (map_more f xs i d low)

@@ -1,82 +1,85 @@
-//! The flood: levels and labels of a net's nodes, from the lowest source upward.
+//! The flood: finds levels and labels of a net's nodes, from the lowest source upward.
 //!
-//! [`flood_net`] takes nodes from a `queue` and lets the net spread each.
+//! [`flood_net`] takes the lowest node from the queue, labels it, and queues its neighbours.
 ghost use Rattle.std.specs.Prelude.{◌≡◌, IfOk, length, replicate, None};
 ghost use Rattle.floods.specs.Walk.{IsFlooded};
-ghost use Rattle.floods.specs.Flood.{waiting_in, InOrder, SourcesWait, HasSourcesNoted};
+ghost use Rattle.floods.specs.Flood.{candidates_in, InOrder, AreSourcesQueued, HasSourcesNoted};
 
 use crate::heights::HeightList;
 use crate::net::Net;
 use crate::node_labels::{NodeLabels, label_of};
-use crate::queue::{Waiting, Waits, next_open};
+use crate::queue::{Candidate, Queue, next_unlabelled};
 use std::alloc::{AllocError, Global};
 use std::cmp::Reverse;
 use terrain::{Height, NoMemory};
 
-/// The level of each node, which is the least crest of its walks to a source, and its label, a source at which such a walk ends.
+/// The level and the label of each node; `None` where no walk leads to a source.
+/// The level is the least crest of its walks to a source, the label a source that has it.
 #[derive(Drop)]
 pub struct Flooded {
     pub level: Vec<Option<Height>>,
     pub label: Vec<Option<u32>>,
 }
 
-/// The same in 9 bytes for a level and 4 for a label, in place of 16 and 8.
+/// A [`Flooded`] in 9 bytes a level and 4 bytes a label, instead of 16 and 8.
 #[derive(Drop)]
 pub struct FloodedNet {
     pub levels: HeightList,
     pub labels: NodeLabels,
 }
 
-/// Makes the sources wait, and notes their heights.
-fn waiting_sources<N: Net>(
+/// Queues all sources, and notes their heights as levels.
+fn queue_sources<N: Net>(
     alloc: Global,
     net: &N,
     levels: &mut HeightList,
-) -> Result<Waits, AllocError>
+) -> Result<Queue, AllocError>
     requires { levels.old ≡ replicate (N.node_count net.now) None }
-    ensures order { IfOk result (λ waits. InOrder waits) }
-    ensures sources { IfOk result (λ waits.
-        SourcesWait (N.node_count net.now) (N.source_height net.now) (waiting_in waits)) }
-    ensures noted { IfOk result (λ _. HasSourcesNoted (N.node_count net.now) (N.source_height net.now) levels.new) }
+    ensures order { IfOk result (λ queue. InOrder queue) }
+    ensures sources { IfOk result (λ queue.
+        AreSourcesQueued (N.node_count net.now) (N.source_height net.now) (candidates_in queue)) }
+    ensures noted { IfOk result
+        (λ _. HasSourcesNoted (N.node_count net.now) (N.source_height net.now) levels.new) }
     ensures size { length levels.new ≡ length levels.old }
 {
-    let mut waits = Waits::new(alloc, levels.len())?;
+    let mut queue = Queue::new(alloc, levels.len())?;
     let count = net.nodes();
     let mut node = net.next_candidate(0);
     while node < count {
         if let Some(height) = net.source(node) {
-            let waiting = Waiting {
+            let waiting = Candidate {
                 height: Reverse(height),
                 node,
                 label: node,
             };
-            waits.put(waiting)?;
+            queue.put(waiting)?;
             levels.put(node, height);
         }
         node = net.next_candidate(node + 1);
     }
-    Ok(waits)
+    Ok(queue)
 }
 
-/// The least crest from each node, and a source that has it.
+/// Returns the least crest from each node to a source, and a source that has it.
 pub fn flood_net<N: Net>(alloc: Global, net: &N) -> Result<FloodedNet, NoMemory>
     ensures { IfOk result (λ f.
-        IsFlooded (N.joins net.now) (N.source_height net.now) (N.node_count net.now) f.levels f.labels) }
+        IsFlooded (N.joins net.now) (N.source_height net.now) (N.node_count net.now) f.levels
+        f.labels) }
 {
     let count = net.nodes() as usize;
-    let mut levels = HeightList::lacking(alloc, count)?;
+    let mut levels = HeightList::all_none(alloc, count)?;
     let mut labels = NodeLabels::none(alloc, count)?;
-    let mut waits = waiting_sources(alloc, net, &mut levels)?;
-    while let Some(waiting) = next_open(&mut waits, &labels) {
+    let mut queue = queue_sources(alloc, net, &mut levels)?;
+    while let Some(waiting) = next_unlabelled(&mut queue, &labels) {
         let Reverse(height) = waiting.height;
         levels.put(waiting.node, height);
         labels.put(waiting.node, waiting.label);
-        net.spread(alloc, &mut waits, &waiting, &labels, &mut levels)?;
+        net.spread(alloc, &mut queue, &waiting, &labels, &mut levels)?;
     }
     Ok(FloodedNet { levels, labels })
 }
 
-/// The levels as a list of their own.
+/// Copies the levels to a list of options.
 fn list_of_levels(alloc: Global, levels: &HeightList) -> Result<Vec<Option<Height>>, AllocError>
     ensures { IfOk result (λ v. v.items ≡ levels.now) }
 {
@@ -87,7 +90,7 @@ fn list_of_levels(alloc: Global, levels: &HeightList) -> Result<Vec<Option<Heigh
     Ok(list)
 }
 
-/// The labels as a list of their own.
+/// Copies the labels to a list of options.
 fn list_of_labels(alloc: Global, labels: &NodeLabels) -> Result<Vec<Option<u32>>, AllocError>
     ensures { IfOk result (λ v. v.items ≡ labels.now) }
 {
@@ -99,7 +102,16 @@ fn list_of_labels(alloc: Global, labels: &NodeLabels) -> Result<Vec<Option<u32>>
     Ok(list)
 }
 
-/// The least crest from each node, and a source that has it, as lists.
+/// Returns the least crest from each node to a source, and a source that has it.
+///
+/// [`flood_net`] returns them in lists that take less memory.
+///
+/// # Examples
+///
+/// ```ignore
+/// // `level[node]` is the least crest, and `label[node]` a source that has it
+/// let Flooded { level, label } = flood(alloc, &net)?;
+/// ```
 pub fn flood<N: Net>(alloc: Global, net: &N) -> Result<Flooded, NoMemory>
     ensures { IfOk result (λ f.
         IsFlooded (N.joins net.now) (N.source_height net.now) (N.node_count net.now)

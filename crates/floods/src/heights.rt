@@ -7,15 +7,15 @@ use std::alloc::{AllocError, Global};
 use std::marker::Model;
 use terrain::Height;
 
-/// Stands for a height that is lacking, so that one comparison tells most entries that are not above a height.
+/// Marks a missing height. Being the greatest, it fails most comparisons by itself.
 const LACK: Height = Height::MAX;
 
-/// A list of heights, some of which are lacking: 9 bytes an entry, where `Option<Height>` takes 16.
+/// A list of heights or none, in 9 bytes an entry. `Option<Height>` takes 16.
 #[derive(Drop)]
 pub struct HeightList {
-    /// A height that is lacking stands as [`LACK`].
+    /// A missing height is stored as [`LACK`].
     heights: Vec<Height>,
-    /// Whether what stands as [`LACK`] is a height all the same. No other entry is looked up here, or written.
+    /// Tells a height equal to [`LACK`] from a missing one. Used at such entries only.
     greatest: Vec<bool>,
     ghost size: { length greatest.items ≡ length heights.items },
 }
@@ -29,7 +29,7 @@ impl Model for HeightList {
     ghost view = { λ l. heights_where l.greatest.items l.heights.items };
 }
 
-/// Whether a number stands for a height that is lacking.
+/// Returns whether a number is [`LACK`].
 #[inline(always)]
 fn is_lack(height: Height) -> bool
     ensures { result ≡ int_eq height lack }
@@ -38,8 +38,8 @@ fn is_lack(height: Height) -> bool
 }
 
 impl HeightList {
-    /// So many entries, all of them lacking.
-    pub(crate) fn lacking(alloc: Global, count: usize) -> Result<Self, AllocError>
+    /// Makes a list of `count` missing heights.
+    pub(crate) fn all_none(alloc: Global, count: usize) -> Result<Self, AllocError>
         ensures { IfOk result (λ l. l ≡ replicate count None) }
     {
         let heights = vec![in alloc; LACK; count]?;
@@ -54,7 +54,7 @@ impl HeightList {
         self.heights.len()
     }
 
-    /// An entry.
+    /// Returns an entry, `None` if its height is missing.
     #[inline(always)]
     pub fn at(&self, index: usize) -> Option<Height>
         requires { index < length self.now }
@@ -68,17 +68,18 @@ impl HeightList {
         }
     }
 
-    /// Whether an entry is there and not above a height.
+    /// Returns whether an entry is not missing and at most `height`.
     #[inline(always)]
     pub fn is_no_higher(&self, index: u32, height: Height) -> bool
         requires { index < length self.now }
-        ensures { IsTrue result ↔ (h : ℤ) × (slice_index_or self.now index None ≡ Some h) × (h ≤ℤ height) }
+        ensures { IsTrue result
+            ↔ (h : ℤ) × (slice_index_or self.now index None ≡ Some h) × (h ≤ℤ height) }
     {
         let noted = self.heights[index as usize];
         noted <= height && (!is_lack(noted) || self.greatest[index as usize])
     }
 
-    /// Puts a height in the place of an entry.
+    /// Sets an entry to a height.
     #[inline(always)]
     pub(crate) fn put(&mut self, index: u32, height: Height)
         requires { index < length self.old }
@@ -90,7 +91,7 @@ impl HeightList {
         }
     }
 
-    /// The heights as they stand: one that is lacking is the greatest number of 64 bits.
+    /// The heights as stored: a missing one is `i64::MAX`.
     pub fn heights(&self) -> &[Height]
         ensures { result.now ≡ map height_or_lack self.now }
     {

@@ -1,14 +1,14 @@
-//! Floods over nets of joined nodes: least crests, and the sources that have them.
+//! Finds the least crest from each node of a net to a source, and such a source.
 //!
-//! Begin with [`flood`] over any [`Net`]; [`flood_net`] returns the same in shorter lists. Depends
-//! on `terrain` for heights.
+//! Begin with [`flood`] over any [`Net`]. [`flood_net`] returns the levels and labels in lists
+//! that take less memory.
 //!
-//! Modules, from what is called to what it depends on:
+//! Modules, callers first:
 //!
 //! - `flooding`: the flood
 //! - `net`: nodes, joins and sources
-//! - `queue`: nodes that wait
-//! - `heights`: lists of heights or none
+//! - `queue`: the priority queue of nodes
+//! - `heights`: lists of heights, some of them missing
 //! - `node_labels`: the label of each node
 #![tactic(auto)]
 
@@ -22,4 +22,4 @@ pub use flooding::{Flooded, FloodedNet, flood, flood_net};
 pub use heights::HeightList;
 pub use net::{Net, Spill};
 pub use node_labels::{NodeLabels, label_of};
-pub use queue::{Waiting, Waits, push_way};
+pub use queue::{Candidate, Queue, queue_neighbour};

@@ -5,10 +5,10 @@ ghost use Rattle.floods.specs.Notes.{label_of, numbered_labels};
 use std::alloc::{AllocError, Global};
 use std::marker::Model;
 
-/// Stands for a label that is not known: it is no node's number.
+/// Marks a node without a label. No node has this number.
 const NO_LABEL: u32 = u32::MAX;
 
-/// The label of each node, None where it has none: 4 bytes a node.
+/// The label of each node, or none, in 4 bytes a node.
 #[derive(Drop)]
 pub struct NodeLabels {
     numbers: Vec<u32>,
@@ -23,7 +23,7 @@ impl Model for NodeLabels {
     ghost view = { λ l. numbered_labels l.numbers.items };
 }
 
-/// The label that stands as this number in [`NodeLabels`].
+/// Decodes a number of [`NodeLabels::numbers`]: its label, or none.
 #[inline(always)]
 pub fn label_of(number: u32) -> Option<u32>
     ensures { result ≡ label_of number }
@@ -36,7 +36,7 @@ pub fn label_of(number: u32) -> Option<u32>
 }
 
 impl NodeLabels {
-    /// So many nodes, none of which has a label.
+    /// Makes labels for `nodes` nodes, none of which has one.
     pub(crate) fn none(alloc: Global, nodes: usize) -> Result<Self, AllocError>
         ensures { IfOk result (λ l. l ≡ replicate nodes None) }
     {
@@ -44,7 +44,7 @@ impl NodeLabels {
         Ok(NodeLabels { numbers })
     }
 
-    /// Whether a node has a label.
+    /// Returns whether a node has a label.
     #[inline(always)]
     pub(crate) fn has(&self, node: u32) -> bool
         requires { node < length self.now }
@@ -53,7 +53,7 @@ impl NodeLabels {
         self.numbers[node as usize] != NO_LABEL
     }
 
-    /// Gives a node its label.
+    /// Sets the label of a node.
     #[inline(always)]
     pub(crate) fn put(&mut self, node: u32, label: u32)
         requires node { node < length self.old }
@@ -63,7 +63,7 @@ impl NodeLabels {
         self.numbers[node as usize] = label;
     }
 
-    /// The labels as numbers, of which [`label_of`] tells the label.
+    /// The labels as numbers, which [`label_of`] decodes.
     pub fn numbers(&self) -> &[u32]
         ensures { self.now ≡ numbered_labels result.now }
     {

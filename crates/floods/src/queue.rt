@@ -1,10 +1,10 @@
-//! The queue of a flood: the lowest node first.
+//! The priority queue of a flood: the lowest node first.
 //!
-//! Levels of a window have a list each, other nodes wait in a heap. [`push_way`] queues a node
-//! again only at a lower crest.
+//! Each level of a window has a list; nodes at other levels are in a heap. [`queue_neighbour`]
+//! queues a node again only at a lower crest.
 ghost use Rattle.std.specs.Prelude.{◌≡◌, ◌<◌, ◌≤◌, pos, ◌+ℤ◌, ◌≤ℤ◌, ◌∷◌, [], ℕ, ℤ, IfOk, OnOk, IfSome, IfNone, length, All, replicate, slice_index_or};
 ghost use Rattle.std.specs.BinaryHeap.{heap_items, heap_len};
-ghost use Rattle.floods.specs.Flood.{entries_of, waiting_in, InOrder, PutsIn, HasNone, IsDone, TakesLowest, Follows, AreNoted};
+ghost use Rattle.floods.specs.Flood.{entries_of, candidates_in, InOrder, PutsIn, HasNone, IsDone, TakesLowest, Follows, AreNoted};
 
 use crate::heights::HeightList;
 use crate::net::Spill;
@@ -14,10 +14,11 @@ use std::cmp::Reverse;
 use std::collections::BinaryHeap;
 use terrain::Height;
 
-/// A node that waits: a walk from it, which ends at the label, has this crest. The lowest comes first.
+/// A queued node, with the crest of a walk from it to the source `label`.
+/// Entries compare by `height` alone; the lowest is the greatest, for a max-heap.
 #[derive(Clone, Copy)]
 #[derive_where(PartialEq, Eq, PartialOrd, Ord)]
-pub struct Waiting {
+pub struct Candidate {
     pub height: Reverse<Height>,
     #[derive_where(skip(EqHashOrd))]
     pub node: u32,
@@ -25,34 +26,34 @@ pub struct Waiting {
     pub label: u32,
 }
 
-/// Levels of the window at most. Those of a tile of 256 by 256 cells mostly span fewer, and no more empty lists than
-/// this are passed over where heights lie far apart.
+/// The greatest number of levels of the window.
+/// A tile of 256 by 256 cells mostly spans fewer. It bounds the empty lists to be skipped.
 const MOST_LEVELS: usize = 512;
 
-/// Levels of the window at least. A small net has none: its heap is as fast, and needs no lists.
+/// The least number of levels of a window. For smaller nets the heap is as fast.
 const FEWEST_LEVELS: usize = 16;
 
-/// Nodes for each level of the window at least, so that making the lists is little of a flood.
+/// The least number of nodes a level, so that making the lists is cheap.
 const NODES_A_LEVEL: usize = 16;
 
-/// Nodes of a level, and of the heap, for which there is room from the start, so that few lists grow. It is more than a kilobyte: what is
-/// less may be kept for later by an allocator, and keep it from giving back the memory of all floods below.
+/// The first capacity of each list and of the heap, in nodes, so that few grow.
+/// Above 1 KiB: an allocator may keep smaller freed blocks, which hold back memory below them.
 const FIRST_ROOM: usize = 80;
 
-/// Nodes that wait. Those at a level of the window, which begins at `base`, stand in the list of that level, and all
-/// others in the heap.
+/// The priority queue of a flood. The window begins at height `base`.
+/// A node at a level of the window is in that level's list; all others are in the heap.
 #[derive(Drop)]
-pub struct Waits {
+pub struct Queue {
     base: Height,
-    /// No list before this one has an entry.
+    /// All lists before this index are empty.
     first: usize,
-    /// No list from this one on has an entry.
+    /// All lists from this index on are empty.
     end: usize,
-    lists: Vec<Vec<Waiting>>,
-    others: BinaryHeap<Waiting>,
+    lists: Vec<Vec<Candidate>>,
+    others: BinaryHeap<Candidate>,
 }
 
-/// How many levels the window of a net of so many nodes has.
+/// The number of levels of the window, for a net of `nodes` nodes.
 fn level_count(nodes: usize) -> usize
     ensures { result ≤ MOST_LEVELS }
 {
@@ -64,8 +65,8 @@ fn level_count(nodes: usize) -> usize
     }
 }
 
-/// Empty lists, with room for some nodes each.
-fn empty_lists(alloc: Global, count: usize) -> Result<Vec<Vec<Waiting>>, AllocError>
+/// Makes `count` empty lists, each with capacity [`FIRST_ROOM`].
+fn empty_lists(alloc: Global, count: usize) -> Result<Vec<Vec<Candidate>>, AllocError>
     ensures { IfOk result (λ v. entries_of v.items ≡ replicate count []) }
 {
     let mut lists = Vec::with_capacity(alloc, count)?;
@@ -75,12 +76,14 @@ fn empty_lists(alloc: Global, count: usize) -> Result<Vec<Vec<Waiting>>, AllocEr
     Ok(lists)
 }
 
-/// The first list from `first` on, before `stop`, that has an entry, if there is one.
+/// The index of the first nonempty list from `first` on and before `stop`.
+/// If there is none, an index not below `stop`.
 #[inline(always)]
-fn first_filled(lists: &[Vec<Waiting>], first: usize, stop: usize) -> usize
+fn first_nonempty(lists: &[Vec<Candidate>], first: usize, stop: usize) -> usize
     requires { stop ≤ length lists.now }
     ensures from { first ≤ result }
-    ensures empty { (k : ℕ) → first ≤ k → k < result → slice_index_or (entries_of lists.now) k [] ≡ [] }
+    ensures empty { (k : ℕ) → first ≤ k → k < result →
+        slice_index_or (entries_of lists.now) k [] ≡ [] }
     ensures filled { result < stop → 0 < length (slice_index_or (entries_of lists.now) result []) }
 {
     let mut index = first;
@@ -90,15 +93,15 @@ fn first_filled(lists: &[Vec<Waiting>], first: usize, stop: usize) -> usize
     index
 }
 
-impl Waits {
-    /// For a net of so many nodes. The first that is taken begins the first window.
+impl Queue {
+    /// Makes an empty queue for `nodes` nodes. The first entry taken begins the window.
     pub(crate) fn new(alloc: Global, nodes: usize) -> Result<Self, AllocError>
         ensures order { IfOk result (λ w. InOrder w) }
-        ensures none { IfOk result (λ w. HasNone (waiting_in w)) }
+        ensures none { IfOk result (λ w. HasNone (candidates_in w)) }
     {
         let lists = empty_lists(alloc, level_count(nodes))?;
         let others = BinaryHeap::with_capacity(alloc, FIRST_ROOM)?;
-        Ok(Waits {
+        Ok(Queue {
             base: 0,
             first: lists.len(),
             end: 0,
@@ -107,7 +110,7 @@ impl Waits {
         })
     }
 
-    /// The list of a level, if it is one of those that may have entries.
+    /// The index of a height's list; `None` outside the window or before `first`.
     #[inline(always)]
     fn list_of(&self, height: Height) -> Option<usize>
         ensures from { IfSome result (λ k. self.now.first ≤ k) }
@@ -125,12 +128,13 @@ impl Waits {
         }
     }
 
-    /// How many lists are below a height, of those before the end.
+    /// The number of lists, before `end`, whose level is below a height.
     #[inline(always)]
     fn lists_below(&self, height: Height) -> usize
         ensures end { result ≤ self.now.end }
         ensures lower { (k : ℕ) → k < result → (self.now.base +ℤ pos k) ≤ℤ height }
-        ensures rest { (k : ℕ) → result ≤ k → k < self.now.end → height ≤ℤ (self.now.base +ℤ pos k) }
+        ensures rest { (k : ℕ) → result ≤ k → k < self.now.end →
+            height ≤ℤ (self.now.base +ℤ pos k) }
     {
         if height < self.base {
             0
@@ -139,13 +143,14 @@ impl Waits {
         }
     }
 
-    /// How many lists are below all of the heap.
+    /// The number of lists, before `end`, below the lowest node of the heap.
     #[inline(always)]
-    fn lower_lists(&self) -> usize
+    fn lists_below_heap(&self) -> usize
         requires { InOrder self.now }
         ensures end { result ≤ self.now.end }
-        ensures lower { (k : ℕ) → k < result → All (λ x. (self.now.base +ℤ pos k) ≤ℤ x.height.0) (heap_items self.now.others) }
-        ensures rest { (k : ℕ) (d : Waiting) → result ≤ k → k < self.now.end →
+        ensures lower { (k : ℕ) → k < result →
+            All (λ x. (self.now.base +ℤ pos k) ≤ℤ x.height.0) (heap_items self.now.others) }
+        ensures rest { (k : ℕ) (d : Candidate) → result ≤ k → k < self.now.end →
             (slice_index_or (heap_items self.now.others) 0 d).height.0 ≤ℤ (self.now.base +ℤ pos k) }
         ensures none { heap_len self.now.others ≡ 0 → result ≡ self.now.end }
     {
@@ -156,17 +161,19 @@ impl Waits {
         self.lists_below(height)
     }
 
-    /// Takes the lowest of the heap, where no list has a lower one. If no list has any, a new window begins.
+    /// Takes the lowest of the heap. If all lists are empty, a window begins at it.
     #[inline]
-    fn take_other(&mut self) -> Option<Waiting>
+    fn pop_heap(&mut self) -> Option<Candidate>
         requires order { InOrder self.old }
-        requires lowest { (k : ℕ) (d : Waiting) → self.old.first ≤ k → k < self.old.end →
+        requires lowest { (k : ℕ) (d : Candidate) → self.old.first ≤ k → k < self.old.end →
             (slice_index_or (heap_items self.old.others) 0 d).height.0 ≤ℤ (self.old.base +ℤ pos k) }
         requires some { heap_len self.old.others ≡ 0 → self.old.end ≤ self.old.first }
         ensures order { InOrder self.new }
-        ensures taken { IfSome result (λ w. PutsIn w (waiting_in self.new) (waiting_in self.old)) }
-        ensures lowest { IfSome result (λ w. All (λ x. w.height.0 ≤ℤ x.height.0) (waiting_in self.new)) }
-        ensures none { IfNone result (HasNone (waiting_in self.old)) }
+        ensures taken { IfSome result
+            (λ w. PutsIn w (candidates_in self.new) (candidates_in self.old)) }
+        ensures lowest { IfSome result
+            (λ w. All (λ x. w.height.0 ≤ℤ x.height.0) (candidates_in self.new)) }
+        ensures none { IfNone result (HasNone (candidates_in self.old)) }
     {
         let waiting = self.others.pop()?;
         if self.end <= self.first {
@@ -178,30 +185,33 @@ impl Waits {
         Some(waiting)
     }
 
-    /// Takes a lowest one.
+    /// Takes a lowest entry.
     #[inline(always)]
-    fn take(&mut self) -> Option<Waiting>
+    fn take(&mut self) -> Option<Candidate>
         requires { InOrder self.old }
         ensures order { InOrder self.new }
-        ensures taken { IfSome result (λ w. PutsIn w (waiting_in self.new) (waiting_in self.old)) }
-        ensures lowest { IfSome result (λ w. All (λ x. w.height.0 ≤ℤ x.height.0) (waiting_in self.new)) }
-        ensures none { IfNone result (HasNone (waiting_in self.old)) }
+        ensures taken { IfSome result
+            (λ w. PutsIn w (candidates_in self.new) (candidates_in self.old)) }
+        ensures lowest { IfSome result
+            (λ w. All (λ x. w.height.0 ≤ℤ x.height.0) (candidates_in self.new)) }
+        ensures none { IfNone result (HasNone (candidates_in self.old)) }
     {
-        let stop = self.lower_lists();
-        self.first = first_filled(&self.lists, self.first, stop);
+        let stop = self.lists_below_heap();
+        self.first = first_nonempty(&self.lists, self.first, stop);
         if self.first < stop {
             self.lists[self.first].pop()
         } else {
-            self.take_other()
+            self.pop_heap()
         }
     }
 
-    /// Puts one in.
+    /// Adds an entry.
     #[inline(always)]
-    pub(crate) fn put(&mut self, waiting: Waiting) -> Result<(), AllocError>
+    pub(crate) fn put(&mut self, waiting: Candidate) -> Result<(), AllocError>
         requires { InOrder self.old }
         ensures order { OnOk result (InOrder self.new) }
-        ensures puts { OnOk result (PutsIn waiting (waiting_in self.old) (waiting_in self.new)) }
+        ensures puts { OnOk result
+            (PutsIn waiting (candidates_in self.old) (candidates_in self.new)) }
     {
         let Reverse(height) = waiting.height;
         let Some(index) = self.list_of(height) else {
@@ -214,17 +224,17 @@ impl Waits {
     }
 }
 
-/// Takes the lowest node that has no label yet.
+/// Takes the lowest node without a label, and drops labelled ones on the way.
 #[inline(always)]
-pub(crate) fn next_open(waits: &mut Waits, labels: &NodeLabels) -> Option<Waiting>
-    requires order { InOrder waits.old }
-    requires inside { All (λ w. w.node < length labels.now) (waiting_in waits.old) }
-    ensures order { InOrder waits.new }
+pub(crate) fn next_unlabelled(queue: &mut Queue, labels: &NodeLabels) -> Option<Candidate>
+    requires order { InOrder queue.old }
+    requires inside { All (λ w. w.node < length labels.now) (candidates_in queue.old) }
+    ensures order { InOrder queue.new }
     ensures some { IfSome result (λ w.
-        TakesLowest labels.now (waiting_in waits.old) w (waiting_in waits.new)) }
-    ensures none { IfNone result (All (IsDone labels.now) (waiting_in waits.old)) }
+        TakesLowest labels.now (candidates_in queue.old) w (candidates_in queue.new)) }
+    ensures none { IfNone result (All (IsDone labels.now) (candidates_in queue.old)) }
 {
-    while let Some(waiting) = waits.take() {
+    while let Some(waiting) = queue.take() {
         if !labels.has(waiting.node) {
             return Some(waiting);
         }
@@ -232,19 +242,20 @@ pub(crate) fn next_open(waits: &mut Waits, labels: &NodeLabels) -> Option<Waitin
     None
 }
 
-/// Makes one neighbour of a node wait, where it has no label yet and does not wait as low.
+/// Queues a neighbour of `from` unless it has a label or a crest as low.
 #[inline(always)]
-pub fn push_way(
-    waits: &mut Waits,
+pub fn queue_neighbour(
+    queue: &mut Queue,
     way: Spill,
-    from: &Waiting,
+    from: &Candidate,
     labels: &NodeLabels,
     levels: &mut HeightList,
 ) -> Result<(), AllocError>
-    requires order { InOrder waits.old }
+    requires order { InOrder queue.old }
     requires inside { way.to < length labels.now }
-    requires noted { AreNoted labels.now levels.old (waiting_in waits.old) }
-    ensures { OnOk result (Follows labels.now from.now (way ∷ []) levels.old levels.new waits.old waits.new) }
+    requires noted { AreNoted labels.now levels.old (candidates_in queue.old) }
+    ensures { OnOk result
+        (Follows labels.now from.now (way ∷ []) levels.old levels.new queue.old queue.new) }
 {
     let Reverse(level) = from.height;
     let crest = way.height.max(level);
@@ -254,32 +265,33 @@ pub fn push_way(
     if labels.has(way.to) {
         return Ok(());
     }
-    let waiting = Waiting {
+    let waiting = Candidate {
         height: Reverse(crest),
         node: way.to,
         label: from.label,
     };
-    waits.put(waiting)?;
+    queue.put(waiting)?;
     levels.put(way.to, crest);
     Ok(())
 }
 
-/// Makes the neighbours of a node wait that have no label yet and do not wait as low.
+/// Queues each neighbour of `from` unless it has a label or a crest as low.
 #[inline]
-pub(crate) fn push_ways(
-    waits: &mut Waits,
+pub(crate) fn queue_neighbours(
+    queue: &mut Queue,
     ways: &[Spill],
-    from: &Waiting,
+    from: &Candidate,
     labels: &NodeLabels,
     levels: &mut HeightList,
 ) -> Result<(), AllocError>
-    requires order { InOrder waits.old }
+    requires order { InOrder queue.old }
     requires inside { All (λ way. way.to < length labels.now) ways.now }
-    requires noted { AreNoted labels.now levels.old (waiting_in waits.old) }
-    ensures { OnOk result (Follows labels.now from.now ways.now levels.old levels.new waits.old waits.new) }
+    requires noted { AreNoted labels.now levels.old (candidates_in queue.old) }
+    ensures { OnOk result
+        (Follows labels.now from.now ways.now levels.old levels.new queue.old queue.new) }
 {
     for way in ways {
-        push_way(waits, *way, from, labels, levels)?;
+        queue_neighbour(queue, *way, from, labels, levels)?;
     }
     Ok(())
 }

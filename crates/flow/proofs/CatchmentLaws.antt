@@ -1,4 +1,4 @@
--- Laws of catchments.
+-- Consequences of the definition of catchments.
 use Rattle.std.proofs.Common.{◌≡◌, ◌≢◌, ℕ, zero, suc, ◌+◌, ◌-◌, ◌<◌, ◌≤◌, inl, inr, Bool, true, false, cond, not, ◌&&◌, ◌||◌, List, [], ◌∷◌, ◌++◌, length, map, get_or, count_by, Option, None, Some, is_some, unwrap_or, sym, ap, refl, ◌∙◌, arith}
 use Rattle.std.specs.Prelude.{◌==◌}
 use Rattle.std.specs.Option.{option_or, option_map_or}
@@ -20,7 +20,7 @@ use Rattle.flow.proofs.Reaching.{IsEnding, reached_early, drains_at, drains_from
 use Rattle.flow.proofs.Sending.{and_on}
 use Rattle.flow.proofs.Windows.{any_in_range, sum_of_cells}
 
--- the first index that passes
+-- The first index whose entry passes p.
 pub record IsPosition {X : Type 0} (p : X → Bool) (i : ℕ) (xs : List X) : Type 0 where
   pub at : ℕ
   pub found : position_from p i xs ≡ Some (i + at)
@@ -42,7 +42,7 @@ or_none : (b : Bool) → (b || false) ≡ b
 or_none true = refl
 or_none false = refl
 
--- gauges of one number are one place
+-- Gauges with one number are at one place.
 pub same_gauge : (gauges : List Place) (p q : Place) → list_any (is_place p) gauges ≡ true → list_any (is_place q) gauges ≡ true → gauge_number gauges p ≡ gauge_number gauges q → p ≡ q
 same_gauge gauges p q a b same =
     let u = position_of (is_place p) 1 gauges a in
@@ -53,7 +53,7 @@ same_gauge gauges p q a b same =
 pub some_number : (gauges : List Place) (p : Place) → list_any (is_place p) gauges ≡ true → 0 < gauge_number gauges p
 some_number gauges p a = let u = position_of (is_place p) 1 gauges a in omega (arith, ap (λ (o : Option ℕ). unwrap_or o 0) u.found)
 
--- a gauge that no other gauge drains through
+-- A gauge without gauges upstream.
 module _ (d : Directed) (s : IsEnding d) (gauges : List Place) (g : Place) (is : IsCoded d g) (named : list_any (is_place g) gauges ≡ true)
     (alone : (h : Place) → list_any (is_place h) gauges ≡ true → h ≢ g → drains_through d g h ≡ false) where
   abbrev is_gauge : Place → Bool
@@ -109,7 +109,7 @@ module _ (d : Directed) (s : IsEnding d) (gauges : List Place) (g : Place) (is :
       (counted_on d g _ is (caught_same g is ∙ drains_itself d s g))
       (cond-false {A = ℕ} _ 1 0 (and_left _ _ (and_right _ _ (not_from_true _ (is_place_from g g refl)))))
 
--- a gauge more, which a path does not meet
+-- One gauge more, which the flow path of p does not meet.
 module _ (d : Directed) (gauges : List Place) (g p : Place) (past : drains_through d g p ≡ false) where
   abbrev is_old : Place → Bool
   is_old q = list_any (is_place q) gauges

@@ -1,4 +1,4 @@
--- Where each flow path ends, it leads through data cells alone.
+-- If every flow path ends, flow paths contain only data cells.
 use Rattle.std.proofs.Common.{◌≡◌, ℕ, zero, suc, ◌+◌, ◌<◌, ◌≤◌, ◌⊎◌, inl, inr, true, Option, None, Some, is_some, unwrap_or, sym, ap, ◌∙◌, arith}
 use Rattle.std.specs.Option.{option_and_then}
 use Rattle.std.proofs.lemmas.Bool.{cases_lt}
@@ -30,7 +30,7 @@ outlet_stays d p e = ap (λ (o : Option ℕ). unwrap_or (option_and_then (λ cod
 pub follow_stays : (d : Directed) (p : Place) (k m : ℕ) → k ≤ m → next d (follow d p k) ≡ follow d p k → follow d p m ≡ follow d p k
 follow_stays d p = stays_from (follow d p) (λ a b e. ap (next d) e)
 
--- moves in two parts
+-- a + b moves are a moves, then b moves.
 pub follow_more : (d : Directed) (p : Place) (a b : ℕ) → follow d (follow d p a) b ≡ follow d p (a + b)
 follow_more d p a zero = let z : a ≡ a + 0 = omega arith in ap (follow d p) z
 follow_more d p a (suc b) = let z : suc (a + b) ≡ a + suc b = omega arith in ap (next d) (follow_more d p a b) ∙ ap (follow d p) z
@@ -38,7 +38,7 @@ follow_more d p a (suc b) = let z : suc (a + b) ≡ a + suc b = omega arith in a
 pub follow_first : (d : Directed) (p : Place) (k : ℕ) → follow d (next d p) k ≡ follow d p (suc k)
 follow_first d p k = let z : 1 + k ≡ suc k = omega arith in follow_more d p 1 k ∙ ap (follow d p) z
 
--- no move goes on after so many
+-- The path of p stays where it is after k moves.
 abbrev pub StopsAt : Directed → Place → ℕ → Type 0
 StopsAt d p k = next d (follow d p k) ≡ follow d p k
 
@@ -48,7 +48,7 @@ stops_sooner d p e k n way stop =
     ap (λ (q : Place). follow d q n) (sym way) ∙ follow_more d p (suc k) n ∙ follow_stays d p (suc n) (suc k + n) (omega arith) stop in
     ap (next d) later ∙ stop ∙ sym later
 
--- a path that comes back to a place stays there
+-- A path that returns to p and stops at all never leaves p.
 pub cycle_stops : (d : Directed) (n : ℕ) (p : Place) (k : ℕ) → follow d p (suc k) ≡ p → StopsAt d p n → next d p ≡ p
 cycle_stops d zero p k way stop = stop
 cycle_stops d (suc n) p k way stop = cycle_stops d n p k way (stops_sooner d p p k n way stop)
@@ -64,7 +64,7 @@ coded_along d ends p c k = elim (cases_coded d (follow d p k)) [
   ]
 ]
 
--- a data cell whose water stays is an outlet
+-- A data cell whose water stays is an outlet.
 pub outlet_from_stays : (d : Directed) → AllFlowEnds d → (p : Place) → IsCoded d p → next d p ≡ p → IsOutlet d p
 outlet_from_stays d ends p c e = sym (ap (code_at d) (follow_stays d p 0 (moves d) (omega arith) e)) ∙ ends p c.code c.is
 

@@ -1,4 +1,4 @@
--- The accumulations of the cells of a tile, of the lists that are made for it.
+-- The lists made for a tile give the accumulations of its cells.
 use Rattle.std.proofs.Common.{◌≡◌, ℕ, ◌+◌, ◌-◌, ◌<◌, ◌≤◌, inl, inr, List, length, get_or, cond, Option, None, Some, is_some, slice_get, sym, ap, subst, refl, ◌∙◌, arith}
 use Rattle.std.proofs.Math.ListN.{length-map}
 use Rattle.std.proofs.lemmas.Bool.{cases_lt, cases_Bool, cond-true, cond-false}
@@ -39,7 +39,7 @@ weights_le cells i = elim (cases_lt i (length cells)) [
 pub weights_size : (cells : List (Option ℕ)) → length (weights_by cells) ≡ length cells
 weights_size cells = length-map cells (λ (code : Option ℕ). cond {A = ℕ} (is_some code) 1 0)
 
--- the counting of a grid's directions, where these lists are the flows
+-- The flows and inflows found for a grid are those of its map of directions.
 pub counting_of : (t : Cutting) (codes : List (Option ℕ)) (flows joined : List Flow) (inflows : Inflows) → IsGridFlow t.cols t.rows codes → AreFlowsOf (make_directed t.cols t.rows codes) t flows →
     AreTileCounts (make_directed t.cols t.rows codes) t flows → joined ≡ flows → ((d : Directed) → AreFlowsOf d t joined → AreTileCounts d t joined → AreInflows d t inflows) → IsCounting t codes flows inflows
 counting_of t codes flows joined inflows grid are counts same entering = record {
@@ -117,20 +117,20 @@ module _ (t : Cutting) (codes : List (Option ℕ)) (flows : List Flow) (inflows 
         total_drained : (i : ℕ) → i < length links → total links weights i ≡ all_drained (make_directed t.cols t.rows codes) (place_in (bounds_of t tile) i)
         total_drained = total_is links weights _ streams_of (all_totals (make_directed t.cols t.rows codes) ending t tile (bounds_of t tile) links piece_of weights weights_are)
 
-        module _ (came : List ℕ) (up : AreUpstream links weights came) where
+        module _ (upstream : List ℕ) (up : AreUpstream links weights upstream) where
           entry_is : (p : Place) → IsInBounds (bounds_of t tile) p →
-              get_or (counts_by f.codes weights came) (index_in (bounds_of t tile) p) None
-              ≡ where_data (code_at (make_directed t.cols t.rows codes) p) (get_or came (index_in (bounds_of t tile) p) 0 + get_or weights (index_in (bounds_of t tile) p) 0 - 1)
+              get_or (counts_by f.codes weights upstream) (index_in (bounds_of t tile) p) None
+              ≡ where_data (code_at (make_directed t.cols t.rows codes) p) (get_or upstream (index_in (bounds_of t tile) p) 0 + get_or weights (index_in (bounds_of t tile) p) 0 - 1)
           entry_is p h =
               let i = index_in (bounds_of t tile) p in
               let in_cells : index_in (bounds_of t tile) p < length f.codes = omega (arith, index_in_below (bounds_of t tile) p h, of_cells.size) in
               let code : get_or f.codes (index_in (bounds_of t tile) p) None ≡ code_at (make_directed t.cols t.rows codes) p =
               of_cells.each (index_in (bounds_of t tile) p) (index_in_below (bounds_of t tile) p h) ∙ ap (code_at (make_directed t.cols t.rows codes)) (place_in-index_in (bounds_of t tile) p h) in
-              get_or-map-range_with_len (λ i. where_data (get_or f.codes i None) (get_or came i 0 + get_or weights i 0 - 1)) 0 (length f.codes) (index_in (bounds_of t tile) p) (index_in (bounds_of t tile) p) None in_cells (omega arith)
-              ∙ ap (λ o. where_data o (get_or came (index_in (bounds_of t tile) p) 0 + get_or weights (index_in (bounds_of t tile) p) 0 - 1)) code
+              get_or-map-range_with_len (λ i. where_data (get_or f.codes i None) (get_or upstream i 0 + get_or weights i 0 - 1)) 0 (length f.codes) (index_in (bounds_of t tile) p) (index_in (bounds_of t tile) p) None in_cells (omega arith)
+              ∙ ap (λ o. where_data o (get_or upstream (index_in (bounds_of t tile) p) 0 + get_or weights (index_in (bounds_of t tile) p) 0 - 1)) code
 
           count_is : (p : Place) → IsInBounds (bounds_of t tile) p → IsCoded (make_directed t.cols t.rows codes) p →
-              get_or came (index_in (bounds_of t tile) p) 0 + get_or weights (index_in (bounds_of t tile) p) 0 - 1 ≡ accumulation (make_directed t.cols t.rows codes) p
+              get_or upstream (index_in (bounds_of t tile) p) 0 + get_or weights (index_in (bounds_of t tile) p) 0 - 1 ≡ accumulation (make_directed t.cols t.rows codes) p
           count_is p h is =
               let at = place_in-index_in (bounds_of t tile) p h in
               let there : index_in (bounds_of t tile) p < length links = omega (arith, index_in_below (bounds_of t tile) p h, of_cells.size, same_sizes) in
@@ -160,7 +160,7 @@ module _ (t : Cutting) (codes : List (Option ℕ)) (flows : List Flow) (inflows 
           );
         }
 
-    -- what the counts have at a place
+    -- The count at each place is its accumulation.
     pub entry_counted : (values : List (Option ℕ)) → AreCounts inflows tile f values → (p : Place) → IsInTile t tile p →
         IsValueAt (make_directed t.cols t.rows codes) (accumulation (make_directed t.cols t.rows codes)) p (tile_entry t tile values p)
     entry_counted values are p i =
@@ -169,13 +169,12 @@ module _ (t : Cutting) (codes : List (Option ℕ)) (flows : List Flow) (inflows 
         let weighed = subst (λ (x : Cutting). AreRimWeights inflows (bounds_of x tile) f.codes are.weights) s.are_inflows.cutting are.weighed in
         match_data (code_at (make_directed t.cols t.rows codes) p) _ _ _
         (tile_entry-in t tile values p i ∙ ap (λ (l : List (Option ℕ)). get_or l (index_in (bounds_of t tile) p) None) are.made
-        ∙ entry_is (links_by f.bounds f.codes) made are.weights weighed are.came are.up p h)
-        (λ code is. count_is (links_by f.bounds f.codes) made are.weights weighed are.came are.up p h (record { code = code; is = is }))
+        ∙ entry_is (links_by f.bounds f.codes) made are.weights weighed are.upstream are.up p h)
+        (λ code is. count_is (links_by f.bounds f.codes) made are.weights weighed are.upstream are.up p h (record { code = code; is = is }))
 
   pub countable_all : AreCountable t flows inflows
   countable_all = record { same_cutting = s.are_inflows.cutting; count = s.are_flows.of_tiles.count; each = countable }
 
--- as many counts as codes
 pub counts_size : (inflows : Inflows) (tile : ℕ) (f : Flow) (values : List (Option ℕ)) → AreCounts inflows tile f values → length values ≡ length f.codes
 counts_size inflows tile f values are =
-    ap length are.made ∙ length-map-range_with_len (λ i. where_data (get_or f.codes i None) (get_or are.came i 0 + get_or are.weights i 0 - 1)) 0 (length f.codes)
+    ap length are.made ∙ length-map-range_with_len (λ i. where_data (get_or f.codes i None) (get_or are.upstream i 0 + get_or are.weights i 0 - 1)) 0 (length f.codes)

@@ -1,4 +1,4 @@
--- Codes that are cut at one gauge after the other, and the numbers of gauges one after the other.
+-- Making gauges outlets, and numbering them, one gauge after another.
 use Rattle.std.proofs.Common.{◌≡◌, ◌≢◌, ℕ, ◌+◌, ◌*◌, ◌<◌, inl, inr, true, cond, ◌||◌, List, length, get_or, set, take, Option, None, Some, is_some, sym, ap, refl, ◌∙◌, arith}
 use Rattle.std.specs.Prelude.{◌==◌}
 use Rattle.std.specs.Option.{option_or}
@@ -14,7 +14,7 @@ use Rattle.terrain.proofs.Places.{cases_place, entry-inside, entry-below, entry-
 use Rattle.flow.specs.CutCodes.{AreCutCodes, HaveCodes, number_of_index}
 use Rattle.flow.proofs.CutPaths.{position_push}
 
--- another entry of a list than the one that is set
+-- Setting the entry at g changes no other entry.
 entry_set_other : (cols rows : ℕ) (xs : List (Option ℕ)) (x : Option ℕ) (p g : Place) → g.col < cols → p ≢ g →
     entry_at cols rows (set xs (index_of cols g) x) p ≡ entry_at cols rows xs p
 entry_set_other cols rows xs x p g col apart = elim (cases_lt p.row rows) [
@@ -28,7 +28,7 @@ entry_set_other cols rows xs x p g col apart = elim (cases_lt p.row rows) [
   ]
 ]
 
--- the codes are cut at one gauge more
+-- One gauge more becomes an outlet.
 pub cut_next : (cols rows : ℕ) (codes : List (Option ℕ)) (gauges : List Place) (k : ℕ) (cut new : List (Option ℕ)) (d : Place) →
     length codes ≡ cols * rows → k < length gauges → let g = get_or gauges k d in (g.row < rows) × (g.col < cols) →
     new ≡ set cut (index_of cols g) (Some 0) → AreCutCodes cols rows codes (take k gauges) cut → AreCutCodes cols rows codes (take (k + 1) gauges) new
@@ -57,7 +57,7 @@ cut_next cols rows codes gauges k cut new d size below inside made was =
           ∙ was.elsewhere p parts.0;
     }
 
--- a gauge that has a code is in the grid
+-- A gauge with a code is in the grid.
 some_inside : (cols rows : ℕ) (codes : List (Option ℕ)) (p : Place) (o : Option ℕ) → entry_at cols rows codes p ≡ o → is_some o ≡ true → (p.row < rows) × (p.col < cols)
 some_inside cols rows codes p None e some = absurd (false≢true some)
 some_inside cols rows codes p (Some code) e some = inside_from_entry cols rows codes p code e
@@ -68,12 +68,12 @@ gauge_inside cols rows codes gauges k d below coded =
     let g = get_or gauges k d in
     some_inside cols rows codes g (entry_at cols rows codes g) refl (coded g (list_any_at (is_place g) gauges k d below (is_place_from g g refl)))
 
--- the index of a gauge that was read
+-- The index of the gauge that the loop reads.
 pub index_at : (cols n : ℕ) (gauges : List Place) (k i : ℕ) (d e : Place) → k < length gauges → n ≡ cols → i ≡ index_of n (get_or gauges k d) → i ≡ index_of cols (get_or gauges k e)
 index_at cols n gauges k i d e below same read =
     read ∙ ap (λ m. index_of m (get_or gauges k d)) same ∙ ap (λ (q : Place). index_of cols q) (get_or_default gauges k d e below)
 
--- one gauge more, and its number
+-- The numbers with one gauge more.
 pub number_next : (cols : ℕ) (gauges : List Place) (k i : ℕ) (d : Place) → k < length gauges →
     number_of_index cols (take (k + 1) gauges) i ≡ option_or (number_of_index cols (take k gauges) i) (cond (index_of cols (get_or gauges k d) == i) (Some (k + 1)) None)
 number_next cols gauges k i d below =

@@ -1,4 +1,4 @@
--- Gauges as outlets: where flow paths end that gauges cut, and the numbers of gauges.
+-- With gauges as outlets, the numbers of the ends of flow paths are the catchments.
 use Rattle.std.proofs.Common.{◌≡◌, ℕ, zero, suc, ◌+◌, ◌<◌, ◌≤◌, ◌⊎◌, inl, inr, Bool, true, false, cond, List, [], ◌∷◌, ◌++◌, length, map, get_or, Option, None, Some, IsSome, unwrap_or, sym, ap, subst, refl, ◌∙◌, arith, add-one}
 use Rattle.std.specs.Prelude.{◌==◌}
 use Rattle.std.specs.Option.{option_and_then, option_or, option_map_or}
@@ -23,7 +23,7 @@ use Rattle.flow.proofs.Piece.{match_none, match_some}
 use Rattle.flow.proofs.Reaching.{IsEnding, reached_early}
 use Rattle.flow.proofs.Windows.{mapped_next}
 
--- the first value of a function that passes a test, and that none below n does
+-- The first value of f that passes a test, or no value below n that does.
 pub record IsFirst {X : Type 0} (test : X → Bool) (f : ℕ → X) (n : ℕ) : Type 0 where
   pub at : ℕ
   pub below : at < n
@@ -69,7 +69,7 @@ module _ {X : Type 0} (test : X → Bool) (f : ℕ → X) where
     ]
   ]
 
--- the first index that passes: one entry more, none that passes, two tests that agree, a bound
+-- The first position: with one more entry, without a match, for equal tests, and its bound.
 pub position_push : {X : Type 0} (p : X → Bool) (i : ℕ) (xs : List X) (y : X) → position_from p i (xs ++ y ∷ []) ≡ option_or (position_from p i xs) (cond (p y) (Some (i + length xs)) None)
 position_push p i [] y = let z : i ≡ i + 0 = omega arith in ap (λ (k : ℕ). cond (p y) (Some k) None) z
 position_push p i (x ∷ xs) y = elim (cases_Bool (p x)) [
@@ -105,7 +105,7 @@ position_below p i (x ∷ xs) = elim (cases_Bool (p x)) [
       omega (arith, e, ap (λ (k : ℕ). unwrap_or (position_from p k xs) 0) z, position_below p (suc i) xs)
 ]
 
--- a map of directions that gauges cut
+-- A map of directions in which gauges are outlets.
 module _ (d : Directed) (s : IsEnding d) (gauges : List Place) (codes : List (Option ℕ)) (coded : HaveCodes d.cols d.rows d.codes gauges) (cut : AreCutCodes d.cols d.rows d.codes gauges codes) where
   abbrev pub cut_d : Directed
   cut_d = make_directed d.cols d.rows codes
@@ -123,7 +123,7 @@ module _ (d : Directed) (s : IsEnding d) (gauges : List Place) (codes : List (Op
   follows p zero clear = refl
   follows p (suc k) clear = ap (next cut_d) (follows p k (λ j below. clear j (omega (arith, below)))) ∙ goes_on (follow d p k) (clear k (omega arith))
 
-  -- where the path ends
+  -- The path ends at its first gauge.
   last_first : (p : Place) → (w : IsFirst is_gauge (follow d p) (moves d)) → last_of cut_d p ≡ follow d p w.at
   last_first p w =
       let here = follows p w.at w.before in
@@ -135,7 +135,7 @@ module _ (d : Directed) (s : IsEnding d) (gauges : List Place) (codes : List (Op
   no_gauge_last : (p : Place) → IsCoded d p → IsAbsent is_gauge (follow d p) (moves d) → is_gauge (last_of d p) ≡ false
   no_gauge_last p is w = let m = reached_early d s p (last_of d p) is (moves d) refl in ap is_gauge (sym m.3) ∙ w.fails m.0 m.1
 
-  -- the number of the last gauge is that of the first on the path
+  -- The number of the cut path's end is the catchment.
   pub caught : (p : Place) → IsCoded d p → gauge_number gauges (last_of cut_d p) ≡ catchment d gauges p
   caught p is = elim (cases_first is_gauge (follow d p) (moves d)) [
     | inl w ↦ ap (gauge_number gauges) (last_first p w) ∙ sym (ap (λ (o : Option Place). option_map_or (gauge_number gauges) o 0) w.found)
@@ -145,7 +145,6 @@ module _ (d : Directed) (s : IsEnding d) (gauges : List Place) (codes : List (Op
         ∙ sym (ap (λ (o : Option Place). option_map_or (gauge_number gauges) o 0) w.found)
   ]
 
-  -- the same cells have codes
   coded_of : (p : Place) (o : Option ℕ) → code_at d p ≡ o → IsSome o → IsCoded d p
   coded_of p None e some = absurd (false≢true some)
   coded_of p (Some c) e some = record { code = c; is = e }
@@ -174,7 +173,7 @@ module _ (d : Directed) (s : IsEnding d) (gauges : List Place) (codes : List (Op
             ap (code_at cut_d) (last_absent p w) ∙ cut.elsewhere (last_of d p) (no_gauge_last p is w) ∙ s.ends p is.code is.is
       ]
 
-  -- each number stands at the cell's index
+  -- Data cells have one index exactly if they are one cell.
   agree : (q g : Place) → IsCoded d q → IsCoded d g → (index_of d.cols g == index_of d.cols q) ≡ is_place q g
   agree q g a b = elim (cases_Bool (is_place q g)) [
     | inl same ↦ eq-eqb _ _ (ap (index_of d.cols) (sym (place_is q g same))) ∙ sym same
@@ -187,7 +186,7 @@ module _ (d : Directed) (s : IsEnding d) (gauges : List Place) (codes : List (Op
       let there = get_or gauges k g in
       agree q there is (coded_gauge there (list_any_at (is_place there) gauges k g below (is_place_from there there refl)))))
 
-  -- the numbers of the ends are the catchments
+  -- The numbers of the ends are the catchments.
   pub catchments_are : (n : EndNumbers) → ((i : ℕ) → n.number i ≡ unwrap_or (number_of_index d.cols gauges i) 0) → (values : List (Option ℕ)) →
       IsMapOf cut_d (end_number cut_d n) values → IsMapOf d (catchment d gauges) values
   catchments_are n numbers values made = record {

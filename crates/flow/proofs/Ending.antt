@@ -1,4 +1,4 @@
--- A path that ends does so within as many moves as there are nodes; and where paths end.
+-- A path that ends needs no more moves than there are nodes.
 use Rattle.std.proofs.Common.{◌≡◌, ℕ, zero, suc, ◌+◌, ◌-◌, ◌<◌, ◌≤◌, ◌⊎◌, inl, inr, cond, eqb, List, length, sym, ap, subst, ◌∙◌, arith, add-zero, ◌≢◌, get_or, set, refl}
 use Rattle.std.proofs.lemmas.Bool.{cases_eq, cases_lt, cond-true, cond-false, eq-eqb, ne_eqb}
 use Rattle.std.proofs.lemmas.List.{get_or-set_same, get_or-set_other}
@@ -8,7 +8,7 @@ use Rattle.flow.specs.Streams.{AreStreams, onward, node_after, end_of, sum_below
 use Rattle.flow.specs.Finding.{AreFound, IsKnown, unknown_mark}
 use Rattle.flow.proofs.Sums.{bit_le, sum_below-same}
 
--- a sequence of which each next value depends on the last one stays where it has stopped
+-- A sequence whose next value depends on the last alone stays where it stops.
 pub stays_from : {X : Type 0} (x : ℕ → X) → ((a b : ℕ) → x a ≡ x b → x (suc a) ≡ x (suc b)) → (k m : ℕ) → k ≤ m → x (suc k) ≡ x k → x m ≡ x k
 stays_from {X} x step k zero le stop = let z : 0 ≡ k = omega arith in ap x z
 stays_from {X} x step k (suc m) le stop = elim (cases_eq k (suc m)) [
@@ -17,14 +17,14 @@ stays_from {X} x step k (suc m) le stop = elim (cases_eq k (suc m)) [
 ]
 
 module _ (x : ℕ → ℕ) (step : (a b : ℕ) → x a ≡ x b → x (suc a) ≡ x (suc b)) where
-  -- it repeats itself where a value comes twice
+  -- If a value occurs twice, the sequence repeats.
   again : (a b : ℕ) → x a ≡ x b → (t : ℕ) → x (a + t) ≡ x (b + t)
   again a b same zero = ap x (add-zero a) ∙ same ∙ sym (ap x (add-zero b))
   again a b same (suc t) =
       let p : a + suc t ≡ suc (a + t) = omega arith in let q : b + suc t ≡ suc (b + t) = omega arith in
       ap x p ∙ step (a + t) (b + t) (again a b same t) ∙ sym (ap x q)
 
-  -- so it never stops, where it hasn't before
+  -- A sequence that repeats before it stops never stops.
   never : (n a b : ℕ) → a < b → b ≤ n → x a ≡ x b → ((k : ℕ) → k < n → x (suc k) ≡ x k → ⊥) → (fuel m : ℕ) → m ≤ fuel → x (suc m) ≡ x m → ⊥
   never n a b lt le same none zero m few stop = none m (omega arith) stop
   never n a b lt le same none (suc fuel) m few stop = elim (cases_lt m n) [
@@ -47,7 +47,7 @@ module _ (x : ℕ → ℕ) (step : (a b : ℕ) → x a ≡ x b → x (suc a) ≡
     ]
   ]
 
-  -- one that stops at all does so before it has had more values than there are
+  -- A sequence of values below n that stops at all stops within n values.
   pub early_stop : (n : ℕ) → ((k : ℕ) → x k < n) → (m : ℕ) → x (suc m) ≡ x m → (k : ℕ) × (k < n) × (x (suc k) ≡ x k)
   early_stop n below m stop = elim (cases_stop n) [
     | inl r ↦ r
@@ -99,7 +99,7 @@ end-along links s i h (suc k) = end-onward links s (node_after links i k) (node_
 pub end-inside : (links : List ℕ) → AreStreams links → (i : ℕ) → i < length links → end_of links i < length links
 end-inside links s i h = node_after-inside links s i h (length links)
 
--- how many moves are left on a path
+-- The number of moves left on a path.
 abbrev pub moves_left : List ℕ → ℕ → ℕ
 moves_left links i = sum_below (λ k. cond {A = ℕ} (eqb (node_after links i k) (end_of links i)) 0 1) (length links)
 
@@ -107,7 +107,7 @@ sum_of_next : (f : ℕ → ℕ) (n : ℕ) → sum_below (λ k. f (suc k)) n + f 
 sum_of_next f zero = refl
 sum_of_next f (suc n) = omega (arith, sum_of_next f n)
 
--- there is one less after a move
+-- Each move leaves one less.
 pub moves_fall : (links : List ℕ) → AreStreams links → (i : ℕ) → i < length links → onward links i ≢ i → moves_left links (onward links i) + 1 ≡ moves_left links i
 moves_fall links s i h on =
     let left : ℕ → ℕ = λ k. cond {A = ℕ} (eqb (node_after links i k) (end_of links i)) 0 1 in
@@ -118,7 +118,7 @@ moves_fall links s i h on =
     ap (λ a. cond {A = ℕ} (eqb a (end_of links (onward links i))) 0 1) (node_after-first links i k) ∙ ap (λ b. cond {A = ℕ} (eqb (node_after links i (suc k)) b) 0 1) (end-onward links s i h)) in
     omega (arith, next, sum_of_next left (length links), here, last)
 
--- and where each move notes a node, one less with each node that is noted
+-- The moves left, plus 1 while the node's end is unknown: falls with each node noted.
 abbrev pub marks_left : List ℕ → List ℕ → ℕ → ℕ
 marks_left links ends i = moves_left links i + cond {A = ℕ} (eqb (get_or ends i 0) unknown_mark) 1 0
 
@@ -133,7 +133,7 @@ marks_fall links ends i last s f h unknown known =
       | inr on ↦ omega (arith, was, moves_fall links s i h on, bit_le (eqb (get_or (set ends i last) (onward links i) 0) unknown_mark))
     ]
 
--- one more end
+-- A list of ends with one more end noted.
 pub found_more : (links ends : List ℕ) (node end : ℕ) → AreFound links ends → node < length links → end ≡ end_of links node → AreFound links (set ends node end)
 found_more links ends node end f h e = record {
   size = length-set ends node end ∙ f.size;

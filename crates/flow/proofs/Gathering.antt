@@ -1,4 +1,4 @@
--- How many cells' water comes through a cell, the cell itself counted.
+-- Counts of cells whose flow paths hold a cell, itself included, as sums over all cells.
 use Rattle.std.proofs.Common.{◌≡◌, ◌≢◌, ℕ, ◌+◌, ◌-◌, ◌*◌, ◌<◌, ◌≤◌, Bool, true, false, not, ◌&&◌, cond, Option, is_some, sym, ap, refl, ◌∙◌, arith}
 use Rattle.std.proofs.Math.Nat.{mul-le-mul}
 use Rattle.std.proofs.lemmas.Bool.{and_from, and_left, and_right, eq-eqb, cond-true, cond-false, false_from_ne_true, not_from_true, not_from_false}
@@ -19,32 +19,32 @@ use Rattle.flow.proofs.Coded.{IsCoded}
 use Rattle.flow.proofs.Sending.{and_on}
 use Rattle.flow.proofs.Reaching.{IsEnding, cell_below, cell_back, enters}
 
--- a cell of the grid
+-- The cell at row-order index i of the grid.
 abbrev pub cell : Directed → ℕ → Place
 cell d i = place_in (whole_bounds d.cols d.rows) i
 
--- 1 where the water of a cell comes through another
+-- 1 if the flow path of q holds p.
 abbrev pub drained : Directed → Place → Place → ℕ
 drained d p q = cond {A = ℕ} (is_some (code_at d q) && drains_through d p q) 1 0
 
 abbrev pub all_drained : Directed → Place → ℕ
 all_drained d p = sum_below (λ j. drained d p (cell d j)) (d.rows * d.cols)
 
--- 1 where it does so without leaving the tile
+-- 1 if the flow path of q reaches p without leaving the tile.
 abbrev pub gathered : Directed → Cutting → Place → Place → ℕ
 gathered d t p q = cond {A = ℕ} (is_some (code_at d q) && reaches_inside d t p q) 1 0
 
 abbrev pub all_gathered : Directed → Cutting → Place → ℕ
 all_gathered d t p = sum_below (λ j. gathered d t p (cell d j)) (d.rows * d.cols)
 
--- 1 where it enters another from another tile
+-- 1 if the flow path of q enters p from another tile.
 abbrev pub entered : Directed → Cutting → Place → Place → ℕ
 entered d t p q = cond {A = ℕ} (is_some (code_at d q) && list_any (enters d t p q) (range_with_len 0 (moves d - 1))) 1 0
 
 pub inflow_sum : (d : Directed) (t : Cutting) (p : Place) → inflow_of d t p ≡ sum_below (λ c. entered d t p (cell d c)) (d.rows * d.cols)
 inflow_sum d t p = sum_of_cells (entered d t p) d.cols d.rows
 
--- what a data cell that passes a test counts for, and any other
+-- A data cell counts 1 if it passes the test, and 0 otherwise.
 pub counted_on : (d : Directed) (q : Place) (b : Bool) → IsCoded d q → b ≡ true → cond {A = ℕ} (is_some (code_at d q) && b) 1 0 ≡ 1
 counted_on d q b is y = cond-true {A = ℕ} _ 1 0 (and_from _ _ (ap (λ (o : Option ℕ). is_some o) is.is) y)
 
@@ -61,7 +61,7 @@ module _ (d : Directed) (s : IsEnding d) where
   other_cell : (p : Place) → IsCoded d p → (j : ℕ) → j ≢ index_in (whole_bounds d.cols d.rows) p → cell d j ≢ p
   other_cell p is j ne e = ne (sym (index_in-place_in (whole_bounds d.cols d.rows) j) ∙ ap (index_in (whole_bounds d.cols d.rows)) e)
 
-  -- a sum that counts one cell more
+  -- f counts one cell more than g, the cell p.
   pub one_more : (f g : Place → ℕ) (p : Place) → IsCoded d p → ((q : Place) → q ≢ p → f q ≡ g q) → f p ≡ 1 → g p ≡ 0 →
       sum_below (λ j. f (cell d j)) (d.rows * d.cols) ≡ sum_by g (places d.cols d.rows) + 1
   one_more f g p is same one none =
@@ -96,7 +96,7 @@ module _ (d : Directed) (s : IsEnding d) where
       (counted_on d p _ is (reaches_itself t p))
       (cond-false {A = ℕ} _ 1 0 (and_left _ _ (and_right _ _ (not_from_true _ (is_place_from p p refl)))))
 
-  -- a count of cells
+  -- A count of cells is at most 2^24.
   pub counted_few : (test : Place → Bool) → sum_below (λ c. cond {A = ℕ} (test (cell d c)) 1 0) (d.rows * d.cols) ≤ 16777216
   counted_few test =
       let most : d.rows * d.cols ≤ 4096 * 4096 = mul-le-mul s.few_rows s.few_cols in

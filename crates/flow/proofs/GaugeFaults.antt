@@ -1,4 +1,4 @@
--- What is wrong with a gauge, by the codes of its grid.
+-- The fault of a gauge, by the codes of its grid.
 use Rattle.std.proofs.Common.{◌≡◌, ℕ, ◌<◌, ◌≤◌, Bool, true, false, not, List, length, get_or, Option, None, Some, is_some, is_none, sym, ap, refl, ◌∙◌, subst}
 use Rattle.std.specs.Prelude.{nat_lt, if◌then◌else◌, option_map}
 use Rattle.std.specs.List.{All}
@@ -17,7 +17,7 @@ use Rattle.drainage.specs.Drained.{Drained, IsDraining, directed_of}
 use Rattle.flow.specs.Catchments.{fault_of_gauge, gauges_fault}
 use Rattle.flow.specs.CutCodes.{HaveCodes}
 
--- a place in the grid is at fault where it has no data
+-- A place in the grid has a fault exactly if it has no data.
 pub fault_inside : (t : Terrain) (i : ℕ) (p : Place) → p.row < t.rows → p.col < t.cols → sink_fault_of t i p ≡ (if is_none (height_at t p) then Some (OnNodata i) else None)
 fault_inside t i p row col =
     ap (λ b. if not b then Some (Outside i) else if is_none (height_at t p) then Some (OnNodata i) else None)
@@ -31,13 +31,12 @@ not_not : (b : Bool) → not (not b) ≡ b
 not_not true = refl
 not_not false = refl
 
--- the codes have data where the terrain has
+-- A code is `None` exactly where the terrain has no data.
 pub none_of_code : (d : Drained) → IsDraining d → (p : Place) (code : Option ℕ) (none : Bool) → code ≡ code_at (directed_of d) p → is_some code ≡ not none →
     is_none (height_at d.terrain p) ≡ none
 none_of_code d draining p code none read is =
     none_is (height_at d.terrain p) ∙ ap not (sym (draining.same_data p) ∙ ap is_some (sym read) ∙ is) ∙ not_not none
 
--- gauges without a fault
 no_sink_fault : (o : Option SinkFault) → option_map fault_of_gauge o ≡ None → o ≡ None
 no_sink_fault None e = refl
 no_sink_fault (Some f) e = absurd (cc)

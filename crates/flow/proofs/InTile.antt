@@ -1,4 +1,4 @@
--- Paths along the links of a tile are the parts of flow paths that stay in it, and end at exits.
+-- Paths along a tile's links are the parts of flow paths inside it, and end at exits.
 use Rattle.std.proofs.Common.{◌≡◌, ◌↔◌, ℕ, zero, suc, ◌<◌, ◌≤◌, ◌⊎◌, inl, inr, List, length, sym, ap, subst, refl, ◌∙◌, arith, ◌+◌, true, Option, is_some, mul_comm}
 use Rattle.std.specs.Prelude.{◌*◌, if◌then◌else◌, is_some, slice_index}
 use Rattle.std.proofs.lemmas.Bool.{cases_eq, cases_Bool, cond-true, cond-false, false_from_ne_true, eq-eqb}
@@ -16,11 +16,11 @@ use Rattle.flow.proofs.Ending.{IsStop, inside_along, streams_from, early_end, no
 use Rattle.flow.proofs.Coded.{IsCoded, cases_coded, none_stays, outlet_stays, coded_inside, coded_along, outlet_from_stays}
 use Rattle.flow.proofs.Windows.{all_in_range}
 
--- The cell to which the water of a cell goes on, or the cell itself where it stays or leaves the tile.
+-- The index of the next cell downstream, or i if the water stays or leaves the tile.
 abbrev pub link_in : Directed → Bounds → ℕ → ℕ
 link_in d b i = if is_in_bounds b (next d (place_in b i)) then index_in b (next d (place_in b i)) else i
 
--- 1 for a data cell, and 0 for one without data.
+-- 1 for a data cell, and 0 for NODATA.
 abbrev pub weight_in : Directed → Bounds → ℕ → ℕ
 weight_in d b i = if is_some (code_at d (place_in b i)) then 1 else 0
 
@@ -44,7 +44,7 @@ link-in d b i h = cond-true _ _ _ (in_bounds_from b _ h)
 pub link-out : (d : Directed) (b : Bounds) (i : ℕ) → (IsInBounds b (next d (place_in b i)) → ⊥) → link_in d b i ≡ i
 link-out d b i out = cond-false _ _ _ (false_from_ne_true _ (λ t. out (in_bounds_parts b _ t)))
 
--- a tile of a map of directions whose paths all end, and its links
+-- A tile, with its links, of a map of directions whose flow paths all end.
 pub record IsPiece (d : Directed) (c : Cutting) (tile : ℕ) (b : Bounds) (links : List ℕ) : Type 0 where
   pub cutting : IsCutting c
   pub cols : d.cols ≡ c.cols
@@ -74,11 +74,11 @@ module _ (d : Directed) (c : Cutting) (tile : ℕ) (b : Bounds) (links : List �
   self_link i h e =
       link_is i h ∙ link-in d b i (subst (λ (q : Place). IsInBounds b q) (sym e) (in_place i h)) ∙ ap (index_in b) e ∙ index_in-place_in b i
 
-  -- a link to a place in the tile
+  -- If the next cell downstream is in the tile, the link leads to it.
   pub link_place : (i : ℕ) → i < length links → IsInBounds b (next d (place_in b i)) → place_in b (onward links i) ≡ next d (place_in b i)
   link_place i h y = ap (place_in b) (link_is i h ∙ link-in d b i y) ∙ place_in-index_in b (next d (place_in b i)) y
 
-  -- how far the path along links follows the flow path
+  -- The path along links after j moves is the flow path after at most k moves.
   pub record Tracks (j k : ℕ) : Type 0 where
     pub met : ℕ
     pub few : met ≤ k
@@ -143,7 +143,6 @@ module _ (d : Directed) (c : Cutting) (tile : ℕ) (b : Bounds) (links : List �
   pub tile_streams : AreStreams links
   tile_streams = streams_from links links_inside stops
 
-  -- a data cell's place in the grid
   pub coded_within : (p : Place) → IsCoded d p → IsWithin c p
   coded_within p is = let w = coded_inside d p is in (omega (arith, w.0, s.rows), omega (arith, w.1, s.cols))
 
@@ -153,7 +152,6 @@ module _ (d : Directed) (c : Cutting) (tile : ℕ) (b : Bounds) (links : List �
       let k : b.cols ≤ d.cols = omega (arith, s.inside.cols_inside, s.cols) in
       omega (arith, s.made.size, mul-le-mul r k, mul_comm d.rows d.cols)
 
-  -- a cell of the tile
   pub tile_is : (q : Place) → IsInBounds b q → tile_of_place c q ≡ tile
   tile_is q h = ((s.places q).1 h).1
 
@@ -161,7 +159,7 @@ module _ (d : Directed) (c : Cutting) (tile : ℕ) (b : Bounds) (links : List �
   stays_from_way q k way = all_in_range _ (k + 1)
       (λ l h. eq-eqb _ _ (tile_is (follow d q l) (way l (omega arith)) ∙ sym (tile_is q (way 0 (omega arith)))))
 
-  -- where the links of a data cell end is its exit
+  -- The end of a data cell's path along links is its exit.
   pub exit_is : (i : ℕ) → i < length links → IsCoded d (place_in b i) → IsExitOf d c (place_in b i) (place_in b (end_of links i))
   exit_is i h is =
       let r = early_end links tile_streams.inside i h (length links) (tile_streams.ends i h) in

@@ -1,34 +1,34 @@
--- worked rows
+-- worked examples
 mod Rows
 -- sums and ranges
 pub mod Sums
 pub mod Windows
--- along links
+-- paths and sums along links
 pub mod Ending
 pub mod Totals
--- sending downstream along them
+-- the loop that sends sums downstream
 pub mod Sending
 -- flow paths
 pub mod Coded
 pub mod Reaching
 pub mod Gathering
--- a tile
+-- inside a tile
 pub mod InTile
 pub mod Piece
 pub mod Listed
-pub mod AmidLinks
--- from tile to tile over the rims
+pub mod InteriorLinks
+-- from tile to tile, over the rims
 pub mod RimCells
 pub mod RimFlows
 pub mod RimTotals
 pub mod RimInflows
 pub mod RimAdded
 pub mod Linked
--- what comes through each cell
+-- counts of the cells upstream
 pub mod TileTotals
 pub mod Counted
 pub mod Together
--- the numbers of outlets
+-- numbers of outlets
 pub mod RunsCounted
 pub mod Numbered
 -- gauges

@@ -1,4 +1,4 @@
--- The rows that a view shows of a tile, and what the lists of its flow have at an index, with the labels of its exits.
+-- The entries of a tile's lists: its codes by rows, its flow by indexes, and labels of exits.
 use Rattle.std.proofs.Common.{◌≡◌, ℕ, ◌<◌, ◌≤◌, List, length, get_or, map, Option, None, Some, IfSome, sym, ap, subst, refl, ◌∙◌, arith, ◌+◌, ◌-◌, ◌*◌, inl, inr, ◌++◌}
 use Rattle.std.specs.List.{range_with_len}
 use Rattle.std.specs.Option.{option_map}
@@ -20,16 +20,16 @@ use Rattle.tiles.specs.Cutting.{View, AreBounds, bounds_of, row_shown, place_in,
 use Rattle.drainage.specs.Following.{code_at}
 use Rattle.tiles.proofs.TileRows.{row_has}
 
--- the entry of a list that is made where there is data, of what was read
+-- The value read at index i, `None` at NODATA, is entry i of the list of all such values.
 pub made_at : {X : Type 0} (cells : List (Option ℕ)) (value : ℕ → X) (n i : ℕ) (code : Option ℕ) (x : X) → i < length cells → i < n → code ≡ get_or cells i code → x ≡ value i →
     where_data code x ≡ get_or (map (λ i. where_data (get_or cells i None) (value i)) (range_with_len 0 n)) i None
 made_at cells value n i code x inside h read same =
     ap (λ o. where_data o x) (read ∙ get_or_default cells i code None inside) ∙ ap (where_data (get_or cells i None)) same
     ∙ sym (get_or-map-range_with_len (λ i. where_data (get_or cells i None) (value i)) 0 n i i None h (omega arith))
 
-pub through_past : (cells : List (Option ℕ)) (came : List ℕ) (i : ℕ) → length came ≤ i → get_or (through_list cells came) i None ≡ None
-through_past cells came i past =
-    get_or_past (through_list cells came) i None (omega (arith, past, length-map-range_with_len (λ i. where_data (get_or cells i None) (get_or came i 0)) 0 (length came)))
+pub through_past : (cells : List (Option ℕ)) (upstream : List ℕ) (i : ℕ) → length upstream ≤ i → get_or (through_list cells upstream) i None ≡ None
+through_past cells upstream i past =
+    get_or_past (through_list cells upstream) i None (omega (arith, past, length-map-range_with_len (λ i. where_data (get_or cells i None) (get_or upstream i 0)) 0 (length upstream)))
 
 pub exits_size : (b : Bounds) (cells : List (Option ℕ)) (ends : List ℕ) → length (exits_by b cells ends) ≡ length cells
 exits_size b cells ends = length-map-range_with_len (λ i. where_data (get_or cells i None) (place_in b (get_or ends i 0))) 0 (length cells)
@@ -38,7 +38,6 @@ pub exit_at : (b : Bounds) (cells : List (Option ℕ)) (ends : List ℕ) (i : �
     get_or (exits_by b cells ends) i None ≡ where_data (get_or cells i None) (place_in b (get_or ends i 0))
 exit_at b cells ends i h = get_or-map-range_with_len (λ i. where_data (get_or cells i None) (place_in b (get_or ends i 0))) 0 (length cells) i i None h (omega arith)
 
--- the index of an exit
 index_of_placed : (b : Bounds) (code : Option ℕ) (e : ℕ) → where_data code e ≡ option_map (index_in b) (where_data code (place_in b e))
 index_of_placed b None e = refl
 index_of_placed b (Some code) e = ap Some (sym (index_in-place_in b e))
@@ -48,7 +47,7 @@ pub exit_index_is : (b : Bounds) (cells : List (Option ℕ)) (ends : List ℕ) (
 exit_index_is b cells ends i h = index_of_placed b (get_or cells i None) (get_or ends i 0) ∙ ap (option_map (index_in b)) (sym (exit_at b cells ends i h))
 
 module _ (o : Outlets) (flows : List Flow) (n : EndNumbers) (b : Bounds) where
-  -- the exit of which the index is given
+  -- The place at the index of an exit is that exit.
   pub exit_placed : (exit : ℕ) (x : Option Place) (q : Place) → q ≡ place_in b exit → Some exit ≡ option_map (index_in b) x → IfSome x (IsExitOfTile o flows n b) → IsExitOfTile o flows n b q
   exit_placed exit None q at some is = absurd (none-some exit (sym some))
   exit_placed exit (Some e) q at some is =
@@ -71,13 +70,13 @@ module _ (o : Outlets) (flows : List Flow) (n : EndNumbers) (b : Bounds) where
   label_other i exit (Some e) some other =
       sym (cond-false {A = ℕ} _ (number_at o.cutting.cols n (listed_outlet o flows e)) 0 (ne_eqb (index_in b e) i (λ own. other (same_Some exit (index_in b e) some ∙ own))))
 
--- the place of an index, by its row and column
+-- The place at an index, by its row and column.
 pub place_in_row : (b : Bounds) (r k : ℕ) → k < b.cols → place_in b (r * b.cols + k) ≡ make_place (b.top + r) (b.left + k)
 place_in_row b r k h =
     same_place (place_in b (r * b.cols + k)) (make_place (b.top + r) (b.left + k))
     (ap (λ n. b.top + n) (div-mul-add r b.cols k h)) (ap (λ n. b.left + n) (mod-mul-add r b.cols k h))
 
--- what the first rows of a tile have
+-- The cells of the first rows of a tile.
 pub record AreFirstRows (v : View (Option ℕ)) (b : Bounds) (rows : ℕ) (cells : List (Option ℕ)) : Type 0 where
   pub size : length cells ≡ rows * b.cols
   pub each : (i : ℕ) → i < rows * b.cols → get_or cells i None ≡ code_at (directed_by v) (place_in b i)
@@ -91,7 +90,6 @@ row_code v b r k e a below inside =
     ∙ sym (entry-inside v.cutting.cols v.cutting.rows v.cells (make_place (b.top + r) (b.left + k)) (omega arith) (omega arith))
     ∙ ap (λ (p : Place). code_at (directed_by v) p) (sym (place_in_row b r k inside))
 
--- one more row
 pub row_added : (v : View (Option ℕ)) (b : Bounds) (r : ℕ) (cells row new : List (Option ℕ)) → b ≡ bounds_of v.cutting v.tile → AreBounds v.cutting b → r < b.rows →
     row ≡ row_shown v r → length row ≡ b.cols → new ≡ cells ++ row → AreFirstRows v b r cells → AreFirstRows v b (r + 1) new
 row_added v b r cells row new e a below is size made so_far =

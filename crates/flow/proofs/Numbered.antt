@@ -1,4 +1,4 @@
--- The numbers of outlets at the cells of a tile.
+-- The cells of a tile get the numbers of the ends of their flow paths.
 use Rattle.std.proofs.Common.{◌≡◌, ℕ, ◌*◌, ◌<◌, ◌≤◌, inl, inr, List, length, get_or, take, Option, None, Some, IfSome, slice_get, sym, ap, subst, refl, ◌∙◌, arith}
 use Rattle.std.proofs.lemmas.Bool.{cases_lt, cond-true, eq-eqb}
 use Rattle.std.proofs.lemmas.List.{get_or_past, length-take}
@@ -19,18 +19,18 @@ use Rattle.flow.specs.Counts.{IsValueAt}
 use Rattle.flow.specs.TileFlow.{Flow, exit_in, IsTileExits, IsExitOf, IsExitCell}
 use Rattle.flow.specs.Whole.{is_outlet_code, make_directed}
 use Rattle.flow.specs.RimGraph.{AreFlowsOf, AreOutlets, Outlets, listed_outlet}
-use Rattle.flow.specs.Numbering.{EndNumbers, end_number, outlet_numbers, IsNumbering, IsReady, AreReady, IsExitOfTile, number_at, label_by, labels_by, label_at, numbered_by}
+use Rattle.flow.specs.Numbering.{EndNumbers, end_number, outlet_numbers, IsNumbering, IsReady, AreReady, IsExitOfTile, number_at, label_by, labels_by, label_at, cell_numbers_by}
 use Rattle.flow.proofs.Coded.{IsCoded, cases_coded, coded_along, coded_inside}
 use Rattle.flow.proofs.Piece.{match_none, match_some}
 use Rattle.flow.proofs.RimFlows.{within_of, last_same, exit_in_tile, exit_of_exit}
 
--- the numbers of outlets stand for themselves
+-- An outlet's number is below the mark of NODATA.
 pub outlet_number_few : (codes : List (Option ℕ)) → length codes ≤ 4096 * 4096 → (i : ℕ) → (outlet_numbers codes).number i < uncounted
 outlet_number_few codes few i =
     let before = take i codes in
     omega (arith, few, count_by-le-length is_outlet_code before, length-take i codes)
 
--- the numbering of the ends of a grid's flow paths, where these lists are the flows
+-- The flows and outlets found for a grid are those of its map of directions.
 pub numbering_of : (t : Cutting) (codes : List (Option ℕ)) (flows joined : List Flow) (o : Outlets) (n : EndNumbers) →
     AreFlowsOf (make_directed t.cols t.rows codes) t flows → joined ≡ flows → o.cutting ≡ t → ((d : Directed) → AreFlowsOf d t joined → AreOutlets d t joined o) →
     n.cells ≡ t.cols * t.rows → ((i : ℕ) → i < n.cells → n.number i < uncounted) → IsNumbering (make_directed t.cols t.rows codes) t flows o n
@@ -46,7 +46,7 @@ module _ (d : Directed) (t : Cutting) (flows : List Flow) (o : Outlets) (n : End
   same_cols : o.cutting.cols ≡ d.cols
   same_cols = ap (λ (c : Cutting). c.cols) s.same_cutting ∙ sym s.are_flows.of_tiles.size.0
 
-  -- the number of an outlet
+  -- The number of the outlet of p is the number of the end of its flow path.
   number_of_last : (p : Place) → number_at o.cutting.cols n (Some (last_of d p)) ≡ end_number d n p
   number_of_last p = ap (λ cols. n.number (index_of cols (last_of d p))) same_cols
 
@@ -61,7 +61,7 @@ module _ (d : Directed) (t : Cutting) (flows : List Flow) (o : Outlets) (n : End
       omega (arith, last_below e is, ap (λ cols. index_of cols (last_of d e)) same_cols) in
       subst (λ (x : Option Place). IfSome x (λ q. index_of o.cutting.cols q < n.cells)) (sym (s.are_outlets.outlets e cell)) below
 
-  -- each number stands for itself
+  -- The number of each data cell is below the mark of NODATA.
   number_few : (p : Place) → IsCoded d p → end_number d n p < uncounted
   number_few p is = s.few (index_of d.cols (last_of d p)) (last_below p is)
 
@@ -81,7 +81,7 @@ module _ (d : Directed) (t : Cutting) (flows : List Flow) (o : Outlets) (n : End
     exit_entry : (p : Place) → IsInTile t tile p → get_or f.exits (index_in f.bounds p) None ≡ exit_in f p
     exit_entry p i = sym (cond-true {A = Option Place} _ _ _ (in_bounds_from f.bounds p (in_flow p i)))
 
-    -- what the list has at the place of a data cell, and at any other
+    -- The exit of a data cell p, as the flow lists it.
     record Has (p : Place) : Type 0 where
       pub exit : Place
       pub listed : get_or f.exits (index_in f.bounds p) None ≡ Some exit
@@ -98,7 +98,7 @@ module _ (d : Directed) (t : Cutting) (flows : List Flow) (o : Outlets) (n : End
     no_exit : (p : Place) → IsInTile t tile p → code_at d p ≡ None → get_or f.exits (index_in f.bounds p) None ≡ None
     no_exit p i none = exit_entry p i ∙ MatchOption-at_none _ _ none (right.each p i)
 
-    -- each entry is an exit of the tile
+    -- Each exit in the list is in the tile, and its outlet has a number.
     exit_of_tile : (p : Place) → IsInTile t tile p → IfSome (get_or f.exits (index_in f.bounds p) None) (IsExitOfTile o flows n f.bounds)
     exit_of_tile p i = elim (cases_coded d p) [
       | inl none ↦ subst (λ (x : Option Place). IfSome x (IsExitOfTile o flows n f.bounds)) (sym (no_exit p i none)) tt
@@ -123,7 +123,7 @@ module _ (d : Directed) (t : Cutting) (flows : List Flow) (o : Outlets) (n : End
       ];
     }
 
-    -- the label of an exit
+    -- The label at a cell's exit is the number of the end of the cell's flow path.
     label_is : (p : Place) → IsCoded d p → (h : Has p) → get_or (labels_by o flows n f) (index_in f.bounds h.exit) 0 ≡ end_number d n p
     label_is p is h =
         let own = has_exit h.exit h.inside h.coded in
@@ -135,8 +135,8 @@ module _ (d : Directed) (t : Cutting) (flows : List Flow) (o : Outlets) (n : End
         ∙ number_of_last h.exit
         ∙ ap (λ (q : Place). n.number (index_of d.cols q)) (last_same d t flows s.are_flows p h.exit (h.leads).0 is (h.leads).3)
 
-    -- what the numbers have at a place
-    pub entry_numbered : (values : List (Option ℕ)) → values ≡ numbered_by f.bounds (labels_by o flows n f) f.exits → (p : Place) → IsInTile t tile p → IsValueAt d (end_number d n) p (tile_entry t tile values p)
+    -- The number at each place is that of the end of its flow path.
+    pub entry_numbered : (values : List (Option ℕ)) → values ≡ cell_numbers_by f.bounds (labels_by o flows n f) f.exits → (p : Place) → IsInTile t tile p → IsValueAt d (end_number d n) p (tile_entry t tile values p)
     entry_numbered values made p i =
         let entry : tile_entry t tile values p ≡ label_at f.bounds (labels_by o flows n f) (get_or f.exits (index_in f.bounds p) None) =
         tile_entry-in t tile values p i

@@ -1,4 +1,4 @@
--- With all outlets as gauges, in row order, catchments are basins.
+-- With all outlets as gauges in row order, catchments are basins.
 use Rattle.std.proofs.Common.{◌≡◌, ℕ, zero, suc, ◌+◌, ◌-◌, ◌*◌, ◌<◌, ◌≤◌, inl, inr, Bool, true, false, cond, ◌||◌, List, [], ◌∷◌, ◌++◌, length, map, take, get_or, count_by, Option, None, Some, unwrap_or, sym, ap, refl, ◌∙◌, arith, add-one, zero-mul}
 use Rattle.std.specs.Option.{option_map_or}
 use Rattle.std.specs.List.{filter, flat_map, list_any, position_from, range_with_len}
@@ -25,7 +25,7 @@ use Rattle.flow.proofs.Reaching.{IsEnding, cell_back, cell_below, reached_early}
 use Rattle.flow.proofs.Sums.{sum_more}
 use Rattle.flow.proofs.Windows.{whole_bounds}
 
--- the places of a grid, by their indexes
+-- The places of a grid, by row-order index.
 map_ranges : {X : Type 0} (f : ℕ → X) (a n m : ℕ) → map f (range_with_len a n) ++ map f (range_with_len (a + n) m) ≡ map f (range_with_len a (n + m))
 map_ranges f a zero m =
     let z : a + 0 ≡ a = omega arith in
@@ -68,7 +68,7 @@ module _ (cols rows : ℕ) where
   pub places_at : places cols rows ≡ map at (range_with_len 0 (rows * cols))
   places_at = rows_places 0 rows ∙ ap (λ k. map at (range_with_len k (rows * cols))) (zero-mul cols)
 
--- the first place that passes one test, among those that pass another
+-- The first place that passes test p, among those that pass test t.
 module _ {X : Type 0} (f : ℕ → X) (p t : X → Bool) (j : ℕ) (here : p (f j) ≡ true) (kept : t (f j) ≡ true) (before : (k : ℕ) → k < j → p (f k) ≡ false) where
   abbrev count : ℕ → ℕ
   count n = sum_below (λ k. cond {A = ℕ} (t (f k)) 1 0) n
@@ -104,7 +104,7 @@ module _ {X : Type 0} (f : ℕ → X) (p t : X → Bool) (j : ℕ) (here : p (f 
         ]
   ]
 
--- what passes among those that pass another test
+-- A place that passes p in a list filtered by t passes both.
 any_filtered : (p t : Place → Bool) (xs : List Place) → list_any p (filter t xs) ≡ true → (x : Place) × (p x ≡ true) × (t x ≡ true)
 any_filtered p t [] some = absurd (false≢true some)
 any_filtered p t (x ∷ xs) some = elim (cases_Bool (t x)) [

@@ -1,4 +1,4 @@
--- The flow of a tile, of the lists that are made for it.
+-- The lists made for a tile are its flow.
 use Rattle.std.proofs.Common.{◌≡◌, ℕ, ◌+◌, ◌*◌, ◌^◌, ◌<◌, ◌≤◌, inl, inr, List, length, get_or, Option, None, Some, is_some, MatchOption, cond, sym, ap, subst, refl, ◌∙◌, arith}
 use Rattle.std.proofs.Math.Nat.{mul-le-mul}
 use Rattle.std.proofs.lemmas.Bool.{cond-true}
@@ -51,20 +51,20 @@ few_cells b rows cols =
     let most : b.rows * b.cols ≤ 4096 * 4096 = mul-le-mul r k in
     omega arith
 
--- what the lists of a flow have together
-module _ (b : Bounds) (cells : List (Option ℕ)) (links came rim_ends : List ℕ) (s : AreFlowLists b cells links came rim_ends) where
+-- Sizes and entries of the lists of one flow.
+module _ (b : Bounds) (cells : List (Option ℕ)) (links upstream rim_ends : List ℕ) (s : AreFlowLists b cells links upstream rim_ends) where
   pub as_many_links : length links ≡ length cells
   as_many_links = ap length s.linked ∙ length-map-range_with_len (λ i. link_by b i (get_or cells i None)) 0 (b.rows * b.cols) ∙ sym s.lawful.codes_size
 
   pub end_listed : (i : ℕ) → i < length cells → end_of links i ≡ get_or (ends_by links) i 0
   end_listed i h = sym ((ends_are links).each i (omega (arith, h, as_many_links)))
 
-  -- where the links end of the flow that is seen
-  pub ends_seen : (f : Flow) → flow_by b cells came (ends_by links) ≡ f → (ends : List ℕ) → AreEnds (links_by f.bounds f.codes) ends → AreEnds links ends
+  -- The ends by a flow's codes are the ends by its links.
+  pub ends_seen : (f : Flow) → flow_by b cells upstream (ends_by links) ≡ f → (ends : List ℕ) → AreEnds (links_by f.bounds f.codes) ends → AreEnds links ends
   ends_seen f seen ends are =
       subst (λ (l : List ℕ). AreEnds l ends) (sym s.linked) (subst (λ (z : Flow). AreEnds (links_by z.bounds z.codes) ends) (sym seen) are)
 
--- the lists of a tile
+-- The lists made for a tile that a view shows.
 pub record AreLists (v : View (Option ℕ)) (b : Bounds) (cells : List (Option ℕ)) (links weights : List ℕ) : Type 0 where
   pub ends : AllFlowEnds (directed_by v)
   pub bounds : b ≡ bounds_of v.cutting v.tile
@@ -92,7 +92,7 @@ match_none {X} o P Q e p = subst (λ (z : Option X). MatchOption z P Q) (sym e) 
 pub match_some : {X : Type 0} (o : Option X) (P : Type 0) (Q : X → Type 0) (x : X) → o ≡ Some x → Q x → MatchOption o P Q
 match_some {X} o P Q x e q = subst (λ (z : Option X). MatchOption z P Q) (sym e) q
 
--- an entry where there is data
+-- An entry made by `where_data` has its value at data cells only.
 pub match_data : {X : Type 0} (o : Option ℕ) (x y : X) (entry : Option X) → entry ≡ where_data o x → ((code : ℕ) → o ≡ Some code → x ≡ y) → MatchOption o (entry ≡ None) (λ _. entry ≡ Some y)
 match_data None x y entry e same = e
 match_data (Some code) x y entry e same = e ∙ ap Some (same code refl)
@@ -136,17 +136,17 @@ module _ (v : View (Option ℕ)) (b : Bounds) (cells : List (Option ℕ)) (links
   code_is : (p : Place) → IsInBounds b p → get_or cells (index_in b p) None ≡ code_at (directed_by v) p
   code_is p h = s.codes.each (index_in b p) (index_in_below b p h) ∙ ap (code_at (directed_by v)) (place_in-index_in b p h)
 
-  module _ (came : List ℕ) (up : AreUpstream links weights came) where
-    pub came_size : length came ≡ length cells
-    came_size = up.size ∙ sizes
+  module _ (upstream : List ℕ) (up : AreUpstream links weights upstream) where
+    pub upstream_size : length upstream ≡ length cells
+    upstream_size = up.size ∙ sizes
 
-    pub through_is : (p : Place) → IsInBounds b p → entry_in b (through_list cells came) p ≡ where_data (code_at (directed_by v) p) (get_or came (index_in b p) 0)
+    pub through_is : (p : Place) → IsInBounds b p → entry_in b (through_list cells upstream) p ≡ where_data (code_at (directed_by v) p) (get_or upstream (index_in b p) 0)
     through_is p h =
-        entry_in-inside b (through_list cells came) p h
-        ∙ get_or-map-range_with_len (λ i. where_data (get_or cells i None) (get_or came i 0)) 0 (length came) (index_in b p) (index_in b p) None (omega (arith, in_cells p h, came_size)) (omega arith)
-        ∙ ap (λ o. where_data o (get_or came (index_in b p) 0)) (code_is p h)
+        entry_in-inside b (through_list cells upstream) p h
+        ∙ get_or-map-range_with_len (λ i. where_data (get_or cells i None) (get_or upstream i 0)) 0 (length upstream) (index_in b p) (index_in b p) None (omega (arith, in_cells p h, upstream_size)) (omega arith)
+        ∙ ap (λ o. where_data o (get_or upstream (index_in b p) 0)) (code_is p h)
 
-    pub count_of : (p : Place) → IsInBounds b p → IsCoded (directed_by v) p → get_or came (index_in b p) 0 ≡ through_of (directed_by v) v.cutting p
+    pub count_of : (p : Place) → IsInBounds b p → IsCoded (directed_by v) p → get_or upstream (index_in b p) 0 ≡ through_of (directed_by v) v.cutting p
     count_of p h is =
         let at = place_in-index_in b p h in
         let i : index_in b p < length links = omega (arith, in_cells p h, sizes) in
@@ -177,8 +177,8 @@ module _ (v : View (Option ℕ)) (b : Bounds) (cells : List (Option ℕ)) (links
         subst (λ (q : Place). IsExitOf (directed_by v) v.cutting q (place_in b (get_or ends (index_in b p) 0))) at
         (subst (λ n. IsExitOf (directed_by v) v.cutting (place_in b (index_in b p)) (place_in b n)) (sym (last.each (index_in b p) i)) e)
 
-    pub flow_lawful : (came : List ℕ) → IsFlow (flow_by b cells came ends)
-    flow_lawful came =
+    pub flow_lawful : (upstream : List ℕ) → IsFlow (flow_by b cells upstream ends)
+    flow_lawful upstream =
         let small = small_bounds v.cutting b s.lawful.cutting s.inside in
         record {
           some_col = small.some_col;
@@ -188,10 +188,10 @@ module _ (v : View (Option ℕ)) (b : Bounds) (cells : List (Option ℕ)) (links
           exits_size = length-map-range_with_len (λ i. where_data (get_or cells i None) (place_in b (get_or ends i 0))) 0 (length cells) ∙ s.codes.size;
         }
 
-    pub exits_are : (came : List ℕ) → IsTileExits (directed_by v) v.cutting v.tile (flow_by b cells came ends)
-    exits_are came = record {
+    pub exits_are : (upstream : List ℕ) → IsTileExits (directed_by v) v.cutting v.tile (flow_by b cells upstream ends)
+    exits_are upstream = record {
       bounds = s.bounds;
-      lawful = flow_lawful came;
+      lawful = flow_lawful upstream;
       same_codes = λ p i. (let h = (piece.places p).0 i in entry_in-inside b cells p h ∙ code_is p h);
       each = λ p i. (let h = (piece.places p).0 i in
           elim (cases_coded (directed_by v) p) [
@@ -204,18 +204,18 @@ module _ (v : View (Option ℕ)) (b : Bounds) (cells : List (Option ℕ)) (links
           ]);
     }
 
-  pub lists_are : (came rim_ends : List ℕ) → rim_ends ≡ rim_ends_by b links → AreFlowLists b cells links came rim_ends
-  lists_are came rim_ends rim = record { linked = s.made; lawful = flow_lawful (ends_by links) (ends_are links) came; streams = streams; rim = rim }
+  pub lists_are : (upstream rim_ends : List ℕ) → rim_ends ≡ rim_ends_by b links → AreFlowLists b cells links upstream rim_ends
+  lists_are upstream rim_ends rim = record { linked = s.made; lawful = flow_lawful (ends_by links) (ends_are links) upstream; streams = streams; rim = rim }
 
-  pub counts_are : (came : List ℕ) → AreUpstream links weights came → (f : Flow) → f.bounds ≡ b → f.through ≡ through_list cells came → IsTileCounts (directed_by v) v.cutting v.tile f
-  counts_are came up f same through = record {
-    size = ap length through ∙ length-map-range_with_len (λ i. where_data (get_or cells i None) (get_or came i 0)) 0 (length came) ∙ came_size came up ∙ s.codes.size ∙ sym (ap (λ (z : Bounds). z.rows * z.cols) same);
+  pub counts_are : (upstream : List ℕ) → AreUpstream links weights upstream → (f : Flow) → f.bounds ≡ b → f.through ≡ through_list cells upstream → IsTileCounts (directed_by v) v.cutting v.tile f
+  counts_are upstream up f same through = record {
+    size = ap length through ∙ length-map-range_with_len (λ i. where_data (get_or cells i None) (get_or upstream i 0)) 0 (length upstream) ∙ upstream_size upstream up ∙ s.codes.size ∙ sym (ap (λ (z : Bounds). z.rows * z.cols) same);
     each = λ p i. (let h = (piece.places p).0 i in
-        let entry : through_in f p ≡ entry_in b (through_list cells came) p = ap (λ (z : Bounds). entry_in z f.through p) same ∙ ap (λ (l : List (Option ℕ)). entry_in b l p) through in
-        match_data (code_at (directed_by v) p) _ _ _ (entry ∙ through_is came up p h) (λ code is. count_of came up p h (record { code = code; is = is })));
+        let entry : through_in f p ≡ entry_in b (through_list cells upstream) p = ap (λ (z : Bounds). entry_in z f.through p) same ∙ ap (λ (l : List (Option ℕ)). entry_in b l p) through in
+        match_data (code_at (directed_by v) p) _ _ _ (entry ∙ through_is upstream up p h) (λ code is. count_of upstream up p h (record { code = code; is = is })));
   }
 
--- the codes of a tile's flow
+-- The codes in a tile's flow are those of the tile.
 pub codes_from : (d : Directed) (t : Cutting) (tile : ℕ) (f : Flow) → IsCutting t → tile < tile_count t → IsTileExits d t tile f → AreTileCodes d (bounds_of t tile) f.codes
 codes_from d t tile f cutting below right = record {
   size = right.lawful.codes_size ∙ ap (λ (b : Bounds). b.rows * b.cols) right.bounds;
@@ -228,15 +228,15 @@ codes_from d t tile f cutting below right = record {
       sym entry ∙ right.same_codes (place_in (bounds_of t tile) i) inside;
 }
 
--- the lists of the flow of a tile
-pub lists_seen : (v : View (Option ℕ)) (b : Bounds) (cells : List (Option ℕ)) (came ends links : List ℕ) (f : Flow) → flow_by b cells came ends ≡ f → IsTileExits (directed_by v) v.cutting v.tile f →
+-- The lists of a tile's flow are those made for the tile.
+pub lists_seen : (v : View (Option ℕ)) (b : Bounds) (cells : List (Option ℕ)) (upstream ends links : List ℕ) (f : Flow) → flow_by b cells upstream ends ≡ f → IsTileExits (directed_by v) v.cutting v.tile f →
     AllFlowEnds (directed_by v) → IsView v → links ≡ links_by b cells → AreLists v b cells links (weights_by cells)
-lists_seen v b cells came ends links f seen are flow_ends lawful made =
+lists_seen v b cells upstream ends links f seen are flow_ends lawful made =
     let right = subst (λ (z : Flow). IsTileExits (directed_by v) v.cutting v.tile z) (sym seen) are in
     lists_made v b cells cells links flow_ends right.bounds (subst (λ (z : Bounds). AreBounds v.cutting z) (sym right.bounds) (bounds_inside v.cutting v.tile lawful.cutting lawful.tile)) lawful
-    (codes_from (directed_by v) v.cutting v.tile (flow_by b cells came ends) lawful.cutting lawful.tile right) refl made
+    (codes_from (directed_by v) v.cutting v.tile (flow_by b cells upstream ends) lawful.cutting lawful.tile right) refl made
 
--- the exits of a flow are the same with other counts
+-- Replacing the counts of a flow keeps its exits.
 pub exits_kept : (d : Directed) (t : Cutting) (tile : ℕ) (f : Flow) (through : List (Option ℕ)) → IsTileExits d t tile f →
     IsTileExits d t tile (record { bounds = f.bounds; codes = f.codes; through = through; exits = f.exits })
 exits_kept d t tile f through right = record {

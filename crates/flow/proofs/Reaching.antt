@@ -1,4 +1,4 @@
--- Where each flow path ends, none comes back to a place, and each is as short as the grid has cells.
+-- If every flow path ends, none returns to a cell, and each ends within `moves d` moves.
 use Rattle.std.proofs.Common.{◌≡◌, ◌≢◌, ℕ, zero, suc, ◌+◌, ◌-◌, ◌*◌, ◌<◌, ◌≤◌, ◌⊎◌, Bool, true, ◌&&◌, not, eqb, inl, inr, sym, ap, subst, ◌∙◌, arith}
 use Rattle.std.specs.List.{list_any, range_with_len}
 use Rattle.std.proofs.lemmas.Bool.{cases_eq, cases_lt, cases_order, and_from, and_parts, eq-eqb, ne_eqb, eqb-true, not-true, not_from_false, false≢true}
@@ -16,14 +16,14 @@ use Rattle.flow.proofs.Windows.{whole_bounds, some_in_range, any_in_range, every
 use Rattle.flow.proofs.Ending.{early_stop}
 use Rattle.flow.proofs.Coded.{IsCoded, coded_along, coded_inside, outlet_stays, follow_stays, follow_more, StopsAt, cycle_stops}
 
--- the first moves stay in a tile
+-- If the first k moves stay in the tile, so does each place on the way.
 pub still_at : (d : Directed) (t : Cutting) (q : Place) (k : ℕ) → stays d t q k ≡ true → (l : ℕ) → l ≤ k → tile_of_place t (follow d q l) ≡ tile_of_place t q
 still_at d t q k still l le = eqb-true _ _ (every_in_range (λ j. eqb (tile_of_place t (follow d q j)) (tile_of_place t q)) (k + 1) still l (omega arith))
 
 pub still_from : (d : Directed) (t : Cutting) (q : Place) (k : ℕ) → ((l : ℕ) → l ≤ k → tile_of_place t (follow d q l) ≡ tile_of_place t q) → stays d t q k ≡ true
 still_from d t q k same = all_in_range (λ j. eqb (tile_of_place t (follow d q j)) (tile_of_place t q)) (k + 1) (λ l lt. eq-eqb _ _ (same l (omega arith)))
 
--- a map of directions within the limits, whose flow paths end
+-- A map of directions within the limits, whose flow paths all end.
 pub record IsEnding (d : Directed) : Type 0 where
   pub ends : AllFlowEnds d
   pub some_col : 1 ≤ d.cols
@@ -52,7 +52,7 @@ module _ (d : Directed) (s : IsEnding d) where
   pub in_grid : (p : Place) → IsCoded d p → IsInBounds (whole_bounds d.cols d.rows) p
   in_grid p is = let i = coded_inside d p is in (omega arith, omega (arith, i.0), omega arith, omega (arith, i.1))
 
-  -- a data cell has an index
+  -- A data cell's index is below the number of cells.
   pub cell_below : (p : Place) → IsCoded d p → index_in (whole_bounds d.cols d.rows) p < d.rows * d.cols
   cell_below p is = index_in_below (whole_bounds d.cols d.rows) p (in_grid p is)
 
@@ -91,7 +91,7 @@ module _ (d : Directed) (s : IsEnding d) where
   pub drains_from : (c p : Place) → drains_through d p c ≡ true → (k : ℕ) × (follow d c k ≡ p)
   drains_from c p y = let r = some_in_range (λ k. is_place p (follow d c k)) (moves d) y in (r.0, sym (place_is p (follow d c r.0) r.2))
 
-  -- the last part of a path lies in a region, and comes from outside
+  -- The end of a path of k moves lies in a region, which it enters from outside.
   pub record Comes (In : Place → Type 0) (q : Place) (k : ℕ) : Type 0 where
     pub from : ℕ
     pub before : from < k
@@ -121,7 +121,7 @@ module _ (d : Directed) (s : IsEnding d) where
         ]
 
     module _ (q : Place) (is : IsCoded d q) where
-      -- a path that has left the region doesn't come back to a place in it
+      -- A path that has left the region does not return to a place of it.
       no_return : (f k a m : ℕ) → ((l : ℕ) → f ≤ l → l ≤ k → In (follow d q l)) → f ≤ k → f ≤ a → (In (follow d q a) → ⊥) → a < m → follow d q k ≡ follow d q m → ⊥
       no_return f k a m way some from out lt same = elim (cases_lt k a) [
         | inr near ↦ out (way a from near)
@@ -140,7 +140,7 @@ module _ (d : Directed) (s : IsEnding d) where
         ]
       ]
 
-  -- a path that comes to a place by one move
+  -- A path that reaches p by its last move.
   abbrev pub one_move : (q p : Place) (a : ℕ) → follow d q (suc a) ≡ p → follow d q a ≢ p → Comes (λ z. z ≡ p) q (suc a)
   one_move q p a leads apart = record {
     from = a;
@@ -149,7 +149,7 @@ module _ (d : Directed) (s : IsEnding d) where
     inside = λ l lt le. (let z : l ≡ suc a = omega arith in ap (follow d q) z ∙ leads);
   }
 
--- whether a move of a path leads to a place from another tile
+-- Move k of the path of q enters p from another tile.
 abbrev pub enters : Directed → Cutting → Place → Place → ℕ → Bool
 enters d t p q k = is_place p (follow d q (k + 1)) && not (eqb (tile_of_place t (follow d q k)) (tile_of_place t p))
 

@@ -1,4 +1,4 @@
--- What the numbers of a tile add to the weights of its cells.
+-- Adding the inflows at a tile's rim numbers to the weights of its cells.
 use Rattle.std.proofs.Common.{◌≡◌, ◌≢◌, ℕ, ◌+◌, ◌*◌, ◌%◌, ◌^◌, ◌<◌, ◌≤◌, cond, eqb, inl, inr, List, length, get_or, set, Option, None, Some, sym, ap, subst, ◌∙◌, arith, refl}
 use Rattle.std.proofs.lemmas.Bool.{cases_Bool, eq-eqb, ne_eqb, cond-true, cond-false, false_from_ne_true, false≢true}
 use Rattle.std.proofs.lemmas.Nat.{div-mul-add, mod-mul-add}
@@ -18,7 +18,7 @@ use Rattle.flow.proofs.Sending.{added_at}
 use Rattle.flow.proofs.RimCells.{cell_from, cell_at}
 use Rattle.tiles.proofs.RimNumbered.{side_below, no_wider, no_higher}
 
--- a cell adds to its own weight
+-- Raising the weight at q adds the amount at q alone.
 pub added : (b : Bounds) (old : List ℕ) (q : Place) (amount : ℕ) → length old ≡ b.rows * b.cols → IsInBounds b q → (p : Place) → IsInBounds b p →
     get_or (set old (index_in b q) (get_or old (index_in b q) 0 + amount)) (index_in b p) 0 ≡ get_or old (index_in b p) 0 + adds_at (Some q) amount p
 added b old q amount size inside p h =
@@ -32,13 +32,12 @@ added b old q amount size inside p h =
 pub own_adds : (q : Place) (amount : ℕ) → adds_at (Some q) amount q ≡ amount
 own_adds q amount = cond-true {A = ℕ} _ amount 0 (is_place_from q q refl)
 
--- a cell adds nothing to another place
 adds_off : (o : Option Place) (amount : ℕ) (p : Place) → ((q : Place) → o ≡ Some q → q ≢ p) → adds_at o amount p ≡ 0
 adds_off None amount p other = refl
 adds_off (Some q) amount p other = cond-false {A = ℕ} _ amount 0 (false_from_ne_true _ (λ y. other q refl (place_is _ _ y)))
 
 module _ (t : Cutting) (h : IsCutting t) (listed : List ℕ) where
-  -- of a tile's numbers, that of a place alone adds to it
+  -- Only the side number of p itself adds to the weight of p.
   only_own : (p : Place) → IsWithin t p → (side : ℕ) → side ≢ side_number (bounds_of t 0) (bounds_of t (tile_of_place t p)) p → adds t listed (tile_of_place t p) side p ≡ 0
   only_own p w side ne =
       adds_off (side_cell (bounds_of t 0) (bounds_of t (tile_of_place t p)) side) _ p
@@ -69,7 +68,7 @@ module _ (t : Cutting) (h : IsCutting t) (listed : List ℕ) where
       (λ j l ne. only_own p w j ne)
       ∙ own p w
 
-  -- the numbers of a tile add what flows in
+  -- All side numbers of a tile together add to p its inflow.
   pub adds_sum : (tile : ℕ) (p : Place) → IsInTile t tile p → sum_below (λ k. adds t listed tile k p) (stride (bounds_of t 0)) ≡ inflow_by t listed p
   adds_sum tile p i = ap (λ n. sum_below (λ k. adds t listed n k p) (stride (bounds_of t 0))) (sym i.1) ∙ all_adds p i.0
 
@@ -78,12 +77,12 @@ module _ (t : Cutting) (h : IsCutting t) (listed : List ℕ) where
   adds_part tile p i m le = omega (arith, adds_sum tile p i, sum_below-part (λ k. adds t listed tile k p) m (stride (bounds_of t 0)) le)
 
 module _ (t : Cutting) (h : IsCutting t) (listed : List ℕ) (tile : ℕ) (below : tile < tile_count t) (old : List ℕ) where
-  -- the weights after some of the numbers
+  -- The weights after adding the inflows of the side numbers below `side`.
   abbrev pub AreAdded : List ℕ → ℕ → Type 0
   AreAdded weights side = (p : Place) → IsInBounds (bounds_of t tile) p →
       get_or weights (index_in (bounds_of t tile) p) 0 ≡ get_or old (index_in (bounds_of t tile) p) 0 + sum_below (λ k. adds t listed tile k p) side
 
-  -- what the cell of a number adds
+  -- The amount that one side number adds.
   one_added : (b : Bounds) → b ≡ bounds_of t tile → (side : ℕ) (cell : Option Place) (amount : ℕ) → cell ≡ side_cell (bounds_of t 0) b side →
       amount ≡ get_or listed (tile * stride (bounds_of t 0) + side) 0 → (p : Place) → adds_at cell amount p ≡ adds t listed tile side p
   one_added b e side cell amount is much p =

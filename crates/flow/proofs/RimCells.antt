@@ -1,4 +1,4 @@
--- The cells on the rim of a tile, by the numbers of its sides.
+-- The rim cells of a tile, by side number.
 use Rattle.std.proofs.Common.{◌≡◌, ℕ, ◌+◌, ◌*◌, ◌&&◌, inl, inr, eqb, Option, None, Some, ap, ◌∙◌, sym, subst, refl}
 use Rattle.std.proofs.lemmas.Bool.{cases_Bool, and_from, and_parts, eq-eqb, eqb-true, cond-true, cond-false}
 use Rattle.std.proofs.lemmas.Option.{none-some, same_Some}
@@ -10,7 +10,7 @@ use Rattle.tiles.proofs.Cut.{in_bounds_parts, in_bounds_from}
 use Rattle.flow.specs.RimGraph.{side_cell}
 
 module _ (l b : Bounds) where
-  -- the cell of a number, and its number
+  -- p is the cell of a side number, and has that number.
   pub record IsCellOf (side : ℕ) (p : Place) : Type 0 where
     pub inside : IsInBounds b p
     pub number : side_number l b p ≡ side
@@ -28,14 +28,14 @@ module _ (l b : Bounds) where
     | inr f ↦ absurd (none-some p (sym (cond-false {A = Option Place} _ _ None f) ∙ e))
   ]
 
-  -- a place that is the cell of its number
+  -- A place that its own side number leads back to is the cell of the number.
   pub cell_at : (p : Place) → IsInBounds b p → side_place l b (side_number l b p) ≡ p → side_cell l b (side_number l b p) ≡ Some p
   cell_at p i back =
       cond-true {A = Option Place} _ _ None
       (ap (λ (q : Place). is_in_bounds b q && eqb (side_number l b q) (side_number l b p)) back ∙ and_from _ _ (in_bounds_from b p i) (eq-eqb _ _ refl))
       ∙ ap Some back
 
--- the number of a cell among those of all tiles
+-- The rim number of a cell, from its side number.
 pub number_from_side : (t : Cutting) (tile side : ℕ) (p : Place) → IsInTile t tile p → side_number (bounds_of t 0) (bounds_of t tile) p ≡ side →
     rim_number t p ≡ tile * stride (bounds_of t 0) + side
 number_from_side t tile side p i e =

@@ -1,4 +1,4 @@
--- The exits that lead into other tiles, and where their water ends.
+-- Exits into other tiles, and the outlets where their water ends.
 use Rattle.std.proofs.Common.{◌≡◌, ◌≢◌, ℕ, zero, suc, ◌+◌, ◌*◌, ◌/◌, ◌%◌, ◌<◌, ◌⊎◌, inl, inr, true, false, cond, eqb, List, length, get_or, Option, None, Some, IfSome, is_some, slice_get, unwrap_or, sym, ap, subst, refl, ◌∙◌, arith}
 use Rattle.std.specs.Option.{option_and_then}
 use Rattle.std.proofs.lemmas.Bool.{cases_eq, cases_lt, cases_Bool, eqb-true, cond-true, cond-false, false_from_ne_true, false≢true}
@@ -18,7 +18,7 @@ use Rattle.flow.specs.Streams.{AreStreams, AreEnds, onward, node_after, end_of}
 use Rattle.flow.specs.TileFlow.{Flow, stays, exit_in, IsTileExits, IsExitOf, IsExitCell}
 use Rattle.flow.specs.Whole.{is_outlet_code}
 use Rattle.tiles.specs.RimNumbers.{stride, side_number, number_count, rim_number, rim_place}
-use Rattle.flow.specs.RimGraph.{code_in, AreFlowsOf, exit_by, side_cell, next_in, target_in, target_by, targets_by, way_out_in, way_out_by, number_or, rim_link, rim_links_by, rim_outlet, rim_outlets_by, outlet_by, AreOutlets}
+use Rattle.flow.specs.RimGraph.{code_in, AreFlowsOf, exit_by, side_cell, next_in, target_in, target_by, targets_by, next_exit_in, next_exit_by, number_or, rim_link, rim_links_by, rim_outlet, rim_outlets_by, outlet_by, AreOutlets}
 use Rattle.flow.proofs.Windows.{every_in_range}
 use Rattle.flow.proofs.Ending.{IsStop, streams_from, node_after-first, node_after-inside}
 use Rattle.terrain.proofs.Options.{cases_option}
@@ -31,13 +31,13 @@ pub outlet_from_code : (o : Option ℕ) → is_outlet_code o ≡ true → o ≡ 
 outlet_from_code None h = cc
 outlet_from_code (Some n) h = ap Some (eqb-true _ _ h)
 
--- what was read of the flow of a place's tile
+-- A value read from the flow of a place's tile.
 pub read_of_tile : {X : Type 0} (read : Flow → Option X) (t : Cutting) (flows : List Flow) (p : Place) (tile : ℕ) (flow : Flow) (x : Option X) →
     length flows ≡ tile_count t → tile ≡ tile_of_place t p → tile < tile_count t → flow ≡ get_or flows tile flow → x ≡ read flow → x ≡ option_and_then read (slice_get flows (tile_of_place t p))
 read_of_tile read t flows p tile flow x count at below is value =
     value ∙ ap (option_and_then read) (sym (slice_get_read flows (length flows) tile flow refl (omega (arith, below, count)) is) ∙ ap (slice_get flows) at)
 
--- a code points to a place beside
+-- A code points to one of the eight places around.
 toward_touches : (p q : Place) (code : ℕ) → place_toward code p ≡ Some q → Touches p q
 toward_touches p q code e = elim (cases_option (way_of code)) [
   | inl none ↦ absurd (none-some q (sym (ap (λ (o : Option ℕ). option_and_then (λ way. place_on way p) o) none) ∙ e))
@@ -48,7 +48,7 @@ toward_touches p q code e = elim (cases_option (way_of code)) [
       ])
 ]
 
--- what is answered for a place, as far as it is known
+-- On the rim, a place that is no outlet has the entry of its rim number.
 pub outlet_listed : (t : Cutting) (flows : List Flow) (listed : List (Option Place)) (p : Place) → is_outlet_code (code_in t flows p) ≡ false → is_place (rim_place t (rim_number t p)) p ≡ true →
     outlet_by t flows listed p ≡ get_or listed (rim_number t p) None
 outlet_listed t flows listed p f y = cond-false {A = Option Place} _ (Some p) (cond {A = Option Place} (is_place (rim_place t (rim_number t p)) p) (get_or listed (rim_number t p) None) None) f ∙ cond-true {A = Option Place} _ _ _ y
@@ -57,7 +57,6 @@ pub outlet_unlisted : (t : Cutting) (flows : List Flow) (listed : List (Option P
     outlet_by t flows listed p ≡ None
 outlet_unlisted t flows listed p f n = cond-false {A = Option Place} _ (Some p) (cond {A = Option Place} (is_place (rim_place t (rim_number t p)) p) (get_or listed (rim_number t p) None) None) f ∙ cond-false {A = Option Place} _ _ _ n
 
--- the list of all targets
 pub targets_size : (t : Cutting) (flows : List Flow) (targets : List (Option Place)) → targets ≡ targets_by t flows → length targets ≡ number_count t
 targets_size t flows targets made = ap length made ∙ length-map-range_with_len (target_by t flows) 0 (number_count t)
 
@@ -65,7 +64,7 @@ pub target_listed : (t : Cutting) (flows : List Flow) (targets : List (Option Pl
 target_listed t flows targets made i h =
     ap (λ l. get_or l i None) made ∙ get_or-map-range_with_len (target_by t flows) 0 (number_count t) i i None h (omega arith)
 
--- the target of a tile's own number
+-- The target of a rim number, from its side number.
 pub target_in_tile : (t : Cutting) (flows : List Flow) (tile side : ℕ) (f : Flow) → side < stride (bounds_of t 0) → slice_get flows tile ≡ Some f →
     target_by t flows (tile * stride (bounds_of t 0) + side) ≡ target_in (bounds_of t 0) f side
 target_in_tile t flows tile side f below is =
@@ -89,7 +88,7 @@ module _ (d : Directed) (t : Cutting) (flows : List Flow) (s : AreFlowsOf d t fl
   last_here : (p : Place) → IsOutlet d p → last_of d p ≡ p
   last_here p out = follow_stays d p 0 (moves d) (omega arith) (outlet_stays d p out)
 
-  -- the flow of a place's tile
+  -- The flow of the tile of p.
   pub record HasFlow (p : Place) : Type 0 where
     pub flow : Flow
     pub is : slice_get flows (tile_of_place t p) ≡ Some flow
@@ -109,7 +108,7 @@ module _ (d : Directed) (t : Cutting) (flows : List Flow) (s : AreFlowsOf d t fl
   next_here : (tile : ℕ) (f : Flow) (p : Place) → IsTileExits d t tile f → IsInTile t tile p → next_in f p ≡ next d p
   next_here tile f p right i = ap (λ (o : Option ℕ). unwrap_or (option_and_then (λ code. place_toward code p) o) p) (right.same_codes p i)
 
-  -- a cell whose water goes on into another tile
+  -- A data cell whose direction leads into another tile.
   pub record Crosses (p : Place) : Type 0 where
     pub coded : IsCoded d p
     pub apart : tile_of_place t (next d p) ≢ tile_of_place t p
@@ -122,7 +121,7 @@ module _ (d : Directed) (t : Cutting) (flows : List Flow) (s : AreFlowsOf d t fl
         | inr q ↦ subst (λ (z : Place). Touches p z) (sym (at ∙ ap (λ (o : Option Place). unwrap_or o p) q.1)) (toward_touches p q.0 c.coded.code q.1)
       ]
 
-  -- it lies on the rim
+  -- A cell whose direction leads into another tile lies on the rim.
   on_side : (p : Place) → Crosses p → IsSide (bounds_of t (tile_of_place t p)) p
   on_side p c a b e =
       let w = within_of p c.coded in
@@ -141,7 +140,7 @@ module _ (d : Directed) (t : Cutting) (flows : List Flow) (s : AreFlowsOf d t fl
   abbrev going_out : Flow → Place → Option Place
   going_out f p = cond {A = Option Place} (is_in_bounds f.bounds (next_in f p)) None (Some (next_in f p))
 
-  -- water that stays in the bounds stays in the tile
+  -- The next cell of such a cell is outside the bounds of its tile.
   out_of_bounds : (p : Place) → Crosses p → is_in_bounds (bounds_of t (tile_of_place t p)) (next d p) ≡ false
   out_of_bounds p c =
       let below = tile_of_place_below t p s.cutting (within_of p c.coded) in
@@ -188,7 +187,7 @@ module _ (d : Directed) (t : Cutting) (flows : List Flow) (s : AreFlowsOf d t fl
     is = is ∙ ap (next d) (sym place);
   }
 
-  -- a target is that of a cell of its tile
+  -- The target of a rim number is where its cell's water enters another tile.
   target_from_cell : (i : ℕ) (f : Flow) (p q : Place) → IsTileExits d t (i / stride (bounds_of t 0)) f → i / stride (bounds_of t 0) < tile_count t →
       IsCellOf (bounds_of t 0) (bounds_of t (i / stride (bounds_of t 0))) (i % stride (bounds_of t 0)) p → going_out f p ≡ Some q → IsTarget i q
   target_from_cell i f p q right below cell goes =
@@ -231,13 +230,13 @@ module _ (d : Directed) (t : Cutting) (flows : List Flow) (s : AreFlowsOf d t fl
     | inr q ↦ subst (λ (o : Option Place). IfSome o (IsWithin t)) (sym q.1) (target_within i q.0 q.1).1
   ]
 
-  -- where water that enters a tile leaves it again, or ends
+  -- e is the exit of q, by the flows and by the map of directions.
   pub record HasExit (q e : Place) : Type 0 where
     pub exit : exit_by t flows q ≡ Some e
     pub leads : IsExitOf d t q e
-    pub out : way_out_by t flows q ≡ cond {A = Option Place} (is_outlet_code (code_at d e)) None (Some e)
+    pub out : next_exit_by t flows q ≡ cond {A = Option Place} (is_outlet_code (code_at d e)) None (Some e)
 
-  -- an exit is a cell of the tile
+  -- The exit of a data cell is a data cell in the same tile.
   pub exit_in_tile : (q e : Place) → IsCoded d q → IsExitOf d t q e → IsCoded d e × (tile_of_place t e ≡ tile_of_place t q)
   exit_in_tile q e is x =
       let at : x.0 < x.0 + 1 = omega arith in
@@ -245,7 +244,7 @@ module _ (d : Directed) (t : Cutting) (flows : List Flow) (s : AreFlowsOf d t fl
       eqb-true _ _ (every_in_range (λ j. eqb (tile_of_place t (follow d q j)) (tile_of_place t q)) (x.0 + 1) x.2 x.0 at) in
       (subst (λ (z : Place). IsCoded d z) x.3 (coded_along d s.ends q is x.0), sym (ap (tile_of_place t) x.3) ∙ there)
 
-  -- an exit is its own exit
+  -- An exit is its own exit.
   pub exit_of_exit : (e x : Place) → IsExitCell d t e → IsExitOf d t e x → x ≡ e
   exit_of_exit e x cell h = elim (cases_eq h.0 0) [
     | inl z ↦ sym h.3 ∙ ap (follow d e) z
@@ -267,7 +266,7 @@ module _ (d : Directed) (t : Cutting) (flows : List Flow) (s : AreFlowsOf d t fl
         record {
           exit = ap (λ (o : Option Flow). option_and_then (λ (z : Flow). exit_in z q) o) f.is ∙ m.1;
           leads = m.2;
-          out = ap (λ (o : Option Flow). option_and_then (λ (z : Flow). way_out_in z q) o) f.is
+          out = ap (λ (o : Option Flow). option_and_then (λ (z : Flow). next_exit_in z q) o) f.is
               ∙ ap (λ (o : Option Place). option_and_then (λ (e : Place). cond {A = Option Place} (is_outlet_code (entry_in f.flow.bounds f.flow.codes e)) None (Some e)) o) m.1
               ∙ ap (λ (o : Option ℕ). cond {A = Option Place} (is_outlet_code o) None (Some m.0)) same;
         },
@@ -276,19 +275,19 @@ module _ (d : Directed) (t : Cutting) (flows : List Flow) (s : AreFlowsOf d t fl
   pub not_outlet : (e : Place) → Crosses e → is_outlet_code (code_at d e) ≡ false
   not_outlet e c = false_from_ne_true _ (λ y. c.apart (ap (tile_of_place t) (outlet_stays d e (outlet_from_code (code_at d e) y))))
 
-  pub way_out_within : (q e : Place) → IsWithin t q → way_out_by t flows q ≡ Some e → IsWithin t e
-  way_out_within q e w x = elim (cases_coded d q) [
+  pub next_exit_within : (q e : Place) → IsWithin t q → next_exit_by t flows q ≡ Some e → IsWithin t e
+  next_exit_within q e w x = elim (cases_coded d q) [
     | inr is ↦ (let y = exit_here q is in elim (cases_Bool (is_outlet_code (code_at d y.0))) [
       | inl out ↦ absurd (none-some e (sym (cond-true {A = Option Place} _ None (Some y.0) out) ∙ sym y.1.out ∙ x))
       | inr goes ↦ subst (λ (z : Place). IsWithin t z) (same_Some y.0 e (sym (cond-false {A = Option Place} _ None (Some y.0) goes) ∙ sym y.1.out ∙ x)) (within_of y.0 (exit_in_tile q y.0 is y.1.leads).0)
     ])
     | inl none ↦ (let f = flow_of q w in
         let m = MatchOption-at_none _ _ none (f.right.each q (w, refl)) in
-        absurd (none-some e (sym (ap (λ (o : Option Flow). option_and_then (λ (z : Flow). way_out_in z q) o) f.is
+        absurd (none-some e (sym (ap (λ (o : Option Flow). option_and_then (λ (z : Flow). next_exit_in z q) o) f.is
         ∙ ap (λ (o : Option Place). option_and_then (λ (e : Place). cond {A = Option Place} (is_outlet_code (entry_in f.flow.bounds f.flow.codes e)) None (Some e)) o) m) ∙ x)))
   ]
 
-  -- what a number is linked to
+  -- Rim number i has a next exit, `to`, and is linked to its number.
   pub record Goes (i : ℕ) : Type 0 where
     pub to : Place
     pub crosses : Crosses to
@@ -306,7 +305,7 @@ module _ (d : Directed) (t : Cutting) (flows : List Flow) (s : AreFlowsOf d t fl
     pub link : rim_link t flows i ≡ i
 
   abbrev link_by : ℕ → Option Place → ℕ
-  link_by i o = number_or t i (option_and_then (λ q. way_out_by t flows q) o)
+  link_by i o = number_or t i (option_and_then (λ q. next_exit_by t flows q) o)
 
   pub targets_on : (i : ℕ) (q : Place) → target_by t flows i ≡ Some q → Goes i ⊎ Stops i
   targets_on i q e =
@@ -382,7 +381,7 @@ module _ (d : Directed) (t : Cutting) (flows : List Flow) (s : AreFlowsOf d t fl
     rim_streams = streams_from links (λ i h. omega (arith, links_in i (omega (arith, h, links_size)), links_size))
         (λ i h. stop_within (moves d) i (omega (arith, h, links_size)) (λ q e. stops_of (rim_place t i) (target_from i q e).crosses.coded))
 
-    -- the nodes of a path have water that ends at one outlet
+    -- The water of i and of a node j on its path ends at one outlet.
     record OnWay (i j : ℕ) : Type 0 where
       pub entry : Place
       pub target : target_by t flows j ≡ Some entry
@@ -406,7 +405,7 @@ module _ (d : Directed) (t : Cutting) (flows : List Flow) (s : AreFlowsOf d t fl
         step_on i (node_after links i k) (omega (arith, node_after-inside links rim_streams i (omega (arith, h, links_size)) k, links_size)) (on_way i h q e k)
 
     module _ (ends : List ℕ) (found : AreEnds links ends) where
-      -- where the links end, the water does
+      -- The end of the links of i gives the outlet of its water.
       pub outlet_of : (i : ℕ) → i < number_count t → (q : Place) → target_by t flows i ≡ Some q → rim_outlet t flows ends i ≡ Some (last_of d (rim_place t i))
       outlet_of i h q e =
           let here : i < length links = omega (arith, h, links_size) in

@@ -1,4 +1,4 @@
--- What enters a tile at a place is the place's inflow.
+-- The sum of the amounts sent to a place is its inflow.
 use Rattle.std.proofs.Common.{◌≡◌, ◌≢◌, ℕ, suc, ◌+◌, ◌-◌, ◌*◌, ◌<◌, ◌≤◌, ◌⊎◌, inl, inr, true, eqb, List, get_or, Option, None, Some, is_some, sym, ap, subst, refl, ◌∙◌, arith}
 use Rattle.std.specs.List.{list_any, range_with_len}
 use Rattle.std.proofs.lemmas.Bool.{cases_eq, cases_Bool, and_from, and_left, and_right, eq-eqb, ne_eqb, eqb-true, cond-true, cond-false, false≢true}
@@ -32,7 +32,7 @@ sent-sum t k None f n = sym (sum_below-none (λ c. 0) n (λ c h. refl))
 sent-sum t k (Some q) f n = cond-sum (eqb (rim_number t q) k) f n
 
 module _ (d : Directed) (t : Cutting) (flows : List Flow) (s : AreFlowsOf d t flows) (counts : AreTileCounts d t flows) where
-  -- a place that water enters lies on the rim
+  -- A place that water enters from another tile lies on the rim.
   entry_side : (p : Place) → Crosses d t flows s p → IsSide (bounds_of t (tile_of_place t (next d p))) (next d p)
   entry_side p c a b e =
       let coded = coded_along d s.ends p c.coded 1 in
@@ -49,7 +49,7 @@ module _ (d : Directed) (t : Cutting) (flows : List Flow) (s : AreFlowsOf d t fl
   pub entry_back : (p : Place) → Crosses d t flows s p → rim_place t (rim_number t (next d p)) ≡ next d p
   entry_back p c = number_back t s.cutting (next d p) (within_of d t flows s (next d p) (coded_along d s.ends p c.coded 1)) (entry_side p c)
 
-  -- a cell of a path from which water enters another
+  -- The flow path of q enters p from another tile, after so many steps.
   record Enters (p q : Place) : Type 0 where
     pub steps : ℕ
     pub crosses : Crosses d t flows s (follow d q steps)
@@ -60,7 +60,7 @@ module _ (d : Directed) (t : Cutting) (flows : List Flow) (s : AreFlowsOf d t fl
       let x = enters_from d (ending d t flows s counts) t p q y in
       record { steps = x.0; leads = x.1; crosses = record { coded = coded_along d s.ends q is x.0; apart = λ e. x.2 (sym e ∙ ap (tile_of_place t) x.1) } }
 
-  -- it does so from one cell alone
+  -- A flow path enters p from one cell at most.
   enters_once : (p q : Place) → IsCoded d q → (a b : ℕ) → Crosses d t flows s (follow d q a) → next d (follow d q a) ≡ p → Crosses d t flows s (follow d q b) → next d (follow d q b) ≡ p →
       follow d q a ≡ follow d q b
   enters_once p q is a b c first x second =
@@ -68,11 +68,11 @@ module _ (d : Directed) (t : Cutting) (flows : List Flow) (s : AreFlowsOf d t fl
       ap (follow d q) (comes_once d e (λ z. z ≡ p) q is (suc a) (suc b) (first ∙ sym second)
       (one_move d e q p a first (λ z. c.apart (ap (tile_of_place t) (first ∙ sym z)))) (one_move d e q p b second (λ z. x.apart (ap (tile_of_place t) (second ∙ sym z)))))
 
-  -- an exit's part of the water of a cell that enters a place
+  -- 1 if the water of cell c passes exit i and enters p there, else 0.
   abbrev piece : Place → ℕ → ℕ → ℕ
   piece p c i = sent_to t (rim_number t p) (target_by t flows i) (drained d (rim_place t i) (cell d c))
 
-  -- an exit that leads to a place on the rim
+  -- Rim number i is an exit that leads to p, which lies on the rim.
   record LeadsTo (p : Place) (i : ℕ) : Type 0 where
     pub crosses : Crosses d t flows s (rim_place t i)
     pub number : rim_number t (rim_place t i) ≡ i
@@ -128,7 +128,7 @@ module _ (d : Directed) (t : Cutting) (flows : List Flow) (s : AreFlowsOf d t fl
         ]
   ]
 
-  -- nothing enters a place that is not on the rim
+  -- A place not on the rim has inflow 0.
   inflow_none : (p : Place) → rim_place t (rim_number t p) ≢ p → inflow_of d t p ≡ 0
   inflow_none p off = inflow_sum d t p ∙ sum_below-none (λ c. entered d t p (cell d c)) (d.rows * d.cols) (λ c h. elim (cases_Bool (is_some (code_at d (cell d c)))) [
     | inr f ↦ cond-false {A = ℕ} _ 1 0 (and_left _ _ f)
@@ -139,46 +139,46 @@ module _ (d : Directed) (t : Cutting) (flows : List Flow) (s : AreFlowsOf d t fl
     ]
   ])
 
-  module _ (links weights came : List ℕ) (targets : List (Option Place)) (asked : targets ≡ targets_by t flows) (made : links ≡ rim_links_by t flows) (weighed : weights ≡ rim_weights_by t flows) (up : AreUpstream links weights came) where
-    -- what an exit sends
-    sends : (k i : ℕ) → i < number_count t → entering t targets weights came k i ≡ sent_to t k (target_by t flows i) (all_drained d (rim_place t i))
+  module _ (links weights upstream : List ℕ) (targets : List (Option Place)) (asked : targets ≡ targets_by t flows) (made : links ≡ rim_links_by t flows) (weighed : weights ≡ rim_weights_by t flows) (up : AreUpstream links weights upstream) where
+    -- Each exit sends all the water that its cell drains.
+    sends : (k i : ℕ) → i < number_count t → entering t targets weights upstream k i ≡ sent_to t k (target_by t flows i) (all_drained d (rim_place t i))
     sends k i h =
         let at = up.each i (omega (arith, h, links_size d t flows s links made)) in
-        ap (λ (o : Option Place). sent_to t k o (get_or came i 0 + get_or weights i 0)) (target_listed t flows targets asked i h)
+        ap (λ (o : Option Place). sent_to t k o (get_or upstream i 0 + get_or weights i 0)) (target_listed t flows targets asked i h)
         ∙ elim (cases_option (target_by t flows i)) [
-          | inl none ↦ ap (λ (o : Option Place). sent_to t k o (get_or came i 0 + get_or weights i 0)) none ∙ sym (ap (λ (o : Option Place). sent_to t k o (all_drained d (rim_place t i))) none)
+          | inl none ↦ ap (λ (o : Option Place). sent_to t k o (get_or upstream i 0 + get_or weights i 0)) none ∙ sym (ap (λ (o : Option Place). sent_to t k o (all_drained d (rim_place t i))) none)
           | inr q ↦ ap (sent_to t k (target_by t flows i)) (at ∙ total_drained d t flows s counts links made weights weighed i q.0 h q.1)
         ]
 
-    -- all that enters at a place on the rim
-    entering_is : (p : Place) → rim_place t (rim_number t p) ≡ p → sum_below (entering t targets weights came (rim_number t p)) (number_count t) ≡ sum_below (λ c. entered d t p (cell d c)) (d.rows * d.cols)
+    -- All amounts sent to a place on the rim add up to its inflow.
+    entering_is : (p : Place) → rim_place t (rim_number t p) ≡ p → sum_below (entering t targets weights upstream (rim_number t p)) (number_count t) ≡ sum_below (λ c. entered d t p (cell d c)) (d.rows * d.cols)
     entering_is p on =
-        sum_below-same (entering t targets weights came (rim_number t p)) (λ i. sum_below (λ c. piece p c i) (d.rows * d.cols)) (number_count t)
+        sum_below-same (entering t targets weights upstream (rim_number t p)) (λ i. sum_below (λ c. piece p c i) (d.rows * d.cols)) (number_count t)
         (λ i h. sends (rim_number t p) i h ∙ sent-sum t (rim_number t p) (target_by t flows i) (λ c. drained d (rim_place t i) (cell d c)) (d.rows * d.cols))
         ∙ exchange (λ i c. piece p c i) (number_count t) (d.rows * d.cols)
         ∙ sum_below-same (λ c. sum_below (piece p c) (number_count t)) (λ c. entered d t p (cell d c)) (d.rows * d.cols) (λ c h. pieces_are p on c)
 
-    pub entering_few : (k : ℕ) → sum_below (entering t targets weights came k) (number_count t) ≤ 16777216
+    pub entering_few : (k : ℕ) → sum_below (entering t targets weights upstream k) (number_count t) ≤ 16777216
     entering_few k =
         elim (cases_eq (rim_number t (rim_place t k)) k) [
           | inl e ↦
-              let same = ap (λ n. sum_below (entering t targets weights came n) (number_count t)) (sym e) in
+              let same = ap (λ n. sum_below (entering t targets weights upstream n) (number_count t)) (sym e) in
               omega (arith, same, entering_is (rim_place t k) (ap (rim_place t) e), entered_few d (ending d t flows s counts) t (rim_place t k))
           | inr ne ↦
               omega (
                 arith,
-                sum_below-none (entering t targets weights came k) (number_count t) (λ i h. ap (λ (o : Option Place). sent_to t k o (get_or came i 0 + get_or weights i 0)) (target_listed t flows targets asked i h) ∙ elim (cases_option (target_by t flows i)) [
-                  | inl none ↦ ap (λ (o : Option Place). sent_to t k o (get_or came i 0 + get_or weights i 0)) none
+                sum_below-none (entering t targets weights upstream k) (number_count t) (λ i h. ap (λ (o : Option Place). sent_to t k o (get_or upstream i 0 + get_or weights i 0)) (target_listed t flows targets asked i h) ∙ elim (cases_option (target_by t flows i)) [
+                  | inl none ↦ ap (λ (o : Option Place). sent_to t k o (get_or upstream i 0 + get_or weights i 0)) none
                   | inr q ↦
                       let x = target_from d t flows s i q.0 q.1 in
                       let back_at : rim_place t (rim_number t q.0) ≡ q.0 = ap (λ z. rim_place t (rim_number t z)) x.is ∙ entry_back (rim_place t i) x.crosses ∙ sym x.is in
-                      ap (λ (o : Option Place). sent_to t k o (get_or came i 0 + get_or weights i 0)) q.1
-                      ∙ cond-false {A = ℕ} _ (get_or came i 0 + get_or weights i 0) 0 (ne_eqb _ _ (λ e. ne (ap (λ n. rim_number t (rim_place t n)) (sym e) ∙ ap (rim_number t) back_at ∙ e)))
+                      ap (λ (o : Option Place). sent_to t k o (get_or upstream i 0 + get_or weights i 0)) q.1
+                      ∙ cond-false {A = ℕ} _ (get_or upstream i 0 + get_or weights i 0) 0 (ne_eqb _ _ (λ e. ne (ap (λ n. rim_number t (rim_place t n)) (sym e) ∙ ap (rim_number t) back_at ∙ e)))
                 ]),
               )
         ]
 
-    module _ (listed : List ℕ) (are : AreEntering t targets weights came listed) where
+    module _ (listed : List ℕ) (are : AreEntering t targets weights upstream listed) where
       pub inflow_at : (p : Place) → IsWithin t p → inflow_by t listed p ≡ inflow_of d t p
       inflow_at p w = elim (cases_Bool (is_place (rim_place t (rim_number t p)) p)) [
         | inr f ↦ cond-false {A = ℕ} _ (get_or listed (rim_number t p) 0) 0 f ∙ sym (inflow_none p (λ e. false≢true (sym f ∙ is_place_from _ _ e)))

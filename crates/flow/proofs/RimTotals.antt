@@ -1,4 +1,4 @@
--- All that comes through an exit is its total along the links of the exits.
+-- The number of cells that drain through an exit is its total along the links of exits.
 use Rattle.std.proofs.Common.{◌≡◌, ◌≢◌, ℕ, suc, ◌+◌, ◌-◌, ◌*◌, ◌<◌, ◌≤◌, ◌⊎◌, inl, inr, true, false, cond, ◌&&◌, eqb, List, length, get_or, Option, None, Some, is_some, sym, ap, subst, refl, ◌∙◌, arith, unwrap_or}
 use Rattle.std.specs.Option.{option_and_then}
 use Rattle.std.proofs.lemmas.Option.{none-some, MatchOption-at_some}
@@ -13,7 +13,7 @@ use Rattle.flow.specs.Counts.{drains_through}
 use Rattle.flow.specs.Streams.{onward, leads_to, upstream_sum, sum_below, total, total_within}
 use Rattle.flow.specs.TileFlow.{Flow, AreTileCounts, stays, reaches_inside, IsExitOf, through_in}
 use Rattle.tiles.specs.RimNumbers.{number_count, rim_number, rim_place}
-use Rattle.flow.specs.RimGraph.{AreFlowsOf, target_by, way_out_by, number_or, rim_links_by}
+use Rattle.flow.specs.RimGraph.{AreFlowsOf, target_by, next_exit_by, number_or, rim_links_by}
 use Rattle.flow.specs.Inflows.{rim_weight, rim_weights_by, weight_or, through_by}
 use Rattle.flow.proofs.Sums.{cond_same, sum_below-same, sum_below-add, sum_below-none, exchange, one_term, cond-sum}
 use Rattle.flow.proofs.Windows.{some_in_range, any_in_range, every_in_range}
@@ -28,7 +28,7 @@ module _ (d : Directed) (t : Cutting) (flows : List Flow) (s : AreFlowsOf d t fl
   pub ending : IsEnding d
   ending = ending_of d t s.ends s.cutting s.of_tiles.size
 
-  -- a place of a path from which water goes on into another tile is the exit, or comes after it
+  -- A place where the path of q enters another tile next is its exit e, or is after e.
   crossing_at : (q e c : Place) → IsExitOf d t q e → (m : ℕ) → follow d q m ≡ c → Crosses d t flows s c →
       (c ≡ e) ⊎ ((k : ℕ) × (k < m) × (follow d q k ≡ e) × (tile_of_place t (next d e) ≢ tile_of_place t e))
   crossing_at q e c x m way cr = elim (cases_lt m x.0) [
@@ -44,7 +44,7 @@ module _ (d : Directed) (t : Cutting) (flows : List Flow) (s : AreFlowsOf d t fl
     ]
   ]
 
-  -- what leaves over an exit from its own tile
+  -- The weight of an exit is the number of cells of its own tile that it drains.
   pub weight_targeted : (j : ℕ) (q : Place) → target_by t flows j ≡ Some q → rim_weight t flows j ≡ all_gathered d t (rim_place t j)
   weight_targeted j q e =
       let x = (target_from d t flows s j q e).crosses in
@@ -66,7 +66,7 @@ module _ (d : Directed) (t : Cutting) (flows : List Flow) (s : AreFlowsOf d t fl
   ]
 
   module _ (links : List ℕ) (made : links ≡ rim_links_by t flows) where
-    -- water of a number that is linked to another leaves the next tile over that one
+    -- If j is linked to i, water from j leaves the next tile by exit i.
     leads_out : (i j : ℕ) → j < number_count t → leads_to links j i ≡ true → (g : Goes d t flows s j) × (rim_number t g.to ≡ i) × (q : Place) × (target_by t flows j ≡ Some q)
     leads_out i j h y =
         let l = leads_parts links j i y in
@@ -79,16 +79,16 @@ module _ (d : Directed) (t : Cutting) (flows : List Flow) (s : AreFlowsOf d t fl
           ]
         ]
 
-    -- the exit of a place is linked to that of the place that its water enters
+    -- An exit is linked to the exit of the place that its water enters.
     link_on : (e : Place) → Crosses d t flows s e → (is : IsCoded d (next d e)) → Crosses d t flows s (exit_here d t flows s (next d e) is).0 →
         onward links (rim_number t e) ≡ rim_number t (exit_here d t flows s (next d e) is).0
     link_on e c is to =
         let x = exit_here d t flows s (next d e) is in
         link_at d t flows s links made (rim_number t e) (to_below d t flows s e c)
-        ∙ ap (λ (o : Option Place). number_or t (rim_number t e) (option_and_then (λ q. way_out_by t flows q) o)) (target_on d t flows s e c)
+        ∙ ap (λ (o : Option Place). number_or t (rim_number t e) (option_and_then (λ q. next_exit_by t flows q) o)) (target_on d t flows s e c)
         ∙ ap (number_or t (rim_number t e)) (x.1.out ∙ cond-false {A = Option Place} _ None (Some x.0) (not_outlet d t flows s x.0 to))
 
-    -- One cell's water comes to an exit from the exit's own tile, or over an exit that is linked to it.
+    -- A cell's water reaches an exit from inside its tile, or by one exit that is linked to it.
     module _ (i : ℕ) (q : Place) (target : target_by t flows i ≡ Some q) (c : Place) (is : IsCoded d c) where
       abbrev In : Place → Type 0
       In p = tile_of_place t p ≡ tile_of_place t (rim_place t i)
@@ -152,7 +152,7 @@ module _ (d : Directed) (t : Cutting) (flows : List Flow) (s : AreFlowsOf d t fl
             ])
       ]
         where
-          -- the exit over which it comes is linked to this one
+          -- The exit by which the water enters the tile is linked to i.
           linked : (k : ℕ) → follow d c k ≡ rim_place t i → (x : Comes d ending In c k) → (cr : Crosses d t flows s (follow d c x.from)) → onward links (rim_number t (follow d c x.from)) ≡ i
           linked k at x cr =
               let coded = coded_along d s.ends c is (suc x.from) in
@@ -185,16 +185,16 @@ module _ (d : Directed) (t : Cutting) (flows : List Flow) (s : AreFlowsOf d t fl
                 counted_on d c (drains_through d (rim_place t (rim_number t (follow d c x.from))) c) is (drains_at d ending c _ is x.from (sym place)),
               )
 
-    -- nothing leads to a number that stands for no such exit
+    -- No number is linked to one that is no exit into another tile.
     none_leads : (i j : ℕ) → target_by t flows i ≡ None → j < number_count t → leads_to links j i ≡ false
     none_leads i j none h = false_from_ne_true _ (λ y. (let o = leads_out i j h y in
         none-some (next d o.0.to) (sym none ∙ ap (target_by t flows) (sym o.1) ∙ target_on d t flows s o.0.to o.0.crosses)))
 
-    -- a cell's water that comes over an exit that is linked to another
+    -- 1 if j is linked to i and the water of cell c passes exit j, else 0.
     abbrev over : ℕ → ℕ → ℕ → ℕ
     over i c j = cond {A = ℕ} (leads_to links j i) (drained d (rim_place t j) (cell d c)) 0
 
-    -- the same of the water of all cells
+    -- All cells that drain through exit i: those of its tile, and those by exits linked to it.
     tallied : (i : ℕ) (q : Place) → target_by t flows i ≡ Some q → all_drained d (rim_place t i) ≡ all_gathered d t (rim_place t i) + upstream_sum links (λ j. all_drained d (rim_place t j)) i
     tallied i q e = omega (
       arith,

@@ -1,4 +1,4 @@
--- The outlets of a list of codes, of those of its runs.
+-- The outlets of a list of codes, from the counts of its runs.
 use Rattle.std.proofs.Common.{◌≡◌, ℕ, zero, suc, ◌+◌, ◌-◌, ◌*◌, ◌/◌, ◌^◌, ◌<◌, ◌≤◌, inl, inr, cond, List, length, get_or, take, drop, count_by, Option, Some, slice_get, slice_range, sym, ap, subst, ◌∙◌, arith}
 use Rattle.std.specs.List.{sum_by}
 use Rattle.std.proofs.Math.Nat.{div-mul-le_self, lt-div-mul-add, div-lt_iff_lt-mul}
@@ -11,7 +11,7 @@ use Rattle.flow.specs.Whole.{is_outlet_code}
 use Rattle.flow.specs.OutletRuns.{CodeRuns, AreCodeRuns, IsRunCounted, AreRunsCounted, run_start, run_codes}
 use Rattle.flow.specs.declared.outlet_runs.RunCounts.{RunCounts}
 
--- those before a place are those before a part, and those of the part that stand before the place
+-- The outlets before a + i: those before a, and those among the first i codes from a on.
 pub counted_inside : (codes : List (Option ℕ)) (a i b : ℕ) → a + i ≤ b →
     count_by is_outlet_code (take (a + i) codes) ≡ count_by is_outlet_code (take a codes) + count_by is_outlet_code (take i (slice_range codes a b))
 counted_inside codes a i b h =
@@ -19,13 +19,13 @@ counted_inside codes a i b h =
     ∙ sum_by-append (λ code. cond {A = ℕ} (is_outlet_code code) 1 0) (take a codes) (take i (drop a codes))
     ∙ ap (λ l. count_by is_outlet_code (take a codes) + count_by is_outlet_code l) (sym (take-take i (b - a) (drop a codes) (omega (arith, h))))
 
--- what the jobs gave
+-- The counts that the jobs return are those of their runs.
 pub runs_given : (r : CodeRuns) (counts : List RunCounts) → AllGiven (λ k c. IsRunCounted (run_codes r k) c) (length counts) counts →
     (k : ℕ) (c : RunCounts) → slice_get counts k ≡ Some c → IsRunCounted (run_codes r k) c
 runs_given r counts given k c there =
     subst (IsRunCounted (run_codes r k)) (get_or_from_slice_get counts k c c there) (given k c (slice_get_within counts k c there))
 
--- a run begins where the one before it ends
+-- A run starts no earlier than the run before it.
 next_start : (r : CodeRuns) (k : ℕ) → run_start r k ≤ run_start r (k + 1)
 next_start r k =
     let more : (k + 1) * r.run_length ≡ k * r.run_length + r.run_length = omega arith in
@@ -42,7 +42,7 @@ counted_more r k =
     ∙ ap (λ l. count_by is_outlet_code (take a r.codes) + count_by is_outlet_code l) (take-take (b - a) (b - a) (drop a r.codes) (omega arith))
 
 module _ (r : CodeRuns) (counts : List RunCounts) (counted : (k : ℕ) (c : RunCounts) → slice_get counts k ≡ Some c → IsRunCounted (run_codes r k) c) where
-  -- those of the first runs
+  -- The outlets in the first k runs are those before run k.
   pub counted_before : (k : ℕ) → k ≤ length counts → sum_by (λ c. c.total) (take k counts) ≡ count_by is_outlet_code (take (run_start r k) r.codes)
   counted_before zero h =
       let start : 0 ≡ run_start r 0 = omega arith in ap (λ n. count_by is_outlet_code (take n r.codes)) start
@@ -78,11 +78,11 @@ module _ (r : CodeRuns) (counts : List RunCounts) (counted : (k : ℕ) (c : RunC
       )
 
 module _ (r : CodeRuns) (counts : List RunCounts) (before : List ℕ) (are : AreCodeRuns r) (s : AreRunsCounted r counts before) (i : ℕ) (h : i < length r.codes) where
-  -- the run in which a place lies
+  -- Index i lies in one of the runs counted.
   pub run_below : (k : ℕ) → k ≡ i / r.run_length → k < length counts
   run_below k at = omega (arith, at, (div-lt_iff_lt-mul {x = i} {y = length counts} are.some).1 (omega (arith, h, s.enough)))
 
-  -- those before a place are those before its run, and those of the run
+  -- The outlets before i: those before its run, and those before i in the run.
   counted_at : (k start : ℕ) → k ≡ i / r.run_length → start ≡ k * r.run_length →
       get_or before k 0 + count_by is_outlet_code (take (i - start) (run_codes r k)) ≡ count_by is_outlet_code (take i r.codes)
   counted_at k start at from =
@@ -101,7 +101,7 @@ module _ (r : CodeRuns) (counts : List RunCounts) (before : List ℕ) (are : Are
         s.sums.each k (omega (arith, run_below k at, s.sums.size)),
       )
 
-  -- the same of what was read, with a bound
+  -- The sum of the two counts is the number of outlets before i, and 1 more fits in 32 bits.
   pub counted_here : {l m x y : ℕ} {run : List (Option ℕ)} → l ≡ r.run_length → m ≡ r.run_length → run ≡ run_codes r (i / l) →
       x ≡ get_or before (i / l) x → y ≡ count_by is_outlet_code (take (i - i / l * m) run) → (x + y ≡ count_by is_outlet_code (take i r.codes)) × (x + y < 2 ^ 32 - 1)
   counted_here {l} {m} {x} {y} {run} whole again codes listed inside =

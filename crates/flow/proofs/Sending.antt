@@ -1,10 +1,10 @@
--- Sending downstream along links, node by node.
+-- The loop that sends sums downstream along links, node by node.
 use Rattle.std.proofs.Common.{◌≡◌, ◌≢◌, ℕ, ◌+◌, ◌<◌, Bool, true, false, not, ◌&&◌, cond, eqb, inl, inr, List, length, get_or, set, sym, ap, refl, ◌∙◌, arith, ◌^◌, ◌≤◌, ◌-◌}
 use Rattle.std.proofs.lemmas.Bool.{cases_eq, cases_Bool, eq-eqb, ne_eqb, eqb-true, cond-true, cond-false, and_left, and_right, and_parts, not-true, not_from_true, not_from_false, true_from_ne_false, false≢true, false_from_ne_true}
 use Rattle.std.proofs.lemmas.List.{get_or-set_same, get_or-set_other}
 use Rattle.std.proofs.Math.ListN.{length-set}
 use Rattle.flow.specs.Streams.{onward, leads_to, AreStreams, AreUpstream, sum_below, total}
-use Rattle.flow.specs.Sending.{donor, sent_mark, has_sent, waiting, sent_on, IsSending, AreNone, AreDonorCounts}
+use Rattle.flow.specs.Sending.{donor, sent_mark, has_sent, waiting, sent_on, IsSending, AreZeros, AreDonorCounts}
 use Rattle.flow.proofs.Totals.{leads_from, each_downstream, totals_le, totals_are, total_is, leads_self, leads_end}
 use Rattle.flow.proofs.Sums.{bit_le, sum_below-none, sum_below-few, sum_below-same, sum_below-le, sum_below-except, some_term, term-le-sum_below}
 
@@ -18,12 +18,12 @@ waiting-open links waits i j f = ap (λ x. cond {A = ℕ} x 1 0) (and_on (leads_
 pub waiting-sent : (links waits : List ℕ) (i j : ℕ) → has_sent waits j ≡ true → waiting links waits i j ≡ 0
 waiting-sent links waits i j t = cond-false _ _ _ (and_right _ _ (not_from_true _ t))
 
-pub sent_on-open : (links weights waits came : List ℕ) (i j : ℕ) → has_sent waits j ≡ false → sent_on links weights waits came i j ≡ 0
-sent_on-open links weights waits came i j f = cond-false _ _ _ (and_right _ _ f)
+pub sent_on-open : (links weights waits upstream : List ℕ) (i j : ℕ) → has_sent waits j ≡ false → sent_on links weights waits upstream i j ≡ 0
+sent_on-open links weights waits upstream i j f = cond-false _ _ _ (and_right _ _ f)
 
-pub sent_on-all : (links weights waits came : List ℕ) (i j : ℕ) → has_sent waits j ≡ true →
-    sent_on links weights waits came i j ≡ cond {A = ℕ} (leads_to links j i) (get_or came j 0 + get_or weights j 0) 0
-sent_on-all links weights waits came i j t = ap (λ x. cond {A = ℕ} x (get_or came j 0 + get_or weights j 0) 0) (and_on (leads_to links j i) (has_sent waits j) t)
+pub sent_on-all : (links weights waits upstream : List ℕ) (i j : ℕ) → has_sent waits j ≡ true →
+    sent_on links weights waits upstream i j ≡ cond {A = ℕ} (leads_to links j i) (get_or upstream j 0 + get_or weights j 0) 0
+sent_on-all links weights waits upstream i j t = ap (λ x. cond {A = ℕ} x (get_or upstream j 0 + get_or weights j 0) 0) (and_on (leads_to links j i) (has_sent waits j) t)
 
 pub awaited_from : (links waits : List ℕ) (i j : ℕ) → 0 < waiting links waits i j → (leads_to links j i ≡ true) × (has_sent waits j ≡ false)
 awaited_from links waits i j h = elim (cases_Bool (leads_to links j i && not (has_sent waits j))) [
@@ -34,14 +34,14 @@ awaited_from links waits i j h = elim (cases_Bool (leads_to links j i && not (ha
 pub open_from_count : (waits : List ℕ) (i : ℕ) → get_or waits i 0 < sent_mark → has_sent waits i ≡ false
 open_from_count waits i l = ne_eqb _ _ (λ e. omega (arith, e))
 
--- the one node to which the water of a node goes on
+-- A node that is no end leads to its link and to no other node.
 pub leads_test : (links : List ℕ) (node i : ℕ) → onward links node ≢ node → leads_to links node i ≡ eqb (onward links node) i
 leads_test links node i ne = elim (cases_Bool (eqb (onward links node) i)) [
   | inl y ↦ leads_from links node i (eqb-true _ _ y) (λ e. ne (eqb-true _ _ y ∙ sym e)) ∙ sym y
   | inr n ↦ and_left _ _ n ∙ sym n
 ]
 
--- a list after an entry was raised
+-- A list after entry k is raised by v.
 pub added_at : (xs : List ℕ) (k v i : ℕ) → k < length xs → get_or (set xs k (get_or xs k 0 + v)) i 0 ≡ get_or xs i 0 + cond {A = ℕ} (eqb k i) v 0
 added_at xs k v i h = elim (cases_eq k i) [
   | inl e ↦ omega (
@@ -54,54 +54,54 @@ added_at xs k v i h = elim (cases_eq k i) [
   | inr ne ↦ omega (arith, get_or-set_other xs k i (get_or xs k 0 + v) 0 (λ e. ne (sym e)), cond-false {A = ℕ} _ v 0 (ne_eqb k i ne))
 ]
 
--- the state in which nothing has been sent, and the one in which all has
+-- Before any node has sent, and after all have.
 
 part_le : (a b : Bool) (n : ℕ) → cond {A = ℕ} (a && b) n 0 ≤ cond {A = ℕ} a n 0
 part_le true true n = omega arith
 part_le true false n = omega arith
 part_le false b n = omega arith
 
--- no more has come to a node than its total
-pub came_le : (links weights waits came : List ℕ) → AreStreams links → IsSending links weights waits came →
-    (i : ℕ) → i < length links → get_or came i 0 + get_or weights i 0 ≤ total links weights i
-came_le links weights waits came streams s =
-    totals_le links streams (λ j. get_or weights j 0) (λ j. get_or came j 0 + get_or weights j 0) (total links weights)
+-- A node's sum so far and its own weight are at most its total.
+pub upstream_le : (links weights waits upstream : List ℕ) → AreStreams links → IsSending links weights waits upstream →
+    (i : ℕ) → i < length links → get_or upstream i 0 + get_or weights i 0 ≤ total links weights i
+upstream_le links weights waits upstream streams s =
+    totals_le links streams (λ j. get_or weights j 0) (λ j. get_or upstream j 0 + get_or weights j 0) (total links weights)
     (λ i h. omega (
       arith,
       s.sums i h,
-      sum_below-le (sent_on links weights waits came i) (λ j. cond {A = ℕ} (leads_to links j i) (get_or came j 0 + get_or weights j 0) 0) (length links)
-          (λ j l. part_le (leads_to links j i) (has_sent waits j) (get_or came j 0 + get_or weights j 0)),
+      sum_below-le (sent_on links weights waits upstream i) (λ j. cond {A = ℕ} (leads_to links j i) (get_or upstream j 0 + get_or weights j 0) 0) (length links)
+          (λ j l. part_le (leads_to links j i) (has_sent waits j) (get_or upstream j 0 + get_or weights j 0)),
     ))
     (λ i h. omega (arith, (totals_are links weights streams).each i h))
 
--- where no count is 0, all have sent
-pub all_sent : (links weights waits came : List ℕ) → AreStreams links → IsSending links weights waits came → ((i : ℕ) → i < length links → get_or waits i 0 ≢ 0) →
+-- If no count is 0, every node has sent.
+pub all_sent : (links weights waits upstream : List ℕ) → AreStreams links → IsSending links weights waits upstream → ((i : ℕ) → i < length links → get_or waits i 0 ≢ 0) →
     (i : ℕ) → i < length links → has_sent waits i ≡ true
-all_sent links weights waits came streams s some = each_downstream links streams (λ _ i. has_sent waits i ≡ true)
+all_sent links weights waits upstream streams s some = each_downstream links streams (λ _ i. has_sent waits i ≡ true)
     (λ _ i h before. true_from_ne_false _ (λ f.
     (let above : 0 < sum_below (waiting links waits i) (length links) = omega (arith, some i h, s.counts i h f) in
     let j = some_term (waiting links waits i) (length links) above in
     let a = awaited_from links waits i j.0 j.2 in
     false≢true (sym a.1 ∙ before j.0 j.1 a.0))))
 
-pub upstream_from : (links weights waits came : List ℕ) → AreStreams links → IsSending links weights waits came → ((i : ℕ) → i < length links → get_or waits i 0 ≢ 0) → AreUpstream links weights came
-upstream_from links weights waits came streams s some = record {
-  size = s.came_size;
-  each = λ i h. sym (total_is links weights (λ j. get_or came j 0 + get_or weights j 0) streams (record {
+pub upstream_from : (links weights waits upstream : List ℕ) → AreStreams links → IsSending links weights waits upstream → ((i : ℕ) → i < length links → get_or waits i 0 ≢ 0) → AreUpstream links weights upstream
+upstream_from links weights waits upstream streams s some = record {
+  size = s.upstream_size;
+  each = λ i h. sym (total_is links weights (λ j. get_or upstream j 0 + get_or weights j 0) streams (record {
     each = λ i h. omega (
       arith,
       s.sums i h,
-      sum_below-same (sent_on links weights waits came i) (λ j. cond {A = ℕ} (leads_to links j i) (get_or came j 0 + get_or weights j 0) 0) (length links)
-          (λ j l. sent_on-all links weights waits came i j (all_sent links weights waits came streams s some j l)),
+      sum_below-same (sent_on links weights waits upstream i) (λ j. cond {A = ℕ} (leads_to links j i) (get_or upstream j 0 + get_or weights j 0) 0) (length links)
+          (λ j l. sent_on-all links weights waits upstream i j (all_sent links weights waits upstream streams s some j l)),
     );
   }) i h);
 }
 
--- 1 where a node has not sent
+-- 1 if node i has not sent.
 abbrev pub unsent_one : List ℕ → ℕ → ℕ
 unsent_one waits i = cond {A = ℕ} (has_sent waits i) 0 1
 
--- how many nodes have not sent
+-- The number of nodes below n that have not sent.
 abbrev pub unsent : List ℕ → ℕ → ℕ
 unsent waits n = sum_below (unsent_one waits) n
 
@@ -114,29 +114,29 @@ unsent_falls waits new n node h f t same = omega (
   cond-true {A = ℕ} _ 0 1 t,
 )
 
-pub donors_begin : (links weights waits came : List ℕ) → length links ≤ 2 ^ 30 → AreDonorCounts links waits → AreNone (length links) came → IsSending links weights waits came
-donors_begin links weights waits came few d none =
+pub donors_begin : (links weights waits upstream : List ℕ) → length links ≤ 2 ^ 30 → AreDonorCounts links waits → AreZeros (length links) upstream → IsSending links weights waits upstream
+donors_begin links weights waits upstream few d none =
     let low : (i : ℕ) → i < length links → has_sent waits i ≡ false =
     λ i h. open_from_count waits i (omega (arith, few, d.each i h, sum_below-few (donor links i) (length links) (λ j l. bit_le (leads_to links j i)))) in
     record {
       waits_size = d.size;
-      came_size = none.size;
+      upstream_size = none.size;
       counts = λ i h f. d.each i h ∙ sum_below-same (donor links i) (waiting links waits i) (length links) (λ j l. sym (waiting-open links waits i j (low j l)));
-      sums = λ i h. none.zeros i ∙ sym (sum_below-none (sent_on links weights waits came i) (length links) (λ j l. sent_on-open links weights waits came i j (low j l)));
+      sums = λ i h. none.zeros i ∙ sym (sum_below-none (sent_on links weights waits upstream i) (length links) (λ j l. sent_on-open links weights waits upstream i j (low j l)));
       closed = λ i j h l on t. absurd (false≢true (sym (low i h) ∙ t));
     }
 
--- one node sends what came to it
+-- One node sends its sum.
 
--- what changes where a node sends on to another, or ends
-pub record MovesOn (links weights waits came new_waits new_came : List ℕ) (node : ℕ) : Type 0 where
+-- How counts and sums change when a node sends, or is an end.
+pub record MovesOn (links weights waits upstream new_waits new_upstream : List ℕ) (node : ℕ) : Type 0 where
   pub waits_size : length new_waits ≡ length waits
-  pub came_size : length new_came ≡ length came
+  pub upstream_size : length new_upstream ≡ length upstream
   pub marked : get_or new_waits node 0 ≡ sent_mark
   pub fewer : (i : ℕ) → i ≢ node → get_or new_waits i 0 + donor links i node ≡ get_or waits i 0
-  pub more : (i : ℕ) → get_or new_came i 0 ≡ get_or came i 0 + cond {A = ℕ} (leads_to links node i) (get_or came node 0 + get_or weights node 0) 0
+  pub more : (i : ℕ) → get_or new_upstream i 0 ≡ get_or upstream i 0 + cond {A = ℕ} (leads_to links node i) (get_or upstream node 0 + get_or weights node 0) 0
 
-module _ (links weights waits came : List ℕ) (few : length links ≤ 2 ^ 30) (s : IsSending links weights waits came) (node : ℕ) (inside : node < length links) (ready : get_or waits node 0 ≡ 0) where
+module _ (links weights waits upstream : List ℕ) (few : length links ≤ 2 ^ 30) (s : IsSending links weights waits upstream) (node : ℕ) (inside : node < length links) (ready : get_or waits node 0 ≡ 0) where
   pub node_open : has_sent waits node ≡ false
   node_open = open_from_count waits node (omega (arith, ready))
 
@@ -153,7 +153,7 @@ module _ (links weights waits came : List ℕ) (few : length links ≤ 2 ^ 30) (
     ))
   ]
 
-  -- the node to which it sends waits for it
+  -- The node downstream has not sent.
   next_open : (i : ℕ) → i < length links → leads_to links node i ≡ true → has_sent waits i ≡ false
   next_open i h on = false_from_ne_true _ (λ t. false≢true (sym node_open ∙ s.closed i node h inside on t))
 
@@ -173,7 +173,7 @@ module _ (links weights waits came : List ℕ) (few : length links ≤ 2 ^ 30) (
     sum_below-few (waiting links waits i) (length links) (λ j l. bit_le (leads_to links j i && not (has_sent waits j))),
   )
 
-  module _ (new_waits new_came : List ℕ) (m : MovesOn links weights waits came new_waits new_came node) where
+  module _ (new_waits new_upstream : List ℕ) (m : MovesOn links weights waits upstream new_waits new_upstream node) where
     pub sent_now : has_sent new_waits node ≡ true
     sent_now = eq-eqb _ _ m.marked
 
@@ -197,27 +197,27 @@ module _ (links weights waits came : List ℕ) (few : length links ≤ 2 ^ 30) (
       waiting-sent links new_waits i node sent_now,
     )
 
-    came_still : (j : ℕ) → leads_to links node j ≡ false → get_or new_came j 0 ≡ get_or came j 0
-    came_still j off = omega (arith, m.more j, cond-false {A = ℕ} _ (get_or came node 0 + get_or weights node 0) 0 off)
+    upstream_still : (j : ℕ) → leads_to links node j ≡ false → get_or new_upstream j 0 ≡ get_or upstream j 0
+    upstream_still j off = omega (arith, m.more j, cond-false {A = ℕ} _ (get_or upstream node 0 + get_or weights node 0) 0 off)
 
-    same_sent : (i j : ℕ) → j < length links → j ≢ node → sent_on links weights new_waits new_came i j ≡ sent_on links weights waits came i j
+    same_sent : (i j : ℕ) → j < length links → j ≢ node → sent_on links weights new_waits new_upstream i j ≡ sent_on links weights waits upstream i j
     same_sent i j l ne = elim (cases_Bool (has_sent waits j)) [
       | inl t ↦
-          sent_on-all links weights new_waits new_came i j (other_sent j l ne ∙ t)
-          ∙ ap (λ n. cond {A = ℕ} (leads_to links j i) (n + get_or weights j 0) 0) (came_still j (false_from_ne_true _ (λ on. false≢true (sym (next_open j l on) ∙ t))))
-          ∙ sym (sent_on-all links weights waits came i j t)
-      | inr f ↦ sent_on-open links weights new_waits new_came i j (other_sent j l ne ∙ f) ∙ sym (sent_on-open links weights waits came i j f)
+          sent_on-all links weights new_waits new_upstream i j (other_sent j l ne ∙ t)
+          ∙ ap (λ n. cond {A = ℕ} (leads_to links j i) (n + get_or weights j 0) 0) (upstream_still j (false_from_ne_true _ (λ on. false≢true (sym (next_open j l on) ∙ t))))
+          ∙ sym (sent_on-all links weights waits upstream i j t)
+      | inr f ↦ sent_on-open links weights new_waits new_upstream i j (other_sent j l ne ∙ f) ∙ sym (sent_on-open links weights waits upstream i j f)
     ]
 
-    new_sums : (i : ℕ) → i < length links → get_or new_came i 0 ≡ sum_below (sent_on links weights new_waits new_came i) (length links)
+    new_sums : (i : ℕ) → i < length links → get_or new_upstream i 0 ≡ sum_below (sent_on links weights new_waits new_upstream i) (length links)
     new_sums i h = omega (
       arith,
       m.more i,
       s.sums i h,
-      sum_below-except (sent_on links weights new_waits new_came i) (sent_on links weights waits came i) (length links) node inside (same_sent i),
-      sent_on-open links weights waits came i node node_open,
-      sent_on-all links weights new_waits new_came i node sent_now,
-      ap (λ n. cond {A = ℕ} (leads_to links node i) (n + get_or weights node 0) 0) (came_still node (leads_self links node)),
+      sum_below-except (sent_on links weights new_waits new_upstream i) (sent_on links weights waits upstream i) (length links) node inside (same_sent i),
+      sent_on-open links weights waits upstream i node node_open,
+      sent_on-all links weights new_waits new_upstream i node sent_now,
+      ap (λ n. cond {A = ℕ} (leads_to links node i) (n + get_or weights node 0) 0) (upstream_still node (leads_self links node)),
     )
 
     new_closed : (i j : ℕ) → i < length links → j < length links → leads_to links j i ≡ true → has_sent new_waits i ≡ true → has_sent new_waits j ≡ true
@@ -229,11 +229,11 @@ module _ (links weights waits came : List ℕ) (few : length links ≤ 2 ^ 30) (
       ]
     ]
 
-    -- the state after it
-    pub sending_on : IsSending links weights new_waits new_came
+    -- The invariant holds after the node has sent.
+    pub sending_on : IsSending links weights new_waits new_upstream
     sending_on = record {
       waits_size = m.waits_size ∙ s.waits_size;
-      came_size = m.came_size ∙ s.came_size;
+      upstream_size = m.upstream_size ∙ s.upstream_size;
       counts = new_counts;
       sums = new_sums;
       closed = new_closed;
@@ -244,10 +244,10 @@ module _ (links weights waits came : List ℕ) (few : length links ≤ 2 ^ 30) (
 abbrev pub next_waits_list : List ℕ → ℕ → ℕ → List ℕ
 next_waits_list waits node next = set (set waits node sent_mark) next (get_or (set waits node sent_mark) next 0 - 1)
 
-abbrev pub next_came_list : List ℕ → List ℕ → ℕ → ℕ → List ℕ
-next_came_list weights came node next = set came next (get_or came next 0 + (get_or came node 0 + get_or weights node 0))
+abbrev pub next_upstream_list : List ℕ → List ℕ → ℕ → ℕ → List ℕ
+next_upstream_list weights upstream node next = set upstream next (get_or upstream next 0 + (get_or upstream node 0 + get_or weights node 0))
 
-module _ (links weights waits came : List ℕ) (streams : AreStreams links) (few : length links ≤ 2 ^ 30) (s : IsSending links weights waits came) (node : ℕ) (inside : node < length links) (ready : get_or waits node 0 ≡ 0) where
+module _ (links weights waits upstream : List ℕ) (streams : AreStreams links) (few : length links ≤ 2 ^ 30) (s : IsSending links weights waits upstream) (node : ℕ) (inside : node < length links) (ready : get_or waits node 0 ≡ 0) where
   marked : get_or (set waits node sent_mark) node 0 ≡ sent_mark
   marked = get_or-set_same waits node sent_mark 0 (omega (arith, s.waits_size))
 
@@ -256,7 +256,7 @@ module _ (links weights waits came : List ℕ) (streams : AreStreams links) (few
 
   module _ (on : get_or links node 0 ≡ node → ⊥) where
     pub step_waits : 1 ≤ get_or waits (get_or links node 0) 0
-    step_waits = next_waits links weights waits came few s node inside ready (get_or links node 0) (streams.inside node inside) (leads_from links node (get_or links node 0) refl (λ e. on (sym e)))
+    step_waits = next_waits links weights waits upstream few s node inside ready (get_or links node 0) (streams.inside node inside) (leads_from links node (get_or links node 0) refl (λ e. on (sym e)))
 
     fewer : (i : ℕ) → i ≢ node → get_or (next_waits_list waits node (get_or links node 0)) i 0 + cond {A = ℕ} (leads_to links node i) 1 0 ≡ get_or waits i 0
     fewer i ne = elim (cases_eq (get_or links node 0) i) [
@@ -280,29 +280,29 @@ module _ (links weights waits came : List ℕ) (streams : AreStreams links) (few
       )
     ]
 
-    moves : MovesOn links weights waits came (next_waits_list waits node (get_or links node 0)) (next_came_list weights came node (get_or links node 0)) node
+    moves : MovesOn links weights waits upstream (next_waits_list waits node (get_or links node 0)) (next_upstream_list weights upstream node (get_or links node 0)) node
     moves = record {
       waits_size = length-set (set waits node sent_mark) (get_or links node 0) (get_or (set waits node sent_mark) (get_or links node 0) 0 - 1) ∙ length-set waits node sent_mark;
-      came_size = length-set came (get_or links node 0) (get_or came (get_or links node 0) 0 + (get_or came node 0 + get_or weights node 0));
+      upstream_size = length-set upstream (get_or links node 0) (get_or upstream (get_or links node 0) 0 + (get_or upstream node 0 + get_or weights node 0));
       marked = get_or-set_other (set waits node sent_mark) (get_or links node 0) node (get_or (set waits node sent_mark) (get_or links node 0) 0 - 1) 0 (λ e. on (sym e)) ∙ marked;
       fewer = fewer;
-      more = λ i. added_at came (get_or links node 0) (get_or came node 0 + get_or weights node 0) i (omega (arith, s.came_size, streams.inside node inside))
-          ∙ ap (λ b. get_or came i 0 + cond {A = ℕ} b (get_or came node 0 + get_or weights node 0) 0) (sym (leads_test links node i on));
+      more = λ i. added_at upstream (get_or links node 0) (get_or upstream node 0 + get_or weights node 0) i (omega (arith, s.upstream_size, streams.inside node inside))
+          ∙ ap (λ b. get_or upstream i 0 + cond {A = ℕ} b (get_or upstream node 0 + get_or weights node 0) 0) (sym (leads_test links node i on));
     }
 
-    pub step_sending : IsSending links weights (next_waits_list waits node (get_or links node 0)) (next_came_list weights came node (get_or links node 0))
-    step_sending = sending_on links weights waits came few s node inside ready _ _ moves
+    pub step_sending : IsSending links weights (next_waits_list waits node (get_or links node 0)) (next_upstream_list weights upstream node (get_or links node 0))
+    step_sending = sending_on links weights waits upstream few s node inside ready _ _ moves
 
-    pub step_fits : get_or came (get_or links node 0) 0 + (get_or came node 0 + get_or weights node 0) ≤ total links weights (get_or links node 0)
+    pub step_fits : get_or upstream (get_or links node 0) 0 + (get_or upstream node 0 + get_or weights node 0) ≤ total links weights (get_or links node 0)
     step_fits = omega (
       arith,
-      get_or-set_same came (get_or links node 0) (get_or came (get_or links node 0) 0 + (get_or came node 0 + get_or weights node 0)) 0 (omega (arith, s.came_size, streams.inside node inside)),
-      came_le links weights _ _ streams step_sending (get_or links node 0) (streams.inside node inside),
+      get_or-set_same upstream (get_or links node 0) (get_or upstream (get_or links node 0) 0 + (get_or upstream node 0 + get_or weights node 0)) 0 (omega (arith, s.upstream_size, streams.inside node inside)),
+      upstream_le links weights _ _ streams step_sending (get_or links node 0) (streams.inside node inside),
     )
 
     pub step_falls : unsent (next_waits_list waits node (get_or links node 0)) (length links) < unsent waits (length links)
-    step_falls = unsent_falls waits _ (length links) node inside (node_open links weights waits came few s node inside ready)
-        (sent_now links weights waits came few s node inside ready _ _ moves) (other_sent links weights waits came few s node inside ready _ _ moves)
+    step_falls = unsent_falls waits _ (length links) node inside (node_open links weights waits upstream few s node inside ready)
+        (sent_now links weights waits upstream few s node inside ready _ _ moves) (other_sent links weights waits upstream few s node inside ready _ _ moves)
 
     pub step_early : (from : ℕ) → ((i : ℕ) → i < from → i ≢ node → get_or waits i 0 ≢ 0) →
         (i : ℕ) → i < from → i ≢ get_or links node 0 → get_or (next_waits_list waits node (get_or links node 0)) i 0 ≢ 0
@@ -312,17 +312,17 @@ module _ (links weights waits came : List ℕ) (streams : AreStreams links) (few
     ]
 
   module _ (end : get_or links node 0 ≡ node) where
-    ended : MovesOn links weights waits came (set waits node sent_mark) came node
+    ended : MovesOn links weights waits upstream (set waits node sent_mark) upstream node
     ended = record {
       waits_size = length-set waits node sent_mark;
-      came_size = refl;
+      upstream_size = refl;
       marked = marked;
       fewer = λ i ne. omega (arith, others i ne, cond-false {A = ℕ} _ 1 0 (leads_end links node i end));
-      more = λ i. omega (arith, cond-false {A = ℕ} _ (get_or came node 0 + get_or weights node 0) 0 (leads_end links node i end));
+      more = λ i. omega (arith, cond-false {A = ℕ} _ (get_or upstream node 0 + get_or weights node 0) 0 (leads_end links node i end));
     }
 
-    pub end_sending : IsSending links weights (set waits node sent_mark) came
-    end_sending = sending_on links weights waits came few s node inside ready _ _ ended
+    pub end_sending : IsSending links weights (set waits node sent_mark) upstream
+    end_sending = sending_on links weights waits upstream few s node inside ready _ _ ended
 
     pub end_early : (from : ℕ) → ((i : ℕ) → i < from → i ≢ node → get_or waits i 0 ≢ 0) →
         (i : ℕ) → i < from → get_or (set waits node sent_mark) i 0 ≢ 0

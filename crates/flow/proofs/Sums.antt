@@ -1,4 +1,4 @@
--- Sums of what a function has at each number below another.
+-- Sums of a function over the numbers below n.
 use Rattle.std.proofs.Common.{◌≡◌, ◌≢◌, ℕ, zero, suc, ◌+◌, ◌-◌, ◌<◌, ◌≤◌, Bool, true, false, cond, inl, inr, sym, ap, refl, ◌∙◌, arith, add-one, add-zero}
 use Rattle.std.proofs.lemmas.Bool.{cases_eq, cases_lt}
 use Rattle.flow.specs.Streams.{sum_below}
@@ -21,7 +21,6 @@ pub cond_same : (b : Bool) → cond {A = ℕ} b 0 0 ≡ 0
 cond_same true = refl
 cond_same false = refl
 
--- a test counts for at most 1
 pub bit_le : (b : Bool) → cond {A = ℕ} b 1 0 ≤ 1
 bit_le true = omega arith
 bit_le false = omega arith
@@ -30,7 +29,7 @@ pub sum_below-none : (f : ℕ → ℕ) (n : ℕ) → ((i : ℕ) → i < n → f 
 sum_below-none f zero none = refl
 sum_below-none f (suc n) none = omega (arith, sum_below-none f n (λ i h. none i (omega arith)), none n (omega arith))
 
--- terms of at most 1
+-- A sum of n terms of at most 1 is at most n.
 pub sum_below-few : (f : ℕ → ℕ) (n : ℕ) → ((i : ℕ) → i < n → f i ≤ 1) → sum_below f n ≤ n
 sum_below-few f zero le = omega arith
 sum_below-few f (suc n) le =
@@ -43,7 +42,7 @@ term-le-sum_below f (suc n) i h = elim (cases_eq i n) [
   | inr ne ↦ omega (arith, term-le-sum_below f n i (omega arith))
 ]
 
--- a sum changes by what one term changes
+-- If only term i changes, the sum changes by as much.
 pub sum_below-except : (f g : ℕ → ℕ) (n i : ℕ) → i < n → ((j : ℕ) → j < n → j ≢ i → f j ≡ g j) → sum_below f n + g i ≡ sum_below g n + f i
 sum_below-except f g zero i h same = absurd (omega arith)
 sum_below-except f g (suc n) i h same = elim (cases_eq i n) [
@@ -52,7 +51,7 @@ sum_below-except f g (suc n) i h same = elim (cases_eq i n) [
   | inr ne ↦ omega (arith, sum_below-except f g n i (omega arith) (λ j l m. same j (omega arith) m), same n (omega arith) (λ e. ne (sym e)))
 ]
 
--- a sum above 0 has a term above 0
+-- A sum above 0 has a term above 0.
 pub some_term : (f : ℕ → ℕ) (n : ℕ) → 0 < sum_below f n → (i : ℕ) × (i < n) × (0 < f i)
 some_term f zero h = absurd (omega arith)
 some_term f (suc n) h = elim (cases_lt 0 (f n)) [
@@ -63,7 +62,7 @@ some_term f (suc n) h = elim (cases_lt 0 (f n)) [
 pub sum_more : (f : ℕ → ℕ) (n : ℕ) → sum_below f (n + 1) ≡ sum_below f n + f n
 sum_more f n = rw add-one refl
 
--- a sum in two parts
+-- A sum over a + n numbers, in two parts.
 pub sum_below-split : (f : ℕ → ℕ) (a n : ℕ) → sum_below f (a + n) ≡ sum_below f a + sum_below (λ i. f (a + i)) n
 sum_below-split f a zero = ap (sum_below f) (add-zero a) ∙ omega arith
 sum_below-split f a (suc n) =
@@ -71,22 +70,22 @@ sum_below-split f a (suc n) =
     let rest : sum_below f (a + n) ≡ sum_below f a + sum_below (λ i. f (a + i)) n = sum_below-split f a n in
     ap (sum_below f) next ∙ omega arith
 
--- a part of a sum
+-- The sum of the first terms is at most the whole.
 pub sum_below-part : (f : ℕ → ℕ) (k n : ℕ) → k ≤ n → sum_below f k ≤ sum_below f n
 sum_below-part f k n le =
     let whole : k + (n - k) ≡ n = omega arith in
     omega (arith, sum_below-split f k (n - k), ap (sum_below f) whole)
 
--- sums over two numbers in either order
+-- A double sum, in either order.
 pub exchange : (f : ℕ → ℕ → ℕ) (n m : ℕ) → sum_below (λ i. sum_below (f i) m) n ≡ sum_below (λ j. sum_below (λ i. f i j) n) m
 exchange f zero m = sym (sum_below-none (λ j. 0) m (λ j h. refl))
 exchange f (suc n) m = ap (λ k. k + sum_below (f n) m) (exchange f n m) ∙ sym (sum_below-add (λ j. sum_below (λ i. f i j) n) (f n) m)
 
--- a sum with one term above 0
+-- A sum with at most one term above 0.
 pub one_term : (f : ℕ → ℕ) (n i : ℕ) → i < n → ((j : ℕ) → j < n → j ≢ i → f j ≡ 0) → sum_below f n ≡ f i
 one_term f n i h none = omega (arith, sum_below-except f (λ _. 0) n i h none, sum_below-none (λ _. 0) n (λ j l. refl))
 
--- a sum that is there or not
+-- A condition on a sum is a condition on each term.
 pub cond-sum : (b : Bool) (f : ℕ → ℕ) (n : ℕ) → cond {A = ℕ} b (sum_below f n) 0 ≡ sum_below (λ c. cond {A = ℕ} b (f c) 0) n
 cond-sum true f n = refl
 cond-sum false f n = sym (sum_below-none (λ c. 0) n (λ c h. refl))

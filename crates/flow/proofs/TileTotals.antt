@@ -1,4 +1,4 @@
--- What comes through the cells of a tile, along its links.
+-- The counts of cells upstream are totals along a tile's links.
 use Rattle.std.proofs.Common.{◌≡◌, ◌≢◌, ℕ, suc, ◌+◌, ◌*◌, ◌<◌, ◌≤◌, Bool, true, false, ◌&&◌, cond, inl, inr, List, length, get_or, is_some, sym, ap, subst, refl, ◌∙◌, arith}
 use Rattle.std.proofs.lemmas.Bool.{cases_eq, cases_Bool, and_from, and_parts, cond-true, cond-false, false_from_ne_true, false≢true}
 use Rattle.terrain.specs.declared.place.Place.{Place}
@@ -22,7 +22,7 @@ use Rattle.flow.proofs.Reaching.{IsEnding, still_at, still_from, reached_early, 
 use Rattle.flow.proofs.Gathering.{cell, all_drained, all_gathered, entered, inflow_sum, counted_on, counted_off, counted_none}
 
 module _ (d : Directed) (e : IsEnding d) (t : Cutting) (tile : ℕ) (b : Bounds) (links : List ℕ) (s : IsPiece d t tile b links) where
-  -- water goes on by one move
+  -- A link to another cell is one move of the flow path.
   leads_place : (j i : ℕ) → j < length links → leads_to links j i ≡ true → (next d (place_in b j) ≡ place_in b i) × (place_in b j ≢ place_in b i)
   leads_place j i h on =
       let l = leads_parts links j i on in (
@@ -33,12 +33,12 @@ module _ (d : Directed) (e : IsEnding d) (t : Cutting) (tile : ℕ) (b : Bounds)
         λ z. l.1 (sym (index_in-place_in b j) ∙ ap (index_in b) z ∙ index_in-place_in b i),
       )
 
-  -- a cell itself
+  -- 1 if q is a data cell and is p, else 0.
   abbrev own : Place → Place → ℕ
   own p q = cond {A = ℕ} (is_some (code_at d q) && is_place p q) 1 0
 
-  -- One cell's water: how far its path counts is told by T, and whether it comes to a place as far as that by R. What it
-  -- adds that comes from another tile is over.
+  -- The water of one cell q. T says which moves of its path count, and R which places they reach.
+  -- `over` is what reaches a place from another tile.
   module _ (q : Place) (is : IsCoded d q) (i : ℕ) (h : i < length links) (R : Place → Bool) (T : ℕ → Type 0) (start : T 0)
       (from : (p : Place) → R p ≡ true → (k : ℕ) × (follow d q k ≡ p) × T k) (at : (p : Place) (k : ℕ) → follow d q k ≡ p → T k → R p ≡ true)
       (less : (k m : ℕ) → m ≤ k → T k → T m) (more : (k : ℕ) → T k → IsInBounds b (follow d q k) → IsInBounds b (follow d q (suc k)) → T (suc k))
@@ -122,7 +122,7 @@ module _ (d : Directed) (e : IsEnding d) (t : Cutting) (tile : ℕ) (b : Bounds)
                   )
             ]
 
-  -- the same of the water of all cells
+  -- The sum over all cells q of the step for one cell.
   tallied : (R : Place → Place → Bool) (over : Place → Place → ℕ) (i : ℕ) → i < length links →
       ((q : Place) → IsCoded d q → cond {A = ℕ} (is_some (code_at d q) && R (place_in b i) q) 1 0
       ≡ own (place_in b i) q + over (place_in b i) q + sum_below (λ j. cond {A = ℕ} (leads_to links j i) (cond {A = ℕ} (is_some (code_at d q) && R (place_in b j) q) 1 0) 0) (length links)) →
@@ -171,11 +171,11 @@ module _ (d : Directed) (e : IsEnding d) (t : Cutting) (tile : ℕ) (b : Bounds)
           ∙ ap (own (place_in b i)) (place_in-index_in (whole_bounds d.cols d.rows) (place_in b i) inside)
           ∙ ap (λ x. cond {A = ℕ} x 1 0) (and_on (is_some (code_at d (place_in b i))) _ (is_place_from (place_in b i) (place_in b i) refl))
 
-  -- the weights of a tile's cells: themselves, and what flows in
+  -- The weights of a tile's cells: 1 for each data cell, plus the inflow.
   abbrev pub AreWeights : List ℕ → Type 0
   AreWeights weights = (j : ℕ) → j < length links → get_or weights j 0 ≡ weight_in d b j + inflow_of d t (place_in b j)
 
-  -- all that comes through the cells, where what flows in is added
+  -- With the inflows added, totals count all cells upstream.
   pub all_totals : (weights : List ℕ) → AreWeights weights → AreTotals links weights (λ i. all_drained d (place_in b i))
   all_totals weights weighed = record {
     each = λ i h. omega (
@@ -194,7 +194,7 @@ module _ (d : Directed) (e : IsEnding d) (t : Cutting) (tile : ℕ) (b : Bounds)
     );
   }
 
-  -- what comes through them from inside the tile
+  -- Without the inflows, totals count the cells upstream in the tile.
   pub own_totals : (weights : List ℕ) → AreTileWeights d b weights → AreTotals links weights (λ i. all_gathered d t (place_in b i))
   own_totals weights weighed = record {
     each = λ i h. omega (

@@ -1,4 +1,4 @@
--- The codes of a map of directions, and the tiles together.
+-- The codes of a map of directions, and the results of all tiles.
 use Rattle.std.proofs.Common.{◌≡◌, ℕ, ◌*◌, List, length, Option, subst, sym, ap, ◌∙◌, Some, Vec, Global, vec_len, slice_get, arith}
 use Rattle.std.specs.Prelude.{Result, Ok, Err, IfOk}
 use Rattle.std.proofs.lemmas.Option.{get_or_from_slice_get, slice_get_within}
@@ -25,7 +25,7 @@ grid_flow d t codes draining cuts e = record {
   ends = subst (λ (x : Directed). AllFlowEnds x) (sym (directed_same d t codes cuts e)) (falling_ends d draining);
 }
 
--- the flow paths of a drained terrain end, and its data cells have codes
+-- The map of directions of a drained terrain is within the limits, and its flow paths end.
 pub drained_ending : (d : Drained) → IsTerrain d.terrain → IsDraining d → IsEnding (directed_of d)
 drained_ending d terrain draining = record {
   ends = falling_ends d draining;
@@ -38,7 +38,7 @@ drained_ending d terrain draining = record {
 pub drained_coded : (d : Drained) → IsDraining d → (p : Place) → IsDataCell d.terrain p → IsCoded (directed_of d) p
 drained_coded d draining p is = coded_from_some (directed_of d) p (draining.same_data p ∙ is)
 
--- what the jobs gave, one answer for each
+-- The results of the jobs, one for each job in order.
 pub jobs_gave : {X E : Type 0} (P : ℕ → X → Type 0) (r : Result (Vec X Global) E) (n m : ℕ) (Q : List X → Type 0) → n ≡ m →
     ((outs : List X) → length outs ≡ m → ((k : ℕ) (x : X) → slice_get outs k ≡ Some x → P k x) → Q outs) →
     IfOk r (λ v. vec_len v ≡ n) → IfOk r (λ v. AllGiven P n v.items) → IfOk r (λ v. Q v.items)
@@ -46,7 +46,7 @@ jobs_gave P (Ok v) n m Q same made len given = made v.items (omega (arith, v.ok.
     (λ k x there. subst (P k) (get_or_from_slice_get v.items k x x there) (given k x (omega (arith, v.ok.0, len, slice_get_within v.items k x there))))
 jobs_gave P (Err e) n m Q same made len given = len
 
--- the map of a grid's directions, by the size of the cutting
+-- The map over the whole grid, from its value at each place of the cutting.
 pub whole_map : (d : Drained) (t : Cutting) (codes : List (Option ℕ)) → Cuts t d.terrain → codes ≡ d.codes → (value : Directed → Place → ℕ) (whole : List (Option ℕ)) → length whole ≡ t.cols * t.rows →
     ((p : Place) → IsWithin t p → IsValueAt (make_directed t.cols t.rows codes) (value (make_directed t.cols t.rows codes)) p (entry_at t.cols t.rows whole p)) → IsMapOf (directed_of d) (value (directed_of d)) whole
 whole_map d t codes cuts same value whole size each = subst (λ (x : Directed). IsMapOf x (value x) whole) (directed_same d t codes cuts same) (record { size = size; each = each })

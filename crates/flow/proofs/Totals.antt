@@ -1,4 +1,4 @@
--- What holds along links, and totals.
+-- Properties that pass downstream along links, and totals.
 use Rattle.std.proofs.Common.{◌≡◌, ◌≢◌, ℕ, zero, suc, ◌+◌, ◌<◌, ◌≤◌, true, false, not, eqb, cond, inl, inr, List, length, get_or, sym, ap, subst, refl, ◌∙◌, arith}
 use Rattle.std.proofs.lemmas.Bool.{cases_eq, cases_Bool, cond-true, cond-false, and_from, and_parts, and_right, eq-eqb, ne_eqb, eqb-true, not-true, not_from_true, not_from_false, false_from_ne_true, false≢true}
 use Rattle.flow.specs.Streams.{AreStreams, total_within, total, onward, node_after, leads_to, upstream_sum}
@@ -11,7 +11,7 @@ leads_parts links j i y = let w = and_parts _ _ y in (eqb-true _ _ w.0, λ e. fa
 pub leads_from : (links : List ℕ) (j i : ℕ) → onward links j ≡ i → j ≢ i → leads_to links j i ≡ true
 leads_from links j i e ne = and_from _ _ (eq-eqb _ _ e) (not_from_false _ (ne_eqb _ _ ne))
 
--- an end's water goes on to no other node, and none leads to itself
+-- An end leads to no other node, and no node leads to itself.
 pub leads_end : (links : List ℕ) (node i : ℕ) → onward links node ≡ node → leads_to links node i ≡ false
 leads_end links node i e = false_from_ne_true _ (λ y. (let w = leads_parts links node i y in w.1 (sym e ∙ w.0)))
 
@@ -19,7 +19,7 @@ pub leads_self : (links : List ℕ) (i : ℕ) → leads_to links i i ≡ false
 leads_self links i = and_right _ (not (eqb i i)) (not_from_true _ (eq-eqb i i refl))
 
 module _ (links : List ℕ) (streams : AreStreams links) (P : ℕ → ℕ → Type 0) (step : (k i : ℕ) → i < length links → ((j : ℕ) → j < length links → leads_to links j i ≡ true → P k j) → P (suc k) i) where
-  -- a path of so many moves that leads to a node
+  -- A path of k moves that leads to node i, without an end before it.
   record Chain (k i : ℕ) : Type 0 where
     pub from : ℕ
     pub inside : from < length links
@@ -44,7 +44,7 @@ module _ (links : List ℕ) (streams : AreStreams links) (P : ℕ → ℕ → Ty
   by_chains zero i h none = absurd (none (record { from = i; inside = h; leads = refl; goes = λ m lt _. omega arith }))
   by_chains (suc k) i h none = step k i h (λ j l on. by_chains k j l (λ c. none (chain_on k j i on c)))
 
-  -- what holds of a node after one move more than of all whose water goes on to it holds of each after as many as there are
+  -- A property of a node that follows from that of its donors holds of every node.
   pub each_downstream : (i : ℕ) → i < length links → P (length links) i
   each_downstream i h = by_chains (length links) i h (λ c. (let r = early_end links streams.inside c.from c.inside (length links) (streams.ends c.from c.inside) in c.goes r.0 r.1 r.2))
 
@@ -59,13 +59,13 @@ sums_le links i f g le =
 pub sums_same : (links : List ℕ) (i : ℕ) (f g : ℕ → ℕ) → ((j : ℕ) → j < length links → leads_to links j i ≡ true → f j ≡ g j) → upstream_sum links f i ≡ upstream_sum links g i
 sums_same links i f g same = omega (arith, sums_le links i f g (λ j l on. omega (arith, same j l on)), sums_le links i g f (λ j l on. omega (arith, same j l on)))
 
--- what is no more than its weight and what comes to it is no more than what has at least that
+-- If f is at most its weight and donors' sum, and g at least, f is at most g.
 pub totals_le : (links : List ℕ) → AreStreams links → (w f g : ℕ → ℕ) → ((i : ℕ) → i < length links → f i ≤ w i + upstream_sum links f i) →
     ((i : ℕ) → i < length links → w i + upstream_sum links g i ≤ g i) → (i : ℕ) → i < length links → f i ≤ g i
 totals_le links streams w f g low high = each_downstream links streams (λ _ i. f i ≤ g i)
     (λ _ i h before. omega (arith, low i h, high i h, sums_le links i f g before))
 
--- each is its weight and what those have whose water goes on to it
+-- f of each node is the node's weight plus f of its donors.
 pub record AreTotals (links weights : List ℕ) (f : ℕ → ℕ) : Type 0 where
   pub each : (i : ℕ) → i < length links → f i ≡ get_or weights i 0 + upstream_sum links f i
 

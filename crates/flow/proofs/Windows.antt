@@ -1,4 +1,4 @@
--- Sums over the cells of a grid; some and all of the numbers of a range, and lists that are made of its numbers.
+-- Sums over the cells of a grid, tests over ranges, and lists made from ranges.
 use borrow.Author.Count.{below_more}
 use Rattle.std.proofs.Common.{◌≡◌, ℕ, zero, suc, ◌+◌, ◌*◌, ◌≤◌, List, length, map, sym, ap, refl, ◌∙◌, arith, add-one, zero-mul, ◌<◌, Bool, true, [], ◌∷◌, ◌++◌, get_or}
 use Rattle.std.proofs.lemmas.List.{length-append, get_or_append_left, get_or_push}
@@ -70,7 +70,7 @@ pub all_in_range : (f : ℕ → Bool) (n : ℕ) → ((k : ℕ) → k < n → f k
 all_in_range f n h = list_all-from_AllPass f (range_with_len 0 n)
     (λ k d below. (let l : k < n = omega (arith, below, length-range_with_len 0 n) in ap f (number_at n k d l) ∙ h k l))
 
--- one more entry of a list that is made from a function
+-- The list of f over a range, with one more entry.
 pub mapped_next : {X : Type 0} (f : ℕ → X) (n : ℕ) → map f (range_with_len 0 (n + 1)) ≡ map f (range_with_len 0 n) ++ f n ∷ []
 mapped_next f n = map-range_with_len_more f 0 n n (omega arith)
 
@@ -80,7 +80,7 @@ mapped_pushed f n xs ys x made here pushed = pushed ∙ ap (λ l. l ++ x ∷ [])
 pub mapped_all : {X : Type 0} (f : ℕ → X) (n m : ℕ) (xs : List X) → xs ≡ map f (range_with_len 0 n) → n ≡ m → xs ≡ map f (range_with_len 0 m)
 mapped_all f n m xs made all = made ∙ ap (λ k. map f (range_with_len 0 k)) all
 
--- the same of numbers that are read one by one
+-- Entries of f pushed one by one.
 pub each_pushed : (f : ℕ → ℕ) (n : ℕ) (xs ys : List ℕ) (x : ℕ) → length xs ≡ n → ((k : ℕ) → k < length xs → get_or xs k 0 ≡ f k) → x ≡ f n → ys ≡ xs ++ x ∷ [] → (k : ℕ) → k < length ys → get_or ys k 0 ≡ f k
 each_pushed f n xs ys x size each here pushed k h =
     below_more (λ i. get_or ys i 0 ≡ f i) n

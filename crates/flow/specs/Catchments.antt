@@ -1,4 +1,5 @@
 -- Catchments of gauges. Source: Jenson and Domingue (1988), watersheds of given cells.
+-- Trust base.
 use Rattle.std.specs.Prelude.{◌≡◌, ◌↔◌, ◌⊎◌, ℕ, ◌<◌, ◌==◌, false, List, map, Option, Some, None, option_map, unwrap_or, Result, Err}
 use Rattle.std.specs.List.{filter, find, list_any, position_from, range_with_len}
 use Rattle.std.specs.Option.{option_map_or}
@@ -16,19 +17,20 @@ use Rattle.flow.specs.Counts.{IsMapOf}
 use Rattle.flow.specs.declared.gauges.GaugeFault.{GaugeFault}
 use Rattle.flow.specs.declared.gauges.GaugeFault.TheVariants.{Outside, OnNodata, TooManyGauges, Jobs}
 
--- The place in the list, from 1, of the first entry that names the cell; 0 where none does.
+-- The place, from 1, of the first entry in the list that names the cell; 0 if none does.
 abbrev pub gauge_number : List Place → Place → ℕ
 gauge_number gauges p = unwrap_or (position_from (is_place p) 1 gauges) 0
 
--- The cells of the flow path of p, in their order.
+-- The flow path of p, from p on. It repeats its outlet up to the number of cells of the grid.
 abbrev pub flow_path : Directed → Place → List Place
 flow_path d p = map (follow d p) (range_with_len 0 (moves d))
 
--- The number of the first gauge that the flow path of p meets, p itself included; 0 where it meets none.
+-- The number of the first gauge on the flow path of p, which includes p; 0 if there is none.
 abbrev pub catchment : Directed → List Place → Place → ℕ
 catchment d gauges p =
     option_map_or (gauge_number gauges) (find (λ q. list_any (is_place q) gauges) (flow_path d p)) 0
 
+-- The catchment of each data cell.
 abbrev pub AreCatchments : Directed → List Place → List (Option ℕ) → Type 0
 AreCatchments d gauges values = IsMapOf d (catchment d gauges) values
 
@@ -36,21 +38,23 @@ AreCatchments d gauges values = IsMapOf d (catchment d gauges) values
 abbrev pub outlets : Directed → List Place
 outlets d = filter (λ p. option_map_or (λ c. c == 0) (code_at d p) false) (places d.cols d.rows)
 
--- The fault of a sink at the same place, told of a gauge.
+-- The fault of a gauge, by that of a sink at its place.
 abbrev pub fault_of_gauge : SinkFault → GaugeFault
 fault_of_gauge (sink.Outside i) = Outside i
 fault_of_gauge (sink.OnNodata i) = OnNodata i
 fault_of_gauge sink.TooManySinks = TooManyGauges
 fault_of_gauge sink.Memory = Jobs Memory
 
--- The one fault of gauges: that of sinks at these places.
+-- The fault of a list of gauges, if it has one: that of sinks at these places.
 abbrev pub gauges_fault : Terrain → List Place → Option GaugeFault
 gauges_fault t gauges = option_map fault_of_gauge (sinks_fault t gauges)
 
--- How catchments are refused: the gauges' fault exactly where there is one, and then the jobs' faults.
-pub record RefusesGauges {T : Type 0} (fault : Option GaugeFault) (workers : ℕ) (result : Result T GaugeFault) : Type 0 where
+-- How catchments fail: with the gauges' fault if there is one, otherwise only as jobs fail.
+pub record RefusesGauges {T : Type 0} (fault : Option GaugeFault) (workers : ℕ)
+    (result : Result T GaugeFault) : Type 0 where
   pub told : (f : GaugeFault) → fault ≡ Some f → result ≡ Err f
   pub jobs : fault ≡ None → (f : GaugeFault) → result ≡ Err f →
       (f ≡ Jobs Memory) ⊎ (f ≡ Jobs BadWorkers) ⊎ (f ≡ Jobs NoThread)
-  pub bad_workers : fault ≡ None → (result ≡ Err (Jobs BadWorkers)) ↔ ((workers ≡ 0) ⊎ (MOST_WORKERS < workers))
+  pub bad_workers : fault ≡ None →
+      (result ≡ Err (Jobs BadWorkers)) ↔ ((workers ≡ 0) ⊎ (MOST_WORKERS < workers))
   pub no_thread : result ≡ Err (Jobs NoThread) → 1 < workers

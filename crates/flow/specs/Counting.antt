@@ -1,4 +1,5 @@
--- The accumulations of the cells of a tile. Only the contracts of private functions speak of it.
+-- The accumulations of the cells of a tile, by the tile's flow and inflows.
+-- Private.
 use Rattle.std.specs.Prelude.{◌≡◌, ℕ, ◌+◌, ◌-◌, ◌^◌, ◌<◌, ◌≤◌, List, map, length, Option, None, Some, slice_get, slice_index, slice_index_or}
 use Rattle.std.specs.List.{range_with_len}
 use Rattle.terrain.specs.declared.place.Place.{Place}
@@ -12,49 +13,57 @@ use Rattle.flow.specs.RimGraph.{AreFlowsOf}
 use Rattle.flow.specs.Whole.{IsGridFlow, make_directed}
 use Rattle.flow.specs.Inflows.{Inflows, listed_inflow, AreInflows}
 
--- The exits of the flows and the inflows are those of the map of directions with these codes.
-pub record IsCounting (t : Cutting) (codes : List (Option ℕ)) (flows : List Flow) (inflows : Inflows) : Type 0 where
+-- The flows and the inflows are those of the map of directions with these codes.
+pub record IsCounting (t : Cutting) (codes : List (Option ℕ)) (flows : List Flow)
+    (inflows : Inflows) : Type 0 where
   pub grid : IsGridFlow t.cols t.rows codes
   pub are_flows : AreFlowsOf (make_directed t.cols t.rows codes) t flows
   pub are_inflows : AreInflows (make_directed t.cols t.rows codes) t inflows
 
--- The entry is the accumulation of its place, in each map of directions to which the flows and the inflows belong.
+-- The entry is the accumulation of p in every map of directions with these flows and inflows.
 abbrev pub IsCountAt : Cutting → List Flow → Inflows → Place → Option ℕ → Type 0
 IsCountAt t flows inflows p entry = (codes : List (Option ℕ)) → IsCounting t codes flows inflows →
-    IsValueAt (make_directed t.cols t.rows codes) (accumulation (make_directed t.cols t.rows codes)) p entry
+    IsValueAt (make_directed t.cols t.rows codes) (accumulation (make_directed t.cols t.rows codes))
+    p entry
 
--- The weights of the cells of a tile: each data cell itself, and what flows in.
-pub record AreRimWeights (inflows : Inflows) (b : Bounds) (cells : List (Option ℕ)) (weights : List ℕ) : Type 0 where
+-- The weights of a tile's cells: 1 for a data cell and 0 for NODATA, plus the inflow.
+pub record AreRimWeights (inflows : Inflows) (b : Bounds) (cells : List (Option ℕ))
+    (weights : List ℕ) : Type 0 where
   pub size : length weights ≡ length cells
   pub each : (p : Place) → IsInBounds b p →
-      slice_index weights (index_in b p) ≡ slice_index (weights_by cells) (index_in b p) + listed_inflow inflows p
+      slice_index weights (index_in b p)
+      ≡ slice_index (weights_by cells) (index_in b p) + listed_inflow inflows p
 
--- what the job of a tile may rely on
+-- What the job of a tile relies on: links whose paths end, and sums that fit 32 bits.
 pub record IsCountable (inflows : Inflows) (tile : ℕ) (f : Flow) : Type 0 where
   pub bounds : f.bounds ≡ bounds_of inflows.cutting tile
   pub size : length f.codes ≡ cell_count inflows.cutting tile
   pub linked : length (links_by f.bounds f.codes) ≡ length f.codes
   pub few : length f.codes ≤ 2 ^ 24
   pub streams : AreStreams (links_by f.bounds f.codes)
-  pub few_enter : (p : Place) → IsInBounds (bounds_of inflows.cutting tile) p → listed_inflow inflows p < 2 ^ 31
-  pub few_come : (weights : List ℕ) → AreRimWeights inflows (bounds_of inflows.cutting tile) f.codes weights →
+  pub few_enter : (p : Place) → IsInBounds (bounds_of inflows.cutting tile) p →
+      listed_inflow inflows p < 2 ^ 31
+  pub few_come : (weights : List ℕ) →
+      AreRimWeights inflows (bounds_of inflows.cutting tile) f.codes weights →
       (i : ℕ) → i < length f.codes → total (links_by f.bounds f.codes) weights i < 2 ^ 32
 
--- what the jobs may rely on
+-- What all jobs rely on: one flow for each tile, with `IsCountable`.
 pub record AreCountable (t : Cutting) (flows : List Flow) (inflows : Inflows) : Type 0 where
   pub same_cutting : inflows.cutting ≡ t
   pub count : length flows ≡ tile_count t
   pub each : (tile : ℕ) (f : Flow) → slice_get flows tile ≡ Some f → IsCountable inflows tile f
 
--- the total of each data cell, itself left out
+-- The sum of the weights upstream of each data cell and its own, less 1 for the cell itself.
 abbrev pub counts_by : List (Option ℕ) → List ℕ → List ℕ → List (Option ℕ)
-counts_by cells weights came =
-    map (λ i. where_data (slice_index_or cells i None) (slice_index came i + slice_index weights i - 1)) (range_with_len 0 (length cells))
+counts_by cells weights upstream =
+    map (λ i. where_data (slice_index_or cells i None)
+    (slice_index upstream i + slice_index weights i - 1)) (range_with_len 0 (length cells))
 
--- the counts of a tile's cells, of their weights and what comes to them
-pub record AreCounts (inflows : Inflows) (tile : ℕ) (f : Flow) (values : List (Option ℕ)) : Type 0 where
+-- The counts of a tile's cells, by their weights and the sums upstream of them.
+pub record AreCounts (inflows : Inflows) (tile : ℕ) (f : Flow)
+    (values : List (Option ℕ)) : Type 0 where
   pub weights : List ℕ
-  pub came : List ℕ
+  pub upstream : List ℕ
   pub weighed : AreRimWeights inflows (bounds_of inflows.cutting tile) f.codes weights
-  pub up : AreUpstream (links_by f.bounds f.codes) weights came
-  pub made : values ≡ counts_by f.codes weights came
+  pub up : AreUpstream (links_by f.bounds f.codes) weights upstream
+  pub made : values ≡ counts_by f.codes weights upstream

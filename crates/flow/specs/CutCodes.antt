@@ -1,4 +1,5 @@
--- Codes in which each gauge is an outlet, and numbers for gauges. Only the contracts of private functions speak of it.
+-- Codes in which each gauge is an outlet, and the numbers of gauges.
+-- Private.
 use Rattle.std.specs.Prelude.{◌≡◌, ℕ, ◌==◌, nat_eq, true, false, List, length, Option, Some, IsSome, unwrap_or}
 use Rattle.std.specs.HashMap as hash
 use Rattle.std.specs.HashMap.{HashMap}
@@ -7,20 +8,25 @@ use Rattle.terrain.specs.Neighbours.{entry_at, index_of, is_place}
 use Rattle.terrain.specs.declared.place.Place.{Place}
 use Rattle.flow.specs.Numbering.{EndNumbers}
 
--- Each of these places has a code.
+-- Each gauge has a code.
 abbrev pub HaveCodes : ℕ → ℕ → List (Option ℕ) → List Place → Type 0
-HaveCodes cols rows codes gauges = (p : Place) → list_any (is_place p) gauges ≡ true → IsSome (entry_at cols rows codes p)
+HaveCodes cols rows codes gauges =
+    (p : Place) → list_any (is_place p) gauges ≡ true → IsSome (entry_at cols rows codes p)
 
--- Each of these places is an outlet, and any other has its code.
-pub record AreCutCodes (cols rows : ℕ) (codes : List (Option ℕ)) (gauges : List Place) (cut : List (Option ℕ)) : Type 0 where
+-- In `cut` each gauge is an outlet, and any other place has its code.
+pub record AreCutCodes (cols rows : ℕ) (codes : List (Option ℕ)) (gauges : List Place)
+    (cut : List (Option ℕ)) : Type 0 where
   pub size : length cut ≡ length codes
-  pub at_gauges : (p : Place) → list_any (is_place p) gauges ≡ true → entry_at cols rows cut p ≡ Some 0
-  pub elsewhere : (p : Place) → list_any (is_place p) gauges ≡ false → entry_at cols rows cut p ≡ entry_at cols rows codes p
+  pub at_gauges : (p : Place) → list_any (is_place p) gauges ≡ true →
+      entry_at cols rows cut p ≡ Some 0
+  pub elsewhere : (p : Place) → list_any (is_place p) gauges ≡ false →
+      entry_at cols rows cut p ≡ entry_at cols rows codes p
 
--- The numbers of gauges that are kept by the indexes of their cells; 0 at any other.
+-- The numbers that a hash map has for row-order indexes; 0 for an index that it lacks.
 abbrev pub gauge_numbers : {S : Type 0} → ℕ → HashMap ℕ ℕ S → EndNumbers
-gauge_numbers cells numbers = record { cells = cells; number = λ i. unwrap_or (hash.get nat_eq numbers i) 0 }
+gauge_numbers cells numbers =
+    record { cells = cells; number = λ i. unwrap_or (hash.get nat_eq numbers i) 0 }
 
--- The place in the list, from 1, of the first entry that names the cell with this index in row order.
+-- The place, from 1, of the first entry that names the cell at row-order index i.
 abbrev pub number_of_index : ℕ → List Place → ℕ → Option ℕ
 number_of_index cols gauges i = position_from (λ (g : Place). index_of cols g == i) 1 gauges

@@ -1,4 +1,5 @@
--- Water that enters tiles over their rims. Only the contracts of private functions speak of it.
+-- Inflow: how many cells' flow paths enter each rim cell from another tile.
+-- Public.
 use Rattle.std.specs.Prelude.{◌≡◌, ℕ, ◌+◌, ◌*◌, ◌<◌, ◌==◌, if◌then◌else◌, List, map, length, Option, None, Some, slice_get, slice_index, slice_index_or, unwrap_or, option_and_then}
 use Rattle.std.specs.List.{range_with_len}
 use Rattle.terrain.specs.declared.place.Place.{Place}
@@ -10,11 +11,11 @@ use Rattle.flow.specs.TileFlow.{Flow, through_in, inflow_of}
 use Rattle.tiles.specs.RimNumbers.{stride, number_count, rim_number, rim_place}
 use Rattle.flow.specs.RimGraph.{side_cell, target_by}
 
--- how many other cells of its tile flow through a place
+-- How many other cells of its tile flow through a place.
 abbrev pub through_by : Cutting → List Flow → Place → Option ℕ
 through_by t flows p = option_and_then (λ f. through_in f p) (slice_get flows (tile_of_place t p))
 
--- how many cells of its tile flow through an exit that leads into another tile; 0 for any other number
+-- How many cells leave their tile by an exit into another tile; 0 without such an exit.
 abbrev pub weight_or : Option ℕ → Option Place → ℕ
 weight_or through None = 0
 weight_or through (Some entry) = unwrap_or through 0 + 1
@@ -25,36 +26,41 @@ rim_weight t flows i = weight_or (through_by t flows (rim_place t i)) (target_by
 abbrev pub rim_weights_by : Cutting → List Flow → List ℕ
 rim_weights_by t flows = map (rim_weight t flows) (range_with_len 0 (number_count t))
 
--- what is sent to the place with a number
+-- What rim number k receives of an amount sent to an entry: all if the entry has number k.
 abbrev pub sent_to : Cutting → ℕ → Option Place → ℕ → ℕ
 sent_to t k None amount = 0
 sent_to t k (Some entry) amount = if rim_number t entry == k then amount else 0
 
 abbrev pub entering : Cutting → List (Option Place) → List ℕ → List ℕ → ℕ → ℕ → ℕ
-entering t targets weights came k i = sent_to t k (slice_index_or targets i None) (slice_index came i + slice_index weights i)
+entering t targets weights upstream k i =
+    sent_to t k (slice_index_or targets i None) (slice_index upstream i + slice_index weights i)
 
--- what enters at the place of each number
-pub record AreEntering (t : Cutting) (targets : List (Option Place)) (weights came listed : List ℕ) : Type 0 where
+-- The inflow of each rim number: what all rim numbers send to it.
+pub record AreEntering (t : Cutting) (targets : List (Option Place))
+    (weights upstream listed : List ℕ) : Type 0 where
   pub size : length listed ≡ number_count t
-  pub each : (k : ℕ) → k < number_count t → slice_index listed k ≡ sum_below (entering t targets weights came k) (number_count t)
+  pub each : (k : ℕ) → k < number_count t →
+      slice_index listed k ≡ sum_below (entering t targets weights upstream k) (number_count t)
 
--- What flows in over the rims, by numbers.
+-- The inflows of all tiles, by rim number.
 pub record Inflows : Type 0 where
   pub cutting : Cutting
   pub listed : List ℕ
 
 abbrev pub inflow_by : Cutting → List ℕ → Place → ℕ
-inflow_by t listed p = if is_place (rim_place t (rim_number t p)) p then slice_index listed (rim_number t p) else 0
+inflow_by t listed p =
+    if is_place (rim_place t (rim_number t p)) p then slice_index listed (rim_number t p) else 0
 
 abbrev pub listed_inflow : Inflows → Place → ℕ
 listed_inflow l p = inflow_by l.cutting l.listed p
 
+-- Each place has its inflow.
 pub record AreInflows (d : Directed) (t : Cutting) (l : Inflows) : Type 0 where
   pub cutting : l.cutting ≡ t
   pub size : length l.listed ≡ number_count t
   pub each : (p : Place) → IsWithin t p → listed_inflow l p ≡ inflow_of d t p
 
--- what the cell of a number adds to what flows in at a place
+-- What an amount at a rim cell adds at p: the amount if p is that cell, 0 otherwise.
 abbrev pub adds_at : Option Place → ℕ → Place → ℕ
 adds_at None amount p = 0
 adds_at (Some q) amount p = if is_place q p then amount else 0
@@ -62,4 +68,5 @@ adds_at (Some q) amount p = if is_place q p then amount else 0
 abbrev pub adds : Cutting → List ℕ → ℕ → ℕ → Place → ℕ
 adds t listed tile side p =
     let largest = bounds_of t 0 in
-    adds_at (side_cell largest (bounds_of t tile) side) (slice_index listed (tile * stride largest + side)) p
+    adds_at (side_cell largest (bounds_of t tile) side)
+    (slice_index listed (tile * stride largest + side)) p

@@ -1,45 +1,49 @@
--- The outlets of a list of codes, counted run by run. Only the contracts of private functions speak of it.
+-- Counts of the outlets in a list of codes, run by run.
+-- Private.
 use Rattle.std.specs.Prelude.{◌≡◌, ℕ, ◌+◌, ◌-◌, ◌*◌, ◌^◌, ◌<◌, ◌≤◌, min, max, List, length, take, count_by, Option, Some, slice_get, slice_index, slice_range}
 use Rattle.std.specs.Int.{div_ceil}
 use Rattle.std.specs.List.{sum_by}
 use Rattle.flow.specs.Whole.{is_outlet_code}
 use Rattle.flow.specs.declared.outlet_runs.RunCounts.{RunCounts}
 
--- A list of codes, and how many of them a whole run has.
+-- A list of codes, and the length of a full run.
 pub record CodeRuns : Type 0 where
   pub codes : List (Option ℕ)
   pub run_length : ℕ
 
--- What holds of them.
+-- There are fewer than 2^32 - 1 codes, and the run length is from 1 to 2^32.
 pub record AreCodeRuns (r : CodeRuns) : Type 0 where
   pub few : length r.codes < 2 ^ 32 - 1
   pub some : 0 < r.run_length
   pub short : r.run_length ≤ 2 ^ 32
 
--- How many codes a run has where so many runs share the blocks evenly: one block at least.
+-- The length of a run where runs share all blocks of 16 codes evenly: at least one block.
 abbrev pub run_share : ℕ → ℕ → ℕ
 run_share codes runs = max 1 (div_ceil (div_ceil codes 16) runs) * 16
 
--- Where a run starts: at the end of the codes, if it is past them.
+-- The index where run k starts, or the end of the codes if that is less.
 abbrev pub run_start : CodeRuns → ℕ → ℕ
 run_start r k = min (k * r.run_length) (length r.codes)
 
 abbrev pub run_codes : CodeRuns → ℕ → List (Option ℕ)
 run_codes r k = slice_range r.codes (run_start r k) (run_start r (k + 1))
 
--- The outlets before each block of sixteen codes of a run are counted, and those of the run.
+-- The counts are the outlets before each block of 16 codes of the run, and in the whole run.
 pub record IsRunCounted (run : List (Option ℕ)) (counts : RunCounts) : Type 0 where
   pub enough : length run ≤ length counts.before.items * 16
-  pub each : (k : ℕ) → k < length counts.before.items → slice_index counts.before.items k ≡ count_by is_outlet_code (take (k * 16) run)
+  pub each : (k : ℕ) → k < length counts.before.items →
+      slice_index counts.before.items k ≡ count_by is_outlet_code (take (k * 16) run)
   pub total : counts.total ≡ count_by is_outlet_code run
 
--- The outlets of the runs before each run are added up.
+-- For each run, the sum of the outlets of all runs before it.
 pub record AreSumsBefore (counts : List RunCounts) (before : List ℕ) : Type 0 where
   pub size : length before ≡ length counts
-  pub each : (k : ℕ) → k < length before → slice_index before k ≡ sum_by (λ c. c.total) (take k counts)
+  pub each : (k : ℕ) → k < length before →
+      slice_index before k ≡ sum_by (λ c. c.total) (take k counts)
 
--- The runs hold all codes, and their outlets are counted.
+-- The runs hold all codes; `counts` and `before` are their counts of outlets.
 pub record AreRunsCounted (r : CodeRuns) (counts : List RunCounts) (before : List ℕ) : Type 0 where
   pub enough : length r.codes ≤ length counts * r.run_length
-  pub counted : (k : ℕ) (c : RunCounts) → slice_get counts k ≡ Some c → IsRunCounted (run_codes r k) c
+  pub counted : (k : ℕ) (c : RunCounts) → slice_get counts k ≡ Some c →
+      IsRunCounted (run_codes r k) c
   pub sums : AreSumsBefore counts before

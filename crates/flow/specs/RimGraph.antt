@@ -1,4 +1,5 @@
--- The exits that lead into other tiles as nodes of a graph. Only the contracts of private functions speak of it.
+-- The graph of exits that lead into other tiles: each is linked to the next exit downstream.
+-- Public.
 use Rattle.std.specs.Prelude.{◌≡◌, ℕ, Bool, true, ◌/◌, ◌%◌, ◌&&◌, ◌==◌, if◌then◌else◌, List, map, Option, None, Some, slice_get, slice_index, slice_index_or, unwrap_or, option_and_then}
 use Rattle.std.specs.List.{range_with_len}
 use Rattle.terrain.specs.Ways.{place_toward}
@@ -12,35 +13,37 @@ use Rattle.flow.specs.TileFlow.{Flow, exit_in, IsTileExits, IsTileCounts, AreTil
 use Rattle.flow.specs.Whole.{is_outlet_code}
 use Rattle.tiles.specs.RimNumbers.{stride, side_number, side_place, number_count, rim_number, rim_place}
 
--- The flow that is found for a tile, with its counts where they are asked for.
+-- The flow has the exits of a tile, and its counts if `counted`.
 abbrev pub IsFound : Directed → Cutting → Bool → ℕ → Flow → Type 0
 IsFound d t counted tile f = IsTileExits d t tile f × (counted ≡ true → IsTileCounts d t tile f)
 
--- The flows have the exits of the tiles of a map of directions whose flow paths end.
+-- One flow for each tile, with its exits, in a map of directions whose flow paths all end.
 pub record AreFlowsOf (d : Directed) (t : Cutting) (flows : List Flow) : Type 0 where
   pub cutting : IsCutting t
   pub ends : AllFlowEnds d
   pub of_tiles : AreTileExits d t flows
 
--- the code that the flow of its tile has at a place
+-- The code at a place, by its tile's flow.
 abbrev pub code_in : Cutting → List Flow → Place → Option ℕ
-code_in t flows p = option_and_then (λ f. entry_in f.bounds f.codes p) (slice_get flows (tile_of_place t p))
+code_in t flows p =
+    option_and_then (λ f. entry_in f.bounds f.codes p) (slice_get flows (tile_of_place t p))
 
--- the exit that the flow of its tile has at a place
+-- The exit of a place, by its tile's flow.
 abbrev pub exit_by : Cutting → List Flow → Place → Option Place
 exit_by t flows p = option_and_then (λ f. exit_in f p) (slice_get flows (tile_of_place t p))
 
--- the cell of a tile that has this number among its sides, where one has
+-- The cell of a tile with this side number, if there is one.
 abbrev pub side_cell : Bounds → Bounds → ℕ → Option Place
 side_cell largest b side =
     let p = side_place largest b side in
     if is_in_bounds b p && side_number largest b p == side then Some p else None
 
--- where the water of a cell goes next, by the flow of its tile
+-- The next place downstream, by the tile's flow; the place itself if its water stays.
 abbrev pub next_in : Flow → Place → Place
-next_in f p = unwrap_or (option_and_then (λ code. place_toward code p) (entry_in f.bounds f.codes p)) p
+next_in f p =
+    unwrap_or (option_and_then (λ code. place_toward code p) (entry_in f.bounds f.codes p)) p
 
--- where the water of the cell of a number enters another tile: of a tile's own number, and of one of all tiles
+-- The place in another tile that a rim cell flows into: by side number, then by rim number.
 abbrev pub target_in : Bounds → Flow → ℕ → Option Place
 target_in largest f side =
     option_and_then (λ p. if is_in_bounds f.bounds (next_in f p) then None else Some (next_in f p))
@@ -49,7 +52,8 @@ target_in largest f side =
 abbrev pub target_by : Cutting → List Flow → ℕ → Option Place
 target_by t flows i =
     let largest = bounds_of t 0 in
-    option_and_then (λ f. target_in largest f (i % stride largest)) (slice_get flows (i / stride largest))
+    option_and_then (λ f. target_in largest f (i % stride largest))
+    (slice_get flows (i / stride largest))
 
 abbrev pub first_targets : Cutting → List Flow → ℕ → List (Option Place)
 first_targets t flows count = map (target_by t flows) (range_with_len 0 count)
@@ -57,39 +61,45 @@ first_targets t flows count = map (target_by t flows) (range_with_len 0 count)
 abbrev pub targets_by : Cutting → List Flow → List (Option Place)
 targets_by t flows = first_targets t flows (number_count t)
 
--- where water that enters a tile at a place leaves it again; None where it ends in the tile
-abbrev pub way_out_in : Flow → Place → Option Place
-way_out_in f p = option_and_then (λ e. if is_outlet_code (entry_in f.bounds f.codes e) then None else Some e) (exit_in f p)
+-- The exit that leads water from a place out of the tile; `None` if its path ends in the tile.
+abbrev pub next_exit_in : Flow → Place → Option Place
+next_exit_in f p = option_and_then
+    (λ e. if is_outlet_code (entry_in f.bounds f.codes e) then None else Some e) (exit_in f p)
 
-abbrev pub way_out_by : Cutting → List Flow → Place → Option Place
-way_out_by t flows p = option_and_then (λ f. way_out_in f p) (slice_get flows (tile_of_place t p))
+abbrev pub next_exit_by : Cutting → List Flow → Place → Option Place
+next_exit_by t flows p =
+    option_and_then (λ f. next_exit_in f p) (slice_get flows (tile_of_place t p))
 
--- each exit is linked to the one over which its water leaves the next tile
+-- The rim number of an exit's next exit; the exit's own number without one.
 abbrev pub number_or : Cutting → ℕ → Option Place → ℕ
 number_or t i None = i
 number_or t i (Some e) = rim_number t e
 
 abbrev pub rim_link : Cutting → List Flow → ℕ → ℕ
-rim_link t flows i = number_or t i (option_and_then (λ q. way_out_by t flows q) (target_by t flows i))
+rim_link t flows i =
+    number_or t i (option_and_then (λ q. next_exit_by t flows q) (target_by t flows i))
 
 abbrev pub rim_links_by : Cutting → List Flow → List ℕ
 rim_links_by t flows = map (rim_link t flows) (range_with_len 0 (number_count t))
 
--- the exit of the place that the last of the links of an exit enters
+-- The outlet of an exit into another tile: in the tile that the last such exit leads to.
 abbrev pub rim_outlet : Cutting → List Flow → List ℕ → ℕ → Option Place
-rim_outlet t flows ends i = option_and_then (λ _. option_and_then (λ q. exit_by t flows q) (target_by t flows (slice_index ends i))) (target_by t flows i)
+rim_outlet t flows ends i = option_and_then
+    (λ _. option_and_then (λ q. exit_by t flows q) (target_by t flows (slice_index ends i)))
+    (target_by t flows i)
 
 abbrev pub rim_outlets_by : Cutting → List Flow → List ℕ → List (Option Place)
 rim_outlets_by t flows ends = map (rim_outlet t flows ends) (range_with_len 0 (number_count t))
 
--- the outlet of a place that is an exit
+-- The outlet of an exit: the exit itself or the entry of its rim number.
 abbrev pub outlet_by : Cutting → List Flow → List (Option Place) → Place → Option Place
 outlet_by t flows outlets p =
     if is_outlet_code (code_in t flows p) then Some p
-    else if is_place (rim_place t (rim_number t p)) p then slice_index_or outlets (rim_number t p) None
+    else if is_place (rim_place t (rim_number t p)) p
+    then slice_index_or outlets (rim_number t p) None
     else None
 
--- Where the water of each exit ends.
+-- The outlets of exits into other tiles, by rim number.
 pub record Outlets : Type 0 where
   pub cutting : Cutting
   pub listed : List (Option Place)
@@ -97,6 +107,8 @@ pub record Outlets : Type 0 where
 abbrev pub listed_outlet : Outlets → List Flow → Place → Option Place
 listed_outlet o flows p = outlet_by o.cutting flows o.listed p
 
+-- Each exit has its outlet, and no other place has one.
 pub record AreOutlets (d : Directed) (t : Cutting) (flows : List Flow) (o : Outlets) : Type 0 where
   pub outlets : (p : Place) → IsExitCell d t p → listed_outlet o flows p ≡ Some (last_of d p)
-  pub no_outlets : (p : Place) → IsWithin t p → (IsExitCell d t p → ⊥) → listed_outlet o flows p ≡ None
+  pub no_outlets : (p : Place) → IsWithin t p → (IsExitCell d t p → ⊥) →
+      listed_outlet o flows p ≡ None

@@ -1,4 +1,4 @@
-//! The basins of a map of directions.
+//! The basins of a map of directions: [`basins`].
 ghost use Rattle.std.specs.Prelude.{◌≡◌, IfOk};
 ghost use Rattle.tiles.specs.Cutting.{Cuts};
 ghost use Rattle.tile_jobs.specs.Fault.{RefusesWorkers};
@@ -13,13 +13,25 @@ use std::sync::Wait;
 use std::thread::Threads;
 use terrain::Count;
 use tile_jobs::{Gate, JobFault};
-use tile_maps::Crew;
+use tile_maps::Runner;
 use tiles::Tiling;
 
-/// The number of the outlet that ends each cell's flow path, from 1 in row order.
+/// Returns each cell's basin: the number of the outlet that ends its flow path.
 ///
-/// Each tile has three jobs: it counts the outlets of a run of the codes, finds the tile's exits, and
-/// numbers the tile's cells.
+/// Outlets are numbered from 1 in row order. Each tile has three jobs: one counts the outlets in
+/// a run of codes, one finds the tile's exits, and one numbers the tile's cells.
+///
+/// # Errors
+///
+/// [`JobFault::BadWorkers`] if `workers` is 0 or above `MOST_WORKERS`, [`JobFault::NoThread`] if
+/// a thread could not be started, [`JobFault::Memory`] if memory ran out.
+///
+/// # Examples
+///
+/// ```ignore
+/// let values = basins(rt, alloc, &directions, &tiling, 2, &NoGate)?;
+/// let basin = values[0].value();
+/// ```
 pub fn basins<R: Threads + Wait + Sync, G: Gate + Sync>(
     rt: &R,
     alloc: Global,
@@ -32,13 +44,13 @@ pub fn basins<R: Threads + Wait + Sync, G: Gate + Sync>(
     ensures values { IfOk result (λ v. AreBasins (directed_of d.now) v.items) }
     ensures workers { RefusesWorkers workers result }
 {
-    let crew = Crew {
+    let runner = Runner {
         rt,
         alloc,
         workers,
         gate,
     };
     let codes = d.codes();
-    let numbers = OutletNumbers::of_codes(&crew, codes, tiling.tiles())?;
-    number_cells(&crew, codes, tiling, numbers)
+    let numbers = OutletNumbers::of_codes(&runner, codes, tiling.tiles())?;
+    number_cells(&runner, codes, tiling, numbers)
 }

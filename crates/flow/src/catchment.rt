@@ -1,4 +1,4 @@
-//! The catchments of gauges on a map of directions.
+//! The catchments of gauges on a map of directions: [`catchments`].
 ghost use Rattle.std.specs.Prelude.{◌≡◌, ◌*◌, length, IfOk, OnOk};
 ghost use Rattle.tiles.specs.Cutting.{Cuts, IsCutting};
 ghost use Rattle.drainage.specs.Drained.{directed_of};
@@ -13,10 +13,10 @@ use std::sync::Wait;
 use std::thread::Threads;
 use terrain::{Count, Place};
 use tile_jobs::{Gate, check_workers};
-use tile_maps::Crew;
+use tile_maps::Runner;
 use tiles::Tiling;
 
-/// The codes of a grid, with that of an outlet at each gauge.
+/// Returns the codes of a grid, with an outlet's code at each gauge.
 fn cut_codes(
     alloc: Global,
     codes: &[Option<Code>],
@@ -25,7 +25,8 @@ fn cut_codes(
 ) -> Result<Vec<Option<Code>>, AllocError>
     requires size { length codes.now ≡ tiling.now.cols * tiling.now.rows }
     requires coded { HaveCodes tiling.now.cols tiling.now.rows codes.now gauges.now }
-    ensures cut { IfOk result (λ v. AreCutCodes tiling.now.cols tiling.now.rows codes.now gauges.now v.items) }
+    ensures cut { IfOk result
+        (λ v. AreCutCodes tiling.now.cols tiling.now.rows codes.now gauges.now v.items) }
     ensures cutting { OnOk result (IsCutting tiling.now) }
 {
     let cols = tiling.cols();
@@ -37,17 +38,25 @@ fn cut_codes(
     Ok(cut)
 }
 
-/// The number of the first gauge that each cell's flow path meets, the cell itself included; 0 where
-/// it meets none. A gauge's number is its place in the list, from 1, and of entries that name one
-/// cell the first counts.
+/// Returns each cell's catchment: the number of the first gauge on its flow path.
 ///
-/// A gauge ends the paths that reach it, as an outlet does, so the cells are numbered as
-/// [`basins`](crate::basins) are. Each tile has two jobs.
+/// The flow path includes the cell itself; without a gauge on it the value is 0. A gauge's number
+/// is its place in the list, from 1. Of entries that name one cell the first counts.
+///
+/// Gauges end flow paths here, as outlets do in [`basins`](crate::basins). Each tile has two jobs.
 ///
 /// # Errors
 ///
-/// More than 1,024 gauges, repeats counted; then the first gauge outside the grid or without data;
-/// then the faults of the jobs.
+/// The first of these: [`GaugeFault::TooManyGauges`] for more than 1,024 entries, repeats counted;
+/// [`GaugeFault::Outside`] or [`GaugeFault::OnNodata`] for the first gauge outside the grid or
+/// without data; [`GaugeFault::Jobs`] with the fault of the jobs.
+///
+/// # Examples
+///
+/// ```ignore
+/// let gauges = [Place { row: 3, col: 1 }];
+/// let values = catchments(rt, alloc, &directions, &gauges, &tiling, 2, &NoGate)?;
+/// ```
 pub fn catchments<R: Threads + Wait + Sync, G: Gate + Sync>(
     rt: &R,
     alloc: Global,
@@ -65,7 +74,7 @@ pub fn catchments<R: Threads + Wait + Sync, G: Gate + Sync>(
         return Err(fault);
     }
     check_workers(workers)?;
-    let crew = Crew {
+    let runner = Runner {
         rt,
         alloc,
         workers,
@@ -73,6 +82,6 @@ pub fn catchments<R: Threads + Wait + Sync, G: Gate + Sync>(
     };
     let codes = cut_codes(alloc, d.codes(), tiling, gauges)?;
     let numbers = GaugeNumbers::of_gauges(alloc, tiling, gauges)?;
-    let values = number_cells(&crew, &codes, tiling, numbers)?;
+    let values = number_cells(&runner, &codes, tiling, numbers)?;
     Ok(values)
 }

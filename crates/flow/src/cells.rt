@@ -1,22 +1,23 @@
-//! The cells of a tile in row order, with their codes, links and weights.
+//! The codes, links and weights of a tile's cells, in row order.
 ghost use Rattle.std.specs.Prelude.{◌≡◌, ◌↔◌, IsTrue, ◌+◌, ◌-◌, ◌*◌, ◌^◌, ◌<◌, length, Some, IfOk, OnOk, unwrap_or, option_and_then};
 ghost use Rattle.terrain.specs.Ways.{place_toward};
 ghost use Rattle.tiles.specs.Cutting.{IsInBounds, bounds_of, place_in};
 ghost use Rattle.terrain.specs.Neighbours.{is_place};
 ghost use Rattle.flow.specs.TileFlow.{directed_by};
-ghost use Rattle.flow.specs.TileLinks.{AreTileCodes, IsAmid, IsSmall, link_by, first_links, links_by, weights_by};
+ghost use Rattle.flow.specs.TileLinks.{AreTileCodes, IsInterior, IsSmall, link_by, first_links, links_by, weights_by};
 
 use drainage::Code;
 use std::alloc::{AllocError, Global};
 use terrain::{Place, around_index, place_on};
 use tiles::{Bounds, TileView};
 
-/// The codes of a tile in its row order.
+/// Returns the codes of a tile's cells, in the tile's row order.
 pub(crate) fn tile_codes(
     alloc: Global,
     codes: &TileView<'_, Option<Code>>,
 ) -> Result<Vec<Option<Code>>, AllocError>
-    ensures { IfOk result (λ v. AreTileCodes (directed_by codes.now) (bounds_of codes.now.cutting codes.now.tile) v.items) }
+    ensures { IfOk result (λ v. AreTileCodes (directed_by codes.now)
+        (bounds_of codes.now.cutting codes.now.tile) v.items) }
 {
     let bounds = codes.bounds();
     let count = bounds.rows as usize * bounds.cols as usize;
@@ -27,7 +28,8 @@ pub(crate) fn tile_codes(
     Ok(cells)
 }
 
-/// For each cell the one to which its water goes on, or itself where it stays or leaves the tile.
+/// Returns each cell's link: the index of the next cell downstream.
+/// A cell whose water stays or leaves the tile is linked to itself.
 pub(crate) fn tile_links(
     alloc: Global,
     bounds: Bounds,
@@ -44,7 +46,7 @@ pub(crate) fn tile_links(
     Ok(links)
 }
 
-/// Adds the links of a row of the tile.
+/// Appends the links of one row of the tile.
 #[inline(always)]
 fn push_links(
     links: &mut Vec<u32>,
@@ -56,7 +58,8 @@ fn push_links(
     requires size { length cells.now ≡ bounds.rows * bounds.cols }
     requires row { row < bounds.rows }
     requires links { links.old.items ≡ first_links bounds cells.now (row * bounds.cols) }
-    ensures { OnOk result (links.new.items ≡ first_links bounds cells.now ((row + 1) * bounds.cols)) }
+    ensures { OnOk result
+        (links.new.items ≡ first_links bounds cells.now ((row + 1) * bounds.cols)) }
 {
     let start = row * bounds.cols;
     for col in 0..bounds.cols {
@@ -67,7 +70,7 @@ fn push_links(
     Ok(())
 }
 
-/// The link of the cell in this row and column of the tile.
+/// Returns the link of the cell in this row and column of the tile.
 #[inline(always)]
 fn link_at(bounds: Bounds, row: u32, col: u32, code: Option<Code>) -> u32
     requires small { IsSmall bounds }
@@ -75,8 +78,8 @@ fn link_at(bounds: Bounds, row: u32, col: u32, code: Option<Code>) -> u32
     requires col { col < bounds.cols }
     ensures { result ≡ link_by bounds (row * bounds.cols + col) code }
 {
-    if is_amid(bounds, row, col) {
-        return link_amid(bounds, row, col, code);
+    if is_interior(bounds, row, col) {
+        return interior_link(bounds, row, col, code);
     }
     let place = Place {
         row: bounds.top + row,
@@ -85,22 +88,22 @@ fn link_at(bounds: Bounds, row: u32, col: u32, code: Option<Code>) -> u32
     link_of(bounds, row * bounds.cols + col, place, code)
 }
 
-/// Whether the cell in this row and column of the tile has eight cells of the tile around it.
+/// Returns whether all eight places around the cell lie in the tile.
 #[inline(always)]
-fn is_amid(bounds: Bounds, row: u32, col: u32) -> bool
+fn is_interior(bounds: Bounds, row: u32, col: u32) -> bool
     requires small { IsSmall bounds }
     requires row { row < bounds.rows }
     requires col { col < bounds.cols }
-    ensures { IsTrue result ↔ IsAmid bounds row col }
+    ensures { IsTrue result ↔ IsInterior bounds row col }
 {
     0 < row && row + 1 < bounds.rows && 0 < col && col + 1 < bounds.cols
 }
 
-/// The link of a cell that has eight cells of the tile around it. No way leads out of the tile there.
+/// Returns the link of an interior cell. No direction leaves the tile there.
 #[inline(always)]
-fn link_amid(bounds: Bounds, row: u32, col: u32, code: Option<Code>) -> u32
+fn interior_link(bounds: Bounds, row: u32, col: u32, code: Option<Code>) -> u32
     requires small { IsSmall bounds }
-    requires amid { IsAmid bounds row col }
+    requires interior { IsInterior bounds row col }
     ensures { result ≡ link_by bounds (row * bounds.cols + col) code }
 {
     let index = row * bounds.cols + col;
@@ -113,7 +116,7 @@ fn link_amid(bounds: Bounds, row: u32, col: u32, code: Option<Code>) -> u32
     }
 }
 
-/// 1 for each data cell, and 0 for each without data.
+/// Returns each cell's weight: 1 for a data cell, 0 for NODATA.
 pub(crate) fn tile_weights(alloc: Global, cells: &[Option<Code>]) -> Result<Vec<u32>, AllocError>
     ensures { IfOk result (λ v. v.items ≡ weights_by cells.now) }
 {
@@ -145,7 +148,7 @@ fn link_of(bounds: Bounds, index: u32, place: Place, code: Option<Code>) -> u32
     }
 }
 
-/// Where water goes on from a place with this code.
+/// Returns the place downstream of `place`, or `place` if its water stays.
 #[inline(always)]
 pub(crate) fn next_of(code: Option<Code>, place: Place) -> Place
     requires row { place.row < 2 ^ 32 - 1 }
@@ -158,7 +161,7 @@ pub(crate) fn next_of(code: Option<Code>, place: Place) -> Place
     }
 }
 
-/// The place to which a code points, None of an outlet.
+/// Returns where a code points; `None` for an outlet, or past row 0 or column 0.
 #[inline(always)]
 fn toward(code: Code, place: Place) -> Option<Place>
     requires row { place.row < 2 ^ 32 - 1 }

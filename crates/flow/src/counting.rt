@@ -1,6 +1,6 @@
 //! Accumulations of a map of directions: [`accumulation`].
 //!
-//! One job finds each tile's flow, `inflows` what enters it, and another job counts.
+//! A job for each tile finds its flow, `inflows` adds up inflow, and a second job counts cells.
 ghost use Rattle.std.proofs.Props.{props};
 ghost use Rattle.std.specs.Prelude.{◌≡◌, ◌+◌, ◌^◌, ◌<◌, ℕ, length, slice_index, IfOk};
 ghost use Rattle.tiles.specs.Cutting.{Cuts, IsInBounds, bounds_of, cell_count, tile_count};
@@ -15,7 +15,7 @@ use crate::cells::tile_weights;
 use crate::crossings::Crossings;
 use crate::flowing::flow_tiles;
 use crate::inflows::Inflows;
-use crate::streams::upstream;
+use crate::streams::upstream_weights;
 use crate::tile::{TileFlow, count_where_data};
 use drainage::{Code, Directions};
 use std::alloc::{AllocError, Global};
@@ -23,10 +23,10 @@ use std::sync::Wait;
 use std::thread::Threads;
 use terrain::{Count, NoMemory};
 use tile_jobs::{Gate, JobFault};
-use tile_maps::{Crew, TileMap};
+use tile_maps::{Runner, TileMap};
 use tiles::Tiling;
 
-/// The accumulations, of the flows of all tiles and what flows into them.
+/// What the jobs read to count cells: the flows of all tiles and their inflows.
 #[derive(Drop)]
 struct Counting<'a> {
     tiling: &'a Tiling,
@@ -55,8 +55,20 @@ impl<'a> TileMap for Counting<'a> {
     }
 }
 
-/// How many other cells' flow paths hold each cell. Each tile's flow is found in a job of its own,
-/// and its cells are counted in another.
+/// Returns each cell's accumulation: how many other cells' flow paths hold it.
+/// Each tile has two jobs: one finds its flow, and a later one counts its cells.
+///
+/// # Errors
+///
+/// [`JobFault::BadWorkers`] if `workers` is 0 or above `MOST_WORKERS`, [`JobFault::NoThread`] if
+/// a thread could not be started, [`JobFault::Memory`] if memory ran out.
+///
+/// # Examples
+///
+/// ```ignore
+/// let values = accumulation(rt, alloc, &directions, &tiling, 2, &NoGate)?;
+/// let accumulation = values[0].value();
+/// ```
 pub fn accumulation<R: Threads + Wait + Sync, G: Gate + Sync>(
     rt: &R,
     alloc: Global,
@@ -69,24 +81,24 @@ pub fn accumulation<R: Threads + Wait + Sync, G: Gate + Sync>(
     ensures values { IfOk result (λ v. AreAccumulations (directed_of d.now) v.items) }
     ensures workers { RefusesWorkers workers result }
 {
-    let crew = Crew {
+    let runner = Runner {
         rt,
         alloc,
         workers,
         gate,
     };
-    let flows = flow_tiles(&crew, d.codes(), tiling, true)?;
+    let flows = flow_tiles(&runner, d.codes(), tiling, true)?;
     let crossings = Crossings::of(alloc, tiling, &flows)?;
     let inflows = Inflows::join(alloc, tiling, &flows, &crossings)?;
     drop(crossings);
-    crew.made(Counting {
+    runner.made(Counting {
         tiling,
         flows,
         inflows,
     })
 }
 
-/// The accumulations of a tile's cells.
+/// Returns the accumulations of a tile's cells.
 fn tile_counts(
     alloc: Global,
     inflows: &Inflows,
@@ -99,11 +111,11 @@ fn tile_counts(
 {
     let codes = flow.codes();
     let weights = rim_weights(alloc, inflows, tile, codes)?;
-    let came = upstream(alloc, flow.links(), &weights)?;
-    counts(alloc, codes, &weights, &came)
+    let upstream = upstream_weights(alloc, flow.links(), &weights)?;
+    counts(alloc, codes, &weights, &upstream)
 }
 
-/// 1 for each data cell, and what flows in.
+/// Returns each cell's weight: 1 for a data cell, and its inflow.
 fn rim_weights(
     alloc: Global,
     inflows: &Inflows,
@@ -112,30 +124,33 @@ fn rim_weights(
 ) -> Result<Vec<u32>, AllocError>
     requires tile { tile < tile_count inflows.now.cutting }
     requires size { length cells.now ≡ cell_count inflows.now.cutting tile }
-    requires fits { (p : AtPlace) → IsInBounds (bounds_of inflows.now.cutting tile) p → listed_inflow inflows.now p < 2 ^ 31 }
-    ensures { IfOk result (λ v. AreRimWeights inflows.now (bounds_of inflows.now.cutting tile) cells.now v.items) }
+    requires fits { (p : AtPlace) → IsInBounds (bounds_of inflows.now.cutting tile) p →
+        listed_inflow inflows.now p < 2 ^ 31 }
+    ensures { IfOk result (λ v.
+        AreRimWeights inflows.now (bounds_of inflows.now.cutting tile) cells.now v.items) }
 {
     let mut weights = tile_weights(alloc, cells)?;
     inflows.add_to(tile, &mut weights);
     Ok(weights)
 }
 
-/// The total of each data cell, itself left out; that of a cell without data is 0.
+/// Returns each data cell's sum, less 1 for the cell itself. NODATA sums to 0.
 #[tactic(auto, using(crate::proofs::Windows::mapped_next))]
 fn counts(
     alloc: Global,
     cells: &[Option<Code>],
     weights: &[u32],
-    came: &[u32],
+    upstream: &[u32],
 ) -> Result<Vec<Count>, AllocError>
     requires weights { length weights.now ≡ length cells.now }
-    requires came { length came.now ≡ length cells.now }
-    requires fits { (i : ℕ) → i < length cells.now → slice_index came.now i + slice_index weights.now i < 2 ^ 32 }
-    ensures { IfOk result (λ v. v.items ≡ counts_by cells.now weights.now came.now) }
+    requires upstream { length upstream.now ≡ length cells.now }
+    requires fits { (i : ℕ) → i < length cells.now →
+        slice_index upstream.now i + slice_index weights.now i < 2 ^ 32 }
+    ensures { IfOk result (λ v. v.items ≡ counts_by cells.now weights.now upstream.now) }
 {
     let mut values = Vec::with_capacity(alloc, cells.len())?;
     for index in 0..cells.len() {
-        let total = came[index] + weights[index];
+        let total = upstream[index] + weights[index];
         values.push(count_where_data(cells[index], total.saturating_sub(1)))?;
     }
     Ok(values)

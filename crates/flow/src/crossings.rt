@@ -1,12 +1,12 @@
 //! Where water crosses from tile to tile.
 //!
-//! For each rim cell: the place of another tile that its water enters, and the exit by which it
+//! For each rim cell: the place in another tile that its water enters, and the exit by which it
 //! leaves that tile.
 ghost use Rattle.std.specs.Prelude.{◌≡◌, ◌+◌, ◌*◌, ◌<◌, ◌≤◌, length, IfOk, OnOk};
 ghost use Rattle.tiles.specs.Cutting.{IsCutting, IsWithin, IsWithinLimits, bounds_of, tile_count};
 ghost use Rattle.drainage.specs.Following.{Directed};
 ghost use Rattle.tiles.specs.RimNumbers.{number_count, stride};
-ghost use Rattle.flow.specs.RimGraph.{code_in, AreFlowsOf, target_in, first_targets, targets_by, way_out_by, rim_link, rim_links_by};
+ghost use Rattle.flow.specs.RimGraph.{code_in, AreFlowsOf, target_in, first_targets, targets_by, next_exit_by, rim_link, rim_links_by};
 
 use crate::cells::next_of;
 use crate::rim::side_cell;
@@ -16,8 +16,8 @@ use std::alloc::{AllocError, Global};
 use terrain::Place;
 use tiles::{Bounds, Tiling};
 
-/// Of each number of a rim cell: the place of another tile that its water enters, and the number of the exit over
-/// which it leaves that tile again.
+/// For each rim number, the place its water enters and the number of the next exit.
+/// A number without a next exit is linked to itself.
 #[derive(Drop)]
 pub(crate) struct Crossings {
     pub(crate) targets: Vec<Option<Place>>,
@@ -25,7 +25,7 @@ pub(crate) struct Crossings {
 }
 
 impl Crossings {
-    /// The crossings of one flow for each tile, in tile order.
+    /// Finds the crossings between all tiles, by their flows in tile order.
     pub(crate) fn of(
         alloc: Global,
         tiling: &Tiling,
@@ -52,15 +52,15 @@ pub(crate) fn code_of(tiling: &Tiling, flows: &[TileFlow], place: Place) -> Opti
 }
 
 #[inline(always)]
-fn way_out(tiling: &Tiling, flows: &[TileFlow], entry: Place) -> Option<Place>
+fn next_exit(tiling: &Tiling, flows: &[TileFlow], entry: Place) -> Option<Place>
     requires count { length flows.now ≡ tile_count tiling.now }
     requires within { IsWithin tiling.now entry }
-    ensures { result ≡ way_out_by tiling.now flows.now entry }
+    ensures { result ≡ next_exit_by tiling.now flows.now entry }
 {
-    flows[tiling.tile_of(entry) as usize].way_out(entry)
+    flows[tiling.tile_of(entry) as usize].next_exit(entry)
 }
 
-/// Where the water of the cell with this number among a tile's sides enters another tile.
+/// Returns the place in another tile that the cell of `side` flows into, if any.
 #[inline(always)]
 fn target_of(largest: Bounds, flow: &TileFlow, side: u32) -> Option<Place>
     requires largest { IsWithinLimits largest }
@@ -78,7 +78,7 @@ fn target_of(largest: Bounds, flow: &TileFlow, side: u32) -> Option<Place>
     }
 }
 
-/// Adds where the water of each number's cell of a tile enters another one.
+/// Appends, for each side number of a tile, the place entered in another tile.
 fn push_targets(
     targets: &mut Vec<Option<Place>>,
     tiling: &Tiling,
@@ -87,9 +87,11 @@ fn push_targets(
 ) -> Result<(), AllocError>
     requires flows { (d : Directed) × AreFlowsOf d tiling.now flows.now }
     requires tile { tile < tile_count tiling.now }
-    requires targets { targets.old.items ≡ first_targets tiling.now flows.now (tile * stride (bounds_of tiling.now 0)) }
+    requires targets { targets.old.items
+        ≡ first_targets tiling.now flows.now (tile * stride (bounds_of tiling.now 0)) }
     ensures { OnOk result
-        (targets.new.items ≡ first_targets tiling.now flows.now ((tile + 1) * stride (bounds_of tiling.now 0))) }
+        (targets.new.items
+        ≡ first_targets tiling.now flows.now ((tile + 1) * stride (bounds_of tiling.now 0))) }
 {
     let largest = tiling.bounds(0);
     let flow = &flows[tile as usize];
@@ -99,7 +101,7 @@ fn push_targets(
     Ok(())
 }
 
-/// Where the water of each number's cell enters another tile.
+/// Returns the place in another tile that each rim cell flows into, if any.
 fn rim_targets(
     alloc: Global,
     tiling: &Tiling,
@@ -115,7 +117,7 @@ fn rim_targets(
     Ok(targets)
 }
 
-/// The number to which a number is linked: that of the exit over which its water leaves the next tile.
+/// Returns the number of the next exit downstream, or `number` without one.
 fn link_of(tiling: &Tiling, flows: &[TileFlow], targets: &[Option<Place>], number: u32) -> u32
     requires flows { (d : Directed) × AreFlowsOf d tiling.now flows.now }
     requires targets { targets.now ≡ targets_by tiling.now flows.now }
@@ -125,7 +127,7 @@ fn link_of(tiling: &Tiling, flows: &[TileFlow], targets: &[Option<Place>], numbe
     let Some(entry) = targets[number as usize] else {
         return number;
     };
-    match way_out(tiling, flows, entry) {
+    match next_exit(tiling, flows, entry) {
         Some(exit) => tiling.rim_number(exit),
         None => number,
     }

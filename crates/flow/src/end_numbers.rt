@@ -1,13 +1,13 @@
-//! Numbers of the cells at which flow paths end.
+//! The numbers of cells where flow paths end.
 ghost use Rattle.std.specs.Prelude.{◌≡◌, ◌<◌};
 ghost use Rattle.flow.specs.Numbering.{EndNumbers};
 
-/// Numbers the cells of a grid at which flow paths end. Threads share it.
+/// Numbers for the cells of a grid where flow paths end. Threads share them.
 pub(crate) trait EndNumbering {
     // The number of each cell.
     ghost numbers: { Self → EndNumbers };
 
-    /// The number of the cell with this index in the row order of the grid.
+    /// Returns the number of the cell at this index in the grid's row order.
     fn number(&self, index: usize) -> u32
         requires { index < (numbers self.now).cells }
         ensures { result ≡ (numbers self.now).number index };

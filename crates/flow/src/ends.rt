@@ -1,14 +1,14 @@
-//! Where paths along links end: at nodes that are linked to themselves.
+//! Finds where paths along links end: at nodes that are linked to themselves.
 ghost use Rattle.std.specs.Prelude.{◌≡◌, ◌^◌, ◌<◌, ◌≤◌, ℕ, length, IfOk};
 ghost use Rattle.flow.specs.Streams.{AreStreams, AreEnds, end_of};
 ghost use Rattle.flow.specs.Finding.{AreFound, IsKnown};
 
 use std::alloc::{AllocError, Global};
 
-/// The entry of a node whose end is not found yet.
+/// The entry of a node whose end is still unknown.
 const UNKNOWN: u32 = u32::MAX;
 
-/// Where the path of each node ends.
+/// Returns the node where each node's path ends.
 pub(crate) fn ends(alloc: Global, links: &[u32]) -> Result<Vec<u32>, AllocError>
     requires streams { AreStreams links.now }
     requires few { length links.now ≤ 2 ^ 30 }
@@ -19,14 +19,14 @@ pub(crate) fn ends(alloc: Global, links: &[u32]) -> Result<Vec<u32>, AllocError>
     Ok(ends)
 }
 
-/// The ends of the paths of all nodes, of which none is found yet.
+/// Returns a list of ends for all nodes, each still unknown.
 pub(crate) fn unknown_ends(alloc: Global, links: &[u32]) -> Result<Vec<u32>, AllocError>
     ensures { IfOk result (λ v. AreFound links.now v.items) }
 {
     vec![in alloc; UNKNOWN; links.len()]
 }
 
-/// Finds where the path of each node ends.
+/// Fills in the end of each node's path.
 fn find_ends(links: &[u32], ends: &mut [u32])
     requires streams { AreStreams links.now }
     requires few { length links.now ≤ 2 ^ 30 }
@@ -38,7 +38,7 @@ fn find_ends(links: &[u32], ends: &mut [u32])
     }
 }
 
-/// Where the path of a node ends, which is noted of all nodes along it.
+/// Returns the end of a node's path, and notes it for each node on the path.
 pub(crate) fn find_end(links: &[u32], ends: &mut [u32], node: usize) -> u32
     requires streams { AreStreams links.now }
     requires few { length links.now ≤ 2 ^ 30 }
@@ -54,7 +54,7 @@ pub(crate) fn find_end(links: &[u32], ends: &mut [u32], node: usize) -> u32
     last
 }
 
-/// Where the path of a node ends, where nothing is noted.
+/// Returns the end of a node's path, by its links alone.
 pub(crate) fn end_of(links: &[u32], from: usize) -> u32
     requires streams { AreStreams links.now }
     requires few { length links.now ≤ 2 ^ 30 }
@@ -68,7 +68,7 @@ pub(crate) fn end_of(links: &[u32], from: usize) -> u32
     node as u32
 }
 
-/// The end of a node's path, read off where the path meets a known one, or comes to it.
+/// Returns the end of a node's path, following links only to a known end.
 #[inline]
 fn end_from(links: &[u32], ends: &[u32], from: usize) -> u32
     requires streams { AreStreams links.now }
@@ -88,7 +88,7 @@ fn end_from(links: &[u32], ends: &[u32], from: usize) -> u32
     ends[node]
 }
 
-/// Marks the nodes of a path with its end, up to the first that is known.
+/// Notes `last` for the nodes of a path, up to the first with a known end.
 fn mark_path(links: &[u32], ends: &mut [u32], from: usize, last: u32)
     requires streams { AreStreams links.now }
     requires few { length links.now ≤ 2 ^ 30 }

@@ -1,4 +1,4 @@
-//! The flow of every tile, one job each.
+//! The flows of all tiles, with one job for each tile.
 ghost use Rattle.std.specs.Prelude.{◌≡◌, true, IfOk};
 ghost use Rattle.tile_jobs.specs.Fault.{RefusesWorkers};
 ghost use Rattle.flow.specs.TileFlow.{AreTileCounts};
@@ -11,10 +11,10 @@ use std::alloc::Global;
 use std::sync::Wait;
 use std::thread::Threads;
 use tile_jobs::{Gate, JobFault, Work};
-use tile_maps::Crew;
+use tile_maps::Runner;
 use tiles::Tiling;
 
-/// Finds the flow of each tile, without its counts where exits alone are asked for.
+/// The jobs that find the flow of each tile, with its counts if `counted`.
 #[derive(Drop)]
 struct FlowTiles<'a> {
     codes: &'a [Option<Code>],
@@ -32,7 +32,9 @@ impl<'a> Work for FlowTiles<'a> {
 
     ghost most = { λ w. tile_count w.tiling.now };
 
-    ghost gives = { λ w job out. IsFound (make_directed w.tiling.now.cols w.tiling.now.rows w.codes.now) w.tiling.now w.counted job out };
+    ghost gives = { λ w job out. IsFound
+        (make_directed w.tiling.now.cols w.tiling.now.rows w.codes.now) w.tiling.now w.counted job
+        out };
 
     fn run(&self, alloc: Global, job: u32) -> Result<TileFlow, JobFault> {
         let view = self.tiling.view(self.codes, job);
@@ -46,22 +48,25 @@ impl<'a> Work for FlowTiles<'a> {
     }
 }
 
-/// The flows of all tiles, in tile order, without their counts where exits alone are asked for.
+/// Returns the flows of all tiles in tile order, with their counts if `counted`.
 pub(crate) fn flow_tiles<R: Threads + Wait + Sync, G: Gate + Sync>(
-    crew: &Crew<'_, R, G>,
+    runner: &Runner<'_, R, G>,
     codes: &[Option<Code>],
     tiling: &Tiling,
     counted: bool,
 ) -> Result<Vec<TileFlow>, JobFault>
     requires grid { IsGridFlow tiling.now.cols tiling.now.rows codes.now }
-    ensures flows { IfOk result (λ v. AreFlowsOf (make_directed tiling.now.cols tiling.now.rows codes.now) tiling.now v.items) }
-    ensures counts { IfOk result (λ v. counted ≡ true → AreTileCounts (make_directed tiling.now.cols tiling.now.rows codes.now) tiling.now v.items) }
-    ensures workers { RefusesWorkers crew.now.workers result }
+    ensures flows { IfOk result (λ v. AreFlowsOf
+        (make_directed tiling.now.cols tiling.now.rows codes.now) tiling.now v.items) }
+    ensures counts { IfOk result (λ v. counted ≡ true →
+        AreTileCounts (make_directed tiling.now.cols tiling.now.rows codes.now) tiling.now
+        v.items) }
+    ensures workers { RefusesWorkers runner.now.workers result }
 {
     let work = FlowTiles {
         codes,
         tiling,
         counted,
     };
-    crew.run(&work, tiling.tiles())
+    runner.run(&work, tiling.tiles())
 }

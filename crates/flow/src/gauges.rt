@@ -1,4 +1,4 @@
-//! Gauges: what is wrong with a list of them, and their numbers by the cells that they name.
+//! Gauges: the fault of a list of gauges, and the number of each gauge's cell.
 ghost use Rattle.std.specs.Prelude.{◌≡◌, ℕ, ◌*◌, ◌≤◌, length, nat_eq, IfOk, option_map};
 ghost use Rattle.std.specs.HashMap as hash;
 ghost use Rattle.terrain.specs.Sinks.{first_sink_fault, most_sinks, sink_fault_of};
@@ -15,10 +15,10 @@ use terrain::{Grid, Place, SinkFault, sinks_fault};
 use tile_jobs::JobFault;
 use tiles::Tiling;
 
-/// The most entries of a list of gauges, repeats counted.
+/// The largest number of entries in a list of gauges, repeats counted.
 pub const MOST_GAUGES: usize = 1_024;
 
-/// Why catchments are refused; an index is a place in the list of gauges, from 0.
+/// Why catchments are refused. An index is a place in the list of gauges, from 0.
 #[derive(Clone, Copy, Debug, PartialEq, Eq)]
 pub enum GaugeFault {
     /// The gauge at this index lies outside the grid.
@@ -27,7 +27,7 @@ pub enum GaugeFault {
     OnNodata(u32),
     /// The list has more than [`MOST_GAUGES`] entries.
     TooManyGauges,
-    /// The jobs were not run to their end.
+    /// The jobs failed, or memory ran out.
     Jobs(JobFault),
 }
 
@@ -54,7 +54,7 @@ impl From<AllocError> for GaugeFault {
     }
 }
 
-/// The fault of a gauge where a sink at its place has this fault.
+/// Returns a sink's fault as the fault of a gauge.
 fn fault_of_gauge(fault: SinkFault) -> GaugeFault
     ensures { result ≡ fault_of_gauge fault }
 {
@@ -66,8 +66,8 @@ fn fault_of_gauge(fault: SinkFault) -> GaugeFault
     }
 }
 
-/// Returns the fault of gauges on a grid: more than [`MOST_GAUGES`], repeats counted; then the first
-/// that lies outside the grid or has no data. None where they have none.
+/// Returns the first fault of gauges on a grid, or `None` if they have none.
+/// Reports more than [`MOST_GAUGES`] entries first, then a gauge outside the grid or without data.
 pub fn gauges_fault(grid: &Grid, gauges: &[Place]) -> Option<GaugeFault>
     ensures { result ≡ gauges_fault grid.now.terrain gauges.now }
 {
@@ -77,7 +77,7 @@ pub fn gauges_fault(grid: &Grid, gauges: &[Place]) -> Option<GaugeFault>
     }
 }
 
-/// The fault of the gauge that stands at `index`.
+/// Returns the fault of one gauge, if it has one; `index` is its place in the list.
 fn gauge_fault_at(d: &Directions, tiling: &Tiling, gauge: Place, index: u32) -> Option<GaugeFault>
     requires { Cuts tiling.now d.now.terrain }
     ensures { result ≡ option_map fault_of_gauge (sink_fault_of d.now.terrain index gauge) }
@@ -91,7 +91,7 @@ fn gauge_fault_at(d: &Directions, tiling: &Tiling, gauge: Place, index: u32) -> 
     None
 }
 
-/// The fault of the first gauge that lies outside the grid or has no data.
+/// Returns the fault of the first gauge outside the grid or without data, if any.
 fn first_bad_gauge(d: &Directions, tiling: &Tiling, gauges: &[Place]) -> Option<GaugeFault>
     requires cuts { Cuts tiling.now d.now.terrain }
     requires few { length gauges.now ≤ most_sinks }
@@ -106,7 +106,7 @@ fn first_bad_gauge(d: &Directions, tiling: &Tiling, gauges: &[Place]) -> Option<
     None
 }
 
-/// The first fault of gauges over a map of directions.
+/// Returns the first fault of gauges on a map of directions, if any.
 pub(crate) fn first_fault(d: &Directions, tiling: &Tiling, gauges: &[Place]) -> Option<GaugeFault>
     requires { Cuts tiling.now d.now.terrain }
     ensures { result ≡ gauges_fault d.now.terrain gauges.now }
@@ -117,17 +117,17 @@ pub(crate) fn first_fault(d: &Directions, tiling: &Tiling, gauges: &[Place]) -> 
     first_bad_gauge(d, tiling, gauges)
 }
 
-/// The numbers of gauges, by the cells that they name. Any other cell has 0.
+/// The numbers of the cells that gauges name; any other cell has 0.
 #[derive(Drop)]
 pub struct GaugeNumbers {
     cells: usize,
-    // By the index of a cell in row order.
+    // Keys are the indexes of cells in row order.
     numbers: HashMap<usize, u32>,
 }
 
 impl GaugeNumbers {
-    /// The numbers of gauges of a grid: their places in the list, from 1. Of entries that name one
-    /// cell the first counts.
+    /// Numbers the gauges of a grid by their places in the list, from 1.
+    /// Of entries that name one cell the first counts.
     pub(crate) fn of_gauges(
         alloc: Global,
         tiling: &Tiling,
@@ -136,7 +136,8 @@ impl GaugeNumbers {
         requires few { length gauges.now ≤ most_sinks }
         requires within { All (IsWithin tiling.now) gauges.now }
         ensures cells { IfOk result (λ n. n.cells ≡ tiling.now.cols * tiling.now.rows) }
-        ensures numbers { IfOk result (λ n. (i : ℕ) → hash.get nat_eq n.numbers i ≡ number_of_index tiling.now.cols gauges.now i) }
+        ensures numbers { IfOk result (λ n. (i : ℕ) →
+            hash.get nat_eq n.numbers i ≡ number_of_index tiling.now.cols gauges.now i) }
     {
         let mut numbers = HashMap::new(alloc);
         for (index, gauge) in gauges.iter().enumerate() {

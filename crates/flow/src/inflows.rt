@@ -1,10 +1,10 @@
-//! How many cells' water enters each tile, at which rim cell.
+//! Inflow: how many cells' flow paths enter each rim cell from another tile.
 ghost use Rattle.std.specs.Prelude.{◌≡◌, ◌+◌, ◌*◌, ◌^◌, ◌<◌, ℕ, None, length, slice_index, slice_index_or, IfOk, IfSome};
 ghost use Rattle.terrain.specs.declared.place.Place.{Place as AtPlace};
 ghost use Rattle.tiles.specs.Cutting.{IsInBounds, IsWithin, bounds_of, cell_count, tile_count, index_in};
 ghost use Rattle.drainage.specs.Following.{Directed};
 ghost use Rattle.flow.specs.Streams.{sum_below};
-ghost use Rattle.flow.specs.Sending.{AreNone};
+ghost use Rattle.flow.specs.Sending.{AreZeros};
 ghost use Rattle.flow.specs.TileFlow.{AreTileCounts};
 ghost use Rattle.flow.specs.TileLinks.{IsSmall};
 ghost use Rattle.tiles.specs.RimNumbers.{number_count};
@@ -14,18 +14,18 @@ ghost use Rattle.flow.specs.Inflows.{AreEntering, AreInflows, adds_at, entering,
 use crate::cells::is_place;
 use crate::crossings::Crossings;
 use crate::rim::side_cell;
-use crate::streams::{upstream, zeros};
+use crate::streams::{upstream_weights, zeros};
 use crate::tile::TileFlow;
 use std::alloc::{AllocError, Global};
 use std::marker::Model;
 use terrain::Place;
 use tiles::{Bounds, Tiling};
 
-/// How many cells' flow paths enter each cell from another tile.
+/// For each rim cell, how many cells' flow paths enter it from another tile.
 #[derive(Drop)]
 pub struct Inflows {
     tiling: Tiling,
-    // of each number of a rim cell
+    // the inflow of each rim number
     listed: Vec<u32>,
 }
 
@@ -42,14 +42,15 @@ impl Model for Inflows {
 }
 
 impl Inflows {
-    /// Sends the water of each exit from tile to tile.
+    /// Sums the inflows, following each exit's water from tile to tile.
     pub(crate) fn join(
         alloc: Global,
         tiling: &Tiling,
         flows: &[TileFlow],
         crossings: &Crossings,
     ) -> Result<Inflows, AllocError>
-        requires flows { (d : Directed) × AreFlowsOf d tiling.now flows.now × AreTileCounts d tiling.now flows.now }
+        requires flows { (d : Directed) × AreFlowsOf d tiling.now flows.now
+            × AreTileCounts d tiling.now flows.now }
         requires targets { crossings.now.targets.items ≡ targets_by tiling.now flows.now }
         requires links { crossings.now.links.items ≡ rim_links_by tiling.now flows.now }
         ensures cutting { IfOk result (λ i. i.cutting ≡ tiling.now) }
@@ -58,15 +59,15 @@ impl Inflows {
     {
         let targets = &crossings.targets;
         let weights = rim_weights(alloc, tiling, flows, targets)?;
-        let came = upstream(alloc, &crossings.links, &weights)?;
-        let listed = all_entering(alloc, tiling, targets, &weights, &came)?;
+        let upstream = upstream_weights(alloc, &crossings.links, &weights)?;
+        let listed = all_entering(alloc, tiling, targets, &weights, &upstream)?;
         Ok(Inflows {
             tiling: *tiling,
             listed,
         })
     }
 
-    /// How many cells' flow paths hold the place right after a cell of another tile.
+    /// Returns how many cells' flow paths enter `place` from another tile.
     pub(crate) fn inflow(&self, place: Place) -> u32
         requires { IsWithin self.now.cutting place }
         ensures { result ≡ listed_inflow self.now place }
@@ -79,32 +80,36 @@ impl Inflows {
         }
     }
 
-    /// Adds to the weights of a tile's cells what flows in.
+    /// Adds the inflows of a tile to the weights of its cells.
     pub(crate) fn add_to(&self, tile: u32, weights: &mut [u32])
         requires tile { tile < tile_count self.now.cutting }
         requires size { length weights.old ≡ cell_count self.now.cutting tile }
         requires fits { (p : AtPlace) → IsInBounds (bounds_of self.now.cutting tile) p →
-            slice_index weights.old (index_in (bounds_of self.now.cutting tile) p) + listed_inflow self.now p < 2 ^ 32 }
+            slice_index weights.old (index_in (bounds_of self.now.cutting tile) p)
+            + listed_inflow self.now p < 2 ^ 32 }
         ensures size { length weights.new ≡ length weights.old }
         ensures each { (p : AtPlace) → IsInBounds (bounds_of self.now.cutting tile) p →
             slice_index weights.new (index_in (bounds_of self.now.cutting tile) p)
-            ≡ slice_index weights.old (index_in (bounds_of self.now.cutting tile) p) + listed_inflow self.now p }
+            ≡ slice_index weights.old (index_in (bounds_of self.now.cutting tile) p)
+            + listed_inflow self.now p }
     {
         add_all(&self.tiling, &self.listed, tile, weights);
     }
 }
 
-/// Adds what the numbers of a tile add to the weights of its cells.
+/// Adds the amount of each rim number of a tile to the weight of its cell.
 fn add_all(tiling: &Tiling, listed: &[u32], tile: u32, weights: &mut [u32])
     requires tile { tile < tile_count tiling.now }
     requires listed { length listed.now ≡ number_count tiling.now }
     requires size { length weights.old ≡ cell_count tiling.now tile }
     requires fits { (p : AtPlace) → IsInBounds (bounds_of tiling.now tile) p →
-        slice_index weights.old (index_in (bounds_of tiling.now tile) p) + inflow_by tiling.now listed.now p < 2 ^ 32 }
+        slice_index weights.old (index_in (bounds_of tiling.now tile) p)
+        + inflow_by tiling.now listed.now p < 2 ^ 32 }
     ensures size { length weights.new ≡ length weights.old }
     ensures each { (p : AtPlace) → IsInBounds (bounds_of tiling.now tile) p →
         slice_index weights.new (index_in (bounds_of tiling.now tile) p)
-        ≡ slice_index weights.old (index_in (bounds_of tiling.now tile) p) + inflow_by tiling.now listed.now p }
+        ≡ slice_index weights.old (index_in (bounds_of tiling.now tile) p)
+        + inflow_by tiling.now listed.now p }
 {
     let largest = tiling.bounds(0);
     let bounds = tiling.bounds(tile);
@@ -115,7 +120,7 @@ fn add_all(tiling: &Tiling, listed: &[u32], tile: u32, weights: &mut [u32])
     }
 }
 
-/// Adds an amount to the weight of a cell, if there is one.
+/// Adds `amount` to the weight of `cell`, if there is a cell.
 #[inline(always)]
 fn add_at(cell: Option<Place>, amount: u32, bounds: Bounds, weights: &mut [u32])
     requires small { IsSmall bounds }
@@ -125,14 +130,15 @@ fn add_at(cell: Option<Place>, amount: u32, bounds: Bounds, weights: &mut [u32])
         slice_index weights.old (index_in bounds p) + adds_at cell amount p < 2 ^ 32 }
     ensures size { length weights.new ≡ length weights.old }
     ensures each { (p : AtPlace) → IsInBounds bounds p →
-        slice_index weights.new (index_in bounds p) ≡ slice_index weights.old (index_in bounds p) + adds_at cell amount p }
+        slice_index weights.new (index_in bounds p)
+        ≡ slice_index weights.old (index_in bounds p) + adds_at cell amount p }
 {
     if let Some(place) = cell {
         weights[bounds.index_of(place)] += amount;
     }
 }
 
-/// How many cells of its tile flow through the place, itself left out.
+/// Returns how many other cells of its tile flow through `place`.
 #[inline(always)]
 fn through_at(tiling: &Tiling, flows: &[TileFlow], place: Place) -> Option<u32>
     requires count { length flows.now ≡ tile_count tiling.now }
@@ -142,9 +148,10 @@ fn through_at(tiling: &Tiling, flows: &[TileFlow], place: Place) -> Option<u32>
     flows[tiling.tile_of(place) as usize].through(place)
 }
 
-/// How many cells of its tile flow through an exit that leads into another tile; 0 for any other number.
+/// Returns how many cells leave their tile at this rim number, or 0 if none do.
 fn weight_of(tiling: &Tiling, flows: &[TileFlow], targets: &[Option<Place>], number: u32) -> u32
-    requires flows { (d : Directed) × AreFlowsOf d tiling.now flows.now × AreTileCounts d tiling.now flows.now }
+    requires flows { (d : Directed) × AreFlowsOf d tiling.now flows.now
+        × AreTileCounts d tiling.now flows.now }
     requires targets { targets.now ≡ targets_by tiling.now flows.now }
     requires number { number < number_count tiling.now }
     ensures { result ≡ rim_weight tiling.now flows.now number }
@@ -163,7 +170,8 @@ fn rim_weights(
     targets: &[Option<Place>],
 ) -> Result<Vec<u32>, AllocError>
     requires targets { targets.now ≡ targets_by tiling.now flows.now }
-    requires flows { (d : Directed) × AreFlowsOf d tiling.now flows.now × AreTileCounts d tiling.now flows.now }
+    requires flows { (d : Directed) × AreFlowsOf d tiling.now flows.now
+        × AreTileCounts d tiling.now flows.now }
     ensures { IfOk result (λ v. v.items ≡ rim_weights_by tiling.now flows.now) }
 {
     let count = tiling.number_count();
@@ -174,24 +182,28 @@ fn rim_weights(
     Ok(weights)
 }
 
-/// What enters at the place of each number.
+/// Returns the inflow of each rim number.
 fn all_entering(
     alloc: Global,
     tiling: &Tiling,
     targets: &[Option<Place>],
     weights: &[u32],
-    came: &[u32],
+    upstream: &[u32],
 ) -> Result<Vec<u32>, AllocError>
     requires targets { length targets.now ≡ number_count tiling.now }
-    requires within { (i : ℕ) → i < number_count tiling.now → IfSome (slice_index_or targets.now i None) (IsWithin tiling.now) }
+    requires within { (i : ℕ) → i < number_count tiling.now →
+        IfSome (slice_index_or targets.now i None) (IsWithin tiling.now) }
     requires weights { length weights.now ≡ number_count tiling.now }
-    requires came { length came.now ≡ number_count tiling.now }
-    requires amounts { (i : ℕ) → i < number_count tiling.now → slice_index came.now i + slice_index weights.now i < 2 ^ 32 }
-    requires few { (k : ℕ) → sum_below (entering tiling.now targets.now weights.now came.now k) (number_count tiling.now) < 2 ^ 32 }
-    ensures { IfOk result (λ v. AreEntering tiling.now targets.now weights.now came.now v.items) }
+    requires upstream { length upstream.now ≡ number_count tiling.now }
+    requires amounts { (i : ℕ) → i < number_count tiling.now →
+        slice_index upstream.now i + slice_index weights.now i < 2 ^ 32 }
+    requires few { (k : ℕ) → sum_below (entering tiling.now targets.now weights.now upstream.now k)
+        (number_count tiling.now) < 2 ^ 32 }
+    ensures { IfOk result
+        (λ v. AreEntering tiling.now targets.now weights.now upstream.now v.items) }
 {
     let mut listed = zeros(alloc, tiling.number_count() as usize)?;
-    send_all(tiling, targets, weights, came, &mut listed);
+    send_all(tiling, targets, weights, upstream, &mut listed);
     Ok(listed)
 }
 
@@ -199,29 +211,33 @@ fn send_all(
     tiling: &Tiling,
     targets: &[Option<Place>],
     weights: &[u32],
-    came: &[u32],
+    upstream: &[u32],
     listed: &mut [u32],
 )
     requires targets { length targets.now ≡ number_count tiling.now }
-    requires within { (i : ℕ) → i < number_count tiling.now → IfSome (slice_index_or targets.now i None) (IsWithin tiling.now) }
+    requires within { (i : ℕ) → i < number_count tiling.now →
+        IfSome (slice_index_or targets.now i None) (IsWithin tiling.now) }
     requires weights { length weights.now ≡ number_count tiling.now }
-    requires came { length came.now ≡ number_count tiling.now }
-    requires amounts { (i : ℕ) → i < number_count tiling.now → slice_index came.now i + slice_index weights.now i < 2 ^ 32 }
-    requires few { (k : ℕ) → sum_below (entering tiling.now targets.now weights.now came.now k) (number_count tiling.now) < 2 ^ 32 }
-    requires none { AreNone (number_count tiling.now) listed.old }
-    ensures { AreEntering tiling.now targets.now weights.now came.now listed.new }
+    requires upstream { length upstream.now ≡ number_count tiling.now }
+    requires amounts { (i : ℕ) → i < number_count tiling.now →
+        slice_index upstream.now i + slice_index weights.now i < 2 ^ 32 }
+    requires few { (k : ℕ) → sum_below (entering tiling.now targets.now weights.now upstream.now k)
+        (number_count tiling.now) < 2 ^ 32 }
+    requires none { AreZeros (number_count tiling.now) listed.old }
+    ensures { AreEntering tiling.now targets.now weights.now upstream.now listed.new }
 {
     for number in 0..tiling.number_count() {
-        let amount = came[number as usize] + weights[number as usize];
+        let amount = upstream[number as usize] + weights[number as usize];
         send(tiling, targets[number as usize], amount, listed);
     }
 }
 
-/// Adds what enters at a place to what its number has.
+/// Adds `amount` to the inflow of `target`, if there is a target.
 fn send(tiling: &Tiling, target: Option<Place>, amount: u32, listed: &mut [u32])
     requires within { IfSome target (IsWithin tiling.now) }
     requires size { length listed.old ≡ number_count tiling.now }
-    requires fits { (k : ℕ) → k < number_count tiling.now → slice_index listed.old k + sent_to tiling.now k target amount < 2 ^ 32 }
+    requires fits { (k : ℕ) → k < number_count tiling.now →
+        slice_index listed.old k + sent_to tiling.now k target amount < 2 ^ 32 }
     ensures size { length listed.new ≡ length listed.old }
     ensures each { (k : ℕ) → k < number_count tiling.now →
         slice_index listed.new k ≡ slice_index listed.old k + sent_to tiling.now k target amount }

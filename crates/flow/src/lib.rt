@@ -1,29 +1,29 @@
 //! Flow accumulation and catchments over a map of directions.
 //!
-//! Begin with [`accumulation`], [`basins`] and [`catchments`]. [`tile_flow`] and [`RimLinks`] are
-//! their stages for callers with tiles of their own. Depends on `drainage` and `tile_maps`.
+//! Begin with [`accumulation`], [`basins`] and [`catchments`]. Callers that run their own tiles use
+//! [`tile_flow`] inside tiles and [`RimLinks`] between them. Depends on `drainage` and `tile_maps`.
 //!
-//! Modules, from what is called to what it depends on:
+//! Modules, callers first:
 //!
 //! - `counting`: `accumulation`
 //! - `basin`: `basins`
 //! - `catchment`: `catchments`
 //! - `gauges`: faults and numbers of gauges
-//! - `numbering`: cells numbered by the ends of their flow paths
-//! - `end_numbers`: numbers of these ends
-//! - `flowing`: each tile's flow
+//! - `numbering`: numbers cells by the ends of their flow paths
+//! - `end_numbers`: the trait for numbers of these ends
+//! - `flowing`: the flows of all tiles
 //! - `tile`: the flow of one tile
 //! - `cells`: codes, links and weights of a tile
-//! - `streams`: totals along links
-//! - `ends`: where links end
-//! - `rim`: exits of a tile's rim
+//! - `streams`: weights summed along links
+//! - `ends`: where paths along links end
+//! - `rim`: rim cells and where their paths end
 //! - `crossings`: flow from tile to tile
-//! - `inflows`: what enters each tile
-//! - `outlets`: where exits end
-//! - `links`: inflows and outlets together, for callers
+//! - `inflows`: how many cells' paths enter each rim cell
+//! - `outlets`: the outlet of each exit
+//! - `links`: `RimLinks`, inflows and outlets together
 //! - `outlet_numbers`: numbers of outlets
-//! - `outlet_runs`: outlets counted by runs
-//! - `laws`: facts of the definitions alone
+//! - `outlet_runs`: counts outlets, run by run
+//! - `laws`: consequences of the definitions
 #![tactic(auto)]
 
 mod basin;

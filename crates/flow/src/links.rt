@@ -1,6 +1,6 @@
-//! Flow over the rims of all tiles: [`RimLinks`].
+//! Flow between tiles, over their rims: [`RimLinks`].
 //!
-//! For callers of [`tile_flow`](crate::tile_flow), by `inflows` and `outlets`.
+//! For callers of [`tile_flow`](crate::tile_flow). Combines `inflows` and `outlets`.
 ghost use Rattle.std.specs.Prelude.{◌≡◌, IfOk};
 ghost use Rattle.tiles.specs.Cutting.{IsWithin};
 ghost use Rattle.drainage.specs.Drained.{AllFlowEnds};
@@ -17,7 +17,7 @@ use std::marker::Model;
 use terrain::{NoMemory, Place};
 use tiles::Tiling;
 
-/// What flows in over the rims, and where the water of each exit ends.
+/// The inflow at each rim cell, and the outlet of each exit.
 #[derive(Drop)]
 pub struct RimLinks<'a> {
     flows: &'a [TileFlow],
@@ -39,11 +39,19 @@ impl<'a> Model for RimLinks<'a> {
       outlets = l.outlets.listed;
     } };
 
-    ghost invariant = { λ l. (l.inflows.cutting ≡ l.outlets.cutting) × (length l.flows.now ≡ tile_count l.outlets.cutting) };
+    ghost invariant = { λ l. (l.inflows.cutting ≡ l.outlets.cutting)
+        × (length l.flows.now ≡ tile_count l.outlets.cutting) };
 }
 
 impl<'a> RimLinks<'a> {
-    /// Joins one flow for each tile, in tile order.
+    /// Links the flows of all tiles, given in tile order.
+    ///
+    /// # Examples
+    ///
+    /// ```ignore
+    /// let links = RimLinks::join(alloc, &tiling, &flows)?;
+    /// let (inflow, outlet) = (links.inflow(place), links.outlet(exit));
+    /// ```
     pub fn join(
         alloc: Global,
         tiling: &Tiling,
@@ -65,7 +73,7 @@ impl<'a> RimLinks<'a> {
         })
     }
 
-    /// How many cells' flow paths hold the place right after a cell of another tile.
+    /// Returns how many cells' flow paths enter `place` from another tile.
     pub fn inflow(&self, place: Place) -> u32
         requires { IsWithin self.now.cutting place }
         ensures { result ≡ inflow_in self.now place }
@@ -73,7 +81,7 @@ impl<'a> RimLinks<'a> {
         self.inflows.inflow(place)
     }
 
-    /// Where the flow path of an exit ends; None for a place that is no exit.
+    /// Returns the outlet of an exit's flow path; `None` if the place is no exit.
     pub fn outlet(&self, exit: Place) -> Option<Place>
         requires { IsWithin self.now.cutting exit }
         ensures { result ≡ outlet_in self.now exit }

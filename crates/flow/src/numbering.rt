@@ -1,4 +1,4 @@
-//! Numbers of cells by the ends of their flow paths, tile by tile: [`number_cells`].
+//! Numbers cells by the ends of their flow paths, tile by tile: [`number_cells`].
 ghost use Rattle.std.proofs.Props.{props};
 ghost use Rattle.std.specs.Prelude.{◌≡◌, ◌*◌, ◌<◌, ℕ, length, slice_index_or, None, IfOk, IfSome};
 ghost use Rattle.terrain.specs.Neighbours.{index_of};
@@ -10,7 +10,7 @@ ghost use Rattle.flow.specs.Streams.{AreEnds};
 ghost use Rattle.flow.specs.Whole.{IsGridFlow, make_directed};
 ghost use Rattle.flow.specs.TileLinks.{links_by};
 ghost use Rattle.flow.specs.RimGraph.{listed_outlet};
-ghost use Rattle.flow.specs.Numbering.{AreReady, IsExitOfTile, end_number, number_at, label_by, labels_by, label_at, numbered_by};
+ghost use Rattle.flow.specs.Numbering.{AreReady, IsExitOfTile, end_number, number_at, label_by, labels_by, label_at, cell_numbers_by};
 
 use crate::crossings::Crossings;
 use crate::end_numbers::EndNumbering;
@@ -23,17 +23,18 @@ use std::sync::Wait;
 use std::thread::Threads;
 use terrain::{Count, NoMemory, Place};
 use tile_jobs::{Gate, JobFault};
-use tile_maps::{Crew, TileMap};
+use tile_maps::{Runner, TileMap};
 use tiles::Tiling;
 
-/// The numbers of cells, by the exits of all tiles, their outlets and the outlets' numbers.
+/// What the jobs read to number cells: exits, their outlets, outlets' numbers.
 #[derive(Drop)]
 struct Numbering<'a, N: EndNumbering> {
     tiling: &'a Tiling,
     flows: Vec<TileFlow>,
     outlets: Outlets,
     numbers: N,
-    ghost ready: { AreReady tiling.now flows.items outlets (N.numbers numbers) } by { Prim.hlevel props },
+    ghost ready: { AreReady tiling.now flows.items outlets
+        (N.numbers numbers) } by { Prim.hlevel props },
 }
 
 impl<'a, N: EndNumbering> TileMap for Numbering<'a, N> {
@@ -53,13 +54,13 @@ impl<'a, N: EndNumbering> TileMap for Numbering<'a, N> {
         let flow = &self.flows[tile as usize];
         let ends = flow.ends(alloc)?;
         let labels = self.exit_labels(alloc, flow, &ends)?;
-        let values = numbered(alloc, flow, &ends, &labels)?;
+        let values = cell_numbers(alloc, flow, &ends, &labels)?;
         Ok(values)
     }
 }
 
 impl<'a, N: EndNumbering> Numbering<'a, N> {
-    /// The number of the outlet of each exit, at its own index.
+    /// Returns the number of each exit's outlet at the exit's index, 0 elsewhere.
     #[tactic(auto, using(crate::proofs::Windows::mapped_next))]
     fn exit_labels(
         &self,
@@ -69,8 +70,11 @@ impl<'a, N: EndNumbering> Numbering<'a, N> {
     ) -> Result<Vec<u32>, AllocError>
         requires ends { AreEnds (links_by flow.now.bounds flow.now.codes) ends.now }
         requires exits { (i : ℕ) → IfSome (slice_index_or flow.now.exits i None)
-            (IsExitOfTile self.now.outlets self.now.flows.items (N.numbers self.now.numbers) flow.now.bounds) }
-        ensures { IfOk result (λ v. v.items ≡ labels_by self.now.outlets self.now.flows.items (N.numbers self.now.numbers) flow.now) }
+            (IsExitOfTile self.now.outlets self.now.flows.items (N.numbers self.now.numbers)
+            flow.now.bounds) }
+        ensures { IfOk result (λ v. v.items
+            ≡ labels_by self.now.outlets self.now.flows.items (N.numbers self.now.numbers)
+            flow.now) }
     {
         let mut labels = Vec::with_capacity(alloc, flow.cell_count())?;
         for index in 0..flow.cell_count() {
@@ -84,8 +88,10 @@ impl<'a, N: EndNumbering> Numbering<'a, N> {
         requires ends { AreEnds (links_by flow.now.bounds flow.now.codes) ends.now }
         requires index { index < length flow.now.exits }
         requires exit { IfSome (slice_index_or flow.now.exits index None)
-            (IsExitOfTile self.now.outlets self.now.flows.items (N.numbers self.now.numbers) flow.now.bounds) }
-        ensures { result ≡ label_by self.now.outlets self.now.flows.items (N.numbers self.now.numbers) flow.now.bounds index
+            (IsExitOfTile self.now.outlets self.now.flows.items (N.numbers self.now.numbers)
+            flow.now.bounds) }
+        ensures { result ≡ label_by self.now.outlets self.now.flows.items
+            (N.numbers self.now.numbers) flow.now.bounds index
             (slice_index_or flow.now.exits index None) }
     {
         let Some(exit) = flow.exit_index(ends, index) else {
@@ -97,7 +103,7 @@ impl<'a, N: EndNumbering> Numbering<'a, N> {
         self.number_of(flow.bounds().place_at(exit))
     }
 
-    /// The number of the outlet of an exit.
+    /// Returns the number of an exit's outlet, 0 if the place is no exit.
     fn number_of(&self, exit: Place) -> u32
         requires within { IsWithin self.now.outlets.cutting exit }
         requires numbered { IfSome (listed_outlet self.now.outlets self.now.flows.items exit)
@@ -114,25 +120,26 @@ impl<'a, N: EndNumbering> Numbering<'a, N> {
 
 /// Numbers each cell of a grid of codes by the end of its flow path.
 ///
-/// The exits of each tile are found in one job of it, and its cells are numbered in another.
+/// Each tile has two jobs: one finds its exits, and a later one numbers its cells.
 pub(crate) fn number_cells<R: Threads + Wait + Sync, G: Gate + Sync, N: EndNumbering + Sync + Drop>(
-    crew: &Crew<'_, R, G>,
+    runner: &Runner<'_, R, G>,
     codes: &[Option<Code>],
     tiling: &Tiling,
     numbers: N,
 ) -> Result<Vec<Count>, JobFault>
     requires grid { IsGridFlow tiling.now.cols tiling.now.rows codes.now }
     requires size { (N.numbers numbers).cells ≡ tiling.now.cols * tiling.now.rows }
-    requires few { (i : ℕ) → i < (N.numbers numbers).cells → (N.numbers numbers).number i < uncounted }
+    requires few { (i : ℕ) → i < (N.numbers numbers).cells →
+        (N.numbers numbers).number i < uncounted }
     ensures values { let d = make_directed tiling.now.cols tiling.now.rows codes.now in
         IfOk result (λ v. IsMapOf d (end_number d (N.numbers numbers)) v.items) }
-    ensures workers { RefusesWorkers crew.now.workers result }
+    ensures workers { RefusesWorkers runner.now.workers result }
 {
-    let flows = flow_tiles(crew, codes, tiling, false)?;
-    let crossings = Crossings::of(crew.alloc, tiling, &flows)?;
-    let outlets = Outlets::join(crew.alloc, tiling, &flows, &crossings)?;
+    let flows = flow_tiles(runner, codes, tiling, false)?;
+    let crossings = Crossings::of(runner.alloc, tiling, &flows)?;
+    let outlets = Outlets::join(runner.alloc, tiling, &flows, &crossings)?;
     drop(crossings);
-    crew.made(Numbering {
+    runner.made(Numbering {
         tiling,
         flows,
         outlets,
@@ -140,9 +147,9 @@ pub(crate) fn number_cells<R: Threads + Wait + Sync, G: Gate + Sync, N: EndNumbe
     })
 }
 
-/// The label of each cell's exit.
+/// Returns each cell's number, which `labels` has at the index of its exit.
 #[tactic(auto, using(crate::proofs::Windows::mapped_next))]
-fn numbered(
+fn cell_numbers(
     alloc: Global,
     flow: &TileFlow,
     ends: &[u32],
@@ -150,7 +157,8 @@ fn numbered(
 ) -> Result<Vec<Count>, AllocError>
     requires ends { AreEnds (links_by flow.now.bounds flow.now.codes) ends.now }
     requires size { length labels.now ≡ length flow.now.exits }
-    ensures { IfOk result (λ v. v.items ≡ numbered_by flow.now.bounds labels.now flow.now.exits) }
+    ensures { IfOk result
+        (λ v. v.items ≡ cell_numbers_by flow.now.bounds labels.now flow.now.exits) }
 {
     let mut values = Vec::with_capacity(alloc, labels.len())?;
     for index in 0..labels.len() {
@@ -164,7 +172,8 @@ fn label_at(flow: &TileFlow, ends: &[u32], labels: &[u32], index: usize) -> Coun
     requires ends { AreEnds (links_by flow.now.bounds flow.now.codes) ends.now }
     requires size { length labels.now ≡ length flow.now.exits }
     requires index { index < length labels.now }
-    ensures { result ≡ label_at flow.now.bounds labels.now (slice_index_or flow.now.exits index None) }
+    ensures { result
+        ≡ label_at flow.now.bounds labels.now (slice_index_or flow.now.exits index None) }
 {
     match flow.exit_index(ends, index) {
         Some(exit) => Count::of(labels[exit as usize]),

@@ -1,7 +1,6 @@
 //! The numbers of outlets, from 1 in row order.
 //!
-//! An outlet's number is one more than the outlets before it: those of earlier runs, and those in
-//! its own.
+//! An outlet's number is 1 plus the number of outlets before it, in earlier runs and in its own.
 ghost use Rattle.std.specs.Prelude.{◌≡◌, ℕ, ◌+◌, ◌-◌, ◌^◌, ◌<◌, ◌≤◌, length, take, count_by, IfOk};
 ghost use Rattle.std.specs.List.{sum_by};
 ghost use Rattle.tile_jobs.specs.Fault.{RefusesWorkers};
@@ -15,14 +14,14 @@ use std::marker::Model;
 use std::sync::Wait;
 use std::thread::Threads;
 use tile_jobs::{Gate, JobFault};
-use tile_maps::Crew;
+use tile_maps::Runner;
 
-/// Counts of the outlets in a list of codes.
+/// The numbers of the outlets in a list of codes, kept as counts run by run.
 #[derive(Drop)]
 pub struct OutletNumbers<'a> {
     runs: Runs<'a>,
     counts: Vec<RunCounts>,
-    // how many outlets stand before each run
+    // the number of outlets before each run
     before: Vec<u32>,
 }
 
@@ -38,20 +37,20 @@ impl<'a> Model for OutletNumbers<'a> {
 }
 
 impl<'a> OutletNumbers<'a> {
-    /// Counts the outlets of a list of codes, each of its runs in a job of its own.
+    /// Counts the outlets of a list of codes, with one job for each run.
     pub(crate) fn of_codes<R: Threads + Wait + Sync, G: Gate + Sync>(
-        crew: &Crew<'_, R, G>,
+        runner: &Runner<'_, R, G>,
         codes: &'a [Option<Code>],
         runs: u32,
     ) -> Result<OutletNumbers<'a>, JobFault>
         requires few { length codes.now < 2 ^ 32 - 1 }
         requires runs { (1 ≤ runs) × (runs ≤ 65536) }
         ensures codes { IfOk result (λ n. n ≡ codes.now) }
-        ensures workers { RefusesWorkers crew.now.workers result }
+        ensures workers { RefusesWorkers runner.now.workers result }
     {
         let cut = Runs::cut(codes, runs);
-        let counts = crew.run(&CountRuns { runs: &cut }, runs)?;
-        let before = sums_before(crew.alloc, &counts)?;
+        let counts = runner.run(&CountRuns { runs: &cut }, runs)?;
+        let before = sums_before(runner.alloc, &counts)?;
         Ok(OutletNumbers {
             runs: cut,
             counts,
@@ -65,7 +64,7 @@ impl<'a> EndNumbering for OutletNumbers<'a> {
 
     ghost numbers = { λ n. outlet_numbers n };
 
-    /// One more than the outlets that stand before an index.
+    /// Returns 1 plus the number of outlets before `index`.
     fn number(&self, index: usize) -> u32 {
         let run = index / self.runs.length();
         let inside = index - run * self.runs.length();
@@ -74,7 +73,7 @@ impl<'a> EndNumbering for OutletNumbers<'a> {
     }
 }
 
-/// How many outlets stand before each run.
+/// Returns the number of outlets before each run.
 fn sums_before(alloc: Global, runs: &[RunCounts]) -> Result<Vec<u32>, AllocError>
     requires { sum_by (λ r. r.total) runs.now < 2 ^ 32 }
     ensures { IfOk result (λ v. AreSumsBefore runs.now v.items) }

@@ -1,4 +1,4 @@
-//! The outlets of a list of codes, counted by runs and by blocks of 16.
+//! Counts the outlets of a list of codes, in runs and in blocks of 16 codes.
 ghost use Rattle.std.specs.Prelude.{◌≡◌, ◌-◌, ◌*◌, ◌^◌, ◌<◌, ◌≤◌, length, take, count_by, IfOk, if◌then◌else◌};
 ghost use Rattle.flow.specs.Whole.{is_outlet_code};
 ghost use Rattle.flow.specs.OutletRuns.{AreCodeRuns, IsRunCounted, run_share, run_start, run_codes};
@@ -9,11 +9,11 @@ use std::alloc::{AllocError, Global};
 use std::marker::Model;
 use tile_jobs::{JobFault, Work};
 
-/// How many codes have one count: a number for each code would take 4 bytes a cell of the grid.
+/// Codes in a block. A count for each code would take 4 bytes a cell.
 const BLOCK: usize = 16;
 
-/// A list of codes, cut into runs of one length. The last codes may fill less than a run, and behind them
-/// each run is empty.
+/// A list of codes, cut into runs of equal length.
+/// The run with the last code may be shorter, and the runs after it are empty.
 #[derive(Drop)]
 pub struct Runs<'a> {
     codes: &'a [Option<Code>],
@@ -31,7 +31,7 @@ impl<'a> Model for Runs<'a> {
 }
 
 impl<'a> Runs<'a> {
-    /// Cuts a list into this many runs, which share its blocks evenly.
+    /// Cuts a list into `count` runs, each of equally many blocks.
     pub(crate) fn cut(codes: &'a [Option<Code>], count: u32) -> Runs<'a>
         requires few { length codes.now < 2 ^ 32 - 1 }
         requires some { 1 ≤ count }
@@ -47,7 +47,7 @@ impl<'a> Runs<'a> {
         }
     }
 
-    /// How many codes a whole run has.
+    /// Returns the number of codes in a full run.
     #[inline(always)]
     pub(crate) fn length(&self) -> usize
         ensures value { result ≡ self.now.run_length }
@@ -56,7 +56,7 @@ impl<'a> Runs<'a> {
         self.length
     }
 
-    /// The codes of a run.
+    /// Returns the codes of a run.
     pub(crate) fn codes(&self, run: u32) -> &'a [Option<Code>]
         ensures value { result.now ≡ run_codes self.now run }
         ensures few { length result.now < 2 ^ 32 - 1 }
@@ -75,12 +75,12 @@ impl<'a> Runs<'a> {
     }
 }
 
-/// The outlets of one run of codes, counted.
+/// The counts of outlets in one run of codes.
 #[derive(Drop)]
 pub struct RunCounts {
-    /// How many outlets of the run stand before each of its blocks.
+    /// For each block of the run, the number of the run's outlets before it.
     pub before: Vec<u32>,
-    /// How many outlets the run has.
+    /// The number of outlets in the run.
     pub total: u32,
 }
 
@@ -101,7 +101,7 @@ impl RunCounts {
         Ok(RunCounts { before, total })
     }
 
-    /// The outlets of the run that stand before one of its indices.
+    /// Returns the number of the run's outlets before `index`.
     pub(crate) fn count_before(&self, run: &[Option<Code>], index: usize) -> u32
         requires few { length run.now < 2 ^ 32 - 1 }
         requires counted { IsRunCounted run.now self.now }
@@ -113,10 +113,10 @@ impl RunCounts {
     }
 }
 
-/// Counts the outlets of each run.
+/// The jobs that count outlets, one for each run.
 #[derive(Drop)]
 pub struct CountRuns<'a> {
-    /// The runs.
+    /// The runs whose outlets are counted.
     pub runs: &'a Runs<'a>,
 }
 
@@ -135,7 +135,7 @@ impl<'a> Work for CountRuns<'a> {
     }
 }
 
-/// The outlets before the second index, of those before the first.
+/// Counts the outlets before `to`, given `before`, the number before `from`.
 #[inline(always)]
 fn count_on(codes: &[Option<Code>], from: usize, to: usize, before: u32) -> u32
     requires few { length codes.now < 2 ^ 32 - 1 }

@@ -1,4 +1,4 @@
-//! The outlet to which the water of each exit flows.
+//! The outlet where the flow path of each exit ends.
 ghost use Rattle.std.specs.Prelude.{◌≡◌, ◌<◌, ℕ, length, slice_index, IfOk};
 ghost use Rattle.tiles.specs.Cutting.{IsWithin, tile_count};
 ghost use Rattle.drainage.specs.Following.{Directed};
@@ -14,11 +14,11 @@ use std::marker::Model;
 use terrain::Place;
 use tiles::Tiling;
 
-/// Where the water of each exit ends.
+/// The outlets where the flow paths of all exits end.
 #[derive(Drop)]
 pub struct Outlets {
     tiling: Tiling,
-    // of each number of a rim cell whose water goes on into another tile
+    // by rim number; `None` where the water does not enter another tile
     outlets: Vec<Option<Place>>,
 }
 
@@ -35,7 +35,7 @@ impl Model for Outlets {
 }
 
 impl Outlets {
-    /// Follows the water of each exit from tile to tile.
+    /// Finds the outlets, following each exit's water from tile to tile.
     pub(crate) fn join(
         alloc: Global,
         tiling: &Tiling,
@@ -46,7 +46,8 @@ impl Outlets {
         requires targets { crossings.now.targets.items ≡ targets_by tiling.now flows.now }
         requires links { crossings.now.links.items ≡ rim_links_by tiling.now flows.now }
         ensures cutting { IfOk result (λ o. o.cutting ≡ tiling.now) }
-        ensures outlets { IfOk result (λ o. (d : Directed) → AreFlowsOf d tiling.now flows.now → AreOutlets d tiling.now flows.now o) }
+        ensures outlets { IfOk result (λ o. (d : Directed) → AreFlowsOf d tiling.now flows.now →
+            AreOutlets d tiling.now flows.now o) }
     {
         let ends = ends(alloc, &crossings.links)?;
         let outlets = rim_outlets(alloc, tiling, flows, &crossings.targets, &ends)?;
@@ -56,7 +57,7 @@ impl Outlets {
         })
     }
 
-    /// Where the flow path of an exit ends, by the flows of the tiles; None for a place that is no exit.
+    /// Returns the outlet of an exit's flow path; `None` if the place is no exit.
     pub(crate) fn outlet(&self, flows: &[TileFlow], exit: Place) -> Option<Place>
         requires count { length flows.now ≡ tile_count self.now.cutting }
         requires within { IsWithin self.now.cutting exit }
@@ -83,7 +84,7 @@ fn exit_of(tiling: &Tiling, flows: &[TileFlow], place: Place) -> Option<Place>
     flows[tiling.tile_of(place) as usize].exit(place)
 }
 
-/// The exit of the place that the last of a number's links enters.
+/// Returns the outlet of the water that crosses at this rim number, if any does.
 fn outlet_of(
     tiling: &Tiling,
     flows: &[TileFlow],
@@ -95,7 +96,8 @@ fn outlet_of(
     requires targets { targets.now ≡ targets_by tiling.now flows.now }
     requires number { number < number_count tiling.now }
     requires size { length ends.now ≡ number_count tiling.now }
-    requires inside { (i : ℕ) → i < number_count tiling.now → slice_index ends.now i < number_count tiling.now }
+    requires inside { (i : ℕ) → i < number_count tiling.now →
+        slice_index ends.now i < number_count tiling.now }
     ensures { result ≡ rim_outlet tiling.now flows.now ends.now number }
 {
     let Some(_) = targets[number as usize] else {
@@ -118,7 +120,8 @@ fn rim_outlets(
     requires flows { (d : Directed) × AreFlowsOf d tiling.now flows.now }
     requires targets { targets.now ≡ targets_by tiling.now flows.now }
     requires size { length ends.now ≡ number_count tiling.now }
-    requires inside { (i : ℕ) → i < number_count tiling.now → slice_index ends.now i < number_count tiling.now }
+    requires inside { (i : ℕ) → i < number_count tiling.now →
+        slice_index ends.now i < number_count tiling.now }
     ensures { IfOk result (λ v. v.items ≡ rim_outlets_by tiling.now flows.now ends.now) }
 {
     let count = tiling.number_count();

@@ -1,4 +1,4 @@
-//! The cells on a tile's rim, and where their paths end inside it.
+//! The rim cells of a tile, and where their paths end inside the tile.
 ghost use Rattle.std.specs.Prelude.{◌≡◌, ◌*◌, ◌^◌, ◌<◌, ◌≤◌, length, IfOk, IfSome};
 ghost use Rattle.tiles.specs.Cutting.{IsInBounds, IsWithinLimits, index_in};
 ghost use Rattle.tiles.specs.RimNumbers.{stride};
@@ -13,8 +13,8 @@ use std::alloc::{AllocError, Global};
 use terrain::Place;
 use tiles::Bounds;
 
-/// The cell of a tile that has this number among its sides, where one has: a corner has two, and a tile
-/// may be smaller than the largest.
+/// Returns the cell of a tile with this side number, if there is one.
+/// A corner has only the first of its two numbers; a smaller tile does not use all numbers.
 #[inline(always)]
 pub(crate) fn side_cell(largest: Bounds, bounds: Bounds, side: u32) -> Option<Place>
     requires largest { IsWithinLimits largest }
@@ -32,7 +32,7 @@ pub(crate) fn side_cell(largest: Bounds, bounds: Bounds, side: u32) -> Option<Pl
     }
 }
 
-/// Where the path of each cell on the rim of a tile ends in it, by the numbers of its sides.
+/// Returns the index where each rim cell's path ends in the tile, by side number.
 pub(crate) fn rim_ends(alloc: Global, bounds: Bounds, links: &[u32]) -> Result<Vec<u32>, AllocError>
     requires small { IsSmall bounds }
     requires some_row { 1 ≤ bounds.rows }
@@ -68,7 +68,8 @@ fn ends_of_sides(
     Ok(ends)
 }
 
-/// Where the path of a cell of a tile ends in it, read off where it lies on the rim.
+/// Returns the index where a cell's path ends in its tile.
+/// `rim_ends` has it for rim cells; other cells follow their links.
 pub(crate) fn end_in(bounds: Bounds, links: &[u32], rim_ends: &[u32], place: Place) -> u32
     requires small { IsSmall bounds }
     requires inside { IsInBounds bounds place }

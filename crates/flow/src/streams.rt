@@ -1,27 +1,27 @@
-//! Totals along links: each node adds its weight to every node downstream.
+//! Sums along links: each node adds its weight to every node downstream.
 //!
-//! A node that is linked to itself is an end.
+//! A node linked to itself is an end. A node's donors are the other nodes linked to it.
 ghost use Rattle.std.specs.Prelude.{◌≡◌, ◌≢◌, ◌+◌, ◌^◌, ◌<◌, ◌≤◌, ℕ, length, slice_index, IfOk};
 ghost use Rattle.flow.specs.Streams.{AreStreams, AreUpstream, total};
-ghost use Rattle.flow.specs.Sending.{IsSending, AreDonorCounts, AreNone};
+ghost use Rattle.flow.specs.Sending.{IsSending, AreDonorCounts, AreZeros};
 
 use std::alloc::{AllocError, Global};
 
-/// The count of a node that has sent.
+/// The count of a node that has sent its sum downstream.
 const SENT: u32 = u32::MAX;
 
-/// So many zeros.
+/// Returns a list of `len` zeros.
 pub(crate) fn zeros(alloc: Global, len: usize) -> Result<Vec<u32>, AllocError>
-    ensures { IfOk result (λ v. AreNone len v.items) }
+    ensures { IfOk result (λ v. AreZeros len v.items) }
 {
     vec![in alloc; 0; len]
 }
 
-/// Counts how many nodes are linked to each node, itself left out.
+/// Counts each node's donors.
 fn count_donors(links: &[u32], counts: &mut [u32])
     requires streams { AreStreams links.now }
     requires few { length links.now ≤ 2 ^ 30 }
-    requires none { AreNone (length links.now) counts.old }
+    requires none { AreZeros (length links.now) counts.old }
     ensures { AreDonorCounts links.now counts.new }
 {
     for node in 0..links.len() {
@@ -32,8 +32,8 @@ fn count_donors(links: &[u32], counts: &mut [u32])
     }
 }
 
-/// What comes to each node from the nodes upstream of it, of these weights.
-pub(crate) fn upstream(
+/// Returns, for each node, the sum of the weights of all nodes upstream of it.
+pub(crate) fn upstream_weights(
     alloc: Global,
     links: &[u32],
     weights: &[u32],
@@ -45,37 +45,37 @@ pub(crate) fn upstream(
     ensures { IfOk result (λ v. AreUpstream links.now weights.now v.items) }
 {
     let mut waits = zeros(alloc, links.len())?;
-    let mut came = zeros(alloc, links.len())?;
+    let mut upstream = zeros(alloc, links.len())?;
     count_donors(links, &mut waits);
-    send_all(links, weights, &mut waits, &mut came);
-    Ok(came)
+    send_all(links, weights, &mut waits, &mut upstream);
+    Ok(upstream)
 }
 
-/// Sends from each node in turn, once it waits for none.
-fn send_all(links: &[u32], weights: &[u32], waits: &mut [u32], came: &mut [u32])
+/// Sends every node's sum downstream, each after the sums of its donors.
+fn send_all(links: &[u32], weights: &[u32], waits: &mut [u32], upstream: &mut [u32])
     requires streams { AreStreams links.now }
     requires few { length links.now ≤ 2 ^ 30 }
     requires same { length weights.now ≡ length links.now }
     requires fits { (i : ℕ) → i < length links.now → total links.now weights.now i < 2 ^ 32 }
     requires donors { AreDonorCounts links.now waits.old }
-    requires none { AreNone (length links.now) came.old }
-    ensures { AreUpstream links.now weights.now came.new }
+    requires none { AreZeros (length links.now) upstream.old }
+    ensures { AreUpstream links.now weights.now upstream.new }
 {
     for node in 0..links.len() {
-        send_on(links, weights, waits, came, node);
+        send_from(links, weights, waits, upstream, node);
     }
 }
 
-/// Sends what came to a node that waits for none, and so on downstream up to one that waits.
-fn send_on(links: &[u32], weights: &[u32], waits: &mut [u32], came: &mut [u32], from: usize)
+/// Sends sums downstream from `from`, up to a node with donors yet to send.
+fn send_from(links: &[u32], weights: &[u32], waits: &mut [u32], upstream: &mut [u32], from: usize)
     requires streams { AreStreams links.now }
     requires few { length links.now ≤ 2 ^ 30 }
     requires same { length weights.now ≡ length links.now }
     requires fits { (i : ℕ) → i < length links.now → total links.now weights.now i < 2 ^ 32 }
-    requires sending { IsSending links.now weights.now waits.old came.old }
+    requires sending { IsSending links.now weights.now waits.old upstream.old }
     requires inside { from < length links.now }
     requires early { (i : ℕ) → i < from → slice_index waits.old i ≢ 0 }
-    ensures sending { IsSending links.now weights.now waits.new came.new }
+    ensures sending { IsSending links.now weights.now waits.new upstream.new }
     ensures early { (i : ℕ) → i < from + 1 → slice_index waits.new i ≢ 0 }
 {
     let mut node = from;
@@ -85,7 +85,7 @@ fn send_on(links: &[u32], weights: &[u32], waits: &mut [u32], came: &mut [u32], 
         if next == node {
             return;
         }
-        came[next] += came[node] + weights[node];
+        upstream[next] += upstream[node] + weights[node];
         waits[next] -= 1;
         node = next;
     }

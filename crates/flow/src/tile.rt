@@ -1,6 +1,6 @@
 //! The flow inside one tile: [`tile_flow`].
 //!
-//! Each cell's link to the cell downstream, the cells upstream of it, and the exits of the rim.
+//! A flow has each cell's link downstream, its count of cells upstream, and its exit.
 ghost use Rattle.std.specs.Prelude.{◌≡◌, ◌<◌, length, slice_index_or, IfOk, IfSome, None};
 ghost use Rattle.std.specs.Option.{option_map};
 ghost use Rattle.terrain.specs.StoredCells.{uncounted};
@@ -10,29 +10,29 @@ ghost use Rattle.flow.specs.Streams.{AreEnds};
 ghost use Rattle.flow.specs.TileFlow.{directed_by, IsFlow, IsTileExits, IsTileFlow, through_in, exit_in};
 ghost use Rattle.flow.specs.TileLinks.{where_data, links_by};
 ghost use Rattle.flow.specs.Whole.{is_outlet_code};
-ghost use Rattle.flow.specs.RimGraph.{way_out_in};
+ghost use Rattle.flow.specs.RimGraph.{next_exit_in};
 
 use crate::cells::{tile_codes, tile_links, tile_weights};
 use crate::ends::ends;
 use crate::rim::{end_in, rim_ends};
-use crate::streams::upstream;
+use crate::streams::upstream_weights;
 use drainage::Code;
 use std::alloc::{AllocError, Global};
 use std::marker::Model;
 use terrain::{Count, NoMemory, Place};
 use tiles::{Bounds, TileView};
 
-/// What flows through each cell of a tile from inside it, and where its water leaves.
+/// The flow inside one tile: each cell's count of cells upstream, and its exit.
 #[derive(Drop)]
 pub struct TileFlow {
     bounds: Bounds,
     codes: Vec<Option<Code>>,
-    // The index of the cell to which the water of each goes on, its own where it stays or leaves the tile.
+    // For each cell the index of the next one downstream, or its own if its water stays or leaves.
     links: Vec<u32>,
-    // What comes to each cell; empty where exits alone are asked for.
-    came: Vec<u32>,
-    // The index of the exit of each cell on the rim, by the numbers of the sides: the links lead to it from any other
-    // cell. A cell without data has no exit, and nothing comes to it.
+    // How many cells of the tile are upstream of each cell; empty in a flow without counts.
+    upstream: Vec<u32>,
+    // The index where each rim cell's path ends, by side number. Paths of other cells follow the
+    // links. A cell without data is its own end, for which `where_data` returns `None`.
     rim_ends: Vec<u32>,
 }
 
@@ -42,13 +42,15 @@ impl Model for TileFlow {
 
     ghost Value = { Flow };
 
-    ghost view = { λ f. flow_by f.bounds f.codes.items f.came.items (ends_by f.links.items) };
+    ghost view = { λ f. flow_by f.bounds f.codes.items f.upstream.items (ends_by f.links.items) };
 
-    ghost invariant = { λ f. AreFlowLists f.bounds f.codes.items f.links.items f.came.items f.rim_ends.items };
+    ghost invariant = { λ f.
+        AreFlowLists f.bounds f.codes.items f.links.items f.upstream.items f.rim_ends.items };
 }
 
 impl TileFlow {
-    /// How many other cells of the tile flow through the place without leaving the tile; None outside.
+    /// Returns how many other cells flow through `place` without leaving the tile.
+    /// `None` outside the tile or without data.
     pub fn through(&self, place: Place) -> Option<u32>
         ensures { result ≡ through_in self.now place }
     {
@@ -59,7 +61,7 @@ impl TileFlow {
         }
     }
 
-    /// The code of the place, None outside.
+    /// Returns the code at `place`; `None` outside the tile or without data.
     pub(crate) fn code(&self, place: Place) -> Option<Code>
         ensures { result ≡ entry_in self.now.bounds self.now.codes place }
     {
@@ -70,7 +72,7 @@ impl TileFlow {
         }
     }
 
-    /// The tile's first row and column, and its size.
+    /// Returns the tile's first row and column, and its size.
     #[inline(always)]
     pub(crate) fn bounds(&self) -> Bounds
         ensures value { result ≡ self.now.bounds }
@@ -79,7 +81,7 @@ impl TileFlow {
         self.bounds
     }
 
-    /// The codes of the tile's cells in its row order.
+    /// Returns the codes of the tile's cells, in the tile's row order.
     #[inline(always)]
     pub(crate) fn codes(&self) -> &[Option<Code>]
         ensures { result.now ≡ self.now.codes }
@@ -87,7 +89,7 @@ impl TileFlow {
         &self.codes
     }
 
-    /// The links of the tile's cells.
+    /// Returns the index to which each cell is linked, in the tile's row order.
     #[inline(always)]
     pub(crate) fn links(&self) -> &[u32]
         ensures { result.now ≡ links_by self.now.bounds self.now.codes }
@@ -95,7 +97,7 @@ impl TileFlow {
         &self.links
     }
 
-    /// How many cells the tile has.
+    /// Returns the number of cells of the tile, NODATA included.
     #[inline(always)]
     pub(crate) fn cell_count(&self) -> usize
         ensures { result ≡ length self.now.exits }
@@ -103,20 +105,20 @@ impl TileFlow {
         self.codes.len()
     }
 
-    /// The count of the cell with this index in the tile's row order.
+    /// Returns the count of the cell at this index in the tile's row order.
     #[inline(always)]
     fn count_at(&self, index: usize) -> Option<u32>
         requires { index < length self.now.codes }
         ensures { result ≡ slice_index_or self.now.through index None }
     {
-        if index < self.came.len() {
-            where_data(self.codes[index], self.came[index])
+        if index < self.upstream.len() {
+            where_data(self.codes[index], self.upstream[index])
         } else {
             None
         }
     }
 
-    /// The exit of a place of the tile.
+    /// Returns the exit of a place in the tile; `None` without data.
     #[inline(always)]
     fn exit_at(&self, place: Place) -> Option<Place>
         requires { IsInBounds self.now.bounds place }
@@ -129,27 +131,28 @@ impl TileFlow {
         )
     }
 
-    /// The index to which the links lead from each cell.
+    /// Returns the index where each cell's path along the links ends.
     pub(crate) fn ends(&self, alloc: Global) -> Result<Vec<u32>, AllocError>
         ensures { IfOk result (λ v. AreEnds (links_by self.now.bounds self.now.codes) v.items) }
     {
         ends(alloc, &self.links)
     }
 
-    /// The index of the exit of the cell with this index, by the indexes to which the links lead.
+    /// Returns the index of a cell's exit, read from `ends`; `None` without data.
     #[inline(always)]
     pub(crate) fn exit_index(&self, ends: &[u32], index: usize) -> Option<u32>
         requires ends { AreEnds (links_by self.now.bounds self.now.codes) ends.now }
         requires index { index < length self.now.exits }
-        ensures value { result ≡ option_map (index_in self.now.bounds) (slice_index_or self.now.exits index None) }
+        ensures value { result
+            ≡ option_map (index_in self.now.bounds) (slice_index_or self.now.exits index None) }
         ensures below { IfSome result (λ exit. exit < length self.now.exits) }
     {
         where_data(self.codes[index], ends[index])
     }
 
-    /// Where water that enters the tile at a place leaves it again; None where it ends in the tile.
-    pub(crate) fn way_out(&self, entry: Place) -> Option<Place>
-        ensures { result ≡ way_out_in self.now entry }
+    /// Returns the exit that leads water from `entry` out of the tile, if any.
+    pub(crate) fn next_exit(&self, entry: Place) -> Option<Place>
+        ensures { result ≡ next_exit_in self.now entry }
     {
         let exit = self.exit(entry)?;
         if is_outlet(self.code(exit)) {
@@ -159,7 +162,8 @@ impl TileFlow {
         }
     }
 
-    /// The last place of its flow path before it leaves the tile, or its outlet; None outside.
+    /// Returns the cell where the flow path of `place` leaves the tile or ends.
+    /// `None` outside the tile or without data.
     pub fn exit(&self, place: Place) -> Option<Place>
         ensures { result ≡ exit_in self.now place }
     {
@@ -171,7 +175,7 @@ impl TileFlow {
     }
 }
 
-/// Whether a code is an outlet's.
+/// Returns whether the code is that of an outlet.
 #[inline(always)]
 pub(crate) fn is_outlet(code: Option<Code>) -> bool
     ensures { result ≡ is_outlet_code code }
@@ -182,7 +186,14 @@ pub(crate) fn is_outlet(code: Option<Code>) -> bool
     }
 }
 
-/// Flow inside a tile of a map of directions.
+/// Returns the flow inside one tile of a map of directions.
+///
+/// # Examples
+///
+/// ```ignore
+/// let flow = tile_flow(alloc, &tiling.view(directions.codes(), tile))?;
+/// let exit = flow.exit(place);
+/// ```
 pub fn tile_flow(alloc: Global, codes: &TileView<'_, Option<Code>>) -> Result<TileFlow, NoMemory>
     requires { AllFlowEnds (directed_by codes.now) }
     ensures { IfOk result (λ f.
@@ -191,11 +202,11 @@ pub fn tile_flow(alloc: Global, codes: &TileView<'_, Option<Code>>) -> Result<Ti
     prove!(codes.bounds().cols > 0);
     let mut flow = tile_exits(alloc, codes)?;
     let weights = tile_weights(alloc, &flow.codes)?;
-    flow.came = upstream(alloc, &flow.links, &weights)?;
+    flow.upstream = upstream_weights(alloc, &flow.links, &weights)?;
     Ok(flow)
 }
 
-/// Where water leaves a tile of a map of directions: its flow without the counts.
+/// Returns the flow of one tile of a map of directions, without counts.
 pub(crate) fn tile_exits(
     alloc: Global,
     codes: &TileView<'_, Option<Code>>,
@@ -212,12 +223,12 @@ pub(crate) fn tile_exits(
         bounds,
         codes: cells,
         links,
-        came: Vec::new(alloc),
+        upstream: Vec::new(alloc),
         rim_ends,
     })
 }
 
-/// A value where there is data.
+/// Returns `value` for a data cell, `None` for NODATA.
 #[inline(always)]
 pub(crate) fn where_data<X: Drop>(code: Option<Code>, value: X) -> Option<X>
     ensures { result ≡ where_data code value }
@@ -228,7 +239,7 @@ pub(crate) fn where_data<X: Drop>(code: Option<Code>, value: X) -> Option<X>
     }
 }
 
-/// A count where there is data.
+/// Returns `number` as the count of a data cell, or the entry of NODATA.
 #[inline(always)]
 pub(crate) fn count_where_data(code: Option<Code>, number: u32) -> Count
     ensures { number < uncounted → result ≡ where_data code number }

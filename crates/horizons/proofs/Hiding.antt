@@ -1,4 +1,4 @@
--- What the greater of two ramps hides.
+-- The greater of two ramps hides exactly what either hides.
 use Rattle.std.proofs.Common.{◌≡◌, ℕ, ◌+◌, ◌*◌, ◌<◌, ◌≤◌, Bool, true, false, ◌||◌, ℤ, pos, ◌*ℤ◌, ◌≤ℤ◌, refl, sym, arith, inl, inr}
 use borrow.Author.Differences.{up, down, true_is_lt}
 use Rattle.std.proofs.lemmas.Bool.{cases_lt, cases_Bool}
@@ -9,7 +9,7 @@ use Rattle.horizons.specs.Merging.{greater_at}
 use Rattle.horizons.specs.declared.target.Target.{Target}
 use Rattle.horizons.specs.declared.ramp.Ramp.{Ramp}
 
--- x * k < A and A * l <= B * k, so x * l < B
+-- From X k < A and A l <= C k follows X l < C, for X = x - y, A = a - b, C = c - d.
 passed_on : (x y a b c d k l : ℕ) → 0 < k → 0 < l → x * k + b < y * k + a → a * l + d * k ≤ c * k + b * l → x * l + d < y * l + c
 passed_on x y a b c d k l some more less h =
     elim (cases_lt (x * l + d) (y * l + c)) [
@@ -23,7 +23,7 @@ hides_more r s t x some more h e =
     let is = passed_on (up x) (down x) (up (value_at r t)) (down (value_at r t)) (up (value_at s t)) (down (value_at s t)) r.lines s.lines some more (omega (arith, ints, e)) (omega (arith, ints, h)) in
     sym (true_is_lt (x *ℤ pos s.lines) (value_at s t) (omega (arith, ints, is)))
 
--- a ramp that is not above another hides no more
+-- A ramp that is not above another hides nothing more.
 pub hides_if_not_above : (r s : Ramp) (t : Target) (x : ℤ) → IsRampAt r t → IsRampAt s t → is_above r s t ≡ false → hides_by r t x ≡ true → hides_by s t x ≡ true
 hides_if_not_above r s t x is_r is_s not = hides_more r s t x is_r.lines.0 is_s.lines.0 (omega (arith, ints, not))
 

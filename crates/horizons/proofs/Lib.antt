@@ -1,7 +1,7 @@
--- ramps
+-- Ramps.
 pub mod Sizes
 pub mod Straight
 pub mod Hiding
--- horizons
+-- Horizons.
 pub mod Pieces
 pub mod Merged

@@ -1,4 +1,4 @@
--- Pieces of a horizon: what an index finds among them, when one is added and when the last is made longer.
+-- The ramp at an index, after a piece is added and after the last is extended.
 use Rattle.std.proofs.Common.{◌≡◌, ℕ, zero, suc, ◌+◌, ◌<◌, ◌≤◌, max, List, [], ◌∷◌, ◌++◌, length, get_or, set, Some, refl, sym, ap, ◌∙◌, arith, inl, inr}
 use Rattle.std.specs.Prelude.{slice_get}
 use Rattle.std.proofs.lemmas.Bool.{cases_lt}
@@ -15,7 +15,7 @@ ramp_at-later : (p : Piece) (ps : List Piece) (i : ℕ) → p.end ≤ i → ramp
 unfolding ramp_at
 ramp_at-later p ps i h = grind arith
 
--- the first piece that ends above an index
+-- The ramp at an index is that of the first piece that ends above it.
 pub ramp_of_piece : (ps : List Piece) (k : ℕ) (p : Piece) (i : ℕ) → slice_get ps k ≡ Some p → ((m : ℕ) (q : Piece) → m < k → slice_get ps m ≡ Some q → q.end ≤ i) → i < p.end → ramp_at ps i ≡ Some p.ramp
 ramp_of_piece [] k p i e before h = cc
 ramp_of_piece (q ∷ ps) zero p i e before h =
@@ -30,7 +30,7 @@ within_extent [] k p e = cc
 within_extent (q ∷ ps) zero p e = let same : q ≡ p = same_Some q p e in rw (← same) (omega arith)
 within_extent (q ∷ ps) (suc k) p e = omega (arith, within_extent ps k p e)
 
--- where all pieces end at or before an index, none reaches past it
+-- If no piece ends above an index, the extent is at most that index.
 pub extent_up_to : (ps : List Piece) (k i : ℕ) → length ps ≤ k → ((m : ℕ) (q : Piece) → m < k → slice_get ps m ≡ Some q → q.end ≤ i) → extent ps ≤ i
 unfolding extent
 extent_up_to [] k i few before = omega arith
@@ -38,7 +38,7 @@ extent_up_to (q ∷ ps) zero i few before = absurd (omega (arith, few))
 extent_up_to (q ∷ ps) (suc k) i few before =
     omega (arith, before 0 q (omega arith) refl, extent_up_to ps k i (omega arith) (λ m z less is. before (suc m) z (omega arith) is))
 
--- a walk over the pieces: it finds one that ends above an index that they reach, and may go on to each later index
+-- A search from a cursor finds the piece of an index below the extent, and later ones after it.
 pub inside : (ps : List Piece) (k i : ℕ) → AreUpTo ps k i → i < extent ps → k < length ps
 inside ps k i before h = elim (cases_lt k (length ps)) [
   | inl is ↦ is
@@ -60,7 +60,7 @@ ends_above ps k i d p h at = rw (get_or_from_slice_get ps k p d at) at h
 pub later : (ps : List Piece) (k i j : ℕ) → AreUpTo ps k i → i ≤ j → AreUpTo ps k j
 later ps k i j before h m p less at = omega (arith, before m p less at)
 
--- an index that the pieces reach has a ramp
+-- Each index below the extent has a ramp.
 pub reached : (ps : List Piece) (i : ℕ) → i < extent ps → (r : Ramp) × (ramp_at ps i ≡ Some r)
 unfolding extent
 reached [] i h = absurd (omega arith)
@@ -69,7 +69,7 @@ reached (p ∷ ps) i h = elim (cases_lt i p.end) [
   | inr later ↦ let rest = reached ps i (omega arith) in (rest.0, ramp_at-later p ps i later ∙ rest.1)
 ]
 
--- a piece at the end
+-- One more piece at the end.
 added_extent : (ps : List Piece) (p : Piece) → extent (ps ++ p ∷ []) ≡ max (extent ps) p.end
 unfolding extent
 added_extent [] p = omega arith
@@ -95,7 +95,7 @@ pushed ps p = record {
   added = added_new ps p;
 }
 
--- the last piece made longer
+-- The last piece extended.
 longer_extent : (ps : List Piece) (k : ℕ) (p q : Piece) → k + 1 ≡ length ps → slice_get ps k ≡ Some q → q.end ≤ p.end → extent (set ps k p) ≡ max (extent ps) p.end
 unfolding extent
 longer_extent [] k p q last e h = absurd (omega arith)

@@ -1,4 +1,4 @@
--- What is reckoned at a target fits.
+-- Values at a target fit their machine types.
 use Rattle.std.proofs.Common.{◌≡◌, ℕ, ◌^◌, ◌<◌, ◌≤◌, ℤ, pos, ◌*ℤ◌, unsigned_abs, arith, FitsSigned, to_z, of_z, w32, w64}
 use mir.Syntax.{w128}
 use Rattle.std.proofs.lemmas.Int.{ints, to_z-of_z, fits_signed_mul, fits_signed_from_abs}
@@ -15,10 +15,9 @@ back_long z h = to_z-of_z w128 z (fits_signed_from_abs w128 z h)
 pub back_count : (n : ℕ) → n ≤ 4096 → to_z w128 (of_z w128 (pos n)) ≡ pos n
 back_count n h = back_long (pos n) (omega arith)
 
--- how far from 0 a number of 64 bits is
 pub value_abs : (z : ℤ) → FitsSigned w64 z → unsigned_abs z ≤ 2 ^ 63
 value_abs z fits = omega (arith, ints, fits)
 
--- a number of 64 bits, times one that is at most 4096
+-- A number of 64 bits times one of at most 4096 fits in 128 bits.
 pub product_fits : (z x : ℤ) → unsigned_abs z ≤ 2 ^ 63 → unsigned_abs x ≤ 4096 → FitsSigned w128 (z *ℤ x)
 product_fits z x h few = fits_signed_mul w128 z x (2 ^ 63) 4096 h few (omega arith)

@@ -1,4 +1,4 @@
--- The difference of two ramps is straight: where it has one sign at two slopes, it has that sign between them.
+-- The difference of two ramps is straight: a sign at two slopes holds between them.
 use Rattle.std.proofs.Common.{◌≡◌, ℕ, ◌+◌, ◌-◌, ◌*◌, ◌<◌, ◌≤◌, Bool, true, false, List, Some, pos, ◌*ℤ◌, sym, ap, subst, ◌∙◌, arith, inl, inr}
 use Rattle.std.specs.Prelude.{slice_get}
 use borrow.Author.Differences.{up, down, true_is_lt, false_is_lt}
@@ -10,11 +10,11 @@ use Rattle.horizons.specs.Horizons.{value_at, is_above, IsTarget, IsSlopeUpTo, A
 use Rattle.horizons.specs.declared.target.Target.{Target}
 use Rattle.horizons.specs.declared.ramp.Ramp.{Ramp}
 
--- a ramp with the gain q - p and the level c, as far as these count, at a target
+-- The positive part of a ramp of gain q - p and level c at a target.
 abbrev lead : ℕ → ℕ → ℕ → Target → ℕ
-lead q p c t = q * up t.aside + p * down t.aside + c * t.line
+lead q p c t = q * up t.offset + p * down t.offset + c * t.line
 
--- cleared of their lines, the difference of two ramps at a target is what the one has over the other less the other way round
+-- Over common lines, the difference of ramps r and s at a target is `over r s` less `over s r`.
 abbrev gain : Ramp → Ramp → ℕ
 gain r s = up r.gain * s.lines + down s.gain * r.lines
 
@@ -24,7 +24,7 @@ level r s = up r.level * s.lines + down s.level * r.lines
 abbrev over : Ramp → Ramp → Target → ℕ
 over r s t = lead (gain r s) (gain s r) (level r s) t
 
-value_is : (r : Ramp) (t : Target) → up (value_at r t) + (up r.gain * down t.aside + down r.gain * up t.aside + down r.level * t.line) ≡ down (value_at r t) + (up r.gain * up t.aside + down r.gain * down t.aside + up r.level * t.line)
+value_is : (r : Ramp) (t : Target) → up (value_at r t) + (up r.gain * down t.offset + down r.gain * up t.offset + down r.level * t.line) ≡ down (value_at r t) + (up r.gain * up t.offset + down r.gain * down t.offset + up r.level * t.line)
 value_is r t = omega (arith, ints)
 
 difference : (r s : Ramp) (t : Target) → up (value_at r t) * s.lines + down (value_at s t) * r.lines + over s r t ≡ down (value_at r t) * s.lines + up (value_at s t) * r.lines + over r s t
@@ -42,14 +42,14 @@ above_if_over r s t h = sym (true_is_lt (value_at s t *ℤ pos r.lines) (value_a
 not_if_not_over : (r s : Ramp) (t : Target) → over r s t ≤ over s r t → is_above r s t ≡ false
 not_if_not_over r s t h = sym (false_is_lt (value_at s t *ℤ pos r.lines) (value_at r t *ℤ pos s.lines) (omega (arith, ints, h, difference r s t)))
 
--- the lead of a ramp with a gain grows with the slope
+-- With a gain of at least 0, the difference grows with the slope.
 abbrev Grows : ℕ → ℕ → ℕ → ℕ → Target → Target → Type 0
 Grows p q c e t u = lead q p c t * u.line + lead p q e u * t.line ≤ lead q p c u * t.line + lead p q e t * u.line
 
 gaining : (p d c e : ℕ) (t u : Target) → IsSlopeUpTo t u → Grows p (p + d) c e t u
 gaining p d c e t u slope =
-    let parts : up t.aside * u.line + down u.aside * t.line ≤ up u.aside * t.line + down t.aside * u.line = omega (arith, ints, slope) in
-    omega (arith, mul-le d (up t.aside * u.line + down u.aside * t.line) d (up u.aside * t.line + down t.aside * u.line) (omega arith) parts)
+    let parts : up t.offset * u.line + down u.offset * t.line ≤ up u.offset * t.line + down t.offset * u.line = omega (arith, ints, slope) in
+    omega (arith, mul-le d (up t.offset * u.line + down u.offset * t.line) d (up u.offset * t.line + down t.offset * u.line) (omega arith) parts)
 
 grows : (p q c e : ℕ) (t u : Target) → p ≤ q → IsSlopeUpTo t u → Grows p q c e t u
 grows p q c e t u h slope =
@@ -91,7 +91,7 @@ above_between r s t u v true is_t is_u is_v low high first last =
 above_between r s t u v false is_t is_u is_v low high first last =
     not_if_not_over r s u (holds_between (gain r s) (gain s r) (level s r) (level r s) t u v is_t.line.0 is_v.line.0 low high (not_over_if_not r s t first) (not_over_if_not r s v last))
 
--- slopes do not fall along the targets
+-- Slopes do not fall along sorted targets.
 pub slope_up : (targets : List Target) (i j : ℕ) (t u : Target) → AreTargets targets → i ≤ j → slice_get targets i ≡ Some t → slice_get targets j ≡ Some u → IsSlopeUpTo t u
 slope_up targets i j t u are h at_i at_j =
     elim (cases_lt i j) [

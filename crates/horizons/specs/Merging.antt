@@ -1,24 +1,29 @@
--- The greater of two ramps, over targets side by side.
+-- The greater of two ramps, over a run of targets.
+-- Public.
 use Rattle.std.specs.Prelude.{◌≡◌, ℕ, ◌<◌, ◌≤◌, Bool, if◌then◌else◌, List, Some, slice_get}
 use Rattle.horizons.specs.Horizons.{is_above, ramp_at, extent, IsRampAt}
 use Rattle.horizons.specs.declared.target.Target.{Target}
 use Rattle.horizons.specs.declared.ramp.Ramp.{Ramp}
 use Rattle.horizons.specs.declared.horizon.Piece.{Piece}
 
--- The ramp may be asked at the targets of these indexes.
+-- The ramp is within bounds at the targets from `from` up to `end`.
 abbrev pub IsRampOn : List Target → Ramp → ℕ → ℕ → Type 0
-IsRampOn targets r from end = (i : ℕ) (t : Target) → from ≤ i → i < end → slice_get targets i ≡ Some t → IsRampAt r t
+IsRampOn targets r from end =
+    (i : ℕ) (t : Target) → from ≤ i → i < end → slice_get targets i ≡ Some t → IsRampAt r t
 
--- Whether the one ramp is above the other is the same at the targets of these indexes.
+-- Ramp r is above ramp s at all targets from `from` up to `end` if b is true, at none if false.
 abbrev pub IsAboveOn : List Target → Ramp → Ramp → Bool → ℕ → ℕ → Type 0
-IsAboveOn targets r s b from end = (i : ℕ) (t : Target) → from ≤ i → i < end → slice_get targets i ≡ Some t → is_above r s t ≡ b
+IsAboveOn targets r s b from end = (i : ℕ) (t : Target) → from ≤ i → i < end →
+    slice_get targets i ≡ Some t → is_above r s t ≡ b
 
--- The greater of two ramps at the slope of a target, of equals the second.
+-- The greater of two ramps at the slope of a target; of equals the second.
 abbrev pub greater_at : Ramp → Ramp → Target → Ramp
 greater_at r s t = if is_above r s t then r else s
 
--- The greater of two ramps was added to a horizon, up to an end.
-pub record IsGreaterPushed (targets : List Target) (r s : Ramp) (old : List Piece) (end : ℕ) (new : List Piece) : Type 0 where
+-- The horizon was extended up to `end` by the greater of two ramps at each target.
+pub record IsGreaterPushed (targets : List Target) (r s : Ramp) (old : List Piece) (end : ℕ)
+    (new : List Piece) : Type 0 where
   pub reach : extent new ≡ end
   pub kept : (i : ℕ) → i < extent old → ramp_at new i ≡ ramp_at old i
-  pub added : (i : ℕ) (t : Target) → extent old ≤ i → i < end → slice_get targets i ≡ Some t → ramp_at new i ≡ Some (greater_at r s t)
+  pub added : (i : ℕ) (t : Target) → extent old ≤ i → i < end → slice_get targets i ≡ Some t →
+      ramp_at new i ≡ Some (greater_at r s t)

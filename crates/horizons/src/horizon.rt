@@ -1,6 +1,6 @@
 //! A horizon as pieces of ramps: [`Horizon`].
 //!
-//! A [`Cursor`] looks up indexes that rise.
+//! A [`Cursor`] speeds up lookups at rising indexes.
 ghost use Rattle.std.specs.Prelude.{◌≡◌, ℕ, ◌+◌, ◌<◌, ◌≤◌, List, [], length, Some, OnOk, OnErr, slice_get};
 ghost use Rattle.horizons.specs.declared.horizon.Piece.{Piece};
 ghost use Rattle.horizons.specs.declared.ramp.Ramp.{Ramp};
@@ -11,14 +11,14 @@ use crate::target::Target;
 use std::alloc::{AllocError, Global};
 use std::marker::Model;
 
-/// A ramp over the targets from the end of the piece before it up to `end`.
+/// A ramp over the targets from the previous piece's end up to `end`.
 #[derive(Clone, Copy)]
 pub struct Piece {
     pub end: usize,
     pub ramp: Ramp,
 }
 
-/// A function of a target's index: the greatest of many ramps.
+/// A ramp for each target up to the extent, in pieces of one ramp each.
 #[derive(Drop)]
 pub struct Horizon {
     pieces: Vec<Piece>,
@@ -37,15 +37,15 @@ impl Model for Horizon {
     ghost invariant = { λ h. h.end ≡ extent h.pieces.items };
 }
 
-/// Where a walk over the pieces of a horizon stands, which asks it at rising indexes.
+/// Where lookups in a horizon at rising indexes continue: the index of a piece.
 #[derive(Clone, Copy)]
 pub struct Cursor {
     pub piece: usize,
 }
 
-/// Puts a piece at the end, or makes the last one longer where that has the same ramp.
+/// Pushes a piece, or extends the last piece if that has an equal ramp.
 #[inline(always)]
-fn put(pieces: &mut Vec<Piece>, piece: Piece) -> Result<(), AllocError>
+fn push_or_extend(pieces: &mut Vec<Piece>, piece: Piece) -> Result<(), AllocError>
     requires { extent pieces.old.items < piece.end }
     ensures pushed { OnOk result (IsPushed pieces.old.items piece.end piece.ramp pieces.new.items) }
     ensures kept { OnErr result (pieces.new.items ≡ pieces.old.items) }
@@ -59,7 +59,7 @@ fn put(pieces: &mut Vec<Piece>, piece: Piece) -> Result<(), AllocError>
     Ok(())
 }
 
-/// The first piece that ends above an index, where none before `first` does.
+/// The first piece that ends above an index. No piece before `first` may.
 #[inline(always)]
 fn first_above(pieces: &[Piece], first: usize, index: usize) -> usize
     requires index { index < extent pieces.now }
@@ -76,7 +76,7 @@ fn first_above(pieces: &[Piece], first: usize, index: usize) -> usize
 }
 
 impl Cursor {
-    /// At the first piece.
+    /// Makes a cursor at the first piece.
     pub fn start() -> Self
         ensures { (pieces : List Piece) (index : ℕ) → IsUpTo pieces result index }
     {
@@ -85,7 +85,7 @@ impl Cursor {
 }
 
 impl Horizon {
-    /// Over no target.
+    /// Makes a horizon over no target.
     pub fn new(alloc: Global) -> Self
         ensures { result ≡ [] }
     {
@@ -95,7 +95,7 @@ impl Horizon {
         }
     }
 
-    /// Lets all pieces go, and keeps their room.
+    /// Removes all pieces, and keeps their capacity.
     pub fn clear(&mut self)
         ensures { self.new ≡ [] }
     {
@@ -103,7 +103,7 @@ impl Horizon {
         self.end = 0;
     }
 
-    /// How many targets it reaches.
+    /// The number of targets that the horizon covers.
     #[inline(always)]
     pub fn extent(&self) -> usize
         ensures { result ≡ extent self.now }
@@ -111,7 +111,7 @@ impl Horizon {
         self.end
     }
 
-    /// How many pieces it has.
+    /// The number of pieces.
     #[inline(always)]
     pub fn pieces(&self) -> usize
         ensures { result ≡ length self.now }
@@ -119,7 +119,7 @@ impl Horizon {
         self.pieces.len()
     }
 
-    /// Adds a ramp over the targets from the extent on up to `end`, none if that is no further.
+    /// Extends the horizon up to `end` by a ramp, unless it already reaches there.
     #[inline]
     pub fn push(&mut self, end: usize, ramp: Ramp) -> Result<(), AllocError>
         ensures { OnOk result (IsPushed self.old end ramp self.new) }
@@ -127,26 +127,27 @@ impl Horizon {
         if end <= self.end {
             return Ok(());
         }
-        put(&mut self.pieces, Piece { end, ramp })?;
+        push_or_extend(&mut self.pieces, Piece { end, ramp })?;
         self.end = end;
         Ok(())
     }
 
-    /// The piece that holds an index, to which the cursor goes on.
+    /// Returns the piece at an index, and moves the cursor to it.
     #[inline(always)]
     pub fn piece(&self, cursor: &mut Cursor, index: usize) -> Piece
         requires index { index < extent self.now }
         requires cursor { IsUpTo self.now cursor.old index }
         ensures cursor { IsUpTo self.now cursor.new index }
         ensures range { (index < result.end) × (result.end ≤ extent self.now) }
-        ensures ramp { (i : ℕ) → index ≤ i → i < result.end → ramp_at self.now i ≡ Some result.ramp }
+        ensures ramp { (i : ℕ) → index ≤ i → i < result.end →
+            ramp_at self.now i ≡ Some result.ramp }
     {
         cursor.piece = first_above(&self.pieces, cursor.piece, index);
         self.pieces[cursor.piece]
     }
 
-    /// Whether it hides a target of this index that is so much above the eye. The cursor was asked about
-    /// no later index.
+    /// Returns whether the horizon hides target `index`, `rise` above the eye.
+    /// The cursor must not have been used at a later index.
     #[inline(always)]
     pub fn hides(&self, cursor: &mut Cursor, index: usize, target: Target, rise: Value) -> bool
         requires index { index < extent self.now }

@@ -1,12 +1,12 @@
-//! Horizons: how high the ground is before each of many targets.
+//! Horizons: how high the ground rises before each of many targets.
 //!
-//! The targets are sorted by the slopes of the rays to them. A horizon is a function of a target's
-//! index, kept as pieces of straight lines over the slope ([`Horizon`]). [`push_greater`] takes the
-//! greater of two lines in whole numbers, at the slopes of targets alone. Depends on nothing.
+//! Targets are sorted by the slopes of the lines of sight to them. A [`Horizon`] is a function of
+//! a target's index, made of pieces that are straight over the slope. [`push_greater`] adds the
+//! greater of two ramps. All is computed in whole numbers, at the slopes of targets only.
 //!
-//! Modules, from what is called to what it depends on:
+//! Modules, callers first:
 //!
-//! - `merging`: the greater of two lines
+//! - `merging`: the greater of two ramps
 //! - `horizon`: pieces of ramps
 //! - `ramp`: a straight line over slopes
 //! - `target`: a cell by line and offset

@@ -1,6 +1,6 @@
 //! The greater of two ramps over a run of targets: [`push_greater`].
 //!
-//! Two ramps cross once at most, and halving finds where.
+//! Two ramps cross at most once; a binary search finds where.
 ghost use Rattle.std.specs.Prelude.{◌≡◌, ◌+◌, ◌<◌, ◌≤◌, not, Bool, false, length, Some, OnOk, slice_get};
 ghost use Rattle.std.specs.Bool.{OnTrue};
 ghost use Rattle.horizons.specs.declared.target.Target.{Target};
@@ -12,7 +12,7 @@ use crate::ramp::Ramp;
 use crate::target::Target;
 use std::alloc::AllocError;
 
-/// Whether the one ramp is above the other at the slope of a target.
+/// Returns whether ramp `one` is above ramp `other` at the slope of a target.
 #[inline(always)]
 fn is_above_at(targets: &[Target], one: Ramp, other: Ramp, index: usize) -> bool
     requires targets { AreTargets targets.now }
@@ -24,7 +24,7 @@ fn is_above_at(targets: &[Target], one: Ramp, other: Ramp, index: usize) -> bool
     one.is_above(other, targets[index])
 }
 
-/// Whether the one ramp is above the other at none of the targets from one on up to `end`.
+/// Returns whether `one` is above `other` at no target from `from` up to `end`.
 #[inline(always)]
 pub fn is_never_above(targets: &[Target], one: Ramp, other: Ramp, from: usize, end: usize) -> bool
     requires targets { AreTargets targets.now }
@@ -39,10 +39,17 @@ pub fn is_never_above(targets: &[Target], one: Ramp, other: Ramp, from: usize, e
     !is_above_at(targets, one, other, end - 1)
 }
 
-/// Two ramps change places once at most, since their difference is straight. From the target that is
-/// answered on, up to `end`, the one is above the other where it is not at `from`, or not where it is.
+/// Finds where the comparison of two ramps first differs from `first`, or `end`.
+/// The difference of two ramps is straight, so this changes at most once.
 #[inline(always)]
-fn turn(targets: &[Target], one: Ramp, other: Ramp, first: bool, from: usize, end: usize) -> usize
+fn first_change(
+    targets: &[Target],
+    one: Ramp,
+    other: Ramp,
+    first: bool,
+    from: usize,
+    end: usize,
+) -> usize
     requires targets { AreTargets targets.now }
     requires range { (from < end) × (end ≤ length targets.now) }
     requires one { IsRampOn targets.now one from end }
@@ -68,7 +75,14 @@ fn turn(targets: &[Target], one: Ramp, other: Ramp, first: bool, from: usize, en
     turned
 }
 
-/// Adds the greater of two ramps over the targets from the extent on up to `end`.
+/// Extends a horizon up to `end` by the greater of two ramps at each target.
+///
+/// # Examples
+///
+/// ```ignore
+/// // `raised` gets the greater of `ground` and `before` at each target up to `end`
+/// push_greater(targets, ground, before, end, &mut raised)?;
+/// ```
 #[inline(always)]
 pub fn push_greater(
     targets: &[Target],
@@ -85,12 +99,12 @@ pub fn push_greater(
 {
     let from = into.extent();
     let first = is_above_at(targets, one, other, from);
-    let turn = turn(targets, one, other, first, from, end);
+    let first_change = first_change(targets, one, other, first, from, end);
     if first {
-        into.push(turn, one)?;
+        into.push(first_change, one)?;
         into.push(end, other)
     } else {
-        into.push(turn, other)?;
+        into.push(first_change, other)?;
         into.push(end, one)
     }
 }

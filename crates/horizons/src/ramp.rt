@@ -1,17 +1,18 @@
-//! A ramp: a straight line over the slopes of rays.
+//! A ramp: a straight line over the slopes of lines of sight.
 ghost use Rattle.std.specs.Prelude.{◌≡◌, ℤ, ◌^◌, ◌≤◌, false, unsigned_abs};
 ghost use Rattle.horizons.specs.declared.target.Target.{Target};
 ghost use Rattle.horizons.specs.Horizons.{IsTarget, IsRampAt, value_at, hides_by, is_above};
 
 use crate::target::Target;
 
-/// What heights are reckoned in.
+/// The integer type of rises, and of a ramp's gain, level and values.
 pub type Value = i64;
 
-/// What values times lines are reckoned in.
+/// The integer type of products with a [`Value`].
 type Product = i128;
 
-/// A function of the slope `s`: `(gain * s + level) / lines`.
+/// A straight line over the slope `s`: `(gain * s + level) / lines`.
+/// It is the ground's rise above the eye a line, at `s` cells aside a line.
 #[derive(Clone, Copy, PartialEq)]
 pub struct Ramp {
     pub gain: Value,
@@ -20,9 +21,10 @@ pub struct Ramp {
 }
 
 impl Ramp {
-    /// What stands where there is no ground: below the rise of every target.
+    /// Returns the ramp of no ground. It hides no target of a rise within ±2^51.
     pub fn nothing() -> Self
-        ensures below { (t : Target) (rise : ℤ) → IsTarget t → unsigned_abs rise ≤ 2 ^ 51 → hides_by result t rise ≡ false }
+        ensures below { (t : Target) (rise : ℤ) → IsTarget t → unsigned_abs rise ≤ 2 ^ 51 →
+            hides_by result t rise ≡ false }
         ensures at { (t : Target) → IsTarget t → IsRampAt result t }
     {
         Ramp {
@@ -32,19 +34,19 @@ impl Ramp {
         }
     }
 
-    /// The ramp at the slope of a target, times the target's line and the ramp's lines.
+    /// The ramp at a target's slope, times the target's `line` and the ramp's `lines`.
     #[inline(always)]
     pub(crate) fn value_at(self, target: Target) -> Value
         requires target { IsTarget target }
         requires at { IsRampAt self target }
         ensures { result ≡ value_at self target }
     {
-        let gained = Product::from(self.gain) * Product::from(target.aside);
+        let gained = Product::from(self.gain) * Product::from(target.offset);
         let based = Product::from(self.level) * Product::from(target.line);
         (gained + based) as Value
     }
 
-    /// Whether it is above another ramp at the slope of a target.
+    /// Returns whether the ramp is above another at a target's slope.
     #[inline(always)]
     pub(crate) fn is_above(self, other: Ramp, target: Target) -> bool
         requires target { IsTarget target }
@@ -56,7 +58,7 @@ impl Ramp {
             > Product::from(other.value_at(target)) * Product::from(self.lines)
     }
 
-    /// Whether it hides a target that is so much above the eye.
+    /// Returns whether the ramp hides a target that is `rise` above the eye.
     #[inline(always)]
     pub fn hides(self, target: Target, rise: Value) -> bool
         requires target { IsTarget target }

@@ -1,8 +1,8 @@
-//! A target: the line of a cell, counted outward, and its offset along that line.
-/// A place at which an observer looks: on which line it lies, counted outward from the observer's own,
-/// and how many cells aside.
+//! A target of a line of sight: [`Target`].
+/// A cell at which an observer looks, relative to the observer's cell.
+/// `line` counts lines outward from the observer's own, `offset` cells along the line.
 #[derive(Clone, Copy)]
 pub struct Target {
-    pub aside: i32,
+    pub offset: i32,
     pub line: u32,
 }

@@ -1,4 +1,4 @@
--- The counts that the rounds begin with, told in row order.
+-- The first counts of steps, built in row order.
 use Rattle.std.proofs.Common.{◌≡◌, ◌↔◌, ℕ, ◌+◌, ◌*◌, ◌<◌, Bool, true, false, IsTrue, inl, inr, List, [], ◌∷◌, ◌++◌, length, get_or, Option, None, sym, ap, subst, refl, ◌∙◌, arith}
 use Rattle.std.proofs.lemmas.Bool.{cases_eq, false≢true}
 use Rattle.std.proofs.lemmas.List.{get_or_append_left, get_or_push, length_push}
@@ -12,18 +12,16 @@ use Rattle.drain.specs.Beginning.{IsBegun, AreBegun}
 use Rattle.drain.specs.Steps.{IsLower, HasLower, DrainsAtOnce}
 use Rattle.drainage.proofs.Reach.{data_inside}
 
--- Of the cells that stand before an index in row order none is a lower neighbour.
+-- No cell before index `end` in row order is a lower neighbour of `p`.
 abbrev pub HasNoLowerBelow : Terrain → Place → ℕ → Type 0
 HasNoLowerBelow t p end = (q : Place) → IsInside t q → index_of t.cols q < end → IsLower t p q → ⊥
 
--- one cell more that is no lower neighbour
 pub none_lower_next : (t : Terrain) (p here : Place) (index : ℕ) → IsInside t here → index_of t.cols here ≡ index → HasNoLowerBelow t p index → (IsLower t p here → ⊥) → HasNoLowerBelow t p (index + 1)
 none_lower_next t p here index inside at before not q within below lower = elim (cases_eq (index_of t.cols q) index) [
   | inl e ↦ not (subst (λ (x : Place). IsLower t p x) (index_injective t.cols q here within.1 inside.1 (e ∙ sym at)) lower)
   | inr ne ↦ before q within (omega arith) lower
 ]
 
--- where none of all cells is a lower neighbour
 pub none_lower : (t : Terrain) (p : Place) → HasNoLowerBelow t p (t.cols * t.rows) → HasLower t p → ⊥
 none_lower t p none (q, lower) =
     let within = data_inside t q lower.0.to_data in
@@ -39,7 +37,7 @@ begun_at t p false is = record {
   only = λ n e. absurd (none-some n e);
 }
 
--- The counts of the cells that stand before one in row order.
+-- `counts` are the first counts of the cells before index `end` in row order.
 pub record AreBegunBelow (t : Terrain) (end : ℕ) (counts : List (Option ℕ)) : Type 0 where
   pub size : length counts ≡ end
   pub each : (p : Place) → IsInside t p → index_of t.cols p < end → IsBegun (DrainsAtOnce t) p (get_or counts (index_of t.cols p) None)
@@ -57,12 +55,10 @@ push_begun t here index counts x within at before begun = record {
   ];
 }
 
--- one count more
 pub begun_next : (t : Terrain) (here : Place) (index : ℕ) (counts : List (Option ℕ)) (drains : Bool) → IsInside t here → index_of t.cols here ≡ index → AreBegunBelow t index counts →
     IsTrue drains ↔ DrainsAtOnce t here → AreBegunBelow t (index + 1) (counts ++ then_some drains 0 ∷ [])
 begun_next t here index counts drains within at before is = push_begun t here index counts (then_some drains 0) within at before (begun_at t here drains is)
 
--- the counts of all cells
 pub all_begun : (t : Terrain) (counts : List (Option ℕ)) → AreBegunBelow t (t.cols * t.rows) counts → AreBegun t counts
 all_begun t counts begun = record {
   size = begun.size;

@@ -1,8 +1,8 @@
-//! Directions of single cells, and refused numbers of workers.
+//! Finds the direction of one cell, and refuses bad numbers of workers.
 ghost use Rattle.drain.specs.Fitting.{IsFitting};
 
 use crate::ground::{cut, land};
-use crate::stages::{directed, leveled};
+use crate::stages::{directions_of, filled_grid};
 use drain::{Around, direction};
 use flow::{accumulation, basins};
 use std::alloc::Global;
@@ -12,7 +12,7 @@ use std::thread::Threads;
 use terrain::{Grid, Height};
 use tile_jobs::{JobFault, NoGate};
 
-/// The number of the code of a cell with these ways around it.
+/// Returns the code of a cell, given the height and steps of its neighbours.
 fn number(level: Height, steps: u32, edge: bool, ways: [Option<(Height, u32)>; 8]) -> u8
     requires { IsFitting (record { level = level; steps = steps; edge = edge; ways = ways }) }
 {
@@ -50,7 +50,7 @@ fn codes_of_surroundings(rt: HostRuntime) {
     );
 }
 
-/// What refuses the four maps to so many workers.
+/// Returns the faults of the four drainage maps for a number of workers.
 fn faults<R: Abort + Threads + Wait + Sync>(
     rt: &R,
     alloc: Global,
@@ -58,11 +58,11 @@ fn faults<R: Abort + Threads + Wait + Sync>(
     workers: u32,
 ) -> [Option<JobFault>; 4] {
     let tiling = cut(rt, grid, 1);
-    let level = leveled(rt, alloc, grid, &tiling, 1).expect(rt, "levels");
-    let ways = directed(rt, alloc, &level, &tiling, 1).expect(rt, "ways");
+    let level = filled_grid(rt, alloc, grid, &tiling, 1).expect(rt, "levels");
+    let ways = directions_of(rt, alloc, &level, &tiling, 1).expect(rt, "ways");
     [
-        leveled(rt, alloc, grid, &tiling, workers).err(),
-        directed(rt, alloc, &level, &tiling, workers).err(),
+        filled_grid(rt, alloc, grid, &tiling, workers).err(),
+        directions_of(rt, alloc, &level, &tiling, workers).err(),
         accumulation(rt, alloc, &ways, &tiling, workers, &NoGate).err(),
         basins(rt, alloc, &ways, &tiling, workers, &NoGate).err(),
     ]

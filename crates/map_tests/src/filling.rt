@@ -1,4 +1,4 @@
-//! Floods of tiles, the spill graph that joins them, and want of memory.
+//! Floods tiles and joins them in a spill graph, also if memory is refused.
 ghost use Rattle.std.specs.Prelude.{IfOk};
 ghost use Rattle.terrain.specs.Raster.{Terrain};
 ghost use Rattle.fill.specs.Spills.{AreFloods};
@@ -6,7 +6,7 @@ ghost use Rattle.tiles.specs.Cutting.{Cuts};
 
 use crate::ground::{cut, expect_cells, expect_heights, land};
 use crate::refused::again;
-use crate::stages::leveled;
+use crate::stages::filled_grid;
 use fill::{SpillGraph, TileFlood, tile_flood};
 use std::alloc::{AllocError, Global};
 use std::process::Abort;
@@ -16,12 +16,12 @@ use terrain::{Grid, Height, NoMemory, Place};
 use tile_jobs::JobFault;
 use tiles::Tiling;
 
-/// A valley between two ridges, through two tiles of side 3. It spills over the low place in the second.
+/// A valley through two tiles of side 3, which spills at height 6 in the east.
 const VALLEY: &str = "9 9 9 9 9 9\n9 1 5 4 1 6\n9 9 9 9 9 9";
 
 const FILLED: &str = "9 9 9 9 9 9\n9 6 6 6 6 6\n9 9 9 9 9 9";
 
-/// The flood of each tile, in tile order.
+/// Floods each tile, in tile order.
 pub(crate) fn floods_of(
     alloc: Global,
     grid: &Grid,
@@ -40,7 +40,7 @@ pub(crate) fn floods_of(
     Ok(floods)
 }
 
-/// The levels of a tile, in its row order.
+/// Returns the levels of a tile, in its row order.
 fn levels_of(alloc: Global, flood: &TileFlood) -> Result<Vec<Option<Height>>, AllocError> {
     let bounds = flood.bounds();
     let mut levels = Vec::new(alloc);
@@ -65,7 +65,7 @@ fn expect_floods(rt: &impl Abort, alloc: Global, floods: &[TileFlood]) {
     assert_eq!(rt; floods[1].level(west), None);
 }
 
-/// The levels of the labels of these floods.
+/// Returns the levels of the labels of all tiles.
 pub(crate) fn label_levels(
     rt: &impl Abort,
     alloc: Global,
@@ -92,29 +92,29 @@ fn valley_through_two_tiles(rt: HostRuntime) {
     let floods = floods_of(alloc, &grid, &tiling).expect(&rt, "floods");
     expect_floods(&rt, alloc, &floods);
     expect_levels(&rt, &label_levels(&rt, alloc, &tiling, &floods));
-    let level = leveled(&rt, alloc, &grid, &tiling, 2).expect(&rt, "filled heights");
+    let level = filled_grid(&rt, alloc, &grid, &tiling, 2).expect(&rt, "filled heights");
     expect_cells(&rt, alloc, level.grid().cells(), 6, 3, FILLED);
 }
 
-/// With ample memory the filled heights of the valley by tiles of this side, and with `--fail-alloc`
-/// those or a told refusal.
+/// Asserts the filled heights of the valley, for tiles of this side.
+/// With `--fail-alloc` the run may also return a fault of memory.
 fn expect_filled_or_refused<R: Abort + Threads + Wait + Sync>(rt: &R, alloc: Global, side: u32) {
     let grid = land(rt, alloc, 6, 3, VALLEY);
     let tiling = cut(rt, &grid, side);
-    match leveled(rt, alloc, &grid, &tiling, 1) {
+    match filled_grid(rt, alloc, &grid, &tiling, 1) {
         Ok(level) => expect_cells(rt, alloc, level.grid().cells(), 6, 3, FILLED),
         Err(fault) => assert_eq!(rt; fault, JobFault::Memory),
     }
 }
 
-/// The label of the two low cells of the first tile meets ten others, more than a node's list of ways
-/// holds in place.
+/// The label of the first tile's two low cells touches ten other labels:
+/// more neighbours than the list of a node holds without allocation.
 #[test]
 fn refused_memory_is_told(rt: HostRuntime) {
     expect_filled_or_refused(&rt, rt.alloc(), 3);
 }
 
-/// Each cell is its own label: no joins are listed.
+/// Each cell is its own label, so tiles have no joins inside.
 #[test]
 fn refused_memory_of_single_cells_is_told(rt: HostRuntime) {
     expect_filled_or_refused(&rt, rt.alloc(), 1);

@@ -1,4 +1,4 @@
-//! One round of counting steps over a tile, from the first counts.
+//! Counts the steps of flats by one round over one tile, from the first counts.
 ghost use Rattle.std.specs.Prelude.{◌≡◌, ◌*◌, ◌<◌, ◌↔◌, IfOk, IsTrue};
 ghost use Rattle.terrain.specs.Raster.{Terrain};
 ghost use Rattle.terrain.specs.Neighbours.{IsInside, Touches, index_of};
@@ -15,7 +15,7 @@ use std::process::Abort;
 use terrain::{Grid, NoMemory, Place};
 use tiles::Tiling;
 
-/// The place that stands at an index in row order.
+/// Returns the place at an index in row order.
 fn place_at(grid: &Grid, index: u32) -> Place
     requires { index < grid.now.terrain.cols * grid.now.terrain.rows }
     ensures inside { IsInside grid.now.terrain result }
@@ -28,14 +28,14 @@ fn place_at(grid: &Grid, index: u32) -> Place
     }
 }
 
-/// Whether the rows and the columns each differ by at most 1.
+/// Returns whether the rows and the columns each differ by at most 1.
 fn touch(place: Place, other: Place) -> bool
     ensures { IsTrue result ↔ Touches place other }
 {
     place.row.abs_diff(other.row) <= 1 && place.col.abs_diff(other.col) <= 1
 }
 
-/// Whether the second cell is a lower neighbour of the first.
+/// Returns whether `other` is a lower neighbour of `place`.
 fn is_lower(grid: &Grid, place: Place, other: Place) -> bool
     requires place { IsInside grid.now.terrain place }
     requires other { IsInside grid.now.terrain other }
@@ -59,7 +59,7 @@ fn has_lower(grid: &Grid, place: Place) -> bool
     false
 }
 
-/// Whether the cell is an end cell or has a lower neighbour.
+/// Returns whether the cell is an end cell or has a lower neighbour.
 fn drains_at_once(grid: &Grid, place: Place) -> bool
     requires { IsInside grid.now.terrain place }
     ensures { IsTrue result ↔ DrainsAtOnce grid.now.terrain place }
@@ -67,7 +67,7 @@ fn drains_at_once(grid: &Grid, place: Place) -> bool
     grid.is_edge(place) || has_lower(grid, place)
 }
 
-/// The counts that the rounds begin with: 0 at each cell that drains at once, and none elsewhere.
+/// Returns the first counts: 0 at each cell that drains at once, elsewhere `None`.
 fn begun(alloc: Global, grid: &Grid) -> Result<Vec<Option<u32>>, AllocError>
     ensures { IfOk result (λ v. AreBegun grid.now.terrain v.items) }
 {
@@ -79,7 +79,7 @@ fn begun(alloc: Global, grid: &Grid) -> Result<Vec<Option<u32>>, AllocError>
     Ok(counts)
 }
 
-/// The counts of a tile after a round from these.
+/// Returns the counts of a tile after one round, from the counts `begun`.
 fn round(
     alloc: Global,
     grid: &Grid,
@@ -98,7 +98,7 @@ fn round(
     flat_steps(alloc, &levels, &steps)
 }
 
-/// The counts of a tile after the first round over a grid that is cut into tiles of this side.
+/// Returns the counts of a tile after the first round, for tiles of this side.
 fn first_round(
     rt: &impl Abort,
     alloc: Global,
@@ -128,12 +128,12 @@ fn rings_of_nines(rt: HostRuntime) {
     let rings = "0 0 0 0 0\n0 1 1 1 0\n0 1 2 1 0\n0 1 1 1 0\n0 0 0 0 0";
     let wanted = land(&rt, alloc, 5, 5, rings);
     assert!(rt; agree(&first_round(&rt, alloc, &grid, 5, 0), &wanted));
-    // The counts of the fifth row and column come in over the rim of the middle tile.
+    // The middle tile gets the counts of row 4 and column 4 over its rim.
     let wanted = land(&rt, alloc, 2, 2, "2 1\n1 1");
     assert!(rt; agree(&first_round(&rt, alloc, &grid, 2, 4), &wanted));
 }
 
-/// A round over one tile goes as far as it can: the first cell of the flat is thirteen steps from the outlet.
+/// One round counts all steps inside a tile: here up to 13.
 #[test]
 fn flat_through_ten_tiles(rt: HostRuntime) {
     let alloc = rt.alloc();
@@ -167,7 +167,7 @@ fn hole_among_nines(rt: HostRuntime) {
     assert!(rt; agree(&first_round(&rt, alloc, &grid, 7, 0), &wanted));
 }
 
-/// Only the lowest cell is neither an edge cell nor has a lower neighbour.
+/// Only the lowest cell is no edge cell and has no lower neighbour.
 #[test]
 fn pits_as_read(rt: HostRuntime) {
     let alloc = rt.alloc();
@@ -182,7 +182,7 @@ fn pits_filled(rt: HostRuntime) {
     let filled = land(&rt, alloc, 4, 4, "9 9 9 9\n9 3 9 9\n9 9 3 9\n9 9 9 3");
     let wanted = land(&rt, alloc, 4, 4, "0 0 0 0\n0 2 0 0\n0 0 1 0\n0 0 0 0");
     assert!(rt; agree(&first_round(&rt, alloc, &filled, 4, 0), &wanted));
-    // The first of four tiles has no count for the pit before the last tile has one for its own.
+    // The first tile has no count for its pit until the last tile has one for its own.
     let first = land(&rt, alloc, 2, 2, "0 0\n0 -9999");
     assert!(rt; agree(&first_round(&rt, alloc, &filled, 2, 0), &first));
     let last = land(&rt, alloc, 2, 2, "1 0\n0 0");

@@ -1,11 +1,11 @@
-//! Flow inside tiles, and over their rims.
+//! Finds the flow inside tiles, and joins it over their rims.
 ghost use Rattle.std.specs.Prelude.{◌≡◌, ◌<◌, IfOk};
 ghost use Rattle.drainage.specs.Drained.{AllFlowEnds, directed_of};
 ghost use Rattle.flow.specs.TileFlow.{IsTileFlow, AreTileFlows};
 ghost use Rattle.tiles.specs.Cutting.{Cuts, tile_count};
 
 use crate::ground::{cut, land};
-use crate::stages::{directed, leveled};
+use crate::stages::{directions_of, filled_grid};
 use drain::Directions;
 use flow::{RimLinks, TileFlow, tile_flow};
 use std::alloc::Global;
@@ -13,7 +13,7 @@ use std::process::Abort;
 use terrain::{NoMemory, Place};
 use tiles::Tiling;
 
-/// The flow of a tile.
+/// Finds the flow of a tile.
 pub(crate) fn flow_of(
     alloc: Global,
     tiling: &Tiling,
@@ -28,7 +28,7 @@ pub(crate) fn flow_of(
     tile_flow(alloc, &tiling.view(ways.codes(), tile))
 }
 
-/// The flow of each tile, in tile order.
+/// Finds the flow of each tile, in tile order.
 pub(crate) fn flows_of(
     alloc: Global,
     tiling: &Tiling,
@@ -48,7 +48,7 @@ pub(crate) fn flows_of(
     Ok(flows)
 }
 
-/// The links over the rims of these flows.
+/// Joins the flows of tiles over their rims.
 fn links_of<'a>(
     alloc: Global,
     tiling: &Tiling,
@@ -72,7 +72,7 @@ fn expect_tile_flows(rt: &impl Abort, flows: &[TileFlow]) {
     assert_eq!(rt; flows[1].exit(exit), None);
 }
 
-/// What comes in over the rim at a place, and where the water of an exit ends.
+/// Returns the inflow at a place, and the outlet of the flow path from an exit.
 fn link_at(
     rt: &impl Abort,
     tiling: &Tiling,
@@ -86,8 +86,8 @@ fn link_at(
     (links.inflow(place), links.outlet(place))
 }
 
-/// These come in over the rim at two places, and there their water ends. Links that are refused memory are
-/// joined once more.
+/// Asserts the inflow and the outlet at two places.
+/// If memory is refused, joins the links once more.
 pub(crate) fn expect_links(
     rt: &impl Abort,
     alloc: Global,
@@ -112,8 +112,8 @@ fn slope_in_tiles_and_joined(rt: HostRuntime) {
     let alloc = rt.alloc();
     let slope = land(&rt, alloc, 6, 2, "6 5 4 3 2 1\n7 7 7 7 7 7");
     let tiling = cut(&rt, &slope, 2);
-    let level = leveled(&rt, alloc, &slope, &tiling, 1).expect(&rt, "levels");
-    let ways = directed(&rt, alloc, &level, &tiling, 1).expect(&rt, "ways");
+    let level = filled_grid(&rt, alloc, &slope, &tiling, 1).expect(&rt, "levels");
+    let ways = directions_of(&rt, alloc, &level, &tiling, 1).expect(&rt, "ways");
     let flows = flows_of(alloc, &tiling, &ways).expect(&rt, "flows");
     expect_tile_flows(&rt, &flows);
     let beyond = Place { row: 0, col: 2 };

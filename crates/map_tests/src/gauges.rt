@@ -1,9 +1,9 @@
 //! Catchments of gauges on small terrains.
 //!
-//! Values that no worked example has are those of a separate program that follows the definition.
+//! Values come from worked examples, or from a separate program that follows the definition.
 use crate::ground::{PITS, cut, land};
 use crate::maps::{agree, told};
-use crate::stages::{directed, leveled};
+use crate::stages::{directions_of, filled_grid};
 use flow::{GaugeFault, MOST_GAUGES, catchments};
 use std::alloc::Global;
 use std::process::Abort;
@@ -33,8 +33,8 @@ fn place(row: u32, col: u32) -> Place {
     Place { row, col }
 }
 
-/// The catchments of gauges on the land, cut into tiles of this side.
-fn caught<R: Abort + Threads + Wait + Sync>(
+/// Returns the catchments of gauges on the land, cut into tiles of this side.
+fn find_catchments<R: Abort + Threads + Wait + Sync>(
     rt: &R,
     alloc: Global,
     land: &Grid,
@@ -43,12 +43,12 @@ fn caught<R: Abort + Threads + Wait + Sync>(
     workers: u32,
 ) -> Result<Vec<Count>, GaugeFault> {
     let tiling = cut(rt, land, side);
-    let level = leveled(rt, alloc, land, &tiling, 1).expect(rt, "levels");
-    let ways = directed(rt, alloc, &level, &tiling, 1).expect(rt, "ways");
+    let level = filled_grid(rt, alloc, land, &tiling, 1).expect(rt, "levels");
+    let ways = directions_of(rt, alloc, &level, &tiling, 1).expect(rt, "ways");
     catchments(rt, alloc, &ways, gauges, &tiling, workers, &NoGate)
 }
 
-/// The gauges have these catchments, however the land is cut and whoever does the work.
+/// Asserts the catchments of gauges, for many tile sides and numbers of workers.
 fn expect_catchments<R: Abort + Threads + Wait + Sync>(
     rt: &R,
     alloc: Global,
@@ -58,7 +58,10 @@ fn expect_catchments<R: Abort + Threads + Wait + Sync>(
 ) {
     let wanted = land(rt, alloc, ground.cols(), ground.rows(), expected);
     for (side, workers) in CUTS {
-        let counts = caught(rt, alloc, ground, gauges, side, workers).expect(rt, "catchments");
+        let counts = find_catchments(rt, alloc, ground, gauges, side, workers).expect(
+            rt,
+            "catchments",
+        );
         let values = told(alloc, &counts).expect(rt, "values");
         assert!(rt; agree(&values, &wanted), "side {side}, {workers} workers");
     }
@@ -76,7 +79,7 @@ fn one_gauge_in_a_valley(rt: HostRuntime) {
     );
 }
 
-/// Each gauge has the cells that reach it first.
+/// Each cell has the number of the first gauge on its flow path.
 #[test]
 fn nested_gauges(rt: HostRuntime) {
     let pits = land(&rt, rt.alloc(), 4, 4, PITS);
@@ -114,7 +117,7 @@ fn no_gauge(rt: HostRuntime) {
     );
 }
 
-/// A gauge amid the flat, and three of which one is the outlet and two stand on tiles' rims.
+/// One gauge inside the flat; then three, one at the outlet and two on rims.
 #[test]
 fn gauges_on_a_flat_through_ten_tiles(rt: HostRuntime) {
     let winding = land(&rt, rt.alloc(), 7, 7, WINDING);
@@ -155,7 +158,7 @@ fn gauge_on_a_sink(rt: HostRuntime) {
 fn gauges_are_refused_in_their_order(rt: HostRuntime) {
     let alloc = rt.alloc();
     let gap = land(&rt, alloc, 2, 1, "-9999 5");
-    let outside = caught(
+    let outside = find_catchments(
         &rt,
         alloc,
         &gap,
@@ -164,17 +167,20 @@ fn gauges_are_refused_in_their_order(rt: HostRuntime) {
         65,
     );
     assert!(rt; matches!(outside, Err(GaugeFault::Outside(1))));
-    let empty = caught(&rt, alloc, &gap, &[place(0, 0), place(1, 0)], 1, 65);
+    let empty = find_catchments(&rt, alloc, &gap, &[place(0, 0), place(1, 0)], 1, 65);
     assert!(rt; matches!(empty, Err(GaugeFault::OnNodata(0))));
-    let bad = caught(&rt, alloc, &gap, &[place(0, 1)], 1, 65);
+    let bad = find_catchments(&rt, alloc, &gap, &[place(0, 1)], 1, 65);
     assert!(rt; matches!(bad, Err(GaugeFault::Jobs(JobFault::BadWorkers))));
     let mut many = Vec::new(alloc);
     for _ in 0..MOST_GAUGES {
         many.push(place(0, 1)).expect(&rt, "gauges");
     }
-    let most = caught(&rt, alloc, &gap, &many, 1, 1).expect(&rt, "as many gauges as may be");
+    let most = find_catchments(&rt, alloc, &gap, &many, 1, 1).expect(
+        &rt,
+        "as many gauges as may be",
+    );
     assert!(rt; most.len() == 2);
     many.push(place(1, 0)).expect(&rt, "gauges");
-    let too_many = caught(&rt, alloc, &gap, &many, 1, 65);
+    let too_many = find_catchments(&rt, alloc, &gap, &many, 1, 65);
     assert!(rt; matches!(too_many, Err(GaugeFault::TooManyGauges)));
 }

@@ -1,4 +1,4 @@
-//! Small grids, and how they are cut.
+//! Builds, cuts and compares small grids for the other tests.
 ghost use Rattle.tiles.specs.Cutting.{Cuts};
 
 use ascii_grid::read_text;
@@ -7,10 +7,10 @@ use std::process::Abort;
 use terrain::{Cell, Grid, Height};
 use tiles::Tiling;
 
-/// A pit along the diagonal of 4 by 4 cells, which spills at the height of the last cell.
+/// Pits along the diagonal of 4 by 4 cells, which spill at the last one's height.
 pub(crate) const PITS: &str = "9 9 9 9\n9 1 9 9\n9 9 2 9\n9 9 9 3";
 
-/// A grid of whole heights, -9999 where there is no data.
+/// Returns a grid of these whole heights; -9999 is NODATA.
 pub(crate) fn land(rt: &impl Abort, alloc: Global, cols: u32, rows: u32, heights: &str) -> Grid {
     let text = format!(in alloc;
         "ncols {cols}\nnrows {rows}\nxllcorner 0\nyllcorner 0\ncellsize 1\n{heights}\n"
@@ -19,14 +19,14 @@ pub(crate) fn land(rt: &impl Abort, alloc: Global, cols: u32, rows: u32, heights
     read_text(alloc, 0, text.as_bytes()).expect(rt, "a grid")
 }
 
-/// The grid in tiles of this side.
+/// Cuts the grid into tiles of this side.
 pub(crate) fn cut(rt: &impl Abort, grid: &Grid, side: u32) -> Tiling
     ensures { Cuts result grid.now.terrain }
 {
     Tiling::new(grid.cols(), grid.rows(), side).expect(rt, "a tiling")
 }
 
-/// The heights of these cells.
+/// Returns the heights of cells.
 pub(crate) fn heights_of(rt: &impl Abort, alloc: Global, cells: &[Cell]) -> Vec<Option<Height>> {
     let mut heights = Vec::new(alloc);
     for cell in cells {
@@ -35,7 +35,7 @@ pub(crate) fn heights_of(rt: &impl Abort, alloc: Global, cells: &[Cell]) -> Vec<
     heights
 }
 
-/// These are the whole heights, -9999 where there is no data.
+/// Asserts that the heights are these whole numbers; -9999 is NODATA.
 pub(crate) fn expect_heights(
     rt: &impl Abort,
     alloc: Global,
@@ -48,7 +48,7 @@ pub(crate) fn expect_heights(
     assert_eq!(rt; found, heights_of(rt, alloc, wanted.cells()).as_slice());
 }
 
-/// The cells have these whole heights, -9999 where there is no data.
+/// Asserts that cells have these whole heights; -9999 is NODATA.
 pub(crate) fn expect_cells(
     rt: &impl Abort,
     alloc: Global,

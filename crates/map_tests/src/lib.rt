@@ -1,21 +1,21 @@
-//! Tests of the maps, over their public calls.
+//! Tests the maps, over their public calls.
 //!
 //! Modules:
 //!
-//! - `streams`: small terrains
-//! - `maps`: all maps of a terrain
-//! - `stages`: the calls without a gate
-//! - `ground`: small grids
-//! - `nodes`: floods of four nodes
-//! - `filling`: floods of tiles
-//! - `lowering`: against plain lowering
-//! - `flats`: one round of steps
-//! - `draining`: the rule at one cell
-//! - `flows`: flow in tiles
+//! - `streams`: all drainage maps of small terrains
+//! - `maps`: compares all maps of a terrain with expected ones
+//! - `stages`: filling and directions, without a gate
+//! - `ground`: builds, cuts and compares small grids
+//! - `nodes`: floods of a net of four nodes
+//! - `filling`: floods of tiles and their spill graph
+//! - `lowering`: filled heights against plain lowering
+//! - `flats`: the steps of flats after one round over a tile
+//! - `draining`: the direction of one cell, and refused workers
+//! - `flows`: flow in tiles and over their rims
 //! - `gauges`: catchments of gauges
-//! - `seeing`: sight
-//! - `pits`: refused memory
-//! - `refused`: calls made again
+//! - `seeing`: lines of sight and viewsheds
+//! - `pits`: calls that were refused memory
+//! - `refused`: repeats a call that was refused memory
 #![tactic(auto)]
 
 #[cfg(test)]

@@ -1,4 +1,4 @@
-//! Filled heights of rough ground, against plain lowering cell by cell.
+//! Compares filled heights of rough ground with plain lowering, cell by cell.
 use crate::ground::heights_of;
 use ascii_grid::read_text;
 use fill::filled_heights;
@@ -7,7 +7,7 @@ use std::process::Abort;
 use std::test::Fail;
 use terrain::{HIGHEST, Height};
 
-/// Numbers that look random and are the same at every run.
+/// Pseudorandom numbers, the same in every run.
 #[derive(Drop)]
 struct Numbers {
     state: u32,
@@ -25,7 +25,7 @@ impl Numbers {
 
 const NEAR: [&str; 8] = [" 0", " 0", " 1", " 1", " 2", " 2", " 3", " 3"];
 
-/// Farther apart than the lists of so few cells, which have four levels.
+/// Heights that are far apart, up to the limits of a height.
 const FAR: [&str; 8] = [
     " -1000000000000000",
     " -70",
@@ -37,7 +37,7 @@ const FAR: [&str; 8] = [
     " 1000000000000000",
 ];
 
-/// One cell in some thirty is a gap, and the others stand at one of the heights.
+/// Returns one of the heights as a word, or NODATA for one number in 31.
 fn cell_word(number: u32, heights: &[&'static str; 8]) -> &'static str {
     if number % 31 == 30 {
         return " -9999";
@@ -61,7 +61,7 @@ fn grid_text(
     Ok(text)
 }
 
-/// Where a row and a column stand in row order. They count from 1, with 0 and one more as the border.
+/// Returns the index of a cell in row order; rows and columns count from 1.
 fn index_of(cols: u8, row: u8, col: u8) -> Option<usize> {
     if row == 0 || col == 0 || col > cols {
         return None;
@@ -74,7 +74,7 @@ fn level_at(levels: &[Option<Height>], cols: u8, row: u8, col: u8) -> Option<Hei
     *levels.get(index)?
 }
 
-/// The lowest of the nine levels at a cell and around it, `None` at an edge cell and at a gap.
+/// Returns the least level at and around a cell; `None` at edge cells and NODATA.
 fn lowest_of_nine(levels: &[Option<Height>], cols: u8, row: u8, col: u8) -> Option<Height> {
     let mut lowest = HIGHEST;
     for near_row in row.saturating_sub(1)..=row.saturating_add(1) {
@@ -85,7 +85,7 @@ fn lowest_of_nine(levels: &[Option<Height>], cols: u8, row: u8, col: u8) -> Opti
     Some(lowest)
 }
 
-/// Lowers each level that is no edge cell's to the greater of its height and the lowest near it.
+/// Lowers each inner level to its height or, if that is lower, the least nearby.
 fn sweep(heights: &[Option<Height>], levels: &mut [Option<Height>], cols: u8, rows: u8) {
     for row in 1..=rows {
         for col in 1..=cols {
@@ -103,8 +103,8 @@ fn sweep(heights: &[Option<Height>], levels: &mut [Option<Height>], cols: u8, ro
     }
 }
 
-/// Filled heights by lowering: the levels begin at the heights of edge cells and at the greatest height
-/// elsewhere, and sink in as many sweeps as there are cells.
+/// Returns filled heights by lowering, in as many sweeps as there are cells.
+/// Levels begin at the heights of edge cells, and elsewhere at the greatest height.
 fn lowered(
     alloc: Global,
     heights: &[Option<Height>],
@@ -125,25 +125,40 @@ fn lowered(
     Ok(levels)
 }
 
-/// Compares grids of these heights with their lowering, and counts those with a pit.
+/// Compares one grid with lowering, and returns whether it has a pit.
+fn compare_one<R: Abort>(
+    rt: &R,
+    alloc: Global,
+    numbers: &mut Numbers,
+    heights: &[&'static str; 8],
+    cols: u8,
+    rows: u8,
+) -> Result<bool, Fail> {
+    let text = grid_text(alloc, numbers, heights, cols, rows)?;
+    let grid = read_text(alloc, 0, text.as_bytes())?;
+    let ground = heights_of(rt, alloc, grid.cells());
+    let wanted = lowered(alloc, &ground, cols, rows)?;
+    let levels = filled_heights(alloc, &grid)?;
+    assert_eq!(rt; levels.as_slice(), wanted.as_slice(), "{text}");
+    Ok(levels.as_slice() != ground.as_slice())
+}
+
+/// Compares grids of these heights with lowering, and counts those with a pit.
+/// Grids of up to 6 by 6 cells are flooded by a heap alone, the large one by lists of levels too.
 fn compare<R: Abort>(rt: &R, alloc: Global, heights: &[&'static str; 8]) -> Result<u32, Fail> {
     let mut numbers = Numbers { state: 1 };
     let mut raised = 0u32;
     for rows in 1..=6u8 {
         for cols in 1..=6u8 {
             for _ in 0..16 {
-                let text = grid_text(alloc, &mut numbers, heights, cols, rows)?;
-                let grid = read_text(alloc, 0, text.as_bytes())?;
-                let ground = heights_of(rt, alloc, grid.cells());
-                let wanted = lowered(alloc, &ground, cols, rows)?;
-                let levels = filled_heights(alloc, &grid)?;
-                assert_eq!(rt; levels.as_slice(), wanted.as_slice(), "{text}");
-                if levels.as_slice() != ground.as_slice() {
+                if compare_one(rt, alloc, &mut numbers, heights, cols, rows)? {
                     raised = raised.saturating_add(1);
                 }
             }
         }
     }
+    let large = compare_one(rt, alloc, &mut numbers, heights, 18, 16)?;
+    assert!(rt; large, "the large grid has a pit");
     Ok(raised)
 }
 

@@ -1,6 +1,6 @@
-//! Compares all maps of a terrain with what is wanted, by tiles and workers.
+//! Compares all drainage maps of a terrain with expected ones, for many tilings and workers.
 use crate::ground::{cut, expect_cells, expect_heights, land};
-use crate::stages::{directed, leveled};
+use crate::stages::{directions_of, filled_grid};
 use drain::Code;
 use fill::filled_heights;
 use flow::{accumulation, basins};
@@ -24,7 +24,7 @@ const CUTS: [(u32, u32); 9] = [
     (7, 2),
 ];
 
-/// A terrain and its maps, row by row, -9999 where there is no data.
+/// A terrain and its expected maps, row by row; -9999 is NODATA.
 #[derive(Drop)]
 pub(crate) struct Maps {
     pub(crate) cols: u32,
@@ -36,7 +36,7 @@ pub(crate) struct Maps {
     pub(crate) basins: &'static str,
 }
 
-/// Whether the values are those of a grid.
+/// Returns whether the values are those of a grid.
 pub(crate) fn agree(values: &[Option<u32>], wanted: &Grid) -> bool {
     let cells = wanted.cells();
     values.len() == cells.len()
@@ -55,13 +55,13 @@ fn numbers(alloc: Global, codes: &[Option<Code>]) -> Result<Vec<Option<u32>>, No
     Ok(numbers)
 }
 
-/// The values of counts.
+/// Returns the values of counts.
 pub(crate) fn told(alloc: Global, counts: &[Count]) -> Result<Vec<Option<u32>>, AllocError> {
     counts.iter().map(|count| count.value()).collect(alloc)
 }
 
 impl Maps {
-    /// These are the maps, however the terrain is cut and whoever does the work.
+    /// Asserts the maps for many tile sides and numbers of workers.
     pub(crate) fn expect<R: Abort + Threads + Wait + Sync>(&self, rt: &R, alloc: Global) {
         let land = land(rt, alloc, self.cols, self.rows, self.heights);
         let levels = filled_heights(alloc, &land).expect(rt, "filled heights");
@@ -71,7 +71,7 @@ impl Maps {
         }
     }
 
-    /// These are the maps where the land is cut into tiles of this side.
+    /// Asserts the maps for one tile side and number of workers.
     pub(crate) fn expect_cut<R: Abort + Threads + Wait + Sync>(
         &self,
         rt: &R,
@@ -81,7 +81,7 @@ impl Maps {
         workers: u32,
     ) {
         let tiling = cut(rt, land, side);
-        let level = leveled(rt, alloc, land, &tiling, workers).expect(rt, "levels");
+        let level = filled_grid(rt, alloc, land, &tiling, workers).expect(rt, "levels");
         expect_cells(
             rt,
             alloc,
@@ -90,7 +90,7 @@ impl Maps {
             self.rows,
             self.filled,
         );
-        let ways = directed(rt, alloc, &level, &tiling, workers).expect(rt, "ways");
+        let ways = directions_of(rt, alloc, &level, &tiling, workers).expect(rt, "ways");
         let codes = numbers(alloc, ways.codes()).expect(rt, "codes");
         let counts = accumulation(rt, alloc, &ways, &tiling, workers, &NoGate).expect(rt, "counts");
         let counts = told(alloc, &counts).expect(rt, "counts told");
@@ -104,7 +104,7 @@ impl Maps {
         assert_eq!(rt; agreed, [true; 3], "side {side}, {workers} workers");
     }
 
-    /// Whether the values are these numbers of a map.
+    /// Returns whether the values are the numbers of a map.
     fn agrees(
         &self,
         rt: &impl Abort,

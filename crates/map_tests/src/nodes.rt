@@ -1,6 +1,6 @@
-//! Floods of four nodes.
+//! Floods a net of four nodes: levels and labels.
 //!
-//! 0 and 1 are joined at 5, 1 and 2 at 3, 0 and 2 at 7; 3 is alone.
+//! Nodes 0 and 1 are joined at 5, 1 and 2 at 3, 0 and 2 at 7. Node 3 has no neighbour.
 ghost use Rattle.std.specs.Prelude.{◌≡◌, ◌∷◌, []};
 
 use fill::{Flooded, Net, Spill, flood};
@@ -30,7 +30,11 @@ impl Net for FourNodes {
 
     ghost node_count = { λ _. 4 };
 
-    ghost joins = { λ _ a b h. (a < 4) × (b < 4) × ((((a ≡ 0) × (b ≡ 1) × (h ≡ pos 5)) ⊎ ((a ≡ 1) × (b ≡ 2) × (h ≡ pos 3)) ⊎ ((a ≡ 0) × (b ≡ 2) × (h ≡ pos 7))) ⊎ (((b ≡ 0) × (a ≡ 1) × (h ≡ pos 5)) ⊎ ((b ≡ 1) × (a ≡ 2) × (h ≡ pos 3)) ⊎ ((b ≡ 0) × (a ≡ 2) × (h ≡ pos 7)))) };
+    ghost joins = { λ _ a b h. (a < 4) × (b < 4)
+        × ((((a ≡ 0) × (b ≡ 1) × (h ≡ pos 5)) ⊎ ((a ≡ 1) × (b ≡ 2) × (h ≡ pos 3))
+        ⊎ ((a ≡ 0) × (b ≡ 2) × (h ≡ pos 7)))
+        ⊎ (((b ≡ 0) × (a ≡ 1) × (h ≡ pos 5)) ⊎ ((b ≡ 1) × (a ≡ 2) × (h ≡ pos 3))
+        ⊎ ((b ≡ 0) × (a ≡ 2) × (h ≡ pos 7)))) };
 
     ghost source_height = { λ n a. slice_index_or n.sources a None };
 
@@ -68,7 +72,7 @@ impl Net for FourNodes {
     }
 }
 
-/// The nodes have these labels, and the levels that they have in each test.
+/// Asserts the labels of the nodes, and their levels, which all tests share.
 fn expect_labels(rt: &impl Abort, flooded: &Flooded, labels: &[Option<u32>]) {
     let levels = [Some(5), Some(3), Some(2), None];
     assert_eq!(rt; flooded.level.as_slice(), levels.as_slice());
@@ -89,7 +93,7 @@ fn four_nodes(rt: HostRuntime) -> Result<(), Fail> {
     Ok(())
 }
 
-/// With ample memory the levels, and with `--fail-alloc` those or a told refusal.
+/// With `--fail-alloc` the flood returns a fault, or the right levels and labels.
 #[test]
 fn refused_memory_is_told(rt: HostRuntime) {
     let sources = [None, None, Some(2), None];

@@ -1,4 +1,4 @@
-//! Calls that take memory, refused it and made again, on a grid of pits.
+//! Calls that allocate, on a grid of pits. A call that is refused memory is repeated.
 ghost use Rattle.std.specs.Prelude.{◌≡◌, ◌<◌, ◌*◌, length};
 ghost use Rattle.fill.specs.Spills.{AreFloods};
 
@@ -6,7 +6,7 @@ use crate::filling::{floods_of, label_levels};
 use crate::flows::{expect_links, flow_of, flows_of};
 use crate::ground::{PITS, cut, expect_heights, land};
 use crate::refused::again;
-use crate::stages::{directed, leveled};
+use crate::stages::{directions_of, filled_grid};
 use fill::{CellNet, TileFlood, flood, raise, tile_flood};
 use std::alloc::Global;
 use std::process::Abort;
@@ -17,7 +17,7 @@ const C: Option<Height> = Some(3);
 
 const H: Option<Height> = Some(9);
 
-/// The pits, filled, with no data around them as in a net.
+/// The filled pits, with NODATA around them as in a net of cells.
 const FILLED_IN_NET: &str = "-9999 -9999 -9999 -9999 -9999 -9999\n\
     -9999 9 9 9 9 -9999\n\
     -9999 9 3 9 9 -9999\n\
@@ -60,7 +60,7 @@ fn flood_of_the_grid(rt: HostRuntime) {
     assert_eq!(rt; flooded.label.get(14), Some(&Some(28)));
 }
 
-/// The filled heights of the first tile.
+/// Returns the filled heights of the first tile.
 fn raise_first(
     alloc: Global,
     grid: &Grid,
@@ -113,8 +113,8 @@ fn flows_of_tiles_and_their_links(rt: HostRuntime) {
     let alloc = rt.alloc();
     let pits = pits(&rt, alloc);
     let tiling = cut(&rt, &pits, 2);
-    let level = leveled(&rt, alloc, &pits, &tiling, 1).expect(&rt, "filled heights");
-    let ways = directed(&rt, alloc, &level, &tiling, 1).expect(&rt, "directions");
+    let level = filled_grid(&rt, alloc, &pits, &tiling, 1).expect(&rt, "filled heights");
+    let ways = directions_of(&rt, alloc, &level, &tiling, 1).expect(&rt, "directions");
     let flows = flows_of(alloc, &tiling, &ways).expect(&rt, "flows");
     assert_eq!(rt; (flows.len(), tiling.tiles()), (4, 4));
     let first = again!(&rt, flow_of(alloc, &tiling, &ways, 0));

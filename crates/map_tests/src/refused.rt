@@ -1,6 +1,6 @@
-//! Makes a call again where it was refused memory.
+//! Repeats a call that was refused memory.
 
-/// What a call answers, or where it was refused memory what it answers the second time.
+/// Gives the result of a call, or of its repetition if memory was refused.
 macro_rules! again {
     ($rt:expr, $call:expr) => {
         match $call {

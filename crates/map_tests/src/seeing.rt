@@ -1,4 +1,4 @@
-//! Lines of sight and viewsheds, against the plain rule.
+//! Lines of sight and viewsheds: small cases, refusals, and viewsheds against `sees`.
 ghost use Rattle.std.specs.Prelude.{◌≡◌};
 
 use crate::ground::{cut, land};
@@ -24,8 +24,8 @@ fn observer(row: u32, col: u32, eye: u32) -> Observer
     Observer { row, col, eye }
 }
 
-/// Each value below 10 as its digit and no data as a point, the rows parted by a space.
-fn drawn(alloc: Global, values: &[Count], cols: u32) -> Result<String, AllocError> {
+/// Writes values below 10 as digits and NODATA as a point, a space between rows.
+fn draw_values(alloc: Global, values: &[Count], cols: u32) -> Result<String, AllocError> {
     let mut text = String::new(alloc);
     let mut in_row = 0;
     for value in values {
@@ -43,7 +43,7 @@ fn drawn(alloc: Global, values: &[Count], cols: u32) -> Result<String, AllocErro
     Ok(text)
 }
 
-/// The viewshed of the land has these values, however it is cut and whoever does the work.
+/// Asserts the viewshed of the land, for several tile sides and numbers of workers.
 fn expect_values<R: Abort + Threads + Wait + Sync>(
     rt: &R,
     alloc: Global,
@@ -67,12 +67,12 @@ fn expect_values<R: Abort + Threads + Wait + Sync>(
             &NoGate,
         );
         let values = seen.expect(rt, "a viewshed");
-        let text = drawn(alloc, values.as_slice(), land.cols()).expect(rt, "a text");
+        let text = draw_values(alloc, values.as_slice(), land.cols()).expect(rt, "a text");
         assert_eq!(rt; text.as_str(), expected, "side {side}, {workers} workers");
     }
 }
 
-/// The viewshed at the farthest radius has these values.
+/// Asserts the viewshed of the land at the greatest radius.
 fn expect_far<R: Abort + Threads + Wait + Sync>(
     rt: &R,
     alloc: Global,
@@ -179,7 +179,7 @@ const HEIGHTS: &str = "-5 -8 -9999 2 7 -7 -7 8 -2\n\
     3 2 -9999 -4 6 -9999 -5 0 6\n\
     5 5 4 -1 2 3 -5 -5 -2";
 
-/// The values are those of a separate program that follows the rule with signed quotients.
+/// The values come from a separate program, which uses signed quotients.
 #[test]
 fn rough_land(rt: HostRuntime) {
     let rough = land(&rt, rt.alloc(), 9, 7, HEIGHTS);
@@ -199,7 +199,7 @@ const ROUGH_COLS: u32 = 53;
 
 const ROUGH_ROWS: u32 = 37;
 
-/// Heights from 0 to 39 in some order that the seed gives, one cell in 23 without data.
+/// Returns pseudorandom heights from 0 to 39; one cell in 23 is NODATA.
 fn rough_heights(rt: &impl Abort, alloc: Global, seed: u32) -> String {
     let mut text = String::new(alloc);
     let mut state = seed;
@@ -217,7 +217,7 @@ fn rough_heights(rt: &impl Abort, alloc: Global, seed: u32) -> String {
     text
 }
 
-/// Appends what `sees` says of a row.
+/// Appends the results of `sees` for a row of cells.
 fn push_plain_row(
     rt: &impl Abort,
     land: &Grid,
@@ -242,7 +242,7 @@ fn push_plain_row(
     }
 }
 
-/// The viewshed of one observer is what `sees` says of each cell.
+/// Asserts that one observer's viewshed has the result of `sees` at each cell.
 fn expect_plain<R: Abort + Threads + Wait + Sync>(
     rt: &R,
     alloc: Global,
@@ -334,7 +334,7 @@ fn refused_observers(rt: HostRuntime) {
     assert_eq!(rt; told, Some(SightFault::OnNodata(0)));
 }
 
-/// A target height above the limit is the fault, however many observers there are.
+/// A target height above the limit is refused for any number of observers.
 #[test]
 fn target_too_high_for_any_number(rt: HostRuntime) {
     let bowl = land(&rt, rt.alloc(), 3, 3, "9 9 9\n9 1 9\n9 9 9");

@@ -1,4 +1,4 @@
-//! The calls that drain a grid, without a gate.
+//! Fills a grid and finds its directions, without a gate.
 ghost use Rattle.std.specs.Prelude.{IfOk};
 ghost use Rattle.drainage.specs.Drained.{AllFlowEnds, directed_of};
 ghost use Rattle.tiles.specs.Cutting.{Cuts};
@@ -12,8 +12,8 @@ use terrain::Grid;
 use tile_jobs::{JobFault, NoGate};
 use tiles::Tiling;
 
-/// The filled grid, without a gate.
-pub(crate) fn leveled<R: Threads + Wait + Sync>(
+/// Fills a grid, without a gate.
+pub(crate) fn filled_grid<R: Threads + Wait + Sync>(
     rt: &R,
     alloc: Global,
     grid: &Grid,
@@ -26,8 +26,8 @@ pub(crate) fn leveled<R: Threads + Wait + Sync>(
     filled(rt, alloc, grid, tiling, workers, &NoGate)
 }
 
-/// The directions of a filled grid.
-pub(crate) fn directed<R: Threads + Wait + Sync>(
+/// Finds the directions of a filled grid, without a gate.
+pub(crate) fn directions_of<R: Threads + Wait + Sync>(
     rt: &R,
     alloc: Global,
     level: &Filled,

@@ -1,6 +1,6 @@
 //! Filled heights, codes, accumulations and basins of small terrains.
 //!
-//! Those that no worked example has are those of a separate program that follows the definitions.
+//! Values come from worked examples, or from a separate program that follows the definitions.
 use crate::ground::land;
 use crate::maps::Maps;
 
@@ -32,7 +32,7 @@ fn spills_over_the_least_crest(rt: HostRuntime) {
     maps.expect(&rt, rt.alloc());
 }
 
-/// The corners of tiles of side 1 and 2 lie in the valley.
+/// The valley passes through corners of the tiles of side 1 and 2.
 #[test]
 fn valley_across_tiles(rt: HostRuntime) {
     let maps = Maps {
@@ -78,7 +78,7 @@ fn hole_without_data(rt: HostRuntime) {
     maps.expect(&rt, rt.alloc());
 }
 
-/// East of the middle the south east is lower: by more, and by enough more for the longer way.
+/// A drop of 5 east beats 7 south-east; a drop of 10 south-east beats 7 east.
 #[test]
 fn sides_against_corners(rt: HostRuntime) {
     let side = "20 20 20\n20 20 15\n20 20 13";
@@ -120,7 +120,7 @@ fn slope(rt: HostRuntime) {
     maps.expect(&rt, rt.alloc());
 }
 
-/// In tiles of side 3, 4 and 7 it leaves the first by the first row, and comes back by the last.
+/// With tiles of side 3, 4 or 7, it leaves the first tile and returns in row 2.
 #[test]
 fn river_that_comes_back(rt: HostRuntime) {
     let river = "24 23 22 21 20 19 18 17\n30 30 30 30 30 30 30 16\n8 9 10 11 12 13 14 15";
@@ -152,7 +152,7 @@ fn greatest_drops(rt: HostRuntime) {
     maps.expect(&rt, rt.alloc());
 }
 
-/// Of two drops, one along a row and one across a diagonal, the squares differ by a fiftieth.
+/// The weights of a drop along a row and one across a diagonal are as 98 to 100.
 #[test]
 fn great_drops_compared(rt: HostRuntime) {
     let slope =
@@ -183,8 +183,8 @@ fn level_ground(rt: HostRuntime) {
     maps.expect(&rt, rt.alloc());
 }
 
-/// More outlets than a run of codes has, and then a river to the end of the first row, a ridge and a
-/// row in pairs, the second of which is an outlet: no outlet is among the first codes.
+/// First, more outlets than a block has codes. Then no outlet in the first block:
+/// a river along row 0 to its end, a ridge, and pairs of cells whose second is an outlet.
 #[test]
 fn outlets_of_several_runs(rt: HostRuntime) {
     let fives =

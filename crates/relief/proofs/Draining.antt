@@ -1,4 +1,4 @@
--- A grid that was read, given its sinks.
+-- Faults of tiles, sinks and gauges, and that added sinks change none of them.
 use Rattle.std.proofs.Common.{◌≡◌, ℕ, ◌<◌, ◌≤◌, true, false, eqb, length, List, [], ◌∷◌, Option, None, Some, Err, sym, ap, subst, refl, ◌∙◌}
 use Rattle.std.specs.Option.{option_map, option_or}
 use Rattle.std.proofs.lemmas.Bool.{le-ltb, lt-ltb, cond-false, cond-true}
@@ -9,60 +9,57 @@ use Rattle.terrain.specs.declared.sinks.SinkFault.{SinkFault}
 use Rattle.ascii_grid.specs.GridText.{IsGridText}
 use Rattle.tiles.specs.Cutting.{most_tiles}
 use Rattle.tiles.specs.declared.tiling.TilingFault.TheVariants.{TooManyTiles}
-use Rattle.request.specs.Wish.{IsView, Wish}
+use Rattle.request.specs.Request.{IsView, Request}
 use Rattle.request.specs.declared.map.Map.{Map}
 use Rattle.request.specs.declared.map.Map.TheVariants.{Fill, Flow, Accumulate, Basins, Catchments, View}
 use Rattle.flow.specs.declared.gauges.GaugeFault.{GaugeFault}
 use Rattle.relief.specs.declared.fault.RunFault.{RunFault}
 use Rattle.relief.specs.declared.fault.RunFault.TheVariants.{Tiling, Sight, Sinks, Gauges}
 use Rattle.relief.specs.Faults.{of_sinks}
-use Rattle.relief.specs.MadeMap.{drained_into}
+use Rattle.relief.specs.MadeMap.{grid_with_sinks}
 use Rattle.relief.specs.MapText.{IsMapOfText, IsMapText}
-use Rattle.relief.specs.Refusals.{tiles_of, gauge_fault, observer_fault, named_place_fault, wish_fault, IsWorkRefusal}
+use Rattle.relief.specs.Refusals.{tiles_of, gauge_fault, observer_fault, named_place_fault, request_fault, IsWorkRefusal}
 use Rattle.relief.proofs.Viewing.{forbidden}
 
--- a read grid has no sinks but those that it is given
-drained_text : (scale : ℕ) (text : List ℕ) (g : Raster) (sinks : List Place) → IsGridText scale text g → drained_into sinks g ≡ raster_with_sinks g sinks
+-- a grid that was read has no sinks before they are added
+drained_text : (scale : ℕ) (text : List ℕ) (g : Raster) (sinks : List Place) → IsGridText scale text g → grid_with_sinks sinks g ≡ raster_with_sinks g sinks
 drained_text scale text g [] is = ap (λ (named : List Place). record g { terrain = record g.terrain { sinks = named } }) (ap (λ (r : Raster). r.terrain.sinks) is.grid)
 drained_text scale text g (p ∷ rest) is = refl
 
-pub drained_some : (g : Raster) (sinks : List Place) → eqb (length sinks) 0 ≡ false → raster_with_sinks g sinks ≡ drained_into sinks g
+pub drained_some : (g : Raster) (sinks : List Place) → eqb (length sinks) 0 ≡ false → raster_with_sinks g sinks ≡ grid_with_sinks sinks g
 drained_some g [] some = absurd (cc)
 drained_some g (p ∷ rest) some = refl
 
-pub map_of_text : (w : Wish) (text map : List ℕ) (g : Raster) → IsGridText w.scale text g → IsMapText (drained_into w.sinks g) w.map map → IsMapOfText w.scale w.map w.sinks text map
+pub map_of_text : (w : Request) (text map : List ℕ) (g : Raster) → IsGridText w.scale text g → IsMapText (grid_with_sinks w.sinks g) w.map map → IsMapOfText w.scale w.map w.sinks text map
 map_of_text w text map g is made = (g, is, subst (λ (r : Raster). IsMapText r w.map map) (drained_text w.scale text g w.sinks is) made)
 
--- sinks change no fault
-pub fault_without : (w : Wish) (g : Raster) (sinks : List Place) → wish_fault w (drained_into sinks g) ≡ wish_fault w g
+-- added sinks change no fault
+pub fault_without : (w : Request) (g : Raster) (sinks : List Place) → request_fault w (grid_with_sinks sinks g) ≡ request_fault w g
 fault_without w g [] = refl
 fault_without w g (p ∷ rest) = refl
 
-pub refusal_without : (w : Wish) (g : Raster) (f : RunFault) (sinks : List Place) → IsWorkRefusal w (drained_into sinks g) f → IsWorkRefusal w g f
+pub refusal_without : (w : Request) (g : Raster) (f : RunFault) (sinks : List Place) → IsWorkRefusal w (grid_with_sinks sinks g) f → IsWorkRefusal w g f
 refusal_without w g f [] h = h
 refusal_without w g f (p ∷ rest) h = h
 
-pub wish_of_many : (w : Wish) (g : Raster) → most_tiles < tiles_of g w.tile → wish_fault w g ≡ Some (Tiling TooManyTiles)
-wish_of_many w g many = cond-true _ _ _ (lt-ltb _ _ many)
+pub request_of_many : (w : Request) (g : Raster) → most_tiles < tiles_of g w.tile → request_fault w g ≡ Some (Tiling TooManyTiles)
+request_of_many w g many = cond-true _ _ _ (lt-ltb _ _ many)
 
--- with few tiles and sound places only the observers can forbid
-pub wish_of_few : (w : Wish) (g : Raster) → tiles_of g w.tile ≤ most_tiles → wish_fault w g ≡ option_or (named_place_fault w g) (option_map Sight (observer_fault g w.map))
-wish_of_few w g few = cond-false _ _ _ (le-ltb _ _ few)
+pub request_of_few : (w : Request) (g : Raster) → tiles_of g w.tile ≤ most_tiles → request_fault w g ≡ option_or (named_place_fault w g) (option_map Sight (observer_fault g w.map))
+request_of_few w g few = cond-false _ _ _ (le-ltb _ _ few)
 
-pub wish_of_sound : (w : Wish) (g : Raster) → tiles_of g w.tile ≤ most_tiles → named_place_fault w g ≡ None → wish_fault w g ≡ option_map Sight (observer_fault g w.map)
-wish_of_sound w g few sound = wish_of_few w g few ∙ ap (λ o. option_or o (option_map Sight (observer_fault g w.map))) sound
+pub request_of_sound : (w : Request) (g : Raster) → tiles_of g w.tile ≤ most_tiles → named_place_fault w g ≡ None → request_fault w g ≡ option_map Sight (observer_fault g w.map)
+request_of_sound w g few sound = request_of_few w g few ∙ ap (λ o. option_or o (option_map Sight (observer_fault g w.map))) sound
 
--- places at fault forbid
-pub place_refused : (w : Wish) (g : Raster) (f : RunFault) → tiles_of g w.tile ≤ most_tiles → named_place_fault w g ≡ Some f → IsWorkRefusal w g f
+pub place_refused : (w : Request) (g : Raster) (f : RunFault) → tiles_of g w.tile ≤ most_tiles → named_place_fault w g ≡ Some f → IsWorkRefusal w g f
 place_refused w g f few at_fault =
-    forbidden w g f (wish_of_few w g few ∙ ap (λ o. option_or o (option_map Sight (observer_fault g w.map))) at_fault)
+    forbidden w g f (request_of_few w g few ∙ ap (λ o. option_or o (option_map Sight (observer_fault g w.map))) at_fault)
 
--- places without a fault are sinks and gauges without one
 no_sinks : (a : Option SinkFault) (b : Option RunFault) → option_or (option_map Sinks a) b ≡ None → a ≡ None
 no_sinks None b e = refl
 no_sinks (Some f) b e = absurd (cc)
 
-pub sound_sinks : (w : Wish) (g : Raster) → named_place_fault w g ≡ None → sinks_fault g.terrain w.sinks ≡ None
+pub sound_sinks : (w : Request) (g : Raster) → named_place_fault w g ≡ None → sinks_fault g.terrain w.sinks ≡ None
 sound_sinks w g sound = no_sinks (sinks_fault g.terrain w.sinks) (option_map Gauges (gauge_fault g w.map)) sound
 
 no_gauges : (a : Option SinkFault) (b : Option GaugeFault) → option_or (option_map Sinks a) (option_map Gauges b) ≡ None → b ≡ None
@@ -70,17 +67,15 @@ no_gauges None None e = refl
 no_gauges None (Some f) e = absurd (cc)
 no_gauges (Some f) b e = absurd (cc)
 
-pub sound_gauges : (w : Wish) (g : Raster) → named_place_fault w g ≡ None → gauge_fault g w.map ≡ None
+pub sound_gauges : (w : Request) (g : Raster) → named_place_fault w g ≡ None → gauge_fault g w.map ≡ None
 sound_gauges w g sound = no_gauges (sinks_fault g.terrain w.sinks) (gauge_fault g w.map) sound
 
--- the fault of places is that of the sinks, and where they have none that of the gauges
-pub fault_of_sinks : (w : Wish) (g : Raster) (f : SinkFault) → sinks_fault g.terrain w.sinks ≡ Some f → named_place_fault w g ≡ Some (Sinks f)
+pub fault_of_sinks : (w : Request) (g : Raster) (f : SinkFault) → sinks_fault g.terrain w.sinks ≡ Some f → named_place_fault w g ≡ Some (Sinks f)
 fault_of_sinks w g f e = ap (λ o. option_or (option_map Sinks o) (option_map Gauges (gauge_fault g w.map))) e
 
-pub fault_of_gauges : (w : Wish) (g : Raster) → sinks_fault g.terrain w.sinks ≡ None → named_place_fault w g ≡ option_map Gauges (gauge_fault g w.map)
+pub fault_of_gauges : (w : Request) (g : Raster) → sinks_fault g.terrain w.sinks ≡ None → named_place_fault w g ≡ option_map Gauges (gauge_fault g w.map)
 fault_of_gauges w g e = ap (λ o. option_or (option_map Sinks o) (option_map Gauges (gauge_fault g w.map))) e
 
--- only a viewshed has observers
 unseen : (g : Raster) (m : Map) → ¬ IsView m → observer_fault g m ≡ None
 unseen g Fill drains = refl
 unseen g Flow drains = refl
@@ -89,9 +84,9 @@ unseen g Basins drains = refl
 unseen g (Catchments gauges) drains = refl
 unseen g (View observers target radius) drains = absurd (drains tt)
 
--- sound sinks are refused for want of memory alone, which is a refusal of the work
-pub sinks_refused : {T : Type 0} (w : Wish) (g : Raster) (f : SinkFault) → (IsView w.map → w.sinks ≡ []) → eqb (length w.sinks) 0 ≡ false → tiles_of g w.tile ≤ most_tiles → named_place_fault w g ≡ None → RefusesSinks {T = T} (sinks_fault g.terrain w.sinks) (Err f) → IsWorkRefusal w g (of_sinks f)
+-- sound sinks are refused only for want of memory, which is a work refusal
+pub sinks_refused : {T : Type 0} (w : Request) (g : Raster) (f : SinkFault) → (IsView w.map → w.sinks ≡ []) → eqb (length w.sinks) 0 ≡ false → tiles_of g w.tile ≤ most_tiles → named_place_fault w g ≡ None → RefusesSinks {T = T} (sinks_fault g.terrain w.sinks) (Err f) → IsWorkRefusal w g (of_sinks f)
 sinks_refused w g f none some few sound h =
     let drains : ¬ IsView w.map = λ view. (let empty : eqb (length w.sinks) 0 ≡ true = ap (λ (ps : List Place). eqb (length ps) 0) (none view) in cc) in
     subst (λ (k : SinkFault). IsWorkRefusal w g (of_sinks k)) (sym (h.memory (sound_sinks w g sound) f refl))
-    (wish_of_sound w g few sound ∙ ap (λ o. option_map Sight o) (unseen g w.map drains))
+    (request_of_sound w g few sound ∙ ap (λ o. option_map Sight o) (unseen g w.map drains))

@@ -1,4 +1,4 @@
--- A text has one map.
+-- A grid text has one map for each request.
 use Rattle.std.proofs.Common.{◌≡◌, ℕ, List, Option, Some, ℤ, sym, ap, subst, ◌∙◌, inl, inr}
 use Rattle.std.proofs.lemmas.Option.{MatchOption-at_none, MatchOption-at_some}
 use Rattle.terrain.specs.Raster.{Raster, Terrain}
@@ -20,7 +20,6 @@ use Rattle.request.specs.declared.map.Map.TheVariants.{Fill, Flow, Accumulate, B
 use Rattle.request.specs.Laws.{AreSame}
 use Rattle.relief.specs.MapText.{IsDrainage, IsMapText, IsMapOfText}
 
--- there is one list of filled heights
 one_list_of_heights : (t : Terrain) (xs ys : List (Option ℤ)) → IsFilled t xs → IsFilled t ys → xs ≡ ys
 one_list_of_heights t xs ys a b =
     same_entries t.cols t.rows xs ys a.size b.size (λ p row col.
@@ -39,7 +38,6 @@ one_filled_grid : (g f h : Raster) → IsFilledGrid g f → IsFilledGrid g h →
 one_filled_grid g f h a b =
     a.rest ∙ ap (λ levels. with_heights g levels) (one_list_of_heights g.terrain f.terrain.cells h.terrain.cells a.filled b.filled) ∙ sym b.rest
 
--- there is one list of a value at each cell
 one_list_of_values : (d : Directed) (value : Place → ℕ) (xs ys : List (Option ℕ)) → IsMapOf d value xs → IsMapOf d value ys → xs ≡ ys
 one_list_of_values d value xs ys a b =
     same_entries d.cols d.rows xs ys a.size b.size (λ p row col.
@@ -61,7 +59,7 @@ one_drainage g d e a b =
     ∙ ap (λ rows. directed e.cols rows d.codes) (a.same_size.1 ∙ sym b.same_size.1)
     ∙ ap (λ cs. directed e.cols e.rows cs) codes
 
--- the text has this value at each cell of the grid's directions
+-- `text` has the values that `value` gives on the grid's directions
 abbrev HasValues : Raster → (Directed → Place → ℕ) → List ℕ → Type 0
 HasValues g value text = (d : Directed) × (values : List (Option ℕ)) × IsDrainage g d × IsMapOf d (value d) values × (text ≡ counts_text g values)
 
@@ -81,7 +79,7 @@ one_map_of_grid g (Catchments gauges) text other a b = one_map_of_values g (λ d
 one_map_of_grid g (View observers target radius) text other a b =
     a.2 ∙ ap (λ vs. counts_text g vs) (viewsheds_are_one g.terrain observers.items target radius a.0 b.0 a.1 b.1) ∙ sym b.2
 
--- the map that is asked for may as well be asked for with other memory
+-- maps with equal observers and gauges have equal texts
 same_text : (g : Raster) (m n : Map) (text : List ℕ) → AreSame m n → IsMapText g n text → IsMapText g m text
 same_text g Fill n text same h = subst (λ (k : Map). IsMapText g k text) (sym same) h
 same_text g Flow n text same h = subst (λ (k : Map). IsMapText g k text) (sym same) h

@@ -1,4 +1,4 @@
--- A run from what its parts left.
+-- `Runs` from the contracts of reading, making and writing.
 use Rattle.std.proofs.Common.{◌≡◌, ℕ, ◌+◌, List, Option, None, Some, Ok, Err, refl, sym, subst, ◌∙◌, arith}
 use Rattle.terrain.specs.Raster.{Raster}
 use Rattle.ascii_grid.specs.Device.{Device, Writes}
@@ -9,18 +9,17 @@ use Rattle.ascii_grid.specs.declared.input.InputFault.{InputFault}
 use Rattle.ascii_grid.specs.declared.input.InputFault.TheVariants as input
 use Rattle.relief.specs.declared.fault.RunFault.{RunFault}
 use Rattle.relief.specs.declared.fault.RunFault.TheVariants.{Read, Write}
-use Rattle.request.specs.Wish.{Wish}
+use Rattle.request.specs.Request.{Request}
 use Rattle.relief.specs.Faults.{of_input}
-use Rattle.relief.specs.MadeMap.{drained_into}
+use Rattle.relief.specs.MadeMap.{grid_with_sinks}
 use Rattle.relief.specs.MapText.{IsMapText}
-use Rattle.relief.specs.Refusals.{wish_fault, IsWorkRefusal}
+use Rattle.relief.specs.Refusals.{request_fault, IsWorkRefusal}
 use Rattle.relief.specs.Runs.{Runs}
 use Rattle.ascii_grid.proofs.Taking.{consumed_end}
 use Rattle.relief.proofs.Draining.{fault_without, map_of_text}
 use Rattle.relief.proofs.Viewing.{work_refused, work_is_no_device}
 
--- nothing was read as a grid
-pub reading_refused : {R W : Type 0} (remaining : R → Option (List ℕ)) (contents : W → Option (List ℕ)) (w : Wish) (reader left : Device R) (writer : Device W) (e : InputFault)
+pub reading_refused : {R W : Type 0} (remaining : R → Option (List ℕ)) (contents : W → Option (List ℕ)) (w : Request) (reader left : Device R) (writer : Device W) (e : InputFault)
     → ReadsGrid remaining w.scale reader left (Err e)
     → Runs {T = Unit {0}} remaining contents w reader left writer writer (Err (of_input e))
 reading_refused remaining contents w reader left writer (input.Grid f) reads =
@@ -48,16 +47,13 @@ reading_refused remaining contents w reader left writer input.Read reads =
       clean = λ e. reads.clean refl;
     }
 
--- a grid was read
-module _ {R W : Type 0} (remaining : R → Option (List ℕ)) (contents : W → Option (List ℕ)) (w : Wish) (reader left : Device R) (writer grown : Device W) (g : Raster) (reads : ReadsGrid remaining w.scale reader left (Ok g)) where
+module _ {R W : Type 0} (remaining : R → Option (List ℕ)) (contents : W → Option (List ℕ)) (w : Request) (reader left : Device R) (writer grown : Device W) (g : Raster) (reads : ReadsGrid remaining w.scale reader left (Ok g)) where
   same : left.failures ≡ reader.failures
   same = reads.sound (λ bad. cc)
 
-  -- of all bytes, where they are known
   whole : (text : List ℕ) → remaining reader.device ≡ Some text → IsGridText w.scale text g
   whole text told = subst (λ (z : List ℕ). IsGridText w.scale z g) (consumed_end _ _ text reads.taken.bytes told reads.taken.read.known reads.grid.1) reads.grid.0
 
-  -- no map was made of it
   pub making_refused : (f : RunFault) → IsWorkRefusal w g f → Runs {T = Unit {0}} remaining contents w reader left writer writer (Err f)
   making_refused f refusal =
       let other = work_is_no_device w g f refusal in record {
@@ -72,9 +68,8 @@ module _ {R W : Type 0} (remaining : R → Option (List ℕ)) (contents : W → 
         clean = λ e. absurd (other.0 (let same_fault : f ≡ Read = cc in same_fault));
       }
 
-  module _ (map : List ℕ) (made : IsMapText (drained_into w.sinks g) w.map map) where
-    -- a map was made, and its writing failed
-    pub writing_failed : (e : WriteFailed) → wish_fault w (drained_into w.sinks g) ≡ None → Writes {T = Unit {0}} {E = WriteFailed} contents writer grown map (Err e)
+  module _ (map : List ℕ) (made : IsMapText (grid_with_sinks w.sinks g) w.map map) where
+    pub writing_failed : (e : WriteFailed) → request_fault w (grid_with_sinks w.sinks g) ≡ None → Writes {T = Unit {0}} {E = WriteFailed} contents writer grown map (Err e)
         → Runs {T = Unit {0}} remaining contents w reader left writer grown (Err Write)
     writing_failed e ready writes =
         let more : grown.failures ≡ writer.failures + 1 = writes.count.err in record {
@@ -89,7 +84,6 @@ module _ {R W : Type 0} (remaining : R → Option (List ℕ)) (contents : W → 
           clean = λ failed. absurd (cc);
         }
 
-    -- a map was made and written
     pub ran : Writes {T = Unit {0}} {E = WriteFailed} contents writer grown map (Ok tt) → Runs {T = Unit {0}} remaining contents w reader left writer grown (Ok tt)
     ran writes = record {
       taken = reads.taken;

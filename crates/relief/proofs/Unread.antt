@@ -1,4 +1,4 @@
--- How the program ends where nothing was read.
+-- How the program ends if it reads no grid.
 use Rattle.std.proofs.Common.{◌≡◌, ◌++◌, ℕ, suc, List, [], ◌∷◌, codes, arith, Option, sym, ap, subst, refl, inl, inr}
 use Rattle.std.specs.Prelude.{Any, decimal}
 use Rattle.clap.specs.Words.{Text, kind_of}
@@ -12,7 +12,7 @@ use Rattle.request.specs.CommandLine.{HasBadGauge, HasBadObserver, HasBadSink, I
 use Rattle.relief.specs.Ends.{EndsLine, EndsShowing, EndsUnread, IsRefusalText, Tells}
 use Rattle.request.specs.WordsFaults.{IsFaultOf}
 use Rattle.request.specs.declared.words.WordsFault.TheVariants.{NoMap}
-use Rattle.request.proofs.Asked.{bad_alone, bad_gauge_alone, bad_gauge_wishes_none, bad_sink_wishes_none, bad_wishes_none, no_gauge_observed, one_bad, one_bad_gauge, one_bad_sink}
+use Rattle.request.proofs.Asked.{bad_alone, bad_gauge_alone, bad_gauge_requests_none, bad_sink_requests_none, bad_requests_none, no_gauge_observed, one_bad, one_bad_gauge, one_bad_sink}
 
 any_among : (P : ErrorKind → Type 0) (k : ErrorKind) (ks : Kinds) → P k → IsAmong k ks → Any P ks
 any_among P k [] p among = absurd among
@@ -32,8 +32,8 @@ module _ {R W E : Type 0} (contents : W → Option (List ℕ)) (lines : E → Op
   abbrev Unread : Type 0
   Unread = EndsUnread contents lines words reader reader writer grown errors told status
 
-  pub refused_told : (text : List ℕ) → IsRefusalText words text → Tells lines errors told text → grown ≡ writer → status ≡ 1 → Unread
-  refused_told text refusal told_text same refused = record { unread = refl; reason = inr (inl ((text, refusal, told_text), refused, same)) }
+  pub words_refused : (text : List ℕ) → IsRefusalText words text → Tells lines errors told text → grown ≡ writer → status ≡ 1 → Unread
+  words_refused text refusal told_text same refused = record { unread = refl; reason = inr (inl ((text, refusal, told_text), refused, same)) }
 
   pub shown : (e : Error) → EndsShowing contents lines (kind_of e) writer grown errors told status → HasKind (fault_of program_app words) e → Unread
   shown e (inl help) (inl want) = absurd (help_is_no_want (kind_of e) help.0 want)
@@ -42,7 +42,7 @@ module _ {R W E : Type 0} (contents : W → Option (List ℕ)) (lines : E → Op
     reason = inl (any_among IsHelp (kind_of e) _ help.0 among, help.1, help.2, help.3);
   }
   shown e (inr (inl refused)) (inl want) = absurd (refused.0.1 want)
-  shown e (inr (inl refused)) (inr among) = refused_told refused.1.0 (record {
+  shown e (inr (inl refused)) (inr among) = words_refused refused.1.0 (record {
     refused = inl (any_among (λ kind. ¬ IsHelp kind) (kind_of e) _ refused.0.0 among);
     line = refused.1.1;
     bad_observer = λ place bad. absurd (none_among (kind_of e) _ bad.command.accepted among);
@@ -57,7 +57,7 @@ ends_line front place = (front ++ decimal place, refl)
 module _ (words : List Text) where
   pub bad_observer_refused : (place : ℕ) → HasBadObserver words place → IsRefusalText words (codes "relief: bad observer word " ++ decimal place ++ codes "\n")
   bad_observer_refused place bad = record {
-    refused = inr (bad.command.accepted, bad_wishes_none words bad.command.accepted _ _ bad.command.found place bad);
+    refused = inr (bad.command.accepted, bad_requests_none words bad.command.accepted _ _ bad.command.found place bad);
     line = ends_line (codes "relief: bad observer word ") place;
     bad_observer = λ other b. ap (λ k. codes "relief: bad observer word " ++ decimal k ++ codes "\n") (one_bad words bad.command.accepted _ _ bad.command.found place other bad b);
     bad_gauge = λ other b. absurd (no_gauge_observed words bad.command.accepted _ _ bad.command.found other place b bad);
@@ -66,7 +66,7 @@ module _ (words : List Text) where
 
   pub bad_gauge_refused : (place : ℕ) → HasBadGauge words place → IsRefusalText words (codes "relief: bad gauge word " ++ decimal place ++ codes "\n")
   bad_gauge_refused place bad = record {
-    refused = inr (bad.command.accepted, bad_gauge_wishes_none words bad.command.accepted _ _ bad.command.found place bad);
+    refused = inr (bad.command.accepted, bad_gauge_requests_none words bad.command.accepted _ _ bad.command.found place bad);
     line = ends_line (codes "relief: bad gauge word ") place;
     bad_observer = λ other b. absurd (no_gauge_observed words bad.command.accepted _ _ bad.command.found place other bad b);
     bad_gauge = λ other b. ap (λ k. codes "relief: bad gauge word " ++ decimal k ++ codes "\n") (one_bad_gauge words bad.command.accepted _ _ bad.command.found place other bad b);
@@ -75,7 +75,7 @@ module _ (words : List Text) where
 
   pub bad_sink_refused : (place : ℕ) → HasBadSink words place → IsRefusalText words (codes "relief: bad sink word " ++ decimal place ++ codes "\n")
   bad_sink_refused place bad = record {
-    refused = inr (bad.command.accepted, bad_sink_wishes_none words bad.command.accepted _ _ bad.command.found place bad);
+    refused = inr (bad.command.accepted, bad_sink_requests_none words bad.command.accepted _ _ bad.command.found place bad);
     line = ends_line (codes "relief: bad sink word ") place;
     bad_observer = λ other b. absurd (bad_alone words bad.command.accepted _ _ bad.command.found other place b bad);
     bad_gauge = λ other b. absurd (bad_gauge_alone words bad.command.accepted _ _ bad.command.found other place b bad);

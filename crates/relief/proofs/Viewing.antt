@@ -1,4 +1,4 @@
--- Refusals of the work as refusals of the run, and what a viewshed's answer says of the wish.
+-- Faults of viewsheds and catchments are faults that a run may return.
 use Rattle.std.proofs.Common.{◌≡◌, ◌⊎◌, ℕ, ◌<◌, ◌≤◌, Option, None, Some, Ok, Err, sym, ap, subst, refl, ◌∙◌, arith, inl, inr, Bool, true, false, cond, List}
 use Rattle.std.specs.Option.{option_map, option_or}
 use Rattle.terrain.specs.Raster.{Raster}
@@ -12,8 +12,8 @@ use Rattle.flow.specs.Catchments.{RefusesGauges}
 use Rattle.flow.specs.declared.gauges.GaugeFault.{GaugeFault}
 use Rattle.flow.specs.declared.gauges.GaugeFault.TheVariants as gauges
 use Rattle.relief.specs.Faults.{of_gauges, of_sight}
-use Rattle.request.specs.Wish.{Wish}
-use Rattle.relief.specs.Refusals.{gauge_fault, observer_fault, named_place_fault, wish_fault, IsWorkRefusal, tiles_of, IsRunRefusal}
+use Rattle.request.specs.Request.{Request}
+use Rattle.relief.specs.Refusals.{gauge_fault, observer_fault, named_place_fault, request_fault, IsWorkRefusal, tiles_of, IsRunRefusal}
 use Rattle.std.specs.Prelude.{⊤, nat_lt}
 use Rattle.terrain.specs.Sinks.{sinks_fault}
 use Rattle.terrain.specs.declared.sinks.SinkFault.{SinkFault}
@@ -22,54 +22,49 @@ use Rattle.tiles.specs.declared.tiling.TilingFault.TheVariants.{TooManyTiles}
 use Rattle.tiles.specs.Cutting.{most_tiles}
 use Rattle.relief.specs.declared.fault.RunFault.{RunFault}
 
--- an answer comes only where the observers have no fault
 pub no_fault : {T : Type 0} (fault : Option SightFault) (workers : ℕ) (x : T) → RefusesSight fault workers (Ok x) → fault ≡ None
 no_fault None workers x h = refl
 no_fault (Some f) workers x h = let bad = h.told f refl in absurd (cc)
 
--- a fault of the observers is told as one of the wish
-told_fault : (w : Wish) (g : Raster) (f : SightFault) → ((x : JobFault) → f ≡ sight.Jobs x → ⊥) → wish_fault w g ≡ Some (Sight f) → IsWorkRefusal w g (of_sight f)
-told_fault w g (sight.Outside i) other h = h
-told_fault w g (sight.OnNodata i) other h = h
-told_fault w g sight.TooManyObservers other h = h
-told_fault w g (sight.BadEye i) other h = h
-told_fault w g sight.BadRadius other h = h
-told_fault w g (sight.Jobs x) other h = absurd (other x refl)
+-- a fault of the observers is a work refusal
+sight_refused : (w : Request) (g : Raster) (f : SightFault) → ((x : JobFault) → f ≡ sight.Jobs x → ⊥) → request_fault w g ≡ Some (Sight f) → IsWorkRefusal w g (of_sight f)
+sight_refused w g (sight.Outside i) other h = h
+sight_refused w g (sight.OnNodata i) other h = h
+sight_refused w g sight.TooManyObservers other h = h
+sight_refused w g (sight.BadEye i) other h = h
+sight_refused w g sight.BadRadius other h = h
+sight_refused w g (sight.Jobs x) other h = absurd (other x refl)
 
--- want of memory or of a thread where nothing else forbids
-module _ (w : Wish) (g : Raster) (some : 1 ≤ w.workers) (few : w.workers ≤ 64) (ready : wish_fault w g ≡ None) where
+module _ (w : Request) (g : Raster) (some : 1 ≤ w.workers) (few : w.workers ≤ 64) (ready : request_fault w g ≡ None) where
   pub job_refused : (x : JobFault) → (x ≡ jobs.BadWorkers → (w.workers ≡ 0) ⊎ (64 < w.workers)) → (x ≡ jobs.NoThread → 1 < w.workers) → IsWorkRefusal w g (Jobs x)
   job_refused jobs.Memory bad_workers no_thread = ready
   job_refused jobs.BadWorkers bad_workers no_thread =
       absurd (elim (bad_workers refl) [ inl none ↦ omega arith | inr many ↦ omega arith ])
   job_refused jobs.NoThread bad_workers no_thread = (ready, no_thread refl)
 
--- one of the three faults of jobs
 of_jobs : {F : Type 0} (fault : JobFault → F) (f : F) → (f ≡ fault jobs.Memory) ⊎ (f ≡ fault jobs.BadWorkers) ⊎ (f ≡ fault jobs.NoThread) → (x : JobFault) × (f ≡ fault x)
 of_jobs fault f (inl e) = (jobs.Memory, e)
 of_jobs fault f (inr (inl e)) = (jobs.BadWorkers, e)
 of_jobs fault f (inr (inr e)) = (jobs.NoThread, e)
 
--- a refused viewshed as a refusal of the work
-pub view_refused : {T : Type 0} (w : Wish) (g : Raster) (fault : Option SightFault) (f : SightFault) → 1 ≤ w.workers → w.workers ≤ 64 → ((x : JobFault) → fault ≡ Some (sight.Jobs x) → ⊥)
-    → wish_fault w g ≡ option_map Sight fault → RefusesSight {T = T} fault w.workers (Err f) → IsWorkRefusal w g (of_sight f)
+pub view_refused : {T : Type 0} (w : Request) (g : Raster) (fault : Option SightFault) (f : SightFault) → 1 ≤ w.workers → w.workers ≤ 64 → ((x : JobFault) → fault ≡ Some (sight.Jobs x) → ⊥)
+    → request_fault w g ≡ option_map Sight fault → RefusesSight {T = T} fault w.workers (Err f) → IsWorkRefusal w g (of_sight f)
 view_refused w g None f some few other is h =
     let told = of_jobs sight.Jobs f (h.jobs refl f refl) in
     subst (λ (s : SightFault). IsWorkRefusal w g (of_sight s)) (sym told.1)
     (job_refused w g some few is told.0 (λ e. (h.bad_workers refl).0 (ap Err (told.1 ∙ ap sight.Jobs e))) (λ e. h.no_thread (ap Err (told.1 ∙ ap sight.Jobs e))))
 view_refused w g (Some k) f some few other is h =
     let same : k ≡ f = let told = h.told k refl in cc in
-    told_fault w g f (λ x bad. other x (ap Some (same ∙ bad))) (is ∙ ap (λ (s : SightFault). Some (Sight s)) same)
+    sight_refused w g f (λ x bad. other x (ap Some (same ∙ bad))) (is ∙ ap (λ (s : SightFault). Some (Sight s)) same)
 
--- refused catchments of sound gauges as a refusal of the work
-pub catchments_refused : {T : Type 0} (w : Wish) (g : Raster) (fault : Option GaugeFault) (f : GaugeFault) → 1 ≤ w.workers → w.workers ≤ 64 → fault ≡ None
-    → wish_fault w g ≡ None → RefusesGauges {T = T} fault w.workers (Err f) → IsWorkRefusal w g (of_gauges f)
+pub catchments_refused : {T : Type 0} (w : Request) (g : Raster) (fault : Option GaugeFault) (f : GaugeFault) → 1 ≤ w.workers → w.workers ≤ 64 → fault ≡ None
+    → request_fault w g ≡ None → RefusesGauges {T = T} fault w.workers (Err f) → IsWorkRefusal w g (of_gauges f)
 catchments_refused w g fault f some few sound is h =
     let told = of_jobs gauges.Jobs f (h.jobs sound f refl) in
     subst (λ (k : GaugeFault). IsWorkRefusal w g (of_gauges k)) (sym told.1)
     (job_refused w g some few is told.0 (λ e. (h.bad_workers sound).0 (ap Err (told.1 ∙ ap gauges.Jobs e))) (λ e. h.no_thread (ap Err (told.1 ∙ ap gauges.Jobs e))))
 
--- a wish is forbidden by too many tiles, by its sinks, by its gauges or by its observers
+-- only tiles, sinks, gauges and observers forbid a map
 abbrev pub Forbids : RunFault → Type 0
 Forbids (Tiling fault) = ⊤
 Forbids (Sight fault) = ⊤
@@ -77,8 +72,8 @@ Forbids (Sinks fault) = ⊤
 Forbids (Gauges fault) = ⊤
 Forbids fault = ⊥
 
-pub wish_forbids : (w : Wish) (g : Raster) (f : RunFault) → wish_fault w g ≡ Some f → Forbids f
-wish_forbids w g f e = go (nat_lt most_tiles (tiles_of g w.tile)) e where
+pub request_forbids : (w : Request) (g : Raster) (f : RunFault) → request_fault w g ≡ Some f → Forbids f
+request_forbids w g f e = go (nat_lt most_tiles (tiles_of g w.tile)) e where
   sights : (o : Option SightFault) → option_map Sight o ≡ Some f → Forbids f
   sights None h = absurd (cc)
   sights (Some s) h = let same : Sight s ≡ f = cc in subst Forbids same tt
@@ -95,9 +90,9 @@ wish_forbids w g f e = go (nat_lt most_tiles (tiles_of g w.tile)) e where
   go true h = let same : Tiling TooManyTiles ≡ f = cc in subst Forbids same tt
   go false h = sinks (sinks_fault g.terrain w.sinks) h
 
--- what forbids a wish is a refusal of the work
-pub forbidden : (w : Wish) (g : Raster) (f : RunFault) → wish_fault w g ≡ Some f → IsWorkRefusal w g f
-forbidden w g (Jobs fault) h = absurd (wish_forbids w g _ h)
+-- a fault that forbids the map is a work refusal
+pub forbidden : (w : Request) (g : Raster) (f : RunFault) → request_fault w g ≡ Some f → IsWorkRefusal w g f
+forbidden w g (Jobs fault) h = absurd (request_forbids w g _ h)
 forbidden w g (Tiling fault) h = h
 forbidden w g (Sight fault) h = h
 forbidden w g (Sinks fault) h = h
@@ -106,24 +101,24 @@ forbidden w g (Grid fault) h = h
 forbidden w g Read h = h
 forbidden w g Write h = h
 
--- a refusal of the work at a text's grid is one at the text
-pub work_refused : (w : Wish) (text : List ℕ) (g : Raster) (f : RunFault) → IsGridText w.scale text g → IsWorkRefusal w g f → IsRunRefusal w text f
+-- a work refusal at the grid of a text is a run refusal at the text
+pub work_refused : (w : Request) (text : List ℕ) (g : Raster) (f : RunFault) → IsGridText w.scale text g → IsWorkRefusal w g f → IsRunRefusal w text f
 work_refused w text g (Jobs fault) is h = (g, is, h)
 work_refused w text g (Tiling fault) is h = (g, is, h)
 work_refused w text g (Sight fault) is h = (g, is, h)
 work_refused w text g (Sinks fault) is h = (g, is, h)
 work_refused w text g (Gauges fault) is h = (g, is, h)
-work_refused w text g (Grid fault) is h = absurd (wish_forbids w g _ h)
+work_refused w text g (Grid fault) is h = absurd (request_forbids w g _ h)
 work_refused w text g Read is h = tt
-work_refused w text g Write is h = absurd (wish_forbids w g _ h)
+work_refused w text g Write is h = absurd (request_forbids w g _ h)
 
--- the work answers no fault of a device
-pub work_is_no_device : (w : Wish) (g : Raster) (f : RunFault) → IsWorkRefusal w g f → (f ≡ Read → ⊥) × (f ≡ Write → ⊥)
+-- a work refusal is no fault of a device
+pub work_is_no_device : (w : Request) (g : Raster) (f : RunFault) → IsWorkRefusal w g f → (f ≡ Read → ⊥) × (f ≡ Write → ⊥)
 work_is_no_device w g (Jobs fault) h = (λ e. cc, λ e. cc)
 work_is_no_device w g (Tiling fault) h = (λ e. cc, λ e. cc)
 work_is_no_device w g (Sight fault) h = (λ e. cc, λ e. cc)
 work_is_no_device w g (Sinks fault) h = (λ e. cc, λ e. cc)
 work_is_no_device w g (Gauges fault) h = (λ e. cc, λ e. cc)
 work_is_no_device w g (Grid fault) h = (λ e. cc, λ e. cc)
-work_is_no_device w g Read h = absurd (wish_forbids w g _ h)
-work_is_no_device w g Write h = absurd (wish_forbids w g _ h)
+work_is_no_device w g Read h = absurd (request_forbids w g _ h)
+work_is_no_device w g Write h = absurd (request_forbids w g _ h)

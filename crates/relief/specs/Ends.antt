@@ -1,4 +1,5 @@
--- How the program ends, on any schedule of its workers.
+-- How the program ends: what it has read and written, and its exit status.
+-- Trust base.
 use Rattle.std.specs.Prelude.{◌≡◌, ◌≢◌, ◌⊎◌, ℕ, List, ◌++◌, Option, Result, ⊤, MatchResult, codes, decimal}
 use Rattle.ascii_grid.specs.Device.{Device, Writes}
 use Rattle.ascii_grid.specs.declared.counted.WriteFailed.{WriteFailed}
@@ -7,32 +8,38 @@ use Rattle.clap.specs.declared.error.kind.ErrorKind.{ErrorKind}
 use Rattle.clap.specs.declared.error.kind.ErrorKind.TheVariants.{OutOfMemory}
 use Rattle.relief.specs.declared.fault.RunFault.{RunFault}
 use Rattle.relief.specs.FaultLine.{fault_line, fault_status}
-use Rattle.request.specs.Wish.{Wish}
+use Rattle.request.specs.Request.{Request}
 use Rattle.relief.specs.Runs.{Runs}
-use Rattle.request.specs.CommandLine.{AskForHelp, AreRefused, HasBadGauge, HasBadObserver, HasBadSink, IsHelp, WishFor}
+use Rattle.request.specs.CommandLine.{AskForHelp, AreRefused, HasBadGauge, HasBadObserver, HasBadSink, IsHelp, RequestFor}
 
--- The text was written, or a front part of it where the device has failed once more.
+-- `text` was written to the device, or a front part of it if the write failed.
 abbrev pub Tells : {D : Type 0} → (D → Option (List ℕ)) → Device D → Device D → List ℕ → Type 0
-Tells contents old new text = (written : Result ⊤ WriteFailed) × Writes contents old new text written
+Tells contents old new text =
+    (written : Result ⊤ WriteFailed) × Writes contents old new text written
 
--- A run that is done tells nothing and ends with 0; a fault is told in its line and ends with its status.
-abbrev pub EndsAs : {E : Type 0} → (E → Option (List ℕ)) → Device E → Device E → Result ⊤ RunFault → ℕ → Type 0
+-- A complete run writes nothing on the errors and has status 0. A fault writes its line and has its
+-- own status.
+abbrev pub EndsAs : {E : Type 0} → (E → Option (List ℕ)) → Device E → Device E → Result ⊤ RunFault →
+    ℕ → Type 0
 EndsAs lines errors told result status = MatchResult result
     (λ _. (status ≡ 0) × (told ≡ errors))
     (λ f. (status ≡ fault_status f) × Tells lines errors told (fault_line f))
 
--- The map wished for was run.
-pub record EndsRun {R W E : Type 0} (remaining : R → Option (List ℕ)) (contents : W → Option (List ℕ)) (lines : E → Option (List ℕ)) (wish : Wish) (reader left : Device R) (writer grown : Device W) (errors told : Device E) (status : ℕ) : Type 0 where
+-- The program ran the requested map and ends as the run's result demands.
+pub record EndsRun {R W E : Type 0} (remaining : R → Option (List ℕ))
+    (contents : W → Option (List ℕ)) (lines : E → Option (List ℕ)) (request : Request)
+    (reader left : Device R) (writer grown : Device W) (errors told : Device E)
+    (status : ℕ) : Type 0 where
   pub result : Result ⊤ RunFault
-  pub runs : Runs remaining contents wish reader left writer grown result
+  pub runs : Runs remaining contents request reader left writer grown result
   pub ends : EndsAs lines errors told result status
 
--- A text that ends a line.
+-- The text ends with a line feed.
 abbrev pub EndsLine : List ℕ → Type 0
 EndsLine text = (front : List ℕ) × (text ≡ front ++ codes "\n")
 
--- What is told of refused words: of a bad observer, gauge or sink word its place, and of others what
--- `clap` has to say.
+-- A message for refused words, which ends a line. For a bad observer, gauge or sink word it gives
+-- the place of the first. The words of other messages are left open.
 pub record IsRefusalText (words : List Text) (text : List ℕ) : Type 0 where
   pub refused : AreRefused words
   pub line : EndsLine text
@@ -40,26 +47,37 @@ pub record IsRefusalText (words : List Text) (text : List ℕ) : Type 0 where
       text ≡ codes "relief: bad observer word " ++ decimal place ++ codes "\n"
   pub bad_gauge : (place : ℕ) → HasBadGauge words place →
       text ≡ codes "relief: bad gauge word " ++ decimal place ++ codes "\n"
-  pub bad_sink : (place : ℕ) → HasBadSink words place → text ≡ codes "relief: bad sink word " ++ decimal place ++ codes "\n"
+  pub bad_sink : (place : ℕ) → HasBadSink words place →
+      text ≡ codes "relief: bad sink word " ++ decimal place ++ codes "\n"
 
--- Nothing was read: the words ask for help or the version, which goes to the writer, or they are refused, which goes to the
--- errors, or there was no memory to read them.
-pub record EndsUnread {R W E : Type 0} (contents : W → Option (List ℕ)) (lines : E → Option (List ℕ)) (words : List Text) (reader left : Device R) (writer grown : Device W) (errors told : Device E) (status : ℕ) : Type 0 where
+-- Nothing was read. Either the words ask for help or the version, which goes to the writer; or they
+-- are refused, with a message on the errors; or memory was refused.
+pub record EndsUnread {R W E : Type 0} (contents : W → Option (List ℕ))
+    (lines : E → Option (List ℕ)) (words : List Text) (reader left : Device R)
+    (writer grown : Device W) (errors told : Device E) (status : ℕ) : Type 0 where
   pub unread : left ≡ reader
-  pub reason : (AskForHelp words × (status ≡ 0) × ((text : List ℕ) × EndsLine text × Tells contents writer grown text) × (told ≡ errors))
-      ⊎ (((text : List ℕ) × IsRefusalText words text × Tells lines errors told text) × (status ≡ 1) × (grown ≡ writer))
+  pub reason : (AskForHelp words × (status ≡ 0)
+      × ((text : List ℕ) × EndsLine text × Tells contents writer grown text) × (told ≡ errors))
+      ⊎ (((text : List ℕ) × IsRefusalText words text × Tells lines errors told text) × (status ≡ 1)
+      × (grown ≡ writer))
       ⊎ ((status ≡ 3) × (grown ≡ writer) × (told ≡ errors))
 
--- The program ended on its words: nothing was read, or the map that they wish for was run.
-abbrev pub EndsProgram : {R W E : Type 0} → (R → Option (List ℕ)) → (W → Option (List ℕ)) → (E → Option (List ℕ)) → List Text → Device R → Device R → Device W → Device W → Device E → Device E → ℕ → Type 0
+-- The program ends without reading the grid, or it ran the map that its words request.
+abbrev pub EndsProgram : {R W E : Type 0} → (R → Option (List ℕ)) → (W → Option (List ℕ)) →
+    (E → Option (List ℕ)) → List Text → Device R → Device R → Device W → Device W → Device E →
+    Device E → ℕ → Type 0
 EndsProgram remaining contents lines words reader left writer grown errors told status =
     EndsUnread contents lines words reader left writer grown errors told status
-    ⊎ ((wish : Wish) × WishFor words wish
-    × EndsRun remaining contents lines wish reader left writer grown errors told status)
+    ⊎ ((request : Request) × RequestFor words request
+    × EndsRun remaining contents lines request reader left writer grown errors told status)
 
--- What an error of `clap` of this kind leaves of the devices, and its status. Only a private function's contract speaks of it.
-abbrev pub EndsShowing : {W E : Type 0} → (W → Option (List ℕ)) → (E → Option (List ℕ)) → ErrorKind → Device W → Device W → Device E → Device E → ℕ → Type 0
+-- How an error of `clap` of this kind is written, and the exit status.
+abbrev pub EndsShowing : {W E : Type 0} → (W → Option (List ℕ)) → (E → Option (List ℕ)) →
+    ErrorKind → Device W → Device W → Device E → Device E → ℕ → Type 0
 EndsShowing contents lines kind writer grown errors told status =
-    (IsHelp kind × (status ≡ 0) × ((text : List ℕ) × EndsLine text × Tells contents writer grown text) × (told ≡ errors))
-    ⊎ ((¬ IsHelp kind × (kind ≢ OutOfMemory)) × ((text : List ℕ) × EndsLine text × Tells lines errors told text) × (status ≡ 1) × (grown ≡ writer))
+    (IsHelp kind × (status ≡ 0)
+    × ((text : List ℕ) × EndsLine text × Tells contents writer grown text) × (told ≡ errors))
+    ⊎ ((¬ IsHelp kind × (kind ≢ OutOfMemory))
+    × ((text : List ℕ) × EndsLine text × Tells lines errors told text) × (status ≡ 1)
+    × (grown ≡ writer))
     ⊎ ((status ≡ 3) × (grown ≡ writer) × (told ≡ errors))

@@ -1,4 +1,5 @@
--- Faults as numbers, lines and statuses.
+-- The number, the line and the exit status of each fault.
+-- Trust base.
 use Rattle.std.specs.Prelude.{ℕ, ◌==◌, ◌||◌, if◌then◌else◌, List, [], ◌++◌, Option, None, Some, codes, decimal}
 use Rattle.std.specs.Option.{option_map_or}
 use Rattle.ascii_grid.specs.declared.fault.Key.{Key}
@@ -20,7 +21,7 @@ use Rattle.relief.specs.declared.fault.RunFault.TheVariants.{Grid, Tiling, Jobs,
 use Rattle.relief.specs.declared.fault.Detail.{Detail}
 use Rattle.relief.specs.declared.fault.Detail.TheVariants.{Slot, Count}
 
--- A slot as it is written.
+-- The name of a header key in the line of a fault.
 abbrev pub slot_text : Key → List ℕ
 slot_text Ncols = codes "ncols"
 slot_text Nrows = codes "nrows"
@@ -29,23 +30,26 @@ slot_text Yll = codes "yll"
 slot_text Cellsize = codes "cellsize"
 slot_text Nodata = codes "nodata"
 
--- A detail as it is written.
+-- A detail as text: the name of a header key or a decimal number.
 abbrev pub detail_text : Detail → List ℕ
 detail_text (Slot key) = slot_text key
 detail_text (Count n) = decimal n
 
--- A fault's number, its name and its detail.
+-- The parts of a fault's line: number, name and, for some faults, a detail.
 pub record Telling : Type 0 where
   pub number : ℕ
   pub name : List ℕ
   pub detail : Option (List ℕ)
 
+-- A fault without a detail.
 abbrev pub plain : ℕ → List ℕ → Telling
 plain number name = record { number = number; name = name; detail = None }
 
+-- A fault with a detail.
 abbrev pub detailed : ℕ → List ℕ → List ℕ → Telling
 detailed number name detail = record { number = number; name = name; detail = Some detail }
 
+-- Faults of the grid text.
 abbrev pub grid_telling : GridFault → Telling
 grid_telling grid.UnknownKey = plain 1 (codes "UnknownKey")
 grid_telling (grid.RepeatedKey slot) = detailed 2 (codes "RepeatedKey") (slot_text slot)
@@ -60,15 +64,18 @@ grid_telling (grid.NoValue slot) = detailed 10 (codes "NoValue") (slot_text slot
 grid_telling grid.TooLong = plain 11 (codes "TooLong")
 grid_telling grid.Memory = plain 12 (codes "Memory")
 
+-- Faults of the tiling.
 abbrev pub tiling_telling : TilingFault → Telling
 tiling_telling tiling.BadSide = plain 21 (codes "BadSide")
 tiling_telling tiling.TooManyTiles = plain 22 (codes "TooManyTiles")
 
+-- Faults of memory, workers and threads.
 abbrev pub jobs_telling : JobFault → Telling
 jobs_telling jobs.Memory = plain 12 (codes "Memory")
 jobs_telling jobs.BadWorkers = plain 31 (codes "BadWorkers")
 jobs_telling jobs.NoThread = plain 32 (codes "NoThread")
 
+-- Faults of a viewshed.
 abbrev pub sight_telling : SightFault → Telling
 sight_telling (sight.Outside i) = detailed 41 (codes "Outside") (decimal i)
 sight_telling (sight.OnNodata i) = detailed 42 (codes "OnNodata") (decimal i)
@@ -78,18 +85,21 @@ sight_telling (sight.BadEye (Some i)) = detailed 44 (codes "BadEye") (decimal i)
 sight_telling sight.BadRadius = plain 45 (codes "BadRadius")
 sight_telling (sight.Jobs fault) = jobs_telling fault
 
+-- Faults of named sinks.
 abbrev pub sinks_telling : SinkFault → Telling
 sinks_telling (sinks.Outside i) = detailed 46 (codes "SinkOutside") (decimal i)
 sinks_telling (sinks.OnNodata i) = detailed 47 (codes "SinkOnNodata") (decimal i)
 sinks_telling sinks.TooManySinks = plain 48 (codes "TooManySinks")
 sinks_telling sinks.Memory = jobs_telling jobs.Memory
 
+-- Faults of gauges.
 abbrev pub gauges_telling : GaugeFault → Telling
 gauges_telling (gauges.Outside i) = detailed 61 (codes "GaugeOutside") (decimal i)
 gauges_telling (gauges.OnNodata i) = detailed 62 (codes "GaugeOnNodata") (decimal i)
 gauges_telling gauges.TooManyGauges = plain 63 (codes "TooManyGauges")
 gauges_telling (gauges.Jobs fault) = jobs_telling fault
 
+-- All faults of a run.
 abbrev pub telling : RunFault → Telling
 telling (Grid fault) = grid_telling fault
 telling (Tiling fault) = tiling_telling fault
@@ -100,16 +110,18 @@ telling (Gauges fault) = gauges_telling fault
 telling Read = plain 51 (codes "Read")
 telling Write = plain 52 (codes "Write")
 
--- The line of a fault.
+-- The line of a fault: `relief: NUMBER NAME`, then a space and the detail if there is one.
 abbrev pub fault_line : RunFault → List ℕ
 fault_line fault =
     let t = telling fault in
     codes "relief: " ++ decimal t.number ++ codes " " ++ t.name
     ++ option_map_or (λ d. codes " " ++ d) t.detail [] ++ codes "\n"
 
--- The status with which the program ends: 3 for want of memory or of a thread, 4 for a device, and else 2.
+-- The exit status: 3 if memory or a thread was refused, 4 if a device failed, otherwise 2.
 abbrev pub status_of : ℕ → ℕ
-status_of number = if number == 12 || number == 32 then 3 else if number == 51 || number == 52 then 4 else 2
+status_of number =
+    if number == 12 || number == 32 then 3 else if number == 51 || number == 52 then 4 else 2
 
+-- The exit status of a fault.
 abbrev pub fault_status : RunFault → ℕ
 fault_status fault = status_of (telling fault).number

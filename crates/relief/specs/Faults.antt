@@ -1,4 +1,5 @@
--- Faults of the layers below as faults of a run.
+-- How faults of reading, viewsheds, sinks and gauges become faults of a run.
+-- Public.
 use Rattle.ascii_grid.specs.declared.input.InputFault.{InputFault}
 use Rattle.ascii_grid.specs.declared.input.InputFault.TheVariants as input
 use Rattle.sight.specs.declared.fault.SightFault.{SightFault}
@@ -15,7 +16,7 @@ abbrev pub of_input : InputFault → RunFault
 of_input (input.Grid fault) = Grid fault
 of_input input.Read = Read
 
--- The work's faults have one shape, whichever map is asked for.
+-- A fault of the jobs is `Jobs`, whichever map they make.
 abbrev pub of_sight : SightFault → RunFault
 of_sight (sight.Jobs fault) = Jobs fault
 of_sight fault = Sight fault

@@ -1,4 +1,5 @@
--- A grid with its sinks, and a map that waits to be written. Only the contracts of private functions speak of them.
+-- A grid with the requested sinks, and the text of a finished map.
+-- Private.
 use Rattle.std.specs.Prelude.{◌≡◌, ℕ, ◌*◌, ⊤, List, [], ◌∷◌, length}
 use Rattle.terrain.specs.Raster.{Raster}
 use Rattle.terrain.specs.Sinks.{raster_with_sinks}
@@ -7,18 +8,18 @@ use Rattle.ascii_grid.specs.Text.{heights_text, counts_text}
 use Rattle.relief.specs.declared.making.MadeMap.{MadeMap}
 use Rattle.relief.specs.declared.making.MadeMap.TheVariants.{Heights, Codes, Counts}
 
--- A grid that was read, with these sinks; where there are none it stays as it is.
-abbrev pub drained_into : List Place → Raster → Raster
-drained_into [] g = g
-drained_into (p ∷ rest) g = raster_with_sinks g (p ∷ rest)
+-- The grid with these sinks; without any, the grid unchanged.
+abbrev pub grid_with_sinks : List Place → Raster → Raster
+grid_with_sinks [] g = g
+grid_with_sinks (p ∷ rest) g = raster_with_sinks g (p ∷ rest)
 
--- The text of a map.
+-- The text that is written for a finished map.
 abbrev pub made_text : MadeMap → List ℕ
 made_text (Heights g) = heights_text g
 made_text (Codes g directions) = counts_text g directions.codes
 made_text (Counts g values) = counts_text g values.items
 
--- Codes and counts have an entry for each cell of their grid.
+-- Codes and counts have one entry for each cell of the grid.
 abbrev pub FitsGrid : MadeMap → Type 0
 FitsGrid (Heights g) = ⊤
 FitsGrid (Codes g directions) = length directions.codes ≡ g.terrain.cols * g.terrain.rows

@@ -1,5 +1,6 @@
--- Which refusals a run may answer, and in which order: the text's fault, too many tiles, the sinks'
--- fault, the gauges' or the observers' fault, the work's want of memory or of a thread, a failed write.
+-- Which fault a run returns: the first that applies of a fault of the text, too many tiles, a fault
+-- of the sinks, a fault of the gauges or observers, memory or a thread refused, a failed write.
+-- Trust base.
 use Rattle.std.specs.Prelude.{◌≡◌, ℕ, ◌<◌, nat_lt, ⊤, if◌then◌else◌, List, Option, None, Some, option_map}
 use Rattle.std.specs.Option.{option_or}
 use Rattle.terrain.specs.Raster.{Raster}
@@ -16,42 +17,46 @@ use Rattle.request.specs.declared.map.Map.{Map}
 use Rattle.request.specs.declared.map.Map.TheVariants.{Catchments, View}
 use Rattle.relief.specs.declared.fault.RunFault.{RunFault}
 use Rattle.relief.specs.declared.fault.RunFault.TheVariants.{Grid, Tiling, Jobs, Sight, Sinks, Gauges, Read, Write}
-use Rattle.request.specs.Wish.{Wish}
+use Rattle.request.specs.Request.{Request}
 
--- How many tiles of this side a grid has.
+-- The number of tiles of this side that a grid has.
 abbrev pub tiles_of : Raster → ℕ → ℕ
 tiles_of g side = tile_count (record { cols = g.terrain.cols; rows = g.terrain.rows; side = side })
 
--- The observers' fault; the other maps have no observers.
+-- The fault of a viewshed's observers, target height or radius; other maps have none.
 abbrev pub observer_fault : Raster → Map → Option SightFault
-observer_fault g (View observers target radius) = observers_fault g.terrain observers.items target radius
+observer_fault g (View observers target radius) =
+    observers_fault g.terrain observers.items target radius
 observer_fault g map = None
 
--- The gauges' fault; the other maps have no gauges.
+-- The fault of the gauges of catchments; other maps have none.
 abbrev pub gauge_fault : Raster → Map → Option GaugeFault
 gauge_fault g (Catchments gauges) = gauges_fault g.terrain gauges.items
 gauge_fault g map = None
 
--- The fault of the places that are named: of the sinks, and then of the gauges.
-abbrev pub named_place_fault : Wish → Raster → Option RunFault
+-- The fault of the sinks or, if they are sound, of the gauges.
+abbrev pub named_place_fault : Request → Raster → Option RunFault
 named_place_fault w g =
-    option_or (option_map Sinks (sinks_fault g.terrain w.sinks)) (option_map Gauges (gauge_fault g w.map))
+    option_or (option_map Sinks (sinks_fault g.terrain w.sinks))
+    (option_map Gauges (gauge_fault g w.map))
 
--- What forbids to map a grid, None where only the work is left.
-abbrev pub wish_fault : Wish → Raster → Option RunFault
-wish_fault w g =
+-- The fault that forbids the requested map of this grid, or `None`.
+abbrev pub request_fault : Request → Raster → Option RunFault
+request_fault w g =
     if nat_lt most_tiles (tiles_of g w.tile) then Some (Tiling TooManyTiles)
     else option_or (named_place_fault w g) (option_map Sight (observer_fault g w.map))
 
--- The refusal comes rightly for this grid: want of memory or of a thread where only the work is left.
-abbrev pub IsWorkRefusal : Wish → Raster → RunFault → Type 0
-IsWorkRefusal w g (Jobs jobs.Memory) = wish_fault w g ≡ None
-IsWorkRefusal w g (Jobs jobs.NoThread) = (wish_fault w g ≡ None) × (1 < w.workers)
-IsWorkRefusal w g fault = wish_fault w g ≡ Some fault
+-- A run may return the fault for this grid. Memory and threads are refused only where nothing
+-- forbids the map, and threads only with more than one worker.
+abbrev pub IsWorkRefusal : Request → Raster → RunFault → Type 0
+IsWorkRefusal w g (Jobs jobs.Memory) = request_fault w g ≡ None
+IsWorkRefusal w g (Jobs jobs.NoThread) = (request_fault w g ≡ None) × (1 < w.workers)
+IsWorkRefusal w g fault = request_fault w g ≡ Some fault
 
--- The refusal comes rightly for this text, which is a grid unless it is refused itself. A failed read says nothing of it.
-abbrev pub IsRunRefusal : Wish → List ℕ → RunFault → Type 0
+-- A run may return the fault for this text. All but a fault of the text and a failed read require
+-- that the text spells a grid.
+abbrev pub IsRunRefusal : Request → List ℕ → RunFault → Type 0
 IsRunRefusal w text (Grid fault) = IsRefusal w.scale text fault
 IsRunRefusal w text Read = ⊤
-IsRunRefusal w text Write = (g : Raster) × IsGridText w.scale text g × (wish_fault w g ≡ None)
+IsRunRefusal w text Write = (g : Raster) × IsGridText w.scale text g × (request_fault w g ≡ None)
 IsRunRefusal w text fault = (g : Raster) × IsGridText w.scale text g × IsWorkRefusal w g fault

@@ -1,4 +1,4 @@
-//! The program, from its words to its status: [`run_words`].
+//! Runs the program on a command line, and returns its exit status: [`run_words`].
 ghost use Rattle.std.specs.Prelude.{◌≡◌, ◌≤◌, ◌<◌, ◌-◌, ◌^◌, ℕ, List, map};
 ghost use Rattle.ascii_grid.specs.Device.{Writes};
 ghost use Rattle.clap.specs.Words.{kind_of};
@@ -20,9 +20,9 @@ use std::sync::Wait;
 use std::thread::Threads;
 use tile_jobs::{Gate, NoGate};
 
-/// A gate that reports how far a run is.
+/// A [`Gate`] that reports the progress of a run.
 pub trait Progress: Gate {
-    /// Called when the run has ended, before its fault is told.
+    /// Called once when the run has ended, before the line of its fault is written.
     fn finish(&self);
 }
 
@@ -36,7 +36,7 @@ const WORDS_REFUSED: u8 = 1;
 
 const NO_MEMORY: u8 = 3;
 
-/// Writes a text, with one line end after it.
+/// Writes `text` without trailing white space, then a line feed, and flushes.
 fn write_line<W: Write>(text: &str, out: &mut Counted<W>) -> Result<(), WriteFailed>
     requires { out.old.failures < 2 ^ 64 - 1 }
     ensures { (line : List ℕ) × EndsLine line × Writes W.contents out.old out.new line result }
@@ -46,7 +46,7 @@ fn write_line<W: Write>(text: &str, out: &mut Counted<W>) -> Result<(), WriteFai
     out.flush()
 }
 
-/// Shows a text, and answers a status, whatever becomes of the text.
+/// Writes `text` as a line, and returns `status` even if the write fails.
 fn show<W: Write>(text: &str, out: &mut Counted<W>, status: u8) -> u8
     requires { out.old.failures < 2 ^ 64 - 1 }
     ensures status { result ≡ status }
@@ -56,7 +56,8 @@ fn show<W: Write>(text: &str, out: &mut Counted<W>, status: u8) -> u8
     status
 }
 
-/// Shows what `clap` says of the words: help and the version on the writer, and refusals on the errors.
+/// Writes the text of an error of `clap`, and returns the exit status.
+/// Help and the version go to `writer`, refusals to `errors`.
 fn show_error<W: Write, E: Write>(
     alloc: Global,
     error: &Error,
@@ -65,7 +66,8 @@ fn show_error<W: Write, E: Write>(
 ) -> u8
     requires writer { writer.old.failures < 2 ^ 64 - 1 }
     requires errors { errors.old.failures < 2 ^ 64 - 1 }
-    ensures { EndsShowing W.contents E.contents (kind_of error.now) writer.old writer.new errors.old errors.new result }
+    ensures { EndsShowing W.contents E.contents (kind_of error.now) writer.old writer.new errors.old
+        errors.new result }
 {
     if error.kind() == ErrorKind::OutOfMemory {
         return NO_MEMORY;
@@ -80,12 +82,24 @@ fn show_error<W: Write, E: Write>(
     }
 }
 
-/// Runs the program on its words, its name first, and answers the status with which it ends: 0 done,
-/// 1 words refused, 2 the text, the tiles, a sink, a gauge or an observer refused, 3 no memory or no thread, 4 a device
-/// failed. An empty list of words is taken for the name alone. Help and the version go to `writer`. What is
-/// refused is told on `errors`: a fault in its line, the first bad observer, gauge or sink word by its place, and of
-/// other words what `clap` says. Where no fault or refusal is told `errors` stays as it is. That a device does not
-/// take what is told changes no status. `--progress` reports nothing here; see [`run_words_reported`].
+/// Runs the program on `words`, its name first, and returns the exit status.
+///
+/// 0: done. 1: words refused. 2: text, tiles, a sink, a gauge or an observer refused. 3: memory or
+/// a thread refused. 4: a device failed. An empty list counts as the program's name alone.
+///
+/// Help and the version go to `writer`. `errors` gets the line of a fault, the place of the first
+/// bad observer, gauge or sink word, or the message of `clap`. If that write fails, the status is
+/// unchanged. `--progress` has no effect: see [`run_words_reported`].
+///
+/// # Examples
+///
+/// ```ignore
+/// let mut reader = Counted::new(rt.stdin());
+/// let mut writer = Counted::new(rt.stdout());
+/// let mut errors = Counted::new(rt.stderr());
+/// let words = ["relief", "fill", "--tile=1"].as_slice();
+/// let status = run_words(&rt, rt.alloc(), words, &mut reader, &mut writer, &mut errors);
+/// ```
 pub fn run_words<H: Threads + Wait + Sync, R: Read, W: Write, E: Write>(
     rt: &H,
     alloc: Global,
@@ -98,13 +112,14 @@ pub fn run_words<H: Threads + Wait + Sync, R: Read, W: Write, E: Write>(
     requires writer { writer.old.failures < 2 ^ 64 - 1 }
     requires errors { errors.old.failures < 2 ^ 64 - 1 }
     ensures small { result ≤ 4 }
-    ensures ends { EndsProgram R.remaining W.contents E.contents (words_given (map (λ w. w.now) words.now))
+    ensures ends { EndsProgram R.remaining W.contents E.contents
+        (words_given (map (λ w. w.now) words.now))
         reader.old reader.new writer.old writer.new errors.old errors.new result }
 {
     run_words_reported(rt, alloc, words, reader, writer, errors, &NoGate)
 }
 
-/// Like [`run_words`]; calls `progress` only where the words ask for it.
+/// [`run_words`] that calls `progress` if `words` have `--progress`.
 pub fn run_words_reported<
     H: Threads + Wait + Sync,
     R: Read,
@@ -124,7 +139,8 @@ pub fn run_words_reported<
     requires writer { writer.old.failures < 2 ^ 64 - 1 }
     requires errors { errors.old.failures < 2 ^ 64 - 1 }
     ensures small { result ≤ 4 }
-    ensures ends { EndsProgram R.remaining W.contents E.contents (words_given (map (λ w. w.now) words.now))
+    ensures ends { EndsProgram R.remaining W.contents E.contents
+        (words_given (map (λ w. w.now) words.now))
         reader.old reader.new writer.old writer.new errors.old errors.new result }
 {
     match parse(alloc, words) {
@@ -146,7 +162,7 @@ pub fn run_words_reported<
     }
 }
 
-/// Runs a map, with a report of progress where the options ask for it.
+/// Runs a map, and calls `progress` if the options ask for it.
 fn run_reported<H: Threads + Wait + Sync, R: Read, W: Write, P: Progress + Sync>(
     rt: &H,
     alloc: Global,
@@ -157,7 +173,8 @@ fn run_reported<H: Threads + Wait + Sync, R: Read, W: Write, P: Progress + Sync>
 ) -> Result<(), RunFault>
     requires reader { reader.old.failures < 2 ^ 64 - 1 }
     requires writer { writer.old.failures < 2 ^ 64 - 1 }
-    ensures { Runs R.remaining W.contents options.now reader.old reader.new writer.old writer.new result }
+    ensures { Runs R.remaining W.contents options.now reader.old reader.new writer.old writer.new
+        result }
 {
     if !options.progress() {
         return run(rt, alloc, options, reader, writer);
@@ -180,7 +197,8 @@ fn run_options<H: Threads + Wait + Sync, R: Read, W: Write, E: Write, P: Progres
     requires writer { writer.old.failures < 2 ^ 64 - 1 }
     requires errors { errors.old.failures < 2 ^ 64 - 1 }
     ensures small { result ≤ 4 }
-    ensures ends { EndsRun R.remaining W.contents E.contents options.now reader.old reader.new writer.old writer.new errors.old errors.new result }
+    ensures ends { EndsRun R.remaining W.contents E.contents options.now reader.old reader.new
+        writer.old writer.new errors.old errors.new result }
 {
     match run_reported(rt, alloc, options, reader, writer, progress) {
         Ok(()) => DONE,
@@ -188,7 +206,7 @@ fn run_options<H: Threads + Wait + Sync, R: Read, W: Write, E: Write, P: Progres
     }
 }
 
-/// Tells a fault, and answers its status.
+/// Writes the line of a fault, and returns its exit status.
 fn end_with<E: Write>(fault: &RunFault, errors: &mut Counted<E>) -> u8
     requires { errors.old.failures < 2 ^ 64 - 1 }
     ensures status { result ≡ fault_status fault.now }

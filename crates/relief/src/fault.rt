@@ -1,4 +1,4 @@
-//! The faults of a run, with their numbers, names and statuses.
+//! The faults of a run, with their numbers, names and exit statuses.
 ghost use Rattle.std.specs.Prelude.{◌≡◌, ◌≤◌, length, option_map};
 ghost use Rattle.relief.specs.FaultLine.{telling, grid_telling, tiling_telling, jobs_telling, sight_telling, sinks_telling, gauges_telling, fault_status, status_of, plain, detailed, slot_text, detail_text};
 ghost use Rattle.relief.specs.declared.fault.RunFault.TheVariants.{Tiling, Jobs, Write};
@@ -12,20 +12,20 @@ use terrain::SinkFault;
 use tile_jobs::JobFault;
 use tiles::TilingFault;
 
-/// The refusals of a run.
+/// Why a run was refused or failed.
 #[derive(Clone, Copy, Debug, PartialEq, Eq)]
 pub enum RunFault {
-    /// The text is no grid, or there was no memory for its cells.
+    /// The text is no grid, or memory for its cells was refused.
     Grid(GridFault),
-    /// The grid has too many tiles of the side asked for.
+    /// The grid has too many tiles of the requested side.
     Tiling(TilingFault),
-    /// The work was refused memory or a thread.
+    /// Memory or a thread was refused.
     Jobs(JobFault),
-    /// An observer, the target height or the radius is at fault.
+    /// The observers, the target height or the radius are refused.
     Sight(SightFault),
-    /// A named sink is at fault.
+    /// The named sinks are refused.
     Sinks(SinkFault),
-    /// A gauge is at fault.
+    /// The gauges are refused.
     Gauges(GaugeFault),
     /// The reader failed.
     Read,
@@ -60,7 +60,7 @@ impl From<JobFault> for RunFault {
     }
 }
 
-// The work's faults have one shape, whichever map is asked for.
+// A fault of the jobs is `Jobs`, whichever map they make.
 impl From<SightFault> for RunFault {
     ghost from_gives = { λ fault told. told ≡ of_sight fault };
 
@@ -102,14 +102,14 @@ impl From<WriteFailed> for RunFault {
     }
 }
 
-/// What follows a fault's name in its line.
+/// What a line gives after a fault's name: a header key, a place or a count.
 #[derive(Clone, Copy, Debug, PartialEq, Eq)]
 pub(crate) enum Detail {
     Slot(Key),
     Count(u32),
 }
 
-/// What a fault's line tells of it.
+/// The parts of a fault's line.
 #[derive(Drop)]
 pub(crate) struct Notice {
     pub(crate) number: u8,
@@ -123,28 +123,32 @@ impl Model for Notice {
 
     ghost Value = { Telling };
 
-    ghost view = { λ n. record { number = n.number; name = n.name.now; detail = option_map detail_text n.detail } };
+    ghost view = { λ n. record {
+      number = n.number;
+      name = n.name.now;
+      detail = option_map detail_text n.detail;
+    } };
 
     ghost invariant = { λ n. length n.name.now ≤ 40 };
 }
 
 impl RunFault {
-    /// The fault's number, from 1 to 63.
+    /// Returns the fault's number, from 1 to 63.
     pub fn number(&self) -> u8
         ensures { result ≡ (telling self.now).number }
     {
         self.notice().number
     }
 
-    /// The status with which the program ends: 3 for want of memory or of a thread, 4 for a device, and
-    /// else 2.
+    /// Returns the exit status of the program.
+    /// 3 if memory or a thread was refused, 4 if a device failed, otherwise 2.
     pub fn status(&self) -> u8
         ensures { result ≡ fault_status self.now }
     {
         status_of(self.number())
     }
 
-    /// What the fault's line tells.
+    /// Returns the parts of the fault's line.
     pub(crate) fn notice(&self) -> Notice
         ensures { result ≡ telling self.now }
     {
@@ -267,7 +271,7 @@ fn gauges_notice(fault: &GaugeFault) -> Notice
     }
 }
 
-/// A slot as it is written.
+/// Returns the name of a header key in the line of a fault.
 pub(crate) fn slot_name(key: Key) -> &'static [u8]
     ensures name { result.now ≡ slot_text key }
     ensures short { length result.now ≤ 40 }

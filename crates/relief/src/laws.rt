@@ -1,13 +1,15 @@
-//! Facts of the definitions alone.
+//! Theorems about the definitions, as functions without code.
 ghost use Rattle.std.specs.Prelude.{◌≡◌, ℕ, List};
 ghost use Rattle.terrain.specs.declared.place.Place.{Place};
 ghost use Rattle.request.specs.Laws.{AreSame};
 ghost use Rattle.request.specs.declared.map.Map.{Map};
 ghost use Rattle.relief.specs.MapText.{IsMapOfText};
 
-/// A text and sinks have one map. So whatever the tile's side, the number of workers and the schedule, two runs
-/// that complete write the same, and the same as one thread writes on the whole grid.
+/// Proves that grid text, scale, map and sinks determine the text written.
+/// So tile side, number of workers and schedule do not change what a complete run writes.
 pub fn maps_are_one()
-    ensures { (scale : ℕ) (map same : Map) (sinks : List Place) (input text other : List ℕ) → AreSame map same →
-        IsMapOfText scale map sinks input text → IsMapOfText scale same sinks input other → text ≡ other }
+    ensures { (scale : ℕ) (map same : Map) (sinks : List Place) (input text other : List ℕ) →
+        AreSame map same →
+        IsMapOfText scale map sinks input text → IsMapOfText scale same sinks input other →
+        text ≡ other }
 {}

@@ -1,16 +1,16 @@
-//! Maps of terrain grids, from bytes to bytes, and the program `relief`.
+//! Makes maps of terrain grids, from bytes to bytes, and runs the program `relief`.
 //!
 //! [`run`] reads a grid and writes one map; its contract `Runs` is the headline of
-//! `docs/promises.md`. [`run_words`] reads the command line first. Depends on all stages.
+//! `docs/promises.md`. [`run_words`] parses the command line first. Depends on all stages.
 //!
-//! Modules, from what is called to what it depends on:
+//! Modules, callers before what they call:
 //!
-//! - `command`: `run_words`, from words to a status
+//! - `command`: `run_words`, from a command line to an exit status
 //! - `running`: `run`, from bytes to bytes
-//! - `making`: tiles, sinks and the map
-//! - `fault`: faults, numbers, statuses
-//! - `telling`: a fault as a line
-//! - `laws`: facts of the definitions
+//! - `making`: cuts tiles, adds sinks and makes the map
+//! - `fault`: faults with their numbers, names and exit statuses
+//! - `telling`: writes the line of a fault
+//! - `laws`: theorems about the definitions
 #![tactic(auto)]
 
 mod command;

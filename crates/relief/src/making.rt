@@ -1,4 +1,4 @@
-//! Cuts a grid, names its sinks (`prepare`), and makes one map of it (`make_map`).
+//! Cuts a grid into tiles and adds its sinks (`prepare`), then makes its map (`make_map`).
 ghost use Rattle.std.specs.Prelude.{◌≡◌, ◌<◌, ◌≤◌, ◌*◌, List, None, IfOk, IfErr, OnOk, option_map};
 ghost use Rattle.terrain.specs.declared.place.Place.{Place};
 ghost use Rattle.tiles.specs.Cutting.{Cuts, longest_side, most_tiles};
@@ -6,9 +6,9 @@ ghost use Rattle.tile_jobs.specs.Fault.{RefusesWorkers};
 ghost use Rattle.drainage.specs.Drained.{directed_of};
 ghost use Rattle.drainage.specs.Filled.{IsFilledGrid};
 ghost use Rattle.flow.specs.Catchments.{gauges_fault};
-ghost use Rattle.relief.specs.MadeMap.{drained_into, made_text, FitsGrid};
+ghost use Rattle.relief.specs.MadeMap.{grid_with_sinks, made_text, FitsGrid};
 ghost use Rattle.relief.specs.MapText.{IsMapText, IsDrainage};
-ghost use Rattle.relief.specs.Refusals.{IsWorkRefusal, gauge_fault, observer_fault, named_place_fault, wish_fault, tiles_of};
+ghost use Rattle.relief.specs.Refusals.{IsWorkRefusal, gauge_fault, observer_fault, named_place_fault, request_fault, tiles_of};
 
 use crate::fault::RunFault;
 use drain::directions;
@@ -24,7 +24,7 @@ use terrain::{Count, Frame, Grid, sinks_fault};
 use tile_jobs::{Gate, JobFault};
 use tiles::{Tiling, TilingFault};
 
-/// A map that waits to be written. But for heights, its grid's cells are let go, and the header is left.
+/// A finished map with its header. Codes and counts keep no heights.
 #[derive(Drop)]
 pub(crate) enum MadeMap {
     Heights(Grid),
@@ -32,8 +32,8 @@ pub(crate) enum MadeMap {
     Counts(Frame, Vec<Count>),
 }
 
-/// The directions on a grid's filled heights, and the filled grid without its cells.
-fn drained<H: Threads + Wait + Sync, G: Gate + Sync>(
+/// Fills a grid and finds its directions. Frees the heights, keeps the header.
+fn find_directions<H: Threads + Wait + Sync, G: Gate + Sync>(
     rt: &H,
     alloc: Global,
     grid: Grid,
@@ -55,18 +55,19 @@ fn drained<H: Threads + Wait + Sync, G: Gate + Sync>(
     Ok((filled.into_grid().into_frame(), directions))
 }
 
-/// Cuts a grid into tiles of this side.
+/// Cuts a grid into square tiles of `side` cells.
 fn cut(grid: &Grid, side: u32) -> Result<Tiling, TilingFault>
     requires some { 1 ≤ side }
     requires short { side ≤ longest_side }
     ensures cuts { IfOk result (λ t. Cuts t grid.now.terrain) }
     ensures few { OnOk result (tiles_of grid.now side ≤ most_tiles) }
-    ensures many { IfErr result (λ f. (f ≡ TilingFault.TooManyTiles) × (most_tiles < tiles_of grid.now side)) }
+    ensures many { IfErr result
+        (λ f. (f ≡ TilingFault.TooManyTiles) × (most_tiles < tiles_of grid.now side)) }
 {
     Tiling::new(grid.cols(), grid.rows(), side)
 }
 
-/// The fault of the sinks, or else of the gauges, that are asked for.
+/// Returns the fault of the requested sinks or, if they are sound, of the gauges.
 fn named_place_fault(options: &Options, grid: &Grid) -> Option<RunFault>
     ensures { result ≡ named_place_fault options.now grid.now }
 {
@@ -81,15 +82,16 @@ fn named_place_fault(options: &Options, grid: &Grid) -> Option<RunFault>
     None
 }
 
-/// Cuts a grid into tiles, judges the sinks and gauges, and gives it the sinks asked for.
+/// Cuts a grid into tiles, checks sinks and gauges, and adds the sinks.
 pub(crate) fn prepare(
     alloc: Global,
     options: &Options,
     grid: Grid,
 ) -> Result<(Grid, Tiling), RunFault>
-    ensures grid { IfOk result (λ p. p.0 ≡ drained_into options.now.sinks grid) }
+    ensures grid { IfOk result (λ p. p.0 ≡ grid_with_sinks options.now.sinks grid) }
     ensures cuts { IfOk result (λ p. Cuts p.1 p.0.terrain) }
-    ensures sound { IfOk result (λ p. wish_fault options.now p.0 ≡ option_map RunFault.Sight (observer_fault p.0 options.now.map)) }
+    ensures sound { IfOk result (λ p. request_fault options.now p.0
+        ≡ option_map RunFault.Sight (observer_fault p.0 options.now.map)) }
     ensures gauges { IfOk result (λ p. gauge_fault p.0 options.now.map ≡ None) }
     ensures fault { IfErr result (λ f. IsWorkRefusal options.now grid f) }
 {
@@ -105,7 +107,7 @@ pub(crate) fn prepare(
     Ok((grid, tiling))
 }
 
-/// Judges the observers, and makes the map that is asked for.
+/// Checks the observers, and makes the requested map.
 pub(crate) fn make_map<H: Threads + Wait + Sync, G: Gate + Sync>(
     rt: &H,
     alloc: Global,
@@ -115,11 +117,12 @@ pub(crate) fn make_map<H: Threads + Wait + Sync, G: Gate + Sync>(
     gate: &G,
 ) -> Result<MadeMap, RunFault>
     requires cuts { Cuts tiling.now grid.terrain }
-    requires sound { wish_fault options.now grid ≡ option_map RunFault.Sight (observer_fault grid options.now.map) }
+    requires sound { request_fault options.now grid
+        ≡ option_map RunFault.Sight (observer_fault grid options.now.map) }
     requires gauges { gauge_fault grid options.now.map ≡ None }
     ensures map { IfOk result (λ m. IsMapText grid options.now.map (made_text m)) }
     ensures size { IfOk result (λ m. FitsGrid m) }
-    ensures ready { OnOk result (wish_fault options.now grid ≡ None) }
+    ensures ready { OnOk result (request_fault options.now grid ≡ None) }
     ensures fault { IfErr result (λ f. IsWorkRefusal options.now grid f) }
 {
     let workers = options.workers();
@@ -129,21 +132,21 @@ pub(crate) fn make_map<H: Threads + Wait + Sync, G: Gate + Sync>(
             Ok(MadeMap::Heights(filled.into_grid()))
         }
         Map::Flow => {
-            let (frame, directions) = drained(rt, alloc, grid, tiling, workers, gate)?;
+            let (frame, directions) = find_directions(rt, alloc, grid, tiling, workers, gate)?;
             Ok(MadeMap::Codes(frame, directions))
         }
         Map::Accumulate => {
-            let (frame, directions) = drained(rt, alloc, grid, tiling, workers, gate)?;
+            let (frame, directions) = find_directions(rt, alloc, grid, tiling, workers, gate)?;
             let counts = accumulation(rt, alloc, &directions, tiling, workers, gate)?;
             Ok(MadeMap::Counts(frame, counts))
         }
         Map::Basins => {
-            let (frame, directions) = drained(rt, alloc, grid, tiling, workers, gate)?;
+            let (frame, directions) = find_directions(rt, alloc, grid, tiling, workers, gate)?;
             let numbers = basins(rt, alloc, &directions, tiling, workers, gate)?;
             Ok(MadeMap::Counts(frame, numbers))
         }
         Map::Catchments { gauges } => {
-            let (frame, directions) = drained(rt, alloc, grid, tiling, workers, gate)?;
+            let (frame, directions) = find_directions(rt, alloc, grid, tiling, workers, gate)?;
             let numbers = catchments(rt, alloc, &directions, gauges, tiling, workers, gate)?;
             Ok(MadeMap::Counts(frame, numbers))
         }

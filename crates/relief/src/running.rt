@@ -1,7 +1,6 @@
-//! The whole way from bytes to bytes: [`run`], and [`run_gated`] with a gate.
+//! Makes a map from bytes to bytes: [`run`], and [`run_gated`] with a gate.
 //!
-//! Reads, cuts, makes the map, writes: in this order, so nothing is written before the map is
-//! whole.
+//! Reads, cuts tiles, makes the map, then writes. Nothing is written before the map is complete.
 ghost use Rattle.std.specs.Prelude.{◌<◌, ◌-◌, ◌^◌};
 ghost use Rattle.ascii_grid.specs.Device.{Writes};
 ghost use Rattle.relief.specs.MadeMap.{made_text, FitsGrid};
@@ -17,18 +16,30 @@ use std::sync::Wait;
 use std::thread::Threads;
 use text_jobs::{read_grid, write_codes, write_framed_counts, write_heights};
 use tile_jobs::{Gate, NoGate};
-use tile_maps::Crew;
+use tile_maps::Runner;
 
-/// Reads a grid, and writes the map that is asked for: what is written is the map of the grid that the
-/// bytes read spell, with the sinks asked for, for every tile size, number of workers and schedule. Nothing is written before the
-/// map is whole, and from the first byte on only [`RunFault::Write`] can come and no memory is taken. At most
-/// 2^29 + 1 bytes are read.
+/// Reads a grid, makes the requested map with its sinks, and writes it.
 ///
-/// No contract knows which bytes standard input and output hold. Of such streams this says where they failed, how many
-/// bytes were moved, and that the writer stays as it is until the map is whole.
+/// Tile size, number of workers and schedule do not change the map. At most 2^29 + 1 bytes are
+/// read. Nothing is written before the map is complete, and nothing is allocated after the first
+/// byte written.
 ///
-/// Refusals in their order: a fault of the text, or a failed read; too many tiles; the sinks' fault;
-/// the gauges' or the observers' fault; want of memory or of a thread; a failed write.
+/// The contract does not model the bytes of standard input and output. For them it gives failures,
+/// the number of bytes moved, and that `writer` is unchanged until the map is complete.
+///
+/// # Errors
+///
+/// The first of these: a fault of the text or a failed read; too many tiles; a fault of the sinks;
+/// a fault of the gauges or observers; memory or a thread refused; a failed write.
+///
+/// # Examples
+///
+/// ```ignore
+/// let options = Options::new(Map::Fill, 256, 1, 0).ok_or("options")?;
+/// let mut reader = Counted::new(rt.stdin());
+/// let mut writer = Counted::new(rt.stdout());
+/// let result = run(&rt, rt.alloc(), &options, &mut reader, &mut writer);
+/// ```
 pub fn run<H: Threads + Wait + Sync, R: Read, W: Write>(
     rt: &H,
     alloc: Global,
@@ -38,12 +49,17 @@ pub fn run<H: Threads + Wait + Sync, R: Read, W: Write>(
 ) -> Result<(), RunFault>
     requires reader { reader.old.failures < 2 ^ 64 - 1 }
     requires writer { writer.old.failures < 2 ^ 64 - 1 }
-    ensures { Runs R.remaining W.contents options.now reader.old reader.new writer.old writer.new result }
+    ensures { Runs R.remaining W.contents options.now reader.old reader.new writer.old writer.new
+        result }
 {
     run_gated(rt, alloc, options, reader, writer, &NoGate)
 }
 
-/// [`run`] with a gate that is called at each stage and job of the map.
+/// [`run`] with a [`Gate`] that is called at each stage and job of the map.
+///
+/// # Errors
+///
+/// Those of [`run`].
 pub fn run_gated<H: Threads + Wait + Sync, R: Read, W: Write, G: Gate + Sync>(
     rt: &H,
     alloc: Global,
@@ -54,24 +70,25 @@ pub fn run_gated<H: Threads + Wait + Sync, R: Read, W: Write, G: Gate + Sync>(
 ) -> Result<(), RunFault>
     requires reader { reader.old.failures < 2 ^ 64 - 1 }
     requires writer { writer.old.failures < 2 ^ 64 - 1 }
-    ensures { Runs R.remaining W.contents options.now reader.old reader.new writer.old writer.new result }
+    ensures { Runs R.remaining W.contents options.now reader.old reader.new writer.old writer.new
+        result }
 {
-    let crew = Crew {
+    let runner = Runner {
         rt,
         alloc,
         workers: options.workers(),
         gate: &NoGate,
     };
-    let grid = read_grid(&crew, options.scale(), reader)?;
+    let grid = read_grid(&runner, options.scale(), reader)?;
     let (grid, tiling) = prepare(alloc, options, grid)?;
     let made = make_map(rt, alloc, options, grid, &tiling, gate)?;
-    write_map(&crew, &made, writer)?;
+    write_map(&runner, &made, writer)?;
     Ok(())
 }
 
-/// Writes a map with the header of its grid. From the first byte on it takes no memory.
+/// Writes a map with its header. Allocates nothing after the first byte written.
 fn write_map<H: Threads + Wait + Sync, W: Write>(
-    crew: &Crew<H, NoGate>,
+    runner: &Runner<H, NoGate>,
     made: &MadeMap,
     writer: &mut Counted<W>,
 ) -> Result<(), WriteFailed>
@@ -80,8 +97,8 @@ fn write_map<H: Threads + Wait + Sync, W: Write>(
     ensures { Writes W.contents writer.old writer.new (made_text made.now) result }
 {
     match made {
-        MadeMap::Heights(grid) => write_heights(crew, grid, writer),
-        MadeMap::Codes(frame, directions) => write_codes(crew, frame, directions.codes(), writer),
-        MadeMap::Counts(frame, values) => write_framed_counts(crew, frame, values, writer),
+        MadeMap::Heights(grid) => write_heights(runner, grid, writer),
+        MadeMap::Codes(frame, directions) => write_codes(runner, frame, directions.codes(), writer),
+        MadeMap::Counts(frame, values) => write_framed_counts(runner, frame, values, writer),
     }
 }

@@ -1,4 +1,4 @@
-//! Writes a fault as its line: [`tell`].
+//! Writes the line of a fault: [`tell`].
 ghost use Rattle.std.specs.Prelude.{◌≡◌, ◌<◌, ◌≤◌, ◌+◌, ◌-◌, ◌^◌, ◌++◌, [], length, codes, decimal, option_map};
 ghost use Rattle.std.specs.Option.{option_map_or};
 ghost use Rattle.ascii_grid.specs.Device.{Writes};
@@ -18,10 +18,11 @@ fn push_number(number: u64, line: &mut Page)
     line.push(digits.format(number).as_bytes());
 }
 
-/// Adds a space and the detail, where there is one.
+/// Appends a space and the detail, if there is one.
 fn push_detail(detail: Option<Detail>, line: &mut Page)
     requires { length line.old ≤ 500 }
-    ensures text { line.new ≡ line.old ++ option_map_or (λ d. codes " " ++ d) (option_map detail_text detail) [] }
+    ensures text { line.new
+        ≡ line.old ++ option_map_or (λ d. codes " " ++ d) (option_map detail_text detail) [] }
     ensures short { length line.new ≤ length line.old + 41 }
 {
     match detail {
@@ -37,8 +38,11 @@ fn push_detail(detail: Option<Detail>, line: &mut Page)
     }
 }
 
-/// Writes the line of a fault: `relief: `, its number, a space, its name and, where it has one, a space
-/// and its detail. It takes no memory.
+/// Writes the line of a fault, as `relief: 41 Outside 0`. Allocates nothing.
+///
+/// # Errors
+///
+/// [`WriteFailed`] if a write or the flush fails.
 pub fn tell<W: Write>(fault: &RunFault, out: &mut Counted<W>) -> Result<(), WriteFailed>
     requires { out.old.failures < 2 ^ 64 - 1 }
     ensures { Writes W.contents out.old out.new (fault_line fault.now) result }
@@ -58,7 +62,7 @@ pub fn tell<W: Write>(fault: &RunFault, out: &mut Counted<W>) -> Result<(), Writ
     line.write_to(out)
 }
 
-/// Writes the line of a bad word, by its place from 0.
+/// Writes `front`, then the place of a bad word, from 0, as a line.
 pub(crate) fn tell_bad_word<W: Write>(
     front: &'static [u8],
     place: usize,

@@ -1,4 +1,4 @@
-//! The program `relief`: passes the process's words and streams to `run_words_reported`.
+//! The program `relief`: passes its arguments and standard streams to `run_words_reported`.
 #![tactic(auto)]
 
 mod progress;
@@ -16,10 +16,11 @@ const WORDS_REFUSED: u8 = 1;
 
 const NO_MEMORY: u8 = 3;
 
-/// The longest list that the C library's allocator keeps, in bytes: with its own words in front, the last whole page below 32 MiB.
+/// The longest list that the C library keeps when it is freed, in bytes.
+/// With the allocator's header it ends in the last whole page below 32 MiB.
 const LONGEST_KEPT: usize = (1 << 25) - (1 << 13);
 
-/// Returns the status of words that cannot be read; a word that is not UTF-8 gets a line.
+/// Returns the status for unreadable words. One that is not UTF-8 gets a line.
 fn refuse_words(error: &io::Error, errors: &mut impl Write) -> u8 {
     if error.kind() == ErrorKind::OutOfMemory {
         return NO_MEMORY;
@@ -33,14 +34,14 @@ fn read_words(rt: &(impl Env + AllocGlobal)) -> io::Result<Vec<String>> {
     Ok(words)
 }
 
-/// The C library's allocator gives a long list that is let go back to the system, but for those no longer than one that it has
-/// seen let go: they are kept for lists to come. A map of millions of cells meets a third fewer new pages of memory then.
-fn keep_lists_let_go(alloc: Global) {
+/// Frees one long list, so that the C library keeps shorter ones freed later.
+/// A map of millions of cells then touches a third fewer new pages of memory.
+fn keep_freed_lists(alloc: Global) {
     drop(Vec::<u8>::with_capacity(alloc, LONGEST_KEPT));
 }
 
 fn main(rt: HostRuntime) -> ExitCode {
-    keep_lists_let_go(rt.alloc());
+    keep_freed_lists(rt.alloc());
     let words = match read_words(&rt) {
         Ok(words) => words,
         Err(error) => return ExitCode::from(refuse_words(&error, &mut rt.stderr())),

@@ -1,35 +1,34 @@
-//! Reports on standard error how far a run is: [`ProgressReport`].
+//! Reports the progress of a run on standard error: [`ProgressReport`].
 use relief::{Gate, Progress};
 use std::alloc::Global;
 use std::io::{IsTerminal, Stderr, Write};
 use std::sync::{Mutex, Wait};
 use std::time::{Clock, Instant};
 
-/// The least time between two reports on a terminal.
+/// The least time between two reports on a terminal, in milliseconds.
 const LEAST_PAUSE_MS: u128 = 100;
 
-/// Moves to the start of a terminal's line and clears it.
+/// Moves to the start of a terminal's line and clears the line.
 const CLEAR_LINE: &str = "\r\x1b[K";
 
-/// How far a stage is, and where that is reported.
+/// The progress of a stage, and the stream to which it is reported.
 #[derive(Drop)]
 struct Stage {
     errors: Stderr,
     number: u32,
     jobs: u64,
     finished_jobs: u64,
-    /// Of all jobs.
+    /// The finished parts of all jobs.
     finished_parts: u64,
-    /// Of each job; 0 where jobs have none.
+    /// The parts of each job, or 0 if jobs have no parts.
     parts: u64,
     reported_tenths: u64,
     last_report: Option<Instant>,
-    /// Whether a line stands on the terminal.
     is_shown: bool,
 }
 
 impl Stage {
-    /// How much of the stage is finished, from 0 to 100.
+    /// Returns how much of the stage is finished, from 0 to 100.
     fn percent(&self) -> u64 {
         let (finished, due) = if self.parts > 0 {
             (self.finished_parts, self.jobs.saturating_mul(self.parts))
@@ -43,7 +42,7 @@ impl Stage {
             .min(100)
     }
 
-    /// Writes a line in the place of the last one, unless that was written just now.
+    /// Replaces the terminal's line, at most once every [`LEAST_PAUSE_MS`].
     fn report_in_place(&mut self, alloc: Global, clock: &impl Clock) {
         let Ok(now) = Instant::now(clock) else {
             return;
@@ -64,7 +63,7 @@ impl Stage {
         }
     }
 
-    /// Clears the line that stands on the terminal.
+    /// Clears the terminal's line if it shows one.
     fn clear(&mut self) {
         if self.is_shown {
             self.is_shown = false;
@@ -72,7 +71,7 @@ impl Stage {
         }
     }
 
-    /// Writes a line where a further tenth is finished.
+    /// Writes a line if a further tenth of the stage is finished.
     fn report_tenths(&mut self, alloc: Global) {
         let tenths = self.percent() / 10;
         if tenths <= self.reported_tenths {
@@ -85,11 +84,11 @@ impl Stage {
     }
 }
 
-/// A gate that reports how far each stage of a run is: on a terminal in one line, written anew in
-/// place at most ten times a second and cleared as the stage ends, so that the map may follow on the
-/// same terminal; elsewhere in a line for each tenth.
+/// A [`Gate`] that reports the progress of each stage of a run.
 ///
-/// A line that cannot be written or allocated is dropped.
+/// On a terminal it replaces one line at most ten times a second, and clears it when the stage
+/// ends, so that the map may follow. Elsewhere it writes a line for each tenth. A line that cannot
+/// be allocated or written is dropped.
 #[derive(Drop)]
 pub struct ProgressReport<'a, R> {
     rt: &'a R,

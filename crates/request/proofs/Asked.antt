@@ -1,4 +1,4 @@
--- What words ask for, by the subcommand that `clap` finds in them.
+-- What a command line requests, by the subcommand that `clap` finds.
 use Rattle.std.proofs.Common.{◌≡◌, ℕ, List, [], ◌∷◌, length, map, eqb, Option, Some, None, true, false, slice_index, codes, arith, sym, ap, ap₂, subst, refl, inl, ◌∙◌, Bor, Box}
 use Rattle.std.specs.Prelude.{option_map}
 use Rattle.std.specs.Box.{box_value}
@@ -10,9 +10,9 @@ use Rattle.clap.specs.declared.parser.matches.ArgMatches.{ArgMatches}
 use Rattle.clap.specs.declared.parser.matches.ArgMatches.TheViews.{out-SubCommand}
 use Rattle.clap.specs.declared.parser.matches.SubCommand.{SubCommand}
 use Rattle.clap.proofs.OnLiterals.{clap_on_literals}
-use Rattle.request.specs.CommandLine.{HasBadGauge, HasBadObserver, HasBadSink, HasOptions, IsFirstBad, Names, Spell, WishFor, is_given, program_app, sink_words, words_given}
+use Rattle.request.specs.CommandLine.{HasBadGauge, HasBadObserver, HasBadSink, HasOptions, IsFirstBad, Names, Spell, RequestFor, is_given, program_app, sink_words, words_given}
 use Rattle.request.specs.PlaceWords.{sink_of}
-use Rattle.request.specs.Wish.{AreLimits, IsView, Wish}
+use Rattle.request.specs.Request.{AreLimits, IsView, Request}
 use Rattle.request.specs.WordsFaults.{IsBadObserverAfter, IsBadGaugeAfter, IsFaultBy, IsFaultOf, IsMapFault}
 use Rattle.request.specs.declared.words.WordsFault.{WordsFault}
 use Rattle.request.specs.declared.words.WordsFault.TheVariants.{Clap, BadObserver, BadGauge, BadSink, NoMap}
@@ -28,11 +28,9 @@ pub program_free : is_simple_and_free program_app ≡ true
 unfolding clap_on_literals
 program_free = refl
 
--- the subcommand that the matches have is that of the words
 pub found_in : (app : App) (words : List Text) (m : ArgMatches) → app ≡ program_app → HasMatchesOf app words m → subcommand_of program_app words ≡ subcommand_rows_of m
 found_in app words m is has = ap (λ a. subcommand_of a words) (sym is) ∙ sym (has (ap is_simple is ∙ program_simple)).1
 
--- the words of matches have no fault
 pub accepted : (app : App) (words : List Text) → app ≡ program_app → (is_simple_and_free app ≡ true → fault_of app words ≡ []) → fault_of program_app words ≡ []
 accepted app words is none = ap (λ a. fault_of a words) (sym is) ∙ none (ap is_simple_and_free is ∙ program_free)
 
@@ -50,7 +48,7 @@ module _ (words : List Text) (accepted : fault_of program_app words ≡ []) wher
   pub none_named : subcommand_of program_app words ≡ None → IsFaultOf words NoMap
   none_named none = (
     accepted,
-    λ wish w. none-some _ (sym none ∙ w.command.found),
+    λ request w. none-some _ (sym none ∙ w.command.found),
     λ place bad. none-some _ (sym none ∙ bad.command.found),
     λ place bad. none-some _ (sym none ∙ bad.command.found),
     λ place bad. none-some _ (sym none ∙ bad.command.found),
@@ -60,8 +58,8 @@ module _ (words : List Text) (accepted : fault_of program_app words ≡ []) wher
     same_found : (p : Text × List Row) → subcommand_of program_app words ≡ Some p → p ≡ (n, rs)
     same_found p is = same_Some p (n, rs) (sym is ∙ found)
 
-    map_of_wish : (wish : Wish) → WishFor words wish → Names n rs wish.map
-    map_of_wish wish w = subst (λ (p : Text × List Row). Names p.0 p.1 wish.map) (same_found _ w.command.found) w.map
+    map_of_request : (request : Request) → RequestFor words request → Names n rs request.map
+    map_of_request request w = subst (λ (p : Text × List Row). Names p.0 p.1 request.map) (same_found _ w.command.found) w.map
 
     bad_after : (place : ℕ) → HasBadObserver words place → IsBadObserverAfter n rs place
     bad_after place bad = subst (λ (p : Text × List Row). IsBadObserverAfter p.0 p.1 place) (same_found _ bad.command.found) (refl, bad.first)
@@ -69,9 +67,9 @@ module _ (words : List Text) (accepted : fault_of program_app words ≡ []) wher
     bad_gauge_after : (place : ℕ) → HasBadGauge words place → IsBadGaugeAfter n rs place
     bad_gauge_after place bad = subst (λ (p : Text × List Row). IsBadGaugeAfter p.0 p.1 place) (same_found _ bad.command.found) (refl, bad.first)
 
-    pub wished : (map : Map) (wish : Wish) → Names n rs map → wish.map ≡ map → Spell sink_of (sink_words n rs) wish.sinks → HasOptions rs wish.tile wish.workers wish.scale → AreLimits wish.tile wish.workers wish.scale
-        → wish.progress ≡ is_given (codes "progress") rs → (IsView wish.map → wish.sinks ≡ []) → WishFor words wish
-    wished map wish named same spelled options limits progress view = record {
+    pub requested : (map : Map) (request : Request) → Names n rs map → request.map ≡ map → Spell sink_of (sink_words n rs) request.sinks → HasOptions rs request.tile request.workers request.scale → AreLimits request.tile request.workers request.scale
+        → request.progress ≡ is_given (codes "progress") rs → (IsView request.map → request.sinks ≡ []) → RequestFor words request
+    requested map request named same spelled options limits progress view = record {
       name = n;
       rows = rs;
       command = record { accepted = accepted; found = found };
@@ -100,7 +98,7 @@ module _ (words : List Text) (accepted : fault_of program_app words ≡ []) wher
     map_refused (BadSink place) h = absurd h
     map_refused NoMap h = (
       accepted,
-      λ wish w. h.0 wish.map (map_of_wish wish w),
+      λ request w. h.0 request.map (map_of_request request w),
       λ place bad. h.1 place (bad_after place bad),
       λ place bad. h.0 bad.map (named_of_bad place bad),
       λ place bad. h.2 place (bad_gauge_after place bad),
@@ -127,32 +125,30 @@ module _ (words : List Text) (accepted : fault_of program_app words ≡ []) wher
         → ((tile workers scale : ℕ) → AreLimits tile workers scale → HasOptions rs tile workers scale → ⊥) → IsFaultOf words NoMap
     options_refused map sinks named spelled never = (
       accepted,
-      λ wish w. never wish.tile wish.workers wish.scale w.limits.in_limits (subst (λ (p : Text × List Row). HasOptions p.1 wish.tile wish.workers wish.scale) (same_found _ w.command.found) w.options),
+      λ request w. never request.tile request.workers request.scale w.limits.in_limits (subst (λ (p : Text × List Row). HasOptions p.1 request.tile request.workers request.scale) (same_found _ w.command.found) w.options),
       λ place bad. map_without_bad n rs map place named (bad_after place bad),
       λ place bad. none_bad sink_of _ sinks place spelled (words_of_bad place bad),
       λ place bad. map_without_bad_gauge n rs map place named (bad_gauge_after place bad),
     )
 
-    pub bad_wishes_none : (place : ℕ) → HasBadObserver words place → (wish : Wish) → ¬ WishFor words wish
-    bad_wishes_none place bad wish w = map_without_bad n rs wish.map place (map_of_wish wish w) (bad_after place bad)
+    pub bad_requests_none : (place : ℕ) → HasBadObserver words place → (request : Request) → ¬ RequestFor words request
+    bad_requests_none place bad request w = map_without_bad n rs request.map place (map_of_request request w) (bad_after place bad)
 
-    pub bad_gauge_wishes_none : (place : ℕ) → HasBadGauge words place → (wish : Wish) → ¬ WishFor words wish
-    bad_gauge_wishes_none place bad wish w = map_without_bad_gauge n rs wish.map place (map_of_wish wish w) (bad_gauge_after place bad)
+    pub bad_gauge_requests_none : (place : ℕ) → HasBadGauge words place → (request : Request) → ¬ RequestFor words request
+    bad_gauge_requests_none place bad request w = map_without_bad_gauge n rs request.map place (map_of_request request w) (bad_gauge_after place bad)
 
-    pub bad_sink_wishes_none : (place : ℕ) → HasBadSink words place → (wish : Wish) → ¬ WishFor words wish
-    bad_sink_wishes_none place bad wish w =
-        none_bad sink_of _ wish.sinks place
-        (subst (λ (p : Text × List Row). Spell sink_of (sink_words p.0 p.1) wish.sinks) (same_found _ w.command.found) w.sinks)
+    pub bad_sink_requests_none : (place : ℕ) → HasBadSink words place → (request : Request) → ¬ RequestFor words request
+    bad_sink_requests_none place bad request w =
+        none_bad sink_of _ request.sinks place
+        (subst (λ (p : Text × List Row). Spell sink_of (sink_words p.0 p.1) request.sinks) (same_found _ w.command.found) w.sinks)
         (words_of_bad place bad)
 
     pub one_bad_sink : (place other : ℕ) → HasBadSink words place → HasBadSink words other → place ≡ other
     one_bad_sink place other bad b = same_Some _ _ (sym (words_of_bad place bad) ∙ words_of_bad other b)
 
-    -- a view has no bad sink word, and no other map has a bad observer word
     pub bad_alone : (place other : ℕ) → HasBadObserver words place → HasBadSink words other → ⊥
     bad_alone place other bad b = map_without_bad n rs b.map place (named_of_bad other b) (bad_after place bad)
 
-    -- where sink words are bad the gauge words are good, and there is no bad gauge word in a view
     pub bad_gauge_alone : (place other : ℕ) → HasBadGauge words place → HasBadSink words other → ⊥
     bad_gauge_alone place other bad b = map_without_bad_gauge n rs b.map place (named_of_bad other b) (bad_gauge_after place bad)
 

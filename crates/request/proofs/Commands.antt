@@ -1,4 +1,4 @@
--- Commands that grow by an argument or a subcommand.
+-- Adding an argument or a subcommand to a command.
 use Rattle.std.proofs.Common.{◌≡◌, ◌++◌, ◌∷◌, [], ◌||◌, ap, ap₂, ◌∙◌}
 use Rattle.clap.specs.Words.{App, Rule, Shape, app_of, with_rule, with_subcommand}
 use Rattle.clap.specs.Built.{AddsArg, AddsSubcommand}

@@ -1,4 +1,4 @@
--- A word parted at commas.
+-- Words split at commas, and words with too many parts.
 use Rattle.std.proofs.Common.{◌≡◌, ℕ, ◌+◌, ◌<◌, ◌≤◌, Bool, true, false, cond, eqb, List, [], ◌∷◌, length, take, drop, None, Some, sym, ap, subst, refl, ◌∙◌, arith}
 use Rattle.std.specs.Prelude.{nat_lt}
 use Rattle.std.specs.List.{slice_split, position, position_or_len}
@@ -32,7 +32,6 @@ four_parts : (row col eye : List ℕ) (parts : List (List ℕ)) → 0 < length p
 four_parts row col eye [] some = absurd (omega arith)
 four_parts row col eye (part ∷ parts) some = refl
 
--- a word of four parts or more is no observer
 pub too_many_parts : (word rest eye row col third fourth : List ℕ) → slice_split is_comma word ≡ row ∷ slice_split is_comma rest → slice_split is_comma rest ≡ col ∷ slice_split is_comma eye → slice_split is_comma eye ≡ third ∷ slice_split is_comma fourth → None ≡ observer_of word
 too_many_parts word rest eye row col third fourth a b c =
     sym (ap observer_of_parts (a ∙ ap (λ ps. row ∷ ps) (b ∙ ap (λ ps. col ∷ ps) c))
@@ -42,7 +41,6 @@ three_parts : (row col : List ℕ) (parts : List (List ℕ)) → 0 < length part
 three_parts row col [] some = absurd (omega arith)
 three_parts row col (part ∷ parts) some = refl
 
--- a word of three parts or more is no sink
 pub no_sink : (word col row second third : List ℕ) → slice_split is_comma word ≡ row ∷ slice_split is_comma col → slice_split is_comma col ≡ second ∷ slice_split is_comma third → None ≡ sink_of word
 no_sink word col row second third a b =
     sym (ap sink_of_parts (a ∙ ap (λ ps. row ∷ ps) b) ∙ three_parts row second (slice_split is_comma third) (omega (arith, length-slice_split is_comma third)))

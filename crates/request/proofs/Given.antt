@@ -1,4 +1,4 @@
--- What the options of the command line spell.
+-- What option values and place words spell.
 use Rattle.std.proofs.Common.{◌≡◌, ◌<◌, ◌^◌, ℕ, zero, suc, Bool, false, List, [], ◌∷◌, length, map, take, drop, get_or, slice_index, slice_index_or, codes, arith, Bor, Option, Some, None, Result, IfSome, IfNone, sym, ap, refl, ◌∙◌, subst}
 use Rattle.std.specs.Prelude.{is_none, option_map, unwrap_or}
 use Rattle.std.specs.List.{position_or_len}
@@ -17,25 +17,22 @@ use Rattle.clap.proofs.WalkLemmas.{raw_values-rows}
 use Rattle.terrain.specs.declared.observer.Observer.{Observer}
 use Rattle.request.specs.CommandLine.{HasNumber, HasObservers, IsFirstBad, Names, Spell, sink_words, words_of}
 use Rattle.request.specs.PlaceWords.{observer_of, sink_of}
-use Rattle.request.specs.Wish.{IsView}
+use Rattle.request.specs.Request.{IsView}
 use Rattle.request.specs.WordsFaults.{IsBadObserverAfter, IsBadGaugeAfter, IsFaultBy}
 use Rattle.request.specs.declared.words.WordsFault.{WordsFault}
 use Rattle.request.specs.declared.words.WordsFault.TheVariants.{Clap, BadObserver, BadGauge, BadSink, NoMap}
 use Rattle.request.specs.declared.map.Map.{Map}
 use Rattle.request.specs.declared.map.Map.TheVariants.{Fill, Flow, Accumulate, Basins, Catchments, View}
 
--- an option spells one number at most
 pub same_number : (rows : List Row) (id : Text) (m n : ℕ) → HasNumber rows id m → HasNumber rows id n → m ≡ n
 same_number rows id m n a b =
     sym a.spelled ∙ ap (λ (t : Text). digits_value 10 (without_leading_plus t)) (same_Some _ _ (sym a.given ∙ b.given)) ∙ b.spelled
 
--- the words that are had for an argument, or none, are those given for it
 pub given_words : (f : Found) (id : Text) (o : Option (Bor (List (Bor Text)))) (none words : Bor (List (Bor Text))) → words ≡ unwrap_or o none → none.now ≡ []
     → option_map (λ s. map (λ w. w.now) s.now) o ≡ option_map raw_values (matched_of f id) → map (λ w. w.now) words.now ≡ words_of id (rows_of f)
 given_words f id None none words is empty same = ap (λ (ws : Bor (List (Bor Text))). map (λ w. w.now) ws.now) is ∙ ap (map (λ (w : Bor Text). w.now)) empty ∙ ap (λ ws. unwrap_or ws []) (same ∙ raw_values-rows f id)
 given_words f id (Some s) none words is empty same = ap (λ (ws : Bor (List (Bor Text))). map (λ w. w.now) ws.now) is ∙ ap (λ ws. unwrap_or ws []) (same ∙ raw_values-rows f id)
 
--- what a number of 32 bits is read by
 abbrev Reads : Text → Result ℕ ParseIntError → Type 0
 Reads t r = ParsesUnsigned 32 10 t r × ExplainsUnsignedError 10 t r × HasUnsignedDigitsIfOk t r
 
@@ -61,7 +58,6 @@ module _ (rows : List Row) (id : Text) where
         subst (λ (x : Text). digits_value 10 (without_leading_plus x) < 2 ^ 32) same small,
       )
 
--- the name of a viewshed is no other map's, and a viewshed needs all three
 pub only_view : (rows : List Row) → ((os : List Observer) (t r : ℕ) → HasObservers rows os → HasNumber rows (codes "target") t → HasNumber rows (codes "radius") r → ⊥) →
     (m : Map) → Names (codes "view") rows m → ⊥
 only_view rows never Fill e = let bad : ◌≡◌ {A = ℕ} 118 102 = ap (λ (t : Text). slice_index t 0) e in absurd (omega arith)
@@ -72,7 +68,6 @@ only_view rows never (Catchments gauges) e = let bad : ◌≡◌ {A = ℕ} 118 9
 only_view rows never (View os t r) n = never os.items t r n.1 n.2 n.3
 
 module _ {X : Type 0} (of : Text → Option X) where
-  -- where each word spells something, no one spells nothing
   spelled : (words : List Text) (items : List X) (i : ℕ) (d : Text) → Spell of words items → i < length words → is_none (of (get_or words i d)) ≡ false
   spelled [] items i d e lt = absurd (omega arith)
   spelled (w ∷ words) [] i d e lt = absurd (cc)
@@ -85,7 +80,6 @@ module _ {X : Type 0} (of : Text → Option X) where
       let not_here = spelled words items place [] all at.0 in
       absurd (cc)
 
-  -- the word after so many that spell something is the first that spells nothing
   pub bad_at : (words : List (Bor Text)) (items : List X) (k : ℕ) (d : Bor Text) → k < length words → Spell of (map (λ w. w.now) (take k words)) items → of (slice_index_or words k d).now ≡ None → IsFirstBad of (map (λ w. w.now) words) k
   bad_at words items k d lt before here =
       let texts : List Text = map (λ w. w.now) words in
@@ -98,12 +92,10 @@ module _ {X : Type 0} (of : Text → Option X) where
       (λ inside. rw (get_or-map (λ (w : Bor Text). w.now) words k d) (ap is_none here)) in
       rw (at, lt-ltb k (length texts) (omega (arith, size))) refl
 
--- the words of a viewshed are all observers
 pub no_bad : (name : Text) (rows : List Row) (os : List Observer) (place : ℕ) → HasObservers rows os → ¬ IsBadObserverAfter name rows place
 no_bad name rows os place has bad =
     none_bad observer_of _ os place has bad.1
 
--- a map has no bad observer word
 pub map_without_bad : (name : Text) (rows : List Row) (m : Map) (place : ℕ) → Names name rows m → ¬ IsBadObserverAfter name rows place
 map_without_bad name rows Fill place n bad = let no : ◌≡◌ {A = ℕ} 118 102 = ap (λ (t : Text). slice_index t 0) (sym bad.0 ∙ n) in absurd (omega arith)
 map_without_bad name rows Flow place n bad = let no : ◌≡◌ {A = ℕ} 118 102 = ap (λ (t : Text). slice_index t 0) (sym bad.0 ∙ n) in absurd (omega arith)
@@ -112,14 +104,12 @@ map_without_bad name rows Basins place n bad = let no : ◌≡◌ {A = ℕ} 118 
 map_without_bad name rows (Catchments gauges) place n bad = let no : ◌≡◌ {A = ℕ} 118 99 = ap (λ (t : Text). slice_index t 0) (sym bad.0 ∙ n.0) in absurd (omega arith)
 map_without_bad name rows (View os t r) place n bad = no_bad name rows os.items place n.1 bad
 
--- the name of catchments is no other map's
 named_catchments : (name : Text) (letter : ℕ) → name ≡ codes "catchments" → slice_index name 0 ≡ letter → ◌≡◌ {A = ℕ} 99 letter
 named_catchments name letter is first = ap (λ (t : Text). slice_index t 0) (sym is) ∙ first
 
 pub view_without_gauges : (rows : List Row) (place : ℕ) → ¬ IsBadGaugeAfter (codes "view") rows place
 view_without_gauges rows place bad = let no = named_catchments (codes "view") 118 bad.0 refl in absurd (omega arith)
 
--- a map has no bad gauge word
 pub map_without_bad_gauge : (name : Text) (rows : List Row) (m : Map) (place : ℕ) → Names name rows m → ¬ IsBadGaugeAfter name rows place
 map_without_bad_gauge name rows Fill place n bad = let no = named_catchments name 102 bad.0 (ap (λ (t : Text). slice_index t 0) n) in absurd (omega arith)
 map_without_bad_gauge name rows Flow place n bad = let no = named_catchments name 102 bad.0 (ap (λ (t : Text). slice_index t 0) n) in absurd (omega arith)
@@ -128,7 +118,6 @@ map_without_bad_gauge name rows Basins place n bad = let no = named_catchments n
 map_without_bad_gauge name rows (Catchments gauges) place n bad = none_bad sink_of _ gauges.items place n.1 bad.1
 map_without_bad_gauge name rows (View os t r) place n bad = let no = named_catchments name 118 bad.0 (ap (λ (t : Text). slice_index t 0) n.0) in absurd (omega arith)
 
--- a viewshed takes no sinks
 pub view_without_sinks : (name : Text) (rows : List Row) (m : Map) → Names name rows m → IsView m → Spell sink_of (sink_words name rows) []
 view_without_sinks name rows Fill named view = absurd view
 view_without_sinks name rows Flow named view = absurd view

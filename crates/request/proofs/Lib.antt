@@ -2,4 +2,4 @@ mod Commas
 mod Commands
 mod Given
 pub mod Asked
-mod Wishes
+mod Requests

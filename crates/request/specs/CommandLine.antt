@@ -1,4 +1,5 @@
--- The words of the command line, as `clap` reads them.
+-- Which command lines the program accepts, as `clap` reads them, and what they request.
+-- Trust base.
 use Rattle.std.specs.Prelude.{◌≡◌, ◌⊎◌, ℕ, Bool, ◌<◌, ◌^◌, pos, true, false, List, [], ◌∷◌, map, Option, Some, codes, Any, is_none, unwrap_or, if◌then◌else◌}
 use Rattle.std.specs.List.{position}
 use Rattle.std.specs.Option.{option_map_or}
@@ -18,15 +19,15 @@ use Rattle.terrain.specs.declared.place.Place.{Place}
 use Rattle.request.specs.declared.map.Map.{Map}
 use Rattle.request.specs.declared.map.Map.TheVariants.{Fill, Flow, Accumulate, Basins, Catchments, View}
 use Rattle.request.specs.PlaceWords.{observer_of, sink_of}
-use Rattle.request.specs.Wish.{Wish, IsWish}
+use Rattle.request.specs.Request.{Request, IsRequest}
 
--- ---- what the program takes
+-- ---- subcommands and options
 
--- Whole numbers from low to high.
+-- Accepts the whole numbers from low to high.
 abbrev pub from_to : ℕ → ℕ → ValueParser
 from_to low high = Signed (pos low) (pos high)
 
--- An option with one value of these, or the default where it isn't given.
+-- An option with one number, or the default if it is not given.
 abbrev pub number_rule : Text → ValueParser → Text → Rule
 number_rule name numbers default = record (new_rule name) {
   long = Some name;
@@ -35,29 +36,34 @@ number_rule name numbers default = record (new_rule name) {
   parser = Some numbers;
 }
 
+-- `--tile N`: the side of tiles in cells.
 abbrev pub tile_rule : Rule
 tile_rule = number_rule (codes "tile") (from_to 1 4096) (codes "256")
 
+-- `--workers N`: the number of threads.
 abbrev pub workers_rule : Rule
 workers_rule = number_rule (codes "workers") (from_to 1 64) (codes "1")
 
+-- `--scale D`: the decimals of heights.
 abbrev pub scale_rule : Rule
 scale_rule = number_rule (codes "scale") (from_to 0 6) (codes "0")
 
--- A flag, which takes no value.
+-- `--progress`: a flag, which takes no value.
 abbrev pub progress_rule : Rule
 progress_rule = record (new_rule (codes "progress")) {
   long = Some (codes "progress");
   action = Some SetTrue;
 }
 
+-- `--target N`: the height of targets above the ground, in units of 10^-D.
 abbrev pub target_rule : Rule
 target_rule = number_rule (codes "target") (from_to 0 4294967295) (codes "0")
 
+-- `--radius N`: how far is seen, in cells.
 abbrev pub radius_rule : Rule
 radius_rule = number_rule (codes "radius") (from_to 0 4294967295) (codes "8192")
 
--- One word or more.
+-- Positional words, at least one.
 abbrev pub words_rule : Text → Rule
 words_rule name = record (new_rule name) {
   action = Some Append;
@@ -66,13 +72,15 @@ words_rule name = record (new_rule name) {
   required = true;
 }
 
+-- Observer words `ROW,COL,EYE`.
 abbrev pub observers_rule : Rule
 observers_rule = words_rule (codes "observers")
 
+-- Gauge words `ROW,COL`.
 abbrev pub gauges_rule : Rule
 gauges_rule = words_rule (codes "gauges")
 
--- An option with one word, which may be given again and again.
+-- `--sink ROW,COL`: an option that may be repeated.
 abbrev pub sink_rule : Rule
 sink_rule = record (new_rule (codes "sinks")) {
   long = Some (codes "sink");
@@ -80,7 +88,7 @@ sink_rule = record (new_rule (codes "sinks")) {
   value_names = 1;
 }
 
--- Any number of words.
+-- Positional sink words `ROW,COL`, any number of them.
 abbrev pub sinks_rule : Rule
 sinks_rule = record (new_rule (codes "sinks")) {
   action = Some Append;
@@ -88,50 +96,60 @@ sinks_rule = record (new_rule (codes "sinks")) {
   value_names = 1;
 }
 
--- A map's name and the options that each map has.
+-- A subcommand with the options that all maps share.
 abbrev pub map_shape : Text → Shape
-map_shape name = record (new_shape name) { rules = tile_rule ∷ workers_rule ∷ scale_rule ∷ progress_rule ∷ [] }
+map_shape name = record
+    (new_shape name) { rules = tile_rule ∷ workers_rule ∷ scale_rule ∷ progress_rule ∷ [] }
 
--- The maps of drainage take sinks.
+-- A drainage map other than catchments, which takes sink words.
 abbrev pub drainage_shape : Text → Shape
 drainage_shape name = record (new_shape name) {
   rules = tile_rule ∷ workers_rule ∷ scale_rule ∷ progress_rule ∷ sinks_rule ∷ [];
 }
 
+-- Catchments, which take sinks by `--sink` and gauge words.
 abbrev pub catchments_shape : Shape
 catchments_shape = record (new_shape (codes "catchments")) {
   rules = tile_rule ∷ workers_rule ∷ scale_rule ∷ progress_rule ∷ sink_rule ∷ gauges_rule ∷ [];
 }
 
+-- A viewshed, which takes observer words.
 abbrev pub view_shape : Shape
 view_shape = record (new_shape (codes "view")) {
   rules = tile_rule ∷ workers_rule ∷ scale_rule ∷ progress_rule ∷ target_rule ∷ radius_rule
       ∷ observers_rule ∷ [];
 }
 
--- The program, which has a version and wants one of its subcommands.
+-- The program, which has a version and requires one of these subcommands.
 abbrev pub program_app : App
 program_app = record {
-  top = record (new_shape (codes "relief")) { disable_help_subcommand = true; has_version = true; subcommand_required = true; is_leaf = false };
-  subs = drainage_shape (codes "fill") ∷ drainage_shape (codes "flow") ∷ drainage_shape (codes "accumulate")
+  top = record (new_shape (codes "relief")) {
+    disable_help_subcommand = true;
+    has_version = true;
+    subcommand_required = true;
+    is_leaf = false;
+  };
+  subs = drainage_shape (codes "fill") ∷ drainage_shape (codes "flow")
+      ∷ drainage_shape (codes "accumulate")
       ∷ drainage_shape (codes "basins") ∷ catchments_shape ∷ view_shape ∷ [];
 }
 
--- ---- what words say
+-- ---- what a command line requests
 
--- What `clap` answers such words with is help, or a version.
+-- The error of `clap` displays help or the version.
 abbrev pub IsHelp : ErrorKind → Type 0
 IsHelp kind = (kind ≡ DisplayHelp) ⊎ (kind ≡ DisplayVersion)
 
+-- The words ask for help or the version.
 abbrev pub AskForHelp : List Text → Type 0
 AskForHelp words = Any IsHelp (fault_of program_app words)
 
--- `clap` accepts the words: they are the subcommand of this name, with these values.
+-- `clap` accepts the words, as the subcommand of this name with these values.
 pub record AreCommand (words : List Text) (name : Text) (rows : List Row) : Type 0 where
   pub accepted : fault_of program_app words ≡ []
   pub found : subcommand_of program_app words ≡ Some (name, rows)
 
--- The option's value spells this number of 32 bits.
+-- The option's value spells this number, which is below 2^32.
 pub record HasNumber (rows : List Row) (id : Text) (n : ℕ) : Type 0 where
   pub text : Text
   pub given : one_of id rows ≡ Some text
@@ -139,78 +157,80 @@ pub record HasNumber (rows : List Row) (id : Text) (n : ℕ) : Type 0 where
   pub spelled : digits_value 10 (without_leading_plus text) ≡ n
   pub small : n < 2 ^ 32
 
--- The value that `clap` keeps for a flag is `true`, as it is where the flag was given.
+-- The flag is given: `clap` keeps the value `true` for it.
 abbrev pub is_given : Text → List Row → Bool
 is_given id rows = option_map_or (λ text. bytes_eq text (codes "true")) (first_of id rows) false
 
--- The words that are given for an argument.
+-- The words given for an argument.
 abbrev pub words_of : Text → List Row → List Text
 words_of id rows = unwrap_or (all_of id rows) []
 
--- Each of the words spells what stands at its place.
+-- The words spell these items, one each, in order.
 abbrev pub Spell : {X : Type 0} → (Text → Option X) → List Text → List X → Type 0
 Spell spelled words items = map spelled words ≡ map Some items
 
--- The first of the words that spells nothing stands at this place from 0.
+-- The first word that spells nothing is at this place from 0.
 abbrev pub IsFirstBad : {X : Type 0} → (Text → Option X) → List Text → ℕ → Type 0
 IsFirstBad spelled words place = position (λ word. is_none (spelled word)) words ≡ Some place
 
--- The words after `view` are these observers.
+-- The observer words spell these observers.
 abbrev pub HasObservers : List Row → List Observer → Type 0
 HasObservers rows observers = Spell observer_of (words_of (codes "observers") rows) observers
 
--- The words after `catchments` are these gauges.
+-- The gauge words spell these gauges.
 abbrev pub HasGauges : List Row → List Place → Type 0
 HasGauges rows gauges = Spell sink_of (words_of (codes "gauges") rows) gauges
 
--- The subcommand of this name, with these values, is this map.
+-- The subcommand of this name with these values requests this map.
 abbrev pub Names : Text → List Row → Map → Type 0
 Names name rows Fill = name ≡ codes "fill"
 Names name rows Flow = name ≡ codes "flow"
 Names name rows Accumulate = name ≡ codes "accumulate"
 Names name rows Basins = name ≡ codes "basins"
 Names name rows (Catchments gauges) = (name ≡ codes "catchments") × HasGauges rows gauges.items
-Names name rows (View observers target radius) = (name ≡ codes "view") × HasObservers rows observers.items
+Names name rows (View observers target radius) =
+    (name ≡ codes "view") × HasObservers rows observers.items
     × HasNumber rows (codes "target") target × HasNumber rows (codes "radius") radius
 
--- The words that are given for sinks; a viewshed takes none.
+-- The words given for sinks; a viewshed takes none.
 abbrev pub sink_words : Text → List Row → List Text
 sink_words name rows = if bytes_eq name (codes "view") then [] else words_of (codes "sinks") rows
 
--- The options that each map has.
+-- The options that all maps share have these values.
 abbrev pub HasOptions : List Row → ℕ → ℕ → ℕ → Type 0
 HasOptions rows tile workers scale =
-    HasNumber rows (codes "tile") tile × HasNumber rows (codes "workers") workers × HasNumber rows (codes "scale") scale
+    HasNumber rows (codes "tile") tile × HasNumber rows (codes "workers") workers
+    × HasNumber rows (codes "scale") scale
 
--- The words wish for this map, by their subcommand and its options, which are in their limits.
-pub record WishFor (words : List Text) (wish : Wish) : Type 0 where
+-- The words request this map, with these sinks and options, all within their limits.
+pub record RequestFor (words : List Text) (request : Request) : Type 0 where
   pub name : Text
   pub rows : List Row
   pub command : AreCommand words name rows
-  pub map : Names name rows wish.map
-  pub sinks : Spell sink_of (sink_words name rows) wish.sinks
-  pub options : HasOptions rows wish.tile wish.workers wish.scale
-  pub progress : wish.progress ≡ is_given (codes "progress") rows
-  pub limits : IsWish wish
+  pub map : Names name rows request.map
+  pub sinks : Spell sink_of (sink_words name rows) request.sinks
+  pub options : HasOptions rows request.tile request.workers request.scale
+  pub progress : request.progress ≡ is_given (codes "progress") rows
+  pub limits : IsRequest request
 
--- `clap` refuses the words, or accepts them where they wish for no map.
+-- `clap` refuses the words, or accepts them although they request no map.
 abbrev pub AreRefused : List Text → Type 0
 AreRefused words = Any (λ kind. ¬ IsHelp kind) (fault_of program_app words)
-    ⊎ ((fault_of program_app words ≡ []) × ((wish : Wish) → ¬ WishFor words wish))
+    ⊎ ((fault_of program_app words ≡ []) × ((request : Request) → ¬ RequestFor words request))
 
--- The first of the words after `view` that is no observer stands at this place from 0.
+-- The subcommand is `view`, and the first word that is no observer is at this place from 0.
 pub record HasBadObserver (words : List Text) (place : ℕ) : Type 0 where
   pub rows : List Row
   pub command : AreCommand words (codes "view") rows
   pub first : IsFirstBad observer_of (words_of (codes "observers") rows) place
 
--- The first of the words after `catchments` that is no gauge stands at this place from 0.
+-- The subcommand is `catchments`, and the first word that is no gauge is at this place from 0.
 pub record HasBadGauge (words : List Text) (place : ℕ) : Type 0 where
   pub rows : List Row
   pub command : AreCommand words (codes "catchments") rows
   pub first : IsFirstBad sink_of (words_of (codes "gauges") rows) place
 
--- The first of the words for sinks that is none stands at this place from 0.
+-- The words name a map, and the first sink word that is no sink is at this place from 0.
 pub record HasBadSink (words : List Text) (place : ℕ) : Type 0 where
   pub name : Text
   pub rows : List Row
@@ -219,7 +239,7 @@ pub record HasBadSink (words : List Text) (place : ℕ) : Type 0 where
   pub named : Names name rows map
   pub first : IsFirstBad sink_of (sink_words name rows) place
 
--- The words that the program was started with; where there are none, its name alone.
+-- The words of the command line; an empty list counts as the program's name alone.
 abbrev pub words_given : List Text → List Text
 words_given [] = codes "relief" ∷ []
 words_given (word ∷ words) = word ∷ words

@@ -1,4 +1,4 @@
-pub mod Wish
+pub mod Request
 pub mod PlaceWords
 pub mod CommandLine
 pub mod Commands

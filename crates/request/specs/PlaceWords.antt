@@ -1,14 +1,16 @@
--- Observers, gauges and sinks as words of the command line.
+-- How words of the command line spell observers, gauges and sinks.
+-- Trust base.
 use Rattle.std.specs.Prelude.{ℕ, ◌^◌, Bool, ◌&&◌, ◌==◌, nat_lt, nat_le, if◌then◌else◌, List, [], ◌∷◌, length, Option, None, Some}
 use Rattle.std.specs.List.{slice_split}
 use Rattle.terrain.specs.Decimal.{are_digits, number_of}
 use Rattle.terrain.specs.declared.place.Place.{Place}
 use Rattle.terrain.specs.declared.observer.Observer.{Observer}
 
--- A whole number of 1 to 10 digits that fits 32 bits.
+-- A whole number of 1 to 10 digits, below 2^32.
 abbrev pub is_number : List ℕ → Bool
 is_number bs = are_digits bs && nat_le (length bs) 10 && nat_lt (number_of bs) (2 ^ 32)
 
+-- The observer of three parts that are whole numbers, or `None`.
 abbrev pub observer_of_parts : List (List ℕ) → Option Observer
 observer_of_parts (row ∷ col ∷ eye ∷ []) =
     if is_number row && is_number col && is_number eye
@@ -16,15 +18,17 @@ observer_of_parts (row ∷ col ∷ eye ∷ []) =
     else None
 observer_of_parts parts = None
 
--- Three whole numbers joined by commas.
+-- The observer that a word `ROW,COL,EYE` spells, or `None`.
 abbrev pub observer_of : List ℕ → Option Observer
 observer_of word = observer_of_parts (slice_split (λ b. b == 44) word)
 
+-- The place of two parts that are whole numbers, or `None`.
 abbrev pub sink_of_parts : List (List ℕ) → Option Place
 sink_of_parts (row ∷ col ∷ []) =
-    if is_number row && is_number col then Some (record { row = number_of row; col = number_of col }) else None
+    if is_number row && is_number col
+    then Some (record { row = number_of row; col = number_of col }) else None
 sink_of_parts parts = None
 
--- Two whole numbers joined by a comma: a gauge or a sink.
+-- The place that a gauge or sink word `ROW,COL` spells, or `None`.
 abbrev pub sink_of : List ℕ → Option Place
 sink_of word = sink_of_parts (slice_split (λ b. b == 44) word)

@@ -1,6 +1,6 @@
-//! The texts of `--help`. `clap` does not wrap them, so lines are broken by hand.
+//! The texts of `--help`. `clap` does not wrap lines, so the texts have their own line breaks.
 
-/// The help of a map: in a line, at length, and the usage line.
+/// The help texts of a map: a summary, the details and the usage line.
 #[derive(Clone, Copy)]
 pub(crate) struct MapHelp {
     pub(crate) about: &'static str,

@@ -1,54 +1,54 @@
-//! Facts of the definitions alone.
-ghost use Rattle.request.specs.Laws.{BasinsOfSinks, CatchmentsOfAGauge, FillAlone, HelpOfView, NoSideOfZero, VersionAlone, ViewWithRadius, WishesAreAccepted, WishesAreOne};
+//! Theorems about the definitions, as functions without code.
+ghost use Rattle.request.specs.Laws.{BasinsOfSinks, CatchmentsOfAGauge, FillAlone, HelpOfView, NoSideOfZero, VersionAlone, ViewWithRadius, RequestsAreAccepted, RequestsAreOne};
 
-/// Words have at most one wish.
-pub fn wishes_are_one()
-    ensures { WishesAreOne }
+/// Proves that a command line has at most one meaning.
+pub fn requests_are_one()
+    ensures { RequestsAreOne }
 {}
 
-/// Words that have a wish neither ask for help nor are refused.
-pub fn wishes_are_accepted()
-    ensures { WishesAreAccepted }
+/// Proves that words with a request neither ask for help nor are refused.
+pub fn requests_are_accepted()
+    ensures { RequestsAreAccepted }
 {}
 
-/// `relief fill` wishes for tiles of side 256, one worker and scale 0, and no sinks.
-#[tactic(auto, using(crate::proofs::Wishes::fill_alone))]
+/// Proves that `relief fill` means tile side 256, one worker, scale 0 and no sinks.
+#[tactic(auto, using(crate::proofs::Requests::fill_alone))]
 pub fn fill_alone()
     ensures { FillAlone }
 {}
 
-/// `relief basins 1,2 0,3` wishes for basins with these two sinks.
-#[tactic(auto, using(crate::proofs::Wishes::basins_of_sinks))]
+/// Proves that `relief basins 1,2 0,3` requests basins with these two sinks.
+#[tactic(auto, using(crate::proofs::Requests::basins_of_sinks))]
 pub fn basins_of_sinks()
     ensures { BasinsOfSinks }
 {}
 
-/// `relief catchments --progress --sink 1,2 --sink 0,3 4,5` has two sinks and one gauge.
-#[tactic(auto, using(crate::proofs::Wishes::catchments_of_a_gauge))]
+/// Proves that `catchments` takes sinks by `--sink` and gauges as words.
+#[tactic(auto, using(crate::proofs::Requests::catchments_of_a_gauge))]
 pub fn catchments_of_a_gauge()
     ensures { CatchmentsOfAGauge }
 {}
 
-/// `relief view --radius 5 1,2,3` wishes for what the observer at row 1 and column 2 sees from height 3.
-#[tactic(auto, using(crate::proofs::Wishes::view_with_radius))]
+/// Proves that `relief view --radius 5 1,2,3` requests one observer and radius 5.
+#[tactic(auto, using(crate::proofs::Requests::view_with_radius))]
 pub fn view_with_radius()
     ensures { ViewWithRadius }
 {}
 
-/// `relief fill --tile 0` is refused.
-#[tactic(auto, using(crate::proofs::Wishes::no_side_of_zero))]
+/// Proves that `relief fill --tile 0` is refused.
+#[tactic(auto, using(crate::proofs::Requests::no_side_of_zero))]
 pub fn no_side_of_zero()
     ensures { NoSideOfZero }
 {}
 
-/// `relief view --help` asks for help.
-#[tactic(auto, using(crate::proofs::Wishes::help_of_view))]
+/// Proves that `relief view --help` asks for help.
+#[tactic(auto, using(crate::proofs::Requests::help_of_view))]
 pub fn help_of_view()
     ensures { HelpOfView }
 {}
 
-/// `relief --version` asks for the version, which is shown as help is.
-#[tactic(auto, using(crate::proofs::Wishes::version_alone))]
+/// Proves that `relief --version` asks for the version, which counts as help.
+#[tactic(auto, using(crate::proofs::Requests::version_alone))]
 pub fn version_alone()
     ensures { VersionAlone }
 {}

@@ -1,17 +1,17 @@
-//! What a user asks for: a map with its options, by the command line.
+//! Parses the command line into a map and its options.
 //!
-//! [`parse`] reads the command line into [`Options`]; `clap` reads its words. Depends on `terrain`
-//! and `decimals` alone.
+//! [`parse`] returns the requested [`Options`]; `clap` matches words with options. Depends on
+//! `terrain` and `decimals`.
 //!
-//! Modules, from what is called to what it depends on:
+//! Modules, callers before what they call:
 //!
-//! - `words`: the command line
-//! - `program`: subcommands and options
-//! - `help`: the texts of help
-//! - `options`: a map with its limits
+//! - `words`: parses the command line
+//! - `program`: declares subcommands and options
+//! - `help`: the texts of `--help`
+//! - `options`: a map and its options, within their limits
 //! - `map`: the six maps
-//! - `place_words`: observer, gauge and sink words
-//! - `laws`: facts of the definitions
+//! - `place_words`: parses observer, gauge and sink words
+//! - `laws`: theorems about the definitions
 #![tactic(auto)]
 
 mod help;
@@ -27,5 +27,5 @@ pub use options::Options;
 pub use place_words::{parse_observer, parse_sink};
 pub use words::{WordsFault, parse};
 
-/// The program's version, with which CHANGELOG.md begins.
+/// The program's version, which CHANGELOG.md lists first.
 pub const VERSION: &str = "0.2.0";

@@ -1,22 +1,23 @@
 //! The six maps.
 use terrain::{Observer, Place};
 
-/// Which map is asked for.
+/// A requested map, with its gauges or observers.
 #[derive(Drop)]
 pub enum Map {
     /// Filled heights.
     Fill,
-    /// Direction codes.
+    /// D8 direction codes.
     Flow,
-    /// How many other cells' water flows through each cell.
+    /// Flow accumulation: how many other cells drain through each cell.
     Accumulate,
-    /// The number of the outlet to which each cell's water flows.
+    /// Basins: the number of the outlet to which each cell drains.
     Basins,
-    /// The number of the first gauge that each cell's flow path meets; 0 where it meets none.
+    /// Catchments: the number of the first gauge on each cell's flow path, or 0.
     Catchments {
         gauges: Vec<Place>,
     },
-    /// How many of the observers see each cell, with a target height in scaled units and a radius in cells.
+    /// Viewshed: how many of the observers see each cell.
+    /// `target` is a height in units of 10^-scale, `radius` a number of cells.
     View {
         observers: Vec<Observer>,
         target: u32,

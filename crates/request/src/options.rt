@@ -1,22 +1,29 @@
 //! A map and its options, each within its limits: [`Options`].
 ghost use Rattle.std.specs.Prelude.{◌≡◌, [], false, IfSome, IfNone, IfOk, IfErr};
-ghost use Rattle.request.specs.Wish.{AreLimits, IsView};
+ghost use Rattle.request.specs.Request.{AreLimits, IsView};
 
 use crate::map::Map;
 use std::marker::Model;
 use terrain::Place;
 
-/// Greatest side of a tile, in cells.
+/// The greatest side of a tile, in cells.
 pub(crate) const LONGEST_SIDE: u32 = 4_096;
 
-/// Greatest number of workers.
+/// The greatest number of workers.
 pub(crate) const MOST_WORKERS: u32 = 64;
 
-/// Greatest scale.
+/// The greatest scale.
 pub(crate) const MOST_DECIMALS: u8 = 6;
 
-/// A map, a tile's side in cells, a number of workers and a scale, each in its limits, the sinks into
-/// which water flows, and whether progress is to be reported.
+/// A requested map with its options, each within its limits.
+/// Holds tile side, workers, scale, named sinks, and whether progress is reported.
+///
+/// # Examples
+///
+/// ```ignore
+/// let options = Options::new(Map::Fill, 256, 1, 0).ok_or("options")?;
+/// let options = options.with_progress(true);
+/// ```
 #[derive(Drop)]
 pub struct Options {
     map: Map,
@@ -30,20 +37,43 @@ pub struct Options {
 impl Model for Options {
     ghost use Rattle.std.specs.Prelude.{[]};
     ghost use Rattle.std.specs.Option.{option_map_or};
-    ghost use Rattle.request.specs.Wish.{Wish, IsWish};
+    ghost use Rattle.request.specs.Request.{Request, IsRequest};
 
-    ghost Value = { Wish };
+    ghost Value = { Request };
 
-    ghost view = { λ o. record { map = o.map; tile = o.tile; workers = o.workers; scale = o.scale; sinks = option_map_or (λ v. v.items) o.sinks []; progress = o.progress } };
+    ghost view = { λ o. record {
+      map = o.map;
+      tile = o.tile;
+      workers = o.workers;
+      scale = o.scale;
+      sinks = option_map_or (λ v. v.items) o.sinks [];
+      progress = o.progress;
+    } };
 
-    ghost invariant = { λ o. IsWish (record { map = o.map; tile = o.tile; workers = o.workers; scale = o.scale; sinks = option_map_or (λ v. v.items) o.sinks []; progress = o.progress }) };
+    ghost invariant = { λ o. IsRequest
+        (record {
+          map = o.map;
+          tile = o.tile;
+          workers = o.workers;
+          scale = o.scale;
+          sinks = option_map_or (λ v. v.items) o.sinks [];
+          progress = o.progress;
+        }) };
 }
 
 impl Options {
-    /// Options without sinks and without progress. None exactly where the tile's side (1 to 4,096), the workers (1 to 64) or the
-    /// scale (0 to 6) is outside its limits.
+    /// Returns options without sinks and without a report of progress.
+    /// `None` if `tile` is not 1 to 4,096 cells, `workers` not 1 to 64, or `scale` above 6.
     pub fn new(map: Map, tile: u32, workers: u32, scale: u8) -> Option<Self>
-        ensures some { IfSome result (λ o. o ≡ record { map = map; tile = tile; workers = workers; scale = scale; sinks = []; progress = false }) }
+        ensures some { IfSome result (λ o. o
+            ≡ record {
+              map = map;
+              tile = tile;
+              workers = workers;
+              scale = scale;
+              sinks = [];
+              progress = false;
+            }) }
         ensures limits { IfSome result (λ _. AreLimits tile workers scale) }
         ensures none { IfNone result (AreLimits tile workers scale → ⊥) }
     {
@@ -64,10 +94,14 @@ impl Options {
         }
     }
 
-    /// The same options with these sinks, in place of those that they had. A viewshed has no sinks: its
-    /// options come back as they were.
+    /// Replaces the sinks.
+    ///
+    /// # Errors
+    ///
+    /// The unchanged options if the map is a viewshed, which takes no sinks.
     pub fn with_sinks(self, sinks: Vec<Place>) -> Result<Self, Self>
-        ensures some { IfOk result (λ o. (o ≡ record self { sinks = sinks.items }) × ¬ IsView self.map) }
+        ensures some { IfOk result
+            (λ o. (o ≡ record self { sinks = sinks.items }) × ¬ IsView self.map) }
         ensures view { IfErr result (λ o. (o ≡ self) × IsView self.map) }
     {
         if let Map::View { .. } = self.map {
@@ -79,28 +113,28 @@ impl Options {
         })
     }
 
-    /// The same options, with or without a report of progress.
+    /// Sets whether progress is reported.
     pub fn with_progress(self, progress: bool) -> Self
         ensures { result ≡ record self { progress = progress } }
     {
         Options { progress, ..self }
     }
 
-    /// Whether progress is to be reported.
+    /// Returns whether progress is reported.
     pub fn progress(&self) -> bool
         ensures { result ≡ self.now.progress }
     {
         self.progress
     }
 
-    /// The map that is asked for.
+    /// Returns the requested map.
     pub fn map(&self) -> &Map
         ensures { result.now ≡ self.now.map }
     {
         &self.map
     }
 
-    /// The side of the tiles, in cells.
+    /// Returns the side of the tiles, in cells.
     pub fn tile(&self) -> u32
         ensures value { result ≡ self.now.tile }
         ensures limits { AreLimits self.now.tile self.now.workers self.now.scale }
@@ -108,7 +142,7 @@ impl Options {
         self.tile
     }
 
-    /// The number of workers.
+    /// Returns the number of workers.
     pub fn workers(&self) -> u32
         ensures value { result ≡ self.now.workers }
         ensures limits { AreLimits self.now.tile self.now.workers self.now.scale }
@@ -116,7 +150,7 @@ impl Options {
         self.workers
     }
 
-    /// The scale at which heights are read.
+    /// Returns the scale: heights are read in units of 10^-scale.
     pub fn scale(&self) -> u8
         ensures value { result ≡ self.now.scale }
         ensures limits { AreLimits self.now.tile self.now.workers self.now.scale }
@@ -124,7 +158,7 @@ impl Options {
         self.scale
     }
 
-    /// The sinks, in the order of naming. A viewshed has none.
+    /// Returns the sinks in the order given; a viewshed has none.
     pub fn sinks(&self) -> &[Place]
         ensures value { result.now ≡ self.now.sinks }
         ensures view { IsView self.now.map → self.now.sinks ≡ [] }

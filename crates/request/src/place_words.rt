@@ -1,4 +1,4 @@
-//! Observers, gauges and sinks as words: [`parse_observer`], [`parse_sink`].
+//! Parses words of observers, gauges and sinks: [`parse_observer`], [`parse_sink`].
 ghost use Rattle.std.specs.Prelude.{◌≡◌, ◌==◌, ◌∷◌, [], ℕ, List, Option, Some, None, IfSome, IfNone, if◌then◌else◌};
 ghost use Rattle.std.specs.List.{slice_split, position};
 ghost use Rattle.terrain.specs.Decimal.{number_of};
@@ -7,9 +7,9 @@ ghost use Rattle.request.specs.PlaceWords.{is_number, observer_of, sink_of};
 use decimals::whole_number;
 use terrain::{Observer, Place};
 
-/// What a word of the command line spells.
+/// A value that one word of the command line spells.
 pub(crate) trait FromWord: Sized {
-    // What a word spells; None where it spells nothing.
+    // The value that a word spells, or `None`.
     ghost spelled: { List ℕ → Option Self };
 
     fn from_word(word: &str) -> Option<Self>
@@ -45,10 +45,11 @@ fn comma_at(bytes: &[u8]) -> Option<usize>
     bytes.iter().position(|b| *b == b',')
 }
 
-/// What stands before and after the first comma.
+/// Splits at the first comma. Returns `None` if there is none.
 fn split_at_comma(bytes: &[u8]) -> Option<(&[u8], &[u8])>
     ensures some { IfSome result (λ parts.
-        slice_split (λ b. b == 44) bytes.now ≡ parts.0.now ∷ slice_split (λ b. b == 44) parts.1.now) }
+        slice_split (λ b. b == 44) bytes.now
+        ≡ parts.0.now ∷ slice_split (λ b. b == 44) parts.1.now) }
     ensures none { IfNone result (slice_split (λ b. b == 44) bytes.now ≡ bytes.now ∷ []) }
 {
     let at = comma_at(bytes)?;
@@ -64,8 +65,8 @@ fn number(part: &[u8]) -> Option<u32>
     whole_number(part)
 }
 
-/// The observer of three whole numbers of 1 to 10 digits that fit 32 bits, joined by commas: row,
-/// column and eye height. None for any other word.
+/// Parses an observer word `ROW,COL,EYE`. Returns `None` for any other word.
+/// Each number has 1 to 10 digits and is below 2^32.
 pub fn parse_observer(word: &str) -> Option<Observer>
     ensures { result ≡ observer_of word.now }
 {
@@ -80,8 +81,8 @@ pub fn parse_observer(word: &str) -> Option<Observer>
     Some(Observer { row, col, eye })
 }
 
-/// The place, of a sink or a gauge, of two whole numbers of 1 to 10 digits that fit 32 bits, joined by
-/// a comma: row and column. None for any other word.
+/// Parses a sink or gauge word `ROW,COL`. Returns `None` for any other word.
+/// Each number has 1 to 10 digits and is below 2^32.
 pub fn parse_sink(word: &str) -> Option<Place>
     ensures { result ≡ sink_of word.now }
 {

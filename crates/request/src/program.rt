@@ -1,4 +1,4 @@
-//! The subcommands and options of the program, as a command of `clap`.
+//! Declares the subcommands and options of the program as a command of `clap`.
 ghost use Rattle.std.specs.Prelude.{◌≡◌, IfOk};
 ghost use Rattle.clap.specs.Words.{app_of, with_subcommand};
 ghost use Rattle.request.specs.CommandLine.{catchments_shape, drainage_shape, map_shape, number_rule, program_app, progress_rule, radius_rule, scale_rule, sink_rule, sinks_rule, target_rule, tile_rule, view_shape, words_rule, workers_rule};
@@ -14,7 +14,7 @@ use clap::builder::ValueParser;
 use clap::{Arg, ArgAction, Command, value_parser};
 use std::alloc::{AllocError, Global};
 
-/// An option that takes a number, which help calls `value`.
+/// Returns an option that takes a number, which the help names `value`.
 fn number_option<'a>(
     alloc: Global,
     name: &'a str,
@@ -80,7 +80,7 @@ fn radius_option<'a>(alloc: Global) -> Arg<'a>
     number_option(alloc, "radius", "N", value_parser!(u32), "8192", help)
 }
 
-/// The positional words of a map that needs one; help calls each `value`.
+/// Returns positional words, at least one, which the help names `value`.
 fn required_words<'a>(alloc: Global, name: &'a str, value: &'a str, help: &'a str) -> Arg<'a>
     ensures { IsArg (words_rule name.entry.now) result }
 {
@@ -92,7 +92,7 @@ fn required_words<'a>(alloc: Global, name: &'a str, value: &'a str, help: &'a st
         .help(help)
 }
 
-/// `--sink ROW,COL`, of a map whose positional words are gauges.
+/// Returns `--sink ROW,COL`, for catchments, whose positional words are gauges.
 fn sink_option<'a>(alloc: Global) -> Arg<'a>
     ensures { IsArg sink_rule result }
 {
@@ -103,7 +103,7 @@ fn sink_option<'a>(alloc: Global) -> Arg<'a>
         .help(SINK_OPTION)
 }
 
-/// The words after the options of a map of drainage.
+/// Returns the positional sink words of a drainage map.
 fn sink_words<'a>(alloc: Global) -> Arg<'a>
     ensures { IsArg sinks_rule result }
 {
@@ -114,7 +114,7 @@ fn sink_words<'a>(alloc: Global) -> Arg<'a>
         .help(SINK_WORDS)
 }
 
-/// A subcommand with the options that each map has.
+/// Returns a subcommand with the options that all maps share.
 fn map_command<'a>(alloc: Global, name: &'a str, help: MapHelp) -> Result<Command<'a>, AllocError>
     ensures { IfOk result (IsLeaf (map_shape name.entry.now)) }
 {
@@ -139,14 +139,15 @@ fn drainage_command<'a>(
     map_command(alloc, name, help)?.arg(sink_words(alloc))
 }
 
-/// The program with a map of drainage more.
+/// Adds the subcommand of a drainage map to the program.
 fn with_drainage<'a>(
     alloc: Global,
     program: Command<'a>,
     name: &'a str,
     help: MapHelp,
 ) -> Result<Command<'a>, AllocError>
-    ensures { IfOk result (λ c. app_of c ≡ with_subcommand (app_of program.entry) (drainage_shape name.entry.now)) }
+    ensures { IfOk result (λ c. app_of c
+        ≡ with_subcommand (app_of program.entry) (drainage_shape name.entry.now)) }
 {
     program.subcommand(drainage_command(alloc, name, help)?)
 }
@@ -168,7 +169,7 @@ fn view_command<'a>(alloc: Global) -> Result<Command<'a>, AllocError>
         .arg(required_words(alloc, "observers", "ROW,COL,EYE", VIEW_WORDS))
 }
 
-/// The program without its subcommands.
+/// Returns the program without its subcommands.
 fn bare_program<'a>(alloc: Global) -> Command<'a>
     ensures { app_of result ≡ bare_app }
 {
@@ -181,7 +182,7 @@ fn bare_program<'a>(alloc: Global) -> Command<'a>
         .disable_help_subcommand(true)
 }
 
-/// The program with a subcommand for each map.
+/// Returns the program with one subcommand for each map.
 pub(crate) fn program<'a>(alloc: Global) -> Result<Command<'a>, AllocError>
     ensures { IfOk result (λ c. app_of c ≡ program_app) }
 {

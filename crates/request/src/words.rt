@@ -1,9 +1,9 @@
-//! Reads the command line: [`parse`].
+//! Parses the command line: [`parse`].
 ghost use Rattle.std.specs.Prelude.{◌≡◌, ℕ, [], map, codes, IfOk, IfErr, IfSome, IfNone};
 ghost use Rattle.clap.specs.Words.{found_of, rows_of};
-ghost use Rattle.request.specs.CommandLine.{HasNumber, HasOptions, IsFirstBad, Names, Spell, WishFor, is_given, sink_words, words_given};
+ghost use Rattle.request.specs.CommandLine.{HasNumber, HasOptions, IsFirstBad, Names, Spell, RequestFor, is_given, sink_words, words_given};
 ghost use Rattle.request.specs.PlaceWords.{observer_of, sink_of};
-ghost use Rattle.request.specs.Wish.{AreLimits};
+ghost use Rattle.request.specs.Request.{AreLimits};
 ghost use Rattle.request.specs.WordsFaults.{IsBadWord, IsFaultBy, IsFaultOf, IsMapFault, IsWant};
 ghost use Rattle.request.specs.declared.words.BadWord.TheVariants.{NoMemory};
 ghost use Rattle.request.specs.declared.words.WordsFault.TheVariants.{Clap};
@@ -18,18 +18,18 @@ use terrain::{Observer, Place};
 
 static NAME_ALONE: [&str; 1] = ["relief"];
 
-/// Why the words name no map.
+/// Why a command line gives no options.
 #[derive(Drop)]
 pub enum WordsFault {
-    /// `clap` refuses them, or was asked for its help or the version.
+    /// `clap` refuses the words, they ask for help or the version, or memory ran out.
     Clap(Error),
-    /// The observer word at this place from 0 is none.
+    /// The first word that is no observer, by its place among them from 0.
     BadObserver(usize),
-    /// The gauge word at this place from 0 is none.
+    /// The first word that is no gauge, by its place among them from 0.
     BadGauge(usize),
-    /// The sink word at this place from 0 is none.
+    /// The first word that is no sink, by its place among them from 0.
     BadSink(usize),
-    /// They name no map, which `clap` refuses before.
+    /// The words name no map. `clap` refuses such words first.
     NoMap,
 }
 
@@ -49,7 +49,7 @@ impl From<AllocError> for WordsFault {
     }
 }
 
-/// The number that the value of an option spells; None where it spells none of 32 bits.
+/// Returns the 32-bit number that an option's value spells, or `None`.
 fn number_given(found: &ArgMatches<'_>, id: &str) -> Option<u32>
     ensures some { IfSome result (HasNumber (rows_of (found_of found.now)) id.now) }
     ensures none { IfNone result ((n : ℕ) → HasNumber (rows_of (found_of found.now)) id.now n → ⊥) }
@@ -57,10 +57,10 @@ fn number_given(found: &ArgMatches<'_>, id: &str) -> Option<u32>
     found.get_one::<u32>(id)
 }
 
-/// Why words do not spell a list of observers or places.
+/// Why words were not parsed into a list of observers or places.
 #[derive(Drop)]
 pub(crate) enum BadWord {
-    /// The word at this place from 0 spells none.
+    /// The first bad word, by its place from 0.
     At(usize),
     NoMemory(AllocError),
 }
@@ -73,7 +73,7 @@ impl From<AllocError> for BadWord {
     }
 }
 
-/// Reads each of the words.
+/// Parses each of the words, up to the first bad one.
 fn read_words<T: FromWord + Drop>(alloc: Global, words: &[&str]) -> Result<Vec<T>, BadWord>
     ensures some { IfOk result (λ v. Spell T.spelled (map (λ w. w.now) words.now) v.items) }
     ensures bad { IfErr result (IsBadWord (IsFirstBad T.spelled (map (λ w. w.now) words.now))) }
@@ -88,10 +88,11 @@ fn read_words<T: FromWord + Drop>(alloc: Global, words: &[&str]) -> Result<Vec<T
     Ok(items)
 }
 
-/// Reads observers.
+/// Parses observer words.
 fn observers_of(alloc: Global, words: &[&str]) -> Result<Vec<Observer>, WordsFault>
     ensures some { IfOk result (λ v. Spell observer_of (map (λ w. w.now) words.now) v.items) }
-    ensures none { IfErr result (IsFaultBy (IsFirstBad observer_of (map (λ w. w.now) words.now)) (λ _. ⊥) (λ _. ⊥) ⊥) }
+    ensures none { IfErr result
+        (IsFaultBy (IsFirstBad observer_of (map (λ w. w.now) words.now)) (λ _. ⊥) (λ _. ⊥) ⊥) }
 {
     match read_words(alloc, words) {
         Ok(observers) => Ok(observers),
@@ -100,10 +101,11 @@ fn observers_of(alloc: Global, words: &[&str]) -> Result<Vec<Observer>, WordsFau
     }
 }
 
-/// Reads gauges.
+/// Parses gauge words.
 fn gauges_of(alloc: Global, words: &[&str]) -> Result<Vec<Place>, WordsFault>
     ensures some { IfOk result (λ v. Spell sink_of (map (λ w. w.now) words.now) v.items) }
-    ensures none { IfErr result (IsFaultBy (λ _. ⊥) (IsFirstBad sink_of (map (λ w. w.now) words.now)) (λ _. ⊥) ⊥) }
+    ensures none { IfErr result
+        (IsFaultBy (λ _. ⊥) (IsFirstBad sink_of (map (λ w. w.now) words.now)) (λ _. ⊥) ⊥) }
 {
     match read_words(alloc, words) {
         Ok(gauges) => Ok(gauges),
@@ -112,10 +114,11 @@ fn gauges_of(alloc: Global, words: &[&str]) -> Result<Vec<Place>, WordsFault>
     }
 }
 
-/// Reads sinks.
+/// Parses sink words.
 fn sinks_of(alloc: Global, words: &[&str]) -> Result<Vec<Place>, WordsFault>
     ensures some { IfOk result (λ v. Spell sink_of (map (λ w. w.now) words.now) v.items) }
-    ensures none { IfErr result (IsFaultBy (λ _. ⊥) (λ _. ⊥) (IsFirstBad sink_of (map (λ w. w.now) words.now)) ⊥) }
+    ensures none { IfErr result
+        (IsFaultBy (λ _. ⊥) (λ _. ⊥) (IsFirstBad sink_of (map (λ w. w.now) words.now)) ⊥) }
 {
     match read_words(alloc, words) {
         Ok(sinks) => Ok(sinks),
@@ -124,7 +127,7 @@ fn sinks_of(alloc: Global, words: &[&str]) -> Result<Vec<Place>, WordsFault>
     }
 }
 
-/// The viewshed that is asked for.
+/// Returns the requested viewshed.
 fn view_of(alloc: Global, found: &ArgMatches<'_>) -> Result<Map, WordsFault>
     ensures some { IfOk result (Names (codes "view") (rows_of (found_of found.now))) }
     ensures none { IfErr result (IsMapFault (codes "view") (rows_of (found_of found.now))) }
@@ -144,7 +147,7 @@ fn view_of(alloc: Global, found: &ArgMatches<'_>) -> Result<Map, WordsFault>
     })
 }
 
-/// The catchments that are asked for.
+/// Returns the requested catchments.
 fn catchments_of(alloc: Global, found: &ArgMatches<'_>) -> Result<Map, WordsFault>
     ensures some { IfOk result (Names (codes "catchments") (rows_of (found_of found.now))) }
     ensures none { IfErr result (IsMapFault (codes "catchments") (rows_of (found_of found.now))) }
@@ -154,7 +157,7 @@ fn catchments_of(alloc: Global, found: &ArgMatches<'_>) -> Result<Map, WordsFaul
     Ok(Map::Catchments { gauges })
 }
 
-/// The map of this name.
+/// Returns the map that the subcommand of this name requests.
 fn map_of(alloc: Global, name: &str, found: &ArgMatches<'_>) -> Result<Map, WordsFault>
     ensures some { IfOk result (Names name.now (rows_of (found_of found.now))) }
     ensures none { IfErr result (IsMapFault name.now (rows_of (found_of found.now))) }
@@ -170,10 +173,12 @@ fn map_of(alloc: Global, name: &str, found: &ArgMatches<'_>) -> Result<Map, Word
     }
 }
 
-/// The sinks that are given for the map of this name; a viewshed has none.
+/// Returns the sinks given for the map of this name; a viewshed has none.
 fn sinks_given(alloc: Global, name: &str, found: &ArgMatches<'_>) -> Result<Vec<Place>, WordsFault>
-    ensures some { IfOk result (λ v. Spell sink_of (sink_words name.now (rows_of (found_of found.now))) v.items) }
-    ensures none { IfErr result (IsFaultBy (λ _. ⊥) (λ _. ⊥) (IsFirstBad sink_of (sink_words name.now (rows_of (found_of found.now)))) ⊥) }
+    ensures some { IfOk result
+        (λ v. Spell sink_of (sink_words name.now (rows_of (found_of found.now))) v.items) }
+    ensures none { IfErr result (IsFaultBy (λ _. ⊥) (λ _. ⊥)
+        (IsFirstBad sink_of (sink_words name.now (rows_of (found_of found.now)))) ⊥) }
 {
     if name == "view" {
         return Ok(Vec::new(alloc));
@@ -182,7 +187,7 @@ fn sinks_given(alloc: Global, name: &str, found: &ArgMatches<'_>) -> Result<Vec<
     sinks_of(alloc, words)
 }
 
-/// Whether `--progress` is given.
+/// Returns whether `--progress` is given.
 fn progress_given(found: &ArgMatches<'_>) -> bool
     ensures { result ≡ is_given (codes "progress") (rows_of (found_of found.now)) }
 {
@@ -192,10 +197,12 @@ fn progress_given(found: &ArgMatches<'_>) -> bool
     }
 }
 
-/// A map with the options given; None where one of them is not in its limits.
+/// Adds the given options to a map. `None` if one is outside its limits.
 fn with_options(map: Map, found: &ArgMatches<'_>) -> Option<Options>
-    ensures some { IfSome result (λ o. (o.map ≡ map) × (o.sinks ≡ []) × HasOptions (rows_of (found_of found.now)) o.tile o.workers o.scale) }
-    ensures progress { IfSome result (λ o. o.progress ≡ is_given (codes "progress") (rows_of (found_of found.now))) }
+    ensures some { IfSome result (λ o. (o.map ≡ map) × (o.sinks ≡ [])
+        × HasOptions (rows_of (found_of found.now)) o.tile o.workers o.scale) }
+    ensures progress { IfSome result
+        (λ o. o.progress ≡ is_given (codes "progress") (rows_of (found_of found.now))) }
     ensures limits { IfSome result (λ o. AreLimits o.tile o.workers o.scale) }
     ensures none { IfNone result ((tile workers scale : ℕ) → AreLimits tile workers scale →
         HasOptions (rows_of (found_of found.now)) tile workers scale → ⊥) }
@@ -210,8 +217,8 @@ fn with_options(map: Map, found: &ArgMatches<'_>) -> Option<Options>
     Some(options.with_progress(progress_given(found)))
 }
 
-fn options_asked<'a>(alloc: Global, words: &'a [&'a str]) -> Result<Options, WordsFault>
-    ensures wish { IfOk result (WishFor (map (λ w. w.now) words.entry.now)) }
+fn requested_options<'a>(alloc: Global, words: &'a [&'a str]) -> Result<Options, WordsFault>
+    ensures request { IfOk result (RequestFor (map (λ w. w.now) words.entry.now)) }
     ensures fault { IfErr result (IsFaultOf (map (λ w. w.now) words.entry.now)) }
 {
     let command = program(alloc)?;
@@ -230,14 +237,29 @@ fn options_asked<'a>(alloc: Global, words: &'a [&'a str]) -> Result<Options, Wor
     }
 }
 
-/// The options that a program's words ask for, its name first; an empty list of words is taken for the name alone.
+/// Returns the options that `words` request, the program's name first.
+/// An empty list counts as the program's name alone.
+///
+/// # Errors
+///
+/// - [`WordsFault::Clap`] if `clap` refuses the words, if they ask for help or the version, or if
+///   memory is refused
+/// - [`WordsFault::BadObserver`], [`WordsFault::BadGauge`] or [`WordsFault::BadSink`] with the
+///   place of the first bad word; a bad gauge is reported before a bad sink
+///
+/// # Examples
+///
+/// ```ignore
+/// let words = ["relief", "fill", "--tile=1"].as_slice();
+/// let options = parse(rt.alloc(), words)?;
+/// ```
 pub fn parse(alloc: Global, words: &[&str]) -> Result<Options, WordsFault>
-    ensures wish { IfOk result (WishFor (words_given (map (λ w. w.now) words.now))) }
+    ensures request { IfOk result (RequestFor (words_given (map (λ w. w.now) words.now))) }
     ensures fault { IfErr result (IsFaultOf (words_given (map (λ w. w.now) words.now))) }
 {
     if words.is_empty() {
-        options_asked(alloc, NAME_ALONE.as_slice())
+        requested_options(alloc, NAME_ALONE.as_slice())
     } else {
-        options_asked(alloc, words)
+        requested_options(alloc, words)
     }
 }

@@ -1,4 +1,4 @@
-//! As many tiles in work at once as there are workers, at each stage.
+//! At each stage of a run, as many jobs run at once as there are workers.
 use relief::{Counted, Gate, Map, Observer, Options, Place, run_gated};
 use std::alloc::{AllocError, Global};
 use std::process::Abort;
@@ -8,13 +8,13 @@ use std::test::Fail;
 use std::thread;
 use std::thread::Threads;
 
-/// How often a held job looks for another one.
+/// How often a held job checks for another one.
 const MOST_LOOKS: u32 = 10_000_000;
 
-/// The side of the tiles of a level strip.
+/// The side of the tiles of a level strip, in cells.
 const SIDE: u32 = 2;
 
-/// At each stage, holds each of the first jobs until all of them have entered.
+/// A gate that holds each of the first jobs of a stage until all have entered.
 #[derive(Drop)]
 struct Crowd {
     // how often each of the first jobs has entered
@@ -34,7 +34,7 @@ impl Crowd {
         })
     }
 
-    /// Whether a job enters more often than so, within as many looks as a held job has.
+    /// Waits until a job has entered more than `before` times; false if it does not.
     fn comes_again(&self, job: &AtomicU64, before: u64) -> bool {
         for _ in 0..MOST_LOOKS {
             if job.load(Ordering::SeqCst) > before {
@@ -61,7 +61,7 @@ impl Gate for Crowd {
     }
 }
 
-/// A level strip of so many tiles.
+/// Returns the text of a level strip of `tiles` tiles.
 fn level_strip(alloc: Global, tiles: u32) -> Result<Vec<u8>, Fail> {
     let cols = tiles.wrapping_mul(SIDE);
     let header = format!(in alloc;
@@ -74,7 +74,7 @@ fn level_strip(alloc: Global, tiles: u32) -> Result<Vec<u8>, Fail> {
     Ok(text)
 }
 
-/// Runs a map of a strip with a tile for each worker: each of so many stages has all tiles at once.
+/// Asserts that each stage, with one tile a worker, runs all tiles at once.
 fn expect_crowded<R: Abort + Threads + Wait + Sync>(
     rt: &R,
     alloc: Global,

@@ -1,12 +1,12 @@
-//! Tests of whole runs, and of their stages, over their public calls.
+//! Tests whole runs and their stages, over their public calls.
 //!
 //! Modules:
 //!
-//! - `runs`: from bytes to bytes
-//! - `reading`: long texts in short pieces
-//! - `meeting`: two tiles at once
-//! - `crowding`: as many tiles at once as workers
-//! - `words`: command line and faults
+//! - `runs`: runs from bytes to bytes, also on failing devices
+//! - `reading`: how far a run reads ahead in a long text
+//! - `meeting`: two jobs at once, at each stage of each map
+//! - `crowding`: as many jobs at once as workers
+//! - `words`: command line, fault lines and progress
 #![tactic(auto)]
 
 #[cfg(test)]

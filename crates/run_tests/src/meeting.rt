@@ -1,4 +1,4 @@
-//! Two tiles in work at once, at each stage of each map.
+//! At each stage of each map, the jobs of two tiles run at once.
 ghost use Rattle.tiles.specs.Cutting.{Cuts};
 
 use ascii_grid::{Counted, read_text};
@@ -17,16 +17,16 @@ use terrain::Grid;
 use tile_jobs::{Gate, NoGate};
 use tiles::Tiling;
 
-/// A pit along the diagonal of 4 by 4 cells, which spills at the height of the last cell.
+/// Pits along the diagonal of 4 by 4 cells, which spill at the last one's height.
 const PITS: &[u8] =
     b"ncols 4\nnrows 4\nxllcorner 0\nyllcorner 0\ncellsize 1\n9 9 9 9\n9 1 9 9\n9 9 2 9\n9 9 9 3\n";
 
-/// Two hollows in two tiles of side 3, which spill over the low place in the second.
+/// Two hollows in two tiles of side 3, which spill at height 6 in the second.
 const VALLEY: &[u8] =
     b"ncols 6\nnrows 3\nxllcorner 0\nyllcorner 0\ncellsize 1\n9 9 9 9 9 9\n9 1 5 4 1 6\n9 9 9 9 9 9\n";
 
-/// Two corridors through two tiles of side 5, each with its outlet in another one: each tile gets a count from the
-/// other.
+/// Two corridors through two tiles of side 5. One has its outlet in the first tile,
+/// the other in the second, so each tile gets steps from the other.
 const CORRIDORS: &[u8] = b"ncols 10\nnrows 5\nxllcorner 0\nyllcorner 0\ncellsize 1
 9 9 9 9 9 9 1 9 9 9
 9 9 9 1 1 1 1 9 9 9
@@ -38,10 +38,10 @@ const CORRIDORS: &[u8] = b"ncols 10\nnrows 5\nxllcorner 0\nyllcorner 0\ncellsize
 const LEVEL: &[u8] =
     b"ncols 5\nnrows 2\nxllcorner 0\nyllcorner 0\ncellsize 1\n5 5 5 5 5\n5 5 5 5 5\n";
 
-/// How often a held job looks for the other.
+/// How often a held job checks for the other.
 const MOST_LOOKS: u32 = 10_000_000;
 
-/// At each stage, holds each of the first two jobs until the other has entered too.
+/// A gate that holds each of a stage's first two jobs until the other entered.
 #[derive(Drop)]
 struct Meeting {
     // how often each of the two has entered: once at each stage
@@ -79,7 +79,7 @@ impl Meeting {
         }
     }
 
-    /// Asserts that the first two jobs entered so often at least, and were in work at once each time.
+    /// Asserts that the first two jobs met, at `least` stages or more.
     fn expect_met(&self, rt: &impl Abort, least: u64, map: &str) {
         for entered in &self.entered {
             assert!(rt; least <= entered.load(Ordering::SeqCst), "{map}");
@@ -87,7 +87,7 @@ impl Meeting {
         assert_eq!(rt; self.missed.load(Ordering::SeqCst), 0, "{map}");
     }
 
-    /// Asserts that at so many stages each tile's job entered once, and the first two were in work at once.
+    /// Asserts the number of stages and tiles, and that the first two jobs met.
     fn expect(&self, rt: &impl Abort, stages: u64, tiles: u64, map: &str) {
         let first = self.entered[0].load(Ordering::SeqCst);
         let second = self.entered[1].load(Ordering::SeqCst);
@@ -107,7 +107,7 @@ const CORNER: Observer = Observer {
     eye: 0,
 };
 
-/// The grid of a text, and how it is cut into tiles of this side.
+/// Returns the grid of a text, and its tiling into tiles of this side.
 fn cut(rt: &impl Abort, alloc: Global, text: &[u8], side: u32) -> (Grid, Tiling)
     ensures { Cuts result.1 result.0.terrain }
 {
@@ -116,10 +116,9 @@ fn cut(rt: &impl Abort, alloc: Global, text: &[u8], side: u32) -> (Grid, Tiling)
     (grid, tiling)
 }
 
-/// Each stage has one job for each tile. `viewshed` has one stage for the greatest heights of blocks
-/// and one for the values; `filled` floods tiles and raises them; `accumulation` finds the flow
-/// of each tile and counts its cells; `basins` counts the outlets between these two; `catchments` has
-/// these two alone.
+/// Each stage has one job for each tile.
+/// `viewshed`: greatest heights of blocks, values. `filled`: floods, raising. `accumulation` and
+/// `catchments`: flow in tiles, values. `basins`: flow in tiles, outlets, values.
 #[test]
 fn tiles_meet_at_each_stage(rt: HostRuntime) {
     let alloc = rt.alloc();
@@ -144,7 +143,7 @@ fn tiles_meet_at_each_stage(rt: HostRuntime) {
     gate.expect(&rt, 2, 4, "catchments");
 }
 
-/// Tiles with inner cells have the same stages.
+/// `filled` has two stages for tiles with inner cells, too.
 #[test]
 fn tiles_with_inner_cells_meet(rt: HostRuntime) {
     let alloc = rt.alloc();
@@ -155,8 +154,8 @@ fn tiles_with_inner_cells_meet(rt: HostRuntime) {
     gate.expect(&rt, 2, 2, "filled");
 }
 
-/// The first round counts within each tile. In the second each corridor's counts go on in the other tile, and end
-/// there. The third changes nothing, and then each tile gets its codes.
+/// Round 1 counts steps inside each tile, round 2 takes them into the other tile.
+/// Round 3 changes nothing. The fourth stage finds the codes.
 #[test]
 fn tiles_meet_in_each_round(rt: HostRuntime) {
     let alloc = rt.alloc();
@@ -167,7 +166,7 @@ fn tiles_meet_in_each_round(rt: HostRuntime) {
     gate.expect(&rt, 4, 2, "directions");
 }
 
-/// A round has a job for each of four tiles, though a count comes into the first alone.
+/// A round has a job for each tile, though only the first tile gets new steps.
 #[test]
 fn idle_tiles_have_a_job_in_each_round(rt: HostRuntime) {
     let alloc = rt.alloc();
@@ -178,7 +177,7 @@ fn idle_tiles_have_a_job_in_each_round(rt: HostRuntime) {
     gate.expect(&rt, 4, 4, "directions");
 }
 
-/// Each of three tiles has one job at each of three stages, also where one worker does them in turn.
+/// Each of three tiles has one job at each of three stages, also with one worker.
 #[test]
 fn three_stages_of_three_jobs(rt: HostRuntime) {
     let alloc = rt.alloc();
@@ -198,7 +197,7 @@ fn three_stages_of_three_jobs(rt: HostRuntime) {
     assert_eq!(rt; gate.all.load(Ordering::SeqCst), 9);
 }
 
-/// The map that two workers write of a text in tiles of this side, whose jobs enter at a gate.
+/// Returns the map that two workers write, with a gate, for tiles of this side.
 fn gated_map<R: Abort + Threads + Wait + Sync>(
     rt: &R,
     alloc: Global,
@@ -217,7 +216,7 @@ fn gated_map<R: Abort + Threads + Wait + Sync>(
     out
 }
 
-/// Asserts that a written map has these columns and rows, and these lines of values.
+/// Asserts the columns, the rows and the lines of values of a written map.
 fn expect_map(rt: &impl Abort, alloc: Global, map: &[u8], cols: u32, rows: u32, lines: &str) {
     let wanted = format!(in alloc;
         "ncols         {cols}\nnrows         {rows}\nxllcorner     0\nyllcorner     0\ncellsize      1\nNODATA_value  -9999{lines}"
@@ -226,7 +225,7 @@ fn expect_map(rt: &impl Abort, alloc: Global, map: &[u8], cols: u32, rows: u32, 
     assert_eq!(rt; map, wanted.as_bytes());
 }
 
-/// At each stage of each map the first two of four tiles are in work at once. A map has so many stages at least.
+/// At each stage of each map, the first two of four tiles run at once.
 #[test]
 fn tiles_meet(rt: HostRuntime) {
     let alloc = rt.alloc();
@@ -260,7 +259,7 @@ fn tiles_meet(rt: HostRuntime) {
     }
 }
 
-/// Of catchments too the first two of four tiles are in work at once, at each stage.
+/// At each stage of catchments, the first two of four tiles run at once.
 #[test]
 fn tiles_of_catchments_meet(rt: HostRuntime) {
     let alloc = rt.alloc();
@@ -273,8 +272,8 @@ fn tiles_of_catchments_meet(rt: HostRuntime) {
     expect_map(&rt, alloc, &out, 4, 4, lines);
 }
 
-/// The stages of a run are those of all its calls: two of `filled`, four of `directions`, two of
-/// `accumulation`, three of `basins`, two of `viewshed`.
+/// A run has the stages of its calls: `filled` 2, `directions` 4, `accumulation` 2,
+/// `basins` 3, `viewshed` 2.
 #[test]
 fn tiles_meet_over_corridors(rt: HostRuntime) {
     let alloc = rt.alloc();

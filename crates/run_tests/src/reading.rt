@@ -1,4 +1,4 @@
-//! How a run reads a long text: in short pieces, and never far ahead of its cells.
+//! Runs on a long text: reads are short, and never far ahead of the cells.
 use relief::{Counted, GridFault, Map, Options, RunFault, run};
 use std::alloc::{AllocError, Global};
 use std::io;
@@ -8,19 +8,19 @@ use std::sync::Wait;
 use std::test::Fail;
 use std::thread::Threads;
 
-/// The most bytes that one read may ask for.
+/// The most bytes that one read may request.
 const MOST_ASKED: usize = 4_096;
 
-/// The most bytes of a text that may be read and not yet be cells.
+/// The most bytes that may be read ahead of the cells: 1 MiB.
 const MOST_AHEAD: usize = 1_048_576;
 
 /// A header of a thousand rows and columns.
 const HEADER: &[u8] = b"ncols 1000 nrows 1000 xllcorner 0 yllcorner 0 cellsize 1";
 
-/// How many cells the header asks for.
+/// The number of cells of [`HEADER`].
 const CELLS: u32 = 1_000_000;
 
-/// A text of 3 MB: each cell is a space and two bytes, `/7` at one cell and `47` at all others.
+/// Returns a text of 3 MB whose words are ` 47`, but ` /7` at one cell.
 fn long_text(alloc: Global, bad_cell: u32) -> Result<Vec<u8>, AllocError> {
     let mut text = Vec::from_slice(alloc, HEADER)?;
     for cell in 0..CELLS {
@@ -30,15 +30,15 @@ fn long_text(alloc: Global, bad_cell: u32) -> Result<Vec<u8>, AllocError> {
     Ok(text)
 }
 
-/// A reader of a text that fails at its end. It notes how many bytes it gave, and the longest read.
+/// A reader that fails at the end of a text, and records the bytes given.
 #[derive(Drop)]
-struct Watched<'a> {
+struct WatchedReader<'a> {
     left: &'a [u8],
     given: usize,
     longest: usize,
 }
 
-impl Read for Watched<'_> {
+impl Read for WatchedReader<'_> {
     fn read(&mut self, buf: &mut [u8]) -> io::Result<usize> {
         self.longest = self.longest.max(buf.len());
         if self.left.is_empty() {
@@ -50,8 +50,8 @@ impl Read for Watched<'_> {
     }
 }
 
-/// Runs on a reader of the text that fails at its end, and returns how many bytes it gave. The run has
-/// this fault, and has counted so many failures.
+/// Runs on a reader that fails at the text's end; returns the bytes that it gave.
+/// Asserts the fault of the run and the number of failures.
 fn bytes_given(
     rt: &(impl Abort + Threads + Wait + Sync),
     alloc: Global,
@@ -61,7 +61,7 @@ fn bytes_given(
     failures: u64,
 ) -> Result<usize, Fail> {
     let options = Options::new(Map::Fill, 256, workers, 0).ok_or("options")?;
-    let mut watched = Watched {
+    let mut watched = WatchedReader {
         left: text,
         given: 0,
         longest: 0,
@@ -81,9 +81,8 @@ fn bytes_given(
     Ok(watched.given)
 }
 
-/// A word that stands for no cell is refused when it is to become one. Till then at most 1 MiB is read,
-/// counted from its first byte. A run learns of that word by reading it, so each word of a text without
-/// one becomes a cell as soon.
+/// A bad word is refused before more than 1 MiB is read, from its first byte on.
+/// A run cannot foresee a bad word, so good words become cells as early.
 #[test]
 fn little_is_read_ahead(rt: HostRuntime) -> Result<(), Fail> {
     let alloc = rt.alloc();
@@ -104,7 +103,7 @@ fn little_is_read_ahead(rt: HostRuntime) -> Result<(), Fail> {
     Ok(())
 }
 
-/// The whole text is read, and the failure behind it is the first fault.
+/// The whole text is read, and the failure after it is the fault.
 #[test]
 fn a_long_text_and_a_failure(rt: HostRuntime) -> Result<(), Fail> {
     let alloc = rt.alloc();

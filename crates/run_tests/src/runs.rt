@@ -1,4 +1,4 @@
-//! Whole runs from bytes to bytes, also on devices that fail or have no end.
+//! Runs from bytes to bytes, also on devices that fail or have no end.
 use relief::{Counted, GridFault, Key, Map, Options, RunFault, run};
 use std::alloc::Global;
 use std::io;
@@ -19,7 +19,7 @@ const FILLED: &[u8] =
 /// A word of 70 letters, six more than a word may have.
 const LONG_WORD: &[u8] = b"nnnnnnnnnnnnnnnnnnnnnnnnnnnnnnnnnnnnnnnnnnnnnnnnnnnnnnnnnnnnnnnnnnnnnn";
 
-/// A reader of these bytes that then fails.
+/// A reader that gives these bytes and then fails.
 #[derive(Drop)]
 struct Broken<'a> {
     bytes: &'a [u8],
@@ -34,7 +34,7 @@ impl Read for Broken<'_> {
     }
 }
 
-/// A reader of spaces without end, which counts them.
+/// A reader that gives spaces without end, and counts them.
 #[derive(Drop)]
 struct Endless {
     given: u64,
@@ -50,7 +50,7 @@ impl Read for Endless {
     }
 }
 
-/// A writer that takes so many bytes a call, and so many in all; it fails then, or takes none.
+/// A writer of `each` bytes a call and `room` in all; then it fails, or writes 0.
 #[derive(Drop)]
 struct Short {
     taken: Vec<u8>,
@@ -92,10 +92,10 @@ impl Write for Short {
     }
 }
 
-/// Numbers of workers, of which each way of reading and writing has one.
+/// One worker reads and writes without jobs, several with jobs.
 const WORKERS: [u32; 3] = [1, 2, 8];
 
-/// Runs `fill` on the bowl into a writer, which then has this much of the map and fails as often.
+/// Runs `fill` on the bowl, and asserts the bytes written and the failures.
 fn expect_written(
     rt: &(impl Abort + Threads + Wait + Sync),
     alloc: Global,
@@ -182,7 +182,7 @@ fn a_flush_that_fails(rt: HostRuntime) -> Result<(), Fail> {
     Ok(())
 }
 
-/// A reader of seven bytes a call that fails at this one.
+/// A reader of seven bytes a call that fails once, after `calls` calls.
 #[derive(Drop)]
 struct Sevens<'a> {
     bytes: &'a [u8],
@@ -202,7 +202,7 @@ impl Read for Sevens<'_> {
     }
 }
 
-/// How a run on the bowl ends whose reader fails once, after so many calls.
+/// Returns the result of a run whose reader fails once, after `calls` calls.
 fn run_of_sevens(
     rt: &(impl Abort + Threads + Wait + Sync),
     alloc: Global,
@@ -225,7 +225,7 @@ fn run_of_sevens(
     Ok(result)
 }
 
-/// The bowl has 69 bytes: ten reads, and one that finds the end.
+/// The bowl has 69 bytes: ten reads, and an eleventh that finds the end.
 #[test]
 fn a_reader_that_fails_once(rt: HostRuntime) -> Result<(), Fail> {
     let alloc = rt.alloc();
@@ -246,7 +246,7 @@ fn a_reader_that_fails_once(rt: HostRuntime) -> Result<(), Fail> {
     Ok(())
 }
 
-/// Runs on a reader of these bytes that then fails: the run has this fault, and counts a failure that it reports.
+/// Asserts the fault of a run whose reader gives these bytes and then fails.
 fn expect_refused(
     rt: &(impl Abort + Threads + Wait + Sync),
     alloc: Global,
@@ -271,7 +271,7 @@ fn expect_refused(
     Ok(())
 }
 
-/// A word that a separator has ended is judged before the failure, a word in progress is not.
+/// A word that a separator has ended is checked before the failure, others are not.
 #[test]
 fn a_reader_that_fails(rt: HostRuntime) -> Result<(), Fail> {
     for (bytes, fault) in [

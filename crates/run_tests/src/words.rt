@@ -1,4 +1,4 @@
-//! The command line, and the lines and numbers of faults.
+//! The command line, its statuses and help, the lines of faults, and progress.
 use relief::{
     Counted, Gate, GaugeFault, GridFault, JobFault, Key, Map, Observer, Options, Place, Progress,
     RunFault, SightFault, SinkFault, TilingFault, VERSION, WriteFailed, parse_observer, parse_sink,
@@ -13,15 +13,15 @@ use std::thread::Threads;
 const BOWL: &[u8] =
     b"ncols 3\nnrows 3\nxllcorner 0\nyllcorner 0\ncellsize 1\n9 9 9\n9 1 9\n9 9 9\n";
 
-/// What words came to over a grid.
+/// The exit status and the output of the program on the bowl.
 #[derive(Drop)]
-struct Told {
+struct Outcome {
     status: u8,
     out: Vec<u8>,
     errors: Vec<u8>,
 }
 
-fn told_by<R: Threads + Wait + Sync>(rt: &R, alloc: Global, words: &[&str]) -> Told {
+fn outcome_of<R: Threads + Wait + Sync>(rt: &R, alloc: Global, words: &[&str]) -> Outcome {
     let mut out = Vec::new(alloc);
     let mut errors = Vec::new(alloc);
     let mut reader = Counted::new(BOWL);
@@ -30,7 +30,7 @@ fn told_by<R: Threads + Wait + Sync>(rt: &R, alloc: Global, words: &[&str]) -> T
     let status = run_words(rt, alloc, words, &mut reader, &mut writer, &mut lines);
     drop(lines);
     drop(writer);
-    Told {
+    Outcome {
         status,
         out,
         errors,
@@ -68,15 +68,15 @@ fn words_and_statuses(rt: HostRuntime) {
         ),
         (["relief", "--help"].as_slice(), 0, b"".as_slice()),
     ] {
-        let told = told_by(&rt, rt.alloc(), words);
+        let told = outcome_of(&rt, rt.alloc(), words);
         assert_eq!(rt; told.status, status, "{words:?}");
         assert_eq!(rt; told.errors.as_slice(), errors, "{words:?}");
     }
 }
 
-/// Whether these words are refused, and that is told.
+/// Returns whether these words are refused, with a message on the errors.
 fn are_refused<R: Threads + Wait + Sync>(rt: &R, alloc: Global, words: &[&str]) -> bool {
-    let told = told_by(rt, alloc, words);
+    let told = outcome_of(rt, alloc, words);
     told.status == 1 && !told.errors.is_empty()
 }
 
@@ -91,11 +91,11 @@ fn no_words_and_refused_words(rt: HostRuntime) {
     assert!(rt; are_refused(&rt, alloc, &["relief", "catchments"]));
 }
 
-/// The help of a map says what goes in and comes out, and names its defaults, limits and statuses.
+/// The help of a map gives input, output, defaults, limits and exit statuses.
 #[test]
 fn help_of_each_map(rt: HostRuntime) -> Result<(), Fail> {
     for name in ["fill", "flow", "accumulate", "basins", "catchments", "view"] {
-        let told = told_by(&rt, rt.alloc(), ["relief", name, "--help"].as_slice());
+        let told = outcome_of(&rt, rt.alloc(), ["relief", name, "--help"].as_slice());
         assert_eq!(rt; told.status, 0, "{name}");
         assert!(rt; told.errors.is_empty(), "{name}");
         let help = String::from_utf8_lossy(rt.alloc(), told.out.as_slice())?;
@@ -118,7 +118,7 @@ fn help_of_each_map(rt: HostRuntime) -> Result<(), Fail> {
 
 #[test]
 fn version_alone(rt: HostRuntime) -> Result<(), Fail> {
-    let told = told_by(&rt, rt.alloc(), ["relief", "--version"].as_slice());
+    let told = outcome_of(&rt, rt.alloc(), ["relief", "--version"].as_slice());
     assert_eq!(rt; told.status, 0);
     assert!(rt; told.errors.is_empty());
     let line = format!(in rt.alloc(); "relief {VERSION}\n")?;
@@ -243,7 +243,7 @@ fn options_in_their_limits(rt: HostRuntime) {
     }
 }
 
-/// Adds up what a run reports to a gate.
+/// A gate that counts the calls of a run.
 #[derive(Drop)]
 struct Tally {
     stages: AtomicU64,
@@ -252,15 +252,15 @@ struct Tally {
     job_numbers: AtomicU64,
     parts: AtomicU64,
     due_parts: AtomicU64,
-    /// Jobs that left before all their parts, where one worker does them.
+    /// With one worker, the jobs that left before all their parts were finished.
     early: AtomicU64,
     ends: AtomicU64,
 }
 
-/// Observers of each report.
+/// The number of observers.
 const OBSERVERS: u64 = 3;
 
-/// Tiles of the bowl, of side 2.
+/// The number of tiles of the bowl, of side 2.
 const TILES: u64 = 4;
 
 impl Gate for Tally {
@@ -292,7 +292,7 @@ impl Progress for Tally {
     }
 }
 
-/// What the words report over the bowl, in tiles of side 2.
+/// Runs the program on the bowl, and returns the calls of its gate.
 fn reported<R: Threads + Wait + Sync>(rt: &R, alloc: Global, words: &[&str]) -> Tally {
     let tally = Tally {
         stages: AtomicU64::new(0),
@@ -321,7 +321,7 @@ fn reported<R: Threads + Wait + Sync>(rt: &R, alloc: Global, words: &[&str]) -> 
     tally
 }
 
-/// A viewshed of three observers has two stages of four jobs, and a job of the second three parts.
+/// A viewshed has two stages of four jobs. A job of the second has three parts.
 #[test]
 fn progress_of_a_view(rt: HostRuntime) {
     for workers in ["--workers=1", "--workers=2"] {

@@ -1,4 +1,4 @@
--- The list of a map of blocks, and the blocks of a grid that is cut.
+-- Lists of the greatest heights of blocks, and of blocks of blocks.
 use Rattle.std.proofs.Common.{arith, refl, sym, ap, subst, ◌∙◌, ◌≡◌, ◌+◌, ◌-◌, ◌*◌, ◌/◌, ◌%◌, ◌<◌, ◌≤◌, ℕ, ℤ, List, [], ◌∷◌, ◌++◌, length, length-append, get_or, get_or-take, get_or-drop, drop, slice_range, ◌≤ℤ◌, Option, None, Some, inl, inr}
 use Rattle.std.proofs.lemmas.Bool.{cases_lt}
 use Rattle.std.proofs.lemmas.List.{get_or_past}
@@ -15,17 +15,16 @@ use Rattle.sightlines.proofs.LowBlocks.{block_before}
 pub swapped : (a b : ℕ) → a * b ≡ b * a
 swapped a b = omega arith
 
--- a height that is above a top is above what the top is above
+-- a bound of a bound is a bound
 pub top_over : (top result : Option ℤ) (h : ℤ) → ((m : ℤ) → top ≡ Some m → IsTopOf result m) → IsTopOf top h → IsTopOf result h
 top_over None result h over is = absurd is
 top_over (Some m) None h over is = over m refl
 top_over (Some m) (Some r) h over is = let above : m ≤ℤ r = over m refl in omega (arith, ints, is, above)
 
--- a run of a list
 pub run_at : (cells : List (Option ℤ)) (a b i : ℕ) → i < b - a → get_or (slice_range cells a b) i None ≡ get_or cells (a + i) None
 run_at cells a b i below = get_or-take (b - a) (drop a cells) i None below ∙ get_or-drop a cells i None
 
--- a cell of a block stands behind its beginning and before its end
+-- a cell of a block is between the block's ends
 pub in_block : (size r block : ℕ) → 0 < size → r / size ≡ block → (block * size ≤ r) × (r < block * size + size)
 in_block size r block some is =
     let parts = div-add-mod' r size in
@@ -33,14 +32,13 @@ in_block size r block some is =
     let begun : r / size * size ≡ block * size = ap (λ n. n * size) is in
     (omega (arith, parts, begun), omega (arith, parts, begun, small))
 
--- there are not more blocks than cells
 pub few_blocks : (size cells : ℕ) → 0 < size → blocks_in size cells ≤ cells
 few_blocks size cells some = elim (cases_lt cells (blocks_in size cells)) [
   | inl more ↦ absurd (omega (arith, more, div-add-mod' (cells + (size - 1)) size, mul-le (cells + 1) size (blocks_in size cells) size (omega arith) (omega arith), mul-le cells 1 cells size (omega arith) (omega arith)))
   | inr few ↦ few
 ]
 
--- blocks are a ground of their own
+-- the list of the blocks' heights is a ground
 pub ground_of_tops : (size : ℕ) (t : Terrain) (tops : List (Option ℤ)) → 0 < size → (1 ≤ t.cols) × (t.cols ≤ 4096) → (1 ≤ t.rows) × (t.rows ≤ 4096) → AreTops size t tops
     → IsGround (blocks_in size t.cols) (blocks_in size t.rows) tops
 ground_of_tops size t tops some cols rows are = record {
@@ -50,11 +48,11 @@ ground_of_tops size t tops some cols rows are = record {
   heights = are.heights;
 }
 
--- a terrain has the tops of its cells
+-- the greatest heights of a terrain's cells are those of the terrain
 pub tops_of_ground : (size : ℕ) (t : Terrain) (tops : List (Option ℤ)) → AreTops size (ground_of t.cols t.rows t.cells) tops → AreTops size t tops
 tops_of_ground size t tops are = record { count = are.count; heights = are.heights; above = are.above }
 
--- the blocks of blocks are the blocks of cells
+-- blocks of 8 by 8 near blocks are far blocks
 in_blocks : (cells : ℕ) → blocks_in 8 (blocks_in 16 cells) ≡ blocks_in 128 cells
 in_blocks cells = omega arith
 
@@ -78,7 +76,6 @@ tops_of_tops t near far low high = record {
       top_over (get_or near (block_of 16 t p) None) (get_or far (block_of 128 t p) None) h over (low.above p h is);
 }
 
--- from a block up to itself there is none
 pub no_tops : (size : ℕ) (t : Terrain) (from : ℕ) → AreTopsBetween size t from from []
 no_tops size t from = record {
   count = omega arith;
@@ -86,7 +83,7 @@ no_tops size t from = record {
   above = λ p h low high is. absurd (omega arith);
 }
 
--- the height of one block, as the list of that one
+-- the list of one block has its greatest height
 pub one_top : (size k : ℕ) (t : Terrain) (top : Option ℤ) → 0 < size
     → IsBlockTop size t (make_place (k / blocks_in size t.cols) (k % blocks_in size t.cols)) top
     → AreTopsBetween size t k (k + 1) (top ∷ [])
@@ -111,7 +108,6 @@ one_top size k t top some is = record {
       subst (λ n. IsTopOf (get_or (top ∷ []) n None) h) zero (is.above p h row_is col_is there);
 }
 
--- two lists one behind the other
 pub joined_tops : (size : ℕ) (t : Terrain) (from between to : ℕ) (first next : List (Option ℤ))
     → AreTopsBetween size t from between first → AreTopsBetween size t between to next
     → AreTopsBetween size t from to (first ++ next)
@@ -132,7 +128,6 @@ joined_tops size t from between to first next left right = record {
   ];
 }
 
--- the list of all blocks
 pub all_tops : (size : ℕ) (t : Terrain) (tops : List (Option ℤ)) → 0 < size
     → AreTopsBetween size t 0 (block_count size t) tops → AreTops size t tops
 all_tops size t tops some are = record {

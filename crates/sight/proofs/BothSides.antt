@@ -1,4 +1,4 @@
--- What the lines on both sides of an observer leave of a window's marks.
+-- The marks of a window that the lines on both sides of an observer leave.
 use Rattle.std.proofs.Common.{arith, refl, sym, ap, ◌∙◌, ◌≡◌, ◌+◌, ◌-◌, ◌*◌, ◌<◌, ◌≤◌, ℕ, ℤ, pos, ◌+ℤ◌, ◌-ℤ◌, Bool, true, false, not, ◌&&◌, List, Option, None, get_or, unwrap_or, inl, inr}
 use Rattle.std.specs.Int.{abs_diff}
 use Rattle.std.specs.List.{list_any, range_with_len}
@@ -14,11 +14,11 @@ use Rattle.sightlines.specs.declared.walk.Sightline.{Sightline}
 use Rattle.sight.specs.declared.window.Window.{Window}
 use Rattle.sight.proofs.Families.{walk_is_blocked}
 
--- with so little above the eye, the target is so high
+-- a level is the eye's level plus the rise above the eye
 rises : (e g h : ℤ) → g +ℤ h ≡ e +ℤ ((g +ℤ h) -ℤ e)
 rises e g h = omega (arith, ints)
 
--- the walk to a cell of a line meets what the lines before it block
+-- the walk to a cell is blocked exactly where a line before it blocks the cell
 lines_block : (cells : List (Option ℤ)) (f : Family) (height n x y : ℕ) → lead_of f n ≡ x → abs_diff f.lines.at x ≡ n
     → walk_blocks cells (sightline_to cells f height x y) ≡ is_blocked_before cells f n y (rise_at cells f height n y) n
 lines_block cells f height n x y at away =
@@ -27,7 +27,7 @@ lines_block cells f height n x y at away =
     let high = ap (λ to. level to +ℤ pos height) (sym at) ∙ rises f.eye (level (lead_of f n)) (pos height) in
     walk_is_blocked cells f n y (rise_at cells f height n y) (sightline_to cells f height x y) (ap axis (sym at)) refl refl high away
 
--- nothing lies between the observer and the line beside
+-- no crossing is between the observer and the next line
 none_between : (cells : List (Option ℤ)) (l : Sightline) → steps_of l ≤ 1 → walk_blocks cells l ≡ false
 none_between cells l few =
     let none : steps_of l - 1 ≡ 0 = omega arith in

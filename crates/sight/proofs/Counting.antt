@@ -1,4 +1,4 @@
--- The values of a tile, one observer more at a time.
+-- The values of a tile, after each observer.
 use Rattle.std.proofs.Common.{arith, refl, sym, ap, ◌∙◌, ◌≡◌, ◌+◌, ◌-◌, ◌*◌, ◌/◌, ◌%◌, ◌<◌, ℕ, ℤ, Bool, true, false, List, length, get_or, take, Option, None, Some, option_map, slice_get, inl, inr}
 use Rattle.std.proofs.lemmas.Bool.{cases_lt}
 use Rattle.std.proofs.lemmas.List.{get_or_past, length-take}
@@ -18,7 +18,6 @@ use Rattle.sight.specs.Viewed.{value_at, HasValue, counted, AreAtMost}
 use Rattle.sight.specs.Marks.{AreMarked, TellsSeen}
 use Rattle.terrain.specs.declared.observer.Observer.{Observer}
 
--- the value of a place
 counted_yes : (h : Option ℤ) (n m : ℕ) → m ≡ n + 1 → counted (option_map (λ _. n) h) true ≡ option_map (λ _. m) h
 counted_yes None n m e = refl
 counted_yes (Some x) n m e = ap Some (sym e)
@@ -31,7 +30,7 @@ value_counted t os target radius i d p true less e =
 value_counted t os target radius i d p false less e =
     ap (λ n. option_map (λ _. n) (height_at t p)) (sym (count_by_more_no (λ (o : Observer). is_seen t o p target radius) os i d less e))
 
--- an observer who looked at the tile
+-- the values after an observer whose view was marked
 pub looked : (t : Terrain) (os : List Observer) (target radius i : ℕ) (d : Observer) (b : Bounds) (old new : List (Option ℕ)) (seen : List Bool) → i < length os
     → AreMadeBelow b (HasValue t (take i os) target radius) (b.rows * b.cols) old → AreMarked b (TellsSeen t (get_or os i d) target radius) seen
     → length new ≡ length old → ((k : ℕ) → get_or new k None ≡ counted (get_or old k None) (get_or seen k false))
@@ -45,7 +44,7 @@ looked t os target radius i d b old new seen less before marks size each = recor
       ∙ value_counted t os target radius i d p (is_seen t (get_or os i d) p target radius) less refl;
 }
 
--- an observer who sees no cell of the tile
+-- the values after an observer who sees no cell of the tile
 pub passed : (t : Terrain) (os : List Observer) (target radius i : ℕ) (d : Observer) (b : Bounds) (values : List (Option ℕ)) → i < length os
     → AreMadeBelow b (HasValue t (take i os) target radius) (b.rows * b.cols) values → ((p : Place) → IsInBounds b p → is_seen t (get_or os i d) p target radius ≡ false)
     → AreMadeBelow b (HasValue t (take (i + 1) os) target radius) (b.rows * b.cols) values

@@ -1,4 +1,4 @@
--- What a family blocks is what the walk along the line of sight meets.
+-- A family blocks a target exactly where the walk along the line of sight is blocked.
 use Rattle.std.proofs.Common.{ap, ◌∙◌, ◌≡◌, ℕ, ◌-◌, ℤ, ◌+ℤ◌, List, Option}
 use Rattle.std.specs.List.{list_any, range_with_len}
 use Rattle.sightlines.specs.Walk.{step_blocks, steps_of, walk_blocks}

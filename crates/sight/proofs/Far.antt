@@ -1,4 +1,4 @@
--- What is out of reach of an observer.
+-- Places outside of the radius of an observer.
 use Rattle.std.proofs.Common.{arith, ◌≡◌, ◌+◌, ◌-◌, ◌*◌, ◌<◌, ◌≤◌, ℕ, false, max, min}
 use Rattle.std.specs.Int.{abs_diff}
 use Rattle.std.proofs.lemmas.Bool.{leb-false, lt-leb}
@@ -8,11 +8,11 @@ use Rattle.tiles.specs.declared.bounds.Bounds.{Bounds}
 use Rattle.tiles.specs.Cutting.{IsInBounds}
 use Rattle.sightlines.specs.Sight.{is_near}
 
--- no place of a row of places is nearer than the one to which a number is brought
+-- no number of a range is nearer to a number than that number clamped to the range
 nearest : (a from count x : ℕ) → from ≤ x → x < from + count → abs_diff a (max from (min a (from + count - 1))) ≤ abs_diff a x
 nearest a from count x low high = omega arith
 
--- where the nearest place of the bounds is out of reach, all are
+-- if the nearest place of the bounds is outside the radius, all are
 pub all_far : (eye near p : Place) (b : Bounds) (radius : ℕ) → near.row ≡ max b.top (min eye.row (b.top + b.rows - 1)) → near.col ≡ max b.left (min eye.col (b.left + b.cols - 1))
     → is_near eye near radius ≡ false → IsInBounds b p → is_near eye p radius ≡ false
 all_far eye near p b radius row col far inside =

@@ -62,7 +62,7 @@ cell_passed f w marks n c rays unmarked are = record {
 pub cell_taken : (f : Family) (w : Window) (marks : List Bool) (n c : ℕ) (rays : List Target) → IsFamily f → IsWindow f w marks → Crosses f w n → IsInRun w.side c → AreRays f w marks n c rays → AreRays f w marks n (c + 1) (rays ++ target_at f n c ∷ [])
 cell_taken f w marks n c rays is_f is_w crosses in_run are =
     let t = target_at f n c in
-    let stands : StandsAt f c t = record { aside = refl; first = omega (arith, is_w.first, in_run); side = omega (arith, is_w.side, in_run); line = crosses.line } in
+    let stands : StandsAt f c t = record { offset = refl; first = omega (arith, is_w.first, in_run); side = omega (arith, is_w.side, in_run); line = crosses.line } in
     let old : (u : ℕ) (s : Target) → u < length rays → slice_get (rays ++ t ∷ []) u ≡ Some s → slice_get rays u ≡ Some s = λ u s less at. sym (slice_get-front rays t u less) ∙ at in
     let new : (u : ℕ) (s : Target) → length rays ≤ u → slice_get (rays ++ t ∷ []) u ≡ Some s → t ≡ s = λ u s not at.
     let u_is : u ≡ length rays = omega (arith, slice_get_within (rays ++ t ∷ []) u s at, length-append rays (t ∷ [])) in

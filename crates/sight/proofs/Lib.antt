@@ -1,4 +1,4 @@
--- worked rows
+-- worked examples
 mod Rows
 -- the greatest heights of blocks of cells
 pub mod BlockLists
@@ -13,8 +13,8 @@ pub mod Passed
 -- rays in the order of their slopes, and of their lines
 pub mod Ranking
 pub mod Gathered
--- the marks that a family takes
-pub mod Asked
+-- the marks that a family removes
+pub mod Check
 -- what a family blocks, against the walk
 pub mod Families
 -- the marks that a tile keeps on all sides of an observer

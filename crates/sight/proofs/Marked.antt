@@ -1,4 +1,4 @@
--- Marks of a part of a grid, one place more at a time.
+-- Marks of the places of some bounds, place by place.
 use Rattle.std.proofs.Common.{arith, sym, ap, subst, ◌∙◌, ◌≡◌, ◌+◌, ◌<◌, ℕ, Bool, false, List, length, get_or, set, inl, inr}
 use Rattle.std.proofs.lemmas.Bool.{cases_eq}
 use Rattle.std.proofs.lemmas.List.{length-set, get_or-set_same, get_or-set_other}
@@ -26,7 +26,7 @@ marked_more b Says p marks i x inside at before is = record {
   ];
 }
 
--- the marks that are left tell what is seen
+-- the marks that a sweep leaves are those of the seen places
 pub left_seen : (b : Bounds) (t : Terrain) (o : Observer) (target radius : ℕ) (old new : List Bool) → AreMarked b (TellsSeenIfOpen t o target radius) old → AreLeft b (λ (p : Place). is_open t o p target) old new
     → AreMarked b (TellsSeen t o target radius) new
 left_seen b t o target radius old new marked left = record {

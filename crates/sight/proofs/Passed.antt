@@ -1,4 +1,4 @@
--- How a horizon tells of one line more.
+-- A horizon after one more line.
 use Rattle.std.proofs.Common.{arith, refl, sym, ap, subst, ◌∙◌, ◌≡◌, ℕ, zero, suc, ◌+◌, ◌-◌, ◌<◌, ◌||◌, ◌≤◌, ◌^◌, ℤ, unsigned_abs, Bool, true, false, List, [], length, Option, Some}
 use Rattle.std.specs.Prelude.{slice_get}
 use Rattle.std.specs.List.{list_any, range_with_len}
@@ -18,7 +18,7 @@ or_between : (a b c : Bool) → (a || (b || c)) ≡ ((a || b) || c)
 or_between true b c = refl
 or_between false b c = refl
 
--- some number of a range passes, or the next one does
+-- some number of a range passes a test, or the next number does
 pub any_next : (p : ℕ → Bool) (a n : ℕ) → list_any p (range_with_len a (n + 1)) ≡ (list_any p (range_with_len a n) || p (a + n))
 any_next p a zero = let same : a + 0 ≡ a = omega arith in rw same (or_none (p a))
 any_next p a (suc n) =
@@ -26,7 +26,6 @@ any_next p a (suc n) =
     let count : suc n + 1 ≡ suc (n + 1) = omega arith in
     rw count (ap (λ b. p a || b) (any_next p (a + 1) n) ∙ or_between (p a) (list_any p (range_with_len (a + 1) n)) (p (a + 1 + n)) ∙ ap (λ i. (p a || list_any p (range_with_len (a + 1) n)) || p i) same)
 
--- a horizon that a line has raised
 is_over : (cells : List (Option ℤ)) (f : Family) (targets : List Target) (k : ℕ) (old new : List Piece) → extent new ≡ length targets → RaisesBelow cells f targets k old (length targets) new → IsOver targets new
 is_over cells f targets k old new whole raises = record {
   whole = whole;
@@ -51,7 +50,7 @@ hides_next cells f targets k old new some before whole raises = record {
       rw raised.1 (here ∙ rw was (sym next));
 }
 
--- before the first line nothing hides
+-- before the first line nothing is hidden
 pub none_hides : (targets : List Target) (ramp : Ramp) (h : List Piece) → AreTargets targets → IsPushed [] (length targets) ramp h
     → ((t : Target) (rise : ℤ) → IsTarget t → unsigned_abs rise ≤ 2 ^ 51 → hides_by ramp t rise ≡ false) → ((t : Target) → IsTarget t → IsRampAt ramp t)
     → (cells : List (Option ℤ)) (f : Family) → HidesBefore cells f targets 1 h

@@ -1,4 +1,4 @@
--- The marks of places that crossings with columns and with rows leave.
+-- Which marks are kept after the tests at columns and at rows.
 use Rattle.std.proofs.Common.{arith, sym, ap, ◌∙◌, ◌≡◌, ◌+◌, ◌-◌, ◌*◌, ◌<◌, ◌≤◌, ℕ, ℤ, pos, ◌+ℤ◌, Bool, true, false, not, ◌&&◌, List, Option, get_or, unwrap_or}
 use Rattle.std.proofs.lemmas.Nat.{mul-add-lt}
 use Rattle.terrain.specs.Raster.{Terrain}
@@ -14,7 +14,7 @@ use Rattle.sight.specs.declared.sides.Coordinate.{Coordinate}
 use Rattle.sightlines.specs.declared.walk.Sightline.{Sightline}
 use Rattle.sightlines.proofs.Crossings.{height_is, column_blocks-walk, row_blocks-walk}
 
--- the coordinates of an observer who looks at a tile
+-- the coordinates of an observer and a tile
 abbrev pub columns_at : Bounds → Place → Coordinate
 columns_at b p = record { at = p.col; stride = 1; tile = record { first = b.left; cells = b.cols; stride = 1 } }
 
@@ -27,7 +27,7 @@ column_marks b x y n size in_x in_y = omega (arith, size, mul-add-lt y b.cols x 
 pub row_marks : (b : Bounds) (x y n : ℕ) → n ≡ b.rows * b.cols → x < b.rows → y < b.cols → x * b.cols + y * 1 < n
 row_marks b x y n size in_x in_y = omega (arith, size, mul-add-lt x b.cols y b.rows in_x in_y)
 
--- a mark that is told at another index, with another walk
+-- what is known of a mark, at an equal index and after an equal test
 told : (new old : List Bool) (i j : ℕ) (walked blocked : Bool) → i ≡ j → walked ≡ blocked → get_or new i false ≡ (get_or old i false && not walked) → get_or new j false ≡ (get_or old j false && not blocked)
 told new old i j walked blocked at same is =
     ap (λ k. get_or new k false) (sym at) ∙ is ∙ ap (λ k. get_or old k false && not walked) at ∙ ap (λ b. get_or old j false && not b) same
@@ -59,7 +59,6 @@ module _ (t : Terrain) (p : Place) (b : Bounds) (e : ℤ) (target : ℕ) (old ne
         (are.each q.row q.col (inside.0, inside.1) (inside.2, inside.3));
   }
 
--- one test after the other
 and_both : (m n k a c : Bool) → n ≡ (m && a) → k ≡ (n && c) → k ≡ (m && (a && c))
 and_both true n k a c one two = two ∙ ap (λ z. z && c) one
 and_both false n k a c one two = two ∙ ap (λ z. z && c) one

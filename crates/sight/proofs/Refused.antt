@@ -1,4 +1,4 @@
--- How a viewshed is refused where there is a fault, and what holds of observers that have none.
+-- The refusal of a viewshed at a fault, and facts of observers without fault.
 use Rattle.std.proofs.Common.{◌≡◌, ◌+◌, ◌||◌, ℕ, Bool, true, false, cond, ltb, is_none, List, [], ◌∷◌, length, Option, None, Some, option_map, Err, arith, refl, ◌<◌, ◌≤◌, zero, suc, ◌&&◌, get_or}
 use Rattle.std.specs.Option.{option_or}
 use Rattle.std.specs.List.{position_from}
@@ -14,7 +14,7 @@ use Rattle.sight.specs.declared.fault.SightFault.TheVariants.{BadEye, Jobs, Outs
 use Rattle.std.proofs.lemmas.Bool.{ltb-true, ltb-false, and_parts, or_parts, not-false}
 use Rattle.sight.specs.Viewed.{IsFaultless}
 
--- a choice of faults, none of which is this one
+-- the optional fault o is not fault f
 abbrev pub IsNot : {F : Type 0} → F → Option F → Type 0
 IsNot f o = o ≡ Some f → ⊥
 
@@ -26,7 +26,7 @@ pub not_or : {F : Type 0} {f : F} (x y : Option F) → IsNot f x → IsNot f y �
 not_or None y p q = q
 not_or (Some x) y p q = p
 
--- none of the faults of observers is of the jobs
+-- no fault of observers is a fault of jobs
 module _ (f : JobFault) where
   not_eye : (o : Option ℕ) → IsNot (Jobs f) (option_map (λ i. BadEye (Some i)) o)
   not_eye None e = absurd (cc)
@@ -45,7 +45,7 @@ module _ (f : JobFault) where
       (not_or (option_map (λ i. BadEye (Some i)) (position_from (λ (o : Observer). is_high o.eye) 0 os)) _ (not_eye (position_from (λ (o : Observer). is_high o.eye) 0 os))
       (not_if (ltb radius 1 || ltb 8192 radius) _ _ (λ e. absurd (cc)) (not_place t 0 os))))
 
--- the fault that there is, is told
+-- a result that is the observers' fault is a correct refusal
 pub refuses : {T : Type 0} (fault : Option SightFault) (f : SightFault) (workers : ℕ) → ((job : JobFault) → IsNot (Jobs job) fault) → fault ≡ Some f → RefusesSight {T = T} fault workers (Err f)
 refuses fault f workers not e = record {
   told = λ h is. cc;
@@ -54,7 +54,6 @@ refuses fault f workers not e = record {
   no_thread = λ is. absurd (not NoThread (cc));
 }
 
--- the parts of a choice that is none
 none_if : {X : Type 0} (b : Bool) (x : X) (rest : Option X) → is_none (cond b (Some x) rest) ≡ true → (b ≡ false) × (is_none rest ≡ true)
 none_if true x rest e = absurd (cc)
 none_if false x rest e = (refl, e)
@@ -67,7 +66,6 @@ none_map : {X Y : Type 0} (f : X → Y) (a : Option X) → is_none (option_map f
 none_map f None e = refl
 none_map f (Some x) e = absurd (cc)
 
--- no element passes a test
 pub no_position : {X : Type 0} (p : X → Bool) (i : ℕ) (xs : List X) → is_none (position_from p i xs) ≡ true → (k : ℕ) (d : X) → k < length xs → p (get_or xs k d) ≡ false
 no_position p i [] e k d h = absurd (omega arith)
 no_position p i (x ∷ xs) e zero d h = (none_if (p x) i (position_from p (i + 1) xs) e).0
@@ -79,7 +77,7 @@ inside_from t i o e =
     let both = and_parts (ltb o.row t.rows) (ltb o.col t.cols) (not-false (ltb o.row t.rows && ltb o.col t.cols) parts.0) in
     (ltb-true o.row t.rows both.0, ltb-true o.col t.cols both.1)
 
--- every observer is inside
+-- if no place has a fault, all observers are inside the grid
 no_place_fault : (t : Terrain) (i : ℕ) (os : List Observer) → is_none (place_fault t i os) ≡ true → (k : ℕ) (d : Observer) → k < length os → IsInside t (place_of (get_or os k d))
 no_place_fault t i [] e k d h = absurd (omega arith)
 no_place_fault t i (o ∷ rest) e zero d h = inside_from t i o (none_or (place_fault_of t i o) (place_fault t (i + 1) rest) e).0

@@ -1,4 +1,4 @@
--- What the definitions say of small grids, by computation.
+-- Viewsheds and faults of small grids, computed from the definitions.
 use Rattle.std.proofs.Common.{◌≡◌, ℕ, List, [], ◌∷◌, map, Option, None, Some, negsuc, refl}
 use Rattle.terrain.specs.Raster.{Terrain}
 use Rattle.terrain.specs.Ways.{places}
@@ -12,18 +12,18 @@ use Rattle.sight.specs.declared.fault.SightFault.TheVariants.{Outside, OnNodata,
 abbrev pub corner : List Observer
 corner = record { row = 0; col = 0; eye = 0 } ∷ []
 
--- the values at all places, a NODATA cell's as 0
+-- the values at all places for an observer in the corner, NODATA cells as 0
 abbrev pub values_from_corner : Terrain → List ℕ
 values_from_corner t = map (viewshed_value t corner 0 8192) (places t.cols t.rows)
 
--- a terrain, and the values of its places
+-- a terrain and the values of its places
 abbrev pub ValueRow : Type 0
 ValueRow = Terrain × List ℕ
 
 abbrev pub HaveValues : List ValueRow → Type 0
 HaveValues rows = map (λ (row : ValueRow). values_from_corner row.0) rows ≡ map (λ (row : ValueRow). row.1) rows
 
--- as high as the line, above it; no data tests nothing; the line below the ground, and at it
+-- ground at the line and above it; NODATA blocks nothing; a line below the ground and at it
 small_grids : HaveValues (
     (land 3 1 (up 0 ∷ up 5 ∷ up 10 ∷ []), 1 ∷ 1 ∷ 1 ∷ [])
     ∷ (land 3 1 (up 0 ∷ up 6 ∷ up 10 ∷ []), 1 ∷ 1 ∷ 0 ∷ [])
@@ -36,7 +36,7 @@ small_grids = refl
 hidden_by_a_row : values_from_corner hidden ≡ 1 ∷ 1 ∷ 1 ∷ 1 ∷ 1 ∷ 1 ∷ 1 ∷ 0 ∷ 1 ∷ 0 ∷ 0 ∷ 0 ∷ []
 hidden_by_a_row = refl
 
--- an observer named twice counts twice, and the radius ends the view
+-- an observer who is named twice counts twice; cells outside the radius are not seen
 abbrev pub flat : Terrain
 flat = land 3 3 (map up (0 ∷ 0 ∷ 0 ∷ 0 ∷ 0 ∷ 0 ∷ 0 ∷ 0 ∷ 0 ∷ []))
 

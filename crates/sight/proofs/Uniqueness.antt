@@ -1,4 +1,4 @@
--- A terrain has one viewshed, and a map that has the value of each place is it.
+-- A terrain has at most one viewshed; a map with the value of each place is a viewshed.
 use Rattle.std.proofs.Common.{arith, sym, ap, ◌∙◌, ◌≡◌, ◌*◌, ◌/◌, ◌%◌, ◌<◌, ℕ, ℤ, List, map, get_or, Option, None, Some, option_map, MatchOption}
 use Rattle.std.specs.List.{range_with_len}
 use Rattle.std.proofs.lemmas.List.FromFn.{fill_by_all}
@@ -21,7 +21,7 @@ entry_told : (h : Option ℤ) (n : ℕ) (entry : Option ℕ) → MatchOption h (
 entry_told None n entry e = e
 entry_told (Some x) n entry e = e
 
--- the entry at an index
+-- the entry at an index is the value of its place
 entry_is : (t : Terrain) (observers : List Observer) (target radius : ℕ) (values : List (Option ℕ)) (k : ℕ) → IsViewshed t observers target radius values → k < t.cols * t.rows
     → get_or values k None ≡ value_at t observers target radius (place_of_index t.cols k)
 entry_is t observers target radius values k is below =

@@ -1,4 +1,5 @@
--- The greatest heights of blocks of cells, in row order. No public clause cites it.
+-- The greatest heights of blocks of `size` by `size` cells, in row order.
+-- Private.
 use Rattle.std.specs.Prelude.{◌≡◌, ℕ, ◌+◌, ◌-◌, ◌*◌, ◌/◌, ◌<◌, ◌≤◌, ℤ, List, [], length, min, Option, None, Some, slice_index_or}
 use Rattle.terrain.specs.Raster.{Terrain, IsHeight}
 use Rattle.terrain.specs.Neighbours.{height_at}
@@ -6,43 +7,46 @@ use Rattle.terrain.specs.declared.place.Place.{Place}
 use Rattle.sightlines.specs.Walk.{AreHeights}
 use Rattle.sightlines.specs.Blocks.{blocks_in, block_of, IsTopOf}
 
--- A list of cells in row order as a terrain without sinks.
+-- A list of cells in row order, as a terrain without sinks.
 abbrev pub ground_of : ℕ → ℕ → List (Option ℤ) → Terrain
 ground_of cols rows cells = record { cols = cols; rows = rows; cells = cells; sinks = [] }
 
--- What holds of such a list: a cell for each place, and heights within their limits.
+-- The list has a cell for each place, and heights within their limits.
 pub record IsGround (cols rows : ℕ) (cells : List (Option ℤ)) : Type 0 where
   pub cols_in : (1 ≤ cols) × (cols ≤ 4096)
   pub rows_in : (1 ≤ rows) × (rows ≤ 4096)
   pub size : length cells ≡ cols * rows
   pub heights : AreHeights cells
 
--- A block of the terrain, as its place among the blocks.
+-- The place is that of a block among the blocks.
 abbrev pub IsBlock : ℕ → Terrain → Place → Type 0
 IsBlock size t block = (block.row < blocks_in size t.rows) × (block.col < blocks_in size t.cols)
 
--- The greatest height of a block.
+-- `top` is within the limits of heights, and no height of the block is above it.
 pub record IsBlockTop (size : ℕ) (t : Terrain) (block : Place) (top : Option ℤ) : Type 0 where
   pub height : (h : ℤ) → top ≡ Some h → IsHeight h
-  pub above : (p : Place) (h : ℤ) → p.row / size ≡ block.row → p.col / size ≡ block.col → height_at t p ≡ Some h → IsTopOf top h
+  pub above : (p : Place) (h : ℤ) → p.row / size ≡ block.row → p.col / size ≡ block.col →
+      height_at t p ≡ Some h → IsTopOf top h
 
--- How many blocks there are.
+-- The number of blocks.
 abbrev pub block_count : ℕ → Terrain → ℕ
 block_count size t = blocks_in size t.rows * blocks_in size t.cols
 
--- The list has, from one block up to another in row order, a height for each that none of the
--- block's heights is above.
-pub record AreTopsBetween (size : ℕ) (t : Terrain) (from to : ℕ) (tops : List (Option ℤ)) : Type 0 where
+-- The list has an entry for each block `from` to below `to` in row order. No height of a block is
+-- above its entry.
+pub record AreTopsBetween (size : ℕ) (t : Terrain) (from to : ℕ)
+    (tops : List (Option ℤ)) : Type 0 where
   pub count : from + length tops ≡ to
   pub heights : AreHeights tops
   pub above : (p : Place) (h : ℤ) → from ≤ block_of size t p → block_of size t p < to
       → height_at t p ≡ Some h → IsTopOf (slice_index_or tops (block_of size t p - from) None) h
 
--- Where the share of a job begins, of so many blocks each.
+-- The first block of a job, if each job has `share` blocks.
 abbrev pub share_start : ℕ → ℕ → ℕ → ℕ
 share_start count share job = min count (job * share)
 
--- The heights of a job's share of the blocks.
+-- The list has an entry for each block of a job, as in `AreTopsBetween`.
 abbrev pub AreTopsOfShare : ℕ → Terrain → ℕ → ℕ → List (Option ℤ) → Type 0
 AreTopsOfShare size t share job =
-    let start = share_start (block_count size t) share in AreTopsBetween size t (start job) (start (job + 1))
+    let start = share_start (block_count size t) share in
+    AreTopsBetween size t (start job) (start (job + 1))

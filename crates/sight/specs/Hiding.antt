@@ -1,39 +1,42 @@
--- Marks of the cells of a window, and which of them a family hides. No public clause cites it.
+-- Marks of the cells of a window, and which of them a family of crossings hides.
+-- Private.
 use Rattle.std.specs.Prelude.{◌≡◌, ℕ, ◌+◌, ◌-◌, ◌*◌, ◌<◌, ◌≤◌, Bool, true, false, not, ◌&&◌, ◌⊎◌, ℤ, pos, ◌+ℤ◌, ◌-ℤ◌, List, length, Option, None, Some, unwrap_or, slice_get, slice_index_or}
 use Rattle.horizons.specs.declared.target.Target.{Target}
-use Rattle.sight.specs.Sweep.{lead_of, aside_of, IsLine, StandsAt, is_blocked_before}
+use Rattle.sight.specs.Sweep.{lead_of, offset_of, IsLine, StandsAt, is_blocked_before}
 use Rattle.sight.specs.declared.family.Family.{Family}
-use Rattle.sight.specs.declared.window.Run.{Run}
+use Rattle.sight.specs.declared.window.CellRun.{CellRun}
 use Rattle.sight.specs.declared.window.Window.{Window}
 
--- The coordinate is one of the run's.
-abbrev pub IsInRun : Run → ℕ → Type 0
+-- The coordinate is in the run.
+abbrev pub IsInRun : CellRun → ℕ → Type 0
 IsInRun r x = (r.first ≤ x) × (x < r.first + r.cells)
 
--- The window lies in the grid, and has a mark for each of its cells.
+-- The window is inside the grid, and has a mark for each of its cells.
 pub record IsWindow (f : Family) (w : Window) (marks : List Bool) : Type 0 where
   pub lines : w.lines.first + w.lines.cells ≤ 4096
   pub first : f.side.first ≤ w.side.first
   pub side : w.side.first + w.side.cells ≤ f.side.cells
   pub strides : (w.lines.stride ≤ 4096) × (w.side.stride ≤ 4096)
-  pub inside : (x y : ℕ) → x < w.lines.cells → y < w.side.cells → x * w.lines.stride + y * w.side.stride < length marks
+  pub inside : (x y : ℕ) → x < w.lines.cells → y < w.side.cells →
+      x * w.lines.stride + y * w.side.stride < length marks
 
--- Different cells of the window have different marks: they stand side by side along one coordinate, and along the other
--- at least as far apart as the window reaches along the first.
+-- Different cells have different marks: marks are neighbours along one coordinate, and along the
+-- other at least as far apart as the window is long on the first.
 pub record IsApart (w : Window) : Type 0 where
-  pub apart : ((w.side.stride ≡ 1) × (w.side.cells ≤ w.lines.stride)) ⊎ ((w.lines.stride ≡ 1) × (w.lines.cells ≤ w.side.stride))
+  pub apart : ((w.side.stride ≡ 1) × (w.side.cells ≤ w.lines.stride))
+      ⊎ ((w.lines.stride ≡ 1) × (w.lines.cells ≤ w.side.stride))
 
--- Line n of the family is there and not the first, and crosses the window.
+-- Line n, from 2 on, exists and crosses the window.
 pub record Crosses (f : Family) (w : Window) (n : ℕ) : Type 0 where
   pub later : 2 ≤ n
   pub line : IsLine f n
   pub within : IsInRun w.lines (lead_of f n)
 
--- Where the mark of the cell at x and y stands.
+-- The index of the mark of the cell at coordinates x and y.
 abbrev pub mark_index : Window → ℕ → ℕ → ℕ
 mark_index w x y = (x - w.lines.first) * w.lines.stride + (y - w.side.first) * w.side.stride
 
--- Whether the cell at x and y is marked.
+-- Whether the cell at coordinates x and y is marked.
 abbrev pub mark_in_window : Window → ℕ → ℕ → List Bool → Bool
 mark_in_window w x y marks = slice_index_or marks (mark_index w x y) false
 
@@ -44,32 +47,43 @@ pub record IsRay (f : Family) (w : Window) (t : Target) : Type 0 where
   pub within : IsInRun w.side cell
   pub crosses : Crosses f w t.line
 
+-- The target at cell y of line n.
 abbrev pub target_at : Family → ℕ → ℕ → Target
-target_at f n y = record { aside = aside_of f y; line = n }
+target_at f n y = record { offset = offset_of f y; line = n }
 
--- Rays to marked cells, in the order of the lines: all of the lines before line n, and of that line all before cell c.
-pub record AreRays (f : Family) (w : Window) (marks : List Bool) (n c : ℕ) (rays : List Target) : Type 0 where
+-- Rays in the order of their lines. Each marked cell of a line before line n, or of line n before
+-- cell c, has its ray.
+pub record AreRays (f : Family) (w : Window) (marks : List Bool) (n c : ℕ)
+    (rays : List Target) : Type 0 where
   pub few : length rays ≤ n * 4096 + (c - w.side.first)
   pub each : (u : ℕ) (t : Target) → slice_get rays u ≡ Some t → IsRay f w t × (t.line ≤ n)
-  pub sorted : (u v : ℕ) (s t : Target) → u ≤ v → slice_get rays u ≡ Some s → slice_get rays v ≡ Some t → s.line ≤ t.line
-  pub whole : (m y : ℕ) → (m < n) ⊎ ((m ≡ n) × (y < c)) → Crosses f w m → IsInRun w.side y → mark_in_window w (lead_of f m) y marks ≡ true
+  pub sorted : (u v : ℕ) (s t : Target) → u ≤ v → slice_get rays u ≡ Some s →
+      slice_get rays v ≡ Some t → s.line ≤ t.line
+  pub whole : (m y : ℕ) → (m < n) ⊎ ((m ≡ n) × (y < c)) → Crosses f w m → IsInRun w.side y →
+      mark_in_window w (lead_of f m) y marks ≡ true
       → (u : ℕ) × (slice_get rays u ≡ Some (target_at f m y))
 
--- The height of cell y of line n, None where it has none.
+-- The height of cell y of line n, or None for NODATA.
 abbrev pub height_at : List (Option ℤ) → Family → ℕ → ℕ → Option ℤ
 height_at cells f n y = slice_index_or cells (lead_of f n * f.lines.stride + y * f.side.stride) None
 
--- How much a target, so high above the ground of cell y of line n, is above the eye.
+-- The rise above the eye of a target at this height above the ground of cell y of line n.
 abbrev pub rise_at : List (Option ℤ) → Family → ℕ → ℕ → ℕ → ℤ
 rise_at cells f height n y = (unwrap_or (height_at cells f n y) (pos 0) +ℤ pos height) -ℤ f.eye
 
--- The mark that is left to cell y of line n: its old one, unless a line before line n blocks the cell.
+-- The new mark of cell y of line n: the old one, unless a line before line n blocks the cell.
 abbrev pub mark_left : List (Option ℤ) → Family → Window → ℕ → List Bool → ℕ → ℕ → Bool
-mark_left cells f w height old n y = mark_in_window w (lead_of f n) y old && not (is_blocked_before cells f n y (rise_at cells f height n y) n)
+mark_left cells f w height old n y =
+    mark_in_window w (lead_of f n) y old
+    && not (is_blocked_before cells f n y (rise_at cells f height n y) n)
 
--- A family has hidden marked cells of a window: on each line from the second on, a cell keeps its mark where no line
--- before its own blocks it; all other marks stay.
-pub record AreHidden (cells : List (Option ℤ)) (f : Family) (w : Window) (height : ℕ) (old new : List Bool) : Type 0 where
+-- From line 2 on, a cell keeps its mark unless a line before its own blocks it. All other marks
+-- are kept.
+pub record AreHidden (cells : List (Option ℤ)) (f : Family) (w : Window) (height : ℕ)
+    (old new : List Bool) : Type 0 where
   pub size : length new ≡ length old
-  pub crossed : (n y : ℕ) → Crosses f w n → IsInRun w.side y → mark_in_window w (lead_of f n) y new ≡ mark_left cells f w height old n y
-  pub kept : (x y : ℕ) → IsInRun w.lines x → IsInRun w.side y → ((n : ℕ) → Crosses f w n → lead_of f n ≡ x → ⊥) → mark_in_window w x y new ≡ mark_in_window w x y old
+  pub crossed : (n y : ℕ) → Crosses f w n → IsInRun w.side y →
+      mark_in_window w (lead_of f n) y new ≡ mark_left cells f w height old n y
+  pub kept : (x y : ℕ) → IsInRun w.lines x → IsInRun w.side y →
+      ((n : ℕ) → Crosses f w n → lead_of f n ≡ x → ⊥) →
+      mark_in_window w x y new ≡ mark_in_window w x y old

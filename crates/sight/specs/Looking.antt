@@ -1,4 +1,5 @@
--- Looks from line to line. No public clause cites it.
+-- A sweep that looks up the targets of one line after another.
+-- Private.
 use Rattle.std.specs.Prelude.{◌≡◌, ℕ, ℤ, List, Option}
 use Rattle.horizons.specs.declared.target.Target.{Target}
 use Rattle.horizons.specs.Horizons.{IsUpTo}
@@ -6,8 +7,9 @@ use Rattle.sight.specs.Sweep.{HidesBefore}
 use Rattle.sight.specs.declared.family.Family.{Family}
 use Rattle.sight.specs.declared.looking.Look.{Look}
 
--- The look is from line k: its horizon tells of all lines before.
-pub record LooksFrom (cells : List (Option ℤ)) (f : Family) (targets : List Target) (k : ℕ) (l : Look) : Type 0 where
+-- The look is at line k: its horizon hides what the lines before line k block.
+pub record LooksFrom (cells : List (Option ℤ)) (f : Family) (targets : List Target) (k : ℕ)
+    (l : Look) : Type 0 where
   pub line : l.line ≡ k
   pub hides : HidesBefore cells f targets k l.sweep.highest
   pub cursor : IsUpTo l.sweep.highest l.cursor l.last

@@ -1,4 +1,6 @@
--- What is wrong with a list of observers, and in which order it is told.
+-- The faults of observers, target height and radius, and their order.
+-- Source: this project.
+-- Trust base.
 use Rattle.std.specs.Prelude.{◌≡◌, ◌↔◌, ◌⊎◌, Result, Err, ℕ, ◌+◌, ◌<◌, Bool, ◌&&◌, ◌||◌, not, nat_lt, is_none, if◌then◌else◌, List, [], ◌∷◌, length, Option, None, Some, option_map}
 use Rattle.std.specs.Option.{option_or}
 use Rattle.std.specs.List.{position_from}
@@ -11,37 +13,44 @@ use Rattle.sight.specs.declared.fault.SightFault.{SightFault}
 use Rattle.sight.specs.declared.fault.SightFault.TheVariants.{Outside, OnNodata, TooManyObservers, BadEye, BadRadius, Jobs}
 use Rattle.tile_jobs.specs.declared.JobFault.TheVariants.{Memory, BadWorkers, NoThread}
 
--- An eye's or a target's height is above the limit.
+-- The height of an eye or a target is above the limit.
 abbrev pub is_high : ℕ → Bool
 is_high n = nat_lt highest_eye n
 
+-- The observer is outside the terrain.
 abbrev pub is_outside : Terrain → Observer → Bool
 is_outside t o = not (nat_lt o.row t.rows && nat_lt o.col t.cols)
 
--- What is wrong with the place of observer i.
+-- The fault of the place of observer i.
 abbrev pub place_fault_of : Terrain → ℕ → Observer → Option SightFault
 place_fault_of t i o =
     if is_outside t o then Some (Outside i)
     else if is_none (height_at t (place_of o)) then Some (OnNodata i)
     else None
 
--- The first observer at fault, counted from i.
+-- The fault of the first observer at a bad place; the list's observers count from i.
 abbrev pub place_fault : Terrain → ℕ → List Observer → Option SightFault
 place_fault t i [] = None
 place_fault t i (o ∷ rest) = option_or (place_fault_of t i o) (place_fault t (i + 1) rest)
 
--- The one fault of observers, target height and radius over a terrain: too many observers, a bad target
--- height, the first bad eye, a bad radius, and then the first observer outside or on NODATA.
+-- The first fault of observers, target height and radius over a terrain. The order: too many
+-- observers, the target height, the first bad eye, the radius, the first bad place.
 abbrev pub observers_fault : Terrain → List Observer → ℕ → ℕ → Option SightFault
 observers_fault t observers target radius =
     if nat_lt most_observers (length observers) then Some TooManyObservers
     else if is_high target then Some (BadEye None)
-    else option_or (option_map (λ i. BadEye (Some i)) (position_from (λ (o : Observer). is_high o.eye) 0 observers))
-    (if nat_lt radius 1 || nat_lt longest_radius radius then Some BadRadius else place_fault t 0 observers)
+    else option_or (option_map (λ i. BadEye (Some i))
+    (position_from (λ (o : Observer). is_high o.eye) 0 observers))
+    (if nat_lt radius 1 || nat_lt longest_radius radius then Some BadRadius
+    else place_fault t 0 observers)
 
--- How a viewshed is refused: the observers' fault exactly where there is one, and then its jobs' faults.
-pub record RefusesSight {T : Type 0} (fault : Option SightFault) (workers : ℕ) (result : Result T SightFault) : Type 0 where
+-- The result is the observers' fault exactly where there is one. Otherwise it may be a fault of
+-- the jobs.
+pub record RefusesSight {T : Type 0} (fault : Option SightFault) (workers : ℕ)
+    (result : Result T SightFault) : Type 0 where
   pub told : (f : SightFault) → fault ≡ Some f → result ≡ Err f
-  pub jobs : fault ≡ None → (f : SightFault) → result ≡ Err f → (f ≡ Jobs Memory) ⊎ (f ≡ Jobs BadWorkers) ⊎ (f ≡ Jobs NoThread)
-  pub bad_workers : fault ≡ None → (result ≡ Err (Jobs BadWorkers)) ↔ ((workers ≡ 0) ⊎ (64 < workers))
+  pub jobs : fault ≡ None → (f : SightFault) → result ≡ Err f →
+      (f ≡ Jobs Memory) ⊎ (f ≡ Jobs BadWorkers) ⊎ (f ≡ Jobs NoThread)
+  pub bad_workers : fault ≡ None →
+      (result ≡ Err (Jobs BadWorkers)) ↔ ((workers ≡ 0) ⊎ (64 < workers))
   pub no_thread : result ≡ Err (Jobs NoThread) → 1 < workers

@@ -1,4 +1,5 @@
--- The lines of sight to the cells of a window, and which marks they leave. No public clause cites it.
+-- The lines of sight to the cells of a window, and which marks they leave.
+-- Private.
 use Rattle.std.specs.Prelude.{◌≡◌, ℕ, ◌+◌, ◌*◌, ◌<◌, ◌≤◌, Bool, false, not, ◌&&◌, ℤ, pos, ◌+ℤ◌, List, length, Option, None, unwrap_or, slice_index_or, min, max}
 use Rattle.sight.specs.Hiding.{IsInRun, mark_in_window}
 use Rattle.sight.specs.Sweep.{side_axis}
@@ -8,38 +9,52 @@ use Rattle.sight.specs.declared.sides.Coordinate.{Coordinate}
 use Rattle.sightlines.specs.declared.walk.Sightline.{Sightline}
 use Rattle.sight.specs.declared.window.Window.{Window}
 
--- The numbers of a coordinate are small enough to reckon with.
+-- The numbers of a coordinate are within their limits.
 pub record IsCoordinate (c : Coordinate) : Type 0 where
   pub at : c.at < 4096
   pub tile : c.tile.first + c.tile.cells ≤ 4096
   pub strides : (c.stride ≤ 4096) × (c.tile.stride ≤ 4096)
 
--- The crossings with the lines that one coordinate counts, and the tile along both.
+-- The family of crossings across one coordinate, away from coordinate 0.
 abbrev pub family_of : Coordinate → Coordinate → ℤ → Family
 family_of lines side eye = record {
   lines = record { at = lines.at; stride = lines.stride; back = false };
-  side = record { at = side.at; stride = side.stride; first = min side.at side.tile.first; cells = max (side.at + 1) (side.tile.first + side.tile.cells) };
+  side = record {
+    at = side.at;
+    stride = side.stride;
+    first = min side.at side.tile.first;
+    cells = max (side.at + 1) (side.tile.first + side.tile.cells);
+  };
   eye = eye;
 }
 
+-- The tile as a window: its run across the lines, and its run along them.
 abbrev pub window_of : Coordinate → Coordinate → Window
 window_of lines side = record { lines = lines.tile; side = side.tile }
 
--- A family's lines, counted toward their beginning or away from it.
+-- The family with lines that count toward coordinate 0, or away from it.
 abbrev pub facing : Family → Bool → Family
-facing f back = record { lines = record { at = f.lines.at; stride = f.lines.stride; back = back }; side = f.side; eye = f.eye }
+facing f back = record {
+  lines = record { at = f.lines.at; stride = f.lines.stride; back = back };
+  side = f.side;
+  eye = f.eye;
+}
 
--- The line of sight from the eye to a target so high above cell y of the line that stands at x.
+-- The line of sight from the eye to a target at this height above cell y of the line at
+-- coordinate x. The ground of a NODATA cell counts as 0.
 abbrev pub sightline_to : List (Option ℤ) → Family → ℕ → ℕ → ℕ → Sightline
 sightline_to cells f height x y = record {
   lead = record { from = f.lines.at; to = x; stride = f.lines.stride };
   side = side_axis f y;
   from_level = f.eye;
-  to_level = unwrap_or (slice_index_or cells (x * f.lines.stride + y * f.side.stride) None) (pos 0) +ℤ pos height;
+  to_level = unwrap_or (slice_index_or cells (x * f.lines.stride + y * f.side.stride) None) (pos 0)
+      +ℤ pos height;
 }
 
--- Of the marks of a window's cells those are left to which no crossing blocks the line of sight.
-pub record AreOpen (cells : List (Option ℤ)) (f : Family) (w : Window) (height : ℕ) (old new : List Bool) : Type 0 where
+-- Exactly the marks are kept whose cells' lines of sight no crossing of the lines blocks.
+pub record AreOpen (cells : List (Option ℤ)) (f : Family) (w : Window) (height : ℕ)
+    (old new : List Bool) : Type 0 where
   pub size : length new ≡ length old
   pub each : (x y : ℕ) → IsInRun w.lines x → IsInRun w.side y
-      → mark_in_window w x y new ≡ (mark_in_window w x y old && not (walk_blocks cells (sightline_to cells f height x y)))
+      → mark_in_window w x y new
+      ≡ (mark_in_window w x y old && not (walk_blocks cells (sightline_to cells f height x y)))

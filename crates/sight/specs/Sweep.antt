@@ -1,5 +1,6 @@
--- The crossings of one family, as an observer meets them: with the columns to the east or the west, with the rows to the
--- south or the north. Its lines are counted 1, 2, 3, .. outward from the observer. No public clause cites it.
+-- A family of crossings: with the columns east or west of an observer, or with the rows south or
+-- north. Its lines count 1, 2, 3, .. outward from the observer.
+-- Private.
 use Rattle.std.specs.Prelude.{◌≡◌, ℕ, ◌+◌, ◌-◌, ◌*◌, ◌^◌, ◌<◌, ◌≤◌, Bool, true, ◌||◌, if◌then◌else◌, ℤ, pos, unsigned_abs, ◌+ℤ◌, ◌-ℤ◌, ◌*ℤ◌, ◌<ℤ◌, ◌≤ℤ◌, List, Option, Some, slice_get}
 use Rattle.std.specs.List.{list_any, range_with_len}
 use Rattle.horizons.specs.declared.target.Target.{Target}
@@ -10,30 +11,33 @@ use Rattle.sightlines.specs.Walk.{IsLevel, step_blocks}
 use Rattle.sightlines.specs.declared.walk.Axis.{Axis}
 use Rattle.sight.specs.declared.family.Family.{Family}
 
--- Where a line stands.
+-- The coordinate of line k.
 abbrev pub lead_of : Family → ℕ → ℕ
 lead_of f k = if f.lines.back then f.lines.at - k else f.lines.at + k
 
--- How far aside of the observer a cell of a line is.
-abbrev pub aside_of : Family → ℕ → ℤ
-aside_of f y = pos y -ℤ pos f.side.at
+-- The offset of cell y from the observer, along the lines.
+abbrev pub offset_of : Family → ℕ → ℤ
+offset_of f y = pos y -ℤ pos f.side.at
 
--- The coordinates of the line of sight to cell y of line n.
+-- The line of sight to line n, across the lines.
 abbrev pub lead_axis : Family → ℕ → Axis
 lead_axis f n = record { from = f.lines.at; to = lead_of f n; stride = f.lines.stride }
 
+-- The line of sight to cell y, along the lines.
 abbrev pub side_axis : Family → ℕ → Axis
 side_axis f y = record { from = f.side.at; to = y; stride = f.side.stride }
 
--- Line k blocks a target that rises so much above the eye, at cell y of line n.
+-- Line k blocks a target at cell y of line n, at this rise above the eye.
 abbrev pub line_blocks : List (Option ℤ) → Family → ℕ → ℕ → ℤ → ℕ → Bool
-line_blocks cells f n y rise k = step_blocks cells (lead_axis f n) (side_axis f y) f.eye (f.eye +ℤ rise) n k
+line_blocks cells f n y rise k =
+    step_blocks cells (lead_axis f n) (side_axis f y) f.eye (f.eye +ℤ rise) n k
 
--- A line before line k does.
+-- A line before line k blocks a target at cell y of line n, at this rise above the eye.
 abbrev pub is_blocked_before : List (Option ℤ) → Family → ℕ → ℕ → ℤ → ℕ → Bool
-is_blocked_before cells f n y rise k = list_any (line_blocks cells f n y rise) (range_with_len 1 (k - 1))
+is_blocked_before cells f n y rise k =
+    list_any (line_blocks cells f n y rise) (range_with_len 1 (k - 1))
 
--- The numbers of a family are small enough to reckon with.
+-- The numbers of a family are within their limits.
 pub record IsFamily (f : Family) : Type 0 where
   pub lines : f.lines.at < 4096
   pub first : f.side.first ≤ f.side.at
@@ -42,75 +46,89 @@ pub record IsFamily (f : Family) : Type 0 where
   pub strides : (f.lines.stride ≤ 4096) × (f.side.stride ≤ 4096)
   pub eye : IsLevel f.eye
 
--- Line k of the family may be there.
+-- Line k is from 1 to 4096, and not past coordinate 0.
 abbrev pub IsLine : Family → ℕ → Type 0
 IsLine f k = (0 < k) × (k ≤ 4096) × (f.lines.back ≡ true → k ≤ f.lines.at)
 
--- The cell so far aside on line k is there, and stands at the index in the list of cells.
+-- The cell at an offset on line k exists, and has this index in the list of cells.
 abbrev pub IsCell : Family → ℕ → ℤ → ℕ → Type 0
-IsCell f k aside index = (c : ℕ) × (c < f.side.cells) × (pos c ≡ pos f.side.at +ℤ aside) × (index ≡ lead_of f k * f.lines.stride + c * f.side.stride)
+IsCell f k offset index = (c : ℕ) × (c < f.side.cells) × (pos c ≡ pos f.side.at +ℤ offset)
+    × (index ≡ lead_of f k * f.lines.stride + c * f.side.stride)
 
--- On line k the ray to a target passes over the cell so far aside, or between it and the next one.
-pub record Passes (k : ℕ) (aside : ℤ) (t : Target) : Type 0 where
-  pub low : (aside *ℤ pos t.line) ≤ℤ (t.aside *ℤ pos k)
-  pub high : (t.aside *ℤ pos k) <ℤ ((aside +ℤ pos 1) *ℤ pos t.line)
+-- On line k the ray to a target passes over the cell at this offset, or between it and the next.
+pub record Passes (k : ℕ) (offset : ℤ) (t : Target) : Type 0 where
+  pub low : (offset *ℤ pos t.line) ≤ℤ (t.offset *ℤ pos k)
+  pub high : (t.offset *ℤ pos k) <ℤ ((offset +ℤ pos 1) *ℤ pos t.line)
 
--- It passes over the first of two cells, or from there on up to the one past the last.
+-- On line k the ray to a target passes over a cell from offset `first` to `last`, or between that
+-- cell and the next.
 pub record PassesAmong (k : ℕ) (first last : ℤ) (t : Target) : Type 0 where
-  pub low : (first *ℤ pos t.line) ≤ℤ (t.aside *ℤ pos k)
-  pub high : (t.aside *ℤ pos k) <ℤ ((last +ℤ pos 1) *ℤ pos t.line)
+  pub low : (first *ℤ pos t.line) ≤ℤ (t.offset *ℤ pos k)
+  pub high : (t.offset *ℤ pos k) <ℤ ((last +ℤ pos 1) *ℤ pos t.line)
 
--- On line k the ray to a target passes before the cell so far aside.
+-- On line k the ray to a target passes before the cell at this offset.
 abbrev pub IsBefore : ℕ → ℤ → Target → Type 0
-IsBefore k aside t = (t.aside *ℤ pos k) <ℤ (aside *ℤ pos t.line)
+IsBefore k offset t = (t.offset *ℤ pos k) <ℤ (offset *ℤ pos t.line)
 
--- So do the rays to all of the first targets.
+-- On line k the rays to all targets below index `end` pass before the cell at this offset.
 abbrev pub AreBefore : List Target → ℕ → ℤ → ℕ → Type 0
-AreBefore targets k aside end = (i : ℕ) (t : Target) → i < end → slice_get targets i ≡ Some t → IsBefore k aside t
+AreBefore targets k offset end =
+    (i : ℕ) (t : Target) → i < end → slice_get targets i ≡ Some t → IsBefore k offset t
 
 -- The target is cell y of a line of the family.
 pub record StandsAt (f : Family) (y : ℕ) (t : Target) : Type 0 where
-  pub aside : t.aside ≡ aside_of f y
+  pub offset : t.offset ≡ offset_of f y
   pub first : f.side.first ≤ y
   pub side : y < f.side.cells
   pub line : IsLine f t.line
 
--- The ramp between the heights of a cell of line k and of the next one.
+-- The ramp of the ground on line k between two neighbouring cells of these heights.
 abbrev pub ramp_of : Family → ℕ → ℤ → ℤ → ℤ → Ramp
-ramp_of f k aside near far =
+ramp_of f k offset near far =
     let step = far -ℤ near in
-    record { gain = step *ℤ pos k; level = (near -ℤ f.eye) -ℤ (step *ℤ aside); lines = k }
+    record { gain = step *ℤ pos k; level = (near -ℤ f.eye) -ℤ (step *ℤ offset); lines = k }
 
--- The ramp of a height that is the same along line k.
+-- The ramp of ground of one height along line k.
 abbrev pub level_ramp : Family → ℕ → ℤ → Ramp
 level_ramp f k height = record { gain = pos 0; level = height -ℤ f.eye; lines = k }
 
--- What a target may rise above the eye.
+-- The rise of a target above the eye is within its limit.
 abbrev pub IsRise : ℤ → Type 0
 IsRise rise = unsigned_abs rise ≤ 2 ^ 51
 
--- The ramp tells of a target whether line k blocks it.
-pub record Shows (cells : List (Option ℤ)) (f : Family) (k : ℕ) (t : Target) (r : Ramp) : Type 0 where
+-- The ramp hides a target beyond line k exactly where line k blocks it.
+pub record Shows (cells : List (Option ℤ)) (f : Family) (k : ℕ) (t : Target)
+    (r : Ramp) : Type 0 where
   pub at : IsRampAt r t
-  pub hides : (y : ℕ) (rise : ℤ) → StandsAt f y t → k < t.line → IsRise rise → hides_by r t rise ≡ line_blocks cells f t.line y rise k
+  pub hides : (y : ℕ) (rise : ℤ) → StandsAt f y t → k < t.line → IsRise rise →
+      hides_by r t rise ≡ line_blocks cells f t.line y rise k
 
--- Of the targets from an index on up to an end, the ramp hides those that line k blocks.
+-- The ramp hides each target from index `from` to below `end` that line k blocks.
 abbrev pub IsHiddenOn : List (Option ℤ) → Family → List Target → ℕ → Ramp → ℕ → ℕ → Type 0
-IsHiddenOn cells f targets k r from end = (i : ℕ) (t : Target) → from ≤ i → i < end → slice_get targets i ≡ Some t
-    → (y : ℕ) (rise : ℤ) → StandsAt f y t → k < t.line → line_blocks cells f t.line y rise k ≡ true → hides_by r t rise ≡ true
+IsHiddenOn cells f targets k r from end =
+    (i : ℕ) (t : Target) → from ≤ i → i < end → slice_get targets i ≡ Some t
+    → (y : ℕ) (rise : ℤ) → StandsAt f y t → k < t.line →
+    line_blocks cells f t.line y rise k ≡ true → hides_by r t rise ≡ true
 
--- The ramp hides a target where a horizon hides the target of that index, or line k blocks it.
-pub record Raises (cells : List (Option ℤ)) (f : Family) (k : ℕ) (old : List Piece) (i : ℕ) (t : Target) (r : Ramp) : Type 0 where
+-- The ramp hides target t exactly where the old horizon does or line k blocks it.
+pub record Raises (cells : List (Option ℤ)) (f : Family) (k : ℕ) (old : List Piece) (i : ℕ)
+    (t : Target) (r : Ramp) : Type 0 where
   pub at : IsRampAt r t
-  pub hides : (y : ℕ) (rise : ℤ) → StandsAt f y t → k < t.line → IsRise rise → hides_by r t rise ≡ (hides old i t rise || line_blocks cells f t.line y rise k)
+  pub hides : (y : ℕ) (rise : ℤ) → StandsAt f y t → k < t.line → IsRise rise →
+      hides_by r t rise ≡ (hides old i t rise || line_blocks cells f t.line y rise k)
 
--- Up to an index, a horizon does so at each target.
-abbrev pub RaisesBelow : List (Option ℤ) → Family → List Target → ℕ → List Piece → ℕ → List Piece → Type 0
-RaisesBelow cells f targets k old end new = (i : ℕ) (t : Target) → i < end → slice_get targets i ≡ Some t
+-- The new horizon hides each target below index `end` exactly where the old one does or line k
+-- blocks it.
+abbrev pub RaisesBelow : List (Option ℤ) → Family → List Target → ℕ → List Piece → ℕ → List Piece →
+    Type 0
+RaisesBelow cells f targets k old end new =
+    (i : ℕ) (t : Target) → i < end → slice_get targets i ≡ Some t
     → (r : Ramp) × (ramp_at new i ≡ Some r) × Raises cells f k old i t r
 
--- A horizon tells of each target from line k on whether a line before line k blocks it.
-pub record HidesBefore (cells : List (Option ℤ)) (f : Family) (targets : List Target) (k : ℕ) (h : List Piece) : Type 0 where
+-- The horizon hides each target from line k on exactly where a line before line k blocks it.
+pub record HidesBefore (cells : List (Option ℤ)) (f : Family) (targets : List Target) (k : ℕ)
+    (h : List Piece) : Type 0 where
   pub over : IsOver targets h
-  pub hides : (i : ℕ) (t : Target) (y : ℕ) (rise : ℤ) → slice_get targets i ≡ Some t → StandsAt f y t → k ≤ t.line → IsRise rise
+  pub hides : (i : ℕ) (t : Target) (y : ℕ) (rise : ℤ) → slice_get targets i ≡ Some t →
+      StandsAt f y t → k ≤ t.line → IsRise rise
       → hides h i t rise ≡ is_blocked_before cells f t.line y rise k

@@ -1,4 +1,4 @@
-//! Lists of what is at each place of some bounds, in row order.
+//! Builds lists with one entry for each place of some bounds, in row order.
 ghost use Rattle.std.specs.Prelude.{◌+◌, ◌-◌, ◌*◌, ◌<◌, ◌≤◌, IfOk, OnOk};
 ghost use Rattle.terrain.specs.declared.place.Place.{Place};
 ghost use Rattle.tiles.specs.Cutting.{IsInBounds};
@@ -8,14 +8,14 @@ use std::alloc::{AllocError, Global};
 use terrain::Place;
 use tiles::Bounds;
 
-/// What stands at each place.
-pub(crate) trait Placed {
+/// A map with an entry at each of its places.
+pub(crate) trait PlaceMap {
     type Entry;
 
     // The places that have an entry.
     ghost inside: { Self → Place → Type 0 };
 
-    // What stands there.
+    // The entry that a place has.
     ghost has: { Self → Place → Self.Entry → Type 0 };
 
     fn entry(&self, place: Place) -> Self::Entry
@@ -23,9 +23,9 @@ pub(crate) trait Placed {
         ensures { has self.now place result };
 }
 
-/// Appends what stands in a row of the bounds.
+/// Appends the entries of one row of the bounds.
 #[inline(always)]
-fn push_row<M: Placed>(
+fn push_row<M: PlaceMap>(
     map: &M,
     bounds: Bounds,
     row: u32,
@@ -36,8 +36,10 @@ where
     requires small { bounds.left + bounds.cols ≤ 4096 }
     requires inside { (p : Place) → IsInBounds bounds p → M.inside map.now p }
     requires row { (bounds.top ≤ row) × (row < bounds.top + bounds.rows) }
-    requires list { AreMadeBelow bounds (M.has map.now) ((row - bounds.top) * bounds.cols) list.old.items }
-    ensures { OnOk result (AreMadeBelow bounds (M.has map.now) ((row + 1 - bounds.top) * bounds.cols) list.new.items) }
+    requires list { AreMadeBelow bounds (M.has map.now) ((row - bounds.top) * bounds.cols)
+        list.old.items }
+    ensures { OnOk result (AreMadeBelow bounds (M.has map.now)
+        ((row + 1 - bounds.top) * bounds.cols) list.new.items) }
 {
     for col in bounds.left..bounds.left + bounds.cols {
         list.push(map.entry(Place { row, col }))?;
@@ -45,8 +47,8 @@ where
     Ok(())
 }
 
-/// What stands at each place of the bounds, in row order.
-pub(crate) fn entries<M: Placed>(
+/// Returns the entries of all places of the bounds, in row order.
+pub(crate) fn entries<M: PlaceMap>(
     map: &M,
     alloc: Global,
     bounds: Bounds,
@@ -55,7 +57,8 @@ where
     M::Entry: Drop,
     requires small { (bounds.top + bounds.rows ≤ 4096) × (bounds.left + bounds.cols ≤ 4096) }
     requires inside { (p : Place) → IsInBounds bounds p → M.inside map.now p }
-    ensures { IfOk result (λ v. AreMadeBelow bounds (M.has map.now) (bounds.rows * bounds.cols) v.items) }
+    ensures { IfOk result
+        (λ v. AreMadeBelow bounds (M.has map.now) (bounds.rows * bounds.cols) v.items) }
 {
     let mut list = Vec::with_capacity(alloc, bounds.rows as usize * bounds.cols as usize)?;
     for row in bounds.top..bounds.top + bounds.rows {

@@ -1,4 +1,4 @@
-//! A family of crossings: the lines on one side of an observer.
+//! A family of crossings: the lines on one side of an observer, counted outward from 1.
 //!
 //! `Family::span` returns the ground that a ray meets on a line.
 ghost use Rattle.std.specs.Prelude.{◌≡◌, ◌↔◌, ℕ, ◌^◌, ◌≤◌, IsTrue, true, pos, ◌+ℤ◌, ◌-ℤ◌, ◌*ℤ◌, ◌≤ℤ◌, ◌<ℤ◌, ◌<◌, ℤ, None, Some, MatchOption, unsigned_abs};
@@ -9,14 +9,15 @@ ghost use Rattle.terrain.specs.Raster.{IsHeight};
 ghost use Rattle.sightlines.specs.Walk.{AreHeights};
 ghost use Rattle.sightlines.specs.Blocks.{IsTopOf};
 ghost use Rattle.sight.specs.Hiding.{height_at};
-ghost use Rattle.sight.specs.Sweep.{lead_of, aside_of, ramp_of, level_ramp, IsFamily, IsLine, IsCell, Passes, PassesAmong, Shows};
+ghost use Rattle.sight.specs.Sweep.{lead_of, offset_of, ramp_of, level_ramp, IsFamily, IsLine, IsCell, Passes, PassesAmong, Shows};
 
 use crate::heights::{height_at, raised};
 use horizons::{Ramp, Target};
 use terrain::{Cell, Height};
 
-/// The coordinate that counts a family's lines: where the observer stands, how far apart neighbours along it
-/// stand in the list of cells, and whether the lines are counted toward its beginning.
+/// The coordinate across a family's lines.
+/// The observer is at `at`; neighbours are `stride` apart in the list of cells. With `back` the
+/// lines count toward coordinate 0.
 #[derive(Clone, Copy)]
 pub struct Lines {
     pub at: u32,
@@ -24,7 +25,8 @@ pub struct Lines {
     pub back: bool,
 }
 
-/// The coordinate along a line. The observer and all targets stand at cells from `first` on and before `cells`.
+/// The coordinate along a family's lines.
+/// The observer is at `at`. Cells `first` to below `cells` include it and all targets.
 #[derive(Clone, Copy)]
 pub struct Side {
     pub at: u32,
@@ -33,7 +35,7 @@ pub struct Side {
     pub cells: u32,
 }
 
-/// The crossings with the columns to one side of an observer, or with the rows.
+/// The crossings with the columns, or the rows, on one side of an observer.
 #[derive(Clone, Copy)]
 pub struct Family {
     pub lines: Lines,
@@ -41,39 +43,41 @@ pub struct Family {
     pub eye: i64,
 }
 
-/// What a ray meets on a line: how far aside the cell is that it passes over or beside, and the ramp of the
-/// ground there. It is the ground of all rays from this one up to the cell past `last`, or of this one alone.
+/// The ground that a ray meets on a line, as a ramp.
+/// The ray passes over or beside the cell at offset `offset`. The ramp holds for all rays from this
+/// one to the cell after `last`, or with `alone` for this ray only.
 #[derive(Clone, Copy)]
 pub struct Span {
-    pub aside: i32,
+    pub offset: i32,
     pub last: i32,
     pub ramp: Ramp,
     pub alone: bool,
 }
 
-/// The cell of a line that the ray to a target passes over, or beside on the way to the next one.
+/// Returns the offset, rounded down, at which the ray to a target crosses a line.
 #[inline(always)]
-pub(crate) fn aside_at(target: Target, line: u32) -> i32
+pub(crate) fn offset_at(target: Target, line: u32) -> i32
     requires target { IsTarget target }
     requires line { line ≤ 4096 }
     ensures passes { Passes line result target }
     ensures small { unsigned_abs result ≤ 2 ^ 25 }
 {
-    (target.aside * line as i32).div_euclid(target.line as i32)
+    (target.offset * line as i32).div_euclid(target.line as i32)
 }
 
-/// Whether the ray to a target goes through the centre of a cell of a line.
+/// Returns whether the ray to a target crosses a line at a cell's centre.
 #[inline(always)]
-fn is_at_centre(target: Target, line: u32, aside: i32) -> bool
+fn is_at_centre(target: Target, line: u32, offset: i32) -> bool
     requires target { IsTarget target }
     requires line { line ≤ 4096 }
-    requires aside { unsigned_abs aside ≤ 4096 }
-    ensures { IsTrue result ↔ (target.aside *ℤ pos line ≡ aside *ℤ pos target.line) }
+    requires offset { unsigned_abs offset ≤ 4096 }
+    ensures { IsTrue result ↔ (target.offset *ℤ pos line ≡ offset *ℤ pos target.line) }
 {
-    target.aside * line as i32 == aside * target.line as i32
+    target.offset * line as i32 == offset * target.line as i32
 }
 
-/// The ramp over targets that a line has nothing to tell of: above all ground, so that it is one piece from then on.
+/// Returns the ramp of targets that the sweep has passed, above all ground.
+/// One ramp for all of them keeps the horizon short.
 #[inline(always)]
 pub(crate) fn passed() -> Ramp
     ensures { (t : Target) → IsTarget t → IsRampAt result t }
@@ -86,9 +90,9 @@ pub(crate) fn passed() -> Ramp
 }
 
 impl Family {
-    /// How far aside the first cell of the side is.
+    /// Returns the offset of the first cell of the side from the observer.
     #[inline(always)]
-    pub(crate) fn first_aside(self) -> i32
+    pub(crate) fn first_offset(self) -> i32
         requires family { IsFamily self }
         ensures value { result ≡ pos self.side.first -ℤ pos self.side.at }
         ensures small { unsigned_abs result ≤ 4096 }
@@ -96,9 +100,9 @@ impl Family {
         self.side.first as i32 - self.side.at as i32
     }
 
-    /// How far aside the cell past the last one is.
+    /// Returns the offset just past the last cell of the side.
     #[inline(always)]
-    pub(crate) fn end_aside(self) -> i32
+    pub(crate) fn end_offset(self) -> i32
         requires family { IsFamily self }
         ensures value { result ≡ pos self.side.cells -ℤ pos self.side.at }
         ensures small { unsigned_abs result ≤ 4096 }
@@ -106,7 +110,7 @@ impl Family {
         self.side.cells as i32 - self.side.at as i32
     }
 
-    /// Where a line stands.
+    /// Returns the coordinate of a line.
     #[inline(always)]
     pub(crate) fn lead_of(self, line: u32) -> u32
         requires family { IsFamily self }
@@ -120,41 +124,42 @@ impl Family {
         }
     }
 
-    /// The ramp between the heights of a cell of a line and of the next one.
+    /// Returns the ramp of the ground from the cell at `offset` to the next one.
     #[inline(always)]
-    fn ramp(self, line: u32, aside: i32, near: Height, far: Height) -> Ramp
+    fn ramp(self, line: u32, offset: i32, near: Height, far: Height) -> Ramp
         requires family { IsFamily self }
         requires line { IsLine self line }
-        requires aside { unsigned_abs aside ≤ 4096 }
+        requires offset { unsigned_abs offset ≤ 4096 }
         requires heights { IsHeight near × IsHeight far }
-        ensures ramp { result ≡ ramp_of self line aside near far }
-        ensures at { (t : Target) → IsTarget t → Passes line aside t → IsRampAt result t }
+        ensures ramp { result ≡ ramp_of self line offset near far }
+        ensures at { (t : Target) → IsTarget t → Passes line offset t → IsRampAt result t }
     {
         let step = far - near;
         Ramp {
             gain: step * line as i64,
-            level: near - self.eye - step * aside as i64,
+            level: near - self.eye - step * offset as i64,
             lines: line,
         }
     }
 
-    /// Where the cell so far aside on a line stands in the list of cells, None where it is past an end of the line.
+    /// Returns the list index of a line's cell at `offset`, or `None` past its ends.
     #[inline(always)]
-    pub(crate) fn index_at(self, line: u32, aside: i32) -> Option<usize>
+    pub(crate) fn index_at(self, line: u32, offset: i32) -> Option<usize>
         requires family { IsFamily self }
         requires line { IsLine self line }
-        requires aside { unsigned_abs aside ≤ 2 ^ 25 }
-        ensures { MatchOption result ((c : ℕ) → pos c ≡ pos self.side.at +ℤ aside → self.side.cells ≤ c)
-            (IsCell self line aside) }
+        requires offset { unsigned_abs offset ≤ 2 ^ 25 }
+        ensures { MatchOption result
+            ((c : ℕ) → pos c ≡ pos self.side.at +ℤ offset → self.side.cells ≤ c)
+            (IsCell self line offset) }
     {
-        let cell = self.side.at as i32 + aside;
+        let cell = self.side.at as i32 + offset;
         if cell < 0 || cell >= self.side.cells as i32 {
             return None;
         }
         Some(self.lead_of(line) as usize * self.lines.stride + cell as usize * self.side.stride)
     }
 
-    /// The ramp of a height that is the same along a line.
+    /// Returns the ramp of a line whose ground has one height.
     #[inline(always)]
     pub(crate) fn level_ramp(self, line: u32, height: Height) -> Ramp
         requires family { IsFamily self }
@@ -170,7 +175,8 @@ impl Family {
         }
     }
 
-    /// The greatest height of a line's cells from the one so far aside up to the one past another, None where they have none.
+    /// Returns the greatest height of a line's cells from offset `low` to `high + 1`.
+    /// `None` where all of them are NODATA.
     #[inline(always)]
     pub(crate) fn top_between(
         self,
@@ -184,7 +190,8 @@ impl Family {
         requires line { IsLine self line }
         requires low { unsigned_abs low ≤ 2 ^ 25 }
         requires high { unsigned_abs high ≤ 2 ^ 25 }
-        ensures top { (c : ℕ) (h : ℤ) → c < self.side.cells → low ≤ℤ aside_of self c → aside_of self c ≤ℤ (high +ℤ pos 1)
+        ensures top { (c : ℕ) (h : ℤ) → c < self.side.cells → low ≤ℤ offset_of self c →
+            offset_of self c ≤ℤ (high +ℤ pos 1)
             → height_at cells.now self line c ≡ Some h → IsTopOf result h }
         ensures height { (h : ℤ) → result ≡ Some h → IsHeight h }
     {
@@ -201,17 +208,18 @@ impl Family {
         top
     }
 
-    /// Whether a ramp is that of the ground between a cell of a line and the next one.
+    /// Whether the ground from the cell at `offset` to the next one has this ramp.
     #[inline(always)]
-    fn goes_on(self, cells: &[Cell], line: u32, aside: i32, ramp: Ramp) -> bool
+    fn has_ramp(self, cells: &[Cell], line: u32, offset: i32, ramp: Ramp) -> bool
         requires heights { AreHeights cells.now }
         requires family { IsFamily self }
         requires line { IsLine self line }
-        requires aside { unsigned_abs aside ≤ 2 ^ 25 }
-        ensures inside { OnTrue result (aside ≤ℤ pos 4096) }
-        ensures shows { OnTrue result ((t : Target) → IsTarget t → Passes line aside t → Shows cells.now self line t ramp) }
+        requires offset { unsigned_abs offset ≤ 2 ^ 25 }
+        ensures inside { OnTrue result (offset ≤ℤ pos 4096) }
+        ensures shows { OnTrue result ((t : Target) → IsTarget t → Passes line offset t →
+            Shows cells.now self line t ramp) }
     {
-        let Some(index) = self.index_at(line, aside) else {
+        let Some(index) = self.index_at(line, offset) else {
             return false;
         };
         let Some(near) = height_at(cells, index) else {
@@ -220,10 +228,10 @@ impl Family {
         let Some(far) = height_at(cells, index + self.side.stride) else {
             return false;
         };
-        self.ramp(line, aside, near, far) == ramp
+        self.ramp(line, offset, near, far) == ramp
     }
 
-    /// The last cell of a line, from one on, up to the next one of which a ramp goes on.
+    /// Returns the last offset, counted on from `first`, of ground with this ramp.
     #[inline(always)]
     fn last_of(self, cells: &[Cell], line: u32, first: i32, ramp: Ramp) -> i32
         requires heights { AreHeights cells.now }
@@ -231,57 +239,59 @@ impl Family {
         requires line { IsLine self line }
         requires first { unsigned_abs first ≤ 4096 }
         ensures range { (first ≤ℤ result) × (result ≤ℤ pos 4096) }
-        ensures shows { (b : ℤ) (t : Target) → first <ℤ b → b ≤ℤ result → IsTarget t → Passes line b t → Shows cells.now self line t ramp }
+        ensures shows { (b : ℤ) (t : Target) → first <ℤ b → b ≤ℤ result → IsTarget t →
+            Passes line b t → Shows cells.now self line t ramp }
     {
         let mut last = first;
-        while self.goes_on(cells, line, last + 1, ramp) {
+        while self.has_ramp(cells, line, last + 1, ramp) {
             last += 1;
         }
         last
     }
 
-    /// What the ray to a target meets on a line.
+    /// Returns the ground that the ray to a target meets on a line.
     #[inline(always)]
     pub(crate) fn span(self, cells: &[Cell], line: u32, target: Target) -> Span
         requires heights { AreHeights cells.now }
         requires family { IsFamily self }
         requires line { IsLine self line }
         requires target { IsTarget target }
-        ensures passes { Passes line result.aside target }
-        ensures small { unsigned_abs result.aside ≤ 2 ^ 25 }
-        ensures last { (result.aside ≤ℤ result.last) × (unsigned_abs result.last ≤ 2 ^ 25) }
-        ensures shows { (t : Target) → IsTarget t → IsSlopeUpTo target t → PassesAmong line result.aside result.last t
+        ensures passes { Passes line result.offset target }
+        ensures small { unsigned_abs result.offset ≤ 2 ^ 25 }
+        ensures last { (result.offset ≤ℤ result.last) × (unsigned_abs result.last ≤ 2 ^ 25) }
+        ensures shows { (t : Target) → IsTarget t → IsSlopeUpTo target t →
+            PassesAmong line result.offset result.last t
             → (result.alone ≡ true → t ≡ target) → Shows cells.now self line t result.ramp }
     {
-        let aside = aside_at(target, line);
+        let offset = offset_at(target, line);
         let nothing = Span {
-            aside,
-            last: aside,
+            offset,
+            last: offset,
             ramp: Ramp::nothing(),
             alone: false,
         };
-        let Some(index) = self.index_at(line, aside) else {
+        let Some(index) = self.index_at(line, offset) else {
             return nothing;
         };
         let Some(near) = height_at(cells, index) else {
             return nothing;
         };
         if let Some(far) = height_at(cells, index + self.side.stride) {
-            let ramp = self.ramp(line, aside, near, far);
+            let ramp = self.ramp(line, offset, near, far);
             return Span {
-                aside,
-                last: self.last_of(cells, line, aside, ramp),
+                offset,
+                last: self.last_of(cells, line, offset, ramp),
                 ramp,
                 alone: false,
             };
         }
-        if !is_at_centre(target, line, aside) {
+        if !is_at_centre(target, line, offset) {
             return nothing;
         }
         Span {
-            aside,
-            last: aside,
-            ramp: self.ramp(line, aside, near, near),
+            offset,
+            last: offset,
+            ramp: self.ramp(line, offset, near, near),
             alone: true,
         }
     }

@@ -1,21 +1,21 @@
-//! The faults of a viewshed, numbers 41 to 45, and those of its jobs.
+//! The faults of a viewshed: numbers 41 to 45, and the faults of its jobs.
 use tile_jobs::JobFault;
 
 /// Why a viewshed is refused.
 #[derive(Clone, Copy, Debug, PartialEq, Eq)]
 pub enum SightFault {
-    /// The observer of this number in the list stands outside the grid.
+    /// The observer at this index of the list is outside the grid.
     Outside(u32),
-    /// The observer of this number in the list stands where there is no data.
+    /// The observer at this index of the list is on a NODATA cell.
     OnNodata(u32),
     /// There are more than 1,024 observers.
     TooManyObservers,
-    /// The eye of the observer of this number, or without a number the target height, is above
-    /// 1,000,000 scaled units.
+    /// An eye or the target height is above 1,000,000 units.
+    /// `Some` has the observer's index; `None` means the target height.
     BadEye(Option<u32>),
     /// The radius is 0 or above 8,192 cells.
     BadRadius,
-    /// The work was not run to its end.
+    /// A job had no memory or no thread, or the number of workers is out of range.
     Jobs(JobFault),
 }
 

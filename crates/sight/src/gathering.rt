@@ -1,4 +1,4 @@
-//! Rays to the marked cells of a window, line by line.
+//! Collects the rays to the marked cells of a window, line by line.
 ghost use Rattle.std.specs.Prelude.{◌≡◌, ℕ, ◌+◌, ◌-◌, ◌*◌, ◌^◌, ◌<◌, ◌≤◌, length, IfOk, OnOk};
 ghost use Rattle.sight.specs.Sweep.{IsFamily, IsLine};
 ghost use Rattle.sight.specs.Hiding.{target_at, AreRays, Crosses, IsWindow};
@@ -9,7 +9,7 @@ use horizons::Target;
 use std::alloc::{AllocError, Global};
 
 impl Family {
-    /// From the second line on, no line before this one crosses the window.
+    /// Returns the first line, at least 2, that may cross the window.
     fn first_line(self, window: Window) -> u32
         requires family { IsFamily self }
         requires lines { window.lines.first + window.lines.cells ≤ 4096 }
@@ -24,7 +24,7 @@ impl Family {
         first.max(2)
     }
 
-    /// Lines before this one are there, and no other crosses the window.
+    /// Returns the end of the lines that may cross the window; all before it exist.
     fn end_line(self, window: Window) -> u32
         requires family { IsFamily self }
         requires lines { window.lines.first + window.lines.cells ≤ 4096 }
@@ -39,7 +39,7 @@ impl Family {
         }
     }
 
-    /// The ray to a cell of a line.
+    /// Returns the target at a cell of a line.
     #[inline(always)]
     fn target_at(self, line: u32, cell: u32) -> Target
         requires family { IsFamily self }
@@ -47,12 +47,12 @@ impl Family {
         ensures { result ≡ target_at self line cell }
     {
         Target {
-            aside: cell as i32 - self.side.at as i32,
+            offset: cell as i32 - self.side.at as i32,
             line,
         }
     }
 
-    /// Adds the rays to the marked cells of a line.
+    /// Appends the rays to the marked cells of one line.
     fn gather_line(
         self,
         window: Window,
@@ -80,7 +80,7 @@ impl Family {
         Ok(())
     }
 
-    /// The rays to all marked cells of a window on the lines from the second on.
+    /// Returns the rays to all marked cells of a window on lines 2 and beyond.
     pub(crate) fn gather(
         self,
         alloc: Global,

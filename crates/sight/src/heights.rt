@@ -1,10 +1,10 @@
-//! Heights of a list of cells.
+//! Heights of cells in a list.
 ghost use Rattle.std.specs.Prelude.{◌≡◌, ◌⊎◌, ℤ, None, Some, slice_index_or};
 ghost use Rattle.sightlines.specs.Blocks.{IsTopOf};
 
 use terrain::{Cell, Height};
 
-/// The height of a cell, None where it has none or the list ends before it.
+/// Returns the height at `index`, or `None` for NODATA or past the list's end.
 #[inline(always)]
 pub(crate) fn height_at(cells: &[Cell], index: usize) -> Option<Height>
     ensures { result ≡ slice_index_or cells.now index None }
@@ -15,7 +15,7 @@ pub(crate) fn height_at(cells: &[Cell], index: usize) -> Option<Height>
     }
 }
 
-/// The greater of a height so far and the height of a cell.
+/// Returns the greater of two heights, where `None` is below all heights.
 #[inline(always)]
 pub(crate) fn raised(top: Option<Height>, height: Option<Height>) -> Option<Height>
     ensures kept { (h : ℤ) → IsTopOf top h → IsTopOf result h }

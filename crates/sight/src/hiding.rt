@@ -1,4 +1,4 @@
-//! Which marked cells the crossings of one family hide, line by line (`hide`).
+//! Removes the marks of cells that one family of crossings hides (`hide`).
 ghost use Rattle.std.specs.Prelude.{◌≡◌, ℕ, ◌≤◌, false, OnOk, slice_set};
 ghost use Rattle.sightlines.specs.Walk.{AreHeights};
 ghost use Rattle.sight.specs.Sweep.{IsFamily, StandsAt, lead_of};
@@ -13,7 +13,7 @@ use std::alloc::{AllocError, Global};
 use terrain::Cell;
 
 impl Family {
-    /// Takes the mark from the cell of a ray.
+    /// Removes the mark of the cell that a ray leads to.
     #[inline(always)]
     fn unmark(self, window: Window, ray: Target, marks: &mut [bool])
         requires family { IsFamily self }
@@ -23,12 +23,13 @@ impl Family {
             → marks.new ≡ slice_set marks.old (mark_index window (lead_of self ray.line) y) false }
     {
         let row = (self.lead_of(ray.line) - window.lines.first) as usize * window.lines.stride;
-        let cell = (self.side.at as i32 + ray.aside) as u32;
+        let cell = (self.side.at as i32 + ray.offset) as u32;
         marks[row + (cell - window.side.first) as usize * window.side.stride] = false;
     }
 }
 
-/// Takes the marks from the marked cells of a window that the family hides. Targets stand `height` above their cells' ground.
+/// Removes the marks of the window's cells that the family hides.
+/// Targets are `height` units above their cells' ground.
 pub(crate) fn hide(
     alloc: Global,
     cells: &[Cell],

@@ -1,4 +1,4 @@
-//! The first fault of observers, target height and radius.
+//! Finds the first fault of observers, target height and radius.
 ghost use Rattle.std.specs.Prelude.{◌≡◌, ◌<◌, ◌≤◌, length, IfSome};
 ghost use Rattle.std.specs.List.{position_from};
 ghost use Rattle.sight.specs.Viewshed.{most_observers};
@@ -9,13 +9,13 @@ use terrain::{Grid, Observer, Place};
 
 const MOST_OBSERVERS: usize = 1_024;
 
-/// Of an eye and of the target, in scaled units.
+/// The greatest height of an eye or a target above its ground, in units.
 const HIGHEST_EYE: u32 = 1_000_000;
 
-/// In cells.
+/// The greatest radius, in cells.
 const LONGEST_RADIUS: u32 = 8_192;
 
-/// The first observer whose eye is too high.
+/// Returns the index of the first observer whose eye is too high.
 fn bad_eye(observers: &[Observer]) -> Option<usize>
     ensures value { result ≡ position_from (λ (o : Observer). is_high o.eye) 0 observers.now }
     ensures below { IfSome result (λ i. i < length observers.now) }
@@ -23,7 +23,7 @@ fn bad_eye(observers: &[Observer]) -> Option<usize>
     observers.iter().position(|o| o.eye > HIGHEST_EYE)
 }
 
-/// What is wrong with the place of the observer that stands at `index`.
+/// Returns the fault of the place of the observer at `index`, if it has one.
 fn place_fault_at(grid: &Grid, observer: &Observer, index: u32) -> Option<SightFault>
     ensures { result ≡ place_fault_of grid.now.terrain index observer.now }
 {
@@ -40,7 +40,7 @@ fn place_fault_at(grid: &Grid, observer: &Observer, index: u32) -> Option<SightF
     None
 }
 
-/// The first observer that stands outside the grid or on no data.
+/// Returns the fault of the first observer outside the grid or on NODATA.
 fn bad_place(grid: &Grid, observers: &[Observer]) -> Option<SightFault>
     requires { length observers.now ≤ most_observers }
     ensures { result ≡ place_fault grid.now.terrain 0 observers.now }
@@ -54,7 +54,7 @@ fn bad_place(grid: &Grid, observers: &[Observer]) -> Option<SightFault>
     None
 }
 
-/// The first fault of observers, target height and radius over a grid.
+/// Returns the first fault of observers, target height and radius over a grid.
 pub(crate) fn first_fault(
     grid: &Grid,
     observers: &[Observer],

@@ -1,11 +1,13 @@
-//! Facts of the definitions alone.
+//! Facts about the definitions.
 ghost use Rattle.std.specs.Prelude.{◌≡◌, ℕ, List, Option};
 ghost use Rattle.terrain.specs.Raster.{Terrain};
 ghost use Rattle.sight.specs.Viewshed.{IsViewshed};
 ghost use Rattle.terrain.specs.declared.observer.Observer.{Observer};
 
-/// However a grid is cut and whoever does the work, there is one viewshed.
+/// A terrain, observers, target height and radius have at most one viewshed.
 pub fn viewsheds_are_one()
-    ensures { (t : Terrain) (observers : List Observer) (target radius : ℕ) (values others : List (Option ℕ)) →
-        IsViewshed t observers target radius values → IsViewshed t observers target radius others → values ≡ others }
+    ensures { (t : Terrain) (observers : List Observer) (target radius : ℕ)
+        (values others : List (Option ℕ)) →
+        IsViewshed t observers target radius values → IsViewshed t observers target radius others →
+        values ≡ others }
 {}

@@ -1,31 +1,31 @@
 //! Viewsheds: how many observers see each cell of a terrain grid.
 //!
-//! Begin with [`viewshed`]; [`sees`] tests one line of sight. A tile's cells are marked for one
-//! observer after another, by walks along lines of sight or by one sweep over the tile. Depends on
+//! Begin with [`viewshed`]; [`sees`] tests one line of sight. Each tile is marked for one observer
+//! after another, by walks along lines of sight or by one sweep over the tile. Depends on
 //! `sightlines`, `horizons` and `tile_maps`.
 //!
-//! Modules, from what is called to what it depends on:
+//! Modules, callers first:
 //!
 //! - `viewing`: `viewshed`, which runs all stages
-//! - `judging`: the first fault of observers, target height and radius
-//! - `fault`: the faults 41 to 45
-//! - `tops`: greatest heights of blocks
-//! - `tile`: the values of a tile
-//! - `reach`: tiles within a radius
-//! - `marking`: marks what one observer sees, by walks or by a sweep
-//! - `sides`: the sweep of a tile, on four sides of the observer
-//! - `hiding`: which marks one family of crossings removes
-//! - `family`: the lines on one side, and the ground that rays meet there
-//! - `looking`: what hides each target, looked up line by line
-//! - `sweep`: the horizon, raised line by line
-//! - `line_ground`: raises the horizon to one line
-//! - `gathering`: rays to marked cells, line by line
-//! - `ranks`: rays by slope
+//! - `judging`: finds the first fault of observers, target height and radius
+//! - `fault`: faults 41 to 45, and faults of jobs
+//! - `tops`: the greatest heights of blocks of cells
+//! - `tile`: the viewshed values of one tile
+//! - `reach`: whether a tile has a cell within the radius
+//! - `marking`: marks the cells that one observer sees, by walks or by a sweep
+//! - `sides`: sweeps a tile on all four sides of the observer
+//! - `hiding`: removes the marks of cells that one family of crossings hides
+//! - `family`: the lines on one side of the observer, and the ground that rays meet there
+//! - `looking`: looks up in the horizon which targets of a line are hidden
+//! - `sweep`: a horizon, raised line by line
+//! - `line_ground`: raises a horizon to the ground of one line
+//! - `gathering`: collects the rays to marked cells, line by line
+//! - `ranks`: sorts rays by slope
 //! - `rising`: how far a target rises above the eye
-//! - `window`: cells with marks
-//! - `heights`: heights of cells
-//! - `by_place`: lists of what is at each place of some bounds
-//! - `laws`: facts of the definitions
+//! - `window`: parts of the grid whose cells have marks
+//! - `heights`: heights of cells in a list
+//! - `by_place`: lists with one entry for each place of some bounds
+//! - `laws`: facts about the definitions
 #![tactic(auto)]
 
 mod by_place;

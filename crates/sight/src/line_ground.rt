@@ -1,6 +1,6 @@
 //! Raises a horizon to the ground of one line (`raise`).
 //!
-//! A piece of the horizon that is nowhere below the line stays, and no target there is looked at.
+//! Pieces of the horizon that the line nowhere exceeds stay whole; their targets are skipped.
 ghost use Rattle.std.specs.Prelude.{◌≡◌, ℕ, ◌+◌, ◌^◌, ◌<◌, ◌≤◌, IsTrue, true, ◌↔◌, pos, ◌-ℤ◌, ◌≤ℤ◌, length, Some, OnOk, slice_get, unsigned_abs};
 ghost use Rattle.std.specs.Bool.{OnTrue};
 ghost use Rattle.horizons.specs.declared.target.Target.{Target};
@@ -9,37 +9,38 @@ ghost use Rattle.horizons.specs.Merging.{IsRampOn};
 ghost use Rattle.sightlines.specs.Walk.{AreHeights};
 ghost use Rattle.sight.specs.Sweep.{IsBefore, AreBefore, IsFamily, IsLine, Passes, PassesAmong, IsHiddenOn, RaisesBelow};
 
-use crate::family::{Family, Span, aside_at, passed};
+use crate::family::{Family, Span, offset_at, passed};
 use horizons::{Cursor, Horizon, Piece, Ramp, Target, is_never_above, push_greater};
 use std::alloc::AllocError;
 use terrain::Cell;
 
-/// Whether the ray to a target passes a line before the cell so far aside.
+/// Whether the ray to a target crosses a line before the cell at `offset`.
 #[inline(always)]
-fn is_before(target: Target, line: u32, aside: i32) -> bool
+fn is_before(target: Target, line: u32, offset: i32) -> bool
     requires target { IsTarget target }
     requires line { line ≤ 4096 }
-    requires aside { unsigned_abs aside ≤ 2 ^ 26 }
-    ensures { IsTrue result ↔ IsBefore line aside target }
+    requires offset { unsigned_abs offset ≤ 2 ^ 26 }
+    ensures { IsTrue result ↔ IsBefore line offset target }
 {
-    (target.aside as i64) * (line as i64) < (aside as i64) * (target.line as i64)
+    (target.offset as i64) * (line as i64) < (offset as i64) * (target.line as i64)
 }
 
-/// How many targets have rays before the cell so far aside, of which `low` is one and `high` is none.
-fn halved(targets: &[Target], low: usize, high: usize, line: u32, aside: i32) -> usize
+/// Bisects for the end of the targets whose rays cross before the cell at `offset`.
+/// Target `low` is one of them; the end is at most `high`.
+fn bisect(targets: &[Target], low: usize, high: usize, line: u32, offset: i32) -> usize
     requires targets { AreTargets targets.now }
     requires line { line ≤ 4096 }
-    requires aside { unsigned_abs aside ≤ 2 ^ 26 }
+    requires offset { unsigned_abs offset ≤ 2 ^ 26 }
     requires range { (low < high) × (high ≤ length targets.now) }
-    requires before { AreBefore targets.now line aside (low + 1) }
+    requires before { AreBefore targets.now line offset (low + 1) }
     ensures range { (low < result) × (result ≤ high) }
-    ensures before { AreBefore targets.now line aside result }
+    ensures before { AreBefore targets.now line offset result }
 {
     let mut before = low;
     let mut past = high;
     while past - before > 1 {
         let middle = before + (past - before) / 2;
-        if is_before(targets[middle], line, aside) {
+        if is_before(targets[middle], line, offset) {
             before = middle;
         } else {
             past = middle;
@@ -48,41 +49,44 @@ fn halved(targets: &[Target], low: usize, high: usize, line: u32, aside: i32) ->
     past
 }
 
-/// How many targets have rays before the cell so far aside, of which `from` is one and `end` is none or past the last one.
+/// Returns the end of the targets whose rays cross before the cell at `offset`.
+/// Target `from` is one of them; the result is at most `end`.
 #[inline]
-fn count_before(targets: &[Target], from: usize, end: usize, line: u32, aside: i32) -> usize
+fn count_before(targets: &[Target], from: usize, end: usize, line: u32, offset: i32) -> usize
     requires targets { AreTargets targets.now }
     requires line { line ≤ 4096 }
-    requires aside { unsigned_abs aside ≤ 2 ^ 26 }
+    requires offset { unsigned_abs offset ≤ 2 ^ 26 }
     requires range { (from < end) × (end ≤ length targets.now) }
-    requires before { AreBefore targets.now line aside (from + 1) }
+    requires before { AreBefore targets.now line offset (from + 1) }
     ensures range { (from < result) × (result ≤ end) }
-    ensures before { AreBefore targets.now line aside result }
+    ensures before { AreBefore targets.now line offset result }
 {
     let mut low = from;
     let mut leap = 1;
     while leap < end - low {
         let next = low + leap;
-        if !is_before(targets[next], line, aside) {
-            return halved(targets, low, next, line, aside);
+        if !is_before(targets[next], line, offset) {
+            return bisect(targets, low, next, line, offset);
         }
         low = next;
         leap += leap;
     }
-    halved(targets, low, end, line, aside)
+    bisect(targets, low, end, line, offset)
 }
 
-/// Up to which target a span tells of the rays, of which `from` is the first.
+/// Returns the end, at most `end`, of the targets from `from` that a span covers.
 #[inline(always)]
 fn end_of(span: Span, targets: &[Target], from: usize, end: usize, line: u32) -> usize
-    requires last { (span.aside ≤ℤ span.last) × (unsigned_abs span.last ≤ 2 ^ 25) }
+    requires last { (span.offset ≤ℤ span.last) × (unsigned_abs span.last ≤ 2 ^ 25) }
     requires targets { AreTargets targets.now }
     requires line { line ≤ 4096 }
     requires range { (from < end) × (end ≤ length targets.now) }
-    requires passes { (u : Target) → slice_get targets.now from ≡ Some u → Passes line span.aside u }
+    requires passes { (u : Target) → slice_get targets.now from ≡ Some u →
+        Passes line span.offset u }
     ensures range { (from < result) × (result ≤ end) }
-    ensures over { (i : ℕ) (u t : Target) → from ≤ i → i < result → slice_get targets.now from ≡ Some u → slice_get targets.now i ≡ Some t
-        → PassesAmong line span.aside span.last t × (span.alone ≡ true → t ≡ u) }
+    ensures over { (i : ℕ) (u t : Target) → from ≤ i → i < result →
+        slice_get targets.now from ≡ Some u → slice_get targets.now i ≡ Some t
+        → PassesAmong line span.offset span.last t × (span.alone ≡ true → t ≡ u) }
 {
     if span.alone {
         return from + 1;
@@ -90,31 +94,33 @@ fn end_of(span: Span, targets: &[Target], from: usize, end: usize, line: u32) ->
     count_before(targets, from, end, line, span.last + 1)
 }
 
-/// How many targets have rays before the first cell of the side. They stand no farther than the line.
-fn count_passed(family: Family, line: u32, targets: &[Target]) -> usize
+/// Returns how many targets have rays before the first cell of the side.
+/// The sweep has passed them, since the side holds every target's own cell.
+fn count_before_side(family: Family, line: u32, targets: &[Target]) -> usize
     requires family { IsFamily family }
     requires line { line ≤ 4096 }
     requires targets { AreTargets targets.now }
     ensures range { result ≤ length targets.now }
-    ensures before { AreBefore targets.now line (pos family.side.first -ℤ pos family.side.at) result }
+    ensures before { AreBefore targets.now line (pos family.side.first -ℤ pos family.side.at)
+        result }
 {
-    let first = family.first_aside();
+    let first = family.first_offset();
     if targets.is_empty() || !is_before(targets[0], line, first) {
         return 0;
     }
     count_before(targets, 0, targets.len(), line, first)
 }
 
-/// Whether a piece of a horizon is the ground of the line before this one. Where the ground was seen there, it mostly is
-/// here too.
+/// Whether a piece of a horizon is the ground of the line before this one.
+/// This line mostly rises above such a piece too, so `raise` does not call `is_too_low`.
 #[inline(always)]
-fn was_laid_before(piece: Piece, line: u32) -> bool
+fn is_of_last_line(piece: Piece, line: u32) -> bool
     requires line { 0 < line }
 {
     piece.ramp.lines == line - 1
 }
 
-/// Whether a line is too low to rise above a piece of a horizon, from a target on.
+/// True only where a line is nowhere above a piece of a horizon, from `from` on.
 #[inline(always)]
 fn is_too_low(
     cells: &[Cell],
@@ -130,10 +136,11 @@ fn is_too_low(
     requires targets { AreTargets targets.now }
     requires range { (from < piece.end) × (piece.end ≤ length targets.now) }
     requires ramp { IsRampOn targets.now piece.ramp from piece.end }
-    ensures { OnTrue result (IsHiddenOn cells.now family targets.now line piece.ramp from piece.end) }
+    ensures { OnTrue result
+        (IsHiddenOn cells.now family targets.now line piece.ramp from piece.end) }
 {
-    let low = aside_at(targets[from], line);
-    let high = aside_at(targets[piece.end - 1], line);
+    let low = offset_at(targets[from], line);
+    let high = offset_at(targets[piece.end - 1], line);
     let Some(top) = family.top_between(cells, line, low, high) else {
         return true;
     };
@@ -146,7 +153,7 @@ fn is_too_low(
     )
 }
 
-/// Raises a piece of a horizon to the ground of a line, from the extent on.
+/// Raises a piece of `highest` to the ground of a line, from `raised`'s extent on.
 fn raise_piece(
     cells: &[Cell],
     family: Family,
@@ -162,15 +169,17 @@ fn raise_piece(
     requires targets { AreTargets targets.now }
     requires highest { IsOver targets.now highest.now }
     requires range { (extent raised.old < piece.end) × (piece.end ≤ length targets.now) }
-    requires piece { (i : ℕ) → extent raised.old ≤ i → i < piece.end → ramp_at highest.now i ≡ Some piece.ramp }
-    requires before { RaisesBelow cells.now family targets.now line highest.now (extent raised.old) raised.old }
+    requires piece { (i : ℕ) → extent raised.old ≤ i → i < piece.end →
+        ramp_at highest.now i ≡ Some piece.ramp }
+    requires before { RaisesBelow cells.now family targets.now line highest.now (extent raised.old)
+        raised.old }
     ensures { OnOk result ((extent raised.new ≡ piece.end)
         × RaisesBelow cells.now family targets.now line highest.now piece.end raised.new) }
 {
     let mut from = raised.extent();
     while from < piece.end {
         let span = family.span(cells, line, targets[from]);
-        if span.aside >= family.end_aside() {
+        if span.offset >= family.end_offset() {
             return raised.push(piece.end, passed());
         }
         let end = end_of(span, targets, from, piece.end, line);
@@ -180,7 +189,7 @@ fn raise_piece(
     Ok(())
 }
 
-/// Raises a horizon to the ground of a line.
+/// Raises the horizon `highest` to the ground of a line, into `raised`.
 pub(crate) fn raise(
     cells: &[Cell],
     family: Family,
@@ -195,15 +204,16 @@ pub(crate) fn raise(
     requires targets { AreTargets targets.now }
     requires highest { IsOver targets.now highest.now }
     ensures { OnOk result ((extent raised.new ≡ length targets.now)
-        × RaisesBelow cells.now family targets.now line highest.now (length targets.now) raised.new) }
+        × RaisesBelow cells.now family targets.now line highest.now (length targets.now)
+        raised.new) }
 {
     raised.clear();
     let mut cursor = Cursor::start();
-    let mut from = count_passed(family, line, targets);
+    let mut from = count_before_side(family, line, targets);
     raised.push(from, passed())?;
     while from < targets.len() {
         let piece = highest.piece(&mut cursor, from);
-        if !was_laid_before(piece, line) && is_too_low(cells, family, line, targets, from, piece) {
+        if !is_of_last_line(piece, line) && is_too_low(cells, family, line, targets, from, piece) {
             raised.push(piece.end, piece.ramp)?;
         } else {
             raise_piece(cells, family, line, targets, highest, piece, raised)?;

@@ -1,4 +1,4 @@
-//! Looks up what hides the targets of a line, as the sweep goes outward.
+//! Looks up which targets of a line the lines before it hide.
 ghost use Rattle.std.specs.Prelude.{◌≡◌, ◌<◌, ◌≤◌, ℤ, List, Option, Some, IfOk, OnOk};
 ghost use Rattle.horizons.specs.declared.horizon.Piece.{Piece};
 ghost use Rattle.horizons.specs.declared.ramp.Ramp.{Ramp};
@@ -14,7 +14,7 @@ use horizons::{Cursor, Target};
 use std::alloc::{AllocError, Global};
 use terrain::Cell;
 
-/// A cursor that has not gone past a rank: this one, unless it was asked about a later rank.
+/// Returns `cursor`, or a fresh one if it may be past `rank`.
 #[inline(always)]
 fn cursor_at(cursor: Cursor, last: usize, rank: usize) -> Cursor
     ensures { (pieces : List Piece) → IsUpTo pieces cursor last → IsUpTo pieces result rank }
@@ -22,7 +22,8 @@ fn cursor_at(cursor: Cursor, last: usize, rank: usize) -> Cursor
     if rank < last { Cursor::start() } else { cursor }
 }
 
-/// A sweep up to a line, and where the looks of that line's targets have come to.
+/// A sweep of the lines before `line`, with a cursor into its horizon.
+/// `last` is the last rank that was looked up.
 #[derive(Drop)]
 pub struct Look {
     pub sweep: Sweep,
@@ -32,10 +33,11 @@ pub struct Look {
 }
 
 impl Look {
-    /// From the first line.
+    /// Returns a look at the first line.
     pub(crate) fn new(alloc: Global, targets: &[Target]) -> Result<Self, AllocError>
         requires { AreTargets targets.now }
-        ensures { IfOk result (λ l. (cells : List (Option ℤ)) (f : Family) → LooksFrom cells f targets.now 1 l) }
+        ensures { IfOk result
+            (λ l. (cells : List (Option ℤ)) (f : Family) → LooksFrom cells f targets.now 1 l) }
     {
         Ok(Look {
             sweep: Sweep::new(alloc, targets)?,
@@ -45,7 +47,7 @@ impl Look {
         })
     }
 
-    /// Goes on to a line.
+    /// Sweeps on to a line, which is not before the current one.
     pub(crate) fn go_to(
         &mut self,
         cells: &[Cell],
@@ -71,13 +73,14 @@ impl Look {
         Ok(())
     }
 
-    /// Whether a line before this one hides the target of a rank.
+    /// Whether a line before the current one hides the target of a rank.
     #[inline(always)]
     pub(crate) fn hides(&mut self, rank: usize, target: Target, rise: i64) -> bool
         requires rank { rank < extent self.old.sweep.highest }
         requires cursor { IsUpTo self.old.sweep.highest self.old.cursor self.old.last }
         requires target { IsTarget target }
-        requires at { (r : Ramp) → ramp_at self.old.sweep.highest rank ≡ Some r → IsRampAt r target }
+        requires at { (r : Ramp) → ramp_at self.old.sweep.highest rank ≡ Some r →
+            IsRampAt r target }
         ensures answer { result ≡ hides self.old.sweep.highest rank target rise }
         ensures line { self.new.line ≡ self.old.line }
         ensures highest { self.new.sweep ≡ self.old.sweep }

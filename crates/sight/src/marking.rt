@@ -1,7 +1,7 @@
 //! Marks the cells of a tile that one observer sees (`look`).
 //!
-//! By walks or by a sweep. A sample of cells decides: a sweep costs the same on all ground, walks
-//! are long on open ground.
+//! A sample of walks decides whether to walk to all cells or to sweep the tile. A sweep costs about
+//! the same on all ground; walks are long on open ground.
 ghost use Rattle.std.specs.Prelude.{◌≡◌, ◌+◌, ◌-◌, ◌*◌, ◌<◌, ◌≤◌, length, OnOk};
 ghost use Rattle.terrain.specs.Neighbours.{IsInside};
 ghost use Rattle.tiles.specs.Cutting.{AreBounds, IsCutting};
@@ -9,32 +9,32 @@ ghost use Rattle.sightlines.specs.Sight.{highest_eye, place_of};
 ghost use Rattle.sight.specs.Marks.{AreMarkedBelow, AreMarked, TellsSeen, Tells};
 
 use crate::tile::Viewing;
-use sightlines::{Walked, may_see, sees_past_blocks};
+use sightlines::{WalkCache, may_see, sees_past_blocks};
 use std::alloc::{AllocError, Global};
 use terrain::{Observer, Place};
 use tiles::Bounds;
 
-/// How many cells of a tile are asked before it is looked at.
+/// The number of sampled walks that decide between walks and a sweep.
 const SAMPLES: u32 = 64;
 
-/// Cells along the side of a usual tile.
+/// The side of a usual tile, in cells.
 const USUAL_SIDE: u32 = 256;
 
-/// A usual tile is swept where walks to its cells ask about more crossings than this, each on average.
-const MOST_ASKED: u32 = 128;
+/// The least average of crossings per sampled walk at which a usual tile is swept.
+const SWEPT_CROSSINGS: u32 = 128;
 
-/// A tile with shorter sides is swept as one of this side is.
+/// Tiles with shorter sides count as having this side in the choice, in cells.
 const SWEPT_SIDE: u32 = 64;
 
-/// What is asked of a line of sight: all of it, or its crossings beside the target alone.
+/// Which crossings of a line of sight are tested: all, or those beside the target.
 #[derive(Clone, Copy)]
-pub enum Asked {
+pub enum Check {
     Whole,
     FirstCrossings,
 }
 
 impl<'a> Viewing<'a> {
-    /// Marks the cells of a tile that an observer sees, and no other.
+    /// Marks the cells of a tile that an observer sees, and no others.
     pub(crate) fn look(
         &self,
         alloc: Global,
@@ -48,60 +48,62 @@ impl<'a> Viewing<'a> {
         requires eye { observer.now.eye ≤ highest_eye }
         requires size { length seen.old ≡ bounds.rows * bounds.cols }
         ensures { OnOk result (AreMarked bounds
-            (TellsSeen self.now.grid.now.terrain observer.now self.now.target_height self.now.radius) seen.new) }
+            (TellsSeen self.now.grid.now.terrain observer.now self.now.target_height
+            self.now.radius) seen.new) }
     {
         if !self.walks_are_long(observer, bounds) {
-            self.mark(Asked::Whole, observer, bounds, seen);
+            self.mark(Check::Whole, observer, bounds, seen);
             return Ok(());
         }
-        self.mark(Asked::FirstCrossings, observer, bounds, seen);
+        self.mark(Check::FirstCrossings, observer, bounds, seen);
         self.hide_blocked(alloc, observer, bounds, seen)
     }
 
-    /// Whether walks to a sample of a tile's cells ask about so many crossings that one sweep over all cells costs less:
-    /// the more, the fewer cells share the sweep.
+    /// Whether walks to a tile's cells cost more than a sweep, judged by a sample.
+    /// The smaller the tile, the higher the limit, since fewer cells share the sweep.
     fn walks_are_long(&self, observer: &Observer, bounds: Bounds) -> bool
         requires lawful { IsCutting self.now.tiling.now }
         requires inside { AreBounds self.now.tiling.now bounds }
         requires observer { IsInside self.now.grid.now.terrain (place_of observer.now) }
         requires eye { observer.now.eye ≤ highest_eye }
     {
-        let mut walked = Walked::none();
+        let mut walked = WalkCache::none();
         for step in 0..SAMPLES {
             let place = Place {
                 row: bounds.top + step * 37 % bounds.rows,
                 col: bounds.left + step * 61 % bounds.cols,
             };
-            self.mark_of(Asked::Whole, observer, place, &mut walked);
+            self.mark_of(Check::Whole, observer, place, &mut walked);
         }
         let side = bounds.rows.min(bounds.cols).max(SWEPT_SIDE);
-        walked.asked / SAMPLES >= MOST_ASKED * USUAL_SIDE / side
+        walked.crossings_tested / SAMPLES >= SWEPT_CROSSINGS * USUAL_SIDE / side
     }
 
-    /// Marks the cells of a tile by what is asked of the line of sight to each.
-    fn mark(&self, asked: Asked, observer: &Observer, bounds: Bounds, marks: &mut [bool])
+    /// Sets the mark of each cell of a tile by a check of its line of sight.
+    fn mark(&self, check: Check, observer: &Observer, bounds: Bounds, marks: &mut [bool])
         requires lawful { IsCutting self.now.tiling.now }
         requires inside { AreBounds self.now.tiling.now bounds }
         requires observer { IsInside self.now.grid.now.terrain (place_of observer.now) }
         requires eye { observer.now.eye ≤ highest_eye }
         requires size { length marks.old ≡ bounds.rows * bounds.cols }
         ensures { AreMarked bounds
-            (Tells asked self.now.grid.now.terrain observer.now self.now.target_height self.now.radius) marks.new }
+            (Tells check self.now.grid.now.terrain observer.now self.now.target_height
+            self.now.radius) marks.new }
     {
-        let mut walked = Walked::none();
+        let mut walked = WalkCache::none();
         for row in bounds.top..bounds.top + bounds.rows {
-            self.mark_along(asked, observer, bounds, row, &mut walked, marks);
+            self.mark_row(check, observer, bounds, row, &mut walked, marks);
         }
     }
 
-    /// The same along one row of the tile.
-    fn mark_along(
+    /// Sets the marks of one row of a tile.
+    fn mark_row(
         &self,
-        asked: Asked,
+        check: Check,
         observer: &Observer,
         bounds: Bounds,
         row: u32,
-        walked: &mut Walked,
+        walked: &mut WalkCache,
         marks: &mut [bool],
     )
         requires lawful { IsCutting self.now.tiling.now }
@@ -110,16 +112,18 @@ impl<'a> Viewing<'a> {
         requires eye { observer.now.eye ≤ highest_eye }
         requires row { (bounds.top ≤ row) × (row < bounds.top + bounds.rows) }
         requires marks { AreMarkedBelow bounds
-            (Tells asked self.now.grid.now.terrain observer.now self.now.target_height self.now.radius)
+            (Tells check self.now.grid.now.terrain observer.now self.now.target_height
+            self.now.radius)
             ((row - bounds.top) * bounds.cols) marks.old }
         ensures { AreMarkedBelow bounds
-            (Tells asked self.now.grid.now.terrain observer.now self.now.target_height self.now.radius)
+            (Tells check self.now.grid.now.terrain observer.now self.now.target_height
+            self.now.radius)
             ((row + 1 - bounds.top) * bounds.cols) marks.new }
     {
         let first = (row - bounds.top) as usize * bounds.cols as usize;
         for col in bounds.left..bounds.left + bounds.cols {
             marks[first + (col - bounds.left) as usize] = self.mark_of(
-                asked,
+                check,
                 observer,
                 Place { row, col },
                 walked,
@@ -127,16 +131,23 @@ impl<'a> Viewing<'a> {
         }
     }
 
-    /// The mark of one cell.
+    /// Returns the mark of one cell.
     #[inline(always)]
-    fn mark_of(&self, asked: Asked, observer: &Observer, place: Place, walked: &mut Walked) -> bool
+    fn mark_of(
+        &self,
+        check: Check,
+        observer: &Observer,
+        place: Place,
+        walked: &mut WalkCache,
+    ) -> bool
         requires observer { IsInside self.now.grid.now.terrain (place_of observer.now) }
         requires eye { observer.now.eye ≤ highest_eye }
         requires place { IsInside self.now.grid.now.terrain place }
-        ensures { Tells asked self.now.grid.now.terrain observer.now self.now.target_height self.now.radius place result }
+        ensures { Tells check self.now.grid.now.terrain observer.now self.now.target_height
+            self.now.radius place result }
     {
-        match asked {
-            Asked::Whole => sees_past_blocks(
+        match check {
+            Check::Whole => sees_past_blocks(
                 self.grid,
                 self.tops,
                 observer,
@@ -145,7 +156,7 @@ impl<'a> Viewing<'a> {
                 self.radius,
                 walked,
             ),
-            Asked::FirstCrossings => may_see(
+            Check::FirstCrossings => may_see(
                 self.grid,
                 observer,
                 place,

@@ -1,4 +1,4 @@
-//! Rays sorted by their slopes, in whole numbers.
+//! Sorts rays by slope, in whole numbers.
 ghost use Rattle.std.specs.Prelude.{◌≡◌, ℕ, ◌^◌, ◌≤◌, length, Some, IfOk, slice_get};
 ghost use Rattle.horizons.specs.declared.target.Target.{Target};
 ghost use Rattle.horizons.specs.Horizons.{IsTarget};
@@ -7,42 +7,43 @@ ghost use Rattle.sight.specs.Ranks.{slope_of, AreNumbered, IsRanked};
 use horizons::Target;
 use std::alloc::{AllocError, Global};
 
-/// No target is aside by more cells.
+/// The greatest offset of a target, in cells.
 const FURTHEST_ASIDE: i64 = 4_096;
 
-/// The slope of a ray and its number among the rays.
+/// The slope of a ray, and the number of the ray.
 #[derive(Clone, Copy)]
-pub struct Numbered {
+pub struct RaySlope {
     pub slope: u64,
     pub number: u32,
 }
 
-/// The targets of rays by rising slopes, and where each ray's target stands among them.
+/// Targets by rising slope, and the rank of each ray's target among them.
 #[derive(Drop)]
-pub struct Ranked {
+pub struct RankedRays {
     pub targets: Vec<Target>,
     pub ranks: Vec<u32>,
 }
 
-/// A slope in parts of a cell that are smaller than any two slopes are apart. It is at least 0.
+/// Returns a ray's slope plus 4,096 in units of 2^-24, rounded down.
+/// Different slopes are more than one unit apart, so their order is kept.
 #[inline(always)]
 fn slope_of(target: Target) -> u64
     requires { IsTarget target }
     ensures { result ≡ slope_of target }
 {
-    let shifted = target.aside as i64 + FURTHEST_ASIDE * target.line as i64;
+    let shifted = target.offset as i64 + FURTHEST_ASIDE * target.line as i64;
     (shifted as u64) * (1 << 24) / target.line as u64
 }
 
-/// The rays' numbers, by rising slopes.
-fn number_by_slope(alloc: Global, rays: &[Target]) -> Result<Vec<Numbered>, AllocError>
+/// Returns the numbers and slopes of the rays, by rising slope.
+fn number_by_slope(alloc: Global, rays: &[Target]) -> Result<Vec<RaySlope>, AllocError>
     requires each { (i : ℕ) (t : Target) → slice_get rays.now i ≡ Some t → IsTarget t }
     requires few { length rays.now ≤ 2 ^ 24 }
     ensures { IfOk result (λ v. AreNumbered rays.now v.items) }
 {
     let mut order = Vec::with_capacity(alloc, rays.len())?;
     for number in 0..rays.len() {
-        order.push(Numbered {
+        order.push(RaySlope {
             slope: slope_of(rays[number]),
             number: number as u32,
         })?;
@@ -51,8 +52,8 @@ fn number_by_slope(alloc: Global, rays: &[Target]) -> Result<Vec<Numbered>, Allo
     Ok(order)
 }
 
-/// The rays' targets by rising slopes.
-pub(crate) fn rank(alloc: Global, rays: &[Target]) -> Result<Ranked, AllocError>
+/// Sorts the targets of rays by rising slope, and returns each ray's rank.
+pub(crate) fn rank(alloc: Global, rays: &[Target]) -> Result<RankedRays, AllocError>
     requires each { (i : ℕ) (t : Target) → slice_get rays.now i ≡ Some t → IsTarget t }
     requires few { length rays.now ≤ 2 ^ 24 }
     ensures { IfOk result (λ r. IsRanked rays.now r.targets.items r.ranks.items) }
@@ -65,5 +66,5 @@ pub(crate) fn rank(alloc: Global, rays: &[Target]) -> Result<Ranked, AllocError>
         targets.push(rays[number])?;
         ranks[number] = rank as u32;
     }
-    Ok(Ranked { targets, ranks })
+    Ok(RankedRays { targets, ranks })
 }

@@ -13,24 +13,25 @@ use horizons::Target;
 use terrain::{Cell, Height};
 
 impl Family {
-    /// The height of a target's cell, None where it has none.
+    /// Returns the height of a target's cell, `None` for NODATA or without such a cell.
     #[inline(always)]
     fn height_of(self, cells: &[Cell], target: Target) -> Option<Height>
         requires heights { AreHeights cells.now }
         requires family { IsFamily self }
         requires line { IsLine self target.line }
         requires target { IsTarget target }
-        ensures value { (y : ℕ) → StandsAt self y target → result ≡ height_at cells.now self target.line y }
+        ensures value { (y : ℕ) → StandsAt self y target →
+            result ≡ height_at cells.now self target.line y }
         ensures height { (h : ℤ) → result ≡ Some h → IsHeight h }
     {
-        match self.index_at(target.line, target.aside) {
+        match self.index_at(target.line, target.offset) {
             Some(index) => height_at(cells, index),
             None => None,
         }
     }
 
-    /// How much a target, so high above its cell's ground, is above the eye; where the cell has no data its ground
-    /// counts as 0.
+    /// Returns how many units a target at `height` above its ground is above the eye.
+    /// The ground of a NODATA cell counts as 0.
     #[inline(always)]
     pub(crate) fn rise(self, cells: &[Cell], target: Target, height: u32) -> i64
         requires heights { AreHeights cells.now }
@@ -38,7 +39,8 @@ impl Family {
         requires line { IsLine self target.line }
         requires target { IsTarget target }
         requires height { height ≤ 1000000 }
-        ensures value { (y : ℕ) → StandsAt self y target → result ≡ rise_at cells.now self height target.line y }
+        ensures value { (y : ℕ) → StandsAt self y target →
+            result ≡ rise_at cells.now self height target.line y }
         ensures small { IsRise result }
     {
         let ground = self.height_of(cells, target).unwrap_or(0);

@@ -1,6 +1,6 @@
-//! The sweep over a tile: removes the marks of cells that a crossing hides.
+//! Sweeps a tile: removes the marks of cells that a crossing hides.
 //!
-//! One family of crossings after another, on all four sides of the observer.
+//! It takes four families of crossings in turn, one for each side of the observer.
 ghost use Rattle.std.specs.Prelude.{◌≡◌, ℕ, ◌+◌, ◌*◌, ◌<◌, ◌≤◌, true, length, OnOk};
 ghost use Rattle.terrain.specs.Neighbours.{IsInside};
 ghost use Rattle.terrain.specs.declared.place.Place.{Place};
@@ -15,15 +15,15 @@ use crate::family::{Family, Lines, Side};
 use crate::heights::height_at;
 use crate::hiding::hide;
 use crate::tile::Viewing;
-use crate::window::{Run, Window};
+use crate::window::{CellRun, Window};
 use sightlines::level;
 use std::alloc::{AllocError, Global};
 use terrain::{Cell, Observer, Place};
 use tiles::Bounds;
 
 impl Family {
-    /// The same lines, counted toward their beginning.
-    fn turned_back(self) -> Self
+    /// Returns the family on the other side, whose lines count toward coordinate 0.
+    fn reverse(self) -> Self
         ensures { result ≡ facing self true }
     {
         Family {
@@ -38,17 +38,17 @@ impl Family {
     }
 }
 
-/// A coordinate of the grid along which an observer looks at a tile: where the observer stands, how far apart neighbours
-/// stand in the list of cells, and the tile's cells with their marks.
+/// A coordinate of the grid, with the observer's place and the tile's run on it.
+/// Neighbours along it are `stride` apart in the list of cells.
 #[derive(Clone, Copy)]
 pub struct Coordinate {
     pub at: u32,
     pub stride: usize,
-    pub tile: Run,
+    pub tile: CellRun,
 }
 
-/// Takes the marks from the marked cells of a tile that the lines on either side of the observer hide: those with the same
-/// first coordinate.
+/// Removes the marks of cells that crossings on either side of the observer hide.
+/// `lines` is the coordinate across the lines, `side` the one along them.
 fn hide_on_both_sides(
     alloc: Global,
     cells: &[Cell],
@@ -67,7 +67,8 @@ fn hide_on_both_sides(
     requires apart { IsApart (window_of lines side) }
     requires height { height ≤ highest_eye }
     ensures { OnOk result
-        (AreOpen cells.now (family_of lines side eye) (window_of lines side) height marks.old marks.new) }
+        (AreOpen cells.now (family_of lines side eye) (window_of lines side) height marks.old
+        marks.new) }
 {
     let family = Family {
         lines: Lines {
@@ -88,11 +89,11 @@ fn hide_on_both_sides(
         side: side.tile,
     };
     hide(alloc, cells, family, window, height, marks)?;
-    hide(alloc, cells, family.turned_back(), window, height, marks)
+    hide(alloc, cells, family.reverse(), window, height, marks)
 }
 
 impl<'a> Viewing<'a> {
-    /// Takes the marks from the places of a tile to which a crossing blocks the line of sight: with a column, or with a row.
+    /// Removes the marks of places whose line of sight a crossing blocks.
     pub(crate) fn hide_blocked(
         &self,
         alloc: Global,
@@ -120,7 +121,7 @@ impl<'a> Viewing<'a> {
         let columns = Coordinate {
             at: observer.col,
             stride: 1,
-            tile: Run {
+            tile: CellRun {
                 first: bounds.left,
                 cells: bounds.cols,
                 stride: 1,
@@ -129,7 +130,7 @@ impl<'a> Viewing<'a> {
         let rows = Coordinate {
             at: observer.row,
             stride: cols as usize,
-            tile: Run {
+            tile: CellRun {
                 first: bounds.top,
                 cells: bounds.rows,
                 stride: bounds.cols as usize,

@@ -1,4 +1,4 @@
-//! The horizon before all targets, raised line by line.
+//! A horizon over all targets, raised line by line.
 ghost use Rattle.std.specs.Prelude.{◌+◌, ◌≤◌, ℤ, List, Option, IfOk, OnOk};
 ghost use Rattle.horizons.specs.Horizons.{AreTargets};
 ghost use Rattle.sightlines.specs.Walk.{AreHeights};
@@ -12,7 +12,7 @@ use std::alloc::{AllocError, Global};
 use std::mem;
 use terrain::Cell;
 
-/// The greatest ground of the lines so far over each target, and room for that of one line more.
+/// The horizon of the lines so far, and a spare one whose memory is reused.
 #[derive(Drop)]
 pub struct Sweep {
     pub highest: Horizon,
@@ -20,10 +20,11 @@ pub struct Sweep {
 }
 
 impl Sweep {
-    /// Before the first line.
+    /// Returns a sweep before the first line, which hides no target.
     pub(crate) fn new(alloc: Global, targets: &[Target]) -> Result<Self, AllocError>
         requires { AreTargets targets.now }
-        ensures { IfOk result (λ s. (cells : List (Option ℤ)) (f : Family) → HidesBefore cells f targets.now 1 s.highest) }
+        ensures { IfOk result (λ s. (cells : List (Option ℤ)) (f : Family) →
+            HidesBefore cells f targets.now 1 s.highest) }
     {
         let mut highest = Horizon::new(alloc);
         highest.push(targets.len(), Ramp::nothing())?;
@@ -33,7 +34,7 @@ impl Sweep {
         })
     }
 
-    /// Past a line.
+    /// Raises the horizon to the ground of one line.
     fn pass(
         &mut self,
         cells: &[Cell],
@@ -46,14 +47,15 @@ impl Sweep {
         requires line { IsLine family line }
         requires targets { AreTargets targets.now }
         requires before { HidesBefore cells.now family targets.now line self.old.highest }
-        ensures { OnOk result (HidesBefore cells.now family targets.now (line + 1) self.new.highest) }
+        ensures { OnOk result
+            (HidesBefore cells.now family targets.now (line + 1) self.new.highest) }
     {
         raise(cells, family, line, targets, &self.highest, &mut self.spare)?;
         mem::swap(&mut self.highest, &mut self.spare);
         Ok(())
     }
 
-    /// Past the lines from one on, and before another.
+    /// Raises the horizon to the ground of the lines from `from` to below `to`.
     pub(crate) fn pass_lines(
         &mut self,
         cells: &[Cell],

@@ -1,4 +1,4 @@
-//! The values of one tile, observer by observer.
+//! The viewshed values of one tile, counted observer by observer.
 ghost use Rattle.std.specs.Prelude.{◌≡◌, ℕ, ◌+◌, ◌-◌, ◌*◌, ◌<◌, [], length, None, IfSome, OnOk, option_map, slice_index_or, false};
 ghost use Rattle.std.specs.Bool.{OnFalse};
 ghost use Rattle.terrain.specs.Neighbours.{IsInside};
@@ -11,20 +11,20 @@ ghost use Rattle.sightlines.specs.Sight.{is_seen, place_of};
 ghost use Rattle.sight.specs.Viewshed.{most_observers};
 ghost use Rattle.sight.specs.Viewed.{HasValue, counted, AreAtMost, IsFaultless};
 
-use crate::by_place::{Placed, entries};
+use crate::by_place::{PlaceMap, entries};
 use crate::reach::is_any_in_reach;
-use sightlines::Tops;
+use sightlines::MaxHeights;
 use std::alloc::{AllocError, Global};
 use terrain::{Count, Grid, NoMemory, Observer, Place};
 use tile_jobs::Gate;
 use tile_maps::TileMap;
 use tiles::{Bounds, Tiling};
 
-/// What is looked at, from where, and how the grid is cut.
+/// A viewshed to make: a grid, its block heights and tiling, and valid observers.
 #[derive(Drop)]
 pub struct Viewing<'a> {
     pub grid: &'a Grid,
-    pub tops: &'a Tops,
+    pub tops: &'a MaxHeights,
     pub observers: &'a [Observer],
     pub target_height: u32,
     pub radius: u32,
@@ -34,7 +34,7 @@ pub struct Viewing<'a> {
     ghost faultless: { IsFaultless grid.now.terrain observers.now target_height radius },
 }
 
-/// A value with one observer more.
+/// Returns a value with one more observer; no data stays no data.
 fn one_more(value: Count) -> Count
     requires { IfSome value (λ n. n < most_observers) }
     ensures { result ≡ option_map (λ n. n + 1) value }
@@ -45,7 +45,7 @@ fn one_more(value: Count) -> Count
     }
 }
 
-/// Counts an observer at each cell that it sees.
+/// Adds 1 to the value of each cell that has a mark.
 fn count_seen(seen: &[bool], values: &mut [Count])
     requires size { length seen.now ≡ length values.old }
     requires few { AreAtMost 1023 values.old }
@@ -60,13 +60,14 @@ fn count_seen(seen: &[bool], values: &mut [Count])
 }
 
 impl<'a> Viewing<'a> {
-    /// Whether an observer has a place of a tile in reach.
+    /// Whether a tile has a place within the radius of an observer.
     fn reaches(&self, observer: &Observer, bounds: Bounds) -> bool
         requires lawful { IsCutting self.now.tiling.now }
         requires inside { AreBounds self.now.tiling.now bounds }
         requires observer { IsInside self.now.grid.now.terrain (place_of observer.now) }
         ensures { OnFalse result ((p : Place) → IsInBounds bounds p
-            → is_seen self.now.grid.now.terrain observer.now p self.now.target_height self.now.radius ≡ false) }
+            → is_seen self.now.grid.now.terrain observer.now p self.now.target_height
+            self.now.radius ≡ false) }
     {
         let eye = Place {
             row: observer.row,
@@ -75,8 +76,8 @@ impl<'a> Viewing<'a> {
         is_any_in_reach(eye, bounds, self.radius)
     }
 
-    /// Counts each observer at the cells of a tile that it sees; for the gate it is a part of the
-    /// tile's job. What `seen` has before is written over.
+    /// Adds each observer to the values of the tile's cells that it sees.
+    /// `seen` is overwritten. Each observer is one part of the tile's job for the gate.
     fn count_observers<G: Gate>(
         &self,
         alloc: Global,
@@ -92,7 +93,8 @@ impl<'a> Viewing<'a> {
             (HasValue self.now.grid.now.terrain [] self.now.target_height self.now.radius)
             (bounds.rows * bounds.cols) values.old }
         ensures { OnOk result (AreMadeBelow bounds
-            (HasValue self.now.grid.now.terrain self.now.observers.now self.now.target_height self.now.radius)
+            (HasValue self.now.grid.now.terrain self.now.observers.now self.now.target_height
+            self.now.radius)
             (bounds.rows * bounds.cols) values.new) }
     {
         for observer in self.observers {
@@ -106,8 +108,8 @@ impl<'a> Viewing<'a> {
     }
 }
 
-// The values before any observer.
-impl<'a> Placed for Viewing<'a> {
+// The values before any observer: 0, or no data.
+impl<'a> PlaceMap for Viewing<'a> {
     ghost use Rattle.terrain.specs.Neighbours.{IsInside};
     ghost use Rattle.sight.specs.Viewed.{HasValue};
     ghost use Rattle.std.specs.Prelude.{[]};
@@ -140,7 +142,8 @@ impl<'a, 'g, G: Gate> TileMap for GatedViewing<'a, 'g, G> {
 
     ghost cutting = { λ m. m.viewing.tiling.now };
 
-    ghost has = { λ m. HasValue m.viewing.grid.now.terrain m.viewing.observers.now m.viewing.target_height m.viewing.radius };
+    ghost has = { λ m. HasValue m.viewing.grid.now.terrain m.viewing.observers.now
+        m.viewing.target_height m.viewing.radius };
 
     fn tiling(&self) -> Tiling {
         *self.viewing.tiling

@@ -7,15 +7,15 @@ ghost use Rattle.sight.specs.BlockTops.{ground_of, IsGround, IsBlock, IsBlockTop
 ghost use Rattle.terrain.specs.Raster.{IsHeight};
 
 use crate::heights::{height_at, raised};
-use sightlines::{FAR_BLOCK, NEAR_BLOCK, Tops, blocks_in};
+use sightlines::{FAR_BLOCK, MaxHeights, NEAR_BLOCK, blocks_in};
 use std::alloc::{AllocError, Global};
 use std::sync::Wait;
 use std::thread::Threads;
 use terrain::{Cell, Grid, Height, LOWEST, Place};
 use tile_jobs::{Gate, JobFault, Work};
-use tile_maps::Crew;
+use tile_maps::Runner;
 
-/// The greatest height of some cells, None where they have no data.
+/// Returns the greatest height of some cells, or `None` where all are NODATA.
 #[inline(always)]
 fn top_of(cells: &[Cell]) -> Option<Height>
     requires { AreHeights cells.now }
@@ -29,7 +29,7 @@ fn top_of(cells: &[Cell]) -> Option<Height>
     top
 }
 
-/// The cell of a greatest height, if there is one.
+/// Returns a cell with this height, or a NODATA cell for `None`.
 #[inline(always)]
 fn top_cell(top: Option<Height>) -> Cell
     requires { (h : ℤ) → top ≡ Some h → IsHeight h }
@@ -41,7 +41,7 @@ fn top_cell(top: Option<Height>) -> Cell
     }
 }
 
-/// A ground whose cells are taken together in blocks of `size` cells each way.
+/// Cells cut into blocks of `size` by `size`, smaller at the east and south ends.
 #[derive(Drop)]
 struct Blocks<'a> {
     cells: &'a [Cell],
@@ -53,7 +53,7 @@ struct Blocks<'a> {
 }
 
 impl<'a> Blocks<'a> {
-    /// The number of blocks.
+    /// Returns the number of blocks.
     fn count(&self) -> usize
         ensures value { result ≡ block_count self.now.size
             (ground_of self.now.cols self.now.rows self.now.cells.now) }
@@ -62,7 +62,7 @@ impl<'a> Blocks<'a> {
         blocks_in(self.size, self.rows) * blocks_in(self.size, self.cols)
     }
 
-    /// The greatest height of a block.
+    /// Returns the greatest height of a block, as a cell.
     #[inline(always)]
     fn top(&self, block: Place) -> Cell
         requires { IsBlock self.now.size
@@ -82,7 +82,7 @@ impl<'a> Blocks<'a> {
         top_cell(top)
     }
 
-    /// The greatest heights of the blocks from one number up to another, in row order.
+    /// Returns the greatest heights of blocks `from` to below `to`, in row order.
     fn tops(&self, alloc: Global, from: usize, to: usize) -> Result<Vec<Cell>, AllocError>
         requires order { from ≤ to }
         requires inside { to ≤ block_count self.now.size
@@ -102,7 +102,7 @@ impl<'a> Blocks<'a> {
     }
 }
 
-/// One job for each share of the blocks in row order.
+/// Jobs that each find the greatest heights of `share` blocks in row order.
 #[derive(Drop)]
 struct BlockShares<'a> {
     blocks: &'a Blocks<'a>,
@@ -119,7 +119,8 @@ impl<'a> Work for BlockShares<'a> {
 
     ghost gives = { λ w job out.
         AreTopsOfShare w.blocks.now.size
-        (ground_of w.blocks.now.cols w.blocks.now.rows w.blocks.now.cells.now) w.share job out.items };
+        (ground_of w.blocks.now.cols w.blocks.now.rows w.blocks.now.cells.now) w.share job
+        out.items };
 
     fn run(&self, alloc: Global, job: u32) -> Result<Vec<Cell>, JobFault> {
         let count = self.blocks.count();
@@ -130,9 +131,9 @@ impl<'a> Work for BlockShares<'a> {
     }
 }
 
-/// The greatest heights of all blocks, by so many jobs that share them evenly.
+/// Returns the greatest heights of all blocks, in `jobs` jobs.
 fn shared_tops<R: Threads + Wait + Sync, G: Gate + Sync>(
-    crew: &Crew<R, G>,
+    runner: &Runner<R, G>,
     blocks: &Blocks,
     jobs: u32,
 ) -> Result<Vec<Cell>, JobFault>
@@ -140,27 +141,28 @@ fn shared_tops<R: Threads + Wait + Sync, G: Gate + Sync>(
     ensures tops { IfOk result (λ v.
         AreTops blocks.now.size
         (ground_of blocks.now.cols blocks.now.rows blocks.now.cells.now) v.items) }
-    ensures workers { RefusesWorkers crew.now.workers result }
+    ensures workers { RefusesWorkers runner.now.workers result }
 {
     let count = blocks.count();
     let share = count.div_ceil(jobs as usize);
-    let lists = crew.run(&BlockShares { blocks, share }, jobs)?;
-    let mut tops = Vec::with_capacity(crew.alloc, count)?;
+    let lists = runner.run(&BlockShares { blocks, share }, jobs)?;
+    let mut tops = Vec::with_capacity(runner.alloc, count)?;
     for list in &lists {
         tops.extend_from_slice(list)?;
     }
     Ok(tops)
 }
 
-/// The greatest heights of a grid's near blocks, by so many jobs, and those of its far ones.
+/// Returns the greatest heights of a grid's near and far blocks, and its peak.
+/// `jobs` jobs find those of the near blocks.
 pub(crate) fn tops_of<R: Threads + Wait + Sync, G: Gate + Sync>(
-    crew: &Crew<R, G>,
+    runner: &Runner<R, G>,
     grid: &Grid,
     jobs: u32,
-) -> Result<Tops, JobFault>
+) -> Result<MaxHeights, JobFault>
     requires jobs { (1 ≤ jobs) × (jobs ≤ 65536) }
     ensures tops { IfOk result (λ t. IsTops grid.now.terrain t) }
-    ensures workers { RefusesWorkers crew.now.workers result }
+    ensures workers { RefusesWorkers runner.now.workers result }
 {
     let (cols, rows) = (grid.cols(), grid.rows());
     let cells = Blocks {
@@ -169,7 +171,7 @@ pub(crate) fn tops_of<R: Threads + Wait + Sync, G: Gate + Sync>(
         rows,
         size: NEAR_BLOCK,
     };
-    let near = shared_tops(crew, &cells, jobs)?;
+    let near = shared_tops(runner, &cells, jobs)?;
     let wide = blocks_in(NEAR_BLOCK, cols) as u32;
     let high = blocks_in(NEAR_BLOCK, rows) as u32;
     let near_blocks = Blocks {
@@ -178,7 +180,7 @@ pub(crate) fn tops_of<R: Threads + Wait + Sync, G: Gate + Sync>(
         rows: high,
         size: FAR_BLOCK / NEAR_BLOCK,
     };
-    let far = near_blocks.tops(crew.alloc, 0, near_blocks.count())?;
+    let far = near_blocks.tops(runner.alloc, 0, near_blocks.count())?;
     let peak = top_of(&far).unwrap_or(LOWEST);
-    Ok(Tops { near, far, peak })
+    Ok(MaxHeights { near, far, peak })
 }

@@ -1,4 +1,4 @@
-//! A viewshed, by tiles and workers: [`viewshed`].
+//! Makes a viewshed tile by tile: [`viewshed`].
 ghost use Rattle.std.specs.Prelude.{IfOk};
 ghost use Rattle.tiles.specs.Cutting.{Cuts};
 ghost use Rattle.sight.specs.Viewshed.{IsViewshed};
@@ -13,18 +13,31 @@ use std::sync::Wait;
 use std::thread::Threads;
 use terrain::{Count, Grid, Observer};
 use tile_jobs::Gate;
-use tile_maps::Crew;
+use tile_maps::Runner;
 use tiles::Tiling;
 
-/// Returns how many entries of the list of observers see each cell, in row order, and None where
-/// there is no data.
+/// Returns how many entries of `observers` see each cell, in row order.
 ///
-/// Two stages run on `workers` threads, each with one job for each tile: the greatest heights of
-/// blocks of cells, since a line of sight passes over a low block in one step, and the values.
+/// NODATA cells have no count. Eyes and `target_height` are in units, `radius` in cells. Two stages
+/// run on `workers` threads, with one job for each tile. The first finds the greatest heights of
+/// blocks, since a line of sight skips a low block in one step; the second counts.
 ///
-/// It refuses more than 1,024 observers, then a target height or an eye above 1,000,000, a radius
-/// that is not from 1 to 8,192, and the first observer outside the grid or on no data, in this
-/// order; then come the faults of its jobs.
+/// # Errors
+///
+/// The first of these that applies:
+///
+/// - [`SightFault::TooManyObservers`] for more than 1,024 observers.
+/// - [`SightFault::BadEye`] for a target height, then for an eye, above 1,000,000.
+/// - [`SightFault::BadRadius`] for a radius that is not from 1 to 8,192.
+/// - [`SightFault::Outside`] or [`SightFault::OnNodata`] for the first observer at a bad place.
+/// - [`SightFault::Jobs`] for a want of memory or of a thread, or for workers not from 1 to 64.
+///
+/// # Examples
+///
+/// ```ignore
+/// let observers = [Observer { row: 0, col: 0, eye: 2 }];
+/// let values = viewshed(rt, alloc, &grid, &observers, 0, 8_192, &tiling, 2, &NoGate)?;
+/// ```
 pub fn viewshed<R: Threads + Wait + Sync, G: Gate + Sync>(
     rt: &R,
     alloc: Global,
@@ -45,13 +58,13 @@ pub fn viewshed<R: Threads + Wait + Sync, G: Gate + Sync>(
     if let Some(fault) = first_fault(grid, observers, target_height, radius) {
         return Err(fault);
     }
-    let crew = Crew {
+    let runner = Runner {
         rt,
         alloc,
         workers,
         gate,
     };
-    let tops = tops_of(&crew, grid, tiling.tiles())?;
+    let tops = tops_of(&runner, grid, tiling.tiles())?;
     let viewing = Viewing {
         grid,
         tops: &tops,
@@ -60,6 +73,6 @@ pub fn viewshed<R: Threads + Wait + Sync, G: Gate + Sync>(
         radius,
         tiling,
     };
-    let values = crew.made(GatedViewing { viewing, gate })?;
+    let values = runner.made(GatedViewing { viewing, gate })?;
     Ok(values)
 }

@@ -2,23 +2,24 @@
 ghost use Rattle.std.specs.Prelude.{◌↔◌, ◌+◌, ◌<◌, ◌^◌, IsTrue};
 ghost use Rattle.sight.specs.Hiding.{IsInRun};
 
-/// Cells in a row along a coordinate: the first, how many there are, and how far apart their marks stand.
+/// A run of cells along a coordinate: `cells` of them, from `first` on.
+/// Their marks are `stride` apart in the list of marks.
 #[derive(Clone, Copy)]
-pub struct Run {
+pub struct CellRun {
     pub first: u32,
     pub cells: u32,
     pub stride: usize,
 }
 
-/// A part of the grid whose cells have marks, along the coordinate that counts lines and along the lines.
+/// A part of the grid whose cells have marks: its runs across and along lines.
 #[derive(Clone, Copy)]
 pub struct Window {
-    pub lines: Run,
-    pub side: Run,
+    pub lines: CellRun,
+    pub side: CellRun,
 }
 
-impl Run {
-    /// Whether the coordinate is one of the run's.
+impl CellRun {
+    /// Whether a coordinate is in the run.
     #[inline(always)]
     pub(crate) fn has(self, coordinate: u32) -> bool
         requires { self.first + self.cells < 2 ^ 32 }

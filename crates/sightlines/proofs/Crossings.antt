@@ -1,4 +1,4 @@
--- The two walks of a line of sight are over its crossings with the columns and with the rows, from either end.
+-- The two walks of a line of sight meet its column and its row crossings, from either end.
 use Rattle.std.proofs.Common.{arith, refl, sym, ap, ◌∙◌, ◌≡◌, ◌+◌, ◌-◌, ◌*◌, ◌<◌, ◌≤◌, ℕ, ℤ, Option, None, get_or, length, max, inl, inr, List}
 use Rattle.std.specs.Int.{abs_diff}
 use Rattle.std.proofs.lemmas.Bool.{cases_lt}
@@ -17,7 +17,7 @@ use Rattle.std.proofs.lemmas.Int.{ints}
 use Rattle.sightlines.specs.declared.walk.Axis.{Axis}
 use Rattle.sightlines.specs.declared.walk.Sightline.{Sightline}
 
--- a cell of weight 0 takes no part
+-- a cell of weight 0 changes nothing
 above_same : (near near' far far' : Option ℤ) (v w : ℕ) (z : ℤ) → near ≡ near' → (0 < w → far ≡ far') → is_above near v far w z ≡ is_above near' v far' w z
 above_same near near' far far' v w z e same =
     elim (cases_lt 0 w) [
@@ -25,7 +25,7 @@ above_same near near' far far' v w z e same =
       | inr none ↦ let w_is : w ≡ 0 = omega arith in rw (e, w_is) refl
     ]
 
--- the height at a place whose index is told
+-- the height at a place with index i
 pub height_is : (t : Terrain) (r c i : ℕ) → r < t.rows → c < t.cols → i ≡ r * t.cols + c → height_at t (record { row = r; col = c }) ≡ get_or t.cells i None
 height_is t r c i a b e = entry-inside t.cols t.rows t.cells (record { row = r; col = c }) a b ∙ ap (λ n. get_or t.cells n None) (sym e)
 
@@ -68,7 +68,6 @@ column_blocks-walk t p q e f a b = let n = abs_diff p.col q.col in any_same _ _ 
 pub row_blocks-walk : (t : Terrain) (p q : Place) (e f : ℤ) → IsInside t p → IsInside t q → row_blocks t p q e f ≡ walk_blocks t.cells (over_rows t p q e f)
 row_blocks-walk t p q e f a b = let n = abs_diff p.row q.row in any_same _ _ 1 (n - 1) (λ k low high. row_step t p q e f k a b low high)
 
--- both walks stay in the list
 pub columns_in_list : (t : Terrain) (p q : Place) → length t.cells ≡ t.cols * t.rows → IsInside t p → IsInside t q → IsOver t.cells (columns_of p q) (rows_of t p q)
 columns_in_list t p q size a b = omega (arith, size, mul-add-lt (max p.row q.row) t.cols (max p.col q.col) t.rows (omega arith) (omega arith))
 
@@ -88,7 +87,6 @@ step_back : (cells : List (Option ℤ)) (lead side : Axis) (e f : ℤ) (n k : �
 step_back cells lead side e f n k h =
     rw (toward_back lead.from lead.to n k h, toward_back side.from side.to n k h, sight_back e f n k h) refl
 
--- the line from the other end
 abbrev pub reversed : Sightline → Sightline
 reversed l = record { lead = back l.lead; side = back l.side; from_level = l.to_level; to_level = l.from_level }
 

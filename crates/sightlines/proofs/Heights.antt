@@ -14,7 +14,7 @@ are_heights t is i h at = elim (cases_lt i (length t.cells)) [
   | inr past ↦ let none = get_or_past t.cells i None past in absurd (cc)
 ]
 
--- the ground of a cell, 0 where it has none
+-- the height of a cell, 0 where it has none, is within the limits
 pub ground_is_height : (height : Option ℤ) → ((h : ℤ) → height ≡ Some h → IsHeight h) → IsHeight (unwrap_or height (pos 0))
 ground_is_height None are = (omega (arith, ints), omega (arith, ints))
 ground_is_height (Some h) are = are h refl
@@ -22,16 +22,15 @@ ground_is_height (Some h) are = are h refl
 pub height_fits : (h : ℤ) → IsHeight h → FitsSigned w64 h
 height_fits h is = omega (arith, ints, is)
 
--- a height as it is passed on
+-- a height is within the limits after a conversion to a word
 pub kept : (h : ℤ) → IsHeight h → IsHeight (to_z w64 (of_z w64 h))
 kept h is = rw (to_z-of_z w64 h (height_fits h is)) is
 
--- a cell that was read by its index
 pub has_height : (cells : List (Option ℤ)) (index : ℕ) {cell height : Option ℤ} {h : ℤ} → cell ≡ get_or cells index cell → height ≡ cell → height ≡ Some h → index < length cells →
     get_or cells index None ≡ Some h
 has_height cells index {cell = cell} read same is below = sym (read ∙ get_or_default cells index cell None below) ∙ sym same ∙ is
 
--- a height as it is weighed
+-- the product of a height and a weight fits
 pub weighed_is : (h : ℤ) (n : ℕ) → n ≤ 4096 → IsHeight h → let z = to_z w64 n *ℤ to_z w64 (of_z w64 h) in FitsSigned w64 z × (to_z w64 (of_z w64 z) ≡ pos n *ℤ h)
 weighed_is h n few is =
     let fits = fits_signed_mul w64 (pos n) h 4096 (10 ^ 15) few (omega (arith, ints, is)) (omega arith) in

@@ -1,4 +1,4 @@
--- How the line of sight rises, and that all its levels fit.
+-- Levels along a line of sight: they fit, and the walk computes them.
 use Rattle.std.proofs.Common.{arith, sym, ◌∙◌, ◌≡◌, ◌+◌, ◌-◌, ◌<◌, ◌≤◌, ℕ, ℤ, pos, unsigned_abs, ◌^◌, ◌*◌, ◌+ℤ◌, ◌-ℤ◌, ◌*ℤ◌, FitsSigned}
 use Rattle.std.specs.Int.{w64}
 use mir.Val.{to_z, of_z}
@@ -14,18 +14,17 @@ sight_none e f n = rw (sub-zero n) (omega (arith, ints))
 rises : (e f : ℤ) (k m r : ℕ) → ((e *ℤ pos r) +ℤ (f *ℤ pos (k + m))) ≡ ((e *ℤ pos (r + m)) +ℤ (f *ℤ pos k)) +ℤ ((f *ℤ pos m) -ℤ (e *ℤ pos m))
 rises e f k m r = omega (arith, ints)
 
--- m steps on
+-- the sight after m more steps
 pub sight_on : (e f : ℤ) (n k m : ℕ) → k + m ≤ n → sight e f n (k + m) ≡ sight e f n k +ℤ ((f *ℤ pos m) -ℤ (e *ℤ pos m))
 sight_on e f n k m h = let split : n - k ≡ (n - (k + m)) + m = omega arith in rw split (rises e f k m (n - (k + m)))
 
 pub sight_more : (e f : ℤ) (n k : ℕ) → k < n → sight e f n (k + 1) ≡ sight e f n k +ℤ (f -ℤ e)
 sight_more e f n k h = omega (arith, ints, sight_on e f n k 1 (omega arith))
 
--- a product of small numbers
 pub times_small : (a b : ℤ) (m n : ℕ) → unsigned_abs a ≤ m → unsigned_abs b ≤ n → unsigned_abs (a *ℤ b) ≤ m * n
 times_small a b m n p q = omega (arith, unsigned_abs-mul a b, mul-le (unsigned_abs a) (unsigned_abs b) m n p q)
 
--- what lies between two levels is no larger
+-- a weighted sum of two levels is small
 pub between_small : (e f : ℤ) (m r k n : ℕ) → unsigned_abs e ≤ m → unsigned_abs f ≤ m → r + k ≤ n → unsigned_abs ((e *ℤ pos r) +ℤ (f *ℤ pos k)) ≤ m * n
 between_small e f m r k n p q few =
     let a = times_small e (pos r) m r p (omega arith) in
@@ -35,7 +34,6 @@ between_small e f m r k n p q few =
 pub sight_bounded : (e f : ℤ) (n k : ℕ) → IsLevel e → IsLevel f → k ≤ n → n ≤ 4096 → unsigned_abs (sight e f n k) ≤ 2 ^ 62
 sight_bounded e f n k p q h l = omega (arith, between_small e f (2 ^ 50) (n - k) k 4096 p q (omega arith))
 
--- what the walk computes fits
 fits : (z : ℤ) → unsigned_abs z ≤ 2 ^ 62 → FitsSigned w64 z
 fits z small = omega (arith, ints)
 
@@ -48,7 +46,7 @@ sight_fits e f n k p q h l = fits (sight e f n k) (sight_bounded e f n k p q h l
 pub scaled_fits : (e : ℤ) (n : ℕ) → IsLevel e → n ≤ 4096 → FitsSigned w64 (e *ℤ pos n)
 scaled_fits e n p h = rw (← sight_none e e n) (sight_fits e e n 0 p p (omega arith) h)
 
--- the same, as it is reckoned
+-- a scaled level fits, as the code computes it
 pub scaled_as_reckoned : (e : ℤ) (n : ℕ) → IsLevel e → n ≤ 4096 → FitsSigned w64 (to_z w64 (of_z w64 e) *ℤ to_z w64 n)
 scaled_as_reckoned e n p h = rw (to_z-of_z w64 e (level_fits e p), to_z_pos w64 n (omega arith)) (scaled_fits e n p h)
 
@@ -58,7 +56,7 @@ rise_fits e f p q = omega (arith, ints)
 pub more_fits : (e f : ℤ) (n k : ℕ) → IsLevel e → IsLevel f → k < n → n ≤ 4096 → FitsSigned w64 (sight e f n k +ℤ (f -ℤ e))
 more_fits e f n k p q h l = let is = sight_bounded e f n (k + 1) p q (omega arith) l in fits (sight e f n k +ℤ (f -ℤ e)) (rw (sight_more e f n k h) at is)
 
--- the next level, as the walk adds it up
+-- the next level, as the walk computes it
 pub next_level : (e f : ℤ) (n k bits : ℕ) → IsLevel e → IsLevel f → k < n → n ≤ 4096 → to_z w64 bits ≡ sight e f n k
     → let sum = to_z w64 bits +ℤ to_z w64 (of_z w64 (to_z w64 (of_z w64 f) -ℤ to_z w64 (of_z w64 e))) in FitsSigned w64 sum × (to_z w64 (of_z w64 sum) ≡ sight e f n (k + 1))
 next_level e f n k bits p q h l was =
@@ -75,7 +73,7 @@ scaled_small e m p h = times_small e (pos m) (2 ^ 50) 4095 p (omega arith)
 leap_fits : (e f : ℤ) (m : ℕ) → IsLevel e → IsLevel f → m < 4096 → FitsSigned w64 ((f *ℤ pos m) -ℤ (e *ℤ pos m))
 leap_fits e f m p q h = omega (arith, ints, scaled_small e m p h, scaled_small f m q h)
 
--- how much the sight rises in m steps, as it is reckoned
+-- the rise of the sight in m steps, as the code computes it
 pub rise_is : (e f : ℤ) (m : ℕ) → IsLevel e → IsLevel f → m < 4096
     → let rise = to_z w64 (of_z w64 (to_z w64 (of_z w64 f) *ℤ to_z w64 m)) -ℤ to_z w64 (of_z w64 (to_z w64 (of_z w64 e) *ℤ to_z w64 m)) in FitsSigned w64 rise × (to_z w64 (of_z w64 rise) ≡ (f *ℤ pos m) -ℤ (e *ℤ pos m))
 rise_is e f m p q h =
@@ -87,7 +85,7 @@ rise_is e f m p q h =
     let fit = leap_fits e f m p q h in
     rw (from, to, count, one, two) (fit, to_z-of_z w64 ((f *ℤ pos m) -ℤ (e *ℤ pos m)) fit)
 
--- the level after a leap, as it is added up
+-- the level after a leap, as the code computes it
 pub leapt_level : (e f z rise : ℤ) (n k m : ℕ) → IsLevel e → IsLevel f → k + m ≤ n → n < 4096 → z ≡ sight e f n k → rise ≡ (f *ℤ pos m) -ℤ (e *ℤ pos m)
     → let sum = to_z w64 (of_z w64 z) +ℤ to_z w64 (of_z w64 rise) in FitsSigned w64 sum × (to_z w64 (of_z w64 sum) ≡ sight e f n (k + m))
 leapt_level e f z rise n k m p q h few z_is rise_is =

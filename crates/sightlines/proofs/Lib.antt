@@ -1,4 +1,4 @@
--- worked rows
+-- worked examples
 pub mod Rows
 -- a line of sight, step by step
 pub mod Ground
@@ -8,7 +8,7 @@ pub mod Heights
 pub mod Levels
 mod Steps
 mod Ranges
--- its crossings, from either end
+-- the crossings of a line, from either end
 pub mod Crossings
 pub mod Seen
 -- blocks of cells below the line

@@ -1,4 +1,4 @@
--- A line that passes over blocks: where it is between two of its steps, and that no crossing blocks there.
+-- Lines above blocks: where they are between two steps, and that no crossing blocks there.
 use Rattle.std.proofs.Common.{arith, refl, sym, ap, subst, ◌∙◌, ◌≡◌, ◌+◌, ◌-◌, ◌*◌, ◌/◌, ◌<◌, ◌≤◌, ℕ, ℤ, pos, ◌+ℤ◌, ◌*ℤ◌, ◌≤ℤ◌, false, int_lt, List, Option, None, Some, get_or, min, max, inl, inr}
 use borrow.Author.Differences.{up, down}
 use Rattle.std.proofs.lemmas.Int.{ints}
@@ -19,7 +19,7 @@ use Rattle.terrain.specs.Neighbours.{IsInside}
 use Rattle.terrain.specs.declared.place.Place.{Place}
 use Rattle.sightlines.proofs.Crossings.{height_is}
 
--- a sum of two ends, where the weight goes over from the one to the other
+-- a weighted sum of two ends grows as weight moves to the greater one
 rising : (a b i p q r : ℕ) → a ≤ b → (a * (p + (q + r)) + b * i ≤ a * (q + r) + b * (i + p)) × (a * (q + r) + b * (i + p) ≤ a * r + b * (i + p + q))
 rising a b i p q r h = (omega (arith, mul-le a p b p h (omega arith)), omega (arith, mul-le a q b q h (omega arith)))
 
@@ -33,7 +33,7 @@ between_parts a b i p q r =
       | inr high ↦ let is = falling a b i p q r high in (omega (arith, is), omega (arith, is))
     ]
 
--- the line is between where it is at an earlier and at a later step
+-- at a step between two others, a line is between its places at these
 pub toward_between : (a b n i j k : ℕ) → i ≤ k → k ≤ j → j ≤ n → (min (toward a b n i) (toward a b n j) ≤ toward a b n k) × (toward a b n k ≤ max (toward a b n i) (toward a b n j))
 toward_between a b n i j k low high few =
     let k_is : k ≡ i + (k - i) = omega arith in
@@ -46,7 +46,6 @@ toward_between a b n i j k low high few =
     let three : toward a b n j ≡ a * (n - j) + b * (i + (k - i) + (j - k)) = ap (λ z. a * (n - j) + b * z) j_is in
     (omega (arith, is, one, two, three), omega (arith, is, one, two, three))
 
--- a greater number has no smaller quotient
 pub div_le : (x y n : ℕ) → 0 < n → x ≤ y → x / n ≤ y / n
 div_le x y n some h =
     elim (cases_lt (y / n) (x / n)) [
@@ -76,7 +75,7 @@ whole_between a n i j k some low high few =
     let tk = toward a.from a.to n k in
     (omega (arith, div_min ti tj n some, div_le (min ti tj) tk n some is.0), omega (arith, div_max ti tj n some, div_le tk (max ti tj) n some is.1))
 
--- the sight is not below both of an earlier and a later one
+-- a sight of at least z at an earlier and a later step is at least z between them
 sight_parts : (e f z : ℤ) (i p q r : ℕ) → z ≤ℤ ((e *ℤ pos (p + (q + r))) +ℤ (f *ℤ pos i)) → z ≤ℤ ((e *ℤ pos r) +ℤ (f *ℤ pos (i + p + q)))
     → z ≤ℤ ((e *ℤ pos (q + r)) +ℤ (f *ℤ pos (i + p)))
 sight_parts e f z i p q r one two =
@@ -96,7 +95,7 @@ sight_between e f z n i j k low high few one two =
     let at_j : sight e f n j ≡ ((e *ℤ pos (n - j)) +ℤ (f *ℤ pos (i + (k - i) + (j - k)))) = ap (λ x. (e *ℤ pos (n - j)) +ℤ (f *ℤ pos x)) j_is in
     rw at_k (sight_parts e f z i (k - i) (j - k) (n - j) (rw at_i at one) (rw at_j at two))
 
--- between two heights, the ground is not above what neither is above
+-- a weighted sum of two heights is not above a bound of both
 mixed : (g h z : ℤ) (v w : ℕ) → (pos (v + w) *ℤ g) ≤ℤ z → (pos (v + w) *ℤ h) ≤ℤ z → (pos v *ℤ g +ℤ pos w *ℤ h) ≤ℤ z
 mixed g h z v w one two =
     elim (cases_lt (up g + down h) (up h + down g)) [
@@ -127,7 +126,6 @@ low_not_above (Some g) far v w z some one two =
     both None part low = rw (weighed_height-some (Some g) v some, weighed_height-some None w part) refl
     both (Some h) part low = above_both g h v w z some part ∙ not_above z (pos v *ℤ g +ℤ pos w *ℤ h) (mixed g h z v w (one g refl) (low h refl))
 
--- a height of a low block is low
 low_height : (top : Option ℤ) (n : ℕ) (z h : ℤ) → IsTopOf top h → IsLow top n z → (pos n *ℤ h) ≤ℤ z
 low_height None n z h above low = absurd above
 low_height (Some m) n z h above low = omega (arith, ints, above, low, mul-le n (up h + down m) n (up m + down h) (omega arith) (omega (arith, ints, above)))
@@ -136,7 +134,7 @@ pub low_more : (top : Option ℤ) (n : ℕ) (z w : ℤ) → z ≤ℤ w → IsLow
 low_more None n z w h low = tt
 low_more (Some m) n z w h low = omega (arith, ints, h, low)
 
--- a line above the blocks that it meets between two steps is not blocked there
+-- a line above the blocks between two steps is not blocked there
 pub step_passed : (size : ℕ) (cells tops : List (Option ℤ)) (line : Sightline) (s : BlockStrides) (i j k block : ℕ) (start end : Step)
     → 0 < steps_of line → i ≤ k → k < j → j ≤ steps_of line → IsAt line i start → IsAt line j end → AreTopsAlong size cells tops line s
     → whole_at line.lead (steps_of line) k / size ≡ block → AreLowBetween size tops s line block start end
@@ -171,7 +169,7 @@ step_passed size cells tops line s i j k block start end some low high few at_st
     (λ part h is. low_at (b + 1) (omega (arith, between, at_start.whole, at_end.whole)) (omega (arith, between, at_start.whole, at_end.whole))
     (whole_lt line.side n k some (omega arith) part) h (ap (λ x. get_or cells x None) beside ∙ is))
 
--- nor is a line above the peak from one step on
+-- a line above the peak from one step on is not blocked from there on
 pub step_above : (size : ℕ) (cells tops : List (Option ℤ)) (line : Sightline) (s : BlockStrides) (peak : ℤ) (i k : ℕ) (start : Step)
     → 0 < steps_of line → i ≤ k → k < steps_of line → IsAt line i start → AreTopsAlong size cells tops line s → IsPeak tops peak → (pos (steps_of line) *ℤ peak) ≤ℤ start.sight → peak ≤ℤ line.to_level
     → step_blocks cells line.lead line.side line.from_level line.to_level (steps_of line) k ≡ false
@@ -209,7 +207,7 @@ step_above size cells tops line s peak i k start some low high at_start is_top i
     below_peak None p h is all = absurd is
     below_peak (Some x) p h is all = omega (arith, ints, is, all x refl)
 
--- a number below an end is in one of the blocks before it
+-- a number below an end is in one of the blocks before that end
 pub block_before : (size r rows : ℕ) → 0 < size → r < rows → r / size < blocks_in size rows
 block_before size r rows some below =
     let next : (size + r) / size ≡ r / size + 1 = add-div_left r some in
@@ -220,7 +218,7 @@ pub block_below : (size cols rows r c : ℕ) → 0 < size → r < rows → c < c
 block_below size cols rows r c some a b =
     omega (arith, mul-add-lt (r / size) (blocks_in size cols) (c / size) (blocks_in size rows) (block_before size r rows some a) (block_before size c cols some b))
 
--- the top over a place, whose index in the list of tops is told
+-- the entry for the block of a place, by their indices i and j
 top_at : (size : ℕ) (t : Terrain) (tops : List (Option ℤ)) (r c i j : ℕ) (h : ℤ) → AreTops size t tops → r < t.rows → c < t.cols → i ≡ r * t.cols + c → j ≡ r / size * blocks_in size t.cols + c / size
     → get_or t.cells i None ≡ Some h → IsTopOf (get_or tops j None) h
 top_at size t tops r c i j h are a b i_is j_is is =

@@ -1,4 +1,4 @@
--- Where a line is at a crossing, in signed numbers.
+-- The place of a line at a crossing, in signed numbers.
 use Rattle.std.proofs.Common.{arith, sym, ap, ◌∙◌, ◌≡◌, ◌+◌, ◌-◌, ◌*◌, ◌/◌, ◌%◌, ℕ, pos, ◌+ℤ◌, ◌-ℤ◌, ◌*ℤ◌}
 use borrow.Author.Differences.{up, down}
 use Rattle.std.proofs.lemmas.Int.{ints}
@@ -8,7 +8,7 @@ use Rattle.sightlines.specs.Sight.{toward, CrossingsAreOnTheLine}
 apart : (b a : ℕ) → up (pos b -ℤ pos a) + a ≡ down (pos b -ℤ pos a) + b
 apart b a = omega (arith, ints)
 
--- the same over plain numbers, where r steps are left of r + k
+-- the equation over natural numbers gives the signed one, with r steps left of r + k
 signed : (a b k r x m : ℕ) → x * (r + k) + m ≡ a * r + b * k → (pos b -ℤ pos a) *ℤ pos k ≡ ((pos x -ℤ pos a) *ℤ pos (r + k)) +ℤ pos m
 signed a b k r x m e = omega (arith, ints, ap (λ z. z * k) (apart b a), ap (λ z. z * (r + k)) (apart x a))
 

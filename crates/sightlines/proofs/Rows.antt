@@ -1,4 +1,4 @@
--- What the definitions say of the crossings of a small grid, by computation.
+-- Crossings of a small grid, computed from the definitions.
 use Rattle.std.proofs.Common.{◌≡◌, ℕ, List, [], ◌∷◌, Option, Some, ℤ, pos, negsuc, refl}
 use Rattle.terrain.specs.Raster.{Terrain}
 use Rattle.terrain.specs.declared.place.Place.{Place}

@@ -1,4 +1,4 @@
--- What is seen, by the two lines from the target to the observer.
+-- An observer sees a target where neither of the two lines between them is blocked.
 use Rattle.std.proofs.Common.{arith, refl, sym, ap, ◌∙◌, ◌≡◌, ℤ, pos, ◌+ℤ◌, ℕ, Bool, true, false, not, ◌&&◌, Some, is_some}
 use Rattle.terrain.specs.Raster.{Terrain, IsTerrain}
 use Rattle.terrain.specs.Neighbours.{IsInside, height_at}
@@ -8,7 +8,7 @@ use Rattle.sightlines.specs.Walk.{walk_blocks, over_columns, over_rows, IsLevel,
 use Rattle.terrain.specs.declared.observer.Observer.{Observer}
 use Rattle.sightlines.proofs.Crossings.{column_blocks-walk, row_blocks-walk, columns_in_list, rows_in_list, walk_back}
 
--- once both ends have heights and are near each other
+-- with data at both ends and a target within the radius, the crossings decide
 seen_is : (t : Terrain) (o : Observer) (q : Place) (target radius : ℕ) (from to : ℤ) → IsInside t (place_of o) → IsInside t q
     → height_at t (place_of o) ≡ Some from → height_at t q ≡ Some to → is_near (place_of o) q radius ≡ true
     → let p = place_of o in let e = from +ℤ pos o.eye in let f = to +ℤ pos target in
@@ -23,7 +23,7 @@ seen_is t o q target radius from to a b from_is to_is near =
     let back_rows = walk_back t.cells (over_rows t p q e f) in
     rw (from_is, to_is, near, cs, rs, back_columns, back_rows) refl
 
--- no place out of reach is seen
+-- no place outside the radius is seen
 out_of_reach : (a b c : Bool) → (a && b && false && c) ≡ false
 out_of_reach false b c = refl
 out_of_reach true true c = refl
@@ -72,7 +72,6 @@ lines_are t o q target radius from to is a b from_is to_is near e_level f_level 
       reached = reached_is t o q target radius from to from_is to_is near;
     }
 
--- a line that is blocked hides
 pub hidden_by_columns : (seen a b : Bool) → seen ≡ (not a && not b) → a ≡ true → false ≡ seen
 hidden_by_columns seen a b is blocked = sym (is ∙ ap (λ x. not x && not b) blocked)
 
@@ -80,7 +79,7 @@ pub hidden_by_rows : (seen a b : Bool) → seen ≡ (not a && not b) → b ≡ t
 hidden_by_rows seen true b is blocked = sym is
 hidden_by_rows seen false b is blocked = sym (is ∙ ap not blocked)
 
--- a place is seen unless a crossing blocks, where the rows' first crossings do not, or do
+-- the rows' first crossings and the test of all crossings decide what is seen
 pub seen_if_open : (seen is_open a b rows : Bool) → seen ≡ (not a && not b) → seen ≡ is_open → (rows ≡ true → b ≡ true) → (not rows && is_open) ≡ seen
 seen_if_open seen is_open a b true is same told = hidden_by_rows seen a b is (told refl)
 seen_if_open seen is_open a b false is same told = sym same

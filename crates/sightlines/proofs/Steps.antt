@@ -1,4 +1,4 @@
--- What a walk's index and part are at the next step, and that the cells it weighs are in the list.
+-- The index and part of a walk's next step, and that its cells are in the list.
 use Rattle.std.proofs.Common.{arith, ap, ◌≡◌, ◌+◌, ◌*◌, ◌^◌, ◌/◌, ◌%◌, ◌<◌, ◌≤◌, ℕ, ℤ, Option, List, length, max, inl, inr}
 use Rattle.std.specs.Int.{abs_diff}
 use Rattle.std.proofs.lemmas.Bool.{cases_lt}
@@ -10,14 +10,13 @@ use Rattle.sightlines.specs.declared.walk.Axis.{Axis}
 use Rattle.sightlines.specs.declared.walk.Pace.{Pace}
 use Rattle.sightlines.proofs.Toward.{toward_le, step_stays, step_passes, lead_whole, lead_part}
 
--- the leading coordinate
 lead_step : (a : Axis) (n k ahead behind part : ℕ) → n ≡ abs_diff a.from a.to → 0 < n → k < n → Gains a n 1 ahead behind part → whole_at a n (k + 1) + behind ≡ whole_at a n k + ahead
 lead_step a n k ahead behind part e some h gains =
     let none : part ≡ 0 = lead_part a.from a.to n ahead behind part e (omega (arith, gains.sum)) gains.below in
     let whole : toward a.from a.to n k % n ≡ 0 = lead_whole a.from a.to n k e some (omega arith) in
     (step_stays a.from a.to n k 1 ahead behind part (omega arith) gains.sum (omega arith)).0
 
--- what an index is, when both coordinates have moved on
+-- the index after both coordinates have moved
 moved : (x y s t la lb sa sb x' y' one : ℕ) → x' + lb ≡ x + la → y' + sb ≡ y + sa + one → x' * s + y' * t + (lb * s + sb * t) ≡ x * s + y * t + (la * s + sa * t) + one * t
 moved x y s t la lb sa sb x' y' one p q = omega (arith, ap (λ z. z * s) p, ap (λ z. z * t) q)
 
@@ -37,7 +36,7 @@ index_passes lead side n k pace e h p passed =
     let both = moved (whole_at lead n k) (whole_at side n k) lead.stride side.stride p.lead_ahead p.lead_behind p.side_ahead p.side_behind (whole_at lead n (k + 1)) (whole_at side n (k + 1)) 1 one two.0 in
     (omega (arith, both, p.ahead, p.behind, p.beside), two.1)
 
--- a coordinate is not past its greater end
+-- a coordinate is at most its greater end
 pub whole_le : (a : Axis) (n k : ℕ) → 0 < n → k ≤ n → whole_at a n k ≤ max a.from a.to
 whole_le a n k some h =
     let t = toward a.from a.to n k in
@@ -46,7 +45,7 @@ whole_le a n k some h =
       | inr low ↦ low
     ]
 
--- nor, where it is past a whole, the cell beside it
+-- if the part is above 0, the next cell is at most the greater end
 pub whole_lt : (a : Axis) (n k : ℕ) → 0 < n → k ≤ n → 0 < part_at a n k → whole_at a n k + 1 ≤ max a.from a.to
 whole_lt a n k some h parts =
     let t = toward a.from a.to n k in
@@ -63,7 +62,6 @@ pub far_inside : (cells : List (Option ℤ)) (lead side : Axis) (n k : ℕ) → 
 far_inside cells lead side n k over some h parts =
     omega (arith, over, mul-le (whole_at lead n k) lead.stride (max lead.from lead.to) lead.stride (whole_le lead n k some h) (omega arith), mul-le (whole_at side n k + 1) side.stride (max side.from side.to) side.stride (whole_lt side n k some h parts) (omega arith))
 
--- all of a step's sums fit
 pub room : (lead side : Axis) (n k : ℕ) (pace : Pace) → 0 < n → k ≤ n → IsPace lead side n pace → (lead.from < 4096) × (lead.to < 4096) × (side.from < 4096) × (side.to < 4096) → (lead.stride ≤ 4096) × (side.stride ≤ 4096)
     → index_at lead side n k + pace.ahead + pace.beside < 2 ^ 64
 room lead side n k pace some h p ends strides =
@@ -73,7 +71,7 @@ room lead side n k pace some h p ends strides =
     let d = mul-le p.side_ahead side.stride 4096 4096 (omega (arith, p.side_gains.few_ahead)) strides.1 in
     omega (arith, a, b, c, d, p.ahead, p.beside)
 
--- what `next` answers is the next step's
+-- `next` returns the index and the part of the next step
 pub next_is : (lead side : Axis) (n k : ℕ) (pace : Pace) (index part : ℕ) → n ≡ abs_diff lead.from lead.to → k < n → IsPace lead side n pace
     → (part_at side n k + pace.part < pace.steps → (index + pace.behind ≡ index_at lead side n k + pace.ahead) × (part ≡ part_at side n k + pace.part))
     → (pace.steps ≤ part_at side n k + pace.part → (index + pace.behind ≡ index_at lead side n k + pace.ahead + pace.beside) × (part + pace.steps ≡ part_at side n k + pace.part))

@@ -1,4 +1,4 @@
--- Where a line is along an axis, step by step.
+-- The place of a line along an axis, step by step.
 use Rattle.std.proofs.Common.{arith, sym, ap, ◌∙◌, ◌≡◌, ◌+◌, ◌-◌, ◌*◌, ◌/◌, ◌%◌, ◌<◌, ◌≤◌, ℕ, max, inl, inr}
 use Rattle.std.specs.Int.{abs_diff}
 use Rattle.std.proofs.Math.Nat.{zero-mod}
@@ -6,7 +6,7 @@ use Rattle.std.proofs.lemmas.Bool.{cases_lt, lt-ltb, le-ltb}
 use Rattle.std.proofs.lemmas.Nat.{div-mul-add, mod-mul-add, div-add-mod', mul-le, mod_below}
 use Rattle.sightlines.specs.Sight.{toward, onward}
 
--- what a quotient and a remainder are, where the number is told with something added to both sides
+-- a quotient and a remainder, from an equation with `back` added to both sides
 pub quotient_is : (t x n m back : ℕ) → t + back * n ≡ x * n + m → m < n → (t / n + back ≡ x) × (t % n ≡ m)
 quotient_is t x n m back e below =
     let low : back ≤ x = elim (cases_lt x back) [
@@ -26,14 +26,13 @@ toward_more a b n k m h = let e : n - k ≡ (n - (k + m)) + m = omega arith in r
 within : (a b m k r : ℕ) → a ≤ m → b ≤ m → a * r + b * k ≤ m * (r + k)
 within a b m k r p q = omega (arith, mul-le a r m r p (omega arith), mul-le b k m k q (omega arith))
 
--- the line stays below the greater end
 pub toward_le : (a b n k : ℕ) → k ≤ n → toward a b n k ≤ max a b * n
 toward_le a b n k h =
     let e : n ≡ (n - k) + k = omega arith in
     let fact : toward a b n k ≤ max a b * ((n - k) + k) = within a b (max a b) k (n - k) (omega arith) (omega arith) in
     omega (arith, ap (λ z. max a b * z) e)
 
--- m steps on, where the parts stay below a whole and where they pass it
+-- the place after m more steps, where the parts stay below a cell and where they fill one
 pub step_stays : (a b n k m ahead behind part : ℕ) → k + m ≤ n → m * b + behind * n ≡ m * a + ahead * n + part → toward a b n k % n + part < n
     → (toward a b n (k + m) / n + behind ≡ toward a b n k / n + ahead) × (toward a b n (k + m) % n ≡ toward a b n k % n + part)
 step_stays a b n k m ahead behind part h gains below =
@@ -76,7 +75,7 @@ lead_whole a b n k e some h =
       | inr high ↦ rw (lead_down a b n k (omega arith) h) (mod-mul-add (b + (n - k)) n 0 some)
     ]
 
--- the whole cell, counted from the one end
+-- the whole cell, counted from the lower end
 pub lead_up_is : (a b n k : ℕ) → b ≡ a + n → 0 < n → k ≤ n → toward a b n k / n ≡ a + k
 lead_up_is a b n k e some h = rw (lead_up a b n k e h) (div-mul-add (a + k) n 0 some)
 

@@ -1,5 +1,6 @@
--- Blocks of so many by so many cells and their greatest heights, over which a walk along a line of sight passes. Of it
--- public clauses cite `blocks_in` and `IsTops`.
+-- Blocks of `size` by `size` cells with their greatest heights, and when a line of sight skips one.
+-- Public clauses cite `blocks_in` and `IsTops` alone.
+-- Public.
 use Rattle.std.specs.Prelude.{◌≡◌, ℕ, ◌+◌, ◌-◌, ◌*◌, ◌/◌, ◌<◌, ◌≤◌, ℤ, pos, ◌*ℤ◌, ◌≤ℤ◌, List, length, Option, None, Some, MatchOption, slice_index_or, min, max}
 use Rattle.terrain.specs.Raster.{Terrain, IsHeight}
 use Rattle.terrain.specs.Neighbours.{height_at}
@@ -8,52 +9,57 @@ use Rattle.sightlines.specs.Walk.{steps_of, AreHeights}
 use Rattle.sightlines.specs.declared.walk.Sightline.{Sightline}
 use Rattle.sightlines.specs.declared.walk.Step.{Step}
 use Rattle.sightlines.specs.declared.passing.BlockStrides.{BlockStrides}
-use Rattle.sightlines.specs.declared.tops.Tops.{Tops}
+use Rattle.sightlines.specs.declared.tops.MaxHeights.{MaxHeights}
 
--- How many blocks side by side hold n cells.
+-- The number of blocks, side by side, that hold n cells.
 abbrev pub blocks_in : ℕ → ℕ → ℕ
 blocks_in size n = (n + (size - 1)) / size
 
--- Where the block of a place stands in a list of blocks in row order.
+-- The index of the block of a place, in a list of blocks in row order.
 abbrev pub block_of : ℕ → Terrain → Place → ℕ
 block_of size t p = p.row / size * blocks_in size t.cols + p.col / size
 
--- A block's height is there, and h is not above it.
+-- A block has a greatest height, and height h is not above it.
 abbrev pub IsTopOf : Option ℤ → ℤ → Type 0
 IsTopOf top h = MatchOption top ⊥ (λ m. h ≤ℤ m)
 
--- The list has a height for each block, which none of the block's heights is above.
+-- The list has an entry for each block. No height of a block is above its entry.
 pub record AreTops (size : ℕ) (t : Terrain) (tops : List (Option ℤ)) : Type 0 where
   pub count : length tops ≡ blocks_in size t.rows * blocks_in size t.cols
   pub heights : AreHeights tops
-  pub above : (p : Place) (h : ℤ) → height_at t p ≡ Some h → IsTopOf (slice_index_or tops (block_of size t p) None) h
+  pub above : (p : Place) (h : ℤ) → height_at t p ≡ Some h →
+      IsTopOf (slice_index_or tops (block_of size t p) None) h
 
--- No block's height is above a peak.
+-- No block's entry is above the peak.
 abbrev pub IsPeak : List (Option ℤ) → ℤ → Type 0
 IsPeak tops peak = (i : ℕ) (h : ℤ) → slice_index_or tops i None ≡ Some h → h ≤ℤ peak
 
--- The greatest heights of near blocks and of far ones, and a height that no far block is above.
-pub record IsTops (t : Terrain) (tops : Tops) : Type 0 where
+-- Entries for the near and the far blocks, and a peak that no far block's entry is above.
+pub record IsTops (t : Terrain) (tops : MaxHeights) : Type 0 where
   pub near : AreTops 16 t tops.near.items
   pub far : AreTops 128 t tops.far.items
   pub height : IsHeight tops.peak
   pub peak : IsPeak tops.far.items tops.peak
 
--- The greatest heights of blocks along the two coordinates of a line.
-pub record AreTopsAlong (size : ℕ) (cells tops : List (Option ℤ)) (l : Sightline) (s : BlockStrides) : Type 0 where
+-- Along both coordinates of a line, no height of a block is above the block's entry.
+pub record AreTopsAlong (size : ℕ) (cells tops : List (Option ℤ)) (l : Sightline)
+    (s : BlockStrides) : Type 0 where
   pub heights : AreHeights tops
-  pub over : max l.lead.from l.lead.to / size * s.lead + max l.side.from l.side.to / size * s.side < length tops
+  pub over : max l.lead.from l.lead.to / size * s.lead + max l.side.from l.side.to / size * s.side
+      < length tops
   pub above : (a b : ℕ) (h : ℤ) → a ≤ max l.lead.from l.lead.to → b ≤ max l.side.from l.side.to
       → slice_index_or cells (a * l.lead.stride + b * l.side.stride) None ≡ Some h
       → IsTopOf (slice_index_or tops (a / size * s.lead + b / size * s.side) None) h
 
--- A block whose height, taken n times, is not above the sight, or that has none.
+-- The block is NODATA, or n times its entry is not above the sight z.
 abbrev pub IsLow : Option ℤ → ℕ → ℤ → Type 0
 IsLow top n z = MatchOption top (Unit {0}) (λ m. (pos n *ℤ m) ≤ℤ z)
 
--- The blocks that a line can meet between two of its steps, in one row of blocks: they are low at both steps.
+-- All blocks that a line can meet between two steps are low at both. Between the steps the leading
+-- coordinate stays in one block.
 abbrev pub AreLowBetween : ℕ → List (Option ℤ) → BlockStrides → Sightline → ℕ → Step → Step → Type 0
 AreLowBetween size tops s l block start end =
-    (cell : ℕ) → min start.whole end.whole ≤ cell → cell ≤ max start.whole end.whole + 1 → cell ≤ max l.side.from l.side.to
+    (cell : ℕ) → min start.whole end.whole ≤ cell → cell ≤ max start.whole end.whole + 1 →
+    cell ≤ max l.side.from l.side.to
     → let top = slice_index_or tops (block * s.lead + cell / size * s.side) None in
     IsLow top (steps_of l) start.sight × IsLow top (steps_of l) end.sight

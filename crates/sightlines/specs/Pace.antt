@@ -1,4 +1,5 @@
--- How a walk along a line of sight goes on from step to step. No public clause cites it.
+-- How the numbers of a walk along a line of sight change from step to step.
+-- Private.
 use Rattle.std.specs.Prelude.{◌≡◌, ℕ, ◌+◌, ◌*◌, ◌<◌, ◌≤◌, pos, ◌-ℤ◌, ◌*ℤ◌}
 use Rattle.sightlines.specs.declared.walk.Axis.{Axis}
 use Rattle.sightlines.specs.declared.walk.Leap.{Leap}
@@ -6,19 +7,19 @@ use Rattle.sightlines.specs.declared.walk.Pace.{Pace}
 use Rattle.sightlines.specs.declared.walk.Sightline.{Sightline}
 use Rattle.sightlines.specs.Walk.{steps_of}
 
--- In m of n steps a coordinate gains `ahead` cells, less `behind`, and `part` n-ths of one.
+-- In m of n steps a coordinate moves by `ahead` cells less `behind`, and by `part` n-ths of a cell.
 pub record Gains (a : Axis) (n m ahead behind part : ℕ) : Type 0 where
   pub sum : m * a.to + behind * n ≡ m * a.from + ahead * n + part
   pub below : part < n
   pub few_ahead : ahead ≤ m * a.to
   pub few_behind : behind ≤ m * a.from
 
--- So does a line at its side in m steps, and its sight rises so much.
+-- The leap is the move of a line at its side in m steps, and the change of its sight.
 pub record IsLeap (l : Sightline) (m : ℕ) (leap : Leap) : Type 0 where
   pub gains : Gains l.side (steps_of l) m leap.ahead leap.behind leap.part
   pub rise : leap.rise ≡ (l.to_level *ℤ pos m) -ℤ (l.from_level *ℤ pos m)
 
--- The index gains what both coordinates do.
+-- The pace is the change in one step of the near cell's index and of the part past it.
 pub record IsPace (lead side : Axis) (n : ℕ) (pace : Pace) : Type 0 where
   pub lead_ahead : ℕ
   pub lead_behind : ℕ

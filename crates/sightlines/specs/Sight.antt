@@ -1,5 +1,6 @@
--- What an observer sees. Source: the textbook line of sight, tested where it crosses the lines that join
--- neighbouring cell centres, over heights as read.
+-- What an observer sees. Source: the textbook line of sight over heights as read, tested where it
+-- crosses the lines that join neighbouring cell centres.
+-- Trust base.
 use Rattle.std.specs.Prelude.{◌≡◌, ℕ, ◌+◌, ◌-◌, ◌*◌, ◌/◌, ◌%◌, Bool, false, not, ◌&&◌, ◌==◌, ◌<◌, ◌≤◌, nat_lt, nat_le, if◌then◌else◌, ℤ, pos, ◌+ℤ◌, ◌-ℤ◌, ◌*ℤ◌, int_lt, Option, Some, is_some, option_map, option_and_then}
 use Rattle.std.specs.Int.{abs_diff}
 use Rattle.std.specs.List.{list_any, range_with_len}
@@ -9,20 +10,21 @@ use Rattle.terrain.specs.Neighbours.{height_at, height_of}
 use Rattle.terrain.specs.declared.place.Place.{Place}
 use Rattle.terrain.specs.declared.observer.Observer.{Observer}
 
--- The limits: an eye's and a target's height, in scaled units; a radius, in cells.
+-- The greatest height of an eye or a target above its ground, in units.
 abbrev pub highest_eye : ℕ
 highest_eye = 1000000
 
+-- The greatest radius, in cells.
 abbrev pub longest_radius : ℕ
 longest_radius = 8192
 
--- n times the point that lies k of n steps from a toward b. Its quotient by n is a whole cell, its remainder the
--- n-ths of a cell past it.
+-- n times the point that is k of n steps from a toward b. Its quotient by n is a whole cell, its
+-- remainder the n-ths of a cell past it.
 abbrev pub toward : ℕ → ℕ → ℕ → ℕ → ℕ
 toward a b n k = a * (n - k) + b * k
 
--- In signed numbers: with the q cells from a to that whole cell and the m n-ths past it, (b - a) * k = q * n + m,
--- and m is from 0 to below n.
+-- `toward` in signed numbers: for the q cells from a to the whole cell and the m n-ths past it,
+-- (b - a) * k = q * n + m, and m is from 0 to below n.
 abbrev pub CrossingsAreOnTheLine : Type 0
 CrossingsAreOnTheLine =
     (a b n k : ℕ) → 0 < n → k ≤ n
@@ -30,18 +32,18 @@ CrossingsAreOnTheLine =
     let m = toward a b n k % n in
     (m < n) × ((pos b -ℤ pos a) *ℤ pos k ≡ (q *ℤ pos n) +ℤ pos m)
 
--- k cells from a toward b.
+-- The coordinate that is k cells from a toward b.
 abbrev pub onward : ℕ → ℕ → ℕ → ℕ
 onward a b k = if nat_lt a b then a + k else a - k
 
--- The two cells between which a line of sight passes, and how much each weighs.
+-- The two cells between which a line of sight passes, and their weights.
 pub record Crossing : Type 0 where
   pub near : Place
   pub near_weight : ℕ
   pub far : Place
   pub far_weight : ℕ
 
--- The crossing of the k-th column of n: in that column, the line passes m n-ths of a row past the near cell.
+-- The crossing with the k-th of n columns. The line is m n-ths of a row past the near cell.
 abbrev pub column_crossing : Place → Place → ℕ → ℕ → Crossing
 column_crossing p q n k =
     let col = onward p.col q.col k in
@@ -54,7 +56,7 @@ column_crossing p q n k =
       far_weight = m;
     }
 
--- The crossing of the k-th row of n: the same with rows and columns exchanged.
+-- The crossing with the k-th of n rows. The line is m n-ths of a column past the near cell.
 abbrev pub row_crossing : Place → Place → ℕ → ℕ → Crossing
 row_crossing p q n k =
     let row = onward p.row q.row k in
@@ -67,41 +69,44 @@ row_crossing p q n k =
       far_weight = m;
     }
 
--- Weight times height; 0 for a cell of weight 0, and None for NODATA of weight above 0.
-abbrev pub weighed : Terrain → Place → ℕ → Option ℤ
-weighed t p weight =
+-- Weight times height. It is 0 for weight 0, and None for NODATA of a weight above 0.
+abbrev pub weigh : Terrain → Place → ℕ → Option ℤ
+weigh t p weight =
     if weight == 0 then Some (pos 0) else option_map (λ h. pos weight *ℤ h) (height_at t p)
 
--- The ground at a crossing, None where NODATA takes part.
+-- The ground at a crossing times the sum of the weights, or None where NODATA takes part.
 abbrev pub ground : Terrain → Crossing → Option ℤ
-ground t c = option_and_then (λ x. option_map (λ y. x +ℤ y) (weighed t c.far c.far_weight)) (weighed t c.near c.near_weight)
+ground t c = option_and_then (λ x. option_map (λ y. x +ℤ y) (weigh t c.far c.far_weight))
+    (weigh t c.near c.near_weight)
 
--- The sight at step k of n, from eye level e to target level f.
+-- The level of the line at step k of n, times n, from eye level e to target level f.
 abbrev pub sight : ℤ → ℤ → ℕ → ℕ → ℤ
 sight e f n k = (e *ℤ pos (n - k)) +ℤ (f *ℤ pos k)
 
--- The crossing blocks: its ground is there and greater than the sight.
+-- The crossing blocks: its ground has data and is above the sight.
 abbrev pub blocks : Terrain → Crossing → ℤ → Bool
 blocks t c z = option_map_or (λ g. int_lt z g) (ground t c) false
 
--- A crossing of the columns, or of the rows, between two cells blocks.
+-- A crossing with a column between the two places blocks.
 abbrev pub column_blocks : Terrain → Place → Place → ℤ → ℤ → Bool
 column_blocks t p q e f =
     let n = abs_diff p.col q.col in
     list_any (λ k. blocks t (column_crossing p q n k) (sight e f n k)) (range_with_len 1 (n - 1))
 
+-- A crossing with a row between the two places blocks.
 abbrev pub row_blocks : Terrain → Place → Place → ℤ → ℤ → Bool
 row_blocks t p q e f =
     let n = abs_diff p.row q.row in
     list_any (λ k. blocks t (row_crossing p q n k) (sight e f n k)) (range_with_len 1 (n - 1))
 
--- The target is not farther than the radius.
+-- The target is within the radius.
 abbrev pub is_near : Place → Place → ℕ → Bool
 is_near p q radius =
     let dr = abs_diff p.row q.row in
     let dc = abs_diff p.col q.col in
     nat_le (dr * dr + dc * dc) (radius * radius)
 
+-- The place of an observer.
 abbrev pub place_of : Observer → Place
 place_of o = record { row = o.row; col = o.col }
 
@@ -113,7 +118,9 @@ is_open t o q target =
     let f = height_of t q +ℤ pos target in
     not (column_blocks t p q e f) && not (row_blocks t p q e f)
 
--- The observer sees the target: both are data cells, the target is near, and no crossing blocks.
+-- The observer sees the target: both are data cells, the target is within the radius, and no
+-- crossing blocks.
 abbrev pub is_seen : Terrain → Observer → Place → ℕ → ℕ → Bool
 is_seen t o q target radius =
-    is_some (height_at t (place_of o)) && is_some (height_at t q) && is_near (place_of o) q radius && is_open t o q target
+    is_some (height_at t (place_of o)) && is_some (height_at t q) && is_near (place_of o) q radius
+    && is_open t o q target

@@ -1,6 +1,7 @@
--- A walk along a line of sight, over a list of cells: the crossings of the line, as the crate's own functions
--- find them. Of it public clauses cite `IsLevel`, and by `IsTops` of `Blocks` also `AreHeights`. The line's two coordinates
--- are a leading one, at whose whole steps the line is tested, and the one at its side.
+-- A walk along a line of sight, over a list of cells. The line is tested at each whole step of its
+-- leading coordinate; the other coordinate is at its side. Public clauses cite `IsLevel`, and by
+-- `IsTops` of `Blocks` also `AreHeights`.
+-- Public.
 use Rattle.std.specs.Prelude.{◌≡◌, ℕ, ◌+◌, ◌-◌, ◌*◌, ◌/◌, ◌%◌, ◌^◌, ◌<◌, ◌≤◌, Bool, false, not, ◌&&◌, ◌==◌, if◌then◌else◌, ℤ, pos, unsigned_abs, ◌+ℤ◌, ◌*ℤ◌, int_lt, List, length, Option, None, Some, option_map, option_and_then, slice_index_or, max}
 use Rattle.std.specs.Int.{abs_diff}
 use Rattle.std.specs.List.{list_any, range_with_len}
@@ -15,92 +16,108 @@ use Rattle.sightlines.specs.declared.walk.Sightline.{Sightline}
 use Rattle.sightlines.specs.declared.walk.Step.{Step}
 use Rattle.terrain.specs.Neighbours.{height_of}
 
--- Where the line is along an axis at step k of n: the whole cell, and n-ths of a cell past it.
+-- The whole cell of a line on a coordinate, at step k of n.
 abbrev pub whole_at : Axis → ℕ → ℕ → ℕ
 whole_at a n k = toward a.from a.to n k / n
 
+-- The n-ths of a cell past the whole cell, at step k of n.
 abbrev pub part_at : Axis → ℕ → ℕ → ℕ
 part_at a n k = toward a.from a.to n k % n
 
--- Where the near cell of step k of n stands in the list.
+-- The index of the near cell of step k of n in the list of cells.
 abbrev pub index_at : Axis → Axis → ℕ → ℕ → ℕ
 index_at lead side n k = whole_at lead n k * lead.stride + whole_at side n k * side.stride
 
--- Weight times height; 0 for a cell of weight 0, and None for NODATA of weight above 0.
+-- Weight times height. It is 0 for weight 0, and None for NODATA of a weight above 0.
 abbrev pub weighed_height : Option ℤ → ℕ → Option ℤ
-weighed_height height weight = if weight == 0 then Some (pos 0) else option_map (λ h. pos weight *ℤ h) height
+weighed_height height weight =
+    if weight == 0 then Some (pos 0) else option_map (λ h. pos weight *ℤ h) height
 
--- The ground between two cells is there and greater than the sight.
+-- The ground between two cells has data, and is above the sight z.
 abbrev pub is_above : Option ℤ → ℕ → Option ℤ → ℕ → ℤ → Bool
 is_above near near_weight far far_weight z =
     option_map_or (λ g. int_lt z g)
-    (option_and_then (λ x. option_map (λ y. x +ℤ y) (weighed_height far far_weight)) (weighed_height near near_weight)) false
+    (option_and_then (λ x. option_map (λ y. x +ℤ y) (weighed_height far far_weight))
+    (weighed_height near near_weight)) false
 
--- Step k of n blocks.
+-- The ground at step k of n is above the line from level e to level f.
 abbrev pub step_blocks : List (Option ℤ) → Axis → Axis → ℤ → ℤ → ℕ → ℕ → Bool
 step_blocks cells lead side e f n k =
     let i = index_at lead side n k in
     let m = part_at side n k in
-    is_above (slice_index_or cells i None) (n - m) (slice_index_or cells (i + side.stride) None) m (sight e f n k)
+    is_above (slice_index_or cells i None) (n - m) (slice_index_or cells (i + side.stride) None) m
+    (sight e f n k)
 
--- How many steps a line has.
+-- The number of steps of a line.
 abbrev pub steps_of : Sightline → ℕ
 steps_of l = abs_diff l.lead.from l.lead.to
 
--- One of `count` steps from the first on blocks.
+-- One of `count` steps from step `first` on blocks.
 abbrev pub step_range_blocks : List (Option ℤ) → Sightline → ℕ → ℕ → Bool
 step_range_blocks cells l first count =
-    list_any (λ k. step_blocks cells l.lead l.side l.from_level l.to_level (steps_of l) k) (range_with_len first count)
+    list_any (λ k. step_blocks cells l.lead l.side l.from_level l.to_level (steps_of l) k)
+    (range_with_len first count)
 
 -- A step between the two ends blocks.
 abbrev pub walk_blocks : List (Option ℤ) → Sightline → Bool
 walk_blocks cells l = step_range_blocks cells l 1 (steps_of l - 1)
 
--- The coordinates of a line between two places, and the line over each of them as the leading one.
+-- The columns of a line between two places, as a coordinate.
 abbrev pub columns_of : Place → Place → Axis
 columns_of p q = record { from = p.col; to = q.col; stride = 1 }
 
+-- The rows of a line between two places, as a coordinate.
 abbrev pub rows_of : Terrain → Place → Place → Axis
 rows_of t p q = record { from = p.row; to = q.row; stride = t.cols }
 
+-- The line between two places with the columns leading, from level e to level f.
 abbrev pub over_columns : Terrain → Place → Place → ℤ → ℤ → Sightline
-over_columns t p q e f = record { lead = columns_of p q; side = rows_of t p q; from_level = e; to_level = f }
+over_columns t p q e f =
+    record { lead = columns_of p q; side = rows_of t p q; from_level = e; to_level = f }
 
+-- The line between two places with the rows leading, from level e to level f.
 abbrev pub over_rows : Terrain → Place → Place → ℤ → ℤ → Sightline
-over_rows t p q e f = record { lead = rows_of t p q; side = columns_of p q; from_level = e; to_level = f }
+over_rows t p q e f =
+    record { lead = rows_of t p q; side = columns_of p q; from_level = e; to_level = f }
 
--- The cells between the two ends are in the list.
+-- All cells that the line can meet are in the list.
 abbrev pub IsOver : List (Option ℤ) → Axis → Axis → Type 0
-IsOver cells lead side = max lead.from lead.to * lead.stride + max side.from side.to * side.stride < length cells
+IsOver cells lead side =
+    max lead.from lead.to * lead.stride + max side.from side.to * side.stride < length cells
 
--- The list has heights within their limits.
+-- The heights of the list are within their limits.
 abbrev pub AreHeights : List (Option ℤ) → Type 0
 AreHeights cells = (i : ℕ) (h : ℤ) → slice_index_or cells i None ≡ Some h → IsHeight h
 
--- A height with an eye or a target on it fits: a height is at most 10 ^ 15, and what stands on it at most 10 ^ 6 high.
+-- The level is at most 2 ^ 50: a height is at most 10 ^ 15, and an eye or a target adds 10 ^ 6.
 abbrev pub IsLevel : ℤ → Type 0
 IsLevel z = unsigned_abs z ≤ 2 ^ 50
 
--- The numbers of a line are small enough to walk along it.
+-- The numbers of a line are within their limits.
 pub record IsSightline (l : Sightline) : Type 0 where
   pub ends : (l.lead.from < 4096) × (l.lead.to < 4096) × (l.side.from < 4096) × (l.side.to < 4096)
   pub strides : (l.lead.stride ≤ 4096) × (l.side.stride ≤ 4096)
   pub from_level : IsLevel l.from_level
   pub to_level : IsLevel l.to_level
 
--- The line is there at step k.
+-- The place and the sight are those of the line at step k.
 pub record IsAt (l : Sightline) (k : ℕ) (s : Step) : Type 0 where
   pub whole : s.whole ≡ whole_at l.side (steps_of l) k
   pub part : s.part ≡ part_at l.side (steps_of l) k
   pub sight : s.sight ≡ sight l.from_level l.to_level (steps_of l) k
 
--- The two lines from a target to an observer, which sees it exactly where neither is blocked.
-pub record AreSightlines (t : Terrain) (o : Observer) (q : Place) (target radius : ℕ) (lines : Sightlines) : Type 0 where
-  pub columns : lines.columns ≡ over_columns t q (place_of o) (height_of t q +ℤ pos target) (height_of t (place_of o) +ℤ pos o.eye)
-  pub rows : lines.rows ≡ over_rows t q (place_of o) (height_of t q +ℤ pos target) (height_of t (place_of o) +ℤ pos o.eye)
+-- The lines from a target to an observer over columns and over rows. The observer sees the target
+-- exactly where neither is blocked.
+pub record AreSightlines (t : Terrain) (o : Observer) (q : Place) (target radius : ℕ)
+    (lines : Sightlines) : Type 0 where
+  pub columns : lines.columns ≡ over_columns t q (place_of o) (height_of t q +ℤ pos target)
+      (height_of t (place_of o) +ℤ pos o.eye)
+  pub rows : lines.rows ≡ over_rows t q (place_of o) (height_of t q +ℤ pos target)
+      (height_of t (place_of o) +ℤ pos o.eye)
   pub small_columns : IsSightline lines.columns
   pub small_rows : IsSightline lines.rows
   pub columns_inside : IsOver t.cells lines.columns.lead lines.columns.side
   pub rows_inside : IsOver t.cells lines.rows.lead lines.rows.side
-  pub seen : is_seen t o q target radius ≡ (not (walk_blocks t.cells lines.columns) && not (walk_blocks t.cells lines.rows))
+  pub seen : is_seen t o q target radius
+      ≡ (not (walk_blocks t.cells lines.columns) && not (walk_blocks t.cells lines.rows))
   pub reached : is_seen t o q target radius ≡ is_open t o q target

@@ -1,8 +1,8 @@
-//! Facts of the definitions alone.
+//! Facts about the definitions.
 ghost use Rattle.sightlines.specs.Sight.{CrossingsAreOnTheLine};
 
-/// Where a line of sight is at a crossing, told without negative numbers, is the quotient rounded
-/// down of what it has gone, and the remainder.
+/// States that unsigned arithmetic finds the crossings of a line of sight.
+/// A quotient, rounded down, is the whole cell, and its remainder the part of a cell past it.
 #[tactic(auto, using(crate::proofs::OnTheLine::crossings_are_on_the_line))]
 pub fn crossings_are_on_the_line()
     ensures { CrossingsAreOnTheLine }

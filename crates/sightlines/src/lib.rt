@@ -1,19 +1,19 @@
 //! One line of sight over a terrain grid: whether an observer sees a place.
 //!
 //! A line of sight runs from an observer's eye to a height above a cell. It is tested where it
-//! crosses the lines between neighbouring cell centres. The earth is flat here.
+//! crosses the lines between neighbouring cell centres. The earth counts as flat.
 //!
-//! [`sees`] tests every crossing. [`sees_past_blocks`] gives the same result and skips blocks of
+//! [`sees`] tests every crossing. [`sees_past_blocks`] returns the same result and skips blocks of
 //! cells below the line. Depends on `terrain` alone.
 //!
-//! Modules, from what is called to what it depends on:
+//! Modules, callers first:
 //!
 //! - `line`: whether a place is seen
-//! - `walk`: from crossing to crossing
-//! - `passing`: past blocks of cells
-//! - `tops`: blocks' greatest heights
-//! - `reach`: the radius
-//! - `laws`: facts of the definitions
+//! - `walk`: steps from crossing to crossing
+//! - `passing`: skips blocks of cells below the line
+//! - `tops`: the greatest heights of blocks
+//! - `reach`: whether a place is within the radius
+//! - `laws`: facts about the definitions
 #![tactic(auto)]
 
 pub mod laws;
@@ -23,6 +23,6 @@ mod reach;
 mod tops;
 mod walk;
 
-pub use line::{Walked, level, may_see, sees, sees_past_blocks};
+pub use line::{WalkCache, level, may_see, sees, sees_past_blocks};
 pub use reach::is_in_reach;
-pub use tops::{FAR_BLOCK, NEAR_BLOCK, Tops, blocks_in};
+pub use tops::{FAR_BLOCK, MaxHeights, NEAR_BLOCK, blocks_in};

@@ -1,6 +1,6 @@
 //! Whether an observer sees a place: [`sees`], [`sees_past_blocks`].
 //!
-//! The second keeps what hid the last target in [`Walked`], and tests that first.
+//! The second tests first what hid the last targets, which it keeps in [`WalkCache`].
 ghost use Rattle.std.specs.Prelude.{◌≡◌, ◌<◌, ◌≤◌, pos, ◌+ℤ◌, true, false, not, ◌&&◌, MatchOption};
 ghost use Rattle.terrain.specs.Raster.{IsHeight};
 ghost use Rattle.terrain.specs.Neighbours.{IsInside};
@@ -10,11 +10,11 @@ ghost use Rattle.sightlines.specs.Blocks.{IsTops, blocks_in};
 
 use crate::passing::{BlockStrides, blocking_step_past_blocks};
 use crate::reach::is_in_reach;
-use crate::tops::{FAR_BLOCK, NEAR_BLOCK, Tops, blocks_in};
+use crate::tops::{FAR_BLOCK, MaxHeights, NEAR_BLOCK, blocks_in};
 use crate::walk::{Axis, Pace, Sightline, blocking_step, is_blocked};
 use terrain::{Cell, Grid, Height, Observer, Place};
 
-/// How high an eye or a target stands, in scaled units: so much above a ground.
+/// Returns the level of an eye or target `above` units over ground of `height`.
 #[inline(always)]
 pub fn level(height: Height, above: u32) -> i64
     requires height { IsHeight height }
@@ -25,16 +25,16 @@ pub fn level(height: Height, above: u32) -> i64
     height + above as i64
 }
 
-/// The two lines of sight of an observer and a target: over the columns between them, and over the
-/// rows.
+/// The line of sight of a target and an observer, in two forms.
+/// One tests the crossings with columns, the other those with rows.
 #[derive(Clone, Copy)]
 pub(crate) struct Sightlines {
     pub columns: Sightline,
     pub rows: Sightline,
 }
 
-/// The lines from a target to an observer, or None where one of the two has no data or the target
-/// is out of reach.
+/// Returns the lines from a target to an observer.
+/// `None` if one of the two is on NODATA or the target is outside the radius.
 #[inline(always)]
 fn lines_of_sight(
     grid: &Grid,
@@ -48,7 +48,8 @@ fn lines_of_sight(
     requires eye { observer.now.eye ≤ highest_eye }
     requires height { target_height ≤ highest_eye }
     requires radius { (1 ≤ radius) × (radius ≤ longest_radius) }
-    ensures { MatchOption result (is_seen grid.now.terrain observer.now target target_height radius ≡ false)
+    ensures { MatchOption result
+        (is_seen grid.now.terrain observer.now target target_height radius ≡ false)
         (λ lines. AreSightlines grid.now.terrain observer.now target target_height radius lines) }
 {
     let stride = grid.cols() as usize;
@@ -89,12 +90,22 @@ fn lines_of_sight(
     })
 }
 
-/// Whether an observer sees a place, from the eye to `target_height` above the place's ground.
+/// Returns whether an observer sees a place, at `target_height` above its ground.
 ///
-/// Both are data cells, the target is at most `radius` cells away, and at no crossing of the line
-/// of sight with a column or a row of cell centres the ground is above the line. Between two centres
-/// the ground is what lies straight between their heights; a crossing beside a cell without data
-/// hides nothing. It takes no memory.
+/// Both must be data cells, and the target at most `radius` cells away. No crossing of the line
+/// with a column or row of cell centres may block. A crossing blocks where the ground, a straight
+/// slope between two centres, is above the line. With NODATA at one of them nothing blocks.
+///
+/// # Examples
+///
+/// On the single row of heights `0 6 10`, the middle cell hides the ground of the last one:
+///
+/// ```ignore
+/// let observer = Observer { row: 0, col: 0, eye: 0 };
+/// let beyond = Place { row: 0, col: 2 };
+/// assert!(rt; !sees(&grid, &observer, beyond, 0, 8_192));
+/// assert!(rt; sees(&grid, &observer, beyond, 2, 8_192));
+/// ```
 pub fn sees(
     grid: &Grid,
     observer: &Observer,
@@ -119,13 +130,13 @@ pub fn sees(
     !is_blocked(cells, lines.rows)
 }
 
-/// How many crossings beside a target `may_see` tests, on each of the two lines.
+/// The number of crossings that `may_see` tests on each of the two lines.
 const FIRST_CROSSINGS: u32 = 2;
 
-/// How many crossings are tested about the one that hid the last target.
+/// The number of crossings tested around the distance of an earlier blocker.
 const NEARBY_CROSSINGS: u32 = 4;
 
-/// Whether one of so many crossings blocks, from a step on the way to the other end on.
+/// Whether one of `crossings` crossings of a line blocks, from step `first` on.
 #[inline(always)]
 fn is_blocked_from(cells: &[Cell], line: Sightline, first: u32, crossings: u32) -> bool
     requires heights { AreHeights cells.now }
@@ -142,8 +153,8 @@ fn is_blocked_from(cells: &[Cell], line: Sightline, first: u32, crossings: u32) 
     blocking_step(cells, line, Pace::new(line), line.at(first), first, end).is_some()
 }
 
-/// False only where the observer does not see the place: one of both has no data, it is out of reach, or one of the first
-/// crossings beside it blocks the line of sight. Those hide the most, and no other is tested.
+/// Returns false only if the observer does not see the place.
+/// It tests the data, the radius and the first crossings beside the target, which hide the most.
 #[inline(always)]
 pub fn may_see(
     grid: &Grid,
@@ -170,9 +181,9 @@ pub fn may_see(
     !is_blocked_from(cells, lines.rows, 1, FIRST_CROSSINGS)
 }
 
-/// Whether one of the crossings about so many steps before the other end blocks.
+/// Whether a crossing around `left` steps before the observer blocks.
 #[inline(always)]
-fn is_blocked_about(cells: &[Cell], line: Sightline, left: u32) -> bool
+fn is_blocked_near(cells: &[Cell], line: Sightline, left: u32) -> bool
     requires heights { AreHeights cells.now }
     requires line { IsSightline line }
     requires over { IsOver cells.now line.lead line.side }
@@ -183,7 +194,8 @@ fn is_blocked_about(cells: &[Cell], line: Sightline, left: u32) -> bool
     is_blocked_from(cells, line, first, NEARBY_CROSSINGS)
 }
 
-/// Which crossing hides a target: on which of the two lines of sight, and how many steps before the observer.
+/// The crossing that hides a target, `left` steps before the observer.
+/// It is on the line over the rows if `over_rows`, else on the one over the columns.
 #[derive(Clone, Copy)]
 pub(crate) struct Blocker {
     over_rows: bool,
@@ -191,7 +203,7 @@ pub(crate) struct Blocker {
 }
 
 impl Blocker {
-    /// Whether the crossing as far from the observer hides another target.
+    /// Whether a crossing at this distance from the observer hides another target.
     #[inline(always)]
     fn hides(self, cells: &[Cell], lines: Sightlines) -> bool
         requires heights { AreHeights cells.now }
@@ -199,64 +211,67 @@ impl Blocker {
         requires rows { IsSightline lines.rows }
         requires over_columns { IsOver cells.now lines.columns.lead lines.columns.side }
         requires over_rows { IsOver cells.now lines.rows.lead lines.rows.side }
-        ensures { result ≡ true → (not (walk_blocks cells.now lines.columns) && not (walk_blocks cells.now lines.rows)) ≡ false }
+        ensures { result ≡ true → (not (walk_blocks cells.now lines.columns)
+            && not (walk_blocks cells.now lines.rows)) ≡ false }
     {
         if self.over_rows {
-            is_blocked_about(cells, lines.rows, self.left)
+            is_blocked_near(cells, lines.rows, self.left)
         } else {
-            is_blocked_about(cells, lines.columns, self.left)
+            is_blocked_near(cells, lines.columns, self.left)
         }
     }
 
-    /// The same. It stands apart, so that what is asked of each target first stays short.
+    /// Out-of-line copy of [`hides`](Self::hides), to keep the hot path small.
     #[inline(never)]
-    fn hides_apart(self, cells: &[Cell], lines: Sightlines) -> bool
+    fn hides_out_of_line(self, cells: &[Cell], lines: Sightlines) -> bool
         requires heights { AreHeights cells.now }
         requires columns { IsSightline lines.columns }
         requires rows { IsSightline lines.rows }
         requires over_columns { IsOver cells.now lines.columns.lead lines.columns.side }
         requires over_rows { IsOver cells.now lines.rows.lead lines.rows.side }
-        ensures { result ≡ true → (not (walk_blocks cells.now lines.columns) && not (walk_blocks cells.now lines.rows)) ≡ false }
+        ensures { result ≡ true → (not (walk_blocks cells.now lines.columns)
+            && not (walk_blocks cells.now lines.rows)) ≡ false }
     {
         self.hides(cells, lines)
     }
 }
 
-/// Of how many columns it is kept what hid the target above; columns as far apart share an entry.
+/// The number of entries for columns.
+/// Columns share an entry if they are a multiple of this apart.
 const COLUMNS: usize = 256;
 
-/// What the walks to the targets so far met: the crossing that hid the last one that was hidden, those that hid the last
-/// ones of each column, None where it was seen, and how many crossings were asked about.
+/// The blockers of earlier targets, and the number of crossings not skipped.
+/// `above` has the blocker of the last target in each column, `None` where it was seen.
 #[derive(Clone, Copy)]
-pub struct Walked {
+pub struct WalkCache {
     last: Blocker,
     above: [Option<Blocker>; COLUMNS],
-    /// How many crossings were asked about; at most 2^32 - 1 are counted.
-    pub asked: u32,
+    /// The number of crossings that walks did not skip, at most 2^32 - 1.
+    pub crossings_tested: u32,
 }
 
-impl Walked {
-    /// Of no target yet.
+impl WalkCache {
+    /// Returns an empty cache.
     pub fn none() -> Self
-        ensures { result.asked ≡ 0 }
+        ensures { result.crossings_tested ≡ 0 }
     {
-        Walked {
+        WalkCache {
             last: Blocker {
                 over_rows: false,
                 left: 0,
             },
             above: [None; COLUMNS],
-            asked: 0,
+            crossings_tested: 0,
         }
     }
 
-    /// What hid the last target in a column.
+    /// Returns what hid the last target in a column.
     #[inline(always)]
     fn above(&self, col: u32) -> Option<Blocker> {
         self.above[col as usize % COLUMNS]
     }
 
-    /// Keeps what hides a target in a column, or that nothing does.
+    /// Keeps what hides a target in a column, or `None` if it is seen.
     #[inline(always)]
     fn keep(&mut self, col: u32, blocker: Option<Blocker>) {
         if let Some(blocker) = blocker {
@@ -266,7 +281,7 @@ impl Walked {
     }
 }
 
-/// How blocks of so many cells stand in their list, along a line over the columns of a grid.
+/// Returns the strides of the list of blocks, along a line over the columns.
 #[inline(always)]
 fn along_columns(size: u32, cols: u32) -> BlockStrides
     requires size { (0 < size) × (size ≤ 4096) }
@@ -279,7 +294,7 @@ fn along_columns(size: u32, cols: u32) -> BlockStrides
     }
 }
 
-/// The same along a line over the rows.
+/// Returns the strides of the list of blocks, along a line over the rows.
 #[inline(always)]
 fn along_rows(size: u32, cols: u32) -> BlockStrides
     requires size { (0 < size) × (size ≤ 4096) }
@@ -292,17 +307,25 @@ fn along_rows(size: u32, cols: u32) -> BlockStrides
     }
 }
 
-/// As [`sees`], by passing over the blocks of cells that the line of sight is above, of which `tops` has the greatest heights. What hid the last target and the one
-/// above this is asked first, since it often hides the next one too.
+/// Returns what [`sees`] returns, and skips blocks of cells below the line.
+/// `tops` has the blocks' greatest heights. Crossings that hid earlier targets are tested first,
+/// since they often hide the next one too; `walked` keeps them.
+///
+/// # Examples
+///
+/// ```ignore
+/// let mut walked = WalkCache::none();
+/// let seen = sees_past_blocks(&grid, &tops, &observer, target, 0, 8_192, &mut walked);
+/// ```
 #[inline(always)]
 pub fn sees_past_blocks(
     grid: &Grid,
-    tops: &Tops,
+    tops: &MaxHeights,
     observer: &Observer,
     target: Place,
     target_height: u32,
     radius: u32,
-    walked: &mut Walked,
+    walked: &mut WalkCache,
 ) -> bool
     requires tops { IsTops grid.now.terrain tops.now }
     requires observer { IsInside grid.now.terrain (place_of observer.now) }
@@ -322,7 +345,7 @@ pub fn sees_past_blocks(
         return false;
     }
     if let Some(above) = walked.above(target.col) {
-        if above.hides_apart(cells, lines) {
+        if above.hides_out_of_line(cells, lines) {
             walked.last = above;
             return false;
         }
@@ -331,7 +354,14 @@ pub fn sees_past_blocks(
     let near = along_columns(NEAR_BLOCK, cols);
     let far = along_columns(FAR_BLOCK, cols);
     let line = lines.columns;
-    if let Some(step) = blocking_step_past_blocks(cells, tops, near, far, line, &mut walked.asked) {
+    if let Some(step) = blocking_step_past_blocks(
+        cells,
+        tops,
+        near,
+        far,
+        line,
+        &mut walked.crossings_tested,
+    ) {
         let blocker = Blocker {
             over_rows: false,
             left: line.steps() - step,
@@ -342,7 +372,14 @@ pub fn sees_past_blocks(
     let near = along_rows(NEAR_BLOCK, cols);
     let far = along_rows(FAR_BLOCK, cols);
     let line = lines.rows;
-    if let Some(step) = blocking_step_past_blocks(cells, tops, near, far, line, &mut walked.asked) {
+    if let Some(step) = blocking_step_past_blocks(
+        cells,
+        tops,
+        near,
+        far,
+        line,
+        &mut walked.crossings_tested,
+    ) {
         let blocker = Blocker {
             over_rows: true,
             left: line.steps() - step,

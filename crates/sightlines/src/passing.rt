@@ -6,22 +6,22 @@ ghost use Rattle.sightlines.specs.Walk.{steps_of, whole_at, AreHeights, IsSightl
 ghost use Rattle.sightlines.specs.Blocks.{IsLow, IsPeak, AreTopsAlong, AreLowBetween};
 ghost use Rattle.terrain.specs.Raster.{IsHeight};
 
-use crate::tops::{FAR_BLOCK, NEAR_BLOCK, Tops};
-use crate::walk::{Leap, Pace, Sightline, Step, blocking_step, weighed};
+use crate::tops::{FAR_BLOCK, MaxHeights, NEAR_BLOCK};
+use crate::walk::{Leap, Pace, Sightline, Step, blocking_step, weigh};
 use terrain::{Cell, Height};
 
-/// Where a run of steps meets more blocks than this, they are not looked at.
+/// A run of steps that meets more blocks than this is walked without testing them.
 const MOST_BLOCKS: u32 = 5;
 
-/// How far apart neighbouring blocks stand in the list of blocks, along a line's leading coordinate
-/// and along the one at its side.
+/// The distances in the list of blocks between neighbours along a line.
+/// `lead` is along the leading coordinate, `side` along the one at its side.
 #[derive(Clone, Copy)]
 pub struct BlockStrides {
     pub lead: usize,
     pub side: usize,
 }
 
-/// The step at which the leading coordinate leaves its block of so many cells, or `last`.
+/// Returns the step at which the leading coordinate leaves its block, or `last`.
 #[inline(always)]
 fn block_end(line: Sightline, size: u32, step: u32, last: u32) -> u32
     requires line { IsSightline line }
@@ -30,7 +30,8 @@ fn block_end(line: Sightline, size: u32, step: u32, last: u32) -> u32
     ensures after { step < result }
     ensures within { result ≤ last }
     ensures same { (k : ℕ) → step ≤ k → k < result
-        → whole_at line.lead (steps_of line) k / size ≡ whole_at line.lead (steps_of line) step / size }
+        → whole_at line.lead (steps_of line) k / size
+        ≡ whole_at line.lead (steps_of line) step / size }
 {
     let in_block = line.lead_at(step) % size;
     let left = if line.lead.from <= line.lead.to {
@@ -41,8 +42,8 @@ fn block_end(line: Sightline, size: u32, step: u32, last: u32) -> u32
     last.min(step + left)
 }
 
-/// Whether all of some blocks in a row are below the sight, when their heights are taken `weight`
-/// times.
+/// Whether none of `count` blocks in a row is above the sight.
+/// `sight` is a level times `weight`.
 #[inline(always)]
 fn are_low(tops: &[Cell], first: usize, stride: usize, count: u32, weight: u32, sight: i64) -> bool
     requires heights { AreHeights tops.now }
@@ -54,7 +55,7 @@ fn are_low(tops: &[Cell], first: usize, stride: usize, count: u32, weight: u32, 
     for i in 0..count {
         let top = tops[first + i as usize * stride];
         if let Some(height) = top.height() {
-            if weighed(height, weight) > sight {
+            if weigh(height, weight) > sight {
                 return false;
             }
         }
@@ -62,8 +63,8 @@ fn are_low(tops: &[Cell], first: usize, stride: usize, count: u32, weight: u32, 
     true
 }
 
-/// Whether a line is above all blocks that it can meet between two of its steps, both in one row
-/// of blocks.
+/// True only if no block that a line can meet between two steps is above the line.
+/// Between them the leading coordinate stays in block `lead_block`.
 #[inline(always)]
 fn is_above_blocks(
     tops: &[Cell],
@@ -97,8 +98,8 @@ fn is_above_blocks(
     are_low(tops, first, strides.side, count, line.steps(), sight)
 }
 
-/// As [`blocking_step`], by passing over the steps at which the line is above the blocks of cells whose greatest heights are
-/// `tops`. How many crossings are asked about is added to `asked`.
+/// Returns what [`blocking_step`] returns, and skips near blocks below the line.
+/// `tops` has their greatest heights. Adds the crossings of tested runs to `crossings_tested`.
 #[inline(always)]
 fn blocking_step_past_near_blocks(
     cells: &[Cell],
@@ -110,7 +111,7 @@ fn blocking_step_past_near_blocks(
     start: Step,
     first: u32,
     end: u32,
-    asked: &mut u32,
+    crossings_tested: &mut u32,
 ) -> Option<u32>
     requires heights { AreHeights cells.now }
     requires line { IsSightline line }
@@ -131,7 +132,7 @@ fn blocking_step_past_near_blocks(
         let next = leap.to(line, step, here, past);
         let block = line.lead_at(step) / NEAR_BLOCK;
         if !is_above_blocks(tops, NEAR_BLOCK, strides, line, block, here, next) {
-            *asked = asked.saturating_add(past - step);
+            *crossings_tested = crossings_tested.saturating_add(past - step);
             if let Some(blocking) = blocking_step(cells, line, pace, here, step, past) {
                 return Some(blocking);
             }
@@ -142,28 +143,29 @@ fn blocking_step_past_near_blocks(
     None
 }
 
-/// Whether a line stays above a peak that no ground is above, from one of its steps on.
+/// True only if a line stays above `peak` from one of its steps on.
 #[inline(always)]
 fn is_clear(peak: Height, line: Sightline, here: Step) -> bool
     requires line { IsSightline line }
     requires peak { IsHeight peak }
-    ensures { OnTrue result ((peak ≤ℤ line.to_level) × ((pos (steps_of line) *ℤ peak) ≤ℤ here.sight)) }
+    ensures { OnTrue result
+        ((peak ≤ℤ line.to_level) × ((pos (steps_of line) *ℤ peak) ≤ℤ here.sight)) }
 {
-    peak <= line.to_level && weighed(peak, line.steps()) <= here.sight
+    peak <= line.to_level && weigh(peak, line.steps()) <= here.sight
 }
 
-/// The first step between the two ends at which the ground is above the line. Past the block of its beginning, which is
-/// seldom below it, the walk passes over the steps at which the line is above the far blocks that it meets, or above
-/// the near ones, and over all that are left once it stays above the peak. How many crossings are asked about is added
-/// to `asked`. It stands apart, so that what is asked of each target first stays short.
+/// Returns a step between the two ends at which the ground is above the line.
+/// The walk first tests the crossings in the block where it begins, which is seldom below the line.
+/// Then it skips far or near blocks below the line, and ends once the line stays above the peak.
+/// Adds the crossings of tested runs to `crossings_tested`. Out of line: the hot path stays small.
 #[inline(never)]
 pub(crate) fn blocking_step_past_blocks(
     cells: &[Cell],
-    tops: &Tops,
+    tops: &MaxHeights,
     near: BlockStrides,
     far: BlockStrides,
     line: Sightline,
-    asked: &mut u32,
+    crossings_tested: &mut u32,
 ) -> Option<u32>
     requires heights { AreHeights cells.now }
     requires line { IsSightline line }
@@ -186,7 +188,7 @@ pub(crate) fn blocking_step_past_blocks(
     }
     let pace = Pace::new(line);
     let mut first = block_end(line, NEAR_BLOCK, 1, steps);
-    *asked = asked.saturating_add(first - 1);
+    *crossings_tested = crossings_tested.saturating_add(first - 1);
     if let Some(step) = blocking_step(cells, line, pace, begin, 1, first) {
         return Some(step);
     }
@@ -202,7 +204,16 @@ pub(crate) fn blocking_step_past_blocks(
         let is_whole = end - first == FAR_BLOCK;
         if !is_whole || !is_above_blocks(&tops.far, FAR_BLOCK, far, line, block, start, next) {
             if let Some(step) = blocking_step_past_near_blocks(
-                cells, &tops.near, near, line, pace, leap, start, first, end, asked,
+                cells,
+                &tops.near,
+                near,
+                line,
+                pace,
+                leap,
+                start,
+                first,
+                end,
+                crossings_tested,
             ) {
                 return Some(step);
             }

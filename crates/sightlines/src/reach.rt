@@ -4,7 +4,7 @@ ghost use Rattle.sightlines.specs.Sight.{longest_radius, is_near};
 
 use terrain::Place;
 
-/// Whether the target is not farther from the eye than the radius, in cells.
+/// Returns whether the target is at most `radius` cells away from the eye.
 #[inline(always)]
 pub fn is_in_reach(eye: Place, target: Place, radius: u32) -> bool
     requires rows { (eye.row < 4096) × (target.row < 4096) }

@@ -1,4 +1,4 @@
-//! The greatest heights of blocks of 16 and of 128 cells: [`Tops`].
+//! The greatest heights of blocks of 16 and of 128 cells: [`MaxHeights`].
 ghost use Rattle.std.specs.Prelude.{◌≡◌, ◌<◌, ◌≤◌};
 ghost use Rattle.sightlines.specs.Blocks.{blocks_in};
 
@@ -7,22 +7,22 @@ use terrain::{Cell, Height};
 /// The side of a near block, in cells.
 pub const NEAR_BLOCK: u32 = 16;
 
-/// The side of a far block, in cells: of a block of near blocks.
+/// The side of a far block, in cells: 8 near blocks.
 pub const FAR_BLOCK: u32 = 128;
 
-/// How high the ground of a grid reaches at most: in each of its blocks, in row order, and in all of it. A
-/// block is a cell of a coarser ground: it has no data where none of its cells has any.
+/// The greatest heights of a grid and of its blocks, in row order.
+/// A block without data is a NODATA cell of its list.
 #[derive(Drop)]
-pub struct Tops {
-    /// Of the blocks of [`NEAR_BLOCK`] cells each way.
+pub struct MaxHeights {
+    /// The greatest heights of blocks of [`NEAR_BLOCK`] by [`NEAR_BLOCK`] cells.
     pub near: Vec<Cell>,
-    /// Of the blocks of [`FAR_BLOCK`] cells each way.
+    /// The greatest heights of blocks of [`FAR_BLOCK`] by [`FAR_BLOCK`] cells.
     pub far: Vec<Cell>,
-    /// Of the whole grid.
+    /// A height that no cell of the grid is above.
     pub peak: Height,
 }
 
-/// How many blocks of `size` cells side by side hold so many cells.
+/// Returns how many blocks of `size` cells, side by side, hold `cells` cells.
 #[inline(always)]
 pub fn blocks_in(size: u32, cells: u32) -> usize
     requires size { (0 < size) × (size ≤ 4096) }

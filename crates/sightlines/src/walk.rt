@@ -8,8 +8,8 @@ ghost use Rattle.sightlines.specs.Pace.{IsPace, IsLeap, Gains};
 use crate::tops::NEAR_BLOCK;
 use terrain::{Cell, Height};
 
-/// One coordinate of a line of sight: its two ends, and how far apart neighbours along it stand
-/// in the list of cells.
+/// One coordinate of a line of sight: its two ends.
+/// Neighbours along it are `stride` apart in the list of cells.
 #[derive(Clone, Copy)]
 pub struct Axis {
     pub from: u32,
@@ -17,8 +17,8 @@ pub struct Axis {
     pub stride: usize,
 }
 
-/// A line of sight from one level to another, along two coordinates: a leading one, at whose whole
-/// steps the line is tested, and the one at its side.
+/// A line of sight from one level to another, along two coordinates.
+/// It is tested at each whole step of the leading coordinate, `lead`.
 #[derive(Clone, Copy)]
 pub struct Sightline {
     pub lead: Axis,
@@ -27,8 +27,9 @@ pub struct Sightline {
     pub to_level: i64,
 }
 
-/// Where a line is at one of its steps: its whole cell at the side, the part of a cell past it, and
-/// how high the sight is there. As many parts as the line has steps make a cell.
+/// The place and the level of a line at one of its steps.
+/// At the side it is `part` parts past cell `whole`. A cell has as many parts as there are steps.
+/// `sight` is the line's level times the number of steps.
 #[derive(Clone, Copy)]
 pub struct Step {
     pub whole: u32,
@@ -37,7 +38,7 @@ pub struct Step {
 }
 
 impl Sightline {
-    /// From one end to the other.
+    /// Returns the number of steps from one end to the other.
     #[inline(always)]
     pub(crate) fn steps(self) -> u32
         ensures { result ≡ steps_of self }
@@ -45,7 +46,7 @@ impl Sightline {
         self.lead.from.abs_diff(self.lead.to)
     }
 
-    /// The cell of the leading coordinate at a step.
+    /// Returns the cell of the leading coordinate at a step.
     #[inline(always)]
     pub(crate) fn lead_at(self, step: u32) -> u32
         requires line { IsSightline self }
@@ -60,7 +61,7 @@ impl Sightline {
         }
     }
 
-    /// Where the line is at a step.
+    /// Returns the place and the level of the line at a step.
     #[inline(always)]
     pub(crate) fn at(self, step: u32) -> Step
         requires line { IsSightline self }
@@ -79,8 +80,8 @@ impl Sightline {
     }
 }
 
-/// What a coordinate gains in some of a number of equal steps: whole cells ahead or behind, and then
-/// some parts of a cell. As many parts as there are steps make a cell.
+/// The move of a coordinate in some of a number of equal steps.
+/// It is `ahead` less `behind` cells, and `part` parts. As many parts as steps make a cell.
 #[derive(Clone, Copy)]
 struct Gain {
     ahead: u32,
@@ -89,7 +90,7 @@ struct Gain {
 }
 
 impl Axis {
-    /// In as many steps as there are cells between the two ends.
+    /// Returns the move in one of as many steps as there are cells between the ends.
     fn whole_gain(self) -> Gain
         requires { 0 < abs_diff self.from self.to }
         ensures { Gains self (abs_diff self.from self.to) 1 result.ahead result.behind result.part }
@@ -109,7 +110,7 @@ impl Axis {
         }
     }
 
-    /// In so many of a number of steps.
+    /// Returns the move in `count` of `steps` steps.
     fn gain(self, steps: u32, count: u32) -> Gain
         requires steps { (0 < steps) × (steps ≤ 4096) }
         requires count { count ≤ 4096 }
@@ -142,8 +143,8 @@ impl Axis {
     }
 }
 
-/// How far a line gets in as many steps as a near block has cells: whole cells ahead or behind at the side and some parts
-/// of a cell, and how much the sight rises.
+/// The move of a line at its side in the steps of one near block.
+/// It is `ahead` cells less `behind`, and `part` parts; `rise` is the change of the sight.
 #[derive(Clone, Copy)]
 pub struct Leap {
     ahead: u32,
@@ -153,7 +154,7 @@ pub struct Leap {
 }
 
 impl Leap {
-    /// Along a line.
+    /// Returns the leap of a line.
     #[inline(always)]
     pub(crate) fn new(line: Sightline) -> Self
         requires line { IsSightline line }
@@ -169,7 +170,8 @@ impl Leap {
         }
     }
 
-    /// Where a line is at the end of a run of steps. Over a whole near block it takes additions alone.
+    /// Returns the place and the level of a line at step `end`, from those at `first`.
+    /// Over the steps of a whole near block, additions suffice.
     #[inline(always)]
     pub(crate) fn to(self, line: Sightline, first: u32, start: Step, end: u32) -> Step
         requires line { IsSightline line }
@@ -201,9 +203,10 @@ impl Leap {
     }
 }
 
-/// At most 4,096 * 10^15 either way, so that two of them can be added.
+/// Returns a height times a weight.
+/// It is at most 4,096 * 10^15 either way, so two of them can be added.
 #[inline(always)]
-pub(crate) fn weighed(height: Height, weight: u32) -> i64
+pub(crate) fn weigh(height: Height, weight: u32) -> i64
     requires weight { weight ≤ 4096 }
     requires height { IsHeight height }
     ensures value { result ≡ pos weight *ℤ height }
@@ -212,7 +215,7 @@ pub(crate) fn weighed(height: Height, weight: u32) -> i64
     weight as i64 * height
 }
 
-/// Whether the ground between a near cell and the far one beside it is above the sight.
+/// Whether the ground between a near and a far cell is above the sight.
 #[inline(always)]
 fn is_higher(
     cells: &[Cell],
@@ -233,16 +236,16 @@ fn is_higher(
         return false;
     };
     if far_weight == 0 {
-        return weighed(near, near_weight) > sight;
+        return weigh(near, near_weight) > sight;
     }
     let Some(far) = cells[index + beside].height() else {
         return false;
     };
-    weighed(near, near_weight) + weighed(far, far_weight) > sight
+    weigh(near, near_weight) + weigh(far, far_weight) > sight
 }
 
-/// How a walk goes on: by how much the index of the near cell and the part past it grow at each of
-/// its steps.
+/// The change of the near cell's index, and of the part past it, at each step.
+/// The index grows by `ahead` less `behind`, and by `beside` where the part fills a cell.
 #[derive(Clone, Copy)]
 pub struct Pace {
     steps: u32,
@@ -253,7 +256,7 @@ pub struct Pace {
 }
 
 impl Pace {
-    /// Of a walk along a line.
+    /// Returns the pace of a walk along a line.
     #[inline(always)]
     pub(crate) fn new(line: Sightline) -> Self
         requires line { IsSightline line }
@@ -274,13 +277,14 @@ impl Pace {
         }
     }
 
-    /// The index and the part at the next crossing.
+    /// Returns the index and the part at the next crossing.
     #[inline(always)]
     fn next(self, index: usize, part: u32) -> (usize, u32)
         requires parts { (part < self.steps) × (self.part < self.steps) × (self.steps ≤ 4096) }
         requires room { index + self.ahead + self.beside < 2 ^ 64 }
         requires stays { part + self.part < self.steps → self.behind ≤ index + self.ahead }
-        requires passes { self.steps ≤ part + self.part → self.behind ≤ index + self.ahead + self.beside }
+        requires passes { self.steps ≤ part + self.part →
+            self.behind ≤ index + self.ahead + self.beside }
         ensures stays { part + self.part < self.steps
             → (result.0 + self.behind ≡ index + self.ahead) × (result.1 ≡ part + self.part) }
         ensures passes { self.steps ≤ part + self.part
@@ -299,8 +303,8 @@ impl Pace {
     }
 }
 
-/// The first step from `first` on and before `end` at which the ground is above the line, where the line is
-/// at `start` at the first. None where it is so at none of them.
+/// Returns the first step, `first` to below `end`, with ground above the line.
+/// `start` is the place and the level of the line at step `first`.
 #[inline(always)]
 pub(crate) fn blocking_step(
     cells: &[Cell],

@@ -1,4 +1,4 @@
--- The eight ways from a place, and what stands on them.
+-- The eight directions from a place, and the places and entries there.
 use Rattle.std.proofs.Common.{◌≡◌, ◌≢◌, ℕ, zero, suc, ◌+◌, ◌-◌, ◌*◌, ◌%◌, ◌<◌, ◌≤◌, ◌||◌, ◌⊎◌, inl, inr, eqb, false, get_or, Contains, Option, None, Some, slice_index_or, sym, ap, refl, ◌∙◌, arith, lit<}
 use Rattle.std.proofs.Math.Nat.{suc-mul}
 use Rattle.std.proofs.lemmas.Bool.{cases_order, eq-eqb, ne_eqb, or_left, or_right, or_from}
@@ -10,7 +10,6 @@ use Rattle.terrain.specs.Ways.{before, place_if_both, ways_from, place_on, place
 use Rattle.terrain.specs.declared.place.Place.{Place}
 use Rattle.terrain.proofs.Places.{make_place, same_place}
 
--- the row or column before
 before_is : (n m : ℕ) → m + 1 ≡ n → before n ≡ Some m
 before_is zero m e = absurd (omega (arith, e))
 before_is (suc n) m e = ap (λ k. Some k) (omega (arith, e))
@@ -28,18 +27,18 @@ place_parts (Some r) None q e = absurd (none-some q e)
 place_parts (Some r) (Some c) q e =
     let s = same_Some (make_place r c) q e in (ap (λ (z : Place). Some z.row) s, ap (λ (z : Place). Some z.col) s)
 
--- a row or a column that is at most one away, and where it has moved
+-- a row or column at most one away: the one before, itself, or the one after
 abbrev Near : ℕ → ℕ → Type 0
 Near n m = (m ≤ n + 1) × (n ≤ m + 1)
 
 stays : (n m : ℕ) → Some n ≡ Some m → Near n m
 stays n m e = let s = same_Some n m e in (omega arith, omega arith)
 
-goes_on : (n m : ℕ) → Some (n + 1) ≡ Some m → Near n m × (n ≢ m)
-goes_on n m e = let s = same_Some (n + 1) m e in ((omega arith, omega arith), λ same. omega arith)
+moves_forward : (n m : ℕ) → Some (n + 1) ≡ Some m → Near n m × (n ≢ m)
+moves_forward n m e = let s = same_Some (n + 1) m e in ((omega arith, omega arith), λ same. omega arith)
 
-goes_back : (n m : ℕ) → before n ≡ Some m → Near n m × (n ≢ m)
-goes_back n m e = let s = before_parts n m e in ((omega arith, omega arith), λ same. omega arith)
+moves_back : (n m : ℕ) → before n ≡ Some m → Near n m × (n ≢ m)
+moves_back n m e = let s = before_parts n m e in ((omega arith, omega arith), λ same. omega arith)
 
 beside : (p q : Place) → Near p.row q.row → Near p.col q.col → Touches p q
 beside p q r c = record { row_down = r.0; row_up = r.1; col_right = c.0; col_left = c.1 }
@@ -51,14 +50,14 @@ col_moved : (p q : Place) → Near p.row q.row → Near p.col q.col × (p.col �
 col_moved p q r c = (beside p q r c.0, λ s. c.1 (ap (λ (z : Place). z.col) s))
 
 way_touches : (p q : Place) (k : ℕ) → k < 8 → slice_index_or (ways_from p) k (Some q) ≡ Some q → Touches p q × (p ≢ q)
-way_touches p q zero h e = let a = place_parts _ _ q e in col_moved p q (stays _ _ a.0) (goes_on _ _ a.1)
-way_touches p q (suc zero) h e = let a = place_parts _ _ q e in row_moved p q (goes_on _ _ a.0) (goes_on _ _ a.1).0
-way_touches p q (suc (suc zero)) h e = let a = place_parts _ _ q e in row_moved p q (goes_on _ _ a.0) (stays _ _ a.1)
-way_touches p q (suc (suc (suc zero))) h e = let a = place_parts _ _ q e in row_moved p q (goes_on _ _ a.0) (goes_back _ _ a.1).0
-way_touches p q (suc (suc (suc (suc zero)))) h e = let a = place_parts _ _ q e in col_moved p q (stays _ _ a.0) (goes_back _ _ a.1)
-way_touches p q (suc (suc (suc (suc (suc zero))))) h e = let a = place_parts _ _ q e in row_moved p q (goes_back _ _ a.0) (goes_back _ _ a.1).0
-way_touches p q (suc (suc (suc (suc (suc (suc zero)))))) h e = let a = place_parts _ _ q e in row_moved p q (goes_back _ _ a.0) (stays _ _ a.1)
-way_touches p q (suc (suc (suc (suc (suc (suc (suc zero))))))) h e = let a = place_parts _ _ q e in row_moved p q (goes_back _ _ a.0) (goes_on _ _ a.1).0
+way_touches p q zero h e = let a = place_parts _ _ q e in col_moved p q (stays _ _ a.0) (moves_forward _ _ a.1)
+way_touches p q (suc zero) h e = let a = place_parts _ _ q e in row_moved p q (moves_forward _ _ a.0) (moves_forward _ _ a.1).0
+way_touches p q (suc (suc zero)) h e = let a = place_parts _ _ q e in row_moved p q (moves_forward _ _ a.0) (stays _ _ a.1)
+way_touches p q (suc (suc (suc zero))) h e = let a = place_parts _ _ q e in row_moved p q (moves_forward _ _ a.0) (moves_back _ _ a.1).0
+way_touches p q (suc (suc (suc (suc zero)))) h e = let a = place_parts _ _ q e in col_moved p q (stays _ _ a.0) (moves_back _ _ a.1)
+way_touches p q (suc (suc (suc (suc (suc zero))))) h e = let a = place_parts _ _ q e in row_moved p q (moves_back _ _ a.0) (moves_back _ _ a.1).0
+way_touches p q (suc (suc (suc (suc (suc (suc zero)))))) h e = let a = place_parts _ _ q e in row_moved p q (moves_back _ _ a.0) (stays _ _ a.1)
+way_touches p q (suc (suc (suc (suc (suc (suc (suc zero))))))) h e = let a = place_parts _ _ q e in row_moved p q (moves_back _ _ a.0) (moves_forward _ _ a.1).0
 way_touches p q (suc (suc (suc (suc (suc (suc (suc (suc k)))))))) h e = absurd (omega (arith, h))
 
 pub Touches-from_ways : (p q : Place) → Contains (ways_from p) (Some q) → Touches p q × (p ≢ q)
@@ -100,7 +99,7 @@ Contains-ways_from p q h d =
       ]
     ]
 
--- what holds of each of eight numbers
+-- a proof for all eight directions from one for each
 pub eight : (P : ℕ → Type 0) → P 0 → P 1 → P 2 → P 3 → P 4 → P 5 → P 6 → P 7 → (n : ℕ) → n < 8 → P n
 eight P a b c d e f g h zero l = a
 eight P a b c d e f g h (suc zero) l = b
@@ -112,15 +111,15 @@ eight P a b c d e f g h (suc (suc (suc (suc (suc (suc zero)))))) l = g
 eight P a b c d e f g h (suc (suc (suc (suc (suc (suc (suc zero))))))) l = h
 eight P a b c d e f g h (suc (suc (suc (suc (suc (suc (suc (suc n)))))))) l = absurd (omega arith)
 
--- a way's code points to the place on that way
+-- a direction's code points to the place in that direction
 pub toward-code : (p : Place) (way : ℕ) → way < 8 → place_toward (code_of (Some way)) p ≡ place_on way p
 toward-code p = eight (λ way. place_toward (code_of (Some way)) p ≡ place_on way p) refl refl refl refl refl refl refl refl
 
--- each place that touches another lies on one of its ways
+-- each place that touches another lies in one of its directions
 pub way_to : (p q : Place) → Touches p q → p ≢ q → (way : ℕ) × (way < 8) × (place_on way p ≡ Some q)
 way_to p q t differ = let at = Contains-ways_from p q t differ in (at.0, at.1, get_or_default (ways_from p) at.0 None (Some q) at.1 ∙ at.2)
 
--- even ways lead along a row or column, and odd ones across a diagonal
+-- even directions run along a row or column, odd ones across a diagonal
 pub along : (p q : Place) (way : ℕ) → way < 8 → place_on way p ≡ Some q → (eqb p.row q.row || eqb p.col q.col) ≡ eqb (way % 2) 0
 along p q = eight (λ way. place_on way p ≡ Some q → (eqb p.row q.row || eqb p.col q.col) ≡ eqb (way % 2) 0)
     (λ e. let at = place_parts (Some p.row) (Some (p.col + 1)) q e in or_left _ _ (eq-eqb _ _ (same_Some _ _ at.0)))
@@ -135,7 +134,7 @@ along p q = eight (λ way. place_on way p ≡ Some q → (eqb p.row q.row || eqb
     across : (p.row ≢ q.row) → (p.col ≢ q.col) → (eqb p.row q.row || eqb p.col q.col) ≡ false
     across row col = or_from _ _ (ne_eqb _ _ row) (ne_eqb _ _ col)
 
--- two things on one way stand at one place
+-- two entries in one direction are at one place
 pub zip_some : {X Y : Type 0} (f : Place → Option X) (g : Place → Option Y) (o : Option Place) (x : X) (y : Y) → option_zip (option_and_then f o) (option_and_then g o) ≡ Some (x, y) →
     (q : Place) × (o ≡ Some q) × (f q ≡ Some x) × (g q ≡ Some y)
 zip_some {X = X} {Y = Y} f g None x y e = absurd (none-some (x, y) e)
@@ -148,8 +147,8 @@ zip_some {X = X} {Y = Y} f g (Some q) x y e = at (f q) (g q) refl refl e
         let both = some_pair_parts a x b y (sym (ap (λ (z : Option X). option_zip z (g q)) u ∙ ap (λ (z : Option Y). option_zip (Some a) z) v) ∙ e) in
         (q, refl, u ∙ ap Some both.0, v ∙ ap Some both.1)
 
--- The place on a way from one with a row and a column before it, where rows begin at a first row and have so many columns
--- from a first column on, and where its cell stands in their row order.
+-- `q` is the place in direction `way` from `p`, which lies past row `top` and column `left`.
+-- `at` is its index in the row order of rows of `cols` columns that begin there.
 pub record IsOnWay (top left cols at : ℕ) (p : Place) (way : ℕ) (q : Place) : Type 0 where
   pub on : place_on way p ≡ Some q
   pub index : (q.row - top) * cols + (q.col - left) ≡ get_or (around_index cols at) way 0
@@ -180,19 +179,19 @@ module _ (top left cols at : ℕ) (p : Place) (r c : ℕ) (row : p.row ≡ r + 1
   west : before p.col ≡ Some c
   west = before_is p.col c (sym col)
 
-  amid_is : (p.row - top) * cols ≡ (r - top) * cols + cols
-  amid_is = ap (λ (n : ℕ). n * cols) (omega (arith, row, below)) ∙ suc-mul (r - top) cols
+  own_row_is : (p.row - top) * cols ≡ (r - top) * cols + cols
+  own_row_is = ap (λ (n : ℕ). n * cols) (omega (arith, row, below)) ∙ suc-mul (r - top) cols
 
   below_is : (p.row + 1 - top) * cols ≡ (r - top) * cols + cols + cols
   below_is = ap (λ (n : ℕ). n * cols) (omega (arith, row, below)) ∙ suc-mul (suc (r - top)) cols ∙ ap (λ (n : ℕ). n + cols) (suc-mul (r - top) cols)
 
   pub on_ways : (way : ℕ) → way < 8 → (q : Place) × IsOnWay top left cols at p way q
   on_ways = eight (λ way. (q : Place) × IsOnWay top left cols at p way q)
-      (found 0 p.row (p.col + 1) refl (omega (arith, row), omega (arith, row)) (omega (arith, col), omega (arith, col)) (inr (λ e. omega arith)) (omega (arith, at_is, amid_is, col, right)))
-      (found 1 (p.row + 1) (p.col + 1) refl (omega (arith, row), omega (arith, row)) (omega (arith, col), omega (arith, col)) (inl (λ e. omega arith)) (omega (arith, at_is, amid_is, below_is, col, right)))
-      (found 2 (p.row + 1) p.col refl (omega (arith, row), omega (arith, row)) (omega (arith, col), omega (arith, col)) (inl (λ e. omega arith)) (omega (arith, at_is, amid_is, below_is, col, right)))
-      (found 3 (p.row + 1) c (ap (λ (o : Option ℕ). place_if_both (Some (p.row + 1)) o) west) (omega (arith, row), omega (arith, row)) (omega arith, omega arith) (inl (λ e. omega arith)) (omega (arith, at_is, amid_is, below_is, col, right)))
-      (found 4 p.row c (ap (λ (o : Option ℕ). place_if_both (Some p.row) o) west) (omega (arith, row), omega (arith, row)) (omega arith, omega arith) (inr (λ e. omega (arith, col))) (omega (arith, at_is, amid_is, col, right)))
-      (found 5 r c (ap (λ (o : Option ℕ). place_if_both o (before p.col)) north ∙ ap (λ (o : Option ℕ). place_if_both (Some r) o) west) (omega arith, omega arith) (omega arith, omega arith) (inl (λ e. omega (arith, row))) (omega (arith, at_is, amid_is, col, right)))
-      (found 6 r p.col (ap (λ (o : Option ℕ). place_if_both o (Some p.col)) north) (omega arith, omega arith) (omega (arith, col), omega (arith, col)) (inl (λ e. omega (arith, row))) (omega (arith, at_is, amid_is, col, right)))
-      (found 7 r (p.col + 1) (ap (λ (o : Option ℕ). place_if_both o (Some (p.col + 1))) north) (omega arith, omega arith) (omega (arith, col), omega (arith, col)) (inl (λ e. omega (arith, row))) (omega (arith, at_is, amid_is, col, right)))
+      (found 0 p.row (p.col + 1) refl (omega (arith, row), omega (arith, row)) (omega (arith, col), omega (arith, col)) (inr (λ e. omega arith)) (omega (arith, at_is, own_row_is, col, right)))
+      (found 1 (p.row + 1) (p.col + 1) refl (omega (arith, row), omega (arith, row)) (omega (arith, col), omega (arith, col)) (inl (λ e. omega arith)) (omega (arith, at_is, own_row_is, below_is, col, right)))
+      (found 2 (p.row + 1) p.col refl (omega (arith, row), omega (arith, row)) (omega (arith, col), omega (arith, col)) (inl (λ e. omega arith)) (omega (arith, at_is, own_row_is, below_is, col, right)))
+      (found 3 (p.row + 1) c (ap (λ (o : Option ℕ). place_if_both (Some (p.row + 1)) o) west) (omega (arith, row), omega (arith, row)) (omega arith, omega arith) (inl (λ e. omega arith)) (omega (arith, at_is, own_row_is, below_is, col, right)))
+      (found 4 p.row c (ap (λ (o : Option ℕ). place_if_both (Some p.row) o) west) (omega (arith, row), omega (arith, row)) (omega arith, omega arith) (inr (λ e. omega (arith, col))) (omega (arith, at_is, own_row_is, col, right)))
+      (found 5 r c (ap (λ (o : Option ℕ). place_if_both o (before p.col)) north ∙ ap (λ (o : Option ℕ). place_if_both (Some r) o) west) (omega arith, omega arith) (omega arith, omega arith) (inl (λ e. omega (arith, row))) (omega (arith, at_is, own_row_is, col, right)))
+      (found 6 r p.col (ap (λ (o : Option ℕ). place_if_both o (Some p.col)) north) (omega arith, omega arith) (omega (arith, col), omega (arith, col)) (inl (λ e. omega (arith, row))) (omega (arith, at_is, own_row_is, col, right)))
+      (found 7 r (p.col + 1) (ap (λ (o : Option ℕ). place_if_both o (Some (p.col + 1))) north) (omega arith, omega arith) (omega (arith, col), omega (arith, col)) (inl (λ e. omega (arith, row))) (omega (arith, at_is, own_row_is, col, right)))

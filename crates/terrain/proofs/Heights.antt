@@ -1,4 +1,4 @@
--- What stands in a terrain are heights, and heights fit their type.
+-- A terrain's numbers are heights, and heights fit in an `i64`.
 use Rattle.std.proofs.Common.{◌≡◌, ℕ, ◌<◌, ◌≤◌, ◌^◌, ℤ, pos, negsuc, true, List, length, get_or, Option, None, Some, IfSome, unwrap_or, sym, ap, ◌∙◌, arith}
 use Rattle.std.specs.Prelude.{int_le, unsigned_abs}
 use Rattle.std.proofs.lemmas.Int.{fits_signed_from_abs}
@@ -13,7 +13,7 @@ use Rattle.terrain.specs.Neighbours.{height_at, height_of, index_of}
 use Rattle.terrain.specs.declared.place.Place.{Place}
 use Rattle.terrain.proofs.Places.{inside_from_entry, entry-inside, index_below}
 
--- the width of a height
+-- the width of `Height`
 abbrev pub height_width : Width
 height_width = w64
 
@@ -21,19 +21,17 @@ height_abs : (z : ℤ) → int_le lowest z ≡ true → int_le z highest ≡ tru
 height_abs (pos n) low high = let k = leb-true n 1000000000000000 high in omega (arith, k)
 height_abs (negsuc n) low high = let k = leb-true n 999999999999999 low in omega (arith, k)
 
--- a height fits
 pub height_fits : (z : ℤ) → int_le lowest z ≡ true → int_le z highest ≡ true → SFits height_width z
 height_fits z low high = fits_signed_from_abs height_width z (omega (arith, height_abs z low high))
 
--- the height of a data cell
 pub height_is : (t : Terrain) (p : Place) (h : ℤ) → height_at t p ≡ Some h → height_of t p ≡ h
 height_is t p h e = ap (λ (o : Option ℤ). unwrap_or o (pos 0)) e
 
--- what stands in a list of heights
+-- an entry of a list of heights is a height
 pub listed_height : (cells : List (Option ℤ)) (i : ℕ) (h : ℤ) → All (λ c. IfSome c IsHeight) cells → i < length cells → get_or cells i None ≡ Some h → IsHeight h
 listed_height cells i h heights within e = MatchOption-at_some _ _ h e (All-get_or (λ (c : Option ℤ). IfSome c IsHeight) cells i None within heights)
 
--- what stands at a place of a terrain
+-- a number at a place of a terrain is a height
 pub height_in : (t : Terrain) (q : Place) (h : ℤ) → IsTerrain t → height_at t q ≡ Some h → IsHeight h
 height_in t q h lawful e =
     let inside = inside_from_entry t.cols t.rows t.cells q h e in

@@ -1,11 +1,11 @@
 -- options, and whole numbers in their order
 pub mod Options
 pub mod Orders
--- what a stored cell or count gives back
+-- stored cells and counts, read back
 pub mod Stored
 -- places of a grid
 pub mod Places
--- ways from a place
+-- directions from a place
 pub mod EightWays
 -- places of a list
 pub mod Listed

@@ -1,4 +1,4 @@
--- Places of a list, found by a test.
+-- A search of a list of places finds exactly its entries.
 use Rattle.std.proofs.Common.{◌≡◌, ◌<◌, ℕ, zero, suc, true, List, [], ◌∷◌, length, get_or, refl, sym, subst, arith}
 use Rattle.std.specs.Prelude.{◌==◌}
 use Rattle.std.specs.List.{list_any, Contains}
@@ -14,7 +14,7 @@ place_is p q h = let both = and_parts (p.row == q.row) (p.col == q.col) h in sam
 pub is_place_from : (p q : Place) → p ≡ q → is_place p q ≡ true
 is_place_from p q e = subst (λ r. is_place p r ≡ true) e (and_from (p.row == p.row) _ (eq-eqb _ _ refl) (eq-eqb _ _ refl))
 
--- the test finds what stands in the list, and nothing else
+-- a place that the search finds is in the list
 pub listed_from_any : (p : Place) (places : List Place) → list_any (is_place p) places ≡ true → Contains places p
 listed_from_any p places h = Contains-from_any place_is p places h
 

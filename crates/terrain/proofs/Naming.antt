@@ -1,4 +1,4 @@
--- Named places without a fault lie in the grid and have data.
+-- Sinks without a fault lie in the grid and have data.
 use Rattle.std.proofs.Common.{◌≡◌, ◌+◌, ℕ, ℤ, zero, suc, true, false, not, ◌&&◌, List, [], ◌∷◌, length, Option, None, Some, fold, refl, sym, ap, subst, ◌∙◌, inl, inr, arith, is_none, is_some}
 use Rattle.std.specs.Prelude.{nat_lt, if◌then◌else◌}
 use Rattle.std.specs.List.{All, list_any}
@@ -49,7 +49,7 @@ few_sinks t sinks h = elim (cases_Bool (nat_lt most_sinks (length sinks))) [
   | inr few ↦ few
 ]
 
--- without a fault all are sound
+-- sinks without a fault are sound
 pub sinks_sound : (t : Terrain) (sinks : List Place) → sinks_fault t sinks ≡ None → All (IsSound t) sinks
 sinks_sound t sinks h = all_sound t 0 sinks (sym (cond-false _ _ _ (few_sinks t sinks h)) ∙ h)
 

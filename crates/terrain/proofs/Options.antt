@@ -1,4 +1,4 @@
--- What an option is, and one in a list.
+-- Options, and lists of them.
 use Rattle.std.proofs.Common.{◌≡◌, ◌⊎◌, inl, inr, ℕ, ◌<◌, List, length, get_or, false, Option, None, Some, IsSome, MatchOption, is_some, sym, refl}
 use Rattle.std.proofs.lemmas.Bool.{false≢true, cases_lt}
 use Rattle.std.proofs.lemmas.List.{get_or_past}

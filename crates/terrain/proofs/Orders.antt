@@ -1,4 +1,4 @@
--- Whole numbers in their order, and the greater of two.
+-- The order of whole numbers, and the greater of two.
 use Rattle.std.proofs.Common.{◌≡◌, ℤ, ◌≤ℤ◌, arith}
 use Rattle.std.specs.Int.{int_max}
 use Rattle.std.proofs.lemmas.Int.{ints, clamps}
@@ -12,7 +12,7 @@ trans x y z a b = omega (arith, ints, a, b)
 pub max_comm : (x y : ℤ) → int_max x y ≡ int_max y x
 max_comm x y = omega (arith, ints, clamps)
 
--- the greater of two is below neither, and no greater than what neither is above
+-- the greater of two is their least upper bound
 pub max_left : (x y : ℤ) → x ≤ℤ int_max x y
 max_left x y = omega (arith, ints, clamps)
 

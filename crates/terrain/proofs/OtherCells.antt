@@ -7,14 +7,14 @@ use Rattle.terrain.specs.Decimal.{scaled_value}
 use Rattle.terrain.specs.Raster.{Raster, IsLawful, IsHeight}
 use Rattle.terrain.specs.Parts.{raster_with_parts}
 
--- what holds of all heights of a list holds of heights that stand in it
-heights_still : (P : ℤ → Type 0) (old cells : List (Option ℤ)) → All (λ c. IfSome c P) old → All (λ c. IfSome c (λ h. Contains old (Some h))) cells → All (λ c. IfSome c P) cells
-heights_still P old cells all held i d low = at (get_or cells i d) (held i d low) where
+-- a property of all heights of a list holds for cells with heights from it
+heights_kept : (P : ℤ → Type 0) (old cells : List (Option ℤ)) → All (λ c. IfSome c P) old → All (λ c. IfSome c (λ h. Contains old (Some h))) cells → All (λ c. IfSome c P) cells
+heights_kept P old cells all held i d low = at (get_or cells i d) (held i d low) where
   at : (o : Option ℤ) → IfSome o (λ h. Contains old (Some h)) → IfSome o P
   at None h = h
   at (Some z) h = All-contains (λ c. IfSome c P) old (Some z) all h
 
--- a grid stays lawful with other cells whose heights stood in it
+-- a grid stays lawful with cells whose heights occur in it
 pub lawful_with_cells : (g : Raster) (cells : List (Option ℤ)) → IsLawful g → length cells ≡ g.terrain.cols * g.terrain.rows → All (λ c. IfSome c (λ h. Contains g.terrain.cells (Some h))) cells → IsLawful (raster_with_parts g cells g.terrain.sinks)
 lawful_with_cells g cells lawful size held =
     let t = lawful.terrain in
@@ -25,7 +25,7 @@ lawful_with_cells g cells lawful size held =
         few_cols = t.few_cols;
         few_rows = t.few_rows;
         size = size;
-        heights = heights_still IsHeight g.terrain.cells cells t.heights held;
+        heights = heights_kept IsHeight g.terrain.cells cells t.heights held;
         sinks = t.sinks;
       };
       scale = lawful.scale;
@@ -34,5 +34,5 @@ lawful_with_cells g cells lawful size held =
       cellsize = lawful.cellsize;
       above_zero = lawful.above_zero;
       nodata = lawful.nodata;
-      apart = heights_still (λ h. scaled_value g.scale g.nodata ≢ Some h) g.terrain.cells cells lawful.apart held;
+      apart = heights_kept (λ h. scaled_value g.scale g.nodata ≢ Some h) g.terrain.cells cells lawful.apart held;
     }

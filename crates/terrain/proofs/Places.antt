@@ -1,4 +1,4 @@
--- What a list in row order has at a place.
+-- The entries of lists in row order, by place.
 use Rattle.std.proofs.Common.{◌≡◌, ◌≢◌, ℕ, ◌+◌, ◌*◌, ◌/◌, ◌%◌, ◌<◌, ◌≤◌, List, get_or, Option, None, Some, IsNone, is_some, sym, ap, ◌∙◌, ◌⊎◌, inl, inr, arith}
 use Rattle.std.proofs.lemmas.Bool.{cases_eq, cond-true, cond-false, lt-ltb, and_from, le-ltb, and_left, and_right, cases_lt}
 use Rattle.std.proofs.lemmas.Nat.{mul-add-lt, div-mul-add, mod-mul-add}
@@ -9,11 +9,10 @@ use Rattle.terrain.specs.declared.place.Place.{Place}
 abbrev pub make_place : ℕ → ℕ → Place
 make_place r c = record { row = r; col = c }
 
--- two places with one row and one column are one
+-- places with equal rows and equal columns are equal
 pub same_place : (p q : Place) → p.row ≡ q.row → p.col ≡ q.col → p ≡ q
 same_place p q a b = ap (λ r. make_place r p.col) a ∙ ap (λ c. make_place q.row c) b
 
--- two places are one or differ
 pub cases_place : (p q : Place) → (p ≡ q) ⊎ (p ≢ q)
 cases_place p q =
     elim (cases_eq p.row q.row) [
@@ -21,21 +20,20 @@ cases_place p q =
       | inr n ↦ inr (λ e. n (ap (λ (r : Place). r.row) e))
     ]
 
--- an entry inside
+-- inside the grid, the entry is the list's at the place's index
 pub entry_or-inside : {X : Type 0} (cols rows : ℕ) (xs : List X) (none : X) (p : Place) → p.row < rows → p.col < cols → entry_or cols rows xs none p ≡ get_or xs (index_of cols p) none
 entry_or-inside cols rows xs none p a b = cond-true _ _ _ (and_from _ _ (lt-ltb _ _ a) (lt-ltb _ _ b))
 
 pub entry-inside : {X : Type 0} (cols rows : ℕ) (xs : List (Option X)) (p : Place) → p.row < rows → p.col < cols → entry_at cols rows xs p ≡ get_or xs (index_of cols p) None
 entry-inside cols rows xs p a b = entry_or-inside cols rows xs None p a b
 
--- no entry outside
+-- there is no entry south of the last row
 pub entry-below : {X : Type 0} (cols rows : ℕ) (xs : List (Option X)) (p : Place) → rows ≤ p.row → entry_at cols rows xs p ≡ None
 entry-below cols rows xs p a = cond-false _ _ _ (and_left _ _ (le-ltb _ _ a))
 
 pub entry-beside : {X : Type 0} (cols rows : ℕ) (xs : List (Option X)) (p : Place) → cols ≤ p.col → entry_at cols rows xs p ≡ None
 entry-beside cols rows xs p a = cond-false _ _ _ (and_right _ _ (le-ltb _ _ a))
 
--- what stands at a place stands inside
 pub inside_from_entry : {X : Type 0} (cols rows : ℕ) (xs : List (Option X)) (p : Place) (x : X) → entry_at cols rows xs p ≡ Some x → (p.row < rows) × (p.col < cols)
 inside_from_entry cols rows xs p x e =
     elim (cases_lt p.row rows) [
@@ -43,7 +41,7 @@ inside_from_entry cols rows xs p x e =
       | inr n ↦ let h = entry-below cols rows xs p n in absurd (cc)
     ]
 
--- two places inside that stand at one index are one
+-- places inside with equal indices are equal
 pub index_injective : (cols : ℕ) (p q : Place) → p.col < cols → q.col < cols → index_of cols p ≡ index_of cols q → p ≡ q
 index_injective cols p q a b e =
     same_place p q
@@ -57,11 +55,11 @@ index_below cols rows p a b = mul-add-lt p.row cols p.col rows a b
 abbrev pub IsBefore : Place → ℕ → ℕ → Type 0
 IsBefore q row col = (q.row < row) ⊎ ((q.row ≡ row) × (q.col < col))
 
--- of the places that touch p none that comes before the row and the column is a gap
+-- no place that touches `p` and comes before the row and column is a gap
 abbrev pub HasNoGapBefore : (Place → Type 0) → Place → ℕ → ℕ → Type 0
 HasNoGapBefore is_gap p row col = (q : Place) → Touches p q → IsBefore q row col → is_gap q → ⊥
 
--- in the first and the last row and column each place has a gap around, where what is outside is a gap
+-- places in the first or last row or column have a gap around, if each place outside is a gap
 pub gap_at_end : {G : Place → Type 0} (cols rows : ℕ) (p : Place) → ((q : Place) → (rows ≤ q.row) ⊎ (cols ≤ q.col) → G q) →
     (p.row ≡ 0) ⊎ (p.row + 1 ≡ rows) ⊎ (p.col ≡ 0) ⊎ (p.col + 1 ≡ cols) → HasGapWhere G p
 gap_at_end cols rows p outside (inl e) = inl e
@@ -77,7 +75,7 @@ gap_at_end cols rows p outside (inr (inr (inr e))) = inr (inr (
   outside _ (inr (omega (arith, e))),
 ))
 
--- where gaps of one kind are gaps of another
+-- a gap around stays one under a weaker notion of gap
 pub gap_where : {P Q : Place → Type 0} (p : Place) → ((q : Place) → Touches p q → P q → Q q) → HasGapWhere P p → HasGapWhere Q p
 gap_where p f (inl e) = inl e
 gap_where p f (inr (inl e)) = inr (inl e)

@@ -1,4 +1,4 @@
--- What a stored cell gives back, and a stored count.
+-- Stored cells and counts, read back.
 use Rattle.std.proofs.Common.{◌≡◌, ◌≤ℤ◌, ◌<◌, ℕ, ℤ, inl, inr, Option, Some, false, unwrap_or, ap, sym, ◌∙◌, arith}
 use Rattle.std.proofs.lemmas.Int.{ints}
 use Rattle.terrain.specs.Raster.{highest}
@@ -8,12 +8,12 @@ use Rattle.std.proofs.lemmas.Bool.Decides.{Decides-int_eq}
 use Rattle.terrain.specs.StoredCells.{stored_cell, no_data, stored_count, uncounted}
 use Rattle.terrain.proofs.cell.Cell.TheLaws.{the_inverse_ok}
 
--- the law of `Cell`'s view
-pub stored_again : (z : ℤ) → unwrap_or (stored_cell z) no_data ≡ z
-stored_again z = ap (λ c. c.stored) (the_inverse_ok (record { stored = z }) tt)
+-- the inverse law of the view of `Cell`
+pub stored_inverse : (z : ℤ) → unwrap_or (stored_cell z) no_data ≡ z
+stored_inverse z = ap (λ c. c.stored) (the_inverse_ok (record { stored = z }) tt)
 
 pub stored_injective : (y z : ℤ) → stored_cell y ≡ stored_cell z → y ≡ z
-stored_injective y z same = sym (stored_again y) ∙ ap (λ (o : Option ℤ). unwrap_or o no_data) same ∙ stored_again z
+stored_injective y z same = sym (stored_inverse y) ∙ ap (λ (o : Option ℤ). unwrap_or o no_data) same ∙ stored_inverse z
 
 pub stored_some : (z : ℤ) → z ≤ℤ highest → stored_cell z ≡ Some z
 stored_some z low =

@@ -1,33 +1,36 @@
--- Which cells are next to each other, and which drain off the data.
+-- Places and the heights there; neighbours, edge cells and end cells.
+-- Source: Jenson and Domingue (1988).
+-- Trust base.
 use Rattle.std.specs.Prelude.{◌≡◌, ◌≢◌, ℕ, ◌+◌, ◌*◌, ◌≤◌, ℤ, pos, Bool, List, Option, None, IsSome, IsNone, ◌&&◌, ◌==◌, if◌then◌else◌, slice_index_or, unwrap_or, ◌⊎◌, Contains}
 use Rattle.terrain.specs.Raster.{Terrain, IsInGrid, is_in_grid}
 use Rattle.terrain.specs.declared.place.Place.{Place}
 
--- Both are one place.
+-- Both places are the same.
 abbrev pub is_place : Place → Place → Bool
 is_place p q = p.row == q.row && p.col == q.col
 
--- The place is one of the terrain's.
+-- The place is inside the terrain's grid.
 abbrev pub IsInside : Terrain → Place → Type 0
 IsInside t p = IsInGrid t.cols t.rows p
 
--- Where the cell of a place stands in row order.
+-- The index of a place in row order.
 abbrev pub index_of : ℕ → Place → ℕ
 index_of cols p = p.row * cols + p.col
 
--- The entry at a place of a list in row order, and outside what stands for none.
+-- The entry at a place of a list in row order; `none` outside the grid.
 abbrev pub entry_or : {X : Type 0} → ℕ → ℕ → List X → X → Place → X
 entry_or cols rows entries none p =
     if is_in_grid cols rows p then slice_index_or entries (index_of cols p) none else none
 
+-- The entry at a place of a list in row order; `None` outside the grid.
 abbrev pub entry_at : {X : Type 0} → ℕ → ℕ → List (Option X) → Place → Option X
 entry_at cols rows entries p = entry_or cols rows entries None p
 
--- The height at a place, None outside the grid and where there is no data.
+-- The height at a place; `None` outside the grid and where there is no data.
 abbrev pub height_at : Terrain → Place → Option ℤ
 height_at t p = entry_at t.cols t.rows t.cells p
 
--- The height of a data cell.
+-- The height of a data cell; 0 elsewhere.
 abbrev pub height_of : Terrain → Place → ℤ
 height_of t p = unwrap_or (height_at t p) (pos 0)
 
@@ -49,8 +52,8 @@ pub record IsNeighbour (t : Terrain) (p q : Place) : Type 0 where
   pub from_data : IsDataCell t p
   pub to_data : IsDataCell t q
 
--- At least one of the eight places around is a gap. A place of the first row or column has one outside,
--- to the north or the west; the others are places with numbers.
+-- At least one of the eight places around is a gap. A place in the first row or column has one:
+-- the places to the north or west of it are outside the grid.
 abbrev pub HasGapWhere : (Place → Type 0) → Place → Type 0
 HasGapWhere is_gap p = (p.row ≡ 0) ⊎ (p.col ≡ 0) ⊎ ((q : Place) × Touches p q × is_gap q)
 
@@ -62,7 +65,7 @@ HasGapAround t p = HasGapWhere (λ q. IsNone (height_at t q)) p
 abbrev pub IsEdge : Terrain → Place → Type 0
 IsEdge t p = IsDataCell t p × HasGapAround t p
 
--- A data cell that is named as a sink.
+-- A data cell that the caller named as a sink.
 abbrev pub IsSink : Terrain → Place → Type 0
 IsSink t p = IsDataCell t p × Contains t.sinks p
 

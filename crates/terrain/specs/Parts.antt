@@ -1,4 +1,5 @@
--- A grid's parts as contracts see them. Source: this project.
+-- The grid that a header, a scale, cells and sinks make. Source: this project.
+-- Public.
 use Rattle.std.specs.Prelude.{ℕ, ℤ, List, Option}
 use Rattle.terrain.specs.Raster.{Raster}
 use Rattle.terrain.specs.declared.grid.GridHeader.{GridHeader}
@@ -15,6 +16,7 @@ raster_with header scale cells sinks = record {
   scale = scale;
 }
 
--- The same grid with other cells and sinks.
+-- The grid with these cells and sinks in place of its own.
 abbrev pub raster_with_parts : Raster → List (Option ℤ) → List Place → Raster
-raster_with_parts g cells sinks = record g { terrain = record g.terrain { cells = cells; sinks = sinks } }
+raster_with_parts g cells sinks =
+    record g { terrain = record g.terrain { cells = cells; sinks = sinks } }

@@ -1,4 +1,5 @@
--- Named sinks: what is wrong with a list of them, and which of them count. Source: this project.
+-- Named sinks: the fault of a list, and its places each once. Source: this project.
+-- Trust base.
 use Rattle.std.specs.Prelude.{◌≡◌, ℕ, ◌+◌, not, nat_lt, is_none, if◌then◌else◌, List, [], ◌∷◌, ◌++◌, length, Option, None, Some, Result, Err}
 use Rattle.std.specs.List.{fold, list_any}
 use Rattle.std.specs.Option.{option_or}
@@ -8,10 +9,11 @@ use Rattle.terrain.specs.declared.place.Place.{Place}
 use Rattle.terrain.specs.declared.sinks.SinkFault.{SinkFault}
 use Rattle.terrain.specs.declared.sinks.SinkFault.TheVariants.{Outside, OnNodata, TooManySinks, Memory}
 
+-- The greatest length of a list of sinks.
 abbrev pub most_sinks : ℕ
 most_sinks = 1024
 
--- The place comes last, unless it stands in the list.
+-- The list with the place added at its end, unless the list has it.
 abbrev pub named_once : List Place → Place → List Place
 named_once named p = if list_any (is_place p) named then named else named ++ p ∷ []
 
@@ -19,31 +21,34 @@ named_once named p = if list_any (is_place p) named then named else named ++ p �
 abbrev pub each_once : List Place → List Place
 each_once places = fold named_once [] places
 
--- What is wrong with the sink at this place of the list.
+-- The fault of a sink that is this entry of the list.
 abbrev pub sink_fault_of : Terrain → ℕ → Place → Option SinkFault
 sink_fault_of t index p =
     if not (is_in_grid t.cols t.rows p) then Some (Outside index)
     else if is_none (height_at t p) then Some (OnNodata index)
     else None
 
--- The first sink at fault, counted from this index.
+-- The fault of the first faulty sink, where the list's entries count from this index.
 abbrev pub first_sink_fault : Terrain → ℕ → List Place → Option SinkFault
 first_sink_fault t index [] = None
-first_sink_fault t index (p ∷ rest) = option_or (sink_fault_of t index p) (first_sink_fault t (index + 1) rest)
+first_sink_fault t index (p ∷ rest) =
+    option_or (sink_fault_of t index p) (first_sink_fault t (index + 1) rest)
 
--- The one fault of named sinks: too many, repeats counted, and then the first that is outside or has no data.
+-- The fault of a list of sinks: too many, repeats counted; else its first faulty sink.
 abbrev pub sinks_fault : Terrain → List Place → Option SinkFault
-sinks_fault t sinks = if nat_lt most_sinks (length sinks) then Some TooManySinks else first_sink_fault t 0 sinks
+sinks_fault t sinks =
+    if nat_lt most_sinks (length sinks) then Some TooManySinks else first_sink_fault t 0 sinks
 
 -- The terrain with these sinks in place of its own.
 abbrev pub with_sinks : Terrain → List Place → Terrain
 with_sinks t sinks = record t { sinks = sinks }
 
--- The grid with each of these places as a sink, in place of its own sinks.
+-- The grid with these places, each once, in place of its own sinks.
 abbrev pub raster_with_sinks : Raster → List Place → Raster
 raster_with_sinks g sinks = record g { terrain = with_sinks g.terrain (each_once sinks) }
 
--- How a naming is refused: its fault exactly where there is one, and else only for want of memory.
-pub record RefusesSinks {T : Type 0} (fault : Option SinkFault) (result : Result T SinkFault) : Type 0 where
+-- A list of sinks with a fault is refused with that fault; one without fails only for memory.
+pub record RefusesSinks {T : Type 0} (fault : Option SinkFault)
+    (result : Result T SinkFault) : Type 0 where
   pub told : (f : SinkFault) → fault ≡ Some f → result ≡ Err f
   pub memory : fault ≡ None → (f : SinkFault) → result ≡ Err f → f ≡ Memory

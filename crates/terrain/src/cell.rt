@@ -1,6 +1,6 @@
-//! A cell: its height or no data, in 8 bytes.
+//! A cell of a grid: a height or no data, in 8 bytes.
 //!
-//! Contracts see it as an option. [`Cell::of`] and [`Cell::height`] convert.
+//! Contracts see it as an option; [`Cell::of`] and [`Cell::height`] convert.
 ghost use Rattle.std.specs.Prelude.{◌≡◌, ◌↔◌, ◌≤ℤ◌, IsTrue, None, Some, unwrap_or};
 ghost use Rattle.terrain.specs.Raster.{highest};
 ghost use Rattle.terrain.specs.StoredCells.{stored_cell, no_data};
@@ -8,10 +8,10 @@ ghost use Rattle.terrain.specs.StoredCells.{stored_cell, no_data};
 use crate::place::Height;
 use std::marker::Model;
 
-/// Stands for the height of a cell without data: above every height.
+/// The stored number of a cell without data; above [`HIGHEST`](crate::HIGHEST).
 pub const NO_DATA: Height = Height::MAX;
 
-/// A cell of a grid: its height, or no data. It takes 8 bytes, where `Option<Height>` takes 16.
+/// A height or no data, in 8 bytes; an `Option<Height>` takes 16.
 #[derive(Clone, Copy, Debug, PartialEq, Eq)]
 pub struct Cell {
     stored: Height,
@@ -31,16 +31,17 @@ impl Model for Cell {
 
     ghost inverse = { λ o. record { stored = unwrap_or o no_data } };
 
-    ghost inverse_ok = { λ c _. ap (λ n. record { stored = n }) (elim (cases_Bool (int_eq c.stored no_data)) [
-      | inl same ↦
-          ap (λ o. unwrap_or o no_data) (cond-true _ _ _ same)
-          ∙ sym ((Decides-int_eq c.stored no_data).0 same)
-      | inr other ↦ ap (λ o. unwrap_or o no_data) (cond-false _ _ _ other)
-    ]) };
+    ghost inverse_ok = { λ c _.
+        ap (λ n. record { stored = n }) (elim (cases_Bool (int_eq c.stored no_data)) [
+          | inl same ↦
+              ap (λ o. unwrap_or o no_data) (cond-true _ _ _ same)
+              ∙ sym ((Decides-int_eq c.stored no_data).0 same)
+          | inr other ↦ ap (λ o. unwrap_or o no_data) (cond-false _ _ _ other)
+        ]) };
 }
 
 impl Cell {
-    /// A cell of this height; of [`NO_DATA`] it has no data.
+    /// Returns a cell with this height, or without data if it is [`NO_DATA`].
     #[inline(always)]
     #[tactic(auto, using(crate::proofs::Stored::stored_some))]
     pub fn of(height: Height) -> Cell
@@ -50,7 +51,7 @@ impl Cell {
         Cell { stored: height }
     }
 
-    /// A cell without data.
+    /// Returns a cell without data.
     #[inline(always)]
     pub fn no_data() -> Cell
         ensures { result ≡ None }
@@ -58,7 +59,7 @@ impl Cell {
         Cell { stored: NO_DATA }
     }
 
-    /// The cell's height, None where it has no data.
+    /// Returns the height, or `None` if the cell has no data.
     #[inline(always)]
     pub fn height(self) -> Option<Height>
         ensures { result ≡ self }
@@ -70,7 +71,7 @@ impl Cell {
         }
     }
 
-    /// The cell's height, [`NO_DATA`] where it has no data.
+    /// Returns the height, or [`NO_DATA`] if the cell has no data.
     #[inline(always)]
     pub fn number(self) -> Height
         ensures { result ≡ unwrap_or self no_data }
@@ -78,7 +79,7 @@ impl Cell {
         self.stored
     }
 
-    /// Whether both cells have one height, or neither has data.
+    /// Returns whether the heights are equal, or neither cell has data.
     #[inline(always)]
     #[tactic(auto, using(crate::proofs::Stored::stored_injective))]
     pub fn is_level_with(self, other: Cell) -> bool

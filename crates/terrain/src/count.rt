@@ -1,15 +1,15 @@
-//! An entry of a map of whole numbers, or no data, in 4 bytes.
+//! An entry of a map of whole numbers: a number or no data, in 4 bytes.
 //!
-//! Contracts see it as an option. [`Count::of`] and [`Count::value`] convert.
+//! Contracts see it as an option; [`Count::of`] and [`Count::value`] convert.
 ghost use Rattle.std.specs.Prelude.{◌≡◌, ◌<◌, None, Some};
 ghost use Rattle.terrain.specs.StoredCells.{stored_count, uncounted};
 
 use std::marker::Model;
 
-/// Stands for no data: above every number of cells, of basins and of observers.
+/// The stored number of no data, above every count of cells, basins or observers.
 const UNCOUNTED: u32 = u32::MAX;
 
-/// A whole number that a map has at a cell, or no data. It takes 4 bytes, where `Option<u32>` takes 8.
+/// A map's value at a cell or no data, in 4 bytes; an `Option<u32>` takes 8.
 #[derive(Clone, Copy, Debug, PartialEq, Eq)]
 pub struct Count {
     stored: u32,
@@ -27,16 +27,17 @@ impl Model for Count {
 
     ghost inverse = { λ o. record { stored = unwrap_or o uncounted } };
 
-    ghost inverse_ok = { λ c _. ap (λ n. record { stored = n }) (elim (cases_eq c.stored uncounted) [
-      | inl same ↦
-          ap (λ o. unwrap_or o uncounted) (cond-true _ _ _ (eq-eqb _ _ same)) ∙ sym same
-      | inr other ↦
-          ap (λ o. unwrap_or o uncounted) (cond-false _ _ _ (ne_eqb _ _ other))
-    ]) };
+    ghost inverse_ok = { λ c _.
+        ap (λ n. record { stored = n }) (elim (cases_eq c.stored uncounted) [
+          | inl same ↦
+              ap (λ o. unwrap_or o uncounted) (cond-true _ _ _ (eq-eqb _ _ same)) ∙ sym same
+          | inr other ↦
+              ap (λ o. unwrap_or o uncounted) (cond-false _ _ _ (ne_eqb _ _ other))
+        ]) };
 }
 
 impl Count {
-    /// This number; the greatest of all stands for no data.
+    /// Returns an entry with this number, or without data if it is `u32::MAX`.
     #[inline(always)]
     #[tactic(auto, using(crate::proofs::Stored::stored_count_some))]
     pub fn of(number: u32) -> Count
@@ -46,7 +47,7 @@ impl Count {
         Count { stored: number }
     }
 
-    /// No data.
+    /// Returns an entry without data.
     #[inline(always)]
     pub fn no_data() -> Count
         ensures { result ≡ None }
@@ -54,7 +55,7 @@ impl Count {
         Count { stored: UNCOUNTED }
     }
 
-    /// The number, None where there is no data.
+    /// Returns the number, or `None` if the entry has no data.
     #[inline(always)]
     pub fn value(self) -> Option<u32>
         ensures { result ≡ self }

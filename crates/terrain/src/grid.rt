@@ -1,6 +1,6 @@
-//! A grid and its frame: the header, the scale and the sinks without the cells.
+//! Grids, and frames: header, scale and sinks without the cells.
 //!
-//! [`Grid::from_parts`] makes a grid, and [`Grid::name_sinks`] names its sinks.
+//! [`Grid::from_parts`] makes a grid, and [`Grid::name_sinks`] replaces its sinks.
 ghost use Rattle.std.specs.Prelude.{◌≡◌, ◌↔◌, ◌+◌, ◌*◌, ◌<◌, [], length, All, Contains, IfSome, IfOk, OnOk, IsTrue, None, Some};
 ghost use Rattle.terrain.specs.Raster.{Raster, IsLawful};
 ghost use Rattle.terrain.specs.Neighbours.{IsInside, height_at, IsEnd, HasGapAround};
@@ -14,10 +14,10 @@ use std::alloc::{AllocError, Global};
 use std::marker::Model;
 use std::snapshot::Snapshot;
 
-/// The most columns, and the most rows, of a grid.
+/// The greatest number of columns and of rows of a grid.
 pub const LONGEST_AXIS: u32 = 4_096;
 
-/// There was no memory for a list.
+/// The error of a failed allocation.
 #[derive(Clone, Copy, Debug, PartialEq, Eq)]
 pub struct NoMemory;
 
@@ -27,7 +27,7 @@ impl From<AllocError> for NoMemory {
     }
 }
 
-/// Where the lower left cell lies along one axis: a word for its corner or for its centre.
+/// A coordinate of the lower left cell: that of its corner, or of its centre.
 #[derive(Drop)]
 pub struct Anchor {
     pub centre: bool,
@@ -45,7 +45,7 @@ impl Anchor {
     }
 }
 
-/// What the header of a grid text gives.
+/// The values of a grid text's header.
 #[derive(Drop)]
 pub struct GridHeader {
     pub cols: u32,
@@ -71,8 +71,8 @@ impl GridHeader {
     }
 }
 
-/// A grid without its cells: its header, its scale and its sinks. Clauses see the grid's cells too, as they were when it
-/// was made.
+/// A grid's header, scale and sinks, without its cells.
+/// Contracts see the cells too: those that the grid had when the frame was made.
 #[derive(Drop)]
 pub struct Frame {
     header: GridHeader,
@@ -89,10 +89,11 @@ impl Model for Frame {
 
     ghost view = { λ f. raster_with f.header f.scale f.cells.value.items f.sinks.items };
 
-    ghost invariant = { λ f. IsLawful (raster_with f.header f.scale f.cells.value.items f.sinks.items) };
+    ghost invariant = { λ f.
+        IsLawful (raster_with f.header f.scale f.cells.value.items f.sinks.items) };
 }
 
-/// A terrain grid.
+/// A terrain grid: its header, scale, named sinks and cells.
 #[derive(Drop)]
 pub struct Grid {
     frame: Frame,
@@ -129,7 +130,7 @@ impl Frame {
         self.header.rows
     }
 
-    /// How many decimals the heights have: a unit is 10^-scale.
+    /// The number of decimals of the heights: one unit is 10^-scale.
     pub fn scale(&self) -> u8
         ensures value { result ≡ self.now.scale }
         ensures lawful { IsLawful self.now }
@@ -145,7 +146,7 @@ impl Frame {
         &self.sinks
     }
 
-    /// The position along the columns' axis, as read.
+    /// The x coordinate of the lower left cell, as the header spells it.
     pub fn xll(&self) -> &Anchor
         ensures centre { result.now.centre ≡ self.now.xll.centre }
         ensures word { result.now.word ≡ self.now.xll.word }
@@ -153,7 +154,7 @@ impl Frame {
         &self.header.xll
     }
 
-    /// The position along the rows' axis, as read.
+    /// The y coordinate of the lower left cell, as the header spells it.
     pub fn yll(&self) -> &Anchor
         ensures centre { result.now.centre ≡ self.now.yll.centre }
         ensures word { result.now.word ≡ self.now.yll.word }
@@ -161,25 +162,27 @@ impl Frame {
         &self.header.yll
     }
 
-    /// The size of a cell, as read.
+    /// The size of a cell, as the header spells it.
     pub fn cellsize(&self) -> &Word
         ensures { result.now ≡ self.now.cellsize }
     {
         &self.header.cellsize
     }
 
-    /// The NODATA word, as read.
+    /// The NODATA value, as the header spells it.
     pub fn nodata(&self) -> &Word
         ensures { result.now ≡ self.now.nodata }
     {
         &self.header.nodata
     }
 
-    /// The frame's grid with these cells. Each height among them stands in the grid.
+    /// Returns the frame's grid with other cells; their heights must occur in the grid.
     pub fn with_cells(&self, alloc: Global, cells: Vec<Cell>) -> Result<Grid, NoMemory>
         requires size { length cells.items ≡ self.now.terrain.cols * self.now.terrain.rows }
-        requires heights { All (λ c. IfSome c (λ h. Contains self.now.terrain.cells (Some h))) cells.items }
-        ensures { IfOk result (λ g. g ≡ record self.now { terrain = record self.now.terrain { cells = cells.items } }) }
+        requires heights { All (λ c. IfSome c (λ h. Contains self.now.terrain.cells (Some h)))
+            cells.items }
+        ensures { IfOk result (λ g. g
+            ≡ record self.now { terrain = record self.now.terrain { cells = cells.items } }) }
     {
         let sinks = Vec::from_slice(alloc, self.sinks())?;
         Ok(self.with_parts(cells, sinks))
@@ -209,7 +212,15 @@ impl Grid {
         Grid { frame, cells }
     }
 
-    /// The grid of a header, a scale and the cells in row order. It has no sinks.
+    /// Makes a grid without sinks. Its cells are in row order.
+    ///
+    /// # Examples
+    ///
+    /// ```ignore
+    /// // `header` has 3 columns and 3 rows, and `cells` is a `Vec` of 9 cells
+    /// let grid = Grid::from_parts(rt.alloc(), header, 0, cells);
+    /// let height = grid.at(Place { row: 1, col: 2 });
+    /// ```
     pub fn from_parts(alloc: Global, header: GridHeader, scale: u8, cells: Vec<Cell>) -> Self
         requires { IsLawful (raster_with header scale cells.items []) }
         ensures { result ≡ raster_with header scale cells.items [] }
@@ -217,7 +228,7 @@ impl Grid {
         Grid::of_parts(header, scale, cells, Vec::new(alloc))
     }
 
-    /// The grid without its cells, lent.
+    /// Returns the grid's header, scale and sinks as a [`Frame`].
     pub fn frame(&self) -> &Frame
         ensures value { result.now ≡ self.now }
         ensures lawful { IsLawful self.now }
@@ -225,7 +236,7 @@ impl Grid {
         &self.frame
     }
 
-    /// The grid without its cells, which are freed.
+    /// Turns the grid into its [`Frame`] and frees the cells.
     pub fn into_frame(self) -> Frame
         ensures { result ≡ self }
     {
@@ -249,7 +260,7 @@ impl Grid {
         self.frame.rows()
     }
 
-    /// How many decimals the heights have: a unit is 10^-scale.
+    /// The number of decimals of the heights: one unit is 10^-scale.
     pub fn scale(&self) -> u8
         ensures value { result ≡ self.now.scale }
         ensures lawful { IsLawful self.now }
@@ -273,7 +284,7 @@ impl Grid {
         self.frame.sinks()
     }
 
-    /// The height at a place, None where there is no data.
+    /// Returns the height at `place`, or `None` if the cell has no data.
     pub fn at(&self, place: Place) -> Option<Height>
         requires { IsInside self.now.terrain place }
         ensures { result ≡ height_at self.now.terrain place }
@@ -281,8 +292,8 @@ impl Grid {
         self.cells()[place.index_in(self.cols())].height()
     }
 
-    /// Whether the cell is an end cell: it has a height, and is a named sink or has a gap among the eight places
-    /// around it. It looks through the list of sinks.
+    /// Returns whether the cell is an end cell: an edge cell or a named sink.
+    /// May search the whole list of sinks.
     pub fn is_edge(&self, place: Place) -> bool
         requires { IsInside self.now.terrain place }
         ensures { IsTrue result ↔ IsEnd self.now.terrain place }
@@ -309,17 +320,19 @@ impl Grid {
         false
     }
 
-    /// The same grid with these cells, and the same sinks. Each height among them stands in the grid.
+    /// Returns the grid with other cells; their heights must occur in the grid.
     pub fn with_cells(&self, alloc: Global, cells: &[Cell]) -> Result<Grid, NoMemory>
         requires size { length cells.now ≡ self.now.terrain.cols * self.now.terrain.rows }
-        requires heights { All (λ c. IfSome c (λ h. Contains self.now.terrain.cells (Some h))) cells.now }
-        ensures { IfOk result (λ g. g ≡ record self.now { terrain = record self.now.terrain { cells = cells.now } }) }
+        requires heights { All (λ c. IfSome c (λ h. Contains self.now.terrain.cells (Some h)))
+            cells.now }
+        ensures { IfOk result (λ g. g
+            ≡ record self.now { terrain = record self.now.terrain { cells = cells.now } }) }
     {
         self.frame.with_cells(alloc, Vec::from_slice(alloc, cells)?)
     }
 
-    /// These sinks, each once, after they were judged.
-    fn judged_sinks(&self, alloc: Global, sinks: &[Place]) -> Result<Vec<Place>, SinkFault>
+    /// Returns each of `sinks` once, or their first fault.
+    fn checked_sinks(&self, alloc: Global, sinks: &[Place]) -> Result<Vec<Place>, SinkFault>
         ensures named { IfOk result (λ v. v.items ≡ each_once sinks.now) }
         ensures sound { OnOk result (sinks_fault self.now.terrain sinks.now ≡ None) }
         ensures fault { RefusesSinks (sinks_fault self.now.terrain sinks.now) result }
@@ -330,25 +343,40 @@ impl Grid {
         Ok(each_once(alloc, sinks)?)
     }
 
-    /// The same grid with these cells as its sinks, each once, in place of those that it had.
+    /// Returns a copy of the grid with `sinks`, each once, in place of its own sinks.
     ///
-    /// Refusals in their order: more than [`MOST_SINKS`](crate::MOST_SINKS) entries; the first sink that lies
-    /// outside or has no data; want of memory.
+    /// # Errors
+    ///
+    /// [`SinkFault::TooManySinks`] for more than [`MOST_SINKS`](crate::MOST_SINKS) entries; else
+    /// [`SinkFault::Outside`] or [`SinkFault::OnNodata`] for the first sink outside the grid or
+    /// without data; else [`SinkFault::Memory`] if an allocation fails.
+    ///
+    /// # Examples
+    ///
+    /// ```ignore
+    /// let grid = grid.with_sinks(rt.alloc(), &[Place { row: 1, col: 1 }])?;
+    /// ```
     pub fn with_sinks(&self, alloc: Global, sinks: &[Place]) -> Result<Grid, SinkFault>
         ensures grid { IfOk result (λ g. g ≡ raster_with_sinks self.now sinks.now) }
         ensures fault { RefusesSinks (sinks_fault self.now.terrain sinks.now) result }
     {
-        let sinks = self.judged_sinks(alloc, sinks)?;
+        let sinks = self.checked_sinks(alloc, sinks)?;
         let cells = Vec::from_slice(alloc, self.cells())?;
         Ok(self.frame.with_parts(cells, sinks))
     }
 
-    /// Like [`with_sinks`](Self::with_sinks), but keeps the list of cells and copies none.
+    /// Replaces the grid's sinks by `sinks`, each once. Copies no cell.
+    ///
+    /// # Errors
+    ///
+    /// [`SinkFault::TooManySinks`] for more than [`MOST_SINKS`](crate::MOST_SINKS) entries; else
+    /// [`SinkFault::Outside`] or [`SinkFault::OnNodata`] for the first sink outside the grid or
+    /// without data; else [`SinkFault::Memory`] if an allocation fails.
     pub fn name_sinks(self, alloc: Global, sinks: &[Place]) -> Result<Grid, SinkFault>
         ensures grid { IfOk result (λ g. g ≡ raster_with_sinks self sinks.now) }
         ensures fault { RefusesSinks (sinks_fault self.terrain sinks.now) result }
     {
-        let named = self.judged_sinks(alloc, sinks)?;
+        let named = self.checked_sinks(alloc, sinks)?;
         let Grid { frame, cells } = self;
         Ok(frame.with_parts(cells, named))
     }

@@ -1,18 +1,17 @@
 //! Terrain grids: cells with heights, the header, places and named sinks.
 //!
-//! Begin with [`Grid`] and [`Place`]. A grid's list of cells is in row order, from the north-west.
-//! Each crate about grids depends on it, and it depends on none.
+//! Begin with [`Grid`] and [`Place`]. Cells are in row order, from the north-west.
 //!
-//! Modules, from what is called to what it depends on:
+//! Modules, callers first:
 //!
-//! - `grid`: a grid, and its frame: header, scale and sinks without the cells
+//! - `grid`: grids, and frames: header, scale and sinks without the cells
 //! - `cell`: a height or no data, in 8 bytes
-//! - `count`: a whole number of a map or no data, in 4 bytes
-//! - `sinks`: named sinks: the first fault of a list, and each place once
-//! - `place`: places, heights and their limits
+//! - `count`: a map's whole number or no data, in 4 bytes
+//! - `sinks`: the first fault of a list of sinks, and each of its places once
+//! - `place`: places, and heights with their limits
 //! - `ways`: the eight directions from a place
 //! - `observer`: an observer's cell and eye height
-//! - `word`: a word of the header, in place
+//! - `word`: a header word, stored inline
 #![tactic(auto)]
 
 mod cell;

@@ -1,11 +1,11 @@
 //! An observer's cell and eye height.
-/// Where somebody stands, and how high the eye is.
+/// An observer: its cell, and the height of its eye above the ground.
 #[derive(Clone, Copy, Debug, PartialEq, Eq)]
 pub struct Observer {
-    /// Counts from 0 at the north.
+    /// The row, from 0 at the north.
     pub row: u32,
-    /// Counts from 0 at the west.
+    /// The column, from 0 at the west.
     pub col: u32,
-    /// Above the ground, in scaled units. Views refuse more than 1,000,000.
+    /// The eye's height above ground in scaled units; viewsheds allow 1,000,000.
     pub eye: u32,
 }

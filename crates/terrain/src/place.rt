@@ -2,7 +2,7 @@
 ghost use Rattle.std.specs.Prelude.{◌≡◌};
 ghost use Rattle.terrain.specs.Neighbours.{index_of};
 
-/// A place in a grid: rows count from 0 at the north, columns from 0 at the west.
+/// A place in a grid: row from 0 at the north, column from 0 at the west.
 #[derive(Clone, Copy, Debug, Default, PartialEq, Eq)]
 pub struct Place {
     pub row: u32,
@@ -10,7 +10,7 @@ pub struct Place {
 }
 
 impl Place {
-    /// Where the cell of this place stands in row order, where a row has so many columns.
+    /// Returns the index in row order of this place in a grid of `cols` columns.
     #[inline(always)]
     pub fn index_in(self, cols: u32) -> usize
         ensures { result ≡ index_of cols self }
@@ -19,14 +19,15 @@ impl Place {
     }
 }
 
-/// A height in scaled units: a whole number of 10^-scale of the text's unit, from [`LOWEST`] to [`HIGHEST`].
+/// A height in scaled units: 10^-scale of the text's unit of height.
+/// Heights are from [`LOWEST`] to [`HIGHEST`].
 pub type Height = i64;
 
-/// The least height.
+/// The least height, in scaled units.
 pub const LOWEST: Height = -1_000_000_000_000_000;
 
-/// The greatest height.
+/// The greatest height, in scaled units.
 pub const HIGHEST: Height = 1_000_000_000_000_000;
 
-/// The most by which one height can be above another.
+/// The greatest difference of two heights, [`HIGHEST`] less [`LOWEST`].
 pub const GREATEST_DROP: u64 = 2_000_000_000_000_000;

@@ -1,6 +1,4 @@
-//! Named sinks: the first fault of a list, and its places each once.
-//!
-//! [`Grid::with_sinks`](crate::Grid::with_sinks) uses both.
+//! Named sinks: the first fault of a list, and each of its places once.
 ghost use Rattle.std.specs.Prelude.{◌≡◌, ◌<◌, ◌≤◌, length, IfOk};
 ghost use Rattle.std.specs.List.{list_any};
 ghost use Rattle.terrain.specs.declared.sinks.SinkFault.TheVariants.{Memory};
@@ -11,10 +9,10 @@ use crate::grid::Grid;
 use crate::place::Place;
 use std::alloc::{AllocError, Global};
 
-/// The most entries of a list of sinks, repeats counted.
+/// The greatest length of a list of sinks, repeats counted.
 pub const MOST_SINKS: usize = 1_024;
 
-/// Why places cannot be named as sinks; an index is a place in the list that was lent, from 0.
+/// Why a list of places is refused as sinks. Indices count its entries from 0.
 #[derive(Clone, Copy, Debug, PartialEq, Eq)]
 pub enum SinkFault {
     /// The sink at this index lies outside the grid.
@@ -23,7 +21,7 @@ pub enum SinkFault {
     OnNodata(u32),
     /// The list has more than [`MOST_SINKS`] entries.
     TooManySinks,
-    /// There was no memory for the grid.
+    /// Memory for the grid could not be allocated.
     Memory,
 }
 
@@ -35,7 +33,7 @@ impl From<AllocError> for SinkFault {
     }
 }
 
-/// What is wrong with the sink that stands at `index`.
+/// Returns the fault of `sink`, the entry at `index` of a list, or `None`.
 fn sink_fault_at(grid: &Grid, sink: Place, index: u32) -> Option<SinkFault>
     ensures { result ≡ sink_fault_of grid.now.terrain index sink }
 {
@@ -48,7 +46,7 @@ fn sink_fault_at(grid: &Grid, sink: Place, index: u32) -> Option<SinkFault>
     None
 }
 
-/// The first sink that lies outside the grid or has no data.
+/// Returns the fault of the first sink outside the grid or without data, or `None`.
 fn first_bad_sink(grid: &Grid, sinks: &[Place]) -> Option<SinkFault>
     requires { length sinks.now ≤ most_sinks }
     ensures { result ≡ first_sink_fault grid.now.terrain 0 sinks.now }
@@ -62,8 +60,8 @@ fn first_bad_sink(grid: &Grid, sinks: &[Place]) -> Option<SinkFault>
     None
 }
 
-/// Returns why places of a grid cannot be named as sinks: more than [`MOST_SINKS`], repeats counted;
-/// then the first that lies outside the grid or has no data. None where they can.
+/// Returns the first fault of `sinks`, or `None` if the grid accepts them.
+/// Checks for more than [`MOST_SINKS`] entries first, then that each sink is a data cell.
 pub fn sinks_fault(grid: &Grid, sinks: &[Place]) -> Option<SinkFault>
     ensures { result ≡ sinks_fault grid.now.terrain sinks.now }
 {
@@ -73,14 +71,14 @@ pub fn sinks_fault(grid: &Grid, sinks: &[Place]) -> Option<SinkFault>
     first_bad_sink(grid, sinks)
 }
 
-/// Whether a place is one of these.
+/// Returns whether `places` has `place`.
 pub(crate) fn is_one_of(places: &[Place], place: Place) -> bool
     ensures { result ≡ list_any (is_place place) places.now }
 {
     places.contains(&place)
 }
 
-/// These places, each once, in the order of first naming.
+/// Returns each of `places` once, in the order of first naming.
 pub(crate) fn each_once(alloc: Global, places: &[Place]) -> Result<Vec<Place>, AllocError>
     ensures { IfOk result (λ v. v.items ≡ each_once places.now) }
 {

@@ -1,14 +1,22 @@
 //! The eight directions from a place.
 //!
-//! In the order of their codes: E, SE, S, SW, W, NW, N, NE. [`place_on`] goes by places,
-//! [`around_index`] by indexes in row order.
+//! Directions, or ways, count from 0 in the order of their codes: E, SE, S, SW, W, NW, N, NE.
+//! [`place_on`] takes and returns places, [`around_index`] indices in row order.
 ghost use Rattle.std.specs.Prelude.{◌≡◌, ◌+◌, ◌-◌, ◌^◌, ◌<◌};
 ghost use Rattle.terrain.specs.Ways.{around_index, place_on};
 
 use crate::place::Place;
 
-/// The place that lies one way, counted from 0 in the order of the codes. None north of the first row and west of the
-/// first column, and for a way past the eight. To the south and the east it knows no end: that place may lie outside the grid.
+/// Returns the place beside `place` in direction `way`, from 0 for E to 7 for NE.
+/// Returns `None` north of the first row, west of the first column, and for a `way` above 7.
+/// Does not check the south and east bounds: the result may lie outside the grid.
+///
+/// # Examples
+///
+/// ```ignore
+/// // 6 is N
+/// assert_eq!(place_on(6, Place { row: 4, col: 2 }), Some(Place { row: 3, col: 2 }));
+/// ```
 #[inline(always)]
 pub fn place_on(way: usize, place: Place) -> Option<Place>
     requires rows { place.row < 2 ^ 32 - 1 }
@@ -30,8 +38,8 @@ pub fn place_on(way: usize, place: Place) -> Option<Place>
     Some(Place { row, col })
 }
 
-/// Where the cells on the eight ways stand in row order, of so many columns, around a cell that is in no first or last row
-/// or column.
+/// Returns the indices of the cells around `index`, in the order of the codes.
+/// Rows have `cols` cells, and the cell must not be in the first or last row or column.
 #[inline(always)]
 pub fn around_index(cols: usize, index: usize) -> [usize; 8]
     requires before { cols < index }

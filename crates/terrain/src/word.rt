@@ -1,13 +1,13 @@
-//! A word of the header, of at most 64 bytes, kept in place.
+//! A header word of at most 64 bytes, stored inline.
 ghost use Rattle.std.specs.Prelude.{◌≡◌, ◌≤◌, ℕ, List, length, take};
 ghost use Rattle.terrain.specs.declared.word.TheConstants.{MOST_WORD_BYTES};
 
 use std::marker::Model;
 
-/// The most bytes that a word may have.
+/// The greatest length of a word, in bytes.
 pub const MOST_WORD_BYTES: usize = 64;
 
-/// A word of at most [`MOST_WORD_BYTES`] bytes. Contracts see it as the list of its bytes.
+/// A word of at most [`MOST_WORD_BYTES`] bytes. Contracts see its bytes.
 #[derive(Drop)]
 pub struct Word {
     bytes: [u8; MOST_WORD_BYTES],
@@ -23,7 +23,7 @@ impl Model for Word {
 }
 
 impl Word {
-    /// A copy of these bytes.
+    /// Makes a word of a copy of `bytes`.
     pub fn from_bytes(bytes: &[u8]) -> Self
         requires { length bytes.now ≤ MOST_WORD_BYTES }
         ensures { result ≡ bytes.now }
@@ -42,7 +42,7 @@ impl Word {
         &self.bytes[..self.len]
     }
 
-    /// The same word once more. It takes no memory.
+    /// Returns a copy of the word. Allocates nothing.
     pub fn copy(&self) -> Self
         ensures { result ≡ self.now }
     {

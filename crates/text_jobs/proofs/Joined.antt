@@ -1,4 +1,4 @@
--- Runs one after another, and a reader that is fed them.
+-- Runs joined into one text, and a reader that is fed them in order.
 use Rattle.std.proofs.Common.{◌≡◌, ℕ, ◌+◌, ◌<◌, List, [], ◌∷◌, ◌++◌, length, take, drop, get_or, map, Ok, Err, Result, ap, sym, subst, ◌∙◌}
 use Rattle.std.specs.List.{concat}
 use Rattle.std.proofs.lemmas.List.{append-nil, append_assoc, map-append, take_more, take-append-drop}
@@ -7,7 +7,6 @@ use Rattle.ascii_grid.specs.Reader.{Reader, Feeds}
 use Rattle.ascii_grid.specs.declared.fault.GridFault.{GridFault}
 use Rattle.ascii_grid.proofs.Feeding.{Feeds-more, Feeds-stopped}
 
--- one more run
 pub joined-push : {X : Type 0} (f : X → List ℕ) (runs : List X) (run : X) → concat (map f (runs ++ run ∷ [])) ≡ concat (map f runs) ++ f run
 joined-push f runs run =
     ap concat (map-append f runs (run ∷ [])) ∙ concat-append (map f runs) (f run ∷ []) ∙ ap (λ z. concat (map f runs) ++ z) (append-nil (f run))
@@ -15,14 +14,14 @@ joined-push f runs run =
 pub joined-take : {X : Type 0} (f : X → List ℕ) (runs : List X) (job : ℕ) (d : X) → job < length runs → concat (map f (take (job + 1) runs)) ≡ concat (map f (take job runs)) ++ f (get_or runs job d)
 joined-take f runs job d h = ap (λ z. concat (map f z)) (take_more runs job d h) ∙ joined-push f (take job runs) (get_or runs job d)
 
--- the first runs, and those behind them
+-- the first runs and the later ones are all runs
 pub joined-rest : {X : Type 0} (f : X → List ℕ) (runs : List X) (job : ℕ) → concat (map f (take job runs)) ++ concat (map f (drop job runs)) ≡ concat (map f runs)
 joined-rest f runs job =
     sym (concat-append (map f (take job runs)) (map f (drop job runs)))
     ∙ ap concat (sym (map-append f (take job runs) (drop job runs)))
     ∙ ap (λ z. concat (map f z)) (take-append-drop job runs)
 
--- a run cut from what is left
+-- cutting a run off the rest keeps the whole text
 pub joined-cut : {X : Type 0} (f : X → List ℕ) (runs more : List X) (run : X) (len : ℕ) (rest back piece : List ℕ) → more ≡ runs ++ run ∷ [] → f run ≡ take len rest → back ≡ drop len rest → concat (map f runs) ++ rest ≡ piece → concat (map f more) ++ back ≡ piece
 joined-cut f runs more run len rest back piece pushed front behind all =
     ap (λ z. concat (map f z) ++ back) pushed
@@ -33,7 +32,7 @@ joined-cut f runs more run len rest back piece pushed front behind all =
     ∙ ap (λ z. concat (map f runs) ++ z) (take-append-drop len rest)
     ∙ all
 
--- all that is left is the last run
+-- with the last run, the runs are the whole text
 pub joined-last : {X : Type 0} (f : X → List ℕ) (runs more : List X) (run : X) (piece : List ℕ) → more ≡ runs ++ run ∷ [] → concat (map f runs) ++ f run ≡ piece → concat (map f more) ≡ piece
 joined-last f runs more run piece pushed all = ap (λ z. concat (map f z)) pushed ∙ joined-push f runs run ∙ all
 

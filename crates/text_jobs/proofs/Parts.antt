@@ -1,4 +1,4 @@
--- The parts of a map's rows: one of them as it is made, and all of them one after another.
+-- The text that a job makes is that of its part; the texts of all parts are the map's rows.
 use Rattle.std.proofs.Common.{◌≡◌, ℕ, zero, suc, ◌+◌, ◌-◌, ◌*◌, ◌/◌, ◌<◌, ◌≤◌, min, inl, inr, List, ◌++◌, length, take, drop, get_or, Vec, Global, sym, ap, subst, ◌∙◌, arith, length-drop}
 use Rattle.std.specs.Int.{div_ceil}
 use Rattle.std.specs.List.{flat_map}
@@ -10,20 +10,20 @@ use Rattle.ascii_grid.specs.Text.{rows_text}
 use Rattle.ascii_grid.proofs.RowText.{pieces_more, rows_text-add, rows_take, whole_rows}
 use Rattle.text_jobs.specs.Parts.{part_text}
 
--- a part below the number of parts has a row
+-- a part below the number of parts has at least one row
 pub first_row_below : (rows each part : ℕ) → 0 < each → part < div_ceil rows each → part * each < rows
 first_row_below rows each part some below =
     let times = mul-le-mul_right each (let e : part + 1 ≤ div_ceil rows each = omega arith in e) in
     omega (arith, times, (div_ceil_times rows each some).1)
 
--- a part's cells are within the list
+-- the cells of a part lie within the list
 pub part_within : (n cols each part count : ℕ) → part * each < n / cols → count ≡ min each (n / cols - part * each) → (part * each + count) * cols ≤ n
 part_within n cols each part count below e =
     let rows = mul-le-mul_right cols (let within : part * each + count ≤ n / cols = omega arith in within) in
     omega (arith, rows, div-mul-le_self n cols)
 
 module _ {X : Type 0} (f : X → List ℕ) (cols each : ℕ) (cells : List X) where
-  -- the lines of a part's own cells
+  -- the rows of a part's own cells are the part's text
   pub lines_of_part : (part count : ℕ) → 0 < cols → part * each < length cells / cols → count ≡ min each (length cells / cols - part * each) →
       let own = take ((part * each + count) * cols - part * each * cols) (drop (part * each * cols) cells) in
       rows_text f cols (length own / cols) own ≡ part_text f cols each cells part
@@ -44,7 +44,7 @@ module _ {X : Type 0} (f : X → List ℕ) (cols each : ℕ) (cells : List X) wh
     abbrev bytes : Vec ℕ Global → List ℕ
     bytes text = text.items
 
-    -- one part more
+    -- the rows before a part and the part are the rows before the next one
     part_more : (k : ℕ) → k * each < length cells / cols → rows_text f cols (min (k * each) (length cells / cols)) cells ++ part_text f cols each cells k ≡ rows_text f cols (min (suc k * each) (length cells / cols)) cells
     part_more k below =
         let before : min (k * each) (length cells / cols) ≡ k * each = omega arith in
@@ -67,14 +67,13 @@ module _ {X : Type 0} (f : X → List ℕ) (cols each : ℕ) (cells : List X) wh
           ∙ part_more k (inside k below)
     ]
 
-    -- all of them
     all_of_them : length cells / cols ≤ length texts * each → flat_map bytes texts ≡ rows_text f cols (length cells / cols) cells
     all_of_them covered =
         ap (λ (z : List (Vec ℕ Global)). flat_map bytes z) (sym (take_all (length texts) texts (omega arith)))
         ∙ front (length texts) (omega arith)
         ∙ ap (λ n. rows_text f cols n cells) (let e : min (length texts * each) (length cells / cols) ≡ length cells / cols = omega arith in e)
 
-  -- a text of each part, one after another
+  -- the texts of all parts, joined, are the rows of the map
   pub parts_joined : (texts : List (Vec ℕ Global)) (parts : ℕ) → 0 < each → length texts ≡ parts → parts ≡ div_ceil (length cells / cols) each →
       ((part : ℕ) (d : Vec ℕ Global) → part < parts → (get_or texts part d).items ≡ part_text f cols each cells part) →
       flat_map (λ text. text.items) texts ≡ rows_text f cols (length cells / cols) cells

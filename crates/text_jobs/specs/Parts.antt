@@ -1,8 +1,10 @@
--- The text of a map's rows, cut into parts.
+-- The text of a map's rows, made part by part. Source: this project.
+-- Private.
 use Rattle.std.specs.Prelude.{ℕ, ◌-◌, ◌*◌, ◌/◌, min, List, length, drop}
 use Rattle.ascii_grid.specs.Text.{rows_text}
 
--- The lines of one part of the rows: it has `each` of them, or those that are left.
+-- The lines of one part of the rows, counted from 0: `each` rows, or the fewer that remain.
 abbrev pub part_text : {X : Type 0} → (X → List ℕ) → ℕ → ℕ → List X → ℕ → List ℕ
 part_text text cols each cells part =
-    rows_text text cols (min each (length cells / cols - part * each)) (drop (part * each * cols) cells)
+    rows_text text cols (min each (length cells / cols - part * each))
+    (drop (part * each * cols) cells)

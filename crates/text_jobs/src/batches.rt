@@ -1,4 +1,4 @@
-//! Pieces of a text that are read one behind the other, for several workers to share.
+//! Reads pieces of a text into batches, which several workers then parse.
 ghost use Rattle.std.specs.Prelude.{◌≡◌, ◌≤◌, ◌<◌, length, take};
 ghost use Rattle.std.specs.Io.KnownBytes.{IsAtEnd};
 ghost use Rattle.ascii_grid.specs.Device.{HasRead};
@@ -8,31 +8,31 @@ use std::io::Read;
 
 /// The most pieces of a batch.
 ///
-/// One less than 1 MiB holds: a word that began before them waits for its cell too.
+/// One less than fit into 1 MiB, so that the unfinished word before a batch fits too.
 const BATCH_PIECES: usize = 255;
 
 /// The most bytes of a batch.
 pub(crate) const BATCH_BYTES: usize = BATCH_PIECES * PIECE_BYTES;
 
-/// What ended a batch.
+/// Why a batch ended.
 #[derive(Drop)]
 pub(crate) enum BatchEnd {
-    /// The batch is full.
+    /// The batch has all its pieces, or its buffer is full.
     Full,
-    /// The text has no more bytes.
+    /// The text ended.
     Text,
     /// A read failed.
     Failure(UncountedFailure),
 }
 
-/// The length of a batch, and what ended it.
+/// The length of a batch in bytes, and why it ended.
 #[derive(Drop)]
 pub(crate) struct Batch {
     pub len: usize,
     pub end: BatchEnd,
 }
 
-/// Reads pieces of at most [`PIECE_BYTES`] bytes, and copies them one behind the other.
+/// Reads a batch into `bytes`, in pieces of at most [`PIECE_BYTES`] bytes.
 pub(crate) fn read_batch<R: Read>(reader: &mut Counted<R>, bytes: &mut [u8]) -> Batch
     ensures len { result.len ≤ length bytes.old }
     ensures full { 0 < length bytes.old → result.end ≡ BatchEnd.Full → 0 < result.len }

@@ -1,15 +1,15 @@
 //! Reads and writes the text of a grid by several workers.
 //!
-//! [`read_grid`] and the three writers keep the promises of `ascii_grid`, bytes and faults alike.
-//! What the jobs cannot do, for want of memory or threads or at a fault, the caller's thread does
-//! by the calls of `ascii_grid`.
+//! [`read_grid`] and the three writers give the same bytes and faults as those of `ascii_grid`.
+//! If a job finds a fault, or a thread or memory is refused, the caller's thread does the work
+//! by calls of `ascii_grid`.
 //!
-//! Modules, from what is called to what it depends on:
+//! Modules, callers first:
 //!
-//! - `reading`: a grid from a device
-//! - `batches`: pieces read one after another
-//! - `runs`: runs of heights and their jobs
-//! - `writing`: maps as text
+//! - `reading`: reads a grid from a device
+//! - `batches`: reads pieces into batches of at most 1 MiB
+//! - `runs`: cuts a batch into runs, and the jobs that parse them
+//! - `writing`: writes maps as text
 #![tactic(auto)]
 
 mod batches;

@@ -10,18 +10,19 @@ use std::alloc::{AllocError, Global};
 use terrain::Cell;
 use tile_jobs::{JobFault, Work};
 
-/// A run has so many bytes, and those up to the next separator behind them.
-pub(crate) const RUN: usize = 65_536;
+/// Bytes of a run, to which those up to the next separator are added.
+pub(crate) const RUN_BYTES: usize = 65_536;
 
-/// The piece, cut into runs of [`RUN`] bytes and those up to the next separator. What stands behind the last separator is a
-/// run of its own.
+/// Cuts a piece into runs of [`RUN_BYTES`] bytes, each extended to a separator.
+///
+/// The bytes after the last separator are a run of their own.
 pub(crate) fn runs_of(alloc: Global, piece: &[u8]) -> Result<Vec<&[u8]>, AllocError>
     ensures { IfOk result (λ runs. concat (map (λ run. run.now) runs.items) ≡ piece.now) }
 {
-    let mut runs = Vec::with_capacity(alloc, piece.len() / RUN + 2)?;
+    let mut runs = Vec::with_capacity(alloc, piece.len() / RUN_BYTES + 2)?;
     let mut rest = piece;
-    while rest.len() > RUN {
-        let (run, more) = rest.split_at(behind_separator(rest, RUN));
+    while rest.len() > RUN_BYTES {
+        let (run, more) = rest.split_at(behind_separator(rest, RUN_BYTES));
         runs.push(run)?;
         rest = more;
     }
@@ -31,7 +32,7 @@ pub(crate) fn runs_of(alloc: Global, piece: &[u8]) -> Result<Vec<&[u8]>, AllocEr
     Ok(runs)
 }
 
-/// The place behind the first separator at or after a place, or the end.
+/// Returns the index after the first separator from `from` on, or the length.
 pub(crate) fn behind_separator(bytes: &[u8], from: usize) -> usize
     requires { from < length bytes.now }
     ensures { (from < result) × (result ≤ length bytes.now) }
@@ -42,7 +43,7 @@ pub(crate) fn behind_separator(bytes: &[u8], from: usize) -> usize
     }
 }
 
-/// The place behind the last separator, or the start.
+/// Returns the index after the last separator, or 0.
 fn behind_last_separator(bytes: &[u8]) -> usize
     ensures { result ≤ length bytes.now }
 {
@@ -53,7 +54,7 @@ fn behind_last_separator(bytes: &[u8]) -> usize
     end
 }
 
-/// One job for each run, which answers its cells.
+/// One job for each run: its cells, or `None` at a fault or for want of memory.
 #[derive(Drop)]
 pub(crate) struct RunJobs<'a> {
     pub form: &'a HeightForm,
@@ -68,14 +69,15 @@ impl<'a> Work for RunJobs<'a> {
 
     ghost most = { λ w. length w.runs.now };
 
-    ghost gives = { λ w job out. IfSome out (λ cells. HasRun w.form.now (map (λ run. run.now) w.runs.now) job cells.items) };
+    ghost gives = { λ w job out. IfSome out
+        (λ cells. HasRun w.form.now (map (λ run. run.now) w.runs.now) job cells.items) };
 
     fn run(&self, alloc: Global, job: u32) -> Result<Option<Vec<Cell>>, JobFault> {
         Ok(self.form.cells(alloc, self.runs[job as usize]))
     }
 }
 
-/// Feeds a reader run by run, with the cells of each where they are known.
+/// Feeds runs to a reader in order, by their cells where jobs have parsed them.
 pub(crate) fn feed_runs(
     reader: &mut GridReader,
     form: &HeightForm,
@@ -85,7 +87,8 @@ pub(crate) fn feed_runs(
     requires sound { reader.old.fault ≡ None }
     requires len { length lists.now ≡ length runs.now }
     requires cells { (job : ℕ) → job < length runs.now →
-        IfSome (slice_index_or lists.now job None) (λ cells. HasRun form.now (map (λ run. run.now) runs.now) job cells.items) }
+        IfSome (slice_index_or lists.now job None)
+        (λ cells. HasRun form.now (map (λ run. run.now) runs.now) job cells.items) }
     ensures { Feeds reader.old reader.new (concat (map (λ run. run.now) runs.now)) result }
 {
     for job in 0..runs.len() {

@@ -1,6 +1,6 @@
 //! Writes maps by several workers.
 //!
-//! Jobs make all lines before the first byte is written, so that no memory is taken after it.
+//! Jobs make the text of all rows before the first byte is written: nothing is allocated later.
 ghost use Rattle.std.specs.Prelude.{◌≡◌, ◌++◌, ◌*◌, ◌-◌, ◌/◌, ◌^◌, ◌<◌, ◌≤◌, length, IfSome};
 ghost use Rattle.std.specs.List.{flat_map};
 ghost use Rattle.terrain.specs.declared.word.TheConstants.{MOST_WORD_BYTES};
@@ -16,12 +16,12 @@ use std::sync::Wait;
 use std::thread::Threads;
 use terrain::{Count, Frame, Grid, MOST_WORD_BYTES};
 use tile_jobs::{Gate, JobFault, Work};
-use tile_maps::Crew;
+use tile_maps::Runner;
 
-/// How many cells a job makes the text of, unless one row has more.
+/// The most cells of which one job makes the text.
 const JOB_CELLS: usize = 65_536;
 
-/// Makes the lines of a map, of so many rows in each job.
+/// One job for every `rows_each` rows of a map; it returns their text.
 #[derive(Drop)]
 struct LineJobs<'a, E> {
     cells: &'a [E],
@@ -58,10 +58,11 @@ impl<'a, E: Entry> Work for LineJobs<'a, E> {
     }
 }
 
-/// The lines of a map as several workers make them, each text's behind those of the one before. Where there is one worker,
-/// or where the workers could not make them, nothing.
-fn made_lines<T: Threads + Wait + Sync, G: Gate + Sync, E: Entry + Sync>(
-    crew: &Crew<T, G>,
+/// Makes the texts of a map's rows, in order, by several workers.
+///
+/// `None` with one worker, and if a thread or memory is refused.
+fn make_lines<T: Threads + Wait + Sync, G: Gate + Sync, E: Entry + Sync>(
+    runner: &Runner<T, G>,
     frame: &Frame,
     cells: &[E],
     nodata: &[u8],
@@ -69,12 +70,14 @@ fn made_lines<T: Threads + Wait + Sync, G: Gate + Sync, E: Entry + Sync>(
     requires size { length cells.now ≡ frame.now.terrain.cols * frame.now.terrain.rows }
     requires short { length nodata.now ≤ MOST_WORD_BYTES }
     ensures { IfSome result (λ texts. flat_map (λ text. text.items) texts.items
-        ≡ rows_text (E.text frame.now.scale nodata.now) frame.now.terrain.cols frame.now.terrain.rows cells.now) }
+        ≡ rows_text (E.text frame.now.scale nodata.now) frame.now.terrain.cols
+        frame.now.terrain.rows cells.now) }
 {
     let cols = frame.cols() as usize;
     let rows = frame.rows() as usize;
+    // At least 16, as a row has at most 4,096 cells; the `max` shows that it is not 0.
     let rows_each = (JOB_CELLS / cols).max(1);
-    if crew.workers == 1 {
+    if runner.workers == 1 {
         return None;
     }
     let work = LineJobs {
@@ -84,15 +87,15 @@ fn made_lines<T: Threads + Wait + Sync, G: Gate + Sync, E: Entry + Sync>(
         scale: frame.scale(),
         nodata,
     };
-    match crew.run(&work, rows.div_ceil(rows_each) as u32) {
+    match runner.run(&work, rows.div_ceil(rows_each) as u32) {
         Ok(texts) => Some(texts),
         Err(_) => None,
     }
 }
 
-/// Writes a map, whose lines a crew of several workers makes before its first byte is written.
+/// Writes a map. With several workers, jobs make all its text first.
 fn write_map<T: Threads + Wait + Sync, G: Gate + Sync, E: Entry + Sync, W: Write>(
-    crew: &Crew<T, G>,
+    runner: &Runner<T, G>,
     frame: &Frame,
     cells: &[E],
     nodata: &[u8],
@@ -102,18 +105,32 @@ fn write_map<T: Threads + Wait + Sync, G: Gate + Sync, E: Entry + Sync, W: Write
     requires size { length cells.now ≡ frame.now.terrain.cols * frame.now.terrain.rows }
     requires short { length nodata.now ≤ MOST_WORD_BYTES }
     ensures { Writes W.contents out.old out.new (header_text frame.now nodata.now
-        ++ rows_text (E.text frame.now.scale nodata.now) frame.now.terrain.cols frame.now.terrain.rows cells.now)
+        ++ rows_text (E.text frame.now.scale nodata.now) frame.now.terrain.cols
+        frame.now.terrain.rows cells.now)
         result }
 {
-    match made_lines(crew, frame, cells, nodata) {
+    match make_lines(runner, frame, cells, nodata) {
         Some(texts) => write_lines(frame, nodata, &texts, out),
         None => write_cells(frame, cells, nodata, out),
     }
 }
 
-/// Writes the grid and its heights, as [`ascii_grid::write_heights`] does. From the first byte on it takes no memory.
+/// Writes a grid's header and heights, but not its sinks, by several workers.
+///
+/// # Errors
+///
+/// [`WriteFailed`] if a write or the flush fails. Want of memory is no error: the map is
+/// then written without jobs, which allocates nothing.
+///
+/// # Examples
+///
+/// ```ignore
+/// let runner = Runner { rt: &rt, alloc: rt.alloc(), workers: 4, gate: &NoGate };
+/// let mut writer = Counted::new(rt.stdout());
+/// write_heights(&runner, &grid, &mut writer)?;
+/// ```
 pub fn write_heights<T: Threads + Wait + Sync, G: Gate + Sync, W: Write>(
-    crew: &Crew<T, G>,
+    runner: &Runner<T, G>,
     grid: &Grid,
     out: &mut Counted<W>,
 ) -> Result<(), WriteFailed>
@@ -121,12 +138,17 @@ pub fn write_heights<T: Threads + Wait + Sync, G: Gate + Sync, W: Write>(
     ensures { Writes W.contents out.old out.new (heights_text grid.now) result }
 {
     let frame = grid.frame();
-    write_map(crew, frame, grid.cells(), frame.nodata().as_bytes(), out)
+    write_map(runner, frame, grid.cells(), frame.nodata().as_bytes(), out)
 }
 
-/// Writes a map of whole numbers, as [`ascii_grid::write_framed_counts`] does. From the first byte on it takes no memory.
+/// Writes a map of whole numbers, with the header of a frame, by several workers.
+///
+/// # Errors
+///
+/// [`WriteFailed`] if a write or the flush fails. Want of memory is no error: the map is
+/// then written without jobs, which allocates nothing.
 pub fn write_framed_counts<T: Threads + Wait + Sync, G: Gate + Sync, W: Write>(
-    crew: &Crew<T, G>,
+    runner: &Runner<T, G>,
     frame: &Frame,
     values: &[Count],
     out: &mut Counted<W>,
@@ -135,12 +157,17 @@ pub fn write_framed_counts<T: Threads + Wait + Sync, G: Gate + Sync, W: Write>(
     requires size { length values.now ≡ frame.now.terrain.cols * frame.now.terrain.rows }
     ensures { Writes W.contents out.old out.new (counts_text frame.now values.now) result }
 {
-    write_map(crew, frame, values, COUNTS_NODATA, out)
+    write_map(runner, frame, values, COUNTS_NODATA, out)
 }
 
-/// Writes a map of directions, as [`ascii_grid::write_codes`] does. From the first byte on it takes no memory.
+/// Writes a map of direction codes, with a frame's header, by several workers.
+///
+/// # Errors
+///
+/// [`WriteFailed`] if a write or the flush fails. Want of memory is no error: the map is
+/// then written without jobs, which allocates nothing.
 pub fn write_codes<T: Threads + Wait + Sync, G: Gate + Sync, W: Write>(
-    crew: &Crew<T, G>,
+    runner: &Runner<T, G>,
     frame: &Frame,
     codes: &[Option<Code>],
     out: &mut Counted<W>,
@@ -149,5 +176,5 @@ pub fn write_codes<T: Threads + Wait + Sync, G: Gate + Sync, W: Write>(
     requires size { length codes.now ≡ frame.now.terrain.cols * frame.now.terrain.rows }
     ensures { Writes W.contents out.old out.new (counts_text frame.now codes.now) result }
 {
-    write_map(crew, frame, codes, COUNTS_NODATA, out)
+    write_map(runner, frame, codes, COUNTS_NODATA, out)
 }

@@ -12,7 +12,6 @@ use Rattle.tile_jobs.specs.Closed.{ArePartsOf, in_seats, IsClosed}
 use Rattle.tile_jobs.proofs.Entries.{times_append, times_deal, deal_is}
 use Rattle.tile_jobs.proofs.Seats.{get_snoc}
 
--- what has the remainder v is in the part of v
 pub times_of : (v seats y : ℕ) (xs : List ℕ) → y % seats ≡ v → times y (of v seats xs) ≡ times y xs
 times_of v seats y [] rem = refl
 times_of v seats y (x ∷ xs) rem =
@@ -64,7 +63,6 @@ sum_mono zero m f l = omega arith
 sum_mono (suc n) zero f l = absurd (omega arith)
 sum_mono (suc n) (suc m) f l = elim (cases_eq n m) [ inl e ↦ rw e (omega arith) | inr far ↦ let h = sum_mono (suc n) m f (omega arith) in omega arith ]
 
--- seat s's next end is that of deque v
 pub place_is : (s v : ℕ) → s ≢ v → skip s (v - cond (nat_lt s v) 1 0) ≡ v
 place_is s v far = grind (arith, nat_tests)
 
@@ -80,7 +78,7 @@ next_row s v xs =
           rw (ne_eqb s v far) (drop-drop 1 (v - cond (nat_lt s v) 1 0) xs ∙ ap (λ k. drop k xs) at)
     ]
 
--- what is left after the deques below n were closed
+-- `left` has the jobs left in the deques below n.
 pub record IsLeft (jobs seats : ℕ) (ss : List SeatState) (n : ℕ) (left : List ℕ) : Type 0 where
   pub parts : ArePartsOf jobs seats n left
   pub low : length left ≤ sum_to n (λ v. length (deal jobs seats v))
@@ -120,7 +118,7 @@ left_more jobs seats ss v left p low h k part empty again once =
           (λ d m y e. let a = h.later y (omega arith) in let b = ap (times y) (again d m) in let c = times_append y left p in omega arith) s l d m y e;
     }
 
--- the place of deque v's end among the others of seat s
+-- The index of deque v's end among the stealing ends of seat s.
 abbrev pub head : ℕ → ℕ → ℕ
 head s v = v - cond (nat_lt s v) 1 0
 
@@ -150,7 +148,6 @@ module _ (jobs seats : ℕ) (ss : List SeatState) (deal_of_all : IsDeal jobs sea
       let t = (each s d ls).others_are (head s v) e (head_low s v d ls lv far) in
       t.3 ∙ rw (n.0, n.2, place_is s v far) refl
 
--- where every deque was closed
 pub all_left : (jobs seats : ℕ) (ss : List SeatState) (left : List ℕ) → 0 < seats → IsLeft jobs seats ss seats left → IsClosed jobs seats ss left
 all_left jobs seats ss left some h = record {
   parts = h.parts;

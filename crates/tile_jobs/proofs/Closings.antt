@@ -38,11 +38,11 @@ pub mark_shows : (marked : Bool) (u : Log) → IsSeated marked u → marked ≡ 
 mark_shows true u is e = let b = is.2 in omega arith
 mark_shows false u is e = absurd (true≢false (sym e))
 
--- the jobs that were popped go on
+-- One more job popped: with the rest of the deal, the popped jobs are the deal from k on.
 pub part_more : (d p : List ℕ) (k t j : ℕ) → t ≡ k + length p → p ++ drop t d ≡ drop k d → j ∷ drop (suc t) d ≡ drop t d → (p ++ j ∷ []) ++ drop (suc t) d ≡ drop k d
 part_more d p k t j at e next = append_assoc p (j ∷ []) (drop (suc t) d) ∙ ap (λ l. p ++ l) next ∙ e
 
--- and end as the rest of the deal
+-- At the end the popped jobs are the last jobs of the deal.
 pub part_ends : (d p : List ℕ) (k t m : ℕ) → p ++ drop t d ≡ drop k d → (m ≡ 0 → length d ≤ t) → (0 < m → p ≡ []) → (i : ℕ) × (p ≡ drop i d)
 part_ends d p k t zero e past none = (k, sym (append-nil p) ∙ ap (λ l. p ++ l) (sym (drop_all t d (past refl))) ∙ e)
 part_ends d p k t (suc m) e past none = (length d, none (omega arith) ∙ sym (drop_all (length d) d (omega arith)))
@@ -74,7 +74,6 @@ module _ (s0 s : ClosingState) (p : List ℕ) (now : s ≡ record s0 { took = s0
       let f = ap (times y) now_deal in
       omega arith
 
--- counting the ends that came back
 pub back_here : (v s b : ℕ) → s ≡ v → b + cond (nat_lt v s) 1 0 ≡ suc s → b + cond (nat_lt v (s + 1)) 1 0 ≡ suc (s + 1)
 back_here v s b e h = grind (arith, nat_tests)
 

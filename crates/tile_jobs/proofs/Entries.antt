@@ -1,4 +1,4 @@
--- The feed, its parts, and counts of lists.
+-- The entries pushed to a deque, and counts over lists.
 use Rattle.std.proofs.Common.{◌≡◌, ℕ, zero, suc, ◌+◌, ◌%◌, ◌<◌, ◌≤◌, true, false, cond, ◌==◌, List, [], ◌∷◌, ◌++◌, length, take, drop, get_or, add-one, add-zero, replicate, All, sym, refl, ap, ◌∙◌, subst, arith, eq-eqb, inl, inr}
 use Rattle.std.proofs.lemmas.Bool.Decides.{nat_tests}
 use Rattle.std.proofs.lemmas.Bool.{cases_eq, ne_eqb}
@@ -10,7 +10,6 @@ use Rattle.tile_jobs.specs.declared.deque.Entry.TheVariants.{Job, End}
 use Rattle.tile_jobs.specs.Board.{deal, feed, jobs_in, jobs_of, ends_of, times, IsRising}
 
 module _ {A : Type 0} where
-  -- the first of the rest stands at the cut
   pub cut_below : (xs : List A) (t : ℕ) (x : A) (rest : List A) → x ∷ rest ≡ drop t xs → t < length xs
   cut_below xs t x rest e = omega (arith, ap length e, length-drop t xs)
 
@@ -58,7 +57,6 @@ pub ends_jobs : (d : List ℕ) → ends_of (jobs_in d) ≡ 0
 ends_jobs [] = refl
 ends_jobs (j ∷ d) = ends_jobs d
 
--- behind the jobs there are only marks
 pub no_job : (n t j : ℕ) (rest : List Entry) → Job j ∷ rest ≡ drop t (replicate n End) → ⊥
 no_job zero zero j rest e = cc
 no_job zero (suc t) j rest e = cc
@@ -93,7 +91,7 @@ times_deal j seats v y =
       | false ↦ omega arith
     ]
 
--- the deal of v is of numbers below `jobs` with the remainder v
+-- The deal of v has only numbers below `jobs` with remainder v.
 pub deal_is : (jobs seats v y : ℕ) → 0 < times y (deal jobs seats v) → (y < jobs) × (y % seats ≡ v)
 deal_is zero seats v y n = absurd (omega arith)
 deal_is (suc j) seats v y n =
@@ -122,13 +120,11 @@ pub feed_late : (jobs seats v t : ℕ) → 0 < ends_of (take t (feed jobs seats 
 unfolding feed
 feed_late jobs seats v t h = mark_late (deal jobs seats v) seats t h
 
--- what stands in a list is counted
 times_at : (xs : List ℕ) (k d : ℕ) → k < length xs → 0 < times (get_or xs k d) xs
 times_at [] k d low = absurd (omega arith)
 times_at (x ∷ xs) zero d low = let one = times_self x in omega arith
 times_at (x ∷ xs) (suc k) d low = let h = times_at xs k d (omega arith) in omega arith
 
--- where all that is counted in a list is less than j, each of its numbers is
 pub all_below : (xs : List ℕ) (j : ℕ) → ((x : ℕ) → 0 < times x xs → x < j) → All (λ x. x < j) xs
 all_below xs j less k d low = less (get_or xs k d) (times_at xs k d low)
 
@@ -142,7 +138,6 @@ deal_rises (suc j) seats v =
       | false ↦ was
     ]
 
--- what stands before j in a rising list is less than j
 rising_before : (xs ys : List ℕ) (j x : ℕ) → IsRising (xs ++ j ∷ ys) → 0 < times x xs → x < j
 rising_before [] ys j x is n = absurd (omega arith)
 rising_before (z ∷ xs) ys j x is n =
@@ -156,14 +151,14 @@ rising_before (z ∷ xs) ys j x is n =
           rising_before xs ys j x (λ i k d l low. is (suc i) (suc k) d (omega arith) (omega arith)) (let m = rw t at n in omega arith)
     ]
 
--- the jobs of the feed before and behind a place where a job stands
+-- The jobs before a job of the feed, the job and those after it are the deal.
 feed_parts : (jobs seats v t j : ℕ) (rest : List Entry) → Job j ∷ rest ≡ drop t (feed jobs seats v)
     → jobs_of (take t (feed jobs seats v)) ++ (j ∷ jobs_of rest) ≡ deal jobs seats v
 feed_parts jobs seats v t j rest e =
     let all = feed jobs seats v in
     sym (jobs_append (take t all) (Job j ∷ rest)) ∙ ap (λ l. jobs_of (take t all ++ l)) e ∙ ap jobs_of (take-append-drop t all) ∙ feed_jobs jobs seats v
 
--- a job among the entries is one of the deal
+-- A job of the feed is below `jobs` and has remainder v.
 pub feed_is : (jobs seats v t j : ℕ) (rest : List Entry) → Job j ∷ rest ≡ drop t (feed jobs seats v) → (j < jobs) × (j % seats ≡ v)
 feed_is jobs seats v t j rest e =
     let before = jobs_of (take t (feed jobs seats v)) in
@@ -171,7 +166,7 @@ feed_is jobs seats v t j rest e =
     let one = times_self j in
     deal_is jobs seats v j (subst (λ l. 0 < times j l) (feed_parts jobs seats v t j rest e) (omega arith))
 
--- and greater than each before it
+-- A job of the feed is greater than each job before it.
 pub feed_rises : (jobs seats v t j : ℕ) (rest : List Entry) → Job j ∷ rest ≡ drop t (feed jobs seats v)
     → (x : ℕ) → 0 < times x (jobs_of (take t (feed jobs seats v))) → x < j
 feed_rises jobs seats v t j rest e x n =

@@ -1,14 +1,14 @@
--- dealing
+-- Dealing the jobs.
 pub mod Residues
 pub mod Rounds
--- one take of a seat
+-- One job taken by a seat.
 pub mod Entries
 pub mod Totals
 pub mod Steps
 pub mod Seats
--- closing a board
+-- Closing a board.
 pub mod Closings
 pub mod Closes
--- workers and their answers
+-- Workers and their results.
 pub mod Answers
 pub mod Workers

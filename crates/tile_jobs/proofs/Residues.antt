@@ -1,4 +1,4 @@
--- Lists cut by remainders.
+-- Lists split by remainders.
 use Rattle.std.proofs.Common.{◌≡◌, ◌≢◌, ℕ, zero, suc, ◌+◌, ◌%◌, ◌<◌, ◌≤◌, Bool, true, false, cond, ◌==◌, List, [], ◌∷◌, ◌++◌, length, drop, replicate, sym, refl, ap, ◌∙◌, arith, inl, inr}
 use Rattle.std.proofs.lemmas.Bool.Decides.{nat_tests}
 use lib.ListN.{length-append, length-replicate}
@@ -40,7 +40,6 @@ sum_lt (suc n) f g w low h less =
       | inr far ↦ let m = sum_lt n f g w (omega arith) (λ v l. h v (omega arith)) less in omega arith
     ]
 
--- two sums whose parts differ at w alone
 pub sum_at : (n w : ℕ) (f g : ℕ → ℕ) → w < n → ((v : ℕ) → v < n → v ≢ w → f v ≡ g v) → sum_to n f + g w ≡ sum_to n g + f w
 sum_at zero w f g low same = absurd (omega arith)
 sum_at (suc n) w f g low same =
@@ -53,7 +52,6 @@ sum_zero : (n : ℕ) → ◌≡◌ {A = ℕ} (sum_to n (λ v. 0)) 0
 sum_zero zero = refl
 sum_zero (suc n) = let h = sum_zero n in omega arith
 
--- the parts have as many numbers as the list
 pub parts_length : (seats : ℕ) (xs : List ℕ) → 0 < seats → sum_to seats (λ v. length (of v seats xs)) ≡ length xs
 parts_length seats [] some_seat = sum_zero seats
 parts_length seats (x ∷ xs) some_seat =
@@ -68,7 +66,6 @@ deal_length j seats v =
     let l = length-append (deal j seats v) (j ∷ []) in
     elim (j % seats == v) as (λ b. length (cond b (deal j seats v ++ j ∷ []) (deal j seats v)) ≡ cond b 1 0 + length (deal j seats v)) [ true ↦ omega arith | false ↦ omega arith ]
 
--- the deals have all jobs
 pub deals_length : (seats jobs : ℕ) → 0 < seats → sum_to seats (λ v. length (deal jobs seats v)) ≡ jobs
 deals_length seats zero some_seat = sum_zero seats
 deals_length seats (suc j) some_seat =
@@ -78,7 +75,6 @@ deals_length seats (suc j) some_seat =
     let here : length (deal (suc j) seats r) ≡ suc (length (deal j seats r)) = deal_length j seats r ∙ rw (eq-eqb r r refl) (omega arith) in
     omega arith
 
--- a seat that takes one more job had room for it
 pub room_left : (seats jobs : ℕ) (xs : List ℕ) (w : ℕ) → w < seats → ((v : ℕ) → v < seats → length (of v seats xs) ≤ length (deal jobs seats v)) → length (of w seats xs) < length (deal jobs seats w) → length xs < jobs
 room_left seats jobs xs w low h less =
     let a = parts_length seats xs (omega arith) in
@@ -86,7 +82,7 @@ room_left seats jobs xs w low h less =
     let c = sum_lt seats (λ v. length (of v seats xs)) (λ v. length (deal jobs seats v)) w low h less in
     omega arith
 
--- the deal goes on with j
+-- The deal has j right after the jobs below j.
 deal_on_at : (b : Bool) (m seats v j : ℕ) → (m % seats == v) ≡ b → (rest : List ℕ) → deal m seats v ≡ deal j seats v ++ j ∷ rest → (more : List ℕ) × (deal (suc m) seats v ≡ deal j seats v ++ j ∷ more)
 deal_on_at true m seats v j is rest e = (rest ++ m ∷ [], rw is (ap (λ l. l ++ m ∷ []) e ∙ append_assoc (deal j seats v) (j ∷ rest) (m ∷ [])))
 deal_on_at false m seats v j is rest e = (rest, rw is e)
@@ -105,7 +101,7 @@ drop_here xs y ys n e =
     let b : n ≡ length xs + 0 = omega arith in
     ap (λ k. y ∷ drop k (xs ++ y ∷ ys)) a ∙ ap (λ l. y ∷ l) (drop-append-add xs (y ∷ ys) 1) ∙ sym (drop-append-add xs (y ∷ ys) 0) ∙ ap (λ k. drop k (xs ++ y ∷ ys)) (sym b)
 
--- the feed's next entry, among the jobs and then among the marks
+-- The next entry of the feed: a job, then an end mark.
 pub feed_next_job : (jobs seats v j n : ℕ) → j < jobs → j % seats ≡ v → n ≡ length (deal j seats v) → Job j ∷ drop (suc n) (feed jobs seats v) ≡ drop n (feed jobs seats v)
 unfolding feed
 feed_next_job jobs seats v j n low rem e =

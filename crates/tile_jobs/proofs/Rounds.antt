@@ -1,4 +1,4 @@
--- What is dealt in whole rounds over the seats.
+-- The deal in whole rounds over the seats.
 use Rattle.std.proofs.Common.{◌≡◌, ℕ, zero, suc, ◌+◌, ◌*◌, ◌/◌, ◌%◌, ◌<◌, ◌≤◌, true, false, cond, nat_lt, length, sym, refl, ap, ◌∙◌, arith, inl, inr}
 use Rattle.std.proofs.lemmas.Bool.{cases_eq, cases_lt}
 use Rattle.std.proofs.lemmas.Bool.Decides.{nat_tests}
@@ -23,14 +23,12 @@ whole_rounds (suc q) seats v low =
     let e : suc q * seats ≡ q * seats + seats = omega arith in
     rw e (h ∙ rw t (omega arith))
 
--- how many jobs are dealt to a deque
 pub deal_count : (jobs seats v : ℕ) → v < seats → length (deal jobs seats v) ≡ jobs / seats + cond (nat_lt v (jobs % seats)) 1 0
 deal_count jobs seats v low =
     let r : jobs % seats < seats = omega arith in
     let e : (jobs / seats) * seats + jobs % seats ≡ jobs = let s = mod-add-div' jobs seats in omega (arith, s) in
     ap (λ j. length (deal j seats v)) (sym e) ∙ part_of_round (jobs / seats) (jobs % seats) seats v (omega arith) (whole_rounds (jobs / seats) seats v low)
 
--- the job of each round is the one before which as many were dealt
 pub deal_before_round : (seats v round : ℕ) → v < seats → length (deal (v + round * seats) seats v) ≡ round
 deal_before_round seats v round low =
     let e : v + round * seats ≡ round * seats + v = omega arith in
@@ -46,12 +44,10 @@ deal_grows (suc n) (suc m) seats v l =
       | inr far ↦ let h = deal_grows (suc n) m seats v (omega arith) in let s = deal_length m seats v in omega arith
     ]
 
--- the job of a round before the last is below `jobs`
 pub round_below : (jobs seats v count round : ℕ) → v < seats → count ≡ length (deal jobs seats v) → round < count → v + round * seats < jobs
 round_below jobs seats v count round low is few =
     let at = deal_before_round seats v round low in
     elim (cases_lt (v + round * seats) jobs) [ inl l ↦ l | inr high ↦ let h = deal_grows jobs (v + round * seats) seats v high in absurd (omega arith) ]
 
--- the job of a round is of the deque
 pub round_remainder : (seats v round : ℕ) → v < seats → (v + round * seats) % seats ≡ v
 round_remainder seats v round low = let e : v + round * seats ≡ round * seats + v = omega arith in rw e (mod-mul-add round seats v low)

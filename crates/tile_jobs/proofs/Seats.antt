@@ -1,4 +1,4 @@
--- What a take leaves of a seat.
+-- A seat stays a seat when it takes a job, and a deal stays a deal.
 use Rattle.std.proofs.Common.{◌≡◌, ◌≢◌, ℕ, zero, suc, ◌-◌, ◌%◌, ◌<◌, ◌≤◌, inl, inr, Bool, true, false, true≢false, cond, ◌==◌, List, All, [], ◌∷◌, ◌++◌, length, get_or, set, sym, refl, ap, ◌∙◌, arith}
 use Rattle.std.proofs.lemmas.Bool.Decides.{nat_tests}
 use Rattle.std.proofs.lemmas.Bool.{cases_eq, cases_lt, eq-eqb, ne_eqb, lt-ltb, le-ltb}
@@ -11,7 +11,6 @@ use Rattle.tile_jobs.proofs.Residues.{of_here, of_else, room_left}
 pub same_trans : (a b c : EndState) → SameEnd a b → SameEnd b c → SameEnd a c
 same_trans a b c x y = (y.0 ∙ x.0, y.1 ∙ x.1, y.2 ∙ x.2, y.3 ∙ x.3)
 
--- what has no mark had none
 unmarked_before : (a b : Bool) → (a ≡ true → b ≡ true) → b ≡ false → a ≡ false
 unmarked_before true b stays e = absurd (true≢false (sym (stays refl) ∙ e))
 unmarked_before false b stays e = refl
@@ -41,7 +40,6 @@ skip_far n k e = grind (arith, nat_tests)
 skip_apart : (n i k : ℕ) → skip n i ≡ skip n k → i ≡ k
 skip_apart n i k e = grind (arith, nat_tests)
 
--- each number but n is skipped to
 pub skip_onto : (n v seats : ℕ) → v < suc seats → v ≢ n → n < suc seats → (k : ℕ) × (k < seats) × (skip n k ≡ v)
 skip_onto n v seats low far below =
     elim (cases_lt v n) [
@@ -121,7 +119,7 @@ others_took s j fs h t len =
       others_are = λ i d low. others_took_at s j fs h t i d (omega arith);
     }
 
--- a stolen job is greater than those of its deque that the seat took before
+-- A stolen job is greater than the jobs of its deque that the seat took before.
 pub others_rise : (s : SeatState) (j : ℕ) (fs : List EndState) → IsSeat s → TookAmong s.others j fs
     → All (λ x. x < j) (of (j % s.own.seats) s.own.seats s.taken)
 others_rise s j fs h t =
@@ -186,7 +184,6 @@ get_snoc P (y ∷ ys) x all here (suc j) d low = get_snoc (λ n. P (suc n)) ys x
 pub fresh_more : (jobs seats : ℕ) (xs : List EndState) (x : EndState) → AllFresh jobs seats xs → IsFresh jobs seats (length xs) x → AllFresh jobs seats (xs ++ x ∷ [])
 fresh_more jobs seats xs x all here = λ v d low. get_snoc (IsFresh jobs seats) xs x all here v d (let l = length-append xs (x ∷ []) in omega arith)
 
--- a seat that took nothing
 pub fresh_seat : (jobs seats s : ℕ) (es : List EndState) (own : EndState) → AllFresh jobs seats es → length es ≡ seats → s < seats → own ≡ get_or es s own → IsSeat (seat_of s own (without s es) [])
 fresh_seat jobs seats s es own all count low is =
     let mine : IsFresh jobs seats s own = rw (← is) at (all s own (omega arith)) in
@@ -225,7 +222,6 @@ without_cond xs n v x e =
       | inr far ↦ rw (ne_eqb n v far) (sym (without_more xs n x (λ q. far (q ∙ sym e))))
     ]
 
--- seats that stay the same stay a deal
 pub deal_same : (jobs seats : ℕ) (ss ts : List SeatState) → IsDeal jobs seats ss → length ts ≡ seats → ((s : ℕ) (d : SeatState) → s < seats → SameSeat (get_or ss s d) (get_or ts s d)) → IsDeal jobs seats ts
 deal_same jobs seats ss ts h size same = record {
   count = size;

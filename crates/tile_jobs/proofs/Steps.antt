@@ -1,4 +1,4 @@
--- Each step keeps the rule of a deque.
+-- Each step on a deque keeps `Lawful`.
 use Rattle.std.proofs.Common.{◌≡◌, ◌≢◌, ℕ, zero, suc, ◌+◌, ◌-◌, ◌<◌, ◌≤◌, inl, inr, ⊎_elim, true, true≢false, List, [], ◌∷◌, ◌++◌, length, take, drop, set, All, sym, refl, ap, ◌∙◌, subst, arith}
 use Rattle.std.specs.List.{concat}
 use Rattle.std.proofs.lemmas.List.{append_assoc, take_all}
@@ -17,11 +17,10 @@ use Rattle.tile_jobs.specs.Rule.{total, all_taken, taken, share, blank, spent, o
 use Rattle.tile_jobs.proofs.Totals.{total_set, total_at, total_snoc, total_plus, total_alone}
 use Rattle.tile_jobs.proofs.Entries.{cut_take, cut_drop, cut_below, cut_past, times_append, jobs_append, ends_append, feed_ends, feed_early, feed_late, feed_is, feed_rises, all_below}
 
--- a view that took nothing
 no_list : All IsRising ([] ∷ [])
 no_list = All-cons IsRising [] [] (λ i k d l low. absurd (omega arith)) (λ k d low. absurd (omega arith))
 
--- what a pass that may take knows of the deque
+-- A pass that may take has the deque's numbers.
 pub names : (items : List Entry) (views : List Log) (h : Lawful items views) (port : ℕ) (u : Log) → get_elem? views port ≡ some u → CanTake u → (u.jobs ≡ h.jobs) × (u.seats ≡ h.seats) × (u.deque ≡ h.v)
 names items views h port u at can = let n : 0 < u.leaves = can.0 in (h.views_are port u at).named (inr (omega arith))
 
@@ -31,13 +30,12 @@ settled items views h port u at can =
     let n = names items views h port u at can in
     ⊎_elim (λ (r : u.ready ≡ true). (mine.ready r).0) (λ (o : (u.owns ≡ true) × (u.pushed ≡ length (feed u.jobs u.seats u.deque))). sym (mine.owns o.0).1 ∙ rw (n.0, n.1, n.2) at o.1) can.1
 
--- the deque holds what is left of its feed
 left_of_feed : (items : List Entry) (views : List Log) (h : Lawful items views) (port : ℕ) (u : Log) → get_elem? views port ≡ some u → CanTake u → items ≡ drop (total taken views) (feed h.jobs h.seats h.v)
 left_of_feed items views h port u at can =
     let all = feed h.jobs h.seats h.v in
     h.held ∙ ap (drop (total taken views)) (rw (settled items views h port u at can) (take_all (length all) all (omega arith)))
 
--- the rule after one entry was taken
+-- `Lawful` after one entry was taken.
 after : (x : Entry) (items : List Entry) (views : List Log) (h : Lawful (x ∷ items) views) (port : ℕ) (u w : Log) → get_elem? views port ≡ some u → CanTake u
     → taken w ≡ suc (taken u) → share w ≡ share u → ((y : ℕ) → times y (all_taken w) ≡ times y (all_taken u) + times y (jobs_of (x ∷ []))) → w.marks ≡ u.marks + ends_of (x ∷ [])
     → IsOf h.jobs h.seats h.v h.pushed h.owner port w
@@ -106,14 +104,13 @@ takes_mark items views h port u at can =
       refl,
     )
 
--- one entry at the front is taken, by the owner's pass or a stealing one
+-- Any pass that may take keeps `Lawful` when it takes the first entry.
 pub takes : (port : ℕ) (u : Log) → CanTake u → Takes Lawful port u 1 (Took u)
 takes port u can [] items views some_x few h at = absurd (omega arith)
 takes port u can (x ∷ y ∷ zs) items views some_x few h at = absurd (omega arith)
 takes port u can (Job j ∷ []) items views some_x few h at = let r = takes_job j items views h port u at can in (record u { took = u.took ++ j ∷ [] }, r.0, r.1)
 takes port u can (End ∷ []) items views some_x few h at = let r = takes_mark items views h port u at can in (record u { marks = suc u.marks; leaves = u.leaves - 1 }, r.0, r.1)
 
--- and there always is one
 pub never_empty : (port : ℕ) (u : Log) → CanTake u → (views : List Log) → Lawful [] views → get_elem? views port ≡ some u → ⊥
 never_empty port u can views h at =
     let all = feed h.jobs h.seats h.v in
@@ -134,7 +131,7 @@ pub finds_few : (port : ℕ) (u : Log) → CanTake u → FindsFew Lawful 0 port 
 finds_few port u can [] views few h at = never_empty port u can views h at
 finds_few port u can (x ∷ xs) views few h at = absurd (omega arith)
 
--- the owner's pass lends a stealing pass one leave
+-- Splitting a stealing pass off the owner's keeps `Lawful`.
 pub forks : (port : ℕ) (u : Log) → u.owns ≡ true → u.pushed ≡ length (feed u.jobs u.seats u.deque) → 1 < u.leaves → Forks Lawful port u (lending u) (lent u)
 forks port u owns all two items views h at =
     let mine = h.views_are port u at in
@@ -167,7 +164,7 @@ forks port u owns all two items views h at =
 back_all : (u w : Log) → all_taken (taken_back u w) ≡ all_taken u ++ all_taken w
 back_all u w = ap (λ l. u.took ++ l) (concat-append u.gathered (w.took ∷ w.gathered)) ∙ sym (append_assoc u.took (concat u.gathered) (all_taken w))
 
--- a pass comes back to the owner's
+-- Joining a pass to the owner's keeps `Lawful`.
 pub merges : (port : ℕ) (u : Log) (other : ℕ) (w : Log) → u.owns ≡ true → Merges Lawful port u other w (taken_back u w) spent
 merges port u other w owns items views h at two at' =
     let mine = h.views_are port u at in
@@ -200,7 +197,7 @@ merges port u other w owns items views h at two at' =
           (λ (r : (j ≢ port) × (get_elem? views j ≡ some v)). h.views_are j v r.1) (at_set views port j both v q.1)) (at_set vs other j spent v e);
     }
 
--- all passes came back, and a mark was taken: the lists have each job once
+-- All passes are joined to the owner's, and an end mark was taken.
 abbrev pub IsWhole : Log → Type 0
 IsWhole u = (u.owns ≡ true) × (share u ≡ u.seats) × (0 < u.marks)
 
@@ -239,7 +236,7 @@ begins = record {
   views_are = first_is;
 }
 
--- the rule after one more entry was pushed
+-- `Lawful` after one more entry was pushed.
 pushed_after : (J S V n : ℕ) (e : Entry) (rest items : List Entry) (views : List Log) (h : Lawful items views) (port : ℕ) → get_elem? views port ≡ some (dealing J S V n) → e ∷ rest ≡ drop n (feed J S V)
     → total taken views ≡ 0 → items ≡ take n (feed J S V) → total share views + S ≡ S + once n S
     → ((j : ℕ) (v : Log) → j ≢ port → get_elem? views j ≡ some v → IsOf J S V (suc n) port j v)
@@ -321,7 +318,7 @@ next_is xs items views h port u at can owns whole =
     let only = total_alone taken share views port u weigh at alone in
     (items, rw (n.0, n.1, n.2, ← only) (left_of_feed (xs ++ items) views h port u at can))
 
--- where the owner has every pass back, it takes the feed's next entry
+-- An owner with all passes joined to its own takes the next entry of the feed.
 pub takes_next : (port : ℕ) (u : Log) → CanTake u → u.owns ≡ true → share u ≡ u.seats → Takes Lawful port u 1 (TookNext u)
 takes_next port u can owns whole xs items views some_x few h at =
     let r = takes port u can xs items views some_x few h at in (r.0, r.1, (r.2, next_is xs items views h port u at can owns whole))

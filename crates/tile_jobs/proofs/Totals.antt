@@ -27,7 +27,6 @@ pub total_none : (f g : Log → ℕ) (views : List Log) → ((j : ℕ) (u : Log)
 total_none f g [] h e = refl
 total_none f g (u ∷ us) h e = let here = h zero u refl (omega arith) in let rest = total_none f g us (λ j. h (suc j)) (omega arith) in omega arith
 
--- where the others weigh nothing by g, they weigh nothing by f
 pub total_alone : (f g : Log → ℕ) (views : List Log) (port : ℕ) (v : Log) → ((j : ℕ) (u : Log) → get_elem? views j ≡ some u → g u ≡ 0 → f u ≡ 0) → get_elem? views port ≡ some v → total g views ≡ g v
     → total f views ≡ f v
 total_alone f g [] port v h e s = absurd (some-ne-none v (sym e))

@@ -1,4 +1,4 @@
--- A worker's answers go with its seat's list.
+-- A worker's results match its seat's list of jobs.
 use Rattle.std.proofs.Common.{◌≡◌, ℕ, zero, suc, ◌+◌, ◌<◌, Result, Ok, Err, sym, subst, ◌==◌, cond, Bool, true, false, List, [], ◌∷◌, ◌++◌, get_or, refl, ◌∙◌, arith, inl, inr}
 use Rattle.std.proofs.lemmas.Bool.{cases_lt}
 use Rattle.std.proofs.lemmas.Bool.Decides.{nat_tests}
@@ -7,7 +7,7 @@ use Rattle.tile_jobs.specs.Answers.{IsAnswered}
 use Rattle.tile_jobs.proofs.Answers.{answered_more, answered_last}
 use Rattle.std.specs.Prelude.{IsOkAnd}
 use Rattle.tile_jobs.specs.declared.JobFault.{JobFault}
-use Rattle.tile_jobs.specs.declared.worker.Shift.{Shift}
+use Rattle.tile_jobs.specs.declared.worker.WorkerResult.{WorkerResult}
 use Rattle.tile_jobs.specs.Workers.{IsOutcome}
 use Rattle.tile_jobs.specs.Board.{times, sum_to}
 use Rattle.tile_jobs.specs.Ends.{SeatState, SameSeat, HasAllMarks}
@@ -25,12 +25,10 @@ module _ {O : Type 0} where
   pub whole_more : (j job : ℕ) (taken : List ℕ) (list : List (Answer O)) (a : Answer O) → a.job ≡ job → (0 < times j taken → IsAnswered list j) → 0 < times j (taken ++ job ∷ []) → IsAnswered (list ++ a ∷ []) j
   whole_more j job taken list a e old n = let s = times_append j taken (job ∷ []) in whole_at (job == j) j job taken list a refl e old (omega arith)
 
-  -- a seat that came back with an outcome that is no fault
-  pub back_same : (gives : ℕ → O → Type 0) (s t : SeatState) (result : Result (Shift O) JobFault) → IsOutcome gives s result → IsOkAnd result (λ shift. t ≡ shift.seat) → SameSeat s t × HasAllMarks t
+  pub back_same : (gives : ℕ → O → Type 0) (s t : SeatState) (result : Result (WorkerResult O) JobFault) → IsOutcome gives s result → IsOkAnd result (λ shift. t ≡ shift.seat) → SameSeat s t × HasAllMarks t
   back_same gives s t (Ok shift) out e = (subst (SameSeat s) (sym e) out.0.same, subst HasAllMarks (sym e) out.0.empty)
   back_same gives s t (Err f) out e = absurd e
 
--- where a sum isn't 0, one of its parts isn't
 pub some_part : (n : ℕ) (f : ℕ → ℕ) → 0 < sum_to n f → (s : ℕ) × (s < n) × (0 < f s)
 some_part zero f h = absurd (omega arith)
 some_part (suc n) f h =

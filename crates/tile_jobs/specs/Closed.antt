@@ -1,25 +1,28 @@
--- What is found where the seats of a board come back.
+-- What `Board::close` returns: the jobs left, and that each job occurs exactly once.
+-- Public.
 use Rattle.std.specs.Prelude.{◌≡◌, ℕ, ◌+◌, ◌%◌, ◌<◌, ◌≤◌, true, List, [], length, drop, get_or}
 use Rattle.std.specs.List.{concat}
 use Rattle.tile_jobs.specs.Board.{deal, times, sum_to}
 use Rattle.tile_jobs.specs.Ends.{SeatState, HasAllMarks}
 
--- the jobs left in the deques below n, deque by deque: of each an end of its deal
+-- `left` has jobs of the deques below n, in their order: of each the last jobs of its deal.
 abbrev pub ArePartsOf : ℕ → ℕ → ℕ → List ℕ → Type 0
-ArePartsOf jobs seats n left = (parts : List (List ℕ)) × (length parts ≡ n) × (left ≡ concat parts) × ((v : ℕ) → v < n → (k : ℕ) × (get_or parts v [] ≡ drop k (deal jobs seats v)))
+ArePartsOf jobs seats n left = (parts : List (List ℕ)) × (length parts ≡ n) × (left ≡ concat parts)
+    × ((v : ℕ) → v < n → (k : ℕ) × (get_or parts v [] ≡ drop k (deal jobs seats v)))
 
--- how often y stands in the lists of all seats
+-- How often y occurs in all seats' lists of jobs taken.
 abbrev pub in_seats : ℕ → ℕ → List SeatState → SeatState → ℕ
 in_seats y seats ss d = sum_to seats (λ s. times y (get_or ss s d).taken)
 
--- the jobs that no seat took
+-- `left` has exactly the jobs below `jobs` that no seat took.
 pub record IsClosed (jobs seats : ℕ) (ss : List SeatState) (left : List ℕ) : Type 0 where
-  -- deque by deque, of each an end of its deal
+  -- It is in the order of the deques: of each the last jobs of its deal.
   pub parts : ArePartsOf jobs seats seats left
-  -- each job is in one seat's list or left, once, and no other number is
+  -- Each job below `jobs` occurs once, in one seat's list or in `left`; no other does.
   pub once : (j : ℕ) (d : SeatState) → j < jobs → in_seats j seats ss d + times j left ≡ 1
   pub none_else : (j : ℕ) (d : SeatState) → jobs ≤ j → in_seats j seats ss d + times j left ≡ 0
-  -- nothing is left where a seat has every mark
+  -- No job is left if some seat has the end marks of all deques.
   pub empty : (s : ℕ) (d : SeatState) → s < seats → HasAllMarks (get_or ss s d) → left ≡ []
-  -- and nothing of a deque whose own seat has its mark
-  pub own_empty : (s : ℕ) (d : SeatState) → s < seats → (get_or ss s d).own.marked ≡ true → (j : ℕ) → j % seats ≡ s → times j left ≡ 0
+  -- No job of a deque is left if its owner has its end mark.
+  pub own_empty : (s : ℕ) (d : SeatState) → s < seats → (get_or ss s d).own.marked ≡ true →
+      (j : ℕ) → j % seats ≡ s → times j left ≡ 0

@@ -1,4 +1,5 @@
--- A seat, and the ends by which it takes from the deques of its board. Source: this project's own.
+-- Seats, and their ends of the deques of a board. `Log` is the view of one pass (see Rule).
+-- Public.
 use Rattle.std.specs.Prelude.{◌≡◌, ◌≢◌, ℕ, zero, suc, ◌%◌, ◌<◌, ◌≤◌, ◌⊎◌, Bool, true, false, cond, nat_lt, ◌==◌, List, [], ◌∷◌, ◌++◌, length, get_or, drop, All}
 use Rattle.std.specs.List.{concat}
 use Rattle.std.specs.declared.alloc.Global.{Global}
@@ -7,11 +8,12 @@ use Rattle.tile_jobs.specs.declared.deque.Log.{Log}
 use Rattle.tile_jobs.specs.Board.{deal, feed}
 use Rattle.tile_jobs.specs.Rule.{share}
 
+-- The identity of a deque: its memory and its allocator.
 abbrev pub DequeId : Type 0
 DequeId = RowsId × Global
 
--- one seat's end of one deque: which deque, the jobs that the seat took there, whether it has the deque's mark,
--- and how many entries it has seen gone from the deque, none before its first steal
+-- One seat's end of one deque: the deque's numbers, the jobs that the seat took there, whether
+-- it has its end mark, and how many entries it has seen taken, 0 before its first steal.
 pub record EndState : Type 0 where
   pub id : DequeId
   pub jobs : ℕ
@@ -21,110 +23,142 @@ pub record EndState : Type 0 where
   pub marked : Bool
   pub seen : ℕ
 
+-- The end of a seat that has this view of the deque.
 abbrev pub end_of : DequeId → Bool → ℕ → Log → EndState
-end_of id marked seen u = record { id = id; jobs = u.jobs; seats = u.seats; deque = u.deque; took = u.took; marked = marked; seen = seen }
+end_of id marked seen u = record {
+  id = id;
+  jobs = u.jobs;
+  seats = u.seats;
+  deque = u.deque;
+  took = u.took;
+  marked = marked;
+  seen = seen;
+}
 
--- what a seat's view is between two calls
+-- A seat's view between two calls: it may take one end mark, or took it and is `marked`.
 abbrev pub IsSeated : Bool → Log → Type 0
-IsSeated marked u = (u.gathered ≡ []) × (u.leaves ≡ cond marked 0 1) × (u.marks ≡ cond marked 1 0) × (length u.took ≤ length (deal u.jobs u.seats u.deque))
+IsSeated marked u = (u.gathered ≡ []) × (u.leaves ≡ cond marked 0 1) × (u.marks ≡ cond marked 1 0)
+    × (length u.took ≤ length (deal u.jobs u.seats u.deque))
 
+-- The owner's view between two calls: all entries were pushed.
 abbrev pub IsOwn : Bool → Log → Type 0
-IsOwn marked u = IsSeated marked u × (u.owns ≡ true) × (u.pushed ≡ length (feed u.jobs u.seats u.deque))
+IsOwn marked u =
+    IsSeated marked u × (u.owns ≡ true) × (u.pushed ≡ length (feed u.jobs u.seats u.deque))
 
+-- A stealing seat's view between two calls.
 abbrev pub IsOther : Bool → Log → Type 0
 IsOther marked u = IsSeated marked u × (u.ready ≡ true)
 
+-- Two states of one end: they name one deque of one board.
 abbrev pub SameEnd : EndState → EndState → Type 0
 SameEnd e f = (f.id ≡ e.id) × (f.jobs ≡ e.jobs) × (f.seats ≡ e.seats) × (f.deque ≡ e.deque)
 
--- no job was taken, a mark that was taken stays, and with no mark what was seen gone grows or stays
+-- No job was taken at this end, and a mark stays. Without one, `seen` does not fall.
 abbrev pub Kept : EndState → EndState → Type 0
-Kept e f = SameEnd e f × (f.took ≡ e.took) × (e.marked ≡ true → f.marked ≡ true) × (f.marked ≡ false → e.seen ≤ f.seen)
+Kept e f = SameEnd e f × (f.took ≡ e.took) × (e.marked ≡ true → f.marked ≡ true)
+    × (f.marked ≡ false → e.seen ≤ f.seen)
 
--- job j of this end's deque was taken, before the deque's mark, and goes to the end of the end's list
+-- Job j of the deque was taken at this end, and is the last of its list.
 pub record TookJob (e : EndState) (j : ℕ) (f : EndState) : Type 0 where
   pub same : SameEnd e f
   pub unmarked : e.marked ≡ false
   pub took : f.took ≡ e.took ++ j ∷ []
-  -- it is greater than all before it there
+  -- It is greater than all before it in the list.
   pub rises : All (λ x. x < j) e.took
   pub below : j < e.jobs
   pub of_deque : j % e.seats ≡ e.deque
   pub fits : length f.took ≤ length (deal e.jobs e.seats e.deque)
 
--- nothing was taken through this end, which has no mark, and more entries are seen gone from its
--- deque than before: another taker was met
+-- Another seat was faster: nothing was taken at this end, which has no mark, and more entries
+-- of the deque are seen taken than before.
 abbrev pub MetTaker : EndState → EndState → Type 0
 MetTaker e f = (f ≡ record e { seen = f.seen }) × (e.seen < f.seen) × (e.marked ≡ false)
 
+-- No job was taken at any of the ends.
 abbrev pub AllKept : List EndState → List EndState → Type 0
 AllKept es fs = (i : ℕ) (d : EndState) → i < length es → Kept (get_or es i d) (get_or fs i d)
 
--- a job of one of the ends was taken
+-- Job j was taken at one of the ends, and no job at the others.
 abbrev pub TookAmong : List EndState → ℕ → List EndState → Type 0
-TookAmong es j fs = (k : ℕ) × (k < length es) × ((d : EndState) → TookJob (get_or es k d) j (get_or fs k d)) × ((i : ℕ) (d : EndState) → i ≢ k → i < length es → Kept (get_or es i d) (get_or fs i d))
+TookAmong es j fs = (k : ℕ) × (k < length es)
+    × ((d : EndState) → TookJob (get_or es k d) j (get_or fs k d))
+    × ((i : ℕ) (d : EndState) → i ≢ k → i < length es → Kept (get_or es i d) (get_or fs i d))
 
--- no job was taken, and at one of the ends from `from` to `to` another taker was met
+-- No job was taken, and at one of the ends from `from` up to `to` another seat was faster.
 pub record MetAmong (from to : ℕ) (es fs : List EndState) : Type 0 where
   pub kept : AllKept es fs
-  pub met : (k : ℕ) × (from ≤ k) × (k < to) × ((d : EndState) → MetTaker (get_or es k d) (get_or fs k d))
+  pub met : (k : ℕ) × (from ≤ k) × (k < to)
+      × ((d : EndState) → MetTaker (get_or es k d) (get_or fs k d))
 
--- no job was taken, and the ends from `from` to `to` have their marks
+-- No job was taken, and the ends from `from` up to `to` have their end marks.
 pub record MarksAmong (from to : ℕ) (es fs : List EndState) : Type 0 where
   pub kept : AllKept es fs
   pub marks : (k : ℕ) (d : EndState) → from ≤ k → k < to → (get_or fs k d).marked ≡ true
 
--- the ends before `from`, and those from `to` on, are as they were
+-- The ends before `from` and those from `to` on are unchanged.
 abbrev pub SameElsewhere : ℕ → ℕ → List EndState → List EndState → Type 0
-SameElsewhere from to es fs = (k : ℕ) (d : EndState) → (k < from) ⊎ (to ≤ k) → get_or fs k d ≡ get_or es k d
+SameElsewhere from to es fs =
+    (k : ℕ) (d : EndState) → (k < from) ⊎ (to ≤ k) → get_or fs k d ≡ get_or es k d
 
--- the numbers of a list whose remainder by `seats` is v
+-- The numbers of a list that have remainder v by `seats`.
 abbrev pub of : ℕ → ℕ → List ℕ → List ℕ
 of v seats [] = []
 of v seats (x ∷ xs) = cond (x % seats == v) (x ∷ of v seats xs) (of v seats xs)
 
--- the k-th number that isn't n
+-- The k-th number, from 0, of those other than n.
 abbrev pub skip : ℕ → ℕ → ℕ
 skip n k = cond (nat_lt k n) k (suc k)
 
--- an end for deque v of a seat that took `taken`
+-- The end is one of deque v, for a seat that took the jobs `taken`.
 abbrev pub IsEnd : ℕ → ℕ → ℕ → List ℕ → EndState → Type 0
-IsEnd jobs seats v taken e = (e.jobs ≡ jobs) × (e.seats ≡ seats) × (e.deque ≡ v) × (e.took ≡ of v seats taken) × (length e.took ≤ length (deal jobs seats v))
+IsEnd jobs seats v taken e = (e.jobs ≡ jobs) × (e.seats ≡ seats) × (e.deque ≡ v)
+    × (e.took ≡ of v seats taken) × (length e.took ≤ length (deal jobs seats v))
 
+-- A seat: its number, its ends and the jobs that it took.
 pub record SeatState : Type 0 where
   pub number : ℕ
-  -- its end of its own deque, and of the others in their order
+  -- its end of its own deque, and its ends of the other deques, in their order
   pub own : EndState
   pub others : List EndState
-  -- the jobs that it took, in its order
+  -- the jobs that it took, in the order taken
   pub taken : List ℕ
 
+-- The seat has one end of each deque, and each end lists the seat's jobs of its deque.
 pub record IsSeat (s : SeatState) : Type 0 where
   pub below : s.number < s.own.seats
   pub count : suc (length s.others) ≡ s.own.seats
   pub own_is : IsEnd s.own.jobs s.own.seats s.number s.taken s.own
-  pub others_are : (k : ℕ) (d : EndState) → k < length s.others → IsEnd s.own.jobs s.own.seats (skip s.number k) s.taken (get_or s.others k d)
+  pub others_are : (k : ℕ) (d : EndState) → k < length s.others →
+      IsEnd s.own.jobs s.own.seats (skip s.number k) s.taken (get_or s.others k d)
 
+-- The seat made of these parts.
 abbrev pub seat_of : ℕ → EndState → List EndState → List ℕ → SeatState
-seat_of number own others taken = record { number = number; own = own; others = others; taken = taken }
+seat_of number own others taken =
+    record { number = number; own = own; others = others; taken = taken }
 
--- the same seat
+-- Two states of one seat: its number and the deques of its ends are equal.
 abbrev pub SameSeat : SeatState → SeatState → Type 0
-SameSeat s t = (t.number ≡ s.number) × SameEnd s.own t.own × (length t.others ≡ length s.others) × ((k : ℕ) (d : EndState) → k < length s.others → SameEnd (get_or s.others k d) (get_or t.others k d))
+SameSeat s t = (t.number ≡ s.number) × SameEnd s.own t.own × (length t.others ≡ length s.others)
+    × ((k : ℕ) (d : EndState) → k < length s.others →
+    SameEnd (get_or s.others k d) (get_or t.others k d))
 
--- the seat has the mark of every deque
+-- The seat has the end marks of all deques.
 abbrev pub HasAllMarks : SeatState → Type 0
-HasAllMarks s = (s.own.marked ≡ true) × ((k : ℕ) (d : EndState) → k < length s.others → (get_or s.others k d).marked ≡ true)
+HasAllMarks s = (s.own.marked ≡ true)
+    × ((k : ℕ) (d : EndState) → k < length s.others → (get_or s.others k d).marked ≡ true)
 
--- the seat took nothing, and has no mark
+-- The seat took no job and no end mark.
 abbrev pub IsNew : SeatState → Type 0
-IsNew s = (s.taken ≡ []) × (s.own.marked ≡ false) × ((k : ℕ) (d : EndState) → k < length s.others → (get_or s.others k d).marked ≡ false)
+IsNew s = (s.taken ≡ []) × (s.own.marked ≡ false)
+    × ((k : ℕ) (d : EndState) → k < length s.others → (get_or s.others k d).marked ≡ false)
 
--- marks stay
+-- The second state has every end mark that the first has.
 abbrev pub MarksStay : SeatState → SeatState → Type 0
-MarksStay s t = (s.own.marked ≡ true → t.own.marked ≡ true) × ((k : ℕ) (d : EndState) → k < length s.others → (get_or s.others k d).marked ≡ true → (get_or t.others k d).marked ≡ true)
+MarksStay s t = (s.own.marked ≡ true → t.own.marked ≡ true)
+    × ((k : ℕ) (d : EndState) → k < length s.others → (get_or s.others k d).marked ≡ true →
+    (get_or t.others k d).marked ≡ true)
 
--- the dealer of one deque, who may still hand out leaves
+-- The dealer of one deque. `leaves` is one more than the stealing ends still to be made.
 pub record DealerState : Type 0 where
   pub id : DequeId
   pub jobs : ℕ
@@ -132,37 +166,54 @@ pub record DealerState : Type 0 where
   pub deque : ℕ
   pub leaves : ℕ
 
+-- The dealer that has this view of the deque.
 abbrev pub dealer_of : DequeId → Log → DealerState
-dealer_of id u = record { id = id; jobs = u.jobs; seats = u.seats; deque = u.deque; leaves = u.leaves }
+dealer_of id u =
+    record { id = id; jobs = u.jobs; seats = u.seats; deque = u.deque; leaves = u.leaves }
 
+-- A dealer's view: all entries were pushed and none taken.
 abbrev pub IsDealer : Log → Type 0
-IsDealer u = (u.owns ≡ true) × (u.pushed ≡ length (feed u.jobs u.seats u.deque)) × (u.gathered ≡ []) × (u.took ≡ []) × (u.marks ≡ 0)
+IsDealer u = (u.owns ≡ true) × (u.pushed ≡ length (feed u.jobs u.seats u.deque)) × (u.gathered ≡ [])
+    × (u.took ≡ []) × (u.marks ≡ 0)
 
--- an end through which nothing was taken yet
+-- A new end of the dealer's deque.
 abbrev pub fresh : DealerState → EndState
-fresh d = record { id = d.id; jobs = d.jobs; seats = d.seats; deque = d.deque; took = []; marked = false; seen = 0 }
+fresh d = record {
+  id = d.id;
+  jobs = d.jobs;
+  seats = d.seats;
+  deque = d.deque;
+  took = [];
+  marked = false;
+  seen = 0;
+}
 
--- the list without its n-th element
+-- The list without its element n.
 abbrev pub without : {A : Type 0} → ℕ → List A → List A
 without n [] = []
 without zero (x ∷ xs) = xs
 without (suc n) (x ∷ xs) = x ∷ without n xs
 
--- an end of deque v through which nothing was taken
+-- The end is one of deque v, and nothing was taken at it.
 abbrev pub IsFresh : ℕ → ℕ → ℕ → EndState → Type 0
-IsFresh jobs seats v e = (e.jobs ≡ jobs) × (e.seats ≡ seats) × (e.deque ≡ v) × (e.took ≡ []) × (e.marked ≡ false)
+IsFresh jobs seats v e =
+    (e.jobs ≡ jobs) × (e.seats ≡ seats) × (e.deque ≡ v) × (e.took ≡ []) × (e.marked ≡ false)
 
+-- Element v of the list is an end of deque v, and nothing was taken at it.
 abbrev pub AllFresh : ℕ → ℕ → List EndState → Type 0
-AllFresh jobs seats es = (v : ℕ) (d : EndState) → v < length es → IsFresh jobs seats v (get_or es v d)
+AllFresh jobs seats es =
+    (v : ℕ) (d : EndState) → v < length es → IsFresh jobs seats v (get_or es v d)
 
--- all seats of one deal in their order: each has an end of each deque
+-- All seats of one deal in their order; each has an end of each deque.
 pub record IsDeal (jobs seats : ℕ) (ss : List SeatState) : Type 0 where
   pub count : length ss ≡ seats
-  pub numbers : (s : ℕ) (d : SeatState) → s < seats → ((get_or ss s d).number ≡ s) × ((get_or ss s d).own.jobs ≡ jobs) × ((get_or ss s d).own.seats ≡ seats)
+  pub numbers : (s : ℕ) (d : SeatState) → s < seats → ((get_or ss s d).number ≡ s)
+      × ((get_or ss s d).own.jobs ≡ jobs) × ((get_or ss s d).own.seats ≡ seats)
   pub others : (s : ℕ) (d : SeatState) → s < seats → suc (length (get_or ss s d).others) ≡ seats
-  pub ends : (s k : ℕ) (d : SeatState) (e : EndState) → s < seats → suc k < seats → (get_or (get_or ss s d).others k e).id ≡ (get_or ss (skip s k) d).own.id
+  pub ends : (s k : ℕ) (d : SeatState) (e : EndState) → s < seats → suc k < seats →
+      (get_or (get_or ss s d).others k e).id ≡ (get_or ss (skip s k) d).own.id
 
--- a deque that is being closed: the owner's list, the lists that came back, and the marks
+-- A deque that is being closed: the owner's list, the other ends' lists, and the marks.
 pub record ClosingState : Type 0 where
   pub id : DequeId
   pub jobs : ℕ
@@ -170,38 +221,60 @@ pub record ClosingState : Type 0 where
   pub deque : ℕ
   pub took : List ℕ
   pub gathered : List ℕ
-  -- how many passes came back, and how many of them have their mark
+  -- how many ends are back, the owner's included, and how many end marks they have
   pub back : ℕ
   pub marks : ℕ
   pub marked : Bool
 
+-- The closing deque of which the owner has this view.
 abbrev pub closing_of : DequeId → Bool → Log → ClosingState
-closing_of id marked u = record { id = id; jobs = u.jobs; seats = u.seats; deque = u.deque; took = u.took; gathered = concat u.gathered; back = share u; marks = u.marks; marked = marked }
+closing_of id marked u = record {
+  id = id;
+  jobs = u.jobs;
+  seats = u.seats;
+  deque = u.deque;
+  took = u.took;
+  gathered = concat u.gathered;
+  back = share u;
+  marks = u.marks;
+  marked = marked;
+}
 
+-- The owner's view during the closing: it has an end mark, or may still take one.
 abbrev pub IsClosing : Bool → Log → Type 0
-IsClosing marked u = (u.owns ≡ true) × (u.pushed ≡ length (feed u.jobs u.seats u.deque)) × (marked ≡ true → 0 < u.marks) × (marked ≡ false → 0 < u.leaves)
+IsClosing marked u = (u.owns ≡ true) × (u.pushed ≡ length (feed u.jobs u.seats u.deque))
+    × (marked ≡ true → 0 < u.marks) × (marked ≡ false → 0 < u.leaves)
 
--- the closing begins with the owner's end
+-- The closing begins with the owner's end alone.
 abbrev pub Begins : EndState → ClosingState → Type 0
-Begins e s = (s.id ≡ e.id) × (s.jobs ≡ e.jobs) × (s.seats ≡ e.seats) × (s.deque ≡ e.deque) × (s.took ≡ e.took) × (s.gathered ≡ []) × (s.back ≡ 1) × (e.marked ≡ true → 0 < s.marks) × (s.marked ≡ true → 0 < s.marks)
+Begins e s = (s.id ≡ e.id) × (s.jobs ≡ e.jobs) × (s.seats ≡ e.seats) × (s.deque ≡ e.deque)
+    × (s.took ≡ e.took) × (s.gathered ≡ []) × (s.back ≡ 1) × (e.marked ≡ true → 0 < s.marks)
+    × (s.marked ≡ true → 0 < s.marks)
 
--- an end came back
+-- One more end is back, with its list and its mark.
 abbrev pub CameBack : ClosingState → EndState → ClosingState → Type 0
-CameBack s e t = (t.id ≡ s.id) × (t.jobs ≡ s.jobs) × (t.seats ≡ s.seats) × (t.deque ≡ s.deque) × (t.took ≡ s.took) × (t.gathered ≡ s.gathered ++ e.took) × (t.back ≡ suc s.back) × (s.marks ≤ t.marks) × (e.marked ≡ true → 0 < t.marks) × (t.marked ≡ s.marked)
+CameBack s e t = (t.id ≡ s.id) × (t.jobs ≡ s.jobs) × (t.seats ≡ s.seats) × (t.deque ≡ s.deque)
+    × (t.took ≡ s.took) × (t.gathered ≡ s.gathered ++ e.took) × (t.back ≡ suc s.back)
+    × (s.marks ≤ t.marks) × (e.marked ≡ true → 0 < t.marks) × (t.marked ≡ s.marked)
 
--- where the next job of the deque stands
+-- The index in the deal of the first job that nobody took.
 abbrev pub place_of : ClosingState → ℕ
 place_of s = length (s.took ++ s.gathered)
 
+-- The jobs dealt to the deque.
 abbrev pub deal_of : ClosingState → List ℕ
 deal_of s = deal s.jobs s.seats s.deque
 
+-- The owner popped job j, the next of the deal, and no end mark was taken before.
 abbrev pub PoppedJob : ClosingState → ℕ → ClosingState → Type 0
-PoppedJob s j t = (t ≡ record s { took = s.took ++ j ∷ [] }) × (s.marks ≡ 0) × (j ∷ drop (suc (place_of s)) (deal_of s) ≡ drop (place_of s) (deal_of s))
+PoppedJob s j t = (t ≡ record s { took = s.took ++ j ∷ [] }) × (s.marks ≡ 0)
+    × (j ∷ drop (suc (place_of s)) (deal_of s) ≡ drop (place_of s) (deal_of s))
 
+-- The owner popped an end mark. If it is the first one taken, all jobs were taken.
 abbrev pub PoppedMark : ClosingState → ClosingState → Type 0
-PoppedMark s t = (t ≡ record s { marks = suc s.marks; marked = true }) × (s.marks ≡ 0 → length (deal_of s) ≤ place_of s)
+PoppedMark s t = (t ≡ record s { marks = suc s.marks; marked = true })
+    × (s.marks ≡ 0 → length (deal_of s) ≤ place_of s)
 
--- all seats of some deal, in their order
+-- The seats are all those of some deal, in their order.
 abbrev pub IsBoard : ℕ → List SeatState → Type 0
 IsBoard seats ss = (jobs : ℕ) × (0 < seats) × IsDeal jobs seats ss

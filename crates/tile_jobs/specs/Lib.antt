@@ -4,8 +4,8 @@ pub mod Board
 pub mod Rule
 pub mod Ends
 pub mod Rows
-pub mod Got
-pub mod Stolen
+pub mod StealOutcome
+pub mod RoundOutcome
 pub mod Take
 pub mod Workers
 pub mod Closed

@@ -1,33 +1,41 @@
--- The ends of a board's deques, a row for each seat, while the deques are closed one after another: for the closing's own
--- steps. Source: this project's own.
+-- The stealing ends of a board, a row for each seat, while `Board::close` closes the deques in
+-- their order and takes each seat's first end.
+-- Private.
 use Rattle.std.specs.Prelude.{◌≡◌, ◌≢◌, ℕ, ◌+◌, ◌<◌, ◌==◌, true, cond, List, [], length, drop, slice_index_or}
 use Rattle.std.specs.declared.alloc.Global.{Global}
 use Rattle.std.specs.declared.vec.Vec.{Vec}
 use Rattle.tile_jobs.specs.Board.{deal, times, sum_to}
 use Rattle.tile_jobs.specs.Ends.{DequeId, EndState}
 
+-- For each seat its stealing ends of the deques that are not closed yet.
 abbrev pub Rows : Type 0
 Rows = List (Vec EndState Global)
 
--- P of the first end in each of n rows but that of seat v
+-- P holds of the first end of each row below n, except that of seat v.
 abbrev pub EachHead : ℕ → ℕ → Rows → (ℕ → EndState → Type 0) → Type 0
-EachHead n v rows P = (s : ℕ) (d : Vec EndState Global) (e : EndState) → s < n → s ≢ v → P s (slice_index_or (slice_index_or rows s d).items 0 e)
+EachHead n v rows P = (s : ℕ) (d : Vec EndState Global) (e : EndState) → s < n → s ≢ v →
+    P s (slice_index_or (slice_index_or rows s d).items 0 e)
 
--- each of them begins with an end of this deque
+-- Each row below n, except that of seat v, begins with an end of this deque.
 abbrev pub HaveHeads : ℕ → ℕ → Rows → DequeId → Type 0
-HaveHeads n v rows id = (s : ℕ) (d : Vec EndState Global) (e : EndState) → s < n → s ≢ v → (0 < length (slice_index_or rows s d).items) × ((slice_index_or (slice_index_or rows s d).items 0 e).id ≡ id)
+HaveHeads n v rows id = (s : ℕ) (d : Vec EndState Global) (e : EndState) → s < n → s ≢ v →
+    (0 < length (slice_index_or rows s d).items)
+    × ((slice_index_or (slice_index_or rows s d).items 0 e).id ≡ id)
 
--- the rows without these ends
+-- Each new row lacks its first end; only the row of seat v is unchanged.
 abbrev pub WithoutHeads : ℕ → ℕ → Rows → Rows → Type 0
-WithoutHeads n v rows new = (s : ℕ) (d : Vec EndState Global) → s < n → (slice_index_or new s d).items ≡ cond (s == v) (slice_index_or rows s d).items (drop 1 (slice_index_or rows s d).items)
+WithoutHeads n v rows new = (s : ℕ) (d : Vec EndState Global) → s < n →
+    (slice_index_or new s d).items
+    ≡ cond (s == v) (slice_index_or rows s d).items (drop 1 (slice_index_or rows s d).items)
 
--- what is left in the deque of seat v, whose own end is `own`, once each end of it came back
+-- `left` has the jobs left in the deque of seat v, whose own end is `own`.
 pub record IsLeftOf (own : EndState) (n v : ℕ) (rows : Rows) (left : List ℕ) : Type 0 where
-  -- an end of its deal
+  -- They are the last jobs of its deal.
   pub part : (k : ℕ) × (left ≡ drop k (deal own.jobs own.seats own.deque))
-  -- nothing, where a seat has its mark
+  -- No job is left if some seat has its end mark of this deque.
   pub own_mark : own.marked ≡ true → left ≡ []
   pub marks : EachHead n v rows (λ s e. e.marked ≡ true → left ≡ [])
-  -- with what the seats took of it the whole deal
-  pub once : (y : ℕ) (f : ℕ → ℕ) → EachHead n v rows (λ s e. times y e.took ≡ f s) → times y own.took ≡ f v
+  -- The jobs that seats took of this deque, and those left, are its deal.
+  pub once : (y : ℕ) (f : ℕ → ℕ) → EachHead n v rows (λ s e. times y e.took ≡ f s) →
+      times y own.took ≡ f v
       → sum_to n f + times y left ≡ times y (deal own.jobs own.seats own.deque)

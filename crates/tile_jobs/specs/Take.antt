@@ -1,31 +1,33 @@
--- What a try to take a job tells, case by case.
+-- The outcome of `Seat::try_take`, case by case.
+-- Public.
 use Rattle.std.specs.Prelude.{◌≡◌, ℕ, ◌%◌, ◌<◌, ◌⊎◌, true, [], ◌∷◌, ◌++◌, length, All}
 use Rattle.tile_jobs.specs.declared.seat.Take.{Take}
 use Rattle.tile_jobs.specs.declared.seat.Take.TheVariants.{Job, Again, Empty}
 use Rattle.tile_jobs.specs.Ends.{MetAmong, SeatState, HasAllMarks, of}
 
+-- The condition for this outcome: `job`, `again` or `empty`.
 abbrev pub MatchTake : Take → (ℕ → Type 0) → Type 0 → Type 0 → Type 0
 MatchTake (Job j) job again empty = job j
 MatchTake Again job again empty = again
 MatchTake Empty job again empty = empty
 
--- job j goes to the end of the seat's list: of its own deque, or else its own deque has none left
+-- The seat took job j, the last of its list. It steals only after its own deque's end mark.
 pub record TakesJob (s : SeatState) (j : ℕ) (t : SeatState) : Type 0 where
   pub below : j < s.own.jobs
   pub taken : t.taken ≡ s.taken ++ j ∷ []
-  -- it is greater than each job of its deque that the seat took before
+  -- It is greater than each job that the seat took of that job's deque before.
   pub rises : All (λ x. x < j) (of (j % s.own.seats) s.own.seats s.taken)
   pub own_first : (j % s.own.seats ≡ s.number) ⊎ (t.own.marked ≡ true)
 
--- no job was taken, and another taker was met
+-- The seat took no job, and at some other deque another seat was faster.
 pub record MeetsTaker (s t : SeatState) : Type 0 where
   pub taken : t.taken ≡ s.taken
   pub own_first : t.own.marked ≡ true
   pub several : 1 < s.own.seats
-  -- some other deque was seen to lose an entry to another seat
+  -- Some other deque lost an entry to another seat since this seat last looked.
   pub others : MetAmong 0 (length s.others) s.others t.others
 
--- no job was taken, and the seat has every mark
+-- The seat took no job, and has the end marks of all deques.
 pub record FindsNone (s t : SeatState) : Type 0 where
   pub taken : t.taken ≡ s.taken
   pub marks : HasAllMarks t

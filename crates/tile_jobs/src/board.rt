@@ -1,7 +1,7 @@
-//! The board: jobs in deques, dealt to seats and gathered again.
+//! The board: deals jobs to the deques of seats, and collects them again.
 //!
-//! [`Board::deal`] and [`Board::close`] are its two calls; `dealing` and `closing` do them deque by
-//! deque.
+//! [`Board::deal`] makes the seats, by module `dealing`. [`Board::close`] takes them apart, deque
+//! by deque, by module `closing`.
 ghost use Rattle.std.specs.Prelude.{◌≡◌, ℕ, ◌+◌, ◌<◌, ◌≤◌, ◌==◌, ◌⊎◌, ◌↔◌, cond, true, List, [], ◌++◌, length, vec_len, vec_capacity, slice_index_or, IfOk, IfErr, OnOk, Err};
 ghost use Rattle.tile_jobs.specs.Board.{deal as deal_list, times, sum_to};
 ghost use Rattle.tile_jobs.specs.Closed.{IsClosed};
@@ -10,24 +10,27 @@ ghost use Rattle.tile_jobs.specs.Rows.{EachHead, HaveHeads, WithoutHeads, IsLeft
 
 use crate::closing::Closing;
 use crate::dealing::{deal_all, seat_all};
-use crate::ends::{Other, Own};
+use crate::ends::{OtherEnd, OwnEnd};
 use crate::room::put;
 use crate::seat::Seat;
 use crate::{JobFault, MOST_JOBS, MOST_WORKERS, check_workers};
 use std::alloc::Global;
 
-/// Takes back every end of deque `v`.
-fn gather(own: Own, rows: &mut Vec<Vec<Other>>, v: usize) -> Closing
+/// Joins the ends of deque `v` from all rows to its owner's end.
+fn gather(own: OwnEnd, rows: &mut Vec<Vec<OtherEnd>>, v: usize) -> Closing
     requires own { v < vec_len rows.old }
     requires ids { HaveHeads (vec_len rows.old) v rows.old.items own.id }
     ensures len { vec_len rows.new ≡ vec_len rows.old }
     ensures rows { WithoutHeads (vec_len rows.old) v rows.old.items rows.new.items }
-    ensures names { (result.jobs ≡ own.jobs) × (result.seats ≡ own.seats) × (result.deque ≡ own.deque) × (result.took ≡ own.took)
+    ensures names { (result.jobs ≡ own.jobs) × (result.seats ≡ own.seats)
+        × (result.deque ≡ own.deque) × (result.took ≡ own.took)
         × (result.back ≡ vec_len rows.old) }
-    ensures times { (y : ℕ) (f : ℕ → ℕ) → EachHead (vec_len rows.old) v rows.old.items (λ s e. times y e.took ≡ f s) →
+    ensures times { (y : ℕ) (f : ℕ → ℕ) →
+        EachHead (vec_len rows.old) v rows.old.items (λ s e. times y e.took ≡ f s) →
         times y result.gathered ≡ sum_to (vec_len rows.old) (λ i. cond (i == v) 0 (f i)) }
     ensures own_mark { own.marked ≡ true → 0 < result.marks }
-    ensures marks { EachHead (vec_len rows.old) v rows.old.items (λ s e. e.marked ≡ true → 0 < result.marks) }
+    ensures marks { EachHead (vec_len rows.old) v rows.old.items
+        (λ s e. e.marked ≡ true → 0 < result.marks) }
     ensures flag { result.marked ≡ true → 0 < result.marks }
 {
     let mut closing = Closing::new(own);
@@ -40,11 +43,12 @@ fn gather(own: Own, rows: &mut Vec<Vec<Other>>, v: usize) -> Closing
     closing
 }
 
-/// Takes back every end of deque `v`, and then what is left in it.
-fn close_one(own: Own, rows: &mut Vec<Vec<Other>>, v: usize, left: &mut Vec<u32>)
+/// Joins all ends of deque `v`, and moves the jobs left in it to `left`.
+fn close_one(own: OwnEnd, rows: &mut Vec<Vec<OtherEnd>>, v: usize, left: &mut Vec<u32>)
     requires own { (v < vec_len rows.old) × (own.seats ≡ vec_len rows.old) }
     requires ids { HaveHeads (vec_len rows.old) v rows.old.items own.id }
-    requires room { vec_len left.old + length (deal_list own.jobs own.seats own.deque) ≤ vec_capacity left.old }
+    requires room { vec_len left.old + length (deal_list own.jobs own.seats own.deque)
+        ≤ vec_capacity left.old }
     ensures len { vec_len rows.new ≡ vec_len rows.old }
     ensures rows { WithoutHeads (vec_len rows.old) v rows.old.items rows.new.items }
     ensures room { vec_capacity left.old ≤ vec_capacity left.new }
@@ -55,20 +59,26 @@ fn close_one(own: Own, rows: &mut Vec<Vec<Other>>, v: usize, left: &mut Vec<u32>
     closing.drain(left);
 }
 
-/// Takes the seats apart.
+/// Splits the seats into own ends, rows of other ends and lists of jobs taken.
 fn open_all(
     seats: Vec<Seat>,
-    owns: &mut Vec<Own>,
-    rows: &mut Vec<Vec<Other>>,
+    owns: &mut Vec<OwnEnd>,
+    rows: &mut Vec<Vec<OtherEnd>>,
     taken: &mut Vec<Vec<u32>>,
 )
     requires empty { (owns.old.items ≡ []) × (rows.old.items ≡ []) × (taken.old.items ≡ []) }
-    requires room { (vec_len seats ≤ vec_capacity owns.old) × (vec_len seats ≤ vec_capacity rows.old) × (vec_len seats ≤ vec_capacity taken.old) }
-    ensures len { (vec_len owns.new ≡ vec_len seats) × (vec_len rows.new ≡ vec_len seats) × (vec_len taken.new ≡ vec_len seats) }
-    ensures seats { (s : ℕ) (d : SeatState) → s < vec_len seats → IsSeat (slice_index_or seats.items s d) }
-    ensures owns { (s : ℕ) (d : SeatState) (o : EndState) → s < vec_len seats → slice_index_or owns.new.items s o ≡ (slice_index_or seats.items s d).own }
-    ensures rows { (s : ℕ) (d : SeatState) (o : _) → s < vec_len seats → (slice_index_or rows.new.items s o).items ≡ (slice_index_or seats.items s d).others }
-    ensures taken { (s : ℕ) (d : SeatState) (o : _) → s < vec_len seats → (slice_index_or taken.new.items s o).items ≡ (slice_index_or seats.items s d).taken }
+    requires room { (vec_len seats ≤ vec_capacity owns.old)
+        × (vec_len seats ≤ vec_capacity rows.old) × (vec_len seats ≤ vec_capacity taken.old) }
+    ensures len { (vec_len owns.new ≡ vec_len seats) × (vec_len rows.new ≡ vec_len seats)
+        × (vec_len taken.new ≡ vec_len seats) }
+    ensures seats { (s : ℕ) (d : SeatState) → s < vec_len seats →
+        IsSeat (slice_index_or seats.items s d) }
+    ensures owns { (s : ℕ) (d : SeatState) (o : EndState) → s < vec_len seats →
+        slice_index_or owns.new.items s o ≡ (slice_index_or seats.items s d).own }
+    ensures rows { (s : ℕ) (d : SeatState) (o : _) → s < vec_len seats →
+        (slice_index_or rows.new.items s o).items ≡ (slice_index_or seats.items s d).others }
+    ensures taken { (s : ℕ) (d : SeatState) (o : _) → s < vec_len seats →
+        (slice_index_or taken.new.items s o).items ≡ (slice_index_or seats.items s d).taken }
 {
     for seat in seats {
         let (own, others, list) = seat.into_parts();
@@ -78,31 +88,43 @@ fn open_all(
     }
 }
 
-/// What the seats of a board took, and what is left.
+/// The jobs that the seats of a closed board took, and the jobs left.
 #[derive(Drop)]
 pub struct Closed {
-    /// The jobs that each seat took, in its order.
+    /// For each seat the jobs that it took, in the order taken.
     pub taken: Vec<Vec<u32>>,
     /// The jobs that no seat took, deque by deque.
     pub left: Vec<u32>,
 }
 
-/// A board of numbered jobs. Each of its seats has a deque with jobs of its own, and may take from
-/// every other one. Behind the jobs each deque has an end mark for each seat.
+/// A board of numbered jobs: deals them to seats, and collects them at the end.
 ///
-/// It has no value of its own: it stands in its seats, which their owners move into threads.
+/// Each seat owns a deque of jobs and may steal from every other deque. After its jobs a deque has
+/// one end mark for each seat. The seats hold all state, and may move to other threads.
 pub struct Board;
 
 impl Board {
-    /// Deals the jobs below `jobs` to `seats` seats, 1 to `MOST_WORKERS`: job `j` to the deque of seat
-    /// `j % seats`, in rising order. The seats come in the order of their numbers.
+    /// Deals the jobs below `jobs` to `seats` seats; returns these in their order.
     ///
-    /// Of two reasons to refuse, `BadWorkers` goes before `Memory`.
+    /// Job `j` goes to the deque of seat `j % seats`, each deque in rising order.
+    ///
+    /// # Errors
+    ///
+    /// [`JobFault::BadWorkers`] if `seats` is 0 or above [`MOST_WORKERS`], else
+    /// [`JobFault::Memory`] if memory runs out.
+    ///
+    /// # Examples
+    ///
+    /// ```ignore
+    /// let mut seats = Board::deal(alloc, 7, 3)?;
+    /// let take = seats[1].try_take(); // `Take::Job(1)`, the first job of its own deque
+    /// ```
     pub fn deal(alloc: Global, jobs: u32, seats: u32) -> Result<Vec<Seat>, JobFault>
         requires { jobs ≤ MOST_JOBS }
         ensures some { OnOk result ((0 < seats) × (seats ≤ MOST_WORKERS)) }
         ensures deal { IfOk result (λ v. IsDeal jobs seats v.items) }
-        ensures new { IfOk result (λ v. (s : ℕ) (d : SeatState) → s < seats → IsNew (slice_index_or v.items s d)) }
+        ensures new { IfOk result
+            (λ v. (s : ℕ) (d : SeatState) → s < seats → IsNew (slice_index_or v.items s d)) }
         ensures bad { (result ≡ Err JobFault.BadWorkers) ↔ ((seats ≡ 0) ⊎ (MOST_WORKERS < seats)) }
         ensures faults { IfErr result (λ e. (e ≡ JobFault.BadWorkers) ⊎ (e ≡ JobFault.Memory)) }
     {
@@ -111,13 +133,21 @@ impl Board {
         Ok(seat_all(alloc, jobs, ends)?)
     }
 
-    /// Takes back all seats of one deal, in their order, with what is left in the deques. At `Err`
-    /// no memory was left for the lists, and the seats are as before.
+    /// Returns the jobs that each seat took, and those left in the deques.
+    ///
+    /// `seats` has all seats of one deal, in their order.
+    ///
+    /// # Errors
+    ///
+    /// Returns the seats unchanged if memory for the lists runs out.
     pub fn close(alloc: Global, seats: Vec<Seat>) -> Result<Closed, Vec<Seat>>
         requires board { IsBoard (vec_len seats) seats.items }
         ensures back { IfErr result (λ r. r ≡ seats) }
-        ensures taken { IfOk result (λ c. (vec_len c.taken ≡ vec_len seats) × ((s : ℕ) (d : SeatState) (o : _) → s < vec_len seats → (slice_index_or c.taken.items s o).items ≡ (slice_index_or seats.items s d).taken)) }
-        ensures closed { (jobs : ℕ) → IsDeal jobs (vec_len seats) seats.items → IfOk result (λ c. IsClosed jobs (vec_len seats) seats.items c.left.items) }
+        ensures taken { IfOk result (λ c. (vec_len c.taken ≡ vec_len seats)
+            × ((s : ℕ) (d : SeatState) (o : _) → s < vec_len seats →
+            (slice_index_or c.taken.items s o).items ≡ (slice_index_or seats.items s d).taken)) }
+        ensures closed { (jobs : ℕ) → IsDeal jobs (vec_len seats) seats.items →
+            IfOk result (λ c. IsClosed jobs (vec_len seats) seats.items c.left.items) }
     {
         let count = seats.len();
         let Ok(mut left) = Vec::with_capacity(alloc, seats[0].room()) else {

@@ -1,14 +1,15 @@
-//! A deque that is being closed: its ends are gathered, and its jobs listed.
+//! Closes one deque: takes back the ends of all seats and lists the jobs that are left.
 ghost use Rattle.std.specs.Prelude.{◌≡◌, ℕ, ◌+◌, ◌-◌, ◌<◌, ◌≤◌, true, false, List, [], ◌++◌, length, drop, vec_len, vec_capacity, MatchOption};
 ghost use Rattle.crossbeam_deque.specs.Handles.{worker_deque, worker_view, worker_flavor};
 ghost use Rattle.tile_jobs.specs.Board.{times};
 ghost use Rattle.tile_jobs.specs.Ends.{ClosingState, closing_of, IsClosing, Begins, CameBack, PoppedJob, PoppedMark, deal_of};
 
 use crate::deque::{Deque, Entry, Lends, Whole, pop_next};
-use crate::ends::{Other, Own};
+use crate::ends::{OtherEnd, OwnEnd};
 use crate::room::put;
 use std::marker::Model;
 
+/// A deque that is being closed, and whether its owner's end mark was taken.
 #[derive(Drop)]
 pub struct Closing {
     worker: Deque,
@@ -20,19 +21,20 @@ impl Model for Closing {
 
     ghost view = { λ s. closing_of (worker_deque s.worker) s.marked (worker_view s.worker) };
 
-    ghost invariant = { λ s. IsClosing s.marked (worker_view s.worker) × (worker_flavor s.worker ≡ 0) };
+    ghost invariant = { λ s. IsClosing s.marked (worker_view s.worker)
+        × (worker_flavor s.worker ≡ 0) };
 }
 
 impl Closing {
-    pub(crate) fn new(own: Own) -> Closing
+    pub(crate) fn new(own: OwnEnd) -> Closing
         ensures { Begins own result }
     {
         let (worker, marked) = own.into_parts();
         Closing { worker, marked }
     }
 
-    /// Takes back the end of another seat.
-    pub(crate) fn absorb(&mut self, other: Other)
+    /// Takes back another seat's end, with its list of jobs and its mark.
+    pub(crate) fn absorb(&mut self, other: OtherEnd)
         requires { self.old.id ≡ other.id }
         ensures { CameBack self.old other self.new }
     {
@@ -40,11 +42,12 @@ impl Closing {
         self.worker.absorb::<Lends>(pass);
     }
 
-    /// The next job, or `None`, which takes the owner's mark.
+    /// Pops the next job. Returns `None` on popping the owner's end mark.
     pub(crate) fn next(&mut self) -> Option<u32>
         requires back { self.old.back ≡ self.old.seats }
         requires unmarked { self.old.marked ≡ false }
-        ensures { MatchOption result (PoppedMark self.old self.new) (λ j. PoppedJob self.old j self.new) }
+        ensures { MatchOption result (PoppedMark self.old self.new)
+            (λ j. PoppedJob self.old j self.new) }
     {
         match pop_next(&mut self.worker) {
             Entry::Job(job) => Some(job),
@@ -55,7 +58,7 @@ impl Closing {
         }
     }
 
-    /// Every job was taken once.
+    /// Drops the deque. `len_as` yields the fact that each job was taken exactly once.
     pub(crate) fn settle(self)
         requires back { self.back ≡ self.seats }
         requires marked { self.marked ≡ true }
@@ -68,13 +71,17 @@ impl Closing {
         worker.len_as::<Whole>();
     }
 
-    /// Takes what is left, up to the owner's mark.
+    /// Moves the jobs that are left in the deque to the end of `left`.
     pub(crate) fn drain(self, left: &mut Vec<u32>)
         requires back { self.back ≡ self.seats }
         requires marked { self.marked ≡ true → 0 < self.marks }
-        requires room { vec_len left.old + length (deal_of self) ≤ vec_capacity left.old + length self.took }
+        requires room { vec_len left.old + length (deal_of self)
+            ≤ vec_capacity left.old + length self.took }
         ensures room { vec_capacity left.old ≤ vec_capacity left.new }
-        ensures left { (p : List ℕ) × (left.new.items ≡ left.old.items ++ p) × ((k : ℕ) × (p ≡ drop k (deal_of self))) × (0 < self.marks → p ≡ []) × ((y : ℕ) → times y (self.took ++ self.gathered) + times y p ≡ times y (deal_of self)) }
+        ensures left { (p : List ℕ) × (left.new.items ≡ left.old.items ++ p)
+            × ((k : ℕ) × (p ≡ drop k (deal_of self))) × (0 < self.marks → p ≡ [])
+            × ((y : ℕ) →
+            times y (self.took ++ self.gathered) + times y p ≡ times y (deal_of self)) }
     {
         let mut closing = self;
         while !closing.marked {

@@ -1,16 +1,16 @@
-//! The dealer of one deque: pushes its jobs and marks, and makes its ends.
+//! The dealer of one deque: pushes its jobs and end marks, and makes its ends.
 ghost use Rattle.std.specs.Prelude.{◌≡◌, ◌+◌, ◌-◌, ◌%◌, ◌<◌, ◌≤◌, length, IfOk};
 ghost use Rattle.crossbeam_deque.specs.Handles.{worker_deque, worker_view, worker_flavor, worker_index, worker_capacity, SameWorker};
 ghost use Rattle.tile_jobs.specs.Board.{deal};
 ghost use Rattle.tile_jobs.specs.Rule.{dealing};
 ghost use Rattle.tile_jobs.specs.Ends.{DealerState, dealer_of, IsDealer, fresh};
 
-use crate::deque::{Deque, Entry, Lends, Place, push};
-use crate::ends::{Other, Own};
+use crate::deque::{Deque, DequeKey, Entry, Lends, push};
+use crate::ends::{OtherEnd, OwnEnd};
 use std::alloc::{AllocError, Global};
 use std::marker::Model;
 
-/// A deque with all its entries, whose marks aren't handed out yet.
+/// A full deque, some of whose ends are still to be made.
 #[derive(Drop)]
 pub struct Dealer {
     worker: Deque,
@@ -24,8 +24,8 @@ impl Model for Dealer {
     ghost invariant = { λ d. IsDealer (worker_view d.worker) × (worker_flavor d.worker ≡ 0) };
 }
 
-/// How many jobs below `jobs` are of deque `v`: one in each whole round over the seats, and one more in a
-/// last round that reaches `v`.
+/// The number of jobs below `jobs` that deque `v` gets.
+/// It gets one in each whole round over the seats, and one in a last round that reaches `v`.
 #[tactic(auto, using(std::proofs::lemmas::Bool::Decides::nat_tests, crate::proofs::Rounds::deal_count))]
 fn count_jobs(jobs: u32, seats: u32, v: u32) -> u32
     requires { v < seats }
@@ -36,26 +36,29 @@ fn count_jobs(jobs: u32, seats: u32, v: u32) -> u32
     if v < jobs % seats { rounds + 1 } else { rounds }
 }
 
-/// Pushes the jobs of deque `v`, in rising order.
-fn push_jobs<D: Place>(worker: &mut Deque, jobs: u32, seats: u32, v: u32)
+/// Pushes the jobs of deque `v` in rising order.
+fn push_jobs<D: DequeKey>(worker: &mut Deque, jobs: u32, seats: u32, v: u32)
     requires place { (D.jobs ≡ jobs) × (D.seats ≡ seats) × (D.deque ≡ v) }
     requires seat { v < seats }
-    requires none_yet { (worker_index worker.old ≡ 0) × (worker_view worker.old ≡ dealing D.jobs D.seats D.deque 0) }
+    requires none_yet { (worker_index worker.old ≡ 0)
+        × (worker_view worker.old ≡ dealing D.jobs D.seats D.deque 0) }
     requires room { length (deal jobs seats v) ≤ worker_capacity worker.old }
     ensures same { SameWorker worker.old worker.new }
     ensures index { worker_index worker.new ≡ length (deal jobs seats v) }
-    ensures view { worker_view worker.new ≡ dealing D.jobs D.seats D.deque (worker_index worker.new) }
+    ensures view { worker_view worker.new
+        ≡ dealing D.jobs D.seats D.deque (worker_index worker.new) }
 {
     for round in 0..count_jobs(jobs, seats, v) {
         push::<D>(worker, Entry::Job(v + round * seats));
     }
 }
 
-/// Pushes an end mark for each seat behind the jobs.
-fn push_marks<D: Place>(worker: &mut Deque, seats: u32)
+/// Pushes one end mark for each seat, after all jobs.
+fn push_marks<D: DequeKey>(worker: &mut Deque, seats: u32)
     requires place { D.seats ≡ seats }
     requires index { worker_index worker.old ≡ length (deal D.jobs seats D.deque) }
-    requires view { worker_view worker.old ≡ dealing D.jobs seats D.deque (worker_index worker.old) }
+    requires view { worker_view worker.old
+        ≡ dealing D.jobs seats D.deque (worker_index worker.old) }
     requires room { length (deal D.jobs seats D.deque) + seats ≤ worker_capacity worker.old }
     ensures same { SameWorker worker.old worker.new }
     ensures index { worker_index worker.new ≡ length (deal D.jobs seats D.deque) + seats }
@@ -67,8 +70,8 @@ fn push_marks<D: Place>(worker: &mut Deque, seats: u32)
 }
 
 impl Dealer {
-    /// The deque of `v` with its jobs and marks.
-    pub(crate) fn new<D: Place>(
+    /// Makes deque `v` and pushes its jobs and end marks.
+    pub(crate) fn new<D: DequeKey>(
         alloc: Global,
         jobs: u32,
         seats: u32,
@@ -76,7 +79,8 @@ impl Dealer {
     ) -> Result<Dealer, AllocError>
         requires place { (D.jobs ≡ jobs) × (D.seats ≡ seats) × (D.deque ≡ v) }
         requires seat { v < seats }
-        ensures { IfOk result (λ d. (d.jobs ≡ jobs) × (d.seats ≡ seats) × (d.deque ≡ v) × (d.leaves ≡ seats)) }
+        ensures { IfOk result
+            (λ d. (d.jobs ≡ jobs) × (d.seats ≡ seats) × (d.deque ≡ v) × (d.leaves ≡ seats)) }
     {
         let count = count_jobs(jobs, seats, v);
         let mut worker = Deque::fifo_as(alloc, count as usize + seats as usize)?;
@@ -85,22 +89,23 @@ impl Dealer {
         Ok(Dealer { worker })
     }
 
-    /// An end for another seat.
-    pub(crate) fn lend(&mut self) -> Result<Other, AllocError>
+    /// Makes an end for a seat that is not the owner.
+    pub(crate) fn lend(&mut self) -> Result<OtherEnd, AllocError>
         requires { 1 < self.old.leaves }
-        ensures { IfOk result (λ e. (e ≡ fresh self.old) × (self.new ≡ record self.old { leaves = self.old.leaves - 1 })) }
+        ensures { IfOk result (λ e. (e ≡ fresh self.old)
+            × (self.new ≡ record self.old { leaves = self.old.leaves - 1 })) }
     {
         let thief = self.worker.stealer()?;
         let pass = self.worker.another::<Lends>();
-        Ok(Other::new(thief, pass))
+        Ok(OtherEnd::new(thief, pass))
     }
 
-    /// The owner's end.
-    pub(crate) fn own(self) -> Own
+    /// Turns the dealer into the owner's end, after all other ends were made.
+    pub(crate) fn own(self) -> OwnEnd
         requires { self.leaves ≡ 1 }
         ensures { result ≡ fresh self }
     {
         let Dealer { worker } = self;
-        Own::new(worker)
+        OwnEnd::new(worker)
     }
 }

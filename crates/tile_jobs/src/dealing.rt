@@ -1,21 +1,28 @@
-//! Deals the jobs to all deques, and gives each seat its ends.
+//! Deals the jobs to all deques and makes the seats, each with an end of every deque.
 ghost use Rattle.std.specs.Prelude.{◌≡◌, ℕ, ◌++◌, ◌∷◌, [], ◌<◌, ◌≤◌, ◌==◌, cond, vec_len, slice_index_or, IfOk, OnOk};
 ghost use Rattle.tile_jobs.specs.Ends.{EndState, SeatState, seat_of, fresh, without, AllFresh};
 
 use crate::MOST_WORKERS;
 use crate::dealer::Dealer;
-use crate::ends::{Other, Own};
+use crate::ends::{OtherEnd, OwnEnd};
 use crate::seat::Seat;
 use std::alloc::{AllocError, Global};
 use std::marker::Brand;
 
-/// Lends each seat but `v` an end of the dealer's deque.
-fn lend_to_all(dealer: &mut Dealer, rows: &mut Vec<Vec<Other>>, v: usize) -> Result<(), AllocError>
+/// Pushes an end of the dealer's deque to the row of each seat but `v`.
+fn lend_to_all(
+    dealer: &mut Dealer,
+    rows: &mut Vec<Vec<OtherEnd>>,
+    v: usize,
+) -> Result<(), AllocError>
     requires leaves { dealer.old.leaves ≡ vec_len rows.old }
     requires own { v < vec_len rows.old }
     ensures len { vec_len rows.new ≡ vec_len rows.old }
     ensures dealer { OnOk result (dealer.new ≡ record dealer.old { leaves = 1 }) }
-    ensures rows { OnOk result ((s : ℕ) (d : _) → s < vec_len rows.old → (slice_index_or rows.new.items s d).items ≡ cond (s == v) (slice_index_or rows.old.items s d).items ((slice_index_or rows.old.items s d).items ++ fresh dealer.old ∷ [])) }
+    ensures rows { OnOk result ((s : ℕ) (d : _) → s < vec_len rows.old →
+        (slice_index_or rows.new.items s d).items
+        ≡ cond (s == v) (slice_index_or rows.old.items s d).items
+        ((slice_index_or rows.old.items s d).items ++ fresh dealer.old ∷ [])) }
 {
     for s in 0..rows.len() {
         if s != v {
@@ -26,10 +33,11 @@ fn lend_to_all(dealer: &mut Dealer, rows: &mut Vec<Vec<Other>>, v: usize) -> Res
     Ok(())
 }
 
-/// Rows for the seats' ends, all empty.
-fn empty_rows(alloc: Global, seats: u32) -> Result<Vec<Vec<Other>>, AllocError>
+/// Allocates an empty row of ends for each seat.
+fn empty_rows(alloc: Global, seats: u32) -> Result<Vec<Vec<OtherEnd>>, AllocError>
     ensures len { IfOk result (λ v. vec_len v ≡ seats) }
-    ensures empty { IfOk result (λ v. (s : ℕ) (d : _) → s < seats → (slice_index_or v.items s d).items ≡ []) }
+    ensures empty { IfOk result
+        (λ v. (s : ℕ) (d : _) → s < seats → (slice_index_or v.items s d).items ≡ []) }
 {
     let mut rows = Vec::with_capacity(alloc, seats as usize)?;
     for _ in 0..seats {
@@ -39,19 +47,20 @@ fn empty_rows(alloc: Global, seats: u32) -> Result<Vec<Vec<Other>>, AllocError>
     Ok(rows)
 }
 
-/// The ends of all deques: the owners', and the rows of the other seats' ends.
+/// All ends of all deques: the owners', and for each seat a row of the others.
 #[derive(Drop)]
 pub struct Ends {
-    pub owns: Vec<Own>,
-    pub rows: Vec<Vec<Other>>,
+    pub owns: Vec<OwnEnd>,
+    pub rows: Vec<Vec<OtherEnd>>,
 }
 
-/// Deals each deque, with an end for each seat.
+/// Fills each deque, and makes its ends for all seats.
 pub(crate) fn deal_all(alloc: Global, jobs: u32, seats: u32) -> Result<Ends, AllocError>
     requires { (0 < seats) × (seats ≤ MOST_WORKERS) }
     ensures count { IfOk result (λ e. (vec_len e.owns ≡ seats) × (vec_len e.rows ≡ seats)) }
     ensures owns { IfOk result (λ e. AllFresh jobs seats e.owns.items) }
-    ensures rows { IfOk result (λ e. (s : ℕ) (d : _) → s < seats → (slice_index_or e.rows.items s d).items ≡ without s e.owns.items) }
+    ensures rows { IfOk result (λ e. (s : ℕ) (d : _) → s < seats →
+        (slice_index_or e.rows.items s d).items ≡ without s e.owns.items) }
 {
     let mut rows = empty_rows(alloc, seats)?;
     let mut owns = Vec::with_capacity(alloc, seats as usize)?;
@@ -63,13 +72,16 @@ pub(crate) fn deal_all(alloc: Global, jobs: u32, seats: u32) -> Result<Ends, All
     Ok(Ends { owns, rows })
 }
 
-/// Seats every own end with its row.
+/// Makes the seats, each of its own end and its row of other ends.
 pub(crate) fn seat_all(alloc: Global, jobs: u32, ends: Ends) -> Result<Vec<Seat>, AllocError>
     requires count { (vec_len ends.owns ≤ MOST_WORKERS) × (vec_len ends.rows ≡ vec_len ends.owns) }
     requires owns { AllFresh jobs (vec_len ends.owns) ends.owns.items }
-    requires rows { (s : ℕ) (d : _) → s < vec_len ends.owns → (slice_index_or ends.rows.items s d).items ≡ without s ends.owns.items }
+    requires rows { (s : ℕ) (d : _) → s < vec_len ends.owns →
+        (slice_index_or ends.rows.items s d).items ≡ without s ends.owns.items }
     ensures len { IfOk result (λ v. vec_len v ≡ vec_len ends.owns) }
-    ensures each { IfOk result (λ v. (s : ℕ) (d : SeatState) (e : EndState) → s < vec_len ends.owns → slice_index_or v.items s d ≡ seat_of s (slice_index_or ends.owns.items s e) (without s ends.owns.items) []) }
+    ensures each { IfOk result (λ v. (s : ℕ) (d : SeatState) (e : EndState) →
+        s < vec_len ends.owns → slice_index_or v.items s d
+        ≡ seat_of s (slice_index_or ends.owns.items s e) (without s ends.owns.items) []) }
 {
     let Ends { owns, mut rows } = ends;
     let mut seats = Vec::with_capacity(alloc, owns.len())?;

@@ -1,6 +1,7 @@
-//! One deque of the board: its rule, and the steps on it.
+//! One deque of the board: its protocol, and the steps on it.
 //!
-//! A push, a pop and a steal each change the view of one pass alone. Depends on `crossbeam_deque`.
+//! A pass is the right to act on a deque, and its view ([`Log`]) records what it did. A push, a
+//! pop or a steal changes the view of one pass only.
 ghost use Rattle.std.specs.Prelude.{◌≡◌, ℕ, suc, ◌<◌, true, [], ◌∷◌, drop, IfNone, MatchOption};
 ghost use Rattle.crossbeam_deque.specs.Handles.{taken, view, IsPassOf, stealer_deque, worker_view, worker_flavor, stealer_flavor, worker_index, worker_capacity, SameWorker, SamePass};
 ghost use Rattle.tile_jobs.specs.Board.{deal, feed};
@@ -12,37 +13,37 @@ use std::alloc::Global;
 use std::collections::LinkedList;
 use std::marker::{Brand, PhantomData};
 
-/// What stands in a deque: a job's number, or a mark behind the jobs.
+/// An entry of a deque: a job's number, or an end mark after all jobs.
 #[derive(Clone, Copy, PartialEq, Eq, Debug)]
 pub enum Entry {
     Job(u32),
     End,
 }
 
-/// What a pass knows of its deque. No value of it is made.
+/// The view of one pass, for proofs: no value of it exists at run time.
 pub struct Log {
-    // which deque of which board
+    // the board's jobs and seats, and the deque's number
     pub jobs: u64,
     pub seats: u64,
     pub deque: u64,
-    // the dealer's pass, and then the owner's
+    // true for the pass that pushes and pops
     pub owns: bool,
     pub pushed: u64,
-    // all was pushed
+    // all entries were pushed, for a stealing pass
     pub ready: bool,
-    // marks that may be taken, and that were
+    // the number of end marks that it may still take, and that it took
     pub leaves: u64,
     pub marks: u64,
-    // the jobs taken
+    // the jobs taken by this pass
     pub took: LinkedList<u32>,
-    // the lists of the passes that came back
+    // the lists of the passes that were joined to this one
     pub gathered: LinkedList<LinkedList<u32>>,
 }
 
-/// The rule of a deque.
-pub struct Dealt;
+/// The protocol of a deque: `Lawful` holds after each step.
+pub struct DequeRule;
 
-impl Protocol<Entry, Log> for Dealt {
+impl Protocol<Entry, Log> for DequeRule {
     ghost use Rattle.tile_jobs.specs.Rule.{blank, spent, Lawful};
 
     ghost holds = { Lawful };
@@ -52,12 +53,14 @@ impl Protocol<Entry, Log> for Dealt {
     ghost guest = { spent };
 }
 
-pub type Deque = Worker<Entry, Global, Log, Dealt>;
+/// The owner's handle of a deque.
+pub type Deque = Worker<Entry, Global, Log, DequeRule>;
 
-pub type Thief = Stealer<Entry, Global, Log, Dealt>;
+/// A stealing seat's handle of a deque.
+pub type Thief = Stealer<Entry, Global, Log, DequeRule>;
 
-/// Which deque of which board a push is for.
-pub trait Place {
+/// A type that names a deque: the board's jobs and seats, and the deque's number.
+pub trait DequeKey {
     ghost jobs: { ℕ };
 
     ghost seats: { ℕ };
@@ -65,7 +68,7 @@ pub trait Place {
     ghost deque: { ℕ };
 }
 
-impl Place for Brand {
+impl DequeKey for Brand {
     ghost jobs = { 0 };
 
     ghost seats = { 0 };
@@ -73,17 +76,19 @@ impl Place for Brand {
     ghost deque = { 0 };
 }
 
+/// The outcome of a push on deque `D`.
 pub struct Deals<D> {
     place: PhantomData<D>,
 }
 
-impl<D: Place> Outcome<Entry, Log> for Deals<D> {
+impl<D: DequeKey> Outcome<Entry, Log> for Deals<D> {
     ghost use Rattle.std.specs.Prelude.{◌≡◌, suc};
     ghost use Rattle.tile_jobs.specs.Rule.{dealing};
 
     ghost then = { λ v xs w. w ≡ dealing D.jobs D.seats D.deque (suc v.pushed) };
 }
 
+/// The outcome of taking one entry.
 pub struct Takes;
 
 impl Outcome<Entry, Log> for Takes {
@@ -94,6 +99,7 @@ impl Outcome<Entry, Log> for Takes {
     ghost empty = { λ _. ⊥ };
 }
 
+/// The outcome of taking the next entry in the order pushed.
 pub struct TakesNext;
 
 impl Outcome<Entry, Log> for TakesNext {
@@ -104,6 +110,7 @@ impl Outcome<Entry, Log> for TakesNext {
     ghost empty = { λ _. ⊥ };
 }
 
+/// Splits a stealing pass off the owner's, and joins it to the owner's again.
 pub struct Lends;
 
 impl Split<Log> for Lends {
@@ -122,6 +129,7 @@ impl Join<Log> for Lends {
     ghost spent = { spent };
 }
 
+/// The fact that the lists of all passes together have each dealt job once.
 pub struct Whole;
 
 impl Lesson<Entry, Log> for Whole {
@@ -132,13 +140,17 @@ impl Lesson<Entry, Log> for Whole {
     ghost fact = { λ u _. (y : ℕ) → times y (all_taken u) ≡ times y (deal u.jobs u.seats u.deque) };
 }
 
-/// A push, by the dealer on the owner's pass.
-pub(crate) fn push<D: Place>(worker: &mut Deque, entry: Entry)
-    requires view { worker_view worker.old ≡ dealing D.jobs D.seats D.deque (worker_index worker.old) }
-    requires next { entry ∷ drop (suc (worker_index worker.old)) (feed D.jobs D.seats D.deque) ≡ drop (worker_index worker.old) (feed D.jobs D.seats D.deque) }
+/// Pushes the next entry. The dealer calls it, before any entry is taken.
+pub(crate) fn push<D: DequeKey>(worker: &mut Deque, entry: Entry)
+    requires view { worker_view worker.old
+        ≡ dealing D.jobs D.seats D.deque (worker_index worker.old) }
+    requires next { entry ∷ drop (suc (worker_index worker.old)) (feed D.jobs D.seats D.deque)
+        ≡ drop (worker_index worker.old) (feed D.jobs D.seats D.deque) }
     requires room { worker_index worker.old < worker_capacity worker.old }
-    ensures same { SameWorker worker.old worker.new × (worker_index worker.new ≡ suc (worker_index worker.old)) }
-    ensures view { worker_view worker.new ≡ dealing D.jobs D.seats D.deque (worker_index worker.new) }
+    ensures same { SameWorker worker.old worker.new
+        × (worker_index worker.new ≡ suc (worker_index worker.old)) }
+    ensures view { worker_view worker.new
+        ≡ dealing D.jobs D.seats D.deque (worker_index worker.new) }
 {
     match worker.push_as::<Deals<D>>(entry) {
         Ok(()) => {}
@@ -146,7 +158,7 @@ pub(crate) fn push<D: Place>(worker: &mut Deque, entry: Entry)
     }
 }
 
-/// A pop, by the owner.
+/// Pops the first entry, for the owner.
 pub(crate) fn pop(worker: &mut Deque) -> Entry
     requires can { CanTake (worker_view worker.old) }
     requires fifo { worker_flavor worker.old ≡ 0 }
@@ -159,10 +171,11 @@ pub(crate) fn pop(worker: &mut Deque) -> Entry
     }
 }
 
-/// A pop by an owner that has every pass back.
+/// Pops the next entry in the order pushed, after all passes were joined.
 pub(crate) fn pop_next(worker: &mut Deque) -> Entry
     requires can { CanTake (worker_view worker.old) }
-    requires whole { ((worker_view worker.old).owns ≡ true) × (share (worker_view worker.old) ≡ (worker_view worker.old).seats) }
+    requires whole { ((worker_view worker.old).owns ≡ true)
+        × (share (worker_view worker.old) ≡ (worker_view worker.old).seats) }
     requires fifo { worker_flavor worker.old ≡ 0 }
     ensures same { SameWorker worker.old worker.new }
     ensures took { TookNext (worker_view worker.old) (result ∷ []) (worker_view worker.new) }
@@ -173,15 +186,17 @@ pub(crate) fn pop_next(worker: &mut Deque) -> Entry
     }
 }
 
-/// A steal, by another seat on its pass. `None` where another taker was met: since this pass last
-/// looked, the deque has been taken from.
+/// Steals the first entry, for a seat that is not the owner.
+///
+/// Returns `None` after losing a race: the deque lost an entry since this pass last looked.
 pub(crate) fn steal(thief: &Thief, pass: &mut Pass<Entry, Log>) -> Option<Entry>
     requires table { IsPassOf (stealer_deque thief.now) pass.old }
     requires can { CanTake (view pass.old) }
     requires fifo { stealer_flavor thief.now ≡ 0 }
     ensures same { SamePass pass.old pass.new }
     ensures met { IfNone result (taken pass.old < taken pass.new) }
-    ensures took { MatchOption result (view pass.new ≡ view pass.old) (λ x. Took (view pass.old) (x ∷ []) (view pass.new)) }
+    ensures took { MatchOption result (view pass.new ≡ view pass.old)
+        (λ x. Took (view pass.old) (x ∷ []) (view pass.new)) }
 {
     match thief.steal_as::<Takes>(pass) {
         Steal::Success(entry) => Some(entry),

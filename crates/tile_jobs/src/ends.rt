@@ -1,22 +1,22 @@
-//! A seat's ends of the deques: its own to take from, the others to steal from.
+//! A seat's ends of the deques: it pops at its own end and steals at the others.
 ghost use Rattle.std.specs.Prelude.{◌≡◌, ◌≤◌, true, false, cond, length, vec_len, MatchOption};
 ghost use Rattle.crossbeam_deque.specs.Handles.{taken, view as pass_view, IsPassOf, worker_deque, stealer_deque, worker_view, worker_flavor, stealer_flavor};
 ghost use Rattle.tile_jobs.specs.Ends.{EndState, end_of, IsOwn, IsOther, TookJob, Kept, MetTaker, SameElsewhere};
-ghost use Rattle.tile_jobs.specs.Stolen.{StealsAmong};
-ghost use Rattle.tile_jobs.specs.Got.{MatchGot};
+ghost use Rattle.tile_jobs.specs.RoundOutcome.{StealsAmong};
+ghost use Rattle.tile_jobs.specs.StealOutcome.{MatchSteal};
 
 use crate::deque::{Deque, Entry, Log, Thief, pop, steal};
 use crossbeam_deque::Pass;
 use std::marker::Model;
 
-/// The owner's end of its deque.
+/// The owner's end of its deque, and whether it has the end mark.
 #[derive(Drop)]
-pub struct Own {
+pub struct OwnEnd {
     worker: Deque,
     marked: bool,
 }
 
-impl Model for Own {
+impl Model for OwnEnd {
     ghost Value = { EndState };
 
     ghost view = { λ o. end_of (worker_deque o.worker) o.marked 0 (worker_view o.worker) };
@@ -24,40 +24,42 @@ impl Model for Own {
     ghost invariant = { λ o. IsOwn o.marked (worker_view o.worker) × (worker_flavor o.worker ≡ 0) };
 }
 
-/// Another seat's end of a deque.
+/// The end of a deque for a seat that is not its owner.
 #[derive(Drop)]
-pub struct Other {
+pub struct OtherEnd {
     thief: Thief,
     pass: Pass<Entry, Log>,
-    // a steal was tried
+    // at least one steal was tried
     tried: bool,
     marked: bool,
 }
 
-impl Model for Other {
+impl Model for OtherEnd {
     ghost Value = { EndState };
 
-    ghost view = { λ o. end_of (stealer_deque o.thief) o.marked (cond o.tried (taken o.pass) 0) (pass_view o.pass) };
+    ghost view = { λ o. end_of (stealer_deque o.thief) o.marked (cond o.tried (taken o.pass) 0)
+        (pass_view o.pass) };
 
-    ghost invariant = { λ o. IsOther o.marked (pass_view o.pass) × IsPassOf (stealer_deque o.thief) o.pass × (stealer_flavor o.thief ≡ 0) };
+    ghost invariant = { λ o. IsOther o.marked (pass_view o.pass)
+        × IsPassOf (stealer_deque o.thief) o.pass × (stealer_flavor o.thief ≡ 0) };
 }
 
-/// What one steal gave.
+/// The outcome of one steal.
 #[derive(Clone, Copy, PartialEq, Eq, Debug)]
-pub enum Got {
+pub enum StealOutcome {
     Job(u32),
-    // the mark behind the jobs, now or before
+    // this end has its end mark, now or before
     Mark,
-    // another taker was met
+    // the steal lost a race
     Missed,
 }
 
-impl Own {
-    pub(crate) fn new(worker: Deque) -> Own
+impl OwnEnd {
+    pub(crate) fn new(worker: Deque) -> OwnEnd
         requires { IsOwn false (worker_view worker) × (worker_flavor worker ≡ 0) }
         ensures { result ≡ end_of (worker_deque worker) false 0 (worker_view worker) }
     {
-        Own {
+        OwnEnd {
             worker,
             marked: false,
         }
@@ -67,13 +69,14 @@ impl Own {
         ensures own { IsOwn result.1 (worker_view result.0) × (worker_flavor result.0 ≡ 0) }
         ensures parts { self ≡ end_of (worker_deque result.0) result.1 0 (worker_view result.0) }
     {
-        let Own { worker, marked } = self;
+        let OwnEnd { worker, marked } = self;
         (worker, marked)
     }
 
-    /// Takes the first job, or `None` where it gets or has the mark.
+    /// Takes the first job. Returns `None` once this end has its end mark.
     pub(crate) fn take(&mut self) -> Option<u32>
-        ensures { MatchOption result (Kept self.old self.new × (self.new.marked ≡ true)) (λ j. TookJob self.old j self.new) }
+        ensures { MatchOption result (Kept self.old self.new × (self.new.marked ≡ true))
+            (λ j. TookJob self.old j self.new) }
     {
         if self.marked {
             return None;
@@ -88,12 +91,13 @@ impl Own {
     }
 }
 
-impl Other {
-    pub(crate) fn new(thief: Thief, pass: Pass<Entry, Log>) -> Other
-        requires { IsOther false (pass_view pass) × IsPassOf (stealer_deque thief) pass × (stealer_flavor thief ≡ 0) }
+impl OtherEnd {
+    pub(crate) fn new(thief: Thief, pass: Pass<Entry, Log>) -> OtherEnd
+        requires { IsOther false (pass_view pass) × IsPassOf (stealer_deque thief) pass
+            × (stealer_flavor thief ≡ 0) }
         ensures { result ≡ end_of (stealer_deque thief) false 0 (pass_view pass) }
     {
-        Other {
+        OtherEnd {
             thief,
             pass,
             tried: false,
@@ -105,7 +109,7 @@ impl Other {
         ensures other { IsOther self.marked (pass_view result) × IsPassOf self.id result }
         ensures parts { self ≡ end_of self.id self.marked self.seen (pass_view result) }
     {
-        let Other {
+        let OtherEnd {
             thief,
             pass,
             tried: _,
@@ -115,37 +119,38 @@ impl Other {
         pass
     }
 
-    /// Tries one steal, unless it has the mark.
-    pub(crate) fn take(&mut self) -> Got
-        ensures { MatchGot result (Kept self.old self.new × (self.new.marked ≡ true)) (MetTaker self.old self.new) (λ j. TookJob self.old j self.new) }
+    /// Tries one steal, unless this end has its end mark.
+    pub(crate) fn take(&mut self) -> StealOutcome
+        ensures { MatchSteal result (Kept self.old self.new × (self.new.marked ≡ true))
+            (MetTaker self.old self.new) (λ j. TookJob self.old j self.new) }
     {
         if self.marked {
-            return Got::Mark;
+            return StealOutcome::Mark;
         }
         self.tried = true;
         match steal(&self.thief, &mut self.pass) {
-            Some(Entry::Job(job)) => Got::Job(job),
+            Some(Entry::Job(job)) => StealOutcome::Job(job),
             Some(Entry::End) => {
                 self.marked = true;
-                Got::Mark
+                StealOutcome::Mark
             }
-            None => Got::Missed,
+            None => StealOutcome::Missed,
         }
     }
 }
 
-/// What a round of steals gave.
+/// The outcome of steals at several ends.
 #[derive(Clone, Copy, PartialEq, Eq, Debug)]
-pub enum Stolen {
+pub enum RoundOutcome {
     Job(u32),
-    // no job was got, and a steal met another taker
+    // no job, and at least one steal lost a race
     Met,
-    // every mark was got
+    // each of the ends tried has its end mark
     Nothing,
 }
 
-/// Tries the ends from `from` to `to`, until it gets a job.
-pub(crate) fn steal_among(others: &mut Vec<Other>, from: usize, to: usize) -> Stolen
+/// Tries the ends from `from` up to `to`, until one steal gets a job.
+pub(crate) fn steal_among(others: &mut Vec<OtherEnd>, from: usize, to: usize) -> RoundOutcome
     requires { (from ≤ to) × (to ≤ vec_len others.old) }
     ensures len { vec_len others.new ≡ vec_len others.old }
     ensures ends { StealsAmong from to others.old.items others.new.items result }
@@ -154,27 +159,32 @@ pub(crate) fn steal_among(others: &mut Vec<Other>, from: usize, to: usize) -> St
     let mut met = false;
     for k in from..to {
         match others[k].take() {
-            Got::Job(job) => return Stolen::Job(job),
-            Got::Mark => {}
-            Got::Missed => met = true,
+            StealOutcome::Job(job) => return RoundOutcome::Job(job),
+            StealOutcome::Mark => {}
+            StealOutcome::Missed => met = true,
         }
     }
-    if met { Stolen::Met } else { Stolen::Nothing }
+    if met {
+        RoundOutcome::Met
+    } else {
+        RoundOutcome::Nothing
+    }
 }
 
-/// Tries each end once, from place `first` on and then from the start, until it gets a job.
-pub(crate) fn steal_round(others: &mut Vec<Other>, first: usize) -> Stolen
+/// Tries all ends once, from `first` on and then from 0, until a steal gets a job.
+pub(crate) fn steal_round(others: &mut Vec<OtherEnd>, first: usize) -> RoundOutcome
     requires { first ≤ vec_len others.old }
     ensures len { vec_len others.new ≡ vec_len others.old }
-    ensures ends { StealsAmong 0 (length others.old.items) others.old.items others.new.items result }
+    ensures ends { StealsAmong 0 (length others.old.items) others.old.items others.new.items
+        result }
 {
     let count = others.len();
     match steal_among(others, first, count) {
-        Stolen::Job(job) => Stolen::Job(job),
-        Stolen::Nothing => steal_among(others, 0, first),
-        Stolen::Met => match steal_among(others, 0, first) {
-            Stolen::Job(job) => Stolen::Job(job),
-            _ => Stolen::Met,
+        RoundOutcome::Job(job) => RoundOutcome::Job(job),
+        RoundOutcome::Nothing => steal_among(others, 0, first),
+        RoundOutcome::Met => match steal_among(others, 0, first) {
+            RoundOutcome::Job(job) => RoundOutcome::Job(job),
+            _ => RoundOutcome::Met,
         },
     }
 }

@@ -1,23 +1,23 @@
-//! A gate that is called as jobs begin and end: [`Gate`].
+//! Callbacks at the start and end of jobs: [`Gate`].
 //!
-//! Tests use it to hold jobs, and the program to report how far a run is.
+//! Tests use a gate to hold jobs; the program uses one to report progress.
 
-/// Observes the jobs of a run, stage by stage. Only `enter` has to be written.
+/// Observes the jobs of a run, stage by stage. Only `enter` has no default.
 pub trait Gate {
     /// Called once before each job, on the thread that runs it; may block.
     fn enter(&self, job: u32);
 
-    /// Called on the caller's thread before a stage of so many jobs.
+    /// Called on the caller's thread before a stage that has this many jobs.
     fn begin_stage(&self, _jobs: u32) {}
 
     /// Called after each job that succeeds, on the thread that ran it.
     fn leave(&self, _job: u32) {}
 
-    /// Called after each of the `parts` equal parts of a job, by jobs that have parts.
+    /// Called after each of the `parts` equal parts of a job that is split into parts.
     fn finish_part(&self, _parts: usize) {}
 }
 
-/// A gate that lets each job in at once.
+/// A gate that does nothing.
 pub struct NoGate;
 
 impl Gate for NoGate {

@@ -1,34 +1,33 @@
-//! Numbered jobs, run by workers on threads, with results in job order.
+//! Runs numbered jobs on threads and returns the results in job order.
 //!
-//! [`Work`] says what a job does and returns; the jobs are 0, 1, 2 and so on. [`run_jobs`] returns
-//! the result of each, whichever worker ran it.
+//! [`Work`] defines what a job does and returns; jobs are numbered from 0. [`run_jobs`] returns
+//! the result of each job, whichever worker ran it.
 //!
-//! Below it is a [`Board`]: jobs dealt to the deques of its seats. Each [`Seat`] takes the jobs of
-//! its own deque and then steals from the others, without locks and without waiting.
+//! It uses a [`Board`], which deals the jobs to the deques of its seats. Each [`Seat`] takes the
+//! jobs of its own deque, then steals from the other deques, without locks and without waiting.
 //!
-//! Modules, from what is called to what it depends on:
+//! Modules, callers first:
 //!
-//! - `running`: `run_jobs`, on so many workers
-//! - `crew`: the threads of the workers
+//! - `running`: runs all jobs on a number of workers
+//! - `threads`: runs the workers on threads of their own or on the caller's
 //! - `worker`: one worker at its seat
-//! - `board`: jobs in deques
-//! - `seat`: one worker's place, which takes jobs
-//! - `ends`: a seat's ends of the deques
-//! - `deque`: the rule of one deque
-//! - `dealer`: fills one deque with jobs and marks
+//! - `board`: deals jobs to seats and collects them
+//! - `seat`: one worker's access to all deques
+//! - `ends`: a seat's access to one deque
+//! - `deque`: the protocol of one deque
+//! - `dealer`: fills one deque with jobs and end marks
 //! - `dealing`: fills all deques
 //! - `closing`: empties one deque and lists its jobs
 //! - `slots`: results in job order
-//! - `room`: lists made with room for everything
+//! - `room`: pushes to lists of sufficient capacity
 //! - `work`: what a job does
-//! - `gate`: called as jobs begin and end
+//! - `gate`: callbacks at the start and end of jobs
 #![tactic(auto)]
 
 ghost use Rattle.std.specs.Prelude.{◌≡◌, ◌<◌, ◌≤◌, ◌⊎◌, ◌↔◌, Err, IfErr, OnOk};
 
 mod board;
 mod closing;
-mod crew;
 mod dealer;
 mod dealing;
 mod deque;
@@ -38,6 +37,7 @@ mod room;
 mod running;
 mod seat;
 mod slots;
+mod threads;
 mod work;
 mod worker;
 
@@ -48,16 +48,16 @@ pub use seat::{Seat, Take};
 use std::alloc::AllocError;
 pub use work::Work;
 
-/// The most workers, and seats of a board.
+/// The greatest number of workers, and of seats of a board.
 pub const MOST_WORKERS: u32 = 64;
 
-/// The most jobs of a board.
+/// The greatest number of jobs of a board.
 pub const MOST_JOBS: u32 = 65_536;
 
-/// Why jobs were not run to their end.
+/// Why a run of jobs failed.
 #[derive(Clone, Copy, PartialEq, Eq, Debug)]
 pub enum JobFault {
-    /// Memory ran out, in a job or for the answers.
+    /// Memory ran out in a job, or for the board or the results.
     Memory,
     /// The number of workers or seats is 0 or above `MOST_WORKERS`.
     BadWorkers,
@@ -65,7 +65,11 @@ pub enum JobFault {
     NoThread,
 }
 
-/// Refuses a number of workers, or of seats, that is 0 or above [`MOST_WORKERS`].
+/// Checks a number of workers or of seats.
+///
+/// # Errors
+///
+/// [`JobFault::BadWorkers`] if the number is 0 or above [`MOST_WORKERS`].
 pub fn check_workers(workers: u32) -> Result<(), JobFault>
     ensures fit { OnOk result ((0 < workers) × (workers ≤ MOST_WORKERS)) }
     ensures bad { (result ≡ Err JobFault.BadWorkers) ↔ ((workers ≡ 0) ⊎ (MOST_WORKERS < workers)) }

@@ -1,7 +1,7 @@
-//! Lists that were made with room for all that they will hold.
+//! Pushes to lists that already have the capacity.
 ghost use Rattle.std.specs.Prelude.{◌≡◌, suc, ◌<◌, ◌≤◌, [], ◌∷◌, ◌++◌, vec_len, vec_capacity};
 
-/// Puts an element at the end of a list that has room for it. It takes no memory.
+/// Pushes an element to a list with spare capacity. Never allocates.
 pub(crate) fn put<T: Drop>(list: &mut Vec<T>, x: T)
     requires { vec_len list.old < vec_capacity list.old }
     ensures items { list.new.items ≡ list.old.items ++ x ∷ [] }

@@ -1,33 +1,33 @@
-//! A seat: one worker's place at every deque of its board.
+//! A seat: one worker's access to all deques of its board.
 //!
-//! [`Seat::try_take`] takes its own next job, or tries one steal from each other deque.
+//! [`Seat::try_take`] takes the next job of the own deque, or tries to steal one.
 ghost use Rattle.std.specs.Prelude.{◌≡◌, ◌≤◌, [], vec_capacity, IfOk};
 ghost use Rattle.tile_jobs.specs.Ends.{SeatState, seat_of, IsSeat, SameSeat, MarksStay, HasAllMarks};
 ghost use Rattle.tile_jobs.specs.Take.{MatchTake, TakesJob, MeetsTaker, FindsNone};
 
-use crate::ends::{Other, Own, Stolen, steal_round};
+use crate::ends::{OtherEnd, OwnEnd, RoundOutcome, steal_round};
 use crate::room::put;
 use std::alloc::{AllocError, Global};
 use std::marker::Model;
 
-/// What a try to take a job gave.
+/// The outcome of [`Seat::try_take`].
 #[derive(Clone, Copy, PartialEq, Eq, Debug)]
 pub enum Take {
-    /// This job is the caller's, and no other's.
+    /// The caller has to run this job; no other seat gets it.
     Job(u32),
-    /// A steal met another taker, and no job was got. A later try may get one.
+    /// No job, since a steal lost a race. A later try may get one.
     Again,
-    /// No deque holds a job, and none will.
+    /// No deque holds a job, now or later.
     Empty,
 }
 
-/// One worker's seat at a board.
+/// One worker's access to all deques of a board, and the jobs that it took.
 #[derive(Drop)]
 pub struct Seat {
     number: u32,
-    own: Own,
-    // the ends of the other deques, in their order
-    others: Vec<Other>,
+    own: OwnEnd,
+    // the ends of the other deques, in the order of the deques
+    others: Vec<OtherEnd>,
     taken: Vec<u32>,
 }
 
@@ -36,16 +36,17 @@ impl Model for Seat {
 
     ghost view = { λ s. seat_of s.number s.own s.others.items s.taken.items };
 
-    ghost invariant = { λ s. IsSeat (seat_of s.number s.own s.others.items s.taken.items) × (s.own.jobs ≤ vec_capacity s.taken) };
+    ghost invariant = { λ s. IsSeat (seat_of s.number s.own s.others.items s.taken.items)
+        × (s.own.jobs ≤ vec_capacity s.taken) };
 }
 
 impl Seat {
-    /// A seat that took nothing yet, with room for all jobs.
+    /// Makes a seat that took no job, with room for the numbers of all `jobs`.
     pub(crate) fn new(
         alloc: Global,
         number: u32,
-        own: Own,
-        others: Vec<Other>,
+        own: OwnEnd,
+        others: Vec<OtherEnd>,
         jobs: u32,
     ) -> Result<Seat, AllocError>
         requires seat { IsSeat (seat_of number own others.items []) }
@@ -61,14 +62,14 @@ impl Seat {
         })
     }
 
-    /// No fewer than all jobs.
+    /// The capacity of the list of jobs taken, at least the jobs of the board.
     pub(crate) fn room(&self) -> usize
         ensures { self.now.own.jobs ≤ result }
     {
         self.taken.capacity()
     }
 
-    pub(crate) fn into_parts(self) -> (Own, Vec<Other>, Vec<u32>)
+    pub(crate) fn into_parts(self) -> (OwnEnd, Vec<OtherEnd>, Vec<u32>)
         ensures seat { IsSeat self }
         ensures parts { self ≡ seat_of self.number result.0 result.1.items result.2.items }
     {
@@ -81,31 +82,41 @@ impl Seat {
         (own, others, taken)
     }
 
-    /// Takes the first job of the seat's own deque, or else steals one.
+    /// Takes the first job of the seat's own deque, or else tries to steal one.
     ///
-    /// It tries one steal from each other deque that may have a job, from the next seat's on and
-    /// round. The jobs of each deque come in rising order. It allocates nothing and never waits.
+    /// Tries at most one steal at each other deque, in the order of the seats after this one.
+    /// A seat gets the jobs of one deque in rising order. Never allocates and never waits.
     ///
-    /// `Empty` comes once this seat has seen the end of every deque, and from then on. `Again` comes
-    /// only where a steal of this call met another taker: some other deque was seen to lose an
-    /// entry to another seat.
+    /// Returns [`Take::Empty`] once this seat has the end mark of every deque, and from then on.
+    /// Returns [`Take::Again`] only if a steal of this call lost a race to another seat.
+    ///
+    /// # Examples
+    ///
+    /// ```ignore
+    /// match seat.try_take() {
+    ///     Take::Job(job) => run(job),
+    ///     Take::Again => thread::yield_now(),
+    ///     Take::Empty => break,
+    /// }
+    /// ```
     pub fn try_take(&mut self) -> Take
         ensures same { SameSeat self.old self.new }
         ensures stay { MarksStay self.old self.new }
         ensures over { HasAllMarks self.old → result ≡ Take.Empty }
-        ensures took { MatchTake result (λ j. TakesJob self.old j self.new) (MeetsTaker self.old self.new) (FindsNone self.old self.new) }
+        ensures took { MatchTake result (λ j. TakesJob self.old j self.new)
+            (MeetsTaker self.old self.new) (FindsNone self.old self.new) }
     {
         if let Some(job) = self.own.take() {
             put(&mut self.taken, job);
             return Take::Job(job);
         }
         match steal_round(&mut self.others, self.number as usize) {
-            Stolen::Job(job) => {
+            RoundOutcome::Job(job) => {
                 put(&mut self.taken, job);
                 Take::Job(job)
             }
-            Stolen::Met => Take::Again,
-            Stolen::Nothing => Take::Empty,
+            RoundOutcome::Met => Take::Again,
+            RoundOutcome::Nothing => Take::Empty,
         }
     }
 }

@@ -1,21 +1,21 @@
-//! What a job does and returns: [`Work`].
+//! The trait of work that is split into jobs: [`Work`].
 ghost use Rattle.std.specs.Prelude.{◌≡◌, ℕ, ◌<◌, IfOk, IfErr};
 
 use crate::JobFault;
 use std::alloc::Global;
 
-/// Work that is cut into numbered jobs. Threads share it.
+/// Work that is split into numbered jobs. All workers share one value.
 pub trait Work {
-    /// What a job answers.
+    /// The result of one job.
     type Out;
 
-    // The jobs below this number may be run.
+    // The number of jobs: only jobs below it may run.
     ghost most: { Self → ℕ };
 
-    // The answers that a job may give.
+    // Relates a job's number to the results that it may return.
     ghost gives: { Self → ℕ → Self.Out → Type 0 };
 
-    /// Does the job of this number. Want of memory is the one fault.
+    /// Runs one job. The only fault is [`JobFault::Memory`].
     fn run(&self, alloc: Global, job: u32) -> Result<Self::Out, JobFault>
         requires { job < most self.now }
         ensures given { IfOk result (λ out. gives self.now job out) }

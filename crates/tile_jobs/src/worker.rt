@@ -1,4 +1,4 @@
-//! One worker at its seat: takes jobs until no deque has one.
+//! Runs one worker: takes jobs by its seat until no deque holds one.
 ghost use Rattle.std.specs.Prelude.{◌≤◌};
 ghost use Rattle.tile_jobs.specs.Ends.{IsNew};
 ghost use Rattle.tile_jobs.specs.Workers.{IsOutcome};
@@ -14,21 +14,21 @@ use std::sync::Wait;
 use std::thread;
 use std::thread::Promise;
 
-/// What a worker hands back: its seat, and the answers to the jobs that the seat took.
+/// A worker's seat, and the results of all jobs that the seat took.
 #[derive(Drop)]
-pub struct Shift<T> {
+pub struct WorkerResult<T> {
     pub seat: Seat,
     pub answers: Vec<Answer<T>>,
 }
 
-/// Runs the jobs that the seat takes, until no deque holds one or a job fails.
+/// Takes and runs jobs until no deque holds one or a job fails.
 pub(crate) fn work_seat<R: Wait, W: Work, G: Gate>(
     rt: &R,
     alloc: Global,
     work: &W,
     gate: &G,
     mut seat: Seat,
-) -> Result<Shift<W::Out>, JobFault>
+) -> Result<WorkerResult<W::Out>, JobFault>
 where
     W::Out: Drop,
     requires jobs { seat.own.jobs ≤ W.most work.now }
@@ -48,17 +48,17 @@ where
             Take::Empty => break,
         }
     }
-    Ok(Shift { seat, answers })
+    Ok(WorkerResult { seat, answers })
 }
 
-/// What a worker's thread promises of the seat that it was given.
+/// What a worker's thread promises of its result, for the seat it started with.
 #[derive(Drop)]
-pub struct Duty<'a, W> {
+pub struct WorkerPromise<'a, W> {
     pub work: &'a W,
     pub seat: Snapshot<Seat>,
 }
 
-impl<'a, W: Work> Promise<Result<Shift<W::Out>, JobFault>> for Duty<'a, W> {
+impl<'a, W: Work> Promise<Result<WorkerResult<W::Out>, JobFault>> for WorkerPromise<'a, W> {
     ghost use Rattle.tile_jobs.specs.Workers.{IsOutcome};
 
     ghost kept_by = { λ p r. IsOutcome (W.gives p.work.now) p.seat.value r };

@@ -1,4 +1,4 @@
--- a tile's list, one entry more at a time
+-- a tile's list, one more entry at a time
 pub mod TileLists
--- the tiles' lists put back
+-- the tiles' lists joined
 pub mod Whole

@@ -1,4 +1,4 @@
--- Lists of a tile's entries, one entry more at a time.
+-- Lists of a tile's entries, appended one by one.
 use Rattle.std.proofs.Common.{◌≡◌, ℕ, ◌+◌, ◌-◌, ◌*◌, ◌<◌, inl, inr, List, ◌∷◌, ◌++◌, [], get_or, Option, None, slice_get, sym, ap, subst, ◌∙◌, arith}
 use Rattle.std.proofs.lemmas.Bool.{cases_eq}
 use Rattle.std.proofs.lemmas.List.{length_push}
@@ -12,7 +12,7 @@ use Rattle.tiles.proofs.SliceGet.{slice_get-append_left, slice_get-append_right}
 use Rattle.tiles.proofs.TileOrder.{index_in_below, index_in_tile_is, tile_entry-in}
 use Rattle.tile_maps.specs.Maps.{AreMadeBelow, IsMadeTile}
 
--- two places that stand at one place of the bounds' row order are one
+-- places with one index in the row order of bounds are equal
 pub within_injective : (b : Bounds) (p q : Place) → IsInBounds b p → IsInBounds b q → index_in b p ≡ index_in b q → p ≡ q
 within_injective b p q i j e =
     let one = index_injective b.cols (make_place (p.row - b.top) (p.col - b.left)) (make_place (q.row - b.top) (q.col - b.left)) (omega (arith, i.2, i.3)) (omega (arith, j.2, j.3)) e in
@@ -20,7 +20,7 @@ within_injective b p q i j e =
     let col : p.col - b.left ≡ q.col - b.left = ap (λ (r : Place). r.col) one in
     same_place p q (omega (arith, i.0, j.0)) (omega (arith, i.2, j.2))
 
--- one entry more
+-- one more entry, by its place
 pub made_push : {X : Type 0} (b : Bounds) (Has : Place → X → Type 0) (p : Place) (list : List X) (x : X) → IsInBounds b p →
     AreMadeBelow b Has (index_in b p) list → Has p x → AreMadeBelow b Has (index_in b p + 1) (list ++ x ∷ [])
 made_push {X} b Has p list x inside before here = record {
@@ -34,7 +34,7 @@ made_push {X} b Has p list x inside before here = record {
   ];
 }
 
--- the entry of the next place of a row
+-- one more entry, by its row and column in the bounds
 pub made_next : {X : Type 0} (b : Bounds) (Has : Place → X → Type 0) (row col : ℕ) (list : List X) (x : X) → row < b.rows → col < b.cols →
     AreMadeBelow b Has (row * b.cols + col) list → Has (make_place (b.top + row) (b.left + col)) x → AreMadeBelow b Has (row * b.cols + (col + 1)) (list ++ x ∷ [])
 made_next {X} b Has row col list x below beside before here =
@@ -46,7 +46,7 @@ made_next {X} b Has row col list x below beside before here =
     subst (λ (n : ℕ). AreMadeBelow b Has n (list ++ x ∷ [])) next
     (made_push b Has p list x (omega arith, omega arith, omega arith, omega arith) (subst (λ (n : ℕ). AreMadeBelow b Has n list) (sym at) before) here)
 
--- a list of all places of a tile's bounds
+-- a list is a tile's once it has an entry for each place of the tile's bounds
 pub made_tile : {X : Type 0} (c : Cutting) (tile : ℕ) (b : Bounds) (Has : Place → X → Type 0) (list : List X) → IsCutting c → b ≡ bounds_of c tile →
     AreMadeBelow b Has (b.rows * b.cols) list → IsMadeTile c tile Has list
 made_tile c tile b Has list lawful e made = record {
@@ -57,7 +57,7 @@ made_tile c tile b Has list lawful e made = record {
       made.each p within (index_in_below b p within) entry (ap (slice_get list) at ∙ is);
 }
 
--- what a tile's list has at a place of it
+-- `Has` holds of the entry of a tile's list at each place of the tile
 pub entry_of_tile : {X : Type 0} (c : Cutting) (tile : ℕ) (Has : Place → Option X → Type 0) (list : List (Option X)) → IsCutting c → IsMadeTile c tile Has list →
     (p : Place) → IsInTile c tile p → Has p (tile_entry c tile list p)
 entry_of_tile {X} c tile Has list lawful made p inside =

@@ -1,4 +1,4 @@
--- The tiles' lists put back into one.
+-- The map of a grid, joined from its tiles' lists.
 use Rattle.std.proofs.Common.{◌≡◌, ℕ, ◌*◌, ◌<◌, inl, inr, List, length, get_or, Option, None, Some, Vec, Global, vec_len, sym, ap, subst, refl, ◌∙◌, arith}
 use Rattle.std.specs.Prelude.{slice_get, option_and_then}
 use Rattle.std.proofs.lemmas.Option.{get_or_from_slice_get, slice_get-get_or, slice_get_within, slice_get_cases}
@@ -13,16 +13,15 @@ use Rattle.tile_maps.specs.Maps.{IsMadeTile, IsMadeMap}
 
 module _ {X : Type 0} (c : Cutting) (Has : Place → X → Type 0) (n : ℕ) (lists : Vec (Vec X Global) Global) (count : vec_len lists ≡ n) (all : n ≡ tile_count c)
     (given : AllGiven (λ tile (list : Vec X Global). IsMadeTile c tile Has list.items) n lists.items) where
-  -- the list of a tile
   made_at : (tile : ℕ) (list : Vec X Global) → slice_get lists.items tile ≡ Some list → IsMadeTile c tile Has list.items
   made_at tile list e = subst (λ (v : Vec X Global). IsMadeTile c tile Has v.items) (get_or_from_slice_get lists.items tile list list e)
       (given tile list (omega (arith, lists.ok.0, count, slice_get_within lists.items tile list e)))
 
-  -- the jobs gave a list of each tile
+  -- there is one list for each tile, of its length
   pub lists_of_tiles : AreTileLists c lists.items
   lists_of_tiles = record { count = omega (arith, lists.ok.0, count, all); each = λ tile list e. (made_at tile list e).size }
 
-  -- each entry of the whole list is one that a tile's list has
+  -- the joined list has an entry for each place of the grid, and `Has` holds of each
   pub made_whole : (whole : List X) → IsCutting c → IsPutBack c lists.items whole → IsMadeMap c Has whole
   made_whole whole lawful put = record {
     size = put.size;
@@ -36,7 +35,7 @@ module _ {X : Type 0} (c : Cutting) (Has : Place → X → Type 0) (n : ℕ) (li
         ];
   }
 
--- a list with an entry that fits at each place of a tile
+-- a list is made if `Has` holds at each place of the tile
 pub tile_of_entries : {X : Type 0} (c : Cutting) (tile : ℕ) (Has : Place → Option X → Type 0) (list : List (Option X)) → length list ≡ cell_count c tile →
     ((p : Place) → IsInTile c tile p → Has p (tile_entry c tile list p)) → IsMadeTile c tile Has list
 tile_of_entries {X} c tile Has list size each = record {
@@ -46,14 +45,14 @@ tile_of_entries {X} c tile Has list size each = record {
       (each p i);
 }
 
--- what a map has at a place
+-- `Has` holds of the entry of a map at each place
 pub entry_of_map : {X : Type 0} (c : Cutting) (Has : Place → Option X → Type 0) (whole : List (Option X)) → IsMadeMap c Has whole → (p : Place) → IsWithin c p →
     Has p (entry_at c.cols c.rows whole p)
 entry_of_map {X} c Has whole made p within = subst (λ (o : Option X). Has p o) (sym (entry-inside c.cols c.rows whole p within.0 within.1))
     (made.each p within (get_or whole (index_of c.cols p) None)
     (slice_get-get_or whole (index_of c.cols p) None (omega (arith, made.size, index_below c.cols c.rows p within.0 within.1))))
 
--- a map, by the size of its grid
+-- size and entries of a map, by the numbers of columns and rows
 pub map_of_size : {X : Type 0} (c : Cutting) (cols rows : ℕ) (Has : Place → Option X → Type 0) (whole : List (Option X)) → c.cols ≡ cols → c.rows ≡ rows → IsMadeMap c Has whole →
     (length whole ≡ cols * rows) × ((p : Place) → (p.row < rows) × (p.col < cols) → Has p (entry_at cols rows whole p))
 map_of_size {X} c cols rows Has whole same_cols same_rows made = (

@@ -1,16 +1,16 @@
-//! Maps of a grid's cells, made tile by tile, one job for each tile.
+//! Makes maps of a grid tile by tile, by one job for each tile.
 //!
-//! [`TileMap`] says what a map has at each place, and [`Crew`] what a stage needs to run jobs.
-//! [`Crew::made`] makes the whole map. Depends on `tiles` and `tile_jobs`.
+//! A [`TileMap`] makes the entries of one tile. A [`Runner`] has what a stage needs to run jobs.
+//! [`Runner::made`] makes the whole map.
 //!
-//! Modules, from what is called to what it depends on:
+//! Modules, callers first:
 //!
-//! - `crew`: runtime, allocator, workers and gate of a stage
-//! - `map`: what a map has in each tile
+//! - `runner`: runtime, allocator, workers and gate of a stage
+//! - `map`: a map's entries, tile by tile
 #![tactic(auto)]
 
-mod crew;
 mod map;
+mod runner;
 
-pub use crew::Crew;
 pub use map::TileMap;
+pub use runner::Runner;

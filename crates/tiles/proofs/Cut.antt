@@ -1,4 +1,4 @@
--- Which tile a place lies in, and the bounds of a tile.
+-- The tile of a place, and the bounds of a tile.
 use Rattle.std.proofs.Common.{◌≡◌, ◌↔◌, ℕ, ◌+◌, ◌-◌, ◌*◌, ◌/◌, ◌%◌, ◌<◌, min, sym, ap, subst, ◌∙◌, arith, mul_comm, true}
 use Rattle.std.proofs.lemmas.Bool.{and_from, and_parts, le-leb, lt-ltb, leb-true, ltb-true}
 use Rattle.std.proofs.lemmas.Nat.{div-mul-add, mod-mul-add, mul-add-lt, div_below, mod_below, div-add-mod'}
@@ -10,7 +10,7 @@ use Rattle.tiles.proofs.Quotients.{piece_begins, piece_of, pieces_some, piece_is
 abbrev pub make_bounds : ℕ → ℕ → ℕ → ℕ → Bounds
 make_bounds top left rows cols = record { top = top; left = left; rows = rows; cols = cols }
 
--- a tile's row and column among the tiles
+-- a tile lies in one of the rows and columns of tiles
 pub tile_row : (t : Cutting) (tile : ℕ) → IsCutting t → tile < tile_count t → tile / across t < down t
 tile_row t tile h l =
     div_below tile (across t) (down t) (pieces_some t.cols t.side h.some_side h.some_col) (omega (arith, mul_comm (across t) (down t)))
@@ -18,7 +18,7 @@ tile_row t tile h l =
 pub tile_col : (t : Cutting) (tile : ℕ) → IsCutting t → tile % across t < across t
 tile_col t tile h = mod_below tile (across t) (pieces_some t.cols t.side h.some_side h.some_col)
 
--- a tile begins in the grid
+-- a tile begins inside the grid
 pub tile_top : (t : Cutting) (tile : ℕ) → IsCutting t → tile < tile_count t → tile / across t * t.side < t.rows
 tile_top t tile h l = piece_begins t.rows t.side (tile / across t) h.some_side (tile_row t tile h l)
 
@@ -40,7 +40,7 @@ bounds_inside t tile h l =
       cols_inside = omega arith;
     }
 
--- the tile of a place stands in the column of its piece
+-- the row and the column of tiles in which a place lies are those of its tile
 pub place_col_piece : (t : Cutting) (p : Place) → IsCutting t → IsWithin t p → p.col / t.side < across t
 place_col_piece t p h w = piece_of t.cols t.side p.col h.some_side w.1
 
@@ -50,7 +50,7 @@ tile_of_place_row t p h w = div-mul-add (p.row / t.side) (across t) (p.col / t.s
 pub tile_of_place_col : (t : Cutting) (p : Place) → IsCutting t → IsWithin t p → tile_of_place t p % across t ≡ p.col / t.side
 tile_of_place_col t p h w = mod-mul-add (p.row / t.side) (across t) (p.col / t.side) (place_col_piece t p h w)
 
--- each place lies in a tile
+-- the tile of a place is one of the grid's
 pub tile_of_place_below : (t : Cutting) (p : Place) → IsCutting t → IsWithin t p → tile_of_place t p < tile_count t
 tile_of_place_below t p h w =
     mul-add-lt (p.row / t.side) (across t) (p.col / t.side) (down t)
@@ -69,7 +69,7 @@ in_bounds t tile p h i =
     let w = i.0 in
     (omega arith, omega arith, omega arith, omega arith)
 
--- the places in a tile's bounds are the tile's
+-- places in a tile's bounds lie in the tile
 pub in_tile : (t : Cutting) (tile : ℕ) (p : Place) → IsCutting t → tile < tile_count t → IsInBounds (bounds_of t tile) p → IsInTile t tile p
 in_tile t tile p h l i =
     let a = tile_top t tile h l in
@@ -79,7 +79,7 @@ in_tile t tile p h l i =
     let e : tile_of_place t p ≡ tile / across t * across t + tile % across t = ap (λ n. n * across t + p.col / t.side) r ∙ ap (λ n. tile / across t * across t + n) c in
     ((omega arith, omega arith), e ∙ div-add-mod' tile (across t))
 
--- the same of bounds that are known to be a tile's
+-- bounds that equal a tile's have a cell, and hold its places
 pub inside_from_value : (t : Cutting) (tile : ℕ) (b : Bounds) → IsCutting t → tile < tile_count t → b ≡ bounds_of t tile → AreBounds t b
 inside_from_value t tile b h l e = subst (λ (z : Bounds). AreBounds t z) (sym e) (bounds_inside t tile h l)
 
@@ -87,7 +87,7 @@ pub places_from_value : (t : Cutting) (tile : ℕ) (b : Bounds) → IsCutting t 
 places_from_value t tile b h l e p =
     (λ i. subst (λ (z : Bounds). IsInBounds z p) (sym e) (in_bounds t tile p h i), λ i. in_tile t tile p h l (subst (λ (z : Bounds). IsInBounds z p) e i))
 
--- bounds whose numbers are a tile's
+-- the bounds that `Tiling::bounds` computes are the tile's
 pub bounds_from : (t : Cutting) (tile a n m : ℕ) → a ≡ across t → n ≡ min t.side (t.rows - tile / a * t.side) → m ≡ min t.side (t.cols - tile % a * t.side) →
     make_bounds (tile / a * t.side) (tile % a * t.side) n m ≡ bounds_of t tile
 bounds_from t tile a n m e f g =
@@ -95,7 +95,7 @@ bounds_from t tile a n m e f g =
     ∙ ap (λ i. make_bounds (tile / a * t.side) (tile % a * t.side) (min t.side (t.rows - tile / a * t.side)) i) g
     ∙ ap (λ i. make_bounds (tile / i * t.side) (tile % i * t.side) (min t.side (t.rows - tile / i * t.side)) (min t.side (t.cols - tile % i * t.side))) e
 
--- whether a place is in bounds, decided
+-- `is_in_bounds` decides `IsInBounds`
 pub in_bounds_parts : (b : Bounds) (p : Place) → is_in_bounds b p ≡ true → IsInBounds b p
 in_bounds_parts b p e =
     let a = and_parts _ _ e in

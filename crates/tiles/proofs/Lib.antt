@@ -1,4 +1,4 @@
--- cutting
+-- tiles of places
 pub mod Quotients
 pub mod Cut
 pub mod TileOrder
@@ -7,7 +7,7 @@ pub mod RimSteps
 pub mod Outer
 pub mod Members
 pub mod RimNumbered
--- views and putting back
+-- views, and the tiles' lists joined
 pub mod SliceGet
 pub mod Shown
 pub mod TileRows

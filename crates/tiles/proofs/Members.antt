@@ -1,4 +1,4 @@
--- Which places stand on a rim, and which touch a place.
+-- Members of lists of places: rims, bounds, and the places around a place.
 use Rattle.std.proofs.Common.{◌≡◌, ◌⊎◌, ℕ, zero, suc, ◌+◌, ◌<◌, ◌≤◌, Bool, true, List, [], ◌∷◌, length, map, filter, Contains, slice_index_or, sym, ap, subst, refl, ◌∙◌, arith, inl, inr}
 use Rattle.std.specs.List.{range_with_len, flat_map}
 use Rattle.std.proofs.lemmas.Bool.{cases_Bool, cases_eq, cond-true, cond-false}
@@ -25,7 +25,7 @@ Contains-cons_cases y xs x h = at_cons y xs x h.0 h.1 h.2
 Contains-nil : {X : Type 0} (x : X) → Contains [] x → ⊥
 Contains-nil x h = absurd (omega (arith, h.1))
 
--- a filter keeps what passes, and nothing else
+-- a filtered list has exactly the members that pass the test
 Contains-filter : {X : Type 0} (test : X → Bool) (xs : List X) (x : X) → Contains xs x → test x ≡ true → Contains (filter test xs) x
 Contains-filter test [] x h e = absurd (Contains-nil x h)
 Contains-filter test (y ∷ ys) x h e =
@@ -54,7 +54,7 @@ Contains-from_filter test (y ∷ ys) x h =
           let r = Contains-from_filter test ys x k in (Contains-there y ys x r.0, r.1)
     ]
 
--- numbers in a row
+-- a range has exactly the numbers from its first to its end
 Contains-range : (a n k : ℕ) → a ≤ k → k < a + n → Contains (range_with_len a n) k
 Contains-range a zero k h l = absurd (omega (arith, h, l))
 Contains-range a (suc n) k h l =
@@ -106,7 +106,7 @@ Contains-from_flat_map f (z ∷ zs) y h =
 abbrev row_places : Bounds → ℕ → List Place
 row_places b r = map (make_place r) (range_with_len b.left b.cols)
 
--- the places in bounds are those that stand in them
+-- `places_in` lists exactly the places in the bounds
 pub Contains-places_in : (b : Bounds) (p : Place) → IsInBounds b p → Contains (places_in b) p
 Contains-places_in b p h =
     Contains-flat_map (row_places b) (range_with_len b.top b.rows) p.row p (Contains-range b.top b.rows p.row h.0 h.1)
@@ -122,7 +122,7 @@ Contains-from_places_in b p h =
     let col : c.0 ≡ p.col = ap (λ (q : Place). q.col) c.2 in
     (omega (arith, row, rows.0), omega (arith, row, rows.1), omega (arith, col, cols.0), omega (arith, col, cols.1))
 
--- a rim has the tile's places that are on the rim
+-- `rim_places` lists exactly the tile's places that are on its rim
 pub Contains-rim_places : (t : Cutting) (tile : ℕ) (p : Place) → IsCutting t → IsInTile t tile p → is_on_rim t p ≡ true → Contains (rim_places t tile) p
 Contains-rim_places t tile p h i e =
     Contains-filter (is_first_or_last (bounds_of t tile)) (places_in (bounds_of t tile)) p (Contains-places_in (bounds_of t tile) p (in_bounds t tile p h i))

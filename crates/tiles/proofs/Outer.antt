@@ -1,16 +1,15 @@
--- The neighbours of a place, way by way.
+-- The places around a place in other tiles, direction by direction.
 use Rattle.std.proofs.Common.{◌≡◌, ℕ, ◌+◌, ◌<◌, Bool, List, [], ◌∷◌, ◌++◌, length, get_or, take, filter, Option, None, Some, ap, refl, ◌∙◌}
 use Rattle.std.specs.Option.{option_to_list}
 use Rattle.std.specs.List.{filter_map}
 use Rattle.std.proofs.lemmas.List.{take_more}
 use Rattle.std.proofs.lemmas.List.Elements.{filter_map-append, filter-append}
 
--- the one that a way has
 pub filter_map_one : {X : Type 0} (o : Option X) → filter_map (λ (x : Option X). x) (o ∷ []) ≡ option_to_list o
 filter_map_one None = refl
 filter_map_one (Some x) = refl
 
--- one more way
+-- the filtered places after one more direction
 pub filter_ways_more : {X : Type 0} (test : X → Bool) (xs : List (Option X)) (way : ℕ) → way < length xs →
     filter test (filter_map (λ (x : Option X). x) (take (way + 1) xs)) ≡ filter test (filter_map (λ (x : Option X). x) (take way xs)) ++ filter test (option_to_list (get_or xs way None))
 filter_ways_more {X} test xs way h =

@@ -1,4 +1,4 @@
--- A list that is put back row by row, and each row tile by tile.
+-- A list of the grid, joined row by row, and each row tile by tile.
 use Rattle.std.proofs.Common.{◌≡◌, ℕ, ◌+◌, ◌-◌, ◌*◌, ◌/◌, ◌%◌, ◌<◌, ◌≤◌, min, List, ◌++◌, length, drop, Option, Some, None, sym, ap, subst, refl, ◌∙◌, arith, inl, inr, slice_get, slice_range, Vec}
 use Rattle.std.specs.declared.alloc.Global.{Global}
 use Rattle.std.specs.Prelude.{option_and_then}
@@ -19,11 +19,11 @@ use Rattle.tiles.proofs.Cut.{in_tile}
 use Rattle.tiles.proofs.TileOrder.{tile_entry-in}
 use Rattle.tiles.proofs.SliceGet.{slice_get-range, slice_get-append_left, slice_get-append_right}
 
--- a row of a tile ends in the tile's list
+-- each row of a tile ends within the tile's list
 pub row_in_list : (b : Bounds) (row n : ℕ) → n ≡ b.rows * b.cols → b.top ≤ row → row < b.top + b.rows → (row - b.top) * b.cols + b.cols ≤ n
 row_in_list b row n e h l = let f = row_fits (row - b.top) b.cols b.rows b.cols (omega arith) (omega arith) in omega (arith, f, e)
 
--- what the tile's list has at a place of the tile
+-- the entry at a place, once its tile's list is known
 pub listed_in : {X : Type 0} (t : Cutting) (lists : List (Vec X Global)) (tile : ℕ) (list : Vec X Global) (p : Place) → tile_of_place t p ≡ tile → slice_get lists tile ≡ Some list →
     listed_at t lists p ≡ slice_get list.items ((p.row - (bounds_of t tile).top) * (bounds_of t tile).cols + (p.col - (bounds_of t tile).left))
 listed_in {X} t lists tile list p e s =
@@ -49,11 +49,11 @@ row_is t lists tile row list part from h l a s top bottom e f =
           ∙ sym (listed_in t lists tile list p i.1 s);
     }
 
--- the tile that a row crosses in one column of tiles
+-- a row and a column of tiles meet in a tile
 pub crossed_below : (t : Cutting) (row column : ℕ) → IsCutting t → row < t.rows → column < across t → row / t.side * across t + column < tile_count t
 crossed_below t row column h r c = mul-add-lt (row / t.side) (across t) column (down t) (piece_of t.rows t.side row h.some_side r) c
 
--- the row is one of that tile's
+-- the tile where a row meets a column of tiles has that row
 pub crossed_at : (t : Cutting) (row column : ℕ) → IsCutting t → row < t.rows → column < across t →
     let b = bounds_of t (row / t.side * across t + column) in (b.top ≤ row) × (row < b.top + b.rows) × (b.left ≡ column * t.side) × (b.cols ≡ min t.side (t.cols - column * t.side))
 crossed_at t row column h r c =
@@ -64,19 +64,19 @@ crossed_at t row column h r c =
     let left : (row / t.side * across t + column) % across t * t.side ≡ column * t.side = ap (λ n. n * t.side) f in
     (omega (arith, top, a.0), omega (arith, top, a.0, a.1), left, ap (λ n. min t.side (t.cols - n)) left)
 
--- how far the list is, once a row has crossed some columns of tiles
-abbrev pub crossed : Cutting → ℕ → ℕ → ℕ
-crossed t row column = row * t.cols + min t.cols (column * t.side)
+-- the length of the joined list, once a row has crossed some columns of tiles
+abbrev pub crossed_length : Cutting → ℕ → ℕ → ℕ
+crossed_length t row column = row * t.cols + min t.cols (column * t.side)
 
-pub crossed_more : (t : Cutting) (row column : ℕ) → IsCutting t → column < across t → crossed t row (column + 1) ≡ row * t.cols + column * t.side + min t.side (t.cols - column * t.side)
+pub crossed_more : (t : Cutting) (row column : ℕ) → IsCutting t → column < across t → crossed_length t row (column + 1) ≡ row * t.cols + column * t.side + min t.side (t.cols - column * t.side)
 crossed_more t row column h c =
     let a = piece_begins t.cols t.side column h.some_side c in omega arith
 
-pub crossed_all : (t : Cutting) (row : ℕ) → IsCutting t → crossed t row (across t) ≡ (row + 1) * t.cols
+pub crossed_all : (t : Cutting) (row : ℕ) → IsCutting t → crossed_length t row (across t) ≡ (row + 1) * t.cols
 crossed_all t row h =
     let a = (div_ceil_times t.cols t.side h.some_side).0 in omega (arith, a)
 
--- the part of a row that lies in one tile
+-- the joined list, with one tile's part of a row appended
 pub IsPutBackBelow-more : {X : Type 0} (t : Cutting) (lists : List (Vec X Global)) (row left width n : ℕ) (whole part : List X) → left + width ≤ t.cols → n ≡ row * t.cols + left → IsPutBackBelow t lists n whole → length part ≡ width →
     ((p : Place) → IsWithin t p → p.row ≡ row → left ≤ p.col → p.col < left + width → slice_get part (p.col - left) ≡ listed_at t lists p) → IsPutBackBelow t lists (n + width) (whole ++ part)
 IsPutBackBelow-more t lists row left width n whole part fits e h size each = record {
@@ -95,31 +95,31 @@ IsPutBackBelow-more t lists row left width n whole part fits e h size each = rec
       ];
 }
 
--- one more tile of a row
+-- the joined list, after one more column of tiles
 pub crosses_more : {X : Type 0} (t : Cutting) (lists : List (Vec X Global)) (row column first : ℕ) (whole part next : List X) → IsCutting t → row < t.rows → column < across t →
-    first ≡ row / t.side * across t → next ≡ whole ++ part → IsPutBackBelow t lists (crossed t row column) whole → IsRowOf t lists (first + column) row part →
-    IsPutBackBelow t lists (crossed t row (column + 1)) next
+    first ≡ row / t.side * across t → next ≡ whole ++ part → IsPutBackBelow t lists (crossed_length t row column) whole → IsRowOf t lists (first + column) row part →
+    IsPutBackBelow t lists (crossed_length t row (column + 1)) next
 crosses_more t lists row column first whole part next h r c e f k is =
     let i : IsRowOf t lists (row / t.side * across t + column) row part = subst (λ n. IsRowOf t lists (n + column) row part) e is in
     let at = crossed_at t row column h r c in
     let begins = piece_begins t.cols t.side column h.some_side c in
     let left = at.2 in
     let width = at.3 in
-    let n : crossed t row column ≡ row * t.cols + column * t.side = omega (arith, begins) in
-    let more : crossed t row column + min t.side (t.cols - column * t.side) ≡ crossed t row (column + 1) = omega (arith, n, crossed_more t row column h c) in
-    subst (λ xs. IsPutBackBelow t lists (crossed t row (column + 1)) xs) (sym f)
+    let n : crossed_length t row column ≡ row * t.cols + column * t.side = omega (arith, begins) in
+    let more : crossed_length t row column + min t.side (t.cols - column * t.side) ≡ crossed_length t row (column + 1) = omega (arith, n, crossed_more t row column h c) in
+    subst (λ xs. IsPutBackBelow t lists (crossed_length t row (column + 1)) xs) (sym f)
     (subst (λ m. IsPutBackBelow t lists m (whole ++ part)) more
-    (IsPutBackBelow-more t lists row (column * t.side) (min t.side (t.cols - column * t.side)) (crossed t row column) whole part (omega (arith, begins)) n k (i.size ∙ width)
+    (IsPutBackBelow-more t lists row (column * t.side) (min t.side (t.cols - column * t.side)) (crossed_length t row column) whole part (omega (arith, begins)) n k (i.size ∙ width)
     (λ p w q a b. ap (λ m. slice_get part (p.col - m)) (sym left) ∙ i.each p w q (omega (arith, left, a)) (omega (arith, left, width, b)))))
 
--- all of it
+-- the list is complete once all rows are appended
 pub IsPutBack-from_below : {X : Type 0} (t : Cutting) (lists : List (Vec X Global)) (whole : List X) → IsPutBackBelow t lists (t.rows * t.cols) whole → IsPutBack t lists whole
 IsPutBack-from_below t lists whole h = record {
   size = h.size ∙ omega arith;
   each = λ p w. h.each p w (omega (arith, mul-add-lt p.row t.cols p.col t.rows w.0 w.1));
 }
 
--- an entry of the whole list is the one that its tile's list has
+-- an entry of the whole list is that of its tile's list
 pub entry_at-put_back : {X : Type 0} (t : Cutting) (lists : List (Vec (Option X) Global)) (whole : List (Option X)) (tile : ℕ) (list : Vec (Option X) Global) (p : Place) → IsPutBack t lists whole → IsInTile t tile p → slice_get lists tile ≡ Some list →
     entry_at t.cols t.rows whole p ≡ tile_entry t tile list.items p
 entry_at-put_back {X} t lists whole tile list p h i s =

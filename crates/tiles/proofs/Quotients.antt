@@ -1,18 +1,18 @@
--- Numbers cut into pieces of one length: which piece, and how many.
+-- Numbers below n cut into pieces of s: the piece of a number, and how many there are.
 use Rattle.std.proofs.Common.{◌≡◌, ℕ, ◌+◌, ◌-◌, ◌*◌, ◌/◌, ◌<◌, ◌≤◌, sym, ap, ◌∙◌, arith, inl, inr}
 use Rattle.std.specs.Int.{div_ceil}
 use Rattle.std.proofs.lemmas.Bool.{cases_lt}
 use Rattle.std.proofs.lemmas.Grind.{div_ceil_times}
 use Rattle.std.proofs.lemmas.Nat.{mul-le, div-mul-add, mod_below, div-add-mod'}
 
--- a piece begins before the end
+-- each piece begins below n
 pub piece_begins : (n s k : ℕ) → 0 < s → k < div_ceil n s → k * s < n
 piece_begins n s k p h =
     let a = div_ceil_times n s p in
     let b = mul-le (k + 1) s (div_ceil n s) s (omega arith) (omega arith) in
     grind (arith, a.1, b)
 
--- what begins before the end is a piece
+-- what begins below n is a piece
 pub piece_counts : (n s k : ℕ) → 0 < s → k * s < n → k < div_ceil n s
 piece_counts n s k p h =
     elim (cases_lt k (div_ceil n s)) [
@@ -21,15 +21,15 @@ piece_counts n s k p h =
           let a = div_ceil_times n s p in let b = mul-le (div_ceil n s) s k s g (omega arith) in absurd (omega (arith, a.0, b))
     ]
 
--- the piece in which a number lies
+-- each number lies in a piece
 pub piece_of : (n s x : ℕ) → 0 < s → x < n → x / s < div_ceil n s
 piece_of n s x p h = piece_counts n s (x / s) p (omega (arith, div-add-mod' x s))
 
--- some piece, where there is a number
+-- there is a piece if n is not 0
 pub pieces_some : (n s : ℕ) → 0 < s → 0 < n → 0 < div_ceil n s
 pieces_some n s p h = piece_counts n s 0 p (omega arith)
 
--- the numbers of a piece
+-- a number between a piece's ends lies in that piece
 pub piece_is : (s k x : ℕ) → k * s ≤ x → x < k * s + s → x / s ≡ k
 piece_is s k x a b =
     let e : k * s + (x - k * s) ≡ x = omega arith in

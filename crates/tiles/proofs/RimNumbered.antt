@@ -1,4 +1,4 @@
--- A cell of a rim and its number.
+-- Rim cells and their numbers.
 use Rattle.std.proofs.Common.{◌≡◌, ◌≢◌, ℕ, ◌+◌, ◌-◌, ◌*◌, ◌/◌, ◌%◌, ◌^◌, ◌<◌, ◌≤◌, true, inl, inr, ap, ◌∙◌, arith, mul_comm, zero-mul}
 use Rattle.std.proofs.Math.Nat.{zero-div, zero-mod, mul-le-mul}
 use Rattle.std.proofs.lemmas.Bool.{cases_eq, or_cases, eqb-true, eq-eqb, ne_eqb, lt-ltb, le-ltb, cond-true, cond-false}
@@ -10,7 +10,7 @@ use Rattle.tiles.specs.Cutting.{Cutting, IsCutting, IsWithin, IsInBounds, across
 use Rattle.tiles.proofs.Cut.{in_bounds, tile_of_place_below}
 use Rattle.tiles.specs.RimNumbers.{stride, side_number, side_place, number_count, rim_number, rim_place}
 
--- the cell lies in the first or last row or column, the last column last
+-- a cell in no first or last row and not in the first column is in the last column
 abbrev pub IsSide : Bounds → Place → Type 0
 IsSide b p = p.row ≢ b.top → p.row + 1 ≢ b.top + b.rows → p.col ≢ b.left → p.col + 1 ≡ b.left + b.cols
 

@@ -1,4 +1,4 @@
--- A rim, from one of its places to the next.
+-- The steps of a rim, from each of its places to the next.
 use Rattle.std.proofs.Common.{◌≡◌, ◌≢◌, ℕ, zero, suc, ◌+◌, ◌-◌, ◌<◌, ◌≤◌, Bool, true, false, List, ◌∷◌, ◌++◌, map, filter, sym, ap, subst, refl, ◌∙◌, arith}
 use Rattle.std.specs.List.{range_with_len, flat_map}
 use Rattle.std.proofs.lemmas.Bool.{cond-true, cond-false}
@@ -9,19 +9,19 @@ use Rattle.tiles.specs.declared.bounds.Bounds.{Bounds}
 use Rattle.tiles.specs.Cutting.{is_first_or_last, places_in}
 use Rattle.tiles.specs.RimLeft.{rim_from}
 
--- n places of a row, from one column on
+-- n places of a row, from column c on
 abbrev pub row_from : ℕ → ℕ → ℕ → List Place
 row_from r c n = map (make_place r) (range_with_len c n)
 
--- n rows of the bounds, from one row on
+-- the places of n rows of the bounds, from row r on
 abbrev pub rows_from : Bounds → ℕ → ℕ → List Place
 rows_from b r n = flat_map (λ s. row_from s b.left b.cols) (range_with_len r n)
 
--- the first place passes
+-- a filter keeps a first place that passes
 pub filter_first : (test : Place → Bool) (r c n : ℕ) (rest : List Place) → test (make_place r c) ≡ true → filter test (row_from r c (suc n) ++ rest) ≡ make_place r c ∷ filter test (row_from r (c + 1) n ++ rest)
 filter_first test r c n rest e = cond-true _ _ _ e
 
--- the first k places don't
+-- a filter drops the first k places if none passes
 pub filter_skip : (test : Place → Bool) (r c k m n d : ℕ) (rest : List Place) → n ≡ k + m → d ≡ c + k → ((j : ℕ) → j < k → test (make_place r (c + j)) ≡ false) → filter test (row_from r c n ++ rest) ≡ filter test (row_from r d m ++ rest)
 filter_skip test r c zero m n d rest e f none =
     let e' : n ≡ m = omega arith in
@@ -38,7 +38,7 @@ filter_skip test r c (suc k) m n d rest e f none =
     ∙ cond-false _ _ _ first
     ∙ filter_skip test r (c + 1) k m (k + m) d rest refl (omega arith) others
 
--- all of the rim is left at its first place
+-- from the first place on, the whole rim is left
 pub rim_start : (b : Bounds) → 1 ≤ b.rows → rim_from b (make_place b.top b.left) ≡ filter (is_first_or_last b) (places_in b)
 rim_start b h =
     let test = is_first_or_last b in
@@ -49,7 +49,7 @@ rim_start b h =
     ∙ ap (λ i. filter test (row_from b.top b.left b.cols ++ rows_from b (b.top + 1) i)) m
     ∙ ap (λ i. filter test (rows_from b b.top i)) e
 
--- from the end of a row to the next
+-- the step from the end of a row to the start of the next
 pub rim_row_end : (b : Bounds) (p : Place) → p.col + 1 ≡ b.left + b.cols → p.row + 1 < b.top + b.rows → is_first_or_last b p ≡ true → rim_from b p ≡ p ∷ rim_from b (make_place (p.row + 1) b.left)
 rim_row_end b p h l e =
     let test = is_first_or_last b in
@@ -61,11 +61,11 @@ rim_row_end b p h l e =
     ∙ ap (λ i. p ∷ filter test (rows_from b (p.row + 1) i)) m
     ∙ ap (λ i. p ∷ filter test (row_from (p.row + 1) b.left i ++ rows_from b (p.row + 1 + 1) (b.top + b.rows - (p.row + 1 + 1)))) w
 
--- a place inside isn't on the rim
+-- a place in no first or last row or column is not on the rim
 pub inside_fails : (b : Bounds) (r c : ℕ) → r ≢ b.top → r + 1 ≢ b.top + b.rows → c ≢ b.left → c + 1 ≢ b.left + b.cols → is_first_or_last b (make_place r c) ≡ false
 inside_fails b r c h i j k = grind (arith, nat_tests, h, i, j, k)
 
--- from the first place of a row inside to its last
+-- the step across an inner row, from its first place to its last
 pub rim_across : (b : Bounds) (p : Place) (last : ℕ) → p.col ≡ b.left → last + 1 ≡ b.left + b.cols → p.col < last → p.row ≢ b.top → p.row + 1 ≢ b.top + b.rows → is_first_or_last b p ≡ true → rim_from b p ≡ p ∷ rim_from b (make_place p.row last)
 rim_across b p last left l h top bottom e =
     let test = is_first_or_last b in
@@ -83,6 +83,6 @@ rim_across b p last left l h top bottom e =
     ∙ ap (λ xs. p ∷ xs) (filter_skip test p.row (p.col + 1) (last - (p.col + 1)) 1 (last - p.col) last rest skipped end none)
     ∙ ap (λ i. p ∷ filter test (row_from p.row last i ++ rest)) (sym m)
 
--- a place of the rim in no other of the rim's rows and columns stands in the first column
+-- a rim place in neither the first nor last row nor the last column is in the first column
 pub in_first_col : (b : Bounds) (p : Place) → is_first_or_last b p ≡ true → p.row ≢ b.top → p.row + 1 ≢ b.top + b.rows → p.col + 1 ≢ b.left + b.cols → p.col ≡ b.left
 in_first_col b p e h i j = grind (arith, nat_tests, e, h, i, j)

@@ -1,4 +1,4 @@
--- Where the cells that a view shows stand in the list of the grid.
+-- The indices in the grid's list of the cells that a view shows.
 use Rattle.std.proofs.Common.{◌≡◌, ℕ, ◌+◌, ◌*◌, ◌<◌, ◌≤◌, ◌-◌, true, length, get_or, drop, ap, ◌∙◌, arith}
 use Rattle.std.proofs.lemmas.Bool.{and_parts, ltb-true}
 use Rattle.std.proofs.lemmas.List.{get_or-take, get_or-drop}
@@ -9,7 +9,7 @@ use Rattle.terrain.proofs.Places.{make_place}
 use Rattle.tiles.specs.declared.bounds.Bounds.{Bounds}
 use Rattle.tiles.specs.Cutting.{Cutting, IsWithin, View, IsView, AreBounds, bounds_of, is_shown, row_shown}
 
--- a row of a tile ends in the list
+-- each row of a tile ends within the grid's list
 pub row_end : (t : Cutting) (b : Bounds) (i : ℕ) → AreBounds t b → i < b.rows → (b.top + i) * t.cols + b.left + b.cols ≤ t.cols * t.rows
 row_end t b i h l =
     let r = h.rows_inside in
@@ -17,7 +17,7 @@ row_end t b i h l =
     let k : b.top + i < t.rows = omega arith in
     let f = row_fits (b.top + i) t.cols t.rows t.cols k (omega arith) in grind (arith, f, c)
 
--- a shown place is in the grid
+-- a shown place is inside the grid
 pub shown_within : (t : Cutting) (tile : ℕ) (p : Place) → is_shown t tile p ≡ true → IsWithin t p
 shown_within t tile p e =
     let a = and_parts _ _ e in
@@ -26,13 +26,13 @@ shown_within t tile p e =
     let d = and_parts _ _ c.0 in
     let w = and_parts _ _ d.0 in (ltb-true _ _ w.0, ltb-true _ _ w.1)
 
--- a shown place stands in the list
+-- a shown place has an index in the grid's list
 pub shown_index : {X : Type 0} (v : View X) (p : Place) → IsView v → is_shown v.cutting v.tile p ≡ true → index_of v.cutting.cols p < length v.cells
 shown_index v p h e =
     let w = shown_within v.cutting v.tile p e in
     let l = mul-add-lt p.row v.cutting.cols p.col v.cutting.rows w.0 w.1 in let s = h.size in omega (arith, l, s)
 
--- the cell of a row in one column of the tile
+-- the cell in one column of a row of the tile
 pub get_or-row_shown : {X : Type 0} (v : View X) (i j : ℕ) (d : X) → j < (bounds_of v.cutting v.tile).cols →
     get_or (row_shown v i) j d ≡ get_or v.cells (index_of v.cutting.cols (make_place ((bounds_of v.cutting v.tile).top + i) ((bounds_of v.cutting v.tile).left + j))) d
 get_or-row_shown v i j d h =

@@ -1,10 +1,9 @@
--- `slice_get` in a part of a list, and in two lists one after another.
+-- `slice_get` of a part of a list, and of two lists appended.
 use Rattle.std.proofs.lemmas.Grind.{common_steps}
 use Rattle.std.proofs.lemmas.Option.{gets}
 use Rattle.std.proofs.lemmas.List.{get_or-take, get_or-drop, length-take, length-drop, get_or_append_left, get_or-append-add, length-append}
 use Rattle.std.proofs.Common.{◌≡◌, ℕ, ◌+◌, ◌-◌, ◌<◌, List, ◌++◌, length, arith, slice_get, slice_range}
 
--- an element of a part
 pub slice_get-range : {X : Type 0} (xs : List X) (a b i k : ℕ) → i < b - a → k ≡ a + i → slice_get (slice_range xs a b) i ≡ slice_get xs k
 slice_get-range xs a b i k h e = grind (arith, common_steps, gets, get_or-take, get_or-drop, length-take, length-drop)
 

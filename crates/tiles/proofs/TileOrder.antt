@@ -1,4 +1,4 @@
--- The row order of a tile: which place stands at an index, and at which index a place stands.
+-- The row order of a tile: its places by index, and their indices.
 use Rattle.std.proofs.Common.{◌≡◌, ℕ, ◌+◌, ◌-◌, ◌*◌, ◌/◌, ◌%◌, ◌<◌, ◌≤◌, List, get_or, Option, None, Some, inl, inr, sym, ap, ◌∙◌, arith, mul_comm}
 use Rattle.std.proofs.lemmas.Bool.{cases_Bool, cond-true, cond-false, and_from, lt-ltb}
 use Rattle.std.proofs.lemmas.Bool.Decides.{nat_tests}
@@ -31,7 +31,7 @@ place_in-index_in b p h =
     (ap (λ n. b.top + n) (div-mul-add (p.row - b.top) b.cols (p.col - b.left) c) ∙ omega arith)
     (ap (λ n. b.left + n) (mod-mul-add (p.row - b.top) b.cols (p.col - b.left) c) ∙ omega arith)
 
--- what a list in the row order of bounds has at a place of them; it has nothing at any other
+-- a list in the row order of bounds has entries exactly at their places
 pub entry_in-inside : {X : Type 0} (b : Bounds) (entries : List (Option X)) (p : Place) → IsInBounds b p → entry_in b entries p ≡ get_or entries (index_in b p) None
 entry_in-inside b entries p h = cond-true _ _ _ (in_bounds_from b p h)
 
@@ -41,7 +41,7 @@ bounds_from_entry b entries p x e = elim (cases_Bool (is_in_bounds b p)) [
   | inr outside ↦ absurd (none-some x (sym (cond-false _ _ _ outside) ∙ e))
 ]
 
--- the same of a tile
+-- the place at an index of a tile's row order lies in the tile
 pub place_in_tile : (t : Cutting) (tile i : ℕ) → IsCutting t → tile < tile_count t → i < cell_count t tile → IsInTile t tile (place_in (bounds_of t tile) i)
 place_in_tile t tile i h l k =
     in_tile t tile (place_in (bounds_of t tile) i) h l (place_in_bounds (bounds_of t tile) i (bounds_inside t tile h l).some_col k)
@@ -49,7 +49,7 @@ place_in_tile t tile i h l k =
 pub index_in_tile_is : (t : Cutting) (tile : ℕ) (p : Place) → tile_of_place t p ≡ tile → index_in_tile t p ≡ index_in (bounds_of t tile) p
 index_in_tile_is t tile p e = ap (λ n. index_in (bounds_of t n) p) e
 
--- what a list in a tile's row order has at one of the tile's places, and at any other
+-- a list in a tile's row order has entries exactly at the tile's places
 pub tile_entry-in : {X : Type 0} (t : Cutting) (tile : ℕ) (entries : List (Option X)) (p : Place) → IsInTile t tile p → tile_entry t tile entries p ≡ get_or entries (index_in (bounds_of t tile) p) None
 tile_entry-in t tile entries p i =
     let within = and_from _ _ (lt-ltb _ _ i.0.0) (lt-ltb _ _ i.0.1) in

@@ -1,17 +1,22 @@
--- A list of the whole grid while it is put back. Only the contracts of private functions speak of it.
+-- A grid's list while it is joined from its tiles' lists. Source: this project.
+-- Private.
 use Rattle.std.specs.Prelude.{◌≡◌, ℕ, ◌+◌, ◌-◌, ◌<◌, ◌≤◌, List, length, slice_get, Vec}
 use Rattle.std.specs.declared.alloc.Global.{Global}
 use Rattle.terrain.specs.Neighbours.{index_of}
 use Rattle.terrain.specs.declared.place.Place.{Place}
 use Rattle.tiles.specs.Cutting.{Cutting, IsWithin, bounds_of, listed_at}
 
--- The first n entries are put back.
-pub record IsPutBackBelow {X : Type 0} (t : Cutting) (lists : List (Vec X Global)) (n : ℕ) (whole : List X) : Type 0 where
+-- The list has the first n entries of the grid, each from the list of its tile.
+pub record IsPutBackBelow {X : Type 0} (t : Cutting) (lists : List (Vec X Global)) (n : ℕ)
+    (whole : List X) : Type 0 where
   pub size : length whole ≡ n
-  pub each : (p : Place) → IsWithin t p → index_of t.cols p < n → slice_get whole (index_of t.cols p) ≡ listed_at t lists p
+  pub each : (p : Place) → IsWithin t p → index_of t.cols p < n →
+      slice_get whole (index_of t.cols p) ≡ listed_at t lists p
 
--- The part that a tile's list has of a row of the grid.
-pub record IsRowOf {X : Type 0} (t : Cutting) (lists : List (Vec X Global)) (tile row : ℕ) (part : List X) : Type 0 where
+-- The entries of a tile's list that lie in one row of the grid.
+pub record IsRowOf {X : Type 0} (t : Cutting) (lists : List (Vec X Global)) (tile row : ℕ)
+    (part : List X) : Type 0 where
   pub size : length part ≡ (bounds_of t tile).cols
-  pub each : (p : Place) → IsWithin t p → p.row ≡ row → (bounds_of t tile).left ≤ p.col → p.col < (bounds_of t tile).left + (bounds_of t tile).cols →
+  pub each : (p : Place) → IsWithin t p → p.row ≡ row → (bounds_of t tile).left ≤ p.col →
+      p.col < (bounds_of t tile).left + (bounds_of t tile).cols →
       slice_get part (p.col - (bounds_of t tile).left) ≡ listed_at t lists p

@@ -1,21 +1,23 @@
--- What is left of a rim. Only the contracts of private functions speak of it.
+-- The rest of a rim, from one of its places on. Source: this project.
+-- Public.
 use Rattle.std.specs.Prelude.{◌≡◌, ◌+◌, ◌-◌, ◌<◌, ◌≤◌, IsTrue, List, ◌++◌, map, filter}
 use Rattle.std.specs.List.{range_with_len, flat_map}
 use Rattle.terrain.specs.declared.place.Place.{Place}
 use Rattle.tiles.specs.declared.bounds.Bounds.{Bounds}
 use Rattle.tiles.specs.Cutting.{is_first_or_last, longest_axis}
 
--- The places in bounds from this one on, in row order.
+-- The places in bounds from one on, in row order.
 abbrev pub places_from : Bounds → Place → List Place
 places_from b p =
     map (λ c. record { row = p.row; col = c }) (range_with_len p.col (b.left + b.cols - p.col))
-    ++ flat_map (λ r. map (λ c. record { row = r; col = c }) (range_with_len b.left b.cols)) (range_with_len (p.row + 1) (b.top + b.rows - (p.row + 1)))
+    ++ flat_map (λ r. map (λ c. record { row = r; col = c }) (range_with_len b.left b.cols))
+    (range_with_len (p.row + 1) (b.top + b.rows - (p.row + 1)))
 
--- The places of the rim from this one on.
+-- The places of the rim from one on, in row order.
 abbrev pub rim_from : Bounds → Place → List Place
 rim_from b p = filter (is_first_or_last b) (places_from b p)
 
--- The place is one of the rim, or past the end of the last row, where the rim is over.
+-- The place is on the rim, or one column past the end of the last row, where the rim ends.
 pub record IsRimState (b : Bounds) (p : Place) : Type 0 where
   pub some_row : 1 ≤ b.rows
   pub some_col : 1 ≤ b.cols

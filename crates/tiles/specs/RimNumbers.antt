@@ -1,14 +1,16 @@
--- Numbers for the cells on the rims of all tiles.
+-- Numbers for the rim cells of all tiles. Source: this project.
+-- Public.
 use Rattle.std.specs.Prelude.{ℕ, ◌+◌, ◌-◌, ◌*◌, ◌/◌, ◌%◌, ◌==◌, nat_lt, if◌then◌else◌}
 use Rattle.terrain.specs.declared.place.Place.{Place}
 use Rattle.tiles.specs.declared.bounds.Bounds.{Bounds}
 use Rattle.tiles.specs.Cutting.{Cutting, bounds_of, tile_count, tile_of_place}
 
--- How many numbers a tile has, where these are the bounds of the largest.
+-- How many numbers each tile has, from the bounds of the largest.
 abbrev pub stride : Bounds → ℕ
 stride largest = 2 * largest.cols + 2 * largest.rows
 
--- The number of a cell in its tile: along the first row, the last row, the first column and the last column.
+-- The number of a rim cell within its tile, along first row, last row, first column, last column;
+-- and the cell of a number.
 abbrev pub side_number : Bounds → Bounds → Place → ℕ
 side_number largest b p =
     if p.row == b.top then p.col - b.left
@@ -19,18 +21,22 @@ side_number largest b p =
 abbrev pub side_place : Bounds → Bounds → ℕ → Place
 side_place largest b i =
     if nat_lt i largest.cols then record { row = b.top; col = b.left + i }
-    else if nat_lt i (2 * largest.cols) then record { row = b.top + b.rows - 1; col = b.left + (i - largest.cols) }
-    else if nat_lt i (2 * largest.cols + largest.rows) then record { row = b.top + (i - 2 * largest.cols); col = b.left }
+    else if nat_lt i (2 * largest.cols)
+    then record { row = b.top + b.rows - 1; col = b.left + (i - largest.cols) }
+    else if nat_lt i (2 * largest.cols + largest.rows)
+    then record { row = b.top + (i - 2 * largest.cols); col = b.left }
     else record { row = b.top + (i - (2 * largest.cols + largest.rows)); col = b.left + b.cols - 1 }
 
--- No tile is larger than the first.
+-- How many numbers all tiles have. No tile is larger than the first.
 abbrev pub number_count : Cutting → ℕ
 number_count t = tile_count t * stride (bounds_of t 0)
 
--- The number of a rim cell, and the cell of a number; some numbers stand for no cell of a rim.
+-- The number of a rim cell, and the rim cell of a number. Some numbers have no rim cell.
 abbrev pub rim_number : Cutting → Place → ℕ
 rim_number t p =
-    tile_of_place t p * stride (bounds_of t 0) + side_number (bounds_of t 0) (bounds_of t (tile_of_place t p)) p
+    tile_of_place t p * stride (bounds_of t 0)
+    + side_number (bounds_of t 0) (bounds_of t (tile_of_place t p)) p
 
 abbrev pub rim_place : Cutting → ℕ → Place
-rim_place t i = side_place (bounds_of t 0) (bounds_of t (i / stride (bounds_of t 0))) (i % stride (bounds_of t 0))
+rim_place t i = side_place (bounds_of t 0) (bounds_of t (i / stride (bounds_of t 0)))
+    (i % stride (bounds_of t 0))

@@ -1,4 +1,4 @@
-//! Where a tile lies, how large it is, and where a place is in its row order.
+//! The position and size of a tile, and the row order of its places.
 ghost use Rattle.std.specs.Prelude.{◌≡◌, ◌*◌, ◌<◌};
 ghost use Rattle.tiles.specs.Cutting.{is_first_or_last, index_in, place_in, IsInBounds, IsWithinLimits, is_in_bounds};
 
@@ -14,7 +14,7 @@ pub struct Bounds {
 }
 
 impl Bounds {
-    /// Whether a place lies in these bounds.
+    /// Returns whether `place` lies in these bounds.
     #[inline(always)]
     pub fn contains(self, place: Place) -> bool
         requires { IsWithinLimits self }
@@ -26,7 +26,7 @@ impl Bounds {
             && place.col < self.left + self.cols
     }
 
-    /// Where a place of these bounds stands in their row order.
+    /// Returns the index of `place` in the row order of these bounds.
     #[inline(always)]
     pub fn index_of(self, place: Place) -> usize
         requires limits { IsWithinLimits self }
@@ -37,7 +37,7 @@ impl Bounds {
         (place.row - self.top) as usize * self.cols as usize + (place.col - self.left) as usize
     }
 
-    /// The place that stands at an index of their row order.
+    /// Returns the place at `index` in the row order of these bounds.
     #[inline(always)]
     pub fn place_at(self, index: u32) -> Place
         requires limits { IsWithinLimits self }
@@ -51,7 +51,7 @@ impl Bounds {
         }
     }
 
-    /// Whether a place of these bounds lies in their first or last row or column.
+    /// Returns whether `place` is in the first or last row or column of these bounds.
     #[inline(always)]
     pub(crate) fn is_first_or_last(self, place: Place) -> bool
         requires { IsInBounds self place }

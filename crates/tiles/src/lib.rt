@@ -1,16 +1,16 @@
-//! Cuts a grid into square tiles, and puts the tiles' lists back into one.
+//! Cuts a grid into square tiles, and joins the tiles' lists into one of the grid.
 //!
-//! Begin with [`Tiling`]: [`Tiling::bounds`], [`Tiling::view`] and [`Tiling::put_back`]. Tiles are
-//! numbered in row order.
+//! Begin with [`Tiling`]: [`Tiling::bounds`], [`Tiling::view`] and [`Tiling::put_back`].
+//! Tiles are numbered in row order.
 //!
-//! Modules, from what is called to what it depends on:
+//! Modules, callers first:
 //!
-//! - `tiling`: the cutting, and lists put back
-//! - `bounds`: where a tile lies
+//! - `tiling`: a grid cut into tiles, and the tiles' lists joined
+//! - `bounds`: the position and size of a tile
 //! - `rim`: a tile's outermost cells
-//! - `rim_numbers`: numbers for all rim cells
-//! - `view`: a borrowed view of a tile
-//! - `slices`: parts of slices
+//! - `rim_numbers`: numbers for the rim cells of all tiles
+//! - `view`: a borrowed view of a tile and the cells next to it
+//! - `slices`: parts and elements of slices
 #![tactic(auto)]
 
 mod bounds;

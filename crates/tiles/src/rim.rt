@@ -8,12 +8,12 @@ use crate::bounds::Bounds;
 use std::marker::Model;
 use terrain::Place;
 
-/// The rim of a tile, place by place in row order: its first and last row and column, each place once.
-/// It takes no memory.
+/// An iterator over a tile's rim: its first and last row and column.
+/// Yields each place once, in row order. Allocates nothing.
 #[derive(Drop)]
 pub struct Rim {
     bounds: Bounds,
-    // The place that comes next; the column past the end of the last row, where none is left.
+    // The next place; once all are yielded, one column past the end of the last row.
     next: Place,
 }
 
@@ -30,7 +30,7 @@ impl Model for Rim {
 }
 
 impl Rim {
-    /// The rim of a tile with these bounds.
+    /// Returns an iterator over the rim of these bounds.
     #[tactic(auto, using(crate::proofs::RimSteps::rim_start))]
     pub(crate) fn of_bounds(bounds: Bounds) -> Self
         requires rows { (1 ≤ bounds.rows) × (bounds.top + bounds.rows ≤ longest_axis) }
@@ -65,7 +65,7 @@ impl Iterator for Rim {
     }
 }
 
-/// The place of the rim after this one, in row order.
+/// Returns the rim's next place; after the last, one column past its row's end.
 #[inline(always)]
 fn next_on_rim(bounds: Bounds, place: Place) -> Place
     requires state { IsRimState bounds place }

@@ -1,7 +1,7 @@
-//! Numbers for the cells on the rims of all tiles, without a table.
+//! Numbers for the rim cells of all tiles, computed without a table.
 //!
-//! Each tile has as many as the largest tile's rim; some stand for no cell. `flow` links rim cells
-//! by them.
+//! Each tile has as many numbers as two rows and two columns of the largest tile have cells, so
+//! some numbers have no cell. `flow` links rim cells by them.
 ghost use Rattle.std.specs.Prelude.{◌≡◌, ◌+◌, ◌*◌, ◌^◌, ◌<◌, ◌≤◌, true};
 ghost use Rattle.tiles.specs.Cutting.{IsInBounds, IsWithin, IsWithinLimits, bounds_of, is_on_rim, tile_count};
 ghost use Rattle.tiles.specs.RimNumbers.{stride, side_number, side_place, number_count, rim_number, rim_place};
@@ -11,7 +11,7 @@ use crate::tiling::Tiling;
 use terrain::Place;
 
 impl Tiling {
-    /// How many numbers there are: for each tile as many as two rows and two columns of the first have cells.
+    /// Returns how many rim numbers all tiles have.
     pub fn number_count(&self) -> u32
         ensures value { result ≡ number_count self.now }
         ensures few { result ≤ 2 ^ 30 }
@@ -19,7 +19,7 @@ impl Tiling {
         self.tiles() * self.bounds(0).side_count()
     }
 
-    /// The first number of a tile, and how many it has.
+    /// Returns the first rim number of a tile, and how many the tile has.
     pub fn numbers_of(&self, tile: u32) -> (u32, u32)
         requires { tile < tile_count self.now }
         ensures first { result.0 ≡ tile * stride (bounds_of self.now 0) }
@@ -30,7 +30,8 @@ impl Tiling {
         (tile * count, count)
     }
 
-    /// The number of a rim cell, which leads back to it. A cell that is on no rim has that of another.
+    /// Returns the number of a rim cell. [`rim_place`](Self::rim_place) inverts it.
+    /// A cell on no rim gets the number of the rim cell at the east end of its row in the tile.
     pub fn rim_number(&self, place: Place) -> u32
         requires { IsWithin self.now place }
         ensures value { result ≡ rim_number self.now place }
@@ -42,7 +43,7 @@ impl Tiling {
         tile * largest.side_count() + self.bounds(tile).side_number(largest, place)
     }
 
-    /// The cell of a number. Some numbers stand for no cell of a rim.
+    /// Returns the rim cell of `number`. Numbers without a cell give some other place.
     pub fn rim_place(&self, number: u32) -> Place
         requires { number < number_count self.now }
         ensures { result ≡ rim_place self.now number }
@@ -54,7 +55,7 @@ impl Tiling {
 }
 
 impl Bounds {
-    /// How many numbers the cells of the first and last row and column have, where no bounds are larger than these.
+    /// Returns how many rim numbers a tile has, where no tile is larger than `self`.
     pub fn side_count(self) -> u32
         requires { IsWithinLimits self }
         ensures value { result ≡ stride self }
@@ -63,8 +64,8 @@ impl Bounds {
         2 * self.cols + 2 * self.rows
     }
 
-    /// The number of a cell along the first row, the last row, the first column and the last column, where no bounds are
-    /// larger than the largest.
+    /// Returns a rim cell's number in its tile, where no tile is larger than `largest`.
+    /// Counts along the first row, the last row, the first column, then the last column.
     pub fn side_number(self, largest: Bounds, place: Place) -> u32
         requires largest { IsWithinLimits largest }
         requires limits { IsWithinLimits self }
@@ -82,7 +83,7 @@ impl Bounds {
         }
     }
 
-    /// The cell of a number along the first row, the last row, the first column and the last column.
+    /// Returns the rim cell of a number of [`side_number`](Self::side_number).
     pub fn side_place(self, largest: Bounds, number: u32) -> Place
         requires largest { IsWithinLimits largest }
         requires limits { IsWithinLimits self }

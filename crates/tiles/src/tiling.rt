@@ -1,7 +1,6 @@
-//! The cutting of a grid: each place has one tile.
+//! A grid cut into tiles: each place has one tile.
 //!
-//! [`Tiling::new`] refuses a bad side or too many tiles; [`Tiling::put_back`] joins the tiles'
-//! lists.
+//! [`Tiling::put_back`] joins the tiles' lists into one of the grid.
 ghost use Rattle.std.specs.Prelude.{◌≡◌, ◌↔◌, ◌⊎◌, ◌+◌, ◌*◌, ◌/◌, ◌<◌, ◌≤◌, ◌++◌, filter, length, IfOk, OnOk, Err};
 ghost use Rattle.std.specs.Option.{option_to_list};
 ghost use Rattle.smallvec.specs.SmallVec.{HasRoomFor, small_vec_len};
@@ -23,7 +22,7 @@ const LONGEST_SIDE: u32 = 4_096;
 
 const MOST_TILES: u32 = 65_536;
 
-/// Why a grid is not cut so.
+/// Why a tiling is refused.
 #[derive(Clone, Copy, Debug, PartialEq, Eq)]
 pub enum TilingFault {
     /// The side is 0 or above 4,096.
@@ -32,14 +31,14 @@ pub enum TilingFault {
     TooManyTiles,
 }
 
-/// A grid cut into square tiles, which are numbered in row order. The tiles at the east and south ends
-/// may be smaller.
+/// A grid cut into square tiles, numbered in row order.
+/// The tiles at the east and south ends may be smaller.
 #[derive(Clone, Copy, Debug, PartialEq, Eq)]
 pub struct Tiling {
     cols: u32,
     rows: u32,
     side: u32,
-    // How many tiles stand in a row of tiles.
+    // The number of tiles in a row of tiles.
     across: u32,
 }
 
@@ -56,21 +55,40 @@ impl Model for Tiling {
     ghost invariant = { λ t. IsCutting (record { cols = t.cols; rows = t.rows; side = t.side })
         × (t.across ≡ div_ceil t.cols t.side) };
 
-    ghost inverse = { λ t. record { cols = t.cols; rows = t.rows; side = t.side; across = div_ceil t.cols t.side } };
+    ghost inverse = { λ t. record {
+      cols = t.cols;
+      rows = t.rows;
+      side = t.side;
+      across = div_ceil t.cols t.side;
+    } };
 
-    ghost inverse_ok = { λ a h. ap (λ n. record { cols = a.cols; rows = a.rows; side = a.side; across = n }) (sym h.1) };
+    ghost inverse_ok = { λ a h. ap
+        (λ n. record { cols = a.cols; rows = a.rows; side = a.side; across = n }) (sym h.1) };
 }
 
 impl Tiling {
-    /// Cuts a grid of this size into tiles of this side. A bad side is refused first, and then too many
-    /// tiles.
+    /// Cuts a grid of `cols` by `rows` cells into tiles of `side` by `side` cells.
+    ///
+    /// # Errors
+    ///
+    /// [`TilingFault::BadSide`] if `side` is 0 or above 4,096; else [`TilingFault::TooManyTiles`]
+    /// if there would be more than 65,536 tiles.
+    ///
+    /// # Examples
+    ///
+    /// ```ignore
+    /// let tiling = Tiling::new(5, 3, 2)?;
+    /// assert_eq!(tiling.tiles(), 6);
+    /// ```
     pub fn new(cols: u32, rows: u32, side: u32) -> Result<Self, TilingFault>
         requires cols { (1 ≤ cols) × (cols ≤ longest_axis) }
         requires rows { (1 ≤ rows) × (rows ≤ longest_axis) }
         ensures ok { IfOk result (λ t. t ≡ record { cols = cols; rows = rows; side = side }) }
-        ensures bad_side { (result ≡ Err TilingFault.BadSide) ↔ ((side ≡ 0) ⊎ (longest_side < side)) }
+        ensures bad_side { (result ≡ Err TilingFault.BadSide)
+            ↔ ((side ≡ 0) ⊎ (longest_side < side)) }
         ensures too_many { (result ≡ Err TilingFault.TooManyTiles)
-            ↔ ((1 ≤ side) × (side ≤ longest_side) × (most_tiles < div_ceil cols side * div_ceil rows side)) }
+            ↔ ((1 ≤ side) × (side ≤ longest_side)
+            × (most_tiles < div_ceil cols side * div_ceil rows side)) }
     {
         if side == 0 || side > LONGEST_SIDE {
             return Err(TilingFault::BadSide);
@@ -87,7 +105,7 @@ impl Tiling {
         })
     }
 
-    /// How many columns the grid has.
+    /// Returns the number of columns of the grid.
     #[inline(always)]
     pub fn cols(&self) -> u32
         ensures value { result ≡ self.now.cols }
@@ -96,7 +114,7 @@ impl Tiling {
         self.cols
     }
 
-    /// How many rows the grid has.
+    /// Returns the number of rows of the grid.
     #[inline(always)]
     pub fn rows(&self) -> u32
         ensures value { result ≡ self.now.rows }
@@ -105,7 +123,7 @@ impl Tiling {
         self.rows
     }
 
-    /// How many tiles there are.
+    /// Returns the number of tiles.
     pub fn tiles(&self) -> u32
         ensures value { result ≡ tile_count self.now }
         ensures some { 1 ≤ result }
@@ -114,7 +132,7 @@ impl Tiling {
         self.across * self.rows.div_ceil(self.side)
     }
 
-    /// The tile in which a place lies.
+    /// Returns the number of the tile that holds `place`.
     #[inline(always)]
     pub fn tile_of(&self, place: Place) -> u32
         requires { IsWithin self.now place }
@@ -125,7 +143,7 @@ impl Tiling {
         place.row / self.side * self.across + place.col / self.side
     }
 
-    /// How many tiles stand in a row of tiles.
+    /// Returns the number of tiles in a row of tiles.
     #[inline(always)]
     fn across(&self) -> u32
         ensures value { result ≡ across self.now }
@@ -134,7 +152,7 @@ impl Tiling {
         self.across
     }
 
-    /// The first of the tiles that a row crosses.
+    /// Returns the first tile that a row of the grid crosses.
     #[inline(always)]
     fn first_tile(&self, row: u32) -> u32
         requires { row < self.now.rows }
@@ -143,7 +161,7 @@ impl Tiling {
         row / self.side * self.across
     }
 
-    /// The first row and column of a tile, and its size. The tile's places are those in the bounds.
+    /// Returns the bounds of a tile, which hold exactly the tile's places.
     pub fn bounds(&self, tile: u32) -> Bounds
         requires { tile < tile_count self.now }
         ensures value { result ≡ bounds_of self.now tile }
@@ -161,7 +179,7 @@ impl Tiling {
         }
     }
 
-    /// Whether a place lies in the first or last row or column of its tile.
+    /// Returns whether `place` is in the first or last row or column of its tile.
     pub fn on_rim(&self, place: Place) -> bool
         requires { IsWithin self.now place }
         ensures { result ≡ is_on_rim self.now place }
@@ -169,7 +187,7 @@ impl Tiling {
         self.bounds(self.tile_of(place)).is_first_or_last(place)
     }
 
-    /// The first and last row and column of a tile, each place once, in row order.
+    /// Returns an iterator over the rim of a tile, in row order.
     pub fn rim(&self, tile: u32) -> Rim
         requires { tile < tile_count self.now }
         ensures { result ≡ rim_places self.now tile }
@@ -177,8 +195,8 @@ impl Tiling {
         Rim::of_bounds(self.bounds(tile))
     }
 
-    /// The places next to this one, at its sides and corners, that lie in another tile of the grid, in the
-    /// order of the codes: E, SE, S, SW, W, NW, N, NE. It takes no memory.
+    /// Returns the places of other tiles that touch `place`, at sides and corners.
+    /// Their order is that of the codes: E, SE, S, SW, W, NW, N, NE. Allocates nothing.
     pub fn outer_neighbours(&self, alloc: Global, place: Place) -> SmallVec<Place, 8>
         requires { IsWithin self.now place }
         ensures { result.items ≡ outer_places self.now place }
@@ -194,7 +212,8 @@ impl Tiling {
     #[inline(always)]
     fn push_if_outer(&self, found: &mut SmallVec<Place, 8>, next: Option<Place>, tile: u32)
         requires { HasRoomFor found.old 1 }
-        ensures items { found.new.items ≡ found.old.items ++ filter (is_in_other_tile self.now tile) (option_to_list next) }
+        ensures items { found.new.items
+            ≡ found.old.items ++ filter (is_in_other_tile self.now tile) (option_to_list next) }
         ensures few { small_vec_len found.new ≤ small_vec_len found.old + 1 }
         ensures capacity { found.new.capacity ≡ found.old.capacity }
     {
@@ -212,7 +231,7 @@ impl Tiling {
         place.row < self.rows && place.col < self.cols && self.tile_of(place) != tile
     }
 
-    /// A tile's cells and those next to them, lent. Nothing is copied.
+    /// Returns a borrowed view of a tile's cells and the cells next to it.
     pub fn view<'a, T>(&self, cells: &'a [T], tile: u32) -> TileView<'a, T>
         requires size { length cells.now ≡ self.now.cols * self.now.rows }
         requires tile { tile < tile_count self.now }
@@ -221,8 +240,7 @@ impl Tiling {
         TileView::new(*self, tile, self.bounds(tile), cells)
     }
 
-    /// The list of the whole grid in row order, of the lists of its tiles, each in row order. For want of
-    /// memory nothing is handed out.
+    /// Joins the tiles' lists, each in row order, into the grid's list in row order.
     pub fn put_back<T: Copy + Drop>(
         &self,
         alloc: Global,
@@ -238,7 +256,7 @@ impl Tiling {
         Ok(whole)
     }
 
-    /// One row of the grid, of the rows of the tiles that it crosses.
+    /// Appends one row of the grid to `whole`, from the lists of the tiles it crosses.
     fn push_row<T: Copy + Drop>(
         &self,
         results: &[Vec<T>],
@@ -248,7 +266,8 @@ impl Tiling {
         requires lists { AreTileLists self.now results.now }
         requires row { row < self.now.rows }
         requires front { IsPutBackBelow self.now results.now (row * self.now.cols) whole.old.items }
-        ensures { OnOk result (IsPutBackBelow self.now results.now ((row + 1) * self.now.cols) whole.new.items) }
+        ensures { OnOk result
+            (IsPutBackBelow self.now results.now ((row + 1) * self.now.cols) whole.new.items) }
     {
         let first = self.first_tile(row);
         for column in 0..self.across() {
@@ -257,12 +276,13 @@ impl Tiling {
         Ok(())
     }
 
-    /// A row of the grid, as far as it lies in a tile.
+    /// Returns the part of a row of the grid that a tile's list has.
     #[inline(always)]
     fn row_of<'a, T>(&self, results: &'a [Vec<T>], tile: u32, row: u32) -> &'a [T]
         requires lists { AreTileLists self.now results.now }
         requires tile { tile < tile_count self.now }
-        requires row { ((bounds_of self.now tile).top ≤ row) × (row < (bounds_of self.now tile).top + (bounds_of self.now tile).rows) }
+        requires row { ((bounds_of self.now tile).top ≤ row)
+            × (row < (bounds_of self.now tile).top + (bounds_of self.now tile).rows) }
         ensures { IsRowOf self.now results.now tile row result.now }
     {
         let Bounds { top, cols, .. } = self.bounds(tile);

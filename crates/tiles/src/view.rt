@@ -1,4 +1,4 @@
-//! A borrowed view of a tile and the places around it.
+//! A borrowed view of a tile and the cells next to it.
 ghost use Rattle.std.specs.Prelude.{◌≡◌, ◌⊎◌, ◌+◌, ◌-◌, ◌*◌, ◌<◌, ◌≤◌, ℕ, IfNone, IfSome, length, option_copied, slice_index_or};
 ghost use Rattle.terrain.specs.Neighbours.{index_of};
 ghost use Rattle.tiles.specs.Cutting.{View, IsView, AreBounds, bounds_of, is_shown, cell_shown, row_shown};
@@ -9,7 +9,7 @@ use crate::tiling::Tiling;
 use std::marker::Model;
 use terrain::Place;
 
-/// The cells of a tile and those of the grid next to them, lent.
+/// A borrowed view of a tile's cells and of the cells of the grid next to them.
 #[derive(Drop)]
 pub struct TileView<'a, T> {
     tiling: Tiling,
@@ -44,7 +44,7 @@ impl<'a, T> TileView<'a, T> {
         }
     }
 
-    /// The tile's first row and column, and its size.
+    /// Returns the bounds of the tile.
     #[inline(always)]
     pub fn bounds(&self) -> Bounds
         ensures value { result ≡ bounds_of self.now.cutting self.now.tile }
@@ -54,7 +54,7 @@ impl<'a, T> TileView<'a, T> {
         self.bounds
     }
 
-    /// Row `index` of the tile, from 0: one cell for each of its columns.
+    /// Returns row `index` of the tile, from 0: one cell for each of its columns.
     #[inline(always)]
     pub fn row(&self, index: u32) -> &'a [T]
         requires { index < (bounds_of self.now.cutting self.now.tile).rows }
@@ -71,7 +71,7 @@ impl<'a, T> TileView<'a, T> {
         part(self.cells, from, cols as usize)
     }
 
-    /// The cell at a place of the tile or of the grid next to it, None at any other place.
+    /// Returns the cell at a place of the tile or next to it, `None` elsewhere.
     #[inline(always)]
     pub fn at(&self, place: Place) -> Option<&'a T>
         ensures { option_copied result ≡ cell_shown self.now place }
@@ -83,8 +83,8 @@ impl<'a, T> TileView<'a, T> {
         }
     }
 
-    /// The cells at a place and on both sides of it in its row. None where one of the three is off the
-    /// grid.
+    /// Returns three cells: west of `place`, at it and east of it.
+    /// `None` where one of them is outside the grid.
     #[inline(always)]
     pub fn beside(&self, place: Place) -> Option<&'a [T]>
         requires { place.col < 4294967295 }

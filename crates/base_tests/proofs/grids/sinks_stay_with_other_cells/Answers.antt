@@ -1,4 +1,4 @@
--- The sinks leave the cells as they are.
+-- Adding sinks changes no cells.
 use Rattle.std.proofs.Common.{rules}
 use Rattle.base_tests.proofs.grids.sinks_stay_with_other_cells.Goals as goal
 

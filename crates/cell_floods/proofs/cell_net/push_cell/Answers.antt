@@ -24,6 +24,6 @@ returns-then-is_passed c =
 pub returns-in_default : goal.returns-in_default
 returns-in_default c =
     let fits : SFits height_width c.args.height = search rules in
-    subst (λ o. Follows c.args.labels.now c.args.from.now (cons_option o []) c.args.levels.now c.args.levels.now c.args.waits.now c.args.waits.now)
+    subst (λ o. Follows c.args.labels.now c.args.from.now (cons_option o []) c.args.levels.now c.args.levels.now c.args.queue.now c.args.queue.now)
     (sym c.in_default.is ∙ c.way_to.ensures ∙ ap (λ h. way_to c.args.cells.now h c.args.to) (to_z-of_z height_width c.args.height fits))
     (none_followed _ _ _ _ c.requires.order c.requires.noted)

@@ -4,7 +4,7 @@ use Rattle.drain.proofs.beginning.begun_counts.Goals as goal
 
 pub begin_at_sinks-requires-clause-counts : goal.begin_at_sinks-requires-clause-counts
 begin_at_sinks-requires-clause-counts c =
-    let b = c.args.ground.now.bounds in
+    let b = c.args.window.now.bounds in
     let inv = c.loop-row.invariant in
     let last : c.loop-row.row ≡ b.rows + 2 = omega arith in
     let end = ap (λ (n : ℕ). n * (b.cols + 2)) last in
@@ -12,7 +12,7 @@ begin_at_sinks-requires-clause-counts c =
 
 pub returns : goal.returns
 returns c =
-    let b = c.args.ground.now.bounds in
+    let b = c.args.window.now.bounds in
     let last : c.loop-row.row ≡ b.rows + 2 = omega arith in
     let end = ap (λ (n : ℕ). n * (b.cols + 2)) last in
     let size : length c.begin_at_sinks.new.counts ≡ c.loop-row.counts.len = omega (arith, c.begin_at_sinks.ensures.size, c.loop-row.counts.ok.0, c.loop-row.invariant.size, end) in

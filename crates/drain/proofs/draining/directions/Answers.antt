@@ -22,8 +22,8 @@ invariant_of-made g c =
 pub new-requires : goal.new-requires
 new-requires g c =
     let t = c.args.filled.now.terrain in
-    let steps = c.of-told.result.value.items in
-    let stepped = subst (λ v. AreSteps t v.items) (sym c.of-told.ensures) c.in_ok-steps.ensures.steps in
+    let steps = c.of-reported.result.value.items in
+    let stepped = subst (λ v. AreSteps t v.items) (sym c.of-reported.ensures) c.in_ok-steps.ensures.steps in
     let codes = c.in_ok-codes.codes.items in
     let all = coded_map t c.args.tiling.now codes c.requires (subst (λ (x : Raster). IsMadeMap c.args.tiling.now (IsCodeAt x.terrain) codes) c.grid-grid.ensures.value c.in_ok-codes.ensures.made) in
     subst (λ (x : Raster). IsDraining (record { terrain = x.terrain; steps = steps; codes = codes })) (sym c.grid-grid.ensures.value) (are_draining t steps codes stepped all)
@@ -38,8 +38,8 @@ returns-clause-codes g c =
 pub returns-clause-ends : goal.returns-clause-ends
 returns-clause-ends g c =
     let t = c.args.filled.now.terrain in
-    let steps = c.of-told.result.value.items in
-    let stepped = subst (λ v. AreSteps t v.items) (sym c.of-told.ensures) c.in_ok-steps.ensures.steps in
+    let steps = c.of-reported.result.value.items in
+    let stepped = subst (λ v. AreSteps t v.items) (sym c.of-reported.ensures) c.in_ok-steps.ensures.steps in
     let codes = c.in_ok-codes.codes.items in
     let all = coded_map t c.args.tiling.now codes c.requires (subst (λ (x : Raster). IsMadeMap c.args.tiling.now (IsCodeAt x.terrain) codes) c.grid-grid.ensures.value c.in_ok-codes.ensures.made) in
     let d : Drained = record { terrain = c.grid-grid.result.now.terrain; steps = steps; codes = codes } in

@@ -4,7 +4,7 @@ use Rattle.std.proofs.lemmas.Option.{MatchOption-at_some}
 use Rattle.terrain.specs.Raster.{Terrain}
 use Rattle.terrain.specs.Sinks.{with_sinks}
 use Rattle.tiles.specs.Cutting.{View, terrain_of}
-use Rattle.drain.specs.Rounds.{IsLent, AreWalked, IsRound}
+use Rattle.drain.specs.Rounds.{IsSource, AreWalked, IsRound}
 use Rattle.drain.specs.Steps.{DrainsAtOnce}
 use Rattle.drain.specs.Beginning.{HasZeros}
 use Rattle.drain.specs.Window.{AreCounts, IsSettled}
@@ -13,10 +13,10 @@ use Rattle.drain.proofs.Quiet.{ended, are_walked_to, round_to}
 use Rattle.drain.proofs.TileRound.{lent_to, lent_small, round_from}
 use Rattle.drain.proofs.draining.flat_steps.Goals as goal
 
-walks : (t : Terrain) (v : View (Option ℤ)) (steps : List (Option ℕ)) → terrain_of v ≡ with_sinks t [] → HasZeros t steps → AreWalked (DrainsAtOnce t) t steps → AreWalked (IsLent (terrain_of v) steps) (terrain_of v) steps
+walks : (t : Terrain) (v : View (Option ℤ)) (steps : List (Option ℕ)) → terrain_of v ≡ with_sinks t [] → HasZeros t steps → AreWalked (DrainsAtOnce t) t steps → AreWalked (IsSource (terrain_of v) steps) (terrain_of v) steps
 walks t v steps shown zeros walked =
-    subst (λ (x : Terrain). AreWalked (IsLent x steps) x steps) (sym shown)
-    (are_walked_to (DrainsAtOnce t) (IsLent t steps) t [] steps (λ p drains. (drains_data t p drains, zeros p drains)) walked)
+    subst (λ (x : Terrain). AreWalked (IsSource x steps) x steps) (sym shown)
+    (are_walked_to (DrainsAtOnce t) (IsSource t steps) t [] steps (λ p drains. (drains_data t p drains, zeros p drains)) walked)
 
 each_is : (xs : List (Option ℕ)) → map (λ x. x) xs ≡ xs
 each_is [] = refl
@@ -26,34 +26,34 @@ pub round-requires-clause-counts : goal.round-requires-clause-counts
 round-requires-clause-counts g c =
     let v = c.args.levels.now in
     let w = c.args.steps.now in
-    let b = c.in_ok-ground.ground.bounds in
-    let lent = lent_to v w b c.in_ok-old.old.items c.requires.1.0 c.requires.1.1.0 c.in_ok-ground.ensures.bounds c.in_ok-old.ensures in
+    let b = c.in_ok-window.window.bounds in
+    let input = lent_to v w b c.in_ok-old.old.items c.requires.1.0 c.requires.1.1.0 c.in_ok-window.ensures.bounds c.in_ok-old.ensures in
     subst (λ (xs : List ℕ). AreCounts xs) (sym c.deref.ensures.value)
-    (lent_small (terrain_of v) b w.cells c.in_ok-old.old.items lent (walks g.terrain v w.cells c.requires.0 c.requires.1.1.1.0 c.requires.1.1.1.1))
+    (lent_small (terrain_of v) b w.cells c.in_ok-old.old.items input (walks g.terrain v w.cells c.requires.0 c.requires.1.1.1.0 c.requires.1.1.1.1))
 
 pub returns : goal.returns
 returns g c =
     let v = c.args.levels.now in
     let w = c.args.steps.now in
     let t = g.terrain in
-    let ground = c.in_ok-ground.ground in
-    let b = ground.bounds in
+    let window = c.in_ok-window.window in
+    let b = window.bounds in
     let old = c.in_ok-old.old.items in
     let list = c.in_ok-counts.counts.items in
-    let lent = lent_to v w b old c.requires.1.0 c.requires.1.1.0 c.in_ok-ground.ensures.bounds c.in_ok-old.ensures in
+    let input = lent_to v w b old c.requires.1.0 c.requires.1.1.0 c.in_ok-window.ensures.bounds c.in_ok-old.ensures in
     let round = c.in_ok-counts.ensures in
-    let settled = subst (λ (xs : List ℕ). IsSettled b ground.levels.items xs round.0) c.deref.ensures.value round.1 in
-    let made = round_from v w b ground.levels.items old round.0 list c.in_ok-ground.ensures.lawful c.in_ok-ground.ensures.bounds c.in_ok-ground.ensures.shown lent
+    let settled = subst (λ (xs : List ℕ). IsSettled b window.levels.items xs round.0) c.deref.ensures.value round.1 in
+    let made = round_from v w b window.levels.items old round.0 list c.in_ok-window.ensures.lawful c.in_ok-window.ensures.bounds c.in_ok-window.ensures.shown input
     (walks t v w.cells c.requires.0 c.requires.1.1.1.0 c.requires.1.1.1.1) settled round.2 in
-    subst (λ (xs : List (Option ℕ)). IsRound (DrainsAtOnce t) t v.cutting v.tile w.cells xs) (sym (c.in_ok-told.ensures ∙ each_is c.deref-2.result.now ∙ c.deref-2.ensures.value))
-    (round_to (IsLent t w.cells) (DrainsAtOnce t) (with_sinks t []) t.sinks v.cutting v.tile w.cells list
-    (λ p lent. let walk = MatchOption-at_some _ _ 0 lent.1 (c.requires.1.1.1.1 p) in ended (DrainsAtOnce t) t p walk.1 walk.2 walk.3)
-    (subst (λ (x : Terrain). IsRound (IsLent x w.cells) x v.cutting v.tile w.cells list) c.requires.0 made))
+    subst (λ (xs : List (Option ℕ)). IsRound (DrainsAtOnce t) t v.cutting v.tile w.cells xs) (sym (c.in_ok-step_numbers.ensures ∙ each_is c.deref-2.result.now ∙ c.deref-2.ensures.value))
+    (round_to (IsSource t w.cells) (DrainsAtOnce t) (with_sinks t []) t.sinks v.cutting v.tile w.cells list
+    (λ p input. let walk = MatchOption-at_some _ _ 0 input.1 (c.requires.1.1.1.1 p) in ended (DrainsAtOnce t) t p walk.1 walk.2 walk.3)
+    (subst (λ (x : Terrain). IsRound (IsSource x w.cells) x v.cutting v.tile w.cells list) c.requires.0 made))
 
 pub round-requires-clause-size : goal.round-requires-clause-size
 round-requires-clause-size g c =
     let v = c.args.levels.now in
     let w = c.args.steps.now in
-    let lent = lent_to v w c.in_ok-ground.ground.bounds c.in_ok-old.old.items c.requires.1.0 c.requires.1.1.0 c.in_ok-ground.ensures.bounds c.in_ok-old.ensures in
-    let size = simp length-map at (ap (λ (xs : List ℕ). length xs) (c.deref.ensures.value ∙ lent.value)) in
-    size ∙ lent.size
+    let input = lent_to v w c.in_ok-window.window.bounds c.in_ok-old.old.items c.requires.1.0 c.requires.1.1.0 c.in_ok-window.ensures.bounds c.in_ok-old.ensures in
+    let size = simp length-map at (ap (λ (xs : List ℕ). length xs) (c.deref.ensures.value ∙ input.value)) in
+    size ∙ input.size

@@ -1,6 +1,6 @@
 use Rattle.std.proofs.Common.{◌≡◌, ℕ, ◌<◌, List, Option, Vec, Global, length, sym, subst, ◌∙◌, arith}
 use Rattle.tiles.specs.Cutting.{AreTileLists, tile_count}
-use Rattle.drain.specs.Entering.{lent_terrain}
+use Rattle.drain.specs.Entering.{sinkless_terrain}
 use Rattle.drain.proofs.Begun.{some_begun}
 use Rattle.drain.proofs.RoundLemmas.{carried_counting, carried_lend_same, first_carried, first_even, first_lists}
 use Rattle.drain.proofs.first.first_round.Goals as goal
@@ -36,7 +36,7 @@ returns-in-Ok-clause-begun g c =
     let put = rw c.deref.ensures.value at c.in-Ok.ensures in (
       first.0,
       first.1,
-      carried_lend_same (lent_terrain v t.cells) first.0 c.in-Ok.whole.items
+      carried_lend_same (sinkless_terrain v t.cells) first.0 c.in-Ok.whole.items
           (first_carried v t.cells first.0 lists.items count (λ j d below. c.in_ok-lists.ensures.given j d (subst (λ (n : ℕ). j < n) (sym c.tiles.ensures.value) below) first.0 first.1) c.in-Ok.whole.items c.tiles.ensures.lawful put),
     )
 

@@ -6,7 +6,7 @@ use Rattle.terrain.specs.Neighbours.{index_of}
 use Rattle.terrain.specs.declared.place.Place.{Place}
 use Rattle.tiles.specs.declared.bounds.Bounds.{Bounds}
 use Rattle.tiles.specs.Cutting.{tile_of_place}
-use Rattle.drain.specs.Entering.{lent_terrain}
+use Rattle.drain.specs.Entering.{sinkless_terrain}
 use Rattle.drain.specs.Lowering.{count_of, counts_in}
 use Rattle.drain.specs.declared.lowering.Lowered.{Lowered}
 use Rattle.drain.proofs.Kept.{IsPut, kept_put}
@@ -15,30 +15,30 @@ use Rattle.drain.proofs.lowering.lower.Goals as goal
 
 pub index-first-requires : goal.index-first-requires
 index-first-requires c =
-    let own = own_bounds c.args.lent.now.tiling.now c.args.change.place c.args.change.place c.args.bounds c.args.lent.now.lawful c.requires.bounds (c.requires.within, refl) in
+    let own = own_bounds c.args.input.now.tiling.now c.args.change.place c.args.change.place c.args.bounds c.args.input.now.lawful c.requires.bounds (c.requires.within, refl) in
     (c.requires.within.0, omega (arith, own, c.requires.within.1))
 
 pub overflow_sub-row : goal.overflow_sub-row
-overflow_sub-row c = (own_bounds c.args.lent.now.tiling.now c.args.change.place c.args.change.place c.args.bounds c.args.lent.now.lawful c.requires.bounds (c.requires.within, refl)).0
+overflow_sub-row c = (own_bounds c.args.input.now.tiling.now c.args.change.place c.args.change.place c.args.bounds c.args.input.now.lawful c.requires.bounds (c.requires.within, refl)).0
 
 pub overflow_sub-col : goal.overflow_sub-col
-overflow_sub-col c = (own_bounds c.args.lent.now.tiling.now c.args.change.place c.args.change.place c.args.bounds c.args.lent.now.lawful c.requires.bounds (c.requires.within, refl)).2
+overflow_sub-col c = (own_bounds c.args.input.now.tiling.now c.args.change.place c.args.change.place c.args.bounds c.args.input.now.lawful c.requires.bounds (c.requires.within, refl)).2
 
 pub index_mut-counts-requires : goal.index_mut-counts-requires
 index_mut-counts-requires c =
-    let own = own_bounds c.args.lent.now.tiling.now c.args.change.place c.args.change.place c.args.bounds c.args.lent.now.lawful c.requires.bounds (c.requires.within, refl) in
+    let own = own_bounds c.args.input.now.tiling.now c.args.change.place c.args.change.place c.args.bounds c.args.input.now.lawful c.requires.bounds (c.requires.within, refl) in
     omega (arith, own, c.requires.rows, c.args.lowered.now.rows.ok.0)
 
 pub returns-in_ok-push : goal.returns-in_ok-push
 returns-in_ok-push c =
-    let v = c.args.lent.now.tiling.now in
-    let t = lent_terrain v c.args.lent.now.levels.now in
-    let steps = c.args.lent.now.steps.now in
+    let v = c.args.input.now.tiling.now in
+    let t = sinkless_terrain v c.args.input.now.levels.now in
+    let steps = c.args.input.now.steps.now in
     let old = c.args.lowered.now in
     let x = c.args.change in
     let b = c.args.bounds in
     let tile = tile_of_place v x.place in
-    let own = own_bounds v x.place x.place b c.args.lent.now.lawful c.requires.bounds (c.requires.within, refl) in
+    let own = own_bounds v x.place x.place b c.args.input.now.lawful c.requires.bounds (c.requires.within, refl) in
     let row = x.place.row - b.top in
     let before = c.index_mut-counts.result.now in
     let after = c.put_in_row.new.row in
@@ -61,9 +61,9 @@ returns-in_ok-push c =
 
 pub returns-else-change-count : goal.returns-else-change-count
 returns-else-change-count c =
-    let v = c.args.lent.now.tiling.now in
-    let t = lent_terrain v c.args.lent.now.levels.now in
-    let steps = c.args.lent.now.steps.now in
+    let v = c.args.input.now.tiling.now in
+    let t = sinkless_terrain v c.args.input.now.levels.now in
+    let steps = c.args.input.now.steps.now in
     let old = c.args.lowered.now in
     let x = c.args.change in
     let tile = tile_of_place v x.place in

@@ -4,7 +4,7 @@ use Rattle.std.proofs.lemmas.Option.{slice_get-get_or, slice_get_read}
 use Rattle.tiles.specs.Cutting.{bounds_of, tile_of_place}
 use Rattle.drain.specs.declared.changes.Entry.{Entry}
 use Rattle.drain.specs.declared.changes.Change.{Change}
-use Rattle.drain.specs.Entering.{lent_terrain}
+use Rattle.drain.specs.Entering.{sinkless_terrain}
 use Rattle.drain.specs.Lowering.{counts_in}
 use Rattle.drain.proofs.Lowered.{begun, entered_more, entered_low, entry_own, low_own, ready_at, even_end, even_enter, even_spread, lowered_then, reached_all, reached_tile}
 use Rattle.drain.proofs.lowering.lower_tile.Goals as goal
@@ -15,9 +15,9 @@ none = record { tile = 0; change = record { place = record { row = 0; col = 0 };
 
 pub loop-next-init : goal.loop-next-init
 loop-next-init c =
-    let v = c.args.lent.now.tiling.now in
-    let t = lent_terrain v c.args.lent.now.levels.now in
-    let steps = c.args.lent.now.steps.now in
+    let v = c.args.input.now.tiling.now in
+    let t = sinkless_terrain v c.args.input.now.levels.now in
+    let steps = c.args.input.now.steps.now in
     let tile = c.args.run.tile in
     let first = begun t v tile steps (record { rows = c.in_ok-rows.rows; changes = c.new.result }) c.in_ok-rows.ensures.empty c.new.ensures.items (c.requires.even tile) in
     record {
@@ -37,9 +37,9 @@ lower-requires-clause-within c =
 
 pub lower-requires-clause-bounds : goal.lower-requires-clause-bounds
 lower-requires-clause-bounds c =
-    let v = c.args.lent.now.tiling.now in
-    let t = lent_terrain v c.args.lent.now.levels.now in
-    let steps = c.args.lent.now.steps.now in
+    let v = c.args.input.now.tiling.now in
+    let t = sinkless_terrain v c.args.input.now.levels.now in
+    let steps = c.args.input.now.steps.now in
     let tile = c.args.run.tile in
     let e = get_or c.args.entries.now c.loop-next.next none in
     let at = slice_get-get_or c.args.entries.now c.loop-next.next none (omega (arith, c.if-next-run-2.true, c.requires.run.below)) in
@@ -53,9 +53,9 @@ lower-requires-clause-walked c =
 
 pub lower-requires-clause-low : goal.lower-requires-clause-low
 lower-requires-clause-low c =
-    let v = c.args.lent.now.tiling.now in
-    let t = lent_terrain v c.args.lent.now.levels.now in
-    let steps = c.args.lent.now.steps.now in
+    let v = c.args.input.now.tiling.now in
+    let t = sinkless_terrain v c.args.input.now.levels.now in
+    let steps = c.args.input.now.steps.now in
     let tile = c.args.run.tile in
     let e = get_or c.args.entries.now c.loop-next.next none in
     let at = slice_get-get_or c.args.entries.now c.loop-next.next none (omega (arith, c.if-next-run-2.true, c.requires.run.below)) in
@@ -64,9 +64,9 @@ lower-requires-clause-low c =
 
 pub loop-next-preserved-then-comes_first : goal.loop-next-preserved-then-comes_first
 loop-next-preserved-then-comes_first c =
-    let v = c.args.lent.now.tiling.now in
-    let t = lent_terrain v c.args.lent.now.levels.now in
-    let steps = c.args.lent.now.steps.now in
+    let v = c.args.input.now.tiling.now in
+    let t = sinkless_terrain v c.args.input.now.levels.now in
+    let steps = c.args.input.now.steps.now in
     let tile = c.args.run.tile in
     let e = get_or c.args.entries.now c.loop-next.next none in
     let at = slice_get-get_or c.args.entries.now c.loop-next.next none (omega (arith, c.if-next-run-2.true, c.requires.run.below)) in
@@ -85,9 +85,9 @@ loop-next-preserved-then-comes_first c =
 
 pub loop-next-smaller-then-comes_first : goal.loop-next-smaller-then-comes_first
 loop-next-smaller-then-comes_first c =
-    let v = c.args.lent.now.tiling.now in
-    let t = lent_terrain v c.args.lent.now.levels.now in
-    let steps = c.args.lent.now.steps.now in
+    let v = c.args.input.now.tiling.now in
+    let t = sinkless_terrain v c.args.input.now.levels.now in
+    let steps = c.args.input.now.steps.now in
     let tile = c.args.run.tile in
     let e = get_or c.args.entries.now c.loop-next.next none in
     let at = slice_get-get_or c.args.entries.now c.loop-next.next none (omega (arith, c.if-next-run-2.true, c.requires.run.below)) in
@@ -97,9 +97,9 @@ loop-next-smaller-then-comes_first c =
 
 pub spread-requires : goal.spread-requires
 spread-requires c =
-    let v = c.args.lent.now.tiling.now in
-    let t = lent_terrain v c.args.lent.now.levels.now in
-    let steps = c.args.lent.now.steps.now in
+    let v = c.args.input.now.tiling.now in
+    let t = sinkless_terrain v c.args.input.now.levels.now in
+    let steps = c.args.input.now.steps.now in
     let tile = c.args.run.tile in
     let changes = c.loop-next.lowered.changes in
     let below : c.loop-next.done < length changes.items = elim c.else-next-run-2.branch [
@@ -115,9 +115,9 @@ spread-requires c =
 
 pub loop-next-preserved : goal.loop-next-preserved
 loop-next-preserved c =
-    let v = c.args.lent.now.tiling.now in
-    let t = lent_terrain v c.args.lent.now.levels.now in
-    let steps = c.args.lent.now.steps.now in
+    let v = c.args.input.now.tiling.now in
+    let t = sinkless_terrain v c.args.input.now.levels.now in
+    let steps = c.args.input.now.steps.now in
     let tile = c.args.run.tile in
     let changes = c.loop-next.lowered.changes in
     let below : c.loop-next.done < length changes.items = elim c.else-next-run-2.branch [
@@ -144,9 +144,9 @@ loop-next-preserved c =
 
 pub loop-next-smaller : goal.loop-next-smaller
 loop-next-smaller c =
-    let v = c.args.lent.now.tiling.now in
-    let t = lent_terrain v c.args.lent.now.levels.now in
-    let steps = c.args.lent.now.steps.now in
+    let v = c.args.input.now.tiling.now in
+    let t = sinkless_terrain v c.args.input.now.levels.now in
+    let steps = c.args.input.now.steps.now in
     let tile = c.args.run.tile in
     let changes = c.loop-next.lowered.changes in
     let below : c.loop-next.done < length changes.items = elim c.else-next-run-2.branch [
@@ -164,9 +164,9 @@ loop-next-smaller c =
 
 pub returns : goal.returns
 returns c =
-    let v = c.args.lent.now.tiling.now in
-    let t = lent_terrain v c.args.lent.now.levels.now in
-    let steps = c.args.lent.now.steps.now in
+    let v = c.args.input.now.tiling.now in
+    let t = sinkless_terrain v c.args.input.now.levels.now in
+    let steps = c.args.input.now.steps.now in
     let tile = c.args.run.tile in
     let l = c.loop-next.lowered in
     record {

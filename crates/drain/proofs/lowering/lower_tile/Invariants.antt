@@ -1,18 +1,18 @@
 use Rattle.std.proofs.Common.{◌≡◌, ◌≤◌, ◌+◌, ◌-◌, ◌*◌, length}
-use Rattle.drain.specs.Entering.{lent_terrain}
+use Rattle.drain.specs.Entering.{sinkless_terrain}
 use Rattle.drain.specs.Lowering.{IsLowered, IsEntered, counts_in, total}
-use Rattle.drain.proofs.Lowered.{IsEvenButTold}
+use Rattle.drain.proofs.Lowered.{IsEvenButReported}
 use Rattle.drain.proofs.lowering.lower_tile.Given as goal
 
 abbrev pub invariant-loop-next : goal.invariant-loop-next
 invariant-loop-next l =
-    let c = l.lent.tiling.now in
-    let t = lent_terrain c l.lent.levels.now in
+    let c = l.input.tiling.now in
+    let t = sinkless_terrain c l.input.levels.now in
     let tile = l.run.tile in
     record {
-      lowered : IsLowered t c tile l.lent.steps.now (counts_in c tile l.lent.steps.now l.lowered) l.lowered.changes.items;
-      even : IsEvenButTold t c tile l.lent.steps.now l.lowered l.done;
-      entered : IsEntered c l.entries l.run.from l.next (counts_in c tile l.lent.steps.now l.lowered);
+      lowered : IsLowered t c tile l.input.steps.now (counts_in c tile l.input.steps.now l.lowered) l.lowered.changes.items;
+      even : IsEvenButReported t c tile l.input.steps.now l.lowered l.done;
+      entered : IsEntered c l.entries l.run.from l.next (counts_in c tile l.input.steps.now l.lowered);
       rows : length l.lowered.rows.items ≡ l.bounds.rows;
       done : l.done ≤ length l.lowered.changes.items;
       after : l.run.from ≤ l.next;
@@ -21,6 +21,6 @@ invariant-loop-next l =
 
 abbrev pub decreases-loop-next : goal.decreases-loop-next
 decreases-loop-next l =
-    let c = l.lent.tiling.now in
+    let c = l.input.tiling.now in
     let tile = l.run.tile in
-    (l.run.end - l.next) + ((length l.lowered.changes.items - l.done) + total (c.cols * c.rows) (counts_in c tile l.lent.steps.now l.lowered))
+    (l.run.end - l.next) + ((length l.lowered.changes.items - l.done) + total (c.cols * c.rows) (counts_in c tile l.input.steps.now l.lowered))

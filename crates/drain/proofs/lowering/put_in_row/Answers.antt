@@ -12,7 +12,7 @@ same_after (y ∷ ys) x (suc k) d same = same_after ys x k d (λ e. same (ap suc
 pub loop-next-preserved : goal.loop-next-preserved
 loop-next-preserved c =
     let inv = c.loop-next.invariant in
-    let counts = λ (k : ℕ). count_of c.args.lent.now.steps.now (c.args.first + k) in
+    let counts = λ (k : ℕ). count_of c.args.input.now.steps.now (c.args.first + k) in
     let pushed = c.in_ok-push.ensures.items in
     record {
       size = omega (arith, inv.size, simp length-append at (ap length pushed));
@@ -24,4 +24,4 @@ pub returns-clause-here : goal.returns-clause-here
 returns-clause-here c = slice_get-set_here c.loop-next.row.items c.args.col c.args.count (omega arith)
 
 pub returns-clause-others : goal.returns-clause-others
-returns-clause-others c = λ k other. ap (λ (o : Option ℕ). unwrap_or o (count_of c.args.lent.now.steps.now (c.args.first + k))) (slice_get-set_other c.loop-next.row.items c.args.col k c.args.count other) ∙ c.loop-next.invariant.same k
+returns-clause-others c = λ k other. ap (λ (o : Option ℕ). unwrap_or o (count_of c.args.input.now.steps.now (c.args.first + k))) (slice_get-set_other c.loop-next.row.items c.args.col k c.args.count other) ∙ c.loop-next.invariant.same k

@@ -9,17 +9,17 @@ reach-requires-clause-ready c = ready_still _ _ _ _ _ _ _ _ c.args.from c.requir
 
 pub reach-requires-clause-to : goal.reach-requires-clause-to
 reach-requires-clause-to c =
-    let v = c.args.lent.now.tiling.now in
-    let own = own_bounds v c.args.from.place c.args.from.place c.args.bounds c.args.lent.now.lawful c.requires.ready.bounds c.requires.ready.change.inside in
-    beside_in_tile v c.args.from.place (make_place c.args.row c.loop-col.col) c.args.bounds c.args.lent.now.lawful c.requires.ready.change.inside.0 c.requires.ready.bounds
+    let v = c.args.input.now.tiling.now in
+    let own = own_bounds v c.args.from.place c.args.from.place c.args.bounds c.args.input.now.lawful c.requires.ready.bounds c.requires.ready.change.inside in
+    beside_in_tile v c.args.from.place (make_place c.args.row c.loop-col.col) c.args.bounds c.args.input.now.lawful c.requires.ready.change.inside.0 c.requires.ready.bounds
     (c.requires.row.0, c.requires.row.1, omega (arith, own), omega (arith, own))
     (record { row_down = omega arith; row_up = omega arith; col_right = omega (arith, own); col_left = omega (arith, own) })
 
 pub loop-col-init : goal.loop-col-init
 loop-col-init c =
-    let v = c.args.lent.now.tiling.now in
+    let v = c.args.input.now.tiling.now in
     reached_none _ _ _ _ _ _ _ (λ p done.
-    let own = own_bounds v c.args.from.place p c.args.bounds c.args.lent.now.lawful c.requires.ready.bounds done.0 in
+    let own = own_bounds v c.args.from.place p c.args.bounds c.args.input.now.lawful c.requires.ready.bounds done.0 in
     let low : p.col < c.max-first.result - 1 = done.4 in omega (arith, own, low, done.1.col_left, c.max-first.ensures))
 
 pub loop-col-preserved : goal.loop-col-preserved
@@ -31,7 +31,7 @@ loop-col-preserved c =
 
 pub returns : goal.returns
 returns c =
-    let v = c.args.lent.now.tiling.now in
+    let v = c.args.input.now.tiling.now in
     reached_all _ _ _ _ _ _ _ _ _ (λ p done.
-    let own = own_bounds v c.args.from.place p c.args.bounds c.args.lent.now.lawful c.requires.ready.bounds done.0 in
+    let own = own_bounds v c.args.from.place p c.args.bounds c.args.input.now.lawful c.requires.ready.bounds done.0 in
     (done.0, done.1, done.2, done.3, omega (arith, own, done.1.col_right))) c.loop-col.invariant

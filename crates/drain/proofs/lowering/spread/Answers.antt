@@ -8,14 +8,14 @@ reach_along-requires-clause-ready c = ready_still _ _ _ _ _ _ _ _ c.args.from c.
 
 pub reach_along-requires-clause-row : goal.reach_along-requires-clause-row
 reach_along-requires-clause-row c =
-    let own = own_bounds c.args.lent.now.tiling.now c.args.from.place c.args.from.place c.args.bounds c.args.lent.now.lawful c.requires.bounds c.requires.change.inside in
+    let own = own_bounds c.args.input.now.tiling.now c.args.from.place c.args.from.place c.args.bounds c.args.input.now.lawful c.requires.bounds c.requires.change.inside in
     (omega (arith, own), omega (arith, own), omega (arith, own), omega (arith, own))
 
 pub loop-row-init : goal.loop-row-init
 loop-row-init c =
-    let v = c.args.lent.now.tiling.now in
+    let v = c.args.input.now.tiling.now in
     reached_none _ _ _ _ _ _ _ (λ p done.
-    let own = own_bounds v c.args.from.place p c.args.bounds c.args.lent.now.lawful c.requires.bounds done.0 in
+    let own = own_bounds v c.args.from.place p c.args.bounds c.args.input.now.lawful c.requires.bounds done.0 in
     let low : p.row < c.max-first.result - 1 = done.3 in omega (arith, own, low, done.1.row_up, c.max-first.ensures))
 
 pub loop-row-preserved : goal.loop-row-preserved
@@ -27,12 +27,12 @@ loop-row-preserved c =
 
 pub returns : goal.returns
 returns c =
-    let v = c.args.lent.now.tiling.now in
+    let v = c.args.input.now.tiling.now in
     reached_all _ _ _ _ _ _ _ _ _ (λ p done.
-    let own = own_bounds v c.args.from.place p c.args.bounds c.args.lent.now.lawful c.requires.bounds done.0 in
+    let own = own_bounds v c.args.from.place p c.args.bounds c.args.input.now.lawful c.requires.bounds done.0 in
     (done.0, done.1, done.2, omega (arith, own, done.1.row_down))) c.loop-row.invariant
 
 pub overflow_add-bounds : goal.overflow_add-bounds
 overflow_add-bounds c =
-    let own = own_bounds c.args.lent.now.tiling.now c.args.from.place c.args.from.place c.args.bounds c.args.lent.now.lawful c.requires.bounds c.requires.change.inside in
-    omega (arith, own, c.requires.change.inside.0.0, c.args.lent.now.lawful.few_rows)
+    let own = own_bounds c.args.input.now.tiling.now c.args.from.place c.args.from.place c.args.bounds c.args.input.now.lawful c.requires.bounds c.requires.change.inside in
+    omega (arith, own, c.requires.change.inside.0.0, c.args.input.now.lawful.few_rows)

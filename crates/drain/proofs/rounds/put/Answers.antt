@@ -39,4 +39,4 @@ returns-else-change-number c =
     let own = ap (λ (o : Option ℕ). unwrap_or o (2 ^ 24)) (get_or_default steps at c.index-steps-index.result None (subst (λ (n : ℕ). n < length steps) (sym is) inside)) in
     let least : count_of steps at ≤ x.count = omega (arith, c.if-change-number.false, c.number.ensures.value, own) in
     let done = λ (y : Change) (e : y ≡ x). subst (λ (z : Change). count_of steps (index_of cols z.place) ≤ z.count) (sym e) (subst (λ (n : ℕ). count_of steps n ≤ x.count) is least) in
-    record { size = refl; low = λ k. omega arith; done = done; told = λ k. inl refl }
+    record { size = refl; low = λ k. omega arith; done = done; reported = λ k. inl refl }

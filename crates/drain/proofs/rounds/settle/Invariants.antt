@@ -1,6 +1,6 @@
 use Rattle.std.proofs.Common.{◌≡◌}
-use Rattle.drain.specs.Rounds.{LendSame}
-use Rattle.drain.specs.Entering.{lent_terrain}
+use Rattle.drain.specs.Rounds.{HaveSameSources}
+use Rattle.drain.specs.Entering.{sinkless_terrain}
 use Rattle.drain.specs.Rounding.{IsRounding, left_in, rounding_of}
 use Rattle.drain.proofs.rounds.settle.Given as goal
 
@@ -9,7 +9,7 @@ invariant-loop-counting g l = record {
   tiling : l.counting.tiling.now ≡ l.tiling;
   levels : l.counting.levels.now ≡ l.levels;
   rounding : IsRounding (rounding_of l.counting);
-  same_lent : LendSame (lent_terrain l.tiling l.levels) l.fn.steps.items l.counting.steps.items;
+  same_sources : HaveSameSources (sinkless_terrain l.tiling l.levels) l.fn.steps.items l.counting.steps.items;
 }
 
 abbrev pub decreases-loop-counting : goal.decreases-loop-counting

@@ -13,7 +13,7 @@ use Rattle.drain.proofs.runs.runs_of.Goals as goal
 abbrev none : Entry
 none = record { tile = 0; change = record { place = record { row = 0; col = 0 }; count = 0 } }
 
--- entries after those of a tile are into later ones
+-- entries after those of a tile are for later tiles
 later_more : (entries : List Entry) (tile from end : ℕ) → IsNonDecreasingBy (λ e. e.tile) entries → from ≤ end →
     ((k : ℕ) (e : Entry) → from ≤ k → slice_get entries k ≡ Some e → tile ≤ e.tile) → ((e : Entry) → slice_get entries end ≡ Some e → e.tile ≢ tile) →
     (k : ℕ) (e : Entry) → end ≤ k → slice_get entries k ≡ Some e → tile + 1 ≤ e.tile

@@ -6,8 +6,8 @@ use Rattle.drain.proofs.window.pull.Goals as goal
 
 pub loop-row-preserved : goal.loop-row-preserved
 loop-row-preserved c =
-    let b = c.args.ground.now.bounds in
-    let levels = c.args.ground.now.levels.items in
+    let b = c.args.window.now.bounds in
+    let levels = c.args.window.now.levels.items in
     record {
       spread = c.in_ok-pull_along.ensures.spread;
       near = λ s inner below. elim (cases_eq s.row c.loop-row.row) [

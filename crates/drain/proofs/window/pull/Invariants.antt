@@ -5,8 +5,8 @@ use Rattle.drain.proofs.window.pull.Given as goal
 
 abbrev pub invariant-loop-row : goal.invariant-loop-row
 invariant-loop-row l = record {
-  spread : IsSpread l.ground.bounds l.ground.levels.items l.old l.counts;
-  near : (s : Place) → IsInner l.ground.bounds s → s.row < l.row → IsNear l.ground.bounds l.ground.levels.items l.old l.counts s;
-  noted : AreNoted l.ground.bounds l.old l.counts [] l.reached.items;
-  inner : All (IsInner l.ground.bounds) l.reached.items;
+  spread : IsSpread l.window.bounds l.window.levels.items l.old l.counts;
+  near : (s : Place) → IsInner l.window.bounds s → s.row < l.row → IsNear l.window.bounds l.window.levels.items l.old l.counts s;
+  noted : AreNoted l.window.bounds l.old l.counts [] l.reached.items;
+  inner : All (IsInner l.window.bounds) l.reached.items;
 }

@@ -9,8 +9,8 @@ use Rattle.drain.proofs.window.pull_along.Goals as goal
 
 pub loop-col-preserved : goal.loop-col-preserved
 loop-col-preserved c =
-    let b = c.args.ground.now.bounds in
-    let levels = c.args.ground.now.levels.items in
+    let b = c.args.window.now.bounds in
+    let levels = c.args.window.now.levels.items in
     let here = make_place c.args.row c.loop-col.col in
     record {
       spread = c.in_ok-pull_at.ensures.spread;

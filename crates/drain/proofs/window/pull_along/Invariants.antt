@@ -5,9 +5,9 @@ use Rattle.drain.proofs.window.pull_along.Given as goal
 
 abbrev pub invariant-loop-col : goal.invariant-loop-col
 invariant-loop-col l = record {
-  spread : IsSpread l.ground.bounds l.ground.levels.items l.old l.counts;
+  spread : IsSpread l.window.bounds l.window.levels.items l.old l.counts;
   kept : IsNotAbove l.counts l.initial.counts;
-  near : (s : Place) → IsInner l.ground.bounds s → s.row ≡ l.row → s.col < l.col → IsNear l.ground.bounds l.ground.levels.items l.old l.counts s;
-  noted : AreNoted l.ground.bounds l.initial.counts l.counts l.initial.reached.items l.reached.items;
-  inner : All (IsInner l.ground.bounds) l.reached.items;
+  near : (s : Place) → IsInner l.window.bounds s → s.row ≡ l.row → s.col < l.col → IsNear l.window.bounds l.window.levels.items l.old l.counts s;
+  noted : AreNoted l.window.bounds l.initial.counts l.counts l.initial.reached.items l.reached.items;
+  inner : All (IsInner l.window.bounds) l.reached.items;
 }

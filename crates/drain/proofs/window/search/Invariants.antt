@@ -4,9 +4,9 @@ use Rattle.drain.proofs.window.search.Given as goal
 
 abbrev pub invariant-loop-done : goal.invariant-loop-done
 invariant-loop-done l = record {
-  spread : IsSpread l.ground.bounds l.ground.levels.items l.initial.counts l.counts;
-  even : IsEvenBut l.ground.bounds l.ground.levels.items l.counts l.reached.items l.done;
-  inner : All (IsInner l.ground.bounds) l.reached.items;
+  spread : IsSpread l.window.bounds l.window.levels.items l.initial.counts l.counts;
+  even : IsEvenBut l.window.bounds l.window.levels.items l.counts l.reached.items l.done;
+  inner : All (IsInner l.window.bounds) l.reached.items;
 }
 
 abbrev pub decreases-loop-done : goal.decreases-loop-done

@@ -4,12 +4,12 @@ use Rattle.drain.proofs.window.settle.Goals as goal
 
 pub search-requires-clause-even : goal.search-requires-clause-even
 search-requires-clause-even c =
-    even_begin c.args.ground.now.bounds c.args.ground.now.levels.items c.args.old.now c.pull.new.counts c.in_ok-reached.reached.items c.in_ok-reached.ensures.near c.in_ok-reached.ensures.noted
+    even_begin c.args.window.now.bounds c.args.window.now.levels.items c.args.old.now c.pull.new.counts c.in_ok-reached.reached.items c.in_ok-reached.ensures.near c.in_ok-reached.ensures.noted
 
 pub returns : goal.returns
 returns c =
-    let b = c.args.ground.now.bounds in
-    let levels = c.args.ground.now.levels.items in
+    let b = c.args.window.now.bounds in
+    let levels = c.args.window.now.levels.items in
     let spread = c.in_ok-search.ensures.spread in
     record {
       spread = spread_on b levels c.args.old.now c.pull.new.counts c.search.new.counts c.in_ok-reached.ensures.spread spread;

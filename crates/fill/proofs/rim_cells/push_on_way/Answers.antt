@@ -21,7 +21,7 @@ returns-then-not-is_wanted g c =
     let same = same_Some c.in-Some.near r (sym (sym c.place_on.ensures ∙ c.in-Some.is) ∙ at.1) in
     absurd (cc (c.if-not-is_wanted.ensures ∙ ap (g.C.KnownCells.wanted c.args.cells.now) same ∙ at.2)))
 
--- the cell below
+-- The neighbour is the cell below.
 pub returns-then-near-place : goal.returns-then-near-place
 returns-then-near-place g c =
     let on = sym c.place_on.ensures ∙ c.in-Some.is in
@@ -31,7 +31,7 @@ returns-then-near-place g c =
     c.requires.from (ap (g.C.KnownCells.marks c.args.cells.now) is_below ∙ sym c.requires.below) (omega (arith, c.requires.after)) on
     (sym c.is_wanted.ensures ∙ cc c.if-not-is_wanted.false) added) (rw (ap (λ (z : Spared). z.sources) c.left_out.view_is) at c.push_join.ensures)
 
--- a cell between leads round: the one below, or the one beside
+-- The cell below or the one beside bypasses the join.
 pub returns-then-is_spared : goal.returns-then-is_spared
 returns-then-is_spared g c =
     let marks = g.C.KnownCells.marks c.args.cells.now in

@@ -17,7 +17,7 @@ last_in : (b : Bounds) (row : ℕ) → b.top ≤ row → row < b.top + b.rows �
 last_in b row above below some p same =
     subst (IsOnRimRow b row) (sym same) ((omega (arith, above), omega (arith, below), omega (arith, some), omega (arith, some)), refl, λ inner. omega (arith, inner.3, some))
 
--- but for the last row they are the first and the last
+-- Above the last row these are the first and the last cell of the row.
 ends : (b : Bounds) (row : ℕ) → row + 1 < b.top + b.rows → (p : Place) → IsOnRimRow b row p → (p ≡ record { row = row; col = b.left }) ⊎ (p ≡ record { row = row; col = b.left + b.cols - 1 })
 ends b row below p at = elim (cases_eq p.col b.left) [
   | inl first ↦ inl (same_place p (record { row = row; col = b.left }) at.1 first)

@@ -13,7 +13,7 @@ not_both : (x : Bool) → not x ≡ true → x ≡ true → ⊥
 not_both true e f = absurd (cc)
 not_both false e f = absurd (cc)
 
--- what comes after an inner cell lies in the bounds too
+-- A later neighbour of an inner cell lies in the bounds.
 after_inner : (b : Bounds) (p q : Place) → IsInner b p → Touches p q → IsAfter p q → IsInBounds b q
 after_inner b p q inner touch (inl down) = (omega (arith, inner, down), omega (arith, touch.row_down, inner), omega (arith, touch.col_left, inner), omega (arith, touch.col_right, inner))
 after_inner b p q inner touch (inr beside) = (omega (arith, inner, beside.0), omega (arith, inner, beside.0), omega (arith, inner, beside.1), omega (arith, touch.col_right, inner))

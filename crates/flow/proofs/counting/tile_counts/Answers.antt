@@ -11,22 +11,22 @@ use Rattle.flow.proofs.counting.tile_counts.Goals as goal
 pub rim_weights-requires-clause-size : goal.rim_weights-requires-clause-size
 rim_weights-requires-clause-size c = ap length c.codes-codes.ensures ∙ c.requires.countable.size
 
-pub upstream-requires-clause-streams : goal.upstream-requires-clause-streams
-upstream-requires-clause-streams c = subst (λ (l : List ℕ). AreStreams l) (sym c.links.ensures) c.requires.countable.streams
+pub upstream_weights-requires-clause-streams : goal.upstream_weights-requires-clause-streams
+upstream_weights-requires-clause-streams c = subst (λ (l : List ℕ). AreStreams l) (sym c.links.ensures) c.requires.countable.streams
 
-pub upstream-requires-clause-few : goal.upstream-requires-clause-few
-upstream-requires-clause-few c = omega (arith, c.requires.countable.few, c.requires.countable.linked, ap length c.links.ensures)
+pub upstream_weights-requires-clause-few : goal.upstream_weights-requires-clause-few
+upstream_weights-requires-clause-few c = omega (arith, c.requires.countable.few, c.requires.countable.linked, ap length c.links.ensures)
 
-pub upstream-requires-clause-same : goal.upstream-requires-clause-same
-upstream-requires-clause-same c =
+pub upstream_weights-requires-clause-same : goal.upstream_weights-requires-clause-same
+upstream_weights-requires-clause-same c =
     omega (arith, c.in_ok-weights.ensures.size, c.requires.countable.linked, ap length c.links.ensures, ap length c.codes-codes.ensures, ap length c.deref.ensures.value)
 
 weighed_by : (inflows : Inflows) (tile : ℕ) (f : Flow) (codes : List (Option ℕ)) (weights : List ℕ) → codes ≡ f.codes → AreRimWeights inflows (bounds_of inflows.cutting tile) codes weights →
     AreRimWeights inflows (bounds_of inflows.cutting tile) f.codes weights
 weighed_by inflows tile f codes weights e w = subst (λ (l : List (Option ℕ)). AreRimWeights inflows (bounds_of inflows.cutting tile) l weights) e w
 
-pub upstream-requires-clause-fits : goal.upstream-requires-clause-fits
-upstream-requires-clause-fits c = λ i h. omega (
+pub upstream_weights-requires-clause-fits : goal.upstream_weights-requires-clause-fits
+upstream_weights-requires-clause-fits c = λ i h. omega (
   arith,
   c.requires.countable.few_come c.in_ok-weights.weights.items (weighed_by _ _ c.args.flow.now _ _ c.codes-codes.ensures c.in_ok-weights.ensures) i
       (omega (arith, h, c.requires.countable.linked, ap length c.links.ensures)),
@@ -37,18 +37,18 @@ upstream-requires-clause-fits c = λ i h. omega (
 pub counts-requires-clause-weights : goal.counts-requires-clause-weights
 counts-requires-clause-weights c = ap length c.deref-2.ensures.value ∙ c.in_ok-weights.ensures.size
 
-up_by : (f : Flow) (links weights w came : List ℕ) → links ≡ links_by f.bounds f.codes → w ≡ weights → AreUpstream links w came → AreUpstream (links_by f.bounds f.codes) weights came
-up_by f links weights w came l e up =
-    subst (λ (x : List ℕ). AreUpstream x weights came) l (subst (λ (x : List ℕ). AreUpstream links x came) e up)
+up_by : (f : Flow) (links weights w upstream : List ℕ) → links ≡ links_by f.bounds f.codes → w ≡ weights → AreUpstream links w upstream → AreUpstream (links_by f.bounds f.codes) weights upstream
+up_by f links weights w upstream l e up =
+    subst (λ (x : List ℕ). AreUpstream x weights upstream) l (subst (λ (x : List ℕ). AreUpstream links x upstream) e up)
 
-pub counts-requires-clause-came : goal.counts-requires-clause-came
-counts-requires-clause-came c =
-    omega (arith, c.in_ok-came.ensures.size, c.requires.countable.linked, ap length c.links.ensures, ap length c.deref-3.ensures.value, ap length c.codes-codes.ensures)
+pub counts-requires-clause-upstream : goal.counts-requires-clause-upstream
+counts-requires-clause-upstream c =
+    omega (arith, c.in_ok-upstream.ensures.size, c.requires.countable.linked, ap length c.links.ensures, ap length c.deref-3.ensures.value, ap length c.codes-codes.ensures)
 
 pub counts-requires-clause-fits : goal.counts-requires-clause-fits
 counts-requires-clause-fits c = λ i h.
     let below : i < length c.args.flow.now.codes = omega (arith, h, ap length c.codes-codes.ensures) in
-    let up = up_by c.args.flow.now _ _ _ _ c.links.ensures c.deref.ensures.value c.in_ok-came.ensures in
+    let up = up_by c.args.flow.now _ _ _ _ c.links.ensures c.deref.ensures.value c.in_ok-upstream.ensures in
     omega (
       arith,
       up.each i (omega (arith, below, c.requires.countable.linked)),
@@ -64,9 +64,9 @@ returns c =
     (λ (v : Vec (Option ℕ) Global). AreCounts c.args.inflows.now c.args.tile c.args.flow.now v.items)
     (λ v e. record {
       weights = c.in_ok-weights.weights.items;
-      came = c.in_ok-came.came.items;
+      upstream = c.in_ok-upstream.upstream.items;
       weighed = weighed_by _ _ c.args.flow.now _ _ c.codes-codes.ensures c.in_ok-weights.ensures;
-      up = up_by c.args.flow.now _ _ _ _ c.links.ensures c.deref.ensures.value c.in_ok-came.ensures;
+      up = up_by c.args.flow.now _ _ _ _ c.links.ensures c.deref.ensures.value c.in_ok-upstream.ensures;
       made = e ∙ ap (λ (x : List (Option ℕ)). counts_by x c.deref-2.result.now c.deref-3.result.now) c.codes-codes.ensures
           ∙ ap (λ (x : List ℕ). counts_by c.args.flow.now.codes x c.deref-3.result.now) c.deref-2.ensures.value
           ∙ ap (counts_by c.args.flow.now.codes c.in_ok-weights.weights.items) c.deref-3.ensures.value;

@@ -4,15 +4,15 @@ use Rattle.std.proofs.lemmas.Result.{err_from_is_err_and}
 use Rattle.terrain.specs.Raster.{Raster}
 use Rattle.terrain.specs.Sinks.{raster_with_sinks}
 use Rattle.relief.specs.declared.fault.RunFault.TheVariants.{Sight}
-use Rattle.relief.specs.Refusals.{gauge_fault, observer_fault, wish_fault}
-use Rattle.relief.proofs.Draining.{drained_some, place_refused, sinks_refused, sound_gauges, wish_of_many, wish_of_sound}
+use Rattle.relief.specs.Refusals.{gauge_fault, observer_fault, request_fault}
+use Rattle.relief.proofs.Draining.{drained_some, place_refused, sinks_refused, sound_gauges, request_of_many, request_of_sound}
 use Rattle.relief.proofs.making.prepare.Goals as goal
 
 pub returns-in_err-tiling-clause-fault : goal.returns-in_err-tiling-clause-fault
 returns-in_err-tiling-clause-fault c =
     let p = err_from_is_err_and c.from_residual.result c.from_residual.ensures.1 in
     let many = c.in_err-tiling.ensures.many in
-    rw (p.1, p.2, many.0) (wish_of_many c.args.options.now c.args.grid (rw c.tile.ensures.value at many.1))
+    rw (p.1, p.2, many.0) (request_of_many c.args.options.now c.args.grid (rw c.tile.ensures.value at many.1))
 
 pub returns-in-Some-clause-fault : goal.returns-in-Some-clause-fault
 returns-in-Some-clause-fault c =
@@ -32,8 +32,8 @@ pub returns-clause-sound : goal.returns-clause-sound
 returns-clause-sound c =
     let w = c.args.options.now in
     let given : Raster = raster_with_sinks c.args.grid w.sinks in
-    subst (λ (r : Raster). wish_fault w r ≡ option_map Sight (observer_fault r w.map)) (sym (rw c.sinks-sinks.ensures.value at c.in_ok-grid.ensures.grid))
-    (wish_of_sound w given (rw c.tile.ensures.value at c.in_ok-tiling.ensures.few) (sym c.named_place_fault.ensures ∙ c.in_default.is))
+    subst (λ (r : Raster). request_fault w r ≡ option_map Sight (observer_fault r w.map)) (sym (rw c.sinks-sinks.ensures.value at c.in_ok-grid.ensures.grid))
+    (request_of_sound w given (rw c.tile.ensures.value at c.in_ok-tiling.ensures.few) (sym c.named_place_fault.ensures ∙ c.in_default.is))
 
 pub returns-clause-gauges : goal.returns-clause-gauges
 returns-clause-gauges c =

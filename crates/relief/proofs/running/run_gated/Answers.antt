@@ -3,7 +3,7 @@ use Rattle.std.proofs.lemmas.Result.{err_from_is_err_and}
 use Rattle.terrain.specs.Raster.{Raster}
 use Rattle.relief.specs.MadeMap.{made_text}
 use Rattle.relief.specs.MapText.{IsMapText}
-use Rattle.relief.specs.Refusals.{IsWorkRefusal, wish_fault}
+use Rattle.relief.specs.Refusals.{IsWorkRefusal, request_fault}
 use Rattle.relief.proofs.Draining.{refusal_without}
 use Rattle.relief.proofs.Ran.{reading_refused, making_refused, writing_failed, ran}
 use Rattle.relief.proofs.running.run_gated.Goals as goal
@@ -36,7 +36,7 @@ returns-in_err-write_map g c =
     let w = c.args.options.now in
     rw (p.1, p.2) (writing_failed g.R.Read.remaining g.W.Write.contents w c.args.reader.now c.read_grid.new.reader c.args.writer.now c.write_map.new.writer c.in_ok-grid.grid reads _
     (subst (λ (r : Raster). IsMapText r w.map (made_text c.in_ok-made.made)) c.in_ok-grid-2.ensures.grid c.in_ok-made.ensures.map) _
-    (subst (λ (r : Raster). wish_fault w r ≡ None) c.in_ok-grid-2.ensures.grid c.in_ok-made.ensures.ready) c.in_err-write_map.ensures)
+    (subst (λ (r : Raster). request_fault w r ≡ None) c.in_ok-grid-2.ensures.grid c.in_ok-made.ensures.ready) c.in_err-write_map.ensures)
 
 pub returns : goal.returns
 returns g c =

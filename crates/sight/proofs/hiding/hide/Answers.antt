@@ -6,7 +6,7 @@ use Rattle.horizons.specs.declared.target.Target.{Target}
 use Rattle.sight.specs.Sweep.{is_blocked_before}
 use Rattle.sight.specs.Looking.{LooksFrom}
 use Rattle.sight.specs.Hiding.{rise_at, AreRays}
-use Rattle.sight.proofs.Asked.{AreHiddenBelow, ray_at, rank_at, ray_is_target, window_kept, looked_on, none_asked, blocked_asked, open_asked, all_asked}
+use Rattle.sight.proofs.Check.{AreHiddenBelow, ray_at, rank_at, ray_is_target, window_kept, looked_on, none_asked, blocked_asked, open_asked, all_asked}
 use Rattle.sight.proofs.hiding.hide.Goals as goal
 use Rattle.sight.proofs.hiding.hide.Goals.{then-hides, else-hides}
 
@@ -34,7 +34,7 @@ go_to-requires-clause-line c =
 
 pub go_to-requires-clause-range : goal.go_to-requires-clause-range
 go_to-requires-clause-range c =
-    (c.loop-number.invariant.some, c.loop-number.invariant.line c.loop-number.number _ (omega arith) (slice_get-get_or c.deref-ray-items.result.now c.loop-number.number (record { aside = pos 0; line = 0 }) c.loop-number-test.true))
+    (c.loop-number.invariant.some, c.loop-number.invariant.line c.loop-number.number _ (omega arith) (slice_get-get_or c.deref-ray-items.result.now c.loop-number.number (record { offset = pos 0; line = 0 }) c.loop-number-test.true))
 
 pub go_to-requires-clause-before : goal.go_to-requires-clause-before
 go_to-requires-clause-before c = rw c.deref-in-loop-number.ensures.value c.loop-number.invariant.looks
@@ -85,8 +85,8 @@ loop-number-preserved c =
     let n = c.loop-number.number in
     let targets = c.in_ok-ranked.ranked.targets.items in
     let marks = c.loop-number.marks in
-    let t = get_or rays n (record { aside = pos 0; line = 0 }) in
-    let at_t : slice_get rays n ≡ Some t = slice_get-get_or rays n (record { aside = pos 0; line = 0 }) c.loop-number-test.true in
+    let t = get_or rays n (record { offset = pos 0; line = 0 }) in
+    let at_t : slice_get rays n ≡ Some t = slice_get-get_or rays n (record { offset = pos 0; line = 0 }) c.loop-number-test.true in
     let are : AreRays f w old 4097 0 rays = rw c.deref-ray-items.ensures.value c.in_ok-rays.ensures.rays in
     let ray = (are.each n t at_t).0 in
     let look : LooksFrom cells f targets t.line c.go_to.new.self = rw c.deref-in-loop-number.ensures.value at c.in_ok-go_to.ensures in

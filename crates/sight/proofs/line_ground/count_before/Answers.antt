@@ -9,17 +9,17 @@ loop-leap-preserved c =
     let targets = c.args.targets.now in
     let l = c.loop-leap in
     let next = l.low + l.leap in
-    let back = back_short c.args.aside (omega (arith, c.requires.aside)) in
+    let back = back_short c.args.offset (omega (arith, c.requires.offset)) in
     let told = rw back at c.is_before.ensures in
-    let at = slice_get-get_or targets next (record { aside = pos 0; line = 0 }) (omega arith) in
+    let at = slice_get-get_or targets next (record { offset = pos 0; line = 0 }) (omega arith) in
     rw back (record {
       range = (omega arith, omega arith);
       leap = (omega arith, omega arith);
-      before = before_to targets c.args.line next c.args.aside _ c.requires.targets at (told.0 c.if-not-is_before.false);
+      before = before_to targets c.args.line next c.args.offset _ c.requires.targets at (told.0 c.if-not-is_before.false);
     })
 
 pub returns-then-not-is_before-clause-before : goal.returns-then-not-is_before-clause-before
-returns-then-not-is_before-clause-before c = rw (back_short c.args.aside (omega (arith, c.requires.aside))) at c.halved.ensures.before
+returns-then-not-is_before-clause-before c = rw (back_short c.args.offset (omega (arith, c.requires.offset))) at c.bisect.ensures.before
 
 pub returns-clause-before : goal.returns-clause-before
-returns-clause-before c = rw (back_short c.args.aside (omega (arith, c.requires.aside))) at c.halved-2.ensures.before
+returns-clause-before c = rw (back_short c.args.offset (omega (arith, c.requires.offset))) at c.bisect-2.ensures.before

@@ -6,7 +6,7 @@ abbrev pub invariant-loop-leap : goal.invariant-loop-leap
 invariant-loop-leap l = record {
   range : (l.from ≤ l.low) × (l.low < l.end);
   leap : (0 < l.leap) × (l.leap ≤ l.end + l.end);
-  before : AreBefore l.targets l.line l.aside (l.low + 1);
+  before : AreBefore l.targets l.line l.offset (l.low + 1);
 }
 
 abbrev pub decreases-loop-leap : goal.decreases-loop-leap

@@ -6,9 +6,9 @@ use Rattle.sight.proofs.line_ground.raise.Goals as goal
 
 pub loop-from-init : goal.loop-from-init
 loop-from-init c =
-    let raised = low_raised c.args.cells.now c.args.family c.args.targets.now c.args.line c.count_passed-from.result c.args.highest.now c.passed.result c.clear.new.self c.push.new.self c.clear.ensures c.requires.family c.requires.targets c.in_ok-push.ensures
-    c.count_passed-from.ensures.before c.passed.ensures in
-    record { within = c.count_passed-from.ensures.range; extent = raised.0; cursor = c.start-cursor.ensures c.args.highest.now c.count_passed-from.result; raises = raised.1 }
+    let raised = low_raised c.args.cells.now c.args.family c.args.targets.now c.args.line c.count_before_side-from.result c.args.highest.now c.passed.result c.clear.new.self c.push.new.self c.clear.ensures c.requires.family c.requires.targets c.in_ok-push.ensures
+    c.count_before_side-from.ensures.before c.passed.ensures in
+    record { within = c.count_before_side-from.ensures.range; extent = raised.0; cursor = c.start-cursor.ensures c.args.highest.now c.count_before_side-from.result; raises = raised.1 }
 
 pub loop-from-preserved-in_ok-push-2 : goal.loop-from-preserved-in_ok-push-2
 loop-from-preserved-in_ok-push-2 c =

@@ -32,7 +32,7 @@ loop-rank-preserved c =
     let at : slice_get order n ≡ Some o = slice_get_read order (length order) n o refl (omega arith) c.index.ensures in
     let ray = ray_of rays order n o c.in_ok-order.ensures.each at in
     let within : o.number < length rays = slice_get_within rays o.number ray.0 ray.1 in
-    let at_t = slice_get-get_or rays o.number (record { aside = pos 0; line = 0 }) within in
+    let at_t = slice_get-get_or rays o.number (record { offset = pos 0; line = 0 }) within in
     record {
       taken = rw c.in_ok-push.ensures.items (taken_more rays c.loop-rank.targets.items order n o _ c.loop-rank.invariant.taken at at_t);
       size = omega (arith, length-set ranks o.number n, c.loop-rank.invariant.size);

@@ -17,4 +17,4 @@ returns c =
     on_ok_weaker c.hide-2.result
     (λ (hidden : AreHidden cells (facing f true) w c.args.height c.hide.new.marks c.hide-2.new.marks).
     both_sides cells f w c.args.height c.args.marks.now c.hide.new.marks c.hide-2.new.marks c.requires.lines.at c.requires.lines.tile one hidden)
-    (rw (c.turned_back.ensures, back, c.min.ensures, c.max.ensures) at c.hide-2.ensures)
+    (rw (c.reverse.ensures, back, c.min.ensures, c.max.ensures) at c.hide-2.ensures)

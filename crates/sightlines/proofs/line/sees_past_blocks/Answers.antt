@@ -32,5 +32,5 @@ blocking_step_past_blocks-requires-2-clause-heights c = rw c.cells-cells.ensures
 pub hides-requires-clause-heights : goal.hides-requires-clause-heights
 hides-requires-clause-heights c = rw c.cells-cells.ensures.value (are_heights c.args.grid.now.terrain c.cells-cells.ensures.lawful.terrain)
 
-pub hides_apart-requires-clause-heights : goal.hides_apart-requires-clause-heights
-hides_apart-requires-clause-heights c = rw c.cells-cells.ensures.value (are_heights c.args.grid.now.terrain c.cells-cells.ensures.lawful.terrain)
+pub hides_out_of_line-requires-clause-heights : goal.hides_out_of_line-requires-clause-heights
+hides_out_of_line-requires-clause-heights c = rw c.cells-cells.ensures.value (are_heights c.args.grid.now.terrain c.cells-cells.ensures.lawful.terrain)

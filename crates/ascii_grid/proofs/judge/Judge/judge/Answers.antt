@@ -5,7 +5,7 @@ use Rattle.ascii_grid.specs.Reading.{flat, HasJudged, IsWordFault}
 use Rattle.ascii_grid.specs.declared.judge.Judge.{Judge}
 use Rattle.ascii_grid.specs.declared.judge.Stage.TheVariants.{AtValue}
 use Rattle.ascii_grid.proofs.Judging.{HasBegun-more}
-use Rattle.ascii_grid.proofs.JudgedWords.{is_memory, told_slot, told_bad_value, word_fault, judged-key, fault-key, judged-value, fault-value, long_fault, height_word, no_first_height, at_key, at_heights, same_header}
+use Rattle.ascii_grid.proofs.JudgedWords.{is_memory, not_memory_slot, not_memory_bad_value, word_fault, judged-key, fault-key, judged-value, fault-value, long_fault, height_word, no_first_height, at_key, at_heights, same_header}
 use Rattle.ascii_grid.proofs.judge.Judge.judge.Goals as goal
 
 pub returns-then-word-gt-MOST_WORD_BYTES-clause-word : goal.returns-then-word-gt-MOST_WORD_BYTES-clause-word
@@ -26,7 +26,7 @@ pub returns-in_err-put-in-AtValue-clause-word : goal.returns-in_err-put-in-AtVal
 returns-in_err-put-in-AtValue-clause-word c = λ ws h.
     let p = err_from_is_err_and c.from_residual.result c.from_residual.ensures.1 in
     let bad = c.in_err-put-in-AtValue.ensures.err in
-    rw (p.1, p.2) (word_fault c.args.self.now.scale (ws ++ c.args.word.now ∷ []) _ (ap (λ g. is_memory (Some g)) bad.1 ∙ told_bad_value c.in-AtValue.key) (fault-value c.args.self.now ws c.args.word.now c.in-AtValue.key c.in-AtValue.centre h c.in-AtValue.is (omega arith) bad.0 ∙ ap Some (sym bad.1)))
+    rw (p.1, p.2) (word_fault c.args.self.now.scale (ws ++ c.args.word.now ∷ []) _ (ap (λ g. is_memory (Some g)) bad.1 ∙ not_memory_bad_value c.in-AtValue.key) (fault-value c.args.self.now ws c.args.word.now c.in-AtValue.key c.in-AtValue.centre h c.in-AtValue.is (omega arith) bad.0 ∙ ap Some (sym bad.1)))
 
 pub returns-then-begins_with_letter-clause-word : goal.returns-then-begins_with_letter-clause-word
 returns-then-begins_with_letter-clause-word c = λ ws h.
@@ -39,7 +39,7 @@ returns-in_err-key-in-AtKey-clause-word c = λ ws h.
     let p = err_from_is_err_and c.from_residual-in_err-key-in-AtKey.result c.from_residual-in_err-key-in-AtKey.ensures.1 in
     let letter = sym c.begins_with_letter.ensures ∙ c.if-begins_with_letter.true in
     let bad = c.in_err-key-in-AtKey.ensures.err in
-    rw (p.1, p.2) (word_fault c.args.self.now.scale (ws ++ c.args.word.now ∷ []) _ (told_slot _ _ _ bad) (fault-key c.args.self.now ws c.args.word.now _ h c.in-AtKey.is (omega arith) letter bad))
+    rw (p.1, p.2) (word_fault c.args.self.now.scale (ws ++ c.args.word.now ∷ []) _ (not_memory_slot _ _ _ bad) (fault-key c.args.self.now ws c.args.word.now _ h c.in-AtKey.is (omega arith) letter bad))
 
 pub returns-in-AtHeights-clause-word : goal.returns-in-AtHeights-clause-word
 returns-in-AtHeights-clause-word c = λ ws h.

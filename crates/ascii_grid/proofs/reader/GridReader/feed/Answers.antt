@@ -46,8 +46,8 @@ returns-then-within-piece c = record {
   taken = λ text h. fed_long _ c.take_all.new.self text c.args.piece.now c.min-within.result c.min-within.ensures c.in_default.is (subst (λ r. HasTaken r text) (sym c.self.view_is) h) (omega arith) c.in_default-take_all.ensures.words;
   ok = search rules;
   err = λ text h.
-      let told = fed_long _ c.take_all.new.self text c.args.piece.now c.min-within.result c.min-within.ensures c.in_default.is (subst (λ r. HasTaken r text) (sym c.self.view_is) h) (omega arith) c.in_default-take_all.ensures.words in
-      subst (λ d. fault_so_far d (text ++ c.args.piece.now) ≡ Some TooLong) (c.in_default-take_all.ensures.scale ∙ ap (λ r. r.scale) c.self.view_is) told;
+      let reported = fed_long _ c.take_all.new.self text c.args.piece.now c.min-within.result c.min-within.ensures c.in_default.is (subst (λ r. HasTaken r text) (sym c.self.view_is) h) (omega arith) c.in_default-take_all.ensures.words in
+      subst (λ d. fault_so_far d (text ++ c.args.piece.now) ≡ Some TooLong) (c.in_default-take_all.ensures.scale ∙ ap (λ r. r.scale) c.self.view_is) reported;
   fault = search rules;
   again = search rules;
 }

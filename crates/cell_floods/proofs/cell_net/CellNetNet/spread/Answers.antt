@@ -23,6 +23,6 @@ returns c =
     let n : Cells = record { stride = c.self.inside.stride; cells = c.self.inside.cells.items; sinks = c.self.inside.sinks.items } in
     let here : get_or n.cells c.args.from.now.node None ≡ Some c.in-Some.height = sym (get_or_read n.cells c.args.from.now.node c.index.result.now (search rules) c.index.ensures None) ∙ sym c.height.ensures ∙ c.in-Some.is in
     let above : n.stride < c.args.from.now.node = search rules in
-    let follows = λ (cells : List (Option ℤ)) (h : ℤ). Follows c.args.labels.now c.args.from.now (filter_map (way_to cells h) (cells_around n.stride c.args.from.now.node)) c.args.levels.now c.push_around.new.levels c.args.waits.now c.push_around.new.waits in
-    let waits = subst (λ cells. follows cells c.in-Some.height) c.deref.ensures.value (subst (λ h. follows c.deref.result.now h) height c.in_ok-push_around.ensures) in
-    (_, rw (← c.self.view_is) (just_ways n c.args.from.now.node c.in-Some.height here above), waits)
+    let follows = λ (cells : List (Option ℤ)) (h : ℤ). Follows c.args.labels.now c.args.from.now (filter_map (way_to cells h) (cells_around n.stride c.args.from.now.node)) c.args.levels.now c.push_around.new.levels c.args.queue.now c.push_around.new.queue in
+    let queue = subst (λ cells. follows cells c.in-Some.height) c.deref.ensures.value (subst (λ h. follows c.deref.result.now h) height c.in_ok-push_around.ensures) in
+    (_, rw (← c.self.view_is) (just_ways n c.args.from.now.node c.in-Some.height here above), queue)

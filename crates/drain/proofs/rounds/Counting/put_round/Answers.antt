@@ -1,7 +1,7 @@
 use Rattle.std.proofs.Common.{◌<◌, ℕ, List, Option, sym, subst, ◌∙◌, arith}
 use Rattle.std.proofs.lemmas.List.{with_items_is}
 use Rattle.drain.specs.Rounds.{AreCounting}
-use Rattle.drain.specs.Entering.{lent_terrain}
+use Rattle.drain.specs.Entering.{sinkless_terrain}
 use Rattle.drain.specs.Rounding.{rounding_of, left_in, IsNext}
 use Rattle.drain.proofs.RoundLemmas.{given_within, carried_counting, next_round, put_carried, put_less}
 use Rattle.drain.proofs.rounds.Counting.put_round.Goals as goal
@@ -14,7 +14,7 @@ entries_of_changed-requires-clause-counting c =
     let now = c.args.self.now in
     let put = rw c.deref_mut.ensures.value at c.put_all.ensures in
     let whole = with_items_is now.steps c.put_all.new.steps (omega (arith, put.size, now.steps.ok.0)) in
-    subst (λ (xs : List (Option ℕ)). AreCounting (lent_terrain now.tiling.now now.levels.now) xs) (sym (c.deref.ensures.value ∙ whole))
+    subst (λ (xs : List (Option ℕ)). AreCounting (sinkless_terrain now.tiling.now now.levels.now) xs) (sym (c.deref.ensures.value ∙ whole))
     (carried_counting now.tiling.now now.levels.now now.steps.items c.put_all.new.steps (put_carried (rounding_of now) c.args.outs.now c.put_all.new.steps c.requires.rounding c.requires.answered put))
 
 pub entries_of_changed-requires-clause-changes : goal.entries_of_changed-requires-clause-changes

@@ -22,7 +22,7 @@ loop-join-init c =
       added = rw (no_ways c.args.labels lasts joins befores zeros c.in_ok-befores.ensures.items) (no_ways_added _);
     }
 
--- a list of what each label has holds both labels of a join
+-- Both labels of a join are indexes into a list of all labels.
 ends_in : (joins items : List Join) (labels index : ℕ) (lasts : List ℕ) → items ≡ joins → All (λ j. (j.from < labels) × (j.to < labels)) joins
     → length lasts ≡ labels → index < length items → ((get_or items index none).from < length lasts) × ((get_or items index none).to < length lasts)
 ends_in joins items labels index lasts same inside size below =

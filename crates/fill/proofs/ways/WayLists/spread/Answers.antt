@@ -16,17 +16,17 @@ loop-at-init c =
     let low : c.args.from.now.node < length w.lasts.items = omega (arith, c.requires.label, ap length c.self.view_is, ways_length w.lasts.items w.joins.items w.befores.items) in
     ([], chain_begun w.lasts.items w.joins.items w.befores.items c.args.from.now.node _ c.self.invariant low c.index-at.ensures, none_followed _ _ _ _ c.requires.order c.requires.noted)
 
-pub push_way-requires-clause-order : goal.push_way-requires-clause-order
-push_way-requires-clause-order c = c.loop-at.invariant.2.order
+pub queue_neighbour-requires-clause-order : goal.queue_neighbour-requires-clause-order
+queue_neighbour-requires-clause-order c = c.loop-at.invariant.2.order
 
-pub push_way-requires-clause-inside : goal.push_way-requires-clause-inside
-push_way-requires-clause-inside c =
+pub queue_neighbour-requires-clause-inside : goal.queue_neighbour-requires-clause-inside
+queue_neighbour-requires-clause-inside c =
     let w = c.self.inside in
     let there = chain_has w.lasts.items w.joins.items w.befores.items c.args.from.now.node c.loop-at.at c.link_at-link.result c.loop-at.invariant.0 c.self.invariant (omega (arith, c.loop-at-test.true)) (rw (c.deref.ensures.value, c.deref-in-loop-at.ensures.value) at c.link_at-link.ensures) c.loop-at.invariant.1 in
     All-contains (λ (w : Spill). w.to < length c.args.labels.now) _ c.link_at-link.result.way c.requires.inside (rw c.self.view_is at there)
 
-pub push_way-requires-clause-noted : goal.push_way-requires-clause-noted
-push_way-requires-clause-noted c = c.loop-at.invariant.2.noted
+pub queue_neighbour-requires-clause-noted : goal.queue_neighbour-requires-clause-noted
+queue_neighbour-requires-clause-noted c = c.loop-at.invariant.2.noted
 
 pub loop-at-smaller : goal.loop-at-smaller
 loop-at-smaller c =
@@ -39,7 +39,7 @@ loop-at-preserved c =
     let done = c.loop-at.invariant.0 in (
       done ++ c.link_at-link.result.way ∷ [],
       chain_more w.lasts.items w.joins.items w.befores.items c.args.from.now.node c.loop-at.at c.link_at-link.result done c.self.invariant (omega (arith, c.loop-at-test.true)) (rw (c.deref.ensures.value, c.deref-in-loop-at.ensures.value) at c.link_at-link.ensures) c.loop-at.invariant.1,
-      more_followed _ _ _ _ _ _ _ _ _ _ c.loop-at.invariant.2 c.in_ok-push_way.ensures,
+      more_followed _ _ _ _ _ _ _ _ _ _ c.loop-at.invariant.2 c.in_ok-queue_neighbour.ensures,
     )
 
 pub returns : goal.returns

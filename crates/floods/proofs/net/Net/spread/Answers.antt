@@ -3,8 +3,8 @@ use Rattle.std.proofs.lemmas.List.Elements.{All-weaker}
 use Rattle.floods.specs.declared.net.Spill.{Spill}
 use Rattle.floods.proofs.net.Net.spread.Goals as goal
 
-pub push_ways-requires : goal.push_ways-requires
-push_ways-requires g c =
+pub queue_neighbours-requires : goal.queue_neighbours-requires
+queue_neighbours-requires g c =
     let inside = g.met.Self.Net.joined_inside c.args.self.now c.args.from.now.node in
     record {
       order = c.requires.order;

@@ -21,19 +21,19 @@ all_entering-requires-clause-within c i h =
     subst (λ (o : Option Place). IfSome o (IsWithin c.args.tiling.now)) (sym (target_listed _ _ _ (c.deref-4.ensures.value ∙ c.requires.targets) i h))
     (targets_within _ _ _ c.requires.flows.1 i)
 
-pub upstream-requires-clause-streams : goal.upstream-requires-clause-streams
-upstream-requires-clause-streams c = rim_streams _ _ _ c.requires.flows.1 _ (c.deref-2.ensures.value ∙ c.requires.links)
+pub upstream_weights-requires-clause-streams : goal.upstream_weights-requires-clause-streams
+upstream_weights-requires-clause-streams c = rim_streams _ _ _ c.requires.flows.1 _ (c.deref-2.ensures.value ∙ c.requires.links)
 
-pub upstream-requires-clause-few : goal.upstream-requires-clause-few
-upstream-requires-clause-few c = omega (arith, links_size _ _ _ c.requires.flows.1 _ (c.deref-2.ensures.value ∙ c.requires.links), few_numbers _ c.requires.flows.1.cutting)
+pub upstream_weights-requires-clause-few : goal.upstream_weights-requires-clause-few
+upstream_weights-requires-clause-few c = omega (arith, links_size _ _ _ c.requires.flows.1 _ (c.deref-2.ensures.value ∙ c.requires.links), few_numbers _ c.requires.flows.1.cutting)
 
-pub upstream-requires-clause-same : goal.upstream-requires-clause-same
-upstream-requires-clause-same c =
+pub upstream_weights-requires-clause-same : goal.upstream_weights-requires-clause-same
+upstream_weights-requires-clause-same c =
     let made = c.deref-2.ensures.value ∙ c.requires.links in
     weights_size _ _ _ c.requires.flows.1 c.requires.flows.2 _ made _ (c.deref-3.ensures.value ∙ c.in_ok-weights.ensures) ∙ sym (links_size _ _ _ c.requires.flows.1 _ made)
 
-pub upstream-requires-clause-fits : goal.upstream-requires-clause-fits
-upstream-requires-clause-fits c i h =
+pub upstream_weights-requires-clause-fits : goal.upstream_weights-requires-clause-fits
+upstream_weights-requires-clause-fits c i h =
     let made = c.deref-2.ensures.value ∙ c.requires.links in
     let weighed = c.deref-3.ensures.value ∙ c.in_ok-weights.ensures in
     omega (arith, total_few _ _ _ c.requires.flows.1 c.requires.flows.2 _ made _ weighed i (omega (arith, h, links_size _ _ _ c.requires.flows.1 _ made)))
@@ -42,16 +42,16 @@ pub all_entering-requires-clause-weights : goal.all_entering-requires-clause-wei
 all_entering-requires-clause-weights c =
     ap length c.deref-5.ensures.value ∙ weights_size _ _ _ c.requires.flows.1 c.requires.flows.2 _ (c.deref-2.ensures.value ∙ c.requires.links) _ c.in_ok-weights.ensures
 
-pub all_entering-requires-clause-came : goal.all_entering-requires-clause-came
-all_entering-requires-clause-came c =
-    ap length c.deref-6.ensures.value ∙ c.in_ok-came.ensures.size ∙ links_size _ _ _ c.requires.flows.1 _ (c.deref-2.ensures.value ∙ c.requires.links)
+pub all_entering-requires-clause-upstream : goal.all_entering-requires-clause-upstream
+all_entering-requires-clause-upstream c =
+    ap length c.deref-6.ensures.value ∙ c.in_ok-upstream.ensures.size ∙ links_size _ _ _ c.requires.flows.1 _ (c.deref-2.ensures.value ∙ c.requires.links)
 
 pub all_entering-requires-clause-amounts : goal.all_entering-requires-clause-amounts
 all_entering-requires-clause-amounts c i h =
     let made = c.deref-2.ensures.value ∙ c.requires.links in
     omega (
       arith,
-      c.in_ok-came.ensures.each i (omega (arith, h, links_size _ _ _ c.requires.flows.1 _ made)),
+      c.in_ok-upstream.ensures.each i (omega (arith, h, links_size _ _ _ c.requires.flows.1 _ made)),
       total_few _ _ _ c.requires.flows.1 c.requires.flows.2 _ made _ (c.deref-3.ensures.value ∙ c.in_ok-weights.ensures) i h,
       ap (λ (l : List ℕ). get_or l i 0) c.deref-6.ensures.value,
       ap (λ (l : List ℕ). get_or l i 0) (c.deref-5.ensures.value ∙ sym c.deref-3.ensures.value),
@@ -59,7 +59,7 @@ all_entering-requires-clause-amounts c i h =
 
 pub all_entering-requires-clause-few : goal.all_entering-requires-clause-few
 all_entering-requires-clause-few c k =
-    let up = subst (λ (w : List ℕ). AreUpstream c.deref-2.result.now w c.in_ok-came.came.items) c.deref-3.ensures.value c.in_ok-came.ensures in
+    let up = subst (λ (w : List ℕ). AreUpstream c.deref-2.result.now w c.in_ok-upstream.upstream.items) c.deref-3.ensures.value c.in_ok-upstream.ensures in
     omega (
       arith,
       entering_few _ _ _ c.requires.flows.1 c.requires.flows.2 _ _ _ _ (c.deref-4.ensures.value ∙ c.requires.targets) (c.deref-2.ensures.value ∙ c.requires.links) c.in_ok-weights.ensures up k,
@@ -69,7 +69,7 @@ all_entering-requires-clause-few c k =
 
 pub returns-clause-inflows : goal.returns-clause-inflows
 returns-clause-inflows c d f counts =
-    let up = subst (λ (w : List ℕ). AreUpstream c.deref-2.result.now w c.in_ok-came.came.items) c.deref-3.ensures.value c.in_ok-came.ensures in
+    let up = subst (λ (w : List ℕ). AreUpstream c.deref-2.result.now w c.in_ok-upstream.upstream.items) c.deref-3.ensures.value c.in_ok-upstream.ensures in
     inflows_are d c.args.tiling.now c.args.flows.now f counts _ _ _ _ (c.deref-4.ensures.value ∙ c.requires.targets) (c.deref-2.ensures.value ∙ c.requires.links) c.in_ok-weights.ensures up _
-    (subst (λ (w : List ℕ). AreEntering c.args.tiling.now c.deref-4.result.now w c.in_ok-came.came.items c.in_ok-listed.listed.items) c.deref-5.ensures.value
+    (subst (λ (w : List ℕ). AreEntering c.args.tiling.now c.deref-4.result.now w c.in_ok-upstream.upstream.items c.in_ok-listed.listed.items) c.deref-5.ensures.value
     (subst (λ (w : List ℕ). AreEntering c.args.tiling.now c.deref-4.result.now c.deref-5.result.now w c.in_ok-listed.listed.items) c.deref-6.ensures.value c.in_ok-listed.ensures))

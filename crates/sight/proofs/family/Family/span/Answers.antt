@@ -14,19 +14,19 @@ pub returns-in_default : goal.returns-in_default
 returns-in_default c =
     let f = c.args.self in
     let k = c.args.line in
-    let aside = c.aside_at-aside.result in
-    let back = back_short aside (omega (arith, c.aside_at-aside.ensures.small)) in
-    let out : (n : ℕ) → pos n ≡ pos f.side.at +ℤ aside → f.side.cells ≤ n = rw back at c.in_default.ensures in
+    let offset = c.offset_at-offset.result in
+    let back = back_short offset (omega (arith, c.offset_at-offset.ensures.small)) in
+    let out : (n : ℕ) → pos n ≡ pos f.side.at +ℤ offset → f.side.cells ≤ n = rw back at c.in_default.ensures in
     rw back (record {
-      passes = c.aside_at-aside.ensures.passes;
-      small = c.aside_at-aside.ensures.small;
-      last = (omega (arith, ints), c.aside_at-aside.ensures.small);
+      passes = c.offset_at-offset.ensures.passes;
+      small = c.offset_at-offset.ensures.small;
+      last = (omega (arith, ints), c.offset_at-offset.ensures.small);
       shows = λ t is_t slope among alone.
-          let passes = passes_one k aside t among in
+          let passes = passes_one k offset t among in
           record {
             at = c.nothing.ensures.at t is_t;
             hides = λ y rise stands later is.
-                let cell = none_outside f k y aside t c.requires.family stands later passes in
+                let cell = none_outside f k y offset t c.requires.family stands later passes in
                 absurd (omega (arith, out cell.0 cell.1, cell.2));
           };
     })
@@ -36,19 +36,19 @@ returns-in_default-height_at c =
     let f = c.args.self in
     let k = c.args.line in
     let cells = c.args.cells.now in
-    let aside = c.aside_at-aside.result in
-    let back = back_short aside (omega (arith, c.aside_at-aside.ensures.small)) in
-    let cell : IsCell f k aside c.in-Some.index = rw back at c.in-Some.ensures in
+    let offset = c.offset_at-offset.result in
+    let back = back_short offset (omega (arith, c.offset_at-offset.ensures.small)) in
+    let cell : IsCell f k offset c.in-Some.index = rw back at c.in-Some.ensures in
     let none : get_or cells (near_index f k cell.0) None ≡ None = ap (λ n. get_or cells n None) (sym cell.3) ∙ sym c.height_at.ensures ∙ c.in_default-height_at.is in
     rw back (record {
-      passes = c.aside_at-aside.ensures.passes;
-      small = c.aside_at-aside.ensures.small;
-      last = (omega (arith, ints), c.aside_at-aside.ensures.small);
+      passes = c.offset_at-offset.ensures.passes;
+      small = c.offset_at-offset.ensures.small;
+      last = (omega (arith, ints), c.offset_at-offset.ensures.small);
       shows = λ t is_t slope among alone.
-          let passes = passes_one k aside t among in
+          let passes = passes_one k offset t among in
           record {
             at = c.nothing.ensures.at t is_t;
-            hides = λ y rise stands later is. c.nothing.ensures.below t rise is_t is ∙ sym (nothing_near cells f k cell.0 y aside rise t stands later passes cell.2 none);
+            hides = λ y rise stands later is. c.nothing.ensures.below t rise is_t is ∙ sym (nothing_near cells f k cell.0 y offset rise t stands later passes cell.2 none);
           };
     })
 
@@ -57,32 +57,32 @@ returns-in-Some-height_at-2 c =
     let f = c.args.self in
     let k = c.args.line in
     let cells = c.args.cells.now in
-    let aside = c.aside_at-aside.result in
+    let offset = c.offset_at-offset.result in
     let near = c.in-Some-height_at.near in
     let far = c.in-Some-height_at-2.far in
-    let back = back_short aside (omega (arith, c.aside_at-aside.ensures.small)) in
+    let back = back_short offset (omega (arith, c.offset_at-offset.ensures.small)) in
     let near_fits : FitsSigned w64 near = search rules in
     let far_fits : FitsSigned w64 far = search rules in
     let near_back = to_z-of_z w64 near near_fits in
     let far_back = to_z-of_z w64 far far_fits in
-    let cell : IsCell f k aside c.in-Some.index = rw back at c.in-Some.ensures in
+    let cell : IsCell f k offset c.in-Some.index = rw back at c.in-Some.ensures in
     let here : get_or cells (near_index f k cell.0) None ≡ Some near = ap (λ n. get_or cells n None) (sym cell.3) ∙ sym c.height_at.ensures ∙ c.in-Some-height_at.is in
     let next : get_or cells (near_index f k cell.0 + f.side.stride) None ≡ Some far = ap (λ n. get_or cells (n + f.side.stride) None) (sym cell.3) ∙ sym c.height_at-2.ensures ∙ c.in-Some-height_at-2.is in
-    let ramp : c.ramp-ramp.result ≡ ramp_of f k aside near far = rw (back, near_back, far_back) at c.ramp-ramp.ensures.ramp in
+    let ramp : c.ramp-ramp.result ≡ ramp_of f k offset near far = rw (back, near_back, far_back) at c.ramp-ramp.ensures.ramp in
     let at = rw back at c.ramp-ramp.ensures.at in
     let last = c.last_of.result in
-    let last_back = back_short last (omega (arith, ints, c.last_of.ensures.range, c.aside_at-aside.ensures.small)) in
+    let last_back = back_short last (omega (arith, ints, c.last_of.ensures.range, c.offset_at-offset.ensures.small)) in
     let onward = rw back at c.last_of.ensures.shows in
     let range = rw back at c.last_of.ensures.range in
     rw (back, last_back) (record {
-      passes = c.aside_at-aside.ensures.passes;
-      small = c.aside_at-aside.ensures.small;
-      last = (range.0, omega (arith, ints, range, c.aside_at-aside.ensures.small));
+      passes = c.offset_at-offset.ensures.passes;
+      small = c.offset_at-offset.ensures.small;
+      last = (range.0, omega (arith, ints, range, c.offset_at-offset.ensures.small));
       shows = λ t is_t slope among alone.
-          among_shows cells f k aside last c.ramp-ramp.result t is_t.line.0 among
+          among_shows cells f k offset last c.ramp-ramp.result t is_t.line.0 among
           (λ passes. record {
             at = at t is_t passes;
-            hides = λ y rise stands later is. ap (λ r. hides_by r t rise) ramp ∙ shows_ramp cells f k cell.0 y aside near far rise t stands later passes cell.2 here next;
+            hides = λ y rise stands later is. ap (λ r. hides_by r t rise) ramp ∙ shows_ramp cells f k cell.0 y offset near far rise t stands later passes cell.2 here next;
           })
           (λ b past below passes. onward b t past below is_t passes);
     })
@@ -93,30 +93,30 @@ returns-then-not-is_at_centre c =
     let k = c.args.line in
     let cells = c.args.cells.now in
     let target = c.args.target in
-    let aside = c.aside_at-aside.result in
+    let offset = c.offset_at-offset.result in
     let near = c.in-Some-height_at.near in
-    let back = back_short aside (omega (arith, c.aside_at-aside.ensures.small)) in
-    let cell : IsCell f k aside c.in-Some.index = rw back at c.in-Some.ensures in
+    let back = back_short offset (omega (arith, c.offset_at-offset.ensures.small)) in
+    let cell : IsCell f k offset c.in-Some.index = rw back at c.in-Some.ensures in
     let here : get_or cells (near_index f k cell.0) None ≡ Some near = ap (λ n. get_or cells n None) (sym cell.3) ∙ sym c.height_at.ensures ∙ c.in-Some-height_at.is in
     let next : get_or cells (near_index f k cell.0 + f.side.stride) None ≡ None = ap (λ n. get_or cells (n + f.side.stride) None) (sym cell.3) ∙ sym c.height_at-2.ensures ∙ c.in_default-height_at-2.is in
-    let passed = c.aside_at-aside.ensures.passes.low in
+    let passed = c.offset_at-offset.ensures.passes.low in
     let centre = rw back at c.is_at_centre.ensures in
-    let beyond : (aside *ℤ pos target.line) <ℤ (target.aside *ℤ pos k) = by_lt_z (aside *ℤ pos target.line) (target.aside *ℤ pos k) (λ less. less) (λ not.
-    let centred : (target.aside *ℤ pos k) ≡ aside *ℤ pos target.line = omega (arith, ints, passed, not) in
+    let beyond : (offset *ℤ pos target.line) <ℤ (target.offset *ℤ pos k) = by_lt_z (offset *ℤ pos target.line) (target.offset *ℤ pos k) (λ less. less) (λ not.
+    let centred : (target.offset *ℤ pos k) ≡ offset *ℤ pos target.line = omega (arith, ints, passed, not) in
     let yes = centre.1 centred in
     let no = c.if-not-is_at_centre.true in
     absurd (cc)) in
     rw back (record {
-      passes = c.aside_at-aside.ensures.passes;
-      small = c.aside_at-aside.ensures.small;
-      last = (omega (arith, ints), c.aside_at-aside.ensures.small);
+      passes = c.offset_at-offset.ensures.passes;
+      small = c.offset_at-offset.ensures.small;
+      last = (omega (arith, ints), c.offset_at-offset.ensures.small);
       shows = λ t is_t slope among alone.
-          let passes = passes_one k aside t among in
+          let passes = passes_one k offset t among in
           record {
             at = c.nothing.ensures.at t is_t;
             hides = λ y rise stands later is.
-                let past = past_onward aside target.aside t.aside target.line t.line k is_t.line.0 slope beyond in
-                c.nothing.ensures.below t rise is_t is ∙ sym (nothing_far cells f k cell.0 y aside rise near t stands later passes cell.2 here next past);
+                let past = past_onward offset target.offset t.offset target.line t.line k is_t.line.0 slope beyond in
+                c.nothing.ensures.below t rise is_t is ∙ sym (nothing_far cells f k cell.0 y offset rise near t stands later passes cell.2 here next past);
           };
     })
 
@@ -134,17 +134,17 @@ ramp-requires-clause-heights c =
 pub last_of-requires-clause-first : goal.last_of-requires-clause-first
 last_of-requires-clause-first c =
     let f = c.args.self in
-    let aside = c.aside_at-aside.result in
-    let back = back_short aside (omega (arith, c.aside_at-aside.ensures.small)) in
-    let cell : IsCell f c.args.line aside c.in-Some.index = rw back at c.in-Some.ensures in
+    let offset = c.offset_at-offset.result in
+    let back = back_short offset (omega (arith, c.offset_at-offset.ensures.small)) in
+    let cell : IsCell f c.args.line offset c.in-Some.index = rw back at c.in-Some.ensures in
     rw back (omega (arith, ints, cell.1, cell.2, c.requires.family))
 
-pub ramp-requires-clause-aside : goal.ramp-requires-clause-aside
-ramp-requires-clause-aside c =
+pub ramp-requires-clause-offset : goal.ramp-requires-clause-offset
+ramp-requires-clause-offset c =
     let f = c.args.self in
-    let aside = c.aside_at-aside.result in
-    let back = back_short aside (omega (arith, c.aside_at-aside.ensures.small)) in
-    let cell : IsCell f c.args.line aside c.in-Some.index = rw back at c.in-Some.ensures in
+    let offset = c.offset_at-offset.result in
+    let back = back_short offset (omega (arith, c.offset_at-offset.ensures.small)) in
+    let cell : IsCell f c.args.line offset c.in-Some.index = rw back at c.in-Some.ensures in
     rw back (omega (arith, ints, cell.1, cell.2, c.requires.family))
 
 pub returns : goal.returns
@@ -153,27 +153,27 @@ returns c =
     let k = c.args.line in
     let cells = c.args.cells.now in
     let target = c.args.target in
-    let aside = c.aside_at-aside.result in
+    let offset = c.offset_at-offset.result in
     let near = c.in-Some-height_at.near in
-    let back = back_short aside (omega (arith, c.aside_at-aside.ensures.small)) in
+    let back = back_short offset (omega (arith, c.offset_at-offset.ensures.small)) in
     let near_fits : FitsSigned w64 near = search rules in
     let near_back = to_z-of_z w64 near near_fits in
-    let cell : IsCell f k aside c.in-Some.index = rw back at c.in-Some.ensures in
+    let cell : IsCell f k offset c.in-Some.index = rw back at c.in-Some.ensures in
     let here : get_or cells (near_index f k cell.0) None ≡ Some near = ap (λ n. get_or cells n None) (sym cell.3) ∙ sym c.height_at.ensures ∙ c.in-Some-height_at.is in
-    let ramp : c.ramp.result ≡ ramp_of f k aside near near = rw (back, near_back) at c.ramp.ensures.ramp in
+    let ramp : c.ramp.result ≡ ramp_of f k offset near near = rw (back, near_back) at c.ramp.ensures.ramp in
     let at = rw back at c.ramp.ensures.at in
     let centre = rw back at c.is_at_centre.ensures in
-    let centred : (target.aside *ℤ pos k) ≡ aside *ℤ pos target.line = centre.0 c.if-not-is_at_centre.false in
+    let centred : (target.offset *ℤ pos k) ≡ offset *ℤ pos target.line = centre.0 c.if-not-is_at_centre.false in
     rw back (record {
-      passes = c.aside_at-aside.ensures.passes;
-      small = c.aside_at-aside.ensures.small;
-      last = (omega (arith, ints), c.aside_at-aside.ensures.small);
+      passes = c.offset_at-offset.ensures.passes;
+      small = c.offset_at-offset.ensures.small;
+      last = (omega (arith, ints), c.offset_at-offset.ensures.small);
       shows = λ t is_t slope among alone.
-          let passes = passes_one k aside t among in
+          let passes = passes_one k offset t among in
           let same : t ≡ target = alone refl in
           record {
             at = at t is_t passes;
-            hides = λ y rise stands later is. ap (λ r. hides_by r t rise) ramp ∙ shows_centre cells f k cell.0 y aside near rise t stands later (ap (λ u. u.aside *ℤ pos k) same ∙ centred ∙ ap (λ u. aside *ℤ pos u.line) (sym same)) cell.2 here;
+            hides = λ y rise stands later is. ap (λ r. hides_by r t rise) ramp ∙ shows_centre cells f k cell.0 y offset near rise t stands later (ap (λ u. u.offset *ℤ pos k) same ∙ centred ∙ ap (λ u. offset *ℤ pos u.line) (sym same)) cell.2 here;
           };
     })
 

@@ -26,7 +26,6 @@ loop-cell-preserved c =
       ];
     }
 
--- a number or 0, whichever is greater
 from_0_small : (z : ℤ) (n : ℕ) → unsigned_abs z ≤ n → unsigned_abs (int_max z (pos 0)) ≤ n
 from_0_small z n few = omega (arith, ints, int_max_is z (pos 0), few)
 

@@ -4,7 +4,6 @@ use Rattle.std.proofs.lemmas.Grind.{div_ceil_times}
 use Rattle.std.proofs.lemmas.Nat.{mul-le}
 use Rattle.sightlines.proofs.walk.Axis.gain.Goals as goal
 
--- a quotient that is rounded up is no greater than the number
 rounded_le : (x n q : ℕ) → 0 < n → q * n < x + n → q ≤ x
 rounded_le x n q some low =
     elim (cases_lt x q) [

@@ -12,9 +12,9 @@ fifo_as-requires g c = begins
 
 pub invariant_of-result : goal.invariant_of-result
 invariant_of-result g c =
-    let J = g.D.Place.jobs in
-    let S = g.D.Place.seats in
-    let V = g.D.Place.deque in
+    let J = g.D.DequeKey.jobs in
+    let S = g.D.DequeKey.seats in
+    let V = g.D.DequeKey.deque in
     let n = worker_index c.push_marks.new.worker in
     let seats : S ≡ c.args.seats = c.requires.place.1 in
     let size : n ≡ length (deal J S V) + S = subst (λ m. n ≡ length (deal J m V) + m) (sym seats) c.push_marks.ensures.index in

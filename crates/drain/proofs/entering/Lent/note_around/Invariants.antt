@@ -1,6 +1,0 @@
-use Rattle.std.proofs.Common.{◌≡◌, ◌<◌}
-use Rattle.drain.specs.Entering.{lent_terrain, AreEntered}
-use Rattle.drain.proofs.entering.Lent.note_around.Given as goal
-
-abbrev pub invariant-loop-row : goal.invariant-loop-row
-invariant-loop-row l = AreEntered (lent_terrain l.self.tiling.now l.self.levels.now) l.self.tiling.now l.self.steps.now (λ p q. (p.row < l.row) × (q ≡ l.from.place)) l.initial.entries.items l.entries.items

@@ -1,0 +1,63 @@
+-- Ways down from an interior cell, which has eight places of the grid around it.
+-- Private.
+use Rattle.std.specs.Prelude.{◌≡◌, ℕ, ◌+◌, ◌%◌, ◌<◌, ◌≤◌, ◌*◌, ◌⊎◌, ◌==◌, max, ℤ, ◌-ℤ◌, ◌≤ℤ◌, List, length, fold, Option, None, Some, option_map, unwrap_or, position, slice_index_or}
+use Rattle.std.specs.Option.{option_zip}
+use Rattle.drain.specs.Steepness.{positive_part, weights}
+use Rattle.drain.specs.declared.around.Around.{Around}
+
+-- The drop from this level to a height; 0 if it is not lower or there is none.
+abbrev pub drop_by : ℤ → Option ℤ → ℕ
+drop_by level None = 0
+drop_by level (Some height) = positive_part (level -ℤ height)
+
+-- The surroundings have this level and, on the eight ways, these heights.
+pub record HasHeights (a : Around) (level : ℤ) (heights : List (Option ℤ)) : Type 0 where
+  pub own_level : a.level ≡ level
+  pub count : length a.ways ≡ 8
+  pub each : (way : ℕ) → way < 8 →
+      slice_index_or heights way None ≡ option_map (λ w. w.0) (slice_index_or a.ways way None)
+
+-- The drop from this level on a way.
+abbrev pub drop_on : ℤ → List (Option ℤ) → ℕ → ℕ
+drop_on level heights way = drop_by level (slice_index_or heights way None)
+
+-- The height on way `2 * turn + parity`, or this level if there is none. Even ways lead along a row
+-- or column, odd ones across a diagonal.
+abbrev pub height_on : ℤ → List (Option ℤ) → ℕ → ℕ → ℤ
+height_on level heights parity turn =
+    unwrap_or (slice_index_or heights (2 * turn + parity) None) level
+
+-- The lowest of this level and the heights on the first ways of one parity.
+pub record IsLowestBefore (level : ℤ) (heights : List (Option ℤ)) (parity end : ℕ)
+    (lowest : ℤ) : Type 0 where
+  pub low : lowest ≤ℤ level
+  pub each : (turn : ℕ) → turn < end → lowest ≤ℤ height_on level heights parity turn
+  pub one : (lowest ≡ level)
+      ⊎ ((turn : ℕ) × (turn < end) × (height_on level heights parity turn ≡ lowest))
+
+-- The greatest drop on the ways of one parity before `end`, 0 if none leads down. If it is above 0,
+-- `way` is the first with this drop.
+pub record IsFurthest (level : ℤ) (heights : List (Option ℤ))
+    (parity end drop way : ℕ) : Type 0 where
+  pub bound : (other : ℕ) → other < end → other % 2 ≡ parity → drop_on level heights other ≤ drop
+  pub reached : 0 < drop → (way < end) × (way % 2 ≡ parity) × (drop_on level heights way ≡ drop)
+  pub first : (other : ℕ) → 0 < drop → other < way → other % 2 ≡ parity →
+      drop_on level heights other < drop
+
+-- The first of the steepest ways down, or `None` if no way leads down.
+pub record IsSteepestWay (a : Around) (found : Option ℕ) : Type 0 where
+  pub none : found ≡ None → fold max 0 (weights a) ≡ 0
+  pub some : (way : ℕ) → found ≡ Some way →
+      let most = fold max 0 (weights a) in
+      (way < 8) × (0 < most) × (position (λ w. w == most) (weights a) ≡ Some way)
+
+-- The surroundings have this level, these steps, and the cells at these eight indexes.
+pub record StandAround (a : Around) (cells : List (Option ℤ)) (steps : List (Option ℕ))
+    (at : List ℕ) (level : ℤ) (own : ℕ) : Type 0 where
+  pub own_level : a.level ≡ level
+  pub own_steps : a.steps ≡ own
+  pub count : length a.ways ≡ 8
+  pub each : (way : ℕ) → way < 8 →
+      slice_index_or a.ways way None
+      ≡ option_zip (slice_index_or cells (slice_index_or at way 0) None)
+      (slice_index_or steps (slice_index_or at way 0) None)

@@ -1,0 +1,203 @@
+-- A command line has one meaning; the meanings of some command lines.
+use Rattle.std.proofs.Common.{◌≡◌, ◌<◌, ◌^◌, ℕ, List, [], ◌∷◌, map, drop, get_or, slice_index, codes, arith, rules, Option, Some, None, sym, ap, ap₂, subst, refl, inl, inr, ◌∙◌}
+use Rattle.std.specs.Prelude.{Any}
+use Rattle.std.specs.Option.{option_map_or}
+use Rattle.std.specs.Str.Parse.{IsNumeral, digits_value, without_leading_plus}
+use Rattle.std.proofs.lemmas.Option.{same_Some}
+use Rattle.clap.specs.Words.{Row, Text, one_of, subcommand_of}
+use Rattle.clap.specs.Kinds.{Kinds}
+use Rattle.clap.specs.declared.error.kind.ErrorKind.{ErrorKind}
+use Rattle.clap.specs.declared.error.kind.ErrorKind.TheVariants as kind
+use Rattle.clap.proofs.OnLiterals.{clap_on_literals}
+use Rattle.terrain.specs.declared.observer.Observer.{Observer}
+use Rattle.terrain.specs.declared.place.Place.{Place}
+use Rattle.request.specs.CommandLine.{AreRefused, AskForHelp, HasNumber, HasOptions, IsHelp, Names, Spell, RequestFor, is_given, program_app, sink_words}
+use Rattle.request.specs.Laws.{AreSame, BasinsOfSinks, CatchmentsOfAGauge, FillAlone, HelpOfView, NoSideOfZero, VersionAlone, ViewWithRadius}
+use Rattle.request.specs.PlaceWords.{sink_of}
+use Rattle.request.specs.Request.{Request}
+use Rattle.request.specs.declared.map.Map.{Map}
+use Rattle.request.specs.declared.map.Map.TheVariants.{Fill, Flow, Accumulate, Basins, Catchments, View}
+use Rattle.request.proofs.Given.{same_number}
+
+-- the third letter of a map's name, which differs for all six
+abbrev letter : Map → ℕ
+letter Fill = 108
+letter Flow = 111
+letter Accumulate = 99
+letter Basins = 115
+letter (Catchments gauges) = 116
+letter (View observers target radius) = 101
+
+name_letter : (name : Text) (rows : List Row) (m : Map) → Names name rows m → slice_index name 2 ≡ letter m
+name_letter name rows Fill n = ap (λ (t : Text). slice_index t 2) n
+name_letter name rows Flow n = ap (λ (t : Text). slice_index t 2) n
+name_letter name rows Accumulate n = ap (λ (t : Text). slice_index t 2) n
+name_letter name rows Basins n = ap (λ (t : Text). slice_index t 2) n
+name_letter name rows (Catchments gauges) n = ap (λ (t : Text). slice_index t 2) n.0
+name_letter name rows (View observers target radius) n = ap (λ (t : Text). slice_index t 2) n.0
+
+same_somes : {X : Type 0} (xs ys : List X) → map Some xs ≡ map Some ys → xs ≡ ys
+same_somes [] [] e = refl
+same_somes [] (y ∷ ys) e = absurd (cc)
+same_somes (x ∷ xs) [] e = absurd (cc)
+same_somes {X} (x ∷ xs) (y ∷ ys) e = ap₂ (λ (z : X) (zs : List X). z ∷ zs) (same_Some x y (ap (λ (zs : List (Option X)). get_or zs 0 None) e)) (same_somes xs ys (ap (drop 1) e))
+
+one_letter : (name : Text) (rows : List Row) (m n : Map) → Names name rows m → Names name rows n → letter m ≡ letter n → AreSame m n
+one_letter name rows Fill Fill a b e = refl
+one_letter name rows Fill Flow a b e = absurd (omega arith)
+one_letter name rows Fill Accumulate a b e = absurd (omega arith)
+one_letter name rows Fill Basins a b e = absurd (omega arith)
+one_letter name rows Fill (Catchments gauges) a b e = absurd (omega arith)
+one_letter name rows Fill (View observers target radius) a b e = absurd (omega arith)
+one_letter name rows Flow Fill a b e = absurd (omega arith)
+one_letter name rows Flow Flow a b e = refl
+one_letter name rows Flow Accumulate a b e = absurd (omega arith)
+one_letter name rows Flow Basins a b e = absurd (omega arith)
+one_letter name rows Flow (Catchments gauges) a b e = absurd (omega arith)
+one_letter name rows Flow (View observers target radius) a b e = absurd (omega arith)
+one_letter name rows Accumulate Fill a b e = absurd (omega arith)
+one_letter name rows Accumulate Flow a b e = absurd (omega arith)
+one_letter name rows Accumulate Accumulate a b e = refl
+one_letter name rows Accumulate Basins a b e = absurd (omega arith)
+one_letter name rows Accumulate (Catchments gauges) a b e = absurd (omega arith)
+one_letter name rows Accumulate (View observers target radius) a b e = absurd (omega arith)
+one_letter name rows Basins Fill a b e = absurd (omega arith)
+one_letter name rows Basins Flow a b e = absurd (omega arith)
+one_letter name rows Basins Accumulate a b e = absurd (omega arith)
+one_letter name rows Basins Basins a b e = refl
+one_letter name rows Basins (Catchments gauges) a b e = absurd (omega arith)
+one_letter name rows Basins (View observers target radius) a b e = absurd (omega arith)
+one_letter name rows (Catchments gauges) Fill a b e = absurd (omega arith)
+one_letter name rows (Catchments gauges) Flow a b e = absurd (omega arith)
+one_letter name rows (Catchments gauges) Accumulate a b e = absurd (omega arith)
+one_letter name rows (Catchments gauges) Basins a b e = absurd (omega arith)
+one_letter name rows (Catchments gauges) (Catchments others) a b e =
+    same_somes gauges.items others.items (sym a.1 ∙ b.1)
+one_letter name rows (Catchments gauges) (View observers target radius) a b e = absurd (omega arith)
+one_letter name rows (View observers target radius) Fill a b e = absurd (omega arith)
+one_letter name rows (View observers target radius) Flow a b e = absurd (omega arith)
+one_letter name rows (View observers target radius) Accumulate a b e = absurd (omega arith)
+one_letter name rows (View observers target radius) Basins a b e = absurd (omega arith)
+one_letter name rows (View observers target radius) (Catchments gauges) a b e = absurd (omega arith)
+one_letter name rows (View observers target radius) (View others height reach) a b e =
+    (same_somes observers.items others.items (sym a.1 ∙ b.1), same_number rows (codes "target") target height a.2 b.2, same_number rows (codes "radius") radius reach a.3 b.3)
+
+pub one_request : (words : List Text) (request other : Request) → RequestFor words request → RequestFor words other →
+    AreSame request.map other.map × (request.tile ≡ other.tile) × (request.workers ≡ other.workers)
+    × (request.scale ≡ other.scale) × (request.sinks ≡ other.sinks) × (request.progress ≡ other.progress)
+one_request words request other a b =
+    let command = same_Some _ _ (sym b.command.found ∙ a.command.found) in
+    let map = subst (λ (p : Text × List Row). Names p.0 p.1 other.map) command b.map in
+    let options = subst (λ (p : Text × List Row). HasOptions p.1 other.tile other.workers other.scale) command b.options in (
+      one_letter a.name a.rows request.map other.map a.map map (sym (name_letter a.name a.rows request.map a.map) ∙ name_letter a.name a.rows other.map map),
+      same_number a.rows (codes "tile") _ _ a.options.0 options.0,
+      same_number a.rows (codes "workers") _ _ a.options.1 options.1,
+      same_number a.rows (codes "scale") _ _ a.options.2 options.2,
+      same_somes request.sinks other.sinks (sym a.sinks ∙ subst (λ (p : Text × List Row). Spell sink_of (sink_words p.0 p.1) other.sinks) command b.sinks),
+      a.progress ∙ ap (λ (p : Text × List Row). is_given (codes "progress") p.1) (sym command) ∙ sym b.progress,
+    )
+
+none_any : (P : ErrorKind → Type 0) (ks : Kinds) → ks ≡ [] → Any P ks → ⊥
+none_any P ks none any = let some = subst (Any P) none any in absurd (omega (arith, some.2))
+
+pub request_accepted : (words : List Text) (request : Request) → RequestFor words request → ¬ AskForHelp words × ¬ AreRefused words
+request_accepted words request w = (
+  none_any IsHelp _ w.command.accepted,
+  λ refused. elim refused [ inl fault ↦ none_any (λ kind. ¬ IsHelp kind) _ w.command.accepted fault | inr none ↦ none.1 request w ],
+)
+
+abbrev rows_in : List Text → List Row
+rows_in words = option_map_or (λ p. p.1) (subcommand_of program_app words) []
+
+spelled : (rows : List Row) (id text : Text) (n : ℕ) → one_of id rows ≡ Some text → IsNumeral 10 (without_leading_plus text) → digits_value 10 (without_leading_plus text) ≡ n → n < 2 ^ 32 → HasNumber rows id n
+spelled rows id text n given numeral value small = record { text = text; given = given; numeral = numeral; spelled = value; small = small }
+
+default_options : (given : List Row) → one_of (codes "tile") given ≡ Some (codes "256") → one_of (codes "workers") given ≡ Some (codes "1")
+    → one_of (codes "scale") given ≡ Some (codes "0") → HasOptions given 256 1 0
+default_options given tile workers scale = (
+  spelled given (codes "tile") (codes "256") 256 tile (search rules) refl (omega arith),
+  spelled given (codes "workers") (codes "1") 1 workers (search rules) refl (omega arith),
+  spelled given (codes "scale") (codes "0") 0 scale (search rules) refl (omega arith),
+)
+
+abbrev fill_words : List Text
+fill_words = codes "relief" ∷ codes "fill" ∷ []
+
+pub fill_alone : FillAlone
+unfolding clap_on_literals
+fill_alone = record {
+  name = codes "fill";
+  rows = rows_in fill_words;
+  command = record { accepted = refl; found = refl };
+  map = refl;
+  sinks = refl;
+  options = default_options (rows_in fill_words) refl refl refl;
+  progress = refl;
+  limits = record { in_limits = search rules; view = λ v. absurd v };
+}
+
+abbrev basins_words : List Text
+basins_words = codes "relief" ∷ codes "basins" ∷ codes "1,2" ∷ codes "0,3" ∷ []
+
+pub basins_of_sinks : BasinsOfSinks
+unfolding clap_on_literals
+basins_of_sinks = record {
+  name = codes "basins";
+  rows = rows_in basins_words;
+  command = record { accepted = refl; found = refl };
+  map = refl;
+  sinks = refl;
+  options = default_options (rows_in basins_words) refl refl refl;
+  progress = refl;
+  limits = record { in_limits = search rules; view = λ v. absurd v };
+}
+
+abbrev catchments_words : List Text
+catchments_words = codes "relief" ∷ codes "catchments" ∷ codes "--progress" ∷ codes "--sink" ∷ codes "1,2"
+    ∷ codes "--sink" ∷ codes "0,3" ∷ codes "4,5" ∷ []
+
+pub catchments_of_a_gauge : CatchmentsOfAGauge
+unfolding clap_on_literals
+catchments_of_a_gauge gauges one = record {
+  name = codes "catchments";
+  rows = rows_in catchments_words;
+  command = record { accepted = refl; found = refl };
+  map = (refl, ap (λ (ps : List Place). map Some ps) (sym one));
+  sinks = refl;
+  options = default_options (rows_in catchments_words) refl refl refl;
+  progress = refl;
+  limits = record { in_limits = search rules; view = λ v. absurd v };
+}
+
+abbrev view_words : List Text
+view_words = codes "relief" ∷ codes "view" ∷ codes "--radius" ∷ codes "5" ∷ codes "1,2,3" ∷ []
+
+pub view_with_radius : ViewWithRadius
+unfolding clap_on_literals
+view_with_radius observers one = record {
+  name = codes "view";
+  rows = rows_in view_words;
+  command = record { accepted = refl; found = refl };
+  map = (
+    refl,
+    ap (λ (os : List Observer). map Some os) (sym one),
+    spelled (rows_in view_words) (codes "target") (codes "0") 0 refl (search rules) refl (omega arith),
+    spelled (rows_in view_words) (codes "radius") (codes "5") 5 refl (search rules) refl (omega arith),
+  );
+  sinks = refl;
+  options = default_options (rows_in view_words) refl refl refl;
+  progress = refl;
+  limits = record { in_limits = search rules; view = λ v. refl };
+}
+
+pub no_side_of_zero : NoSideOfZero
+unfolding clap_on_literals
+no_side_of_zero = inl (0, kind.ValueValidation, omega arith, refl, λ help. elim help [ inl same ↦ cc | inr same ↦ cc ])
+
+pub help_of_view : HelpOfView
+unfolding clap_on_literals
+help_of_view = (0, kind.DisplayHelp, omega arith, refl, inl refl)
+
+pub version_alone : VersionAlone
+unfolding clap_on_literals
+version_alone = (refl, (0, kind.DisplayVersion, omega arith, refl, inr refl))
