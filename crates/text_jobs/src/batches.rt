@@ -8,7 +8,7 @@ use std::io::Read;
 
 /// The most pieces of a batch.
 ///
-/// One less than fit into 1 MiB, so that the unfinished word before a batch fits too.
+/// Not 256: a batch and the unfinished word before it hold at most 1 MiB of text together.
 const BATCH_PIECES: usize = 255;
 
 /// The most bytes of a batch.
@@ -40,12 +40,11 @@ pub(crate) fn read_batch<R: Read>(reader: &mut Counted<R>, bytes: &mut [u8]) -> 
     ensures count { reader.new.failures ≡ reader.old.failures }
     ensures read { HasRead R.remaining reader.old reader.new (take result.len bytes.new) }
 {
-    let mut piece = [0; PIECE_BYTES];
     let mut len = 0;
     let mut pieces = 0;
     while pieces < BATCH_PIECES && len < bytes.len() {
-        let room = PIECE_BYTES.min(bytes.len() - len);
-        let count = match reader.read_ahead(&mut piece[..room]) {
+        let end = len + PIECE_BYTES.min(bytes.len() - len);
+        let count = match reader.read_ahead(&mut bytes[len..end]) {
             Ok(count) => count,
             Err(failure) => {
                 return Batch {
@@ -60,7 +59,6 @@ pub(crate) fn read_batch<R: Read>(reader: &mut Counted<R>, bytes: &mut [u8]) -> 
                 end: BatchEnd::Text,
             };
         }
-        bytes[len..len + count].copy_from_slice(&piece[..count]);
         len += count;
         pieces += 1;
     }
