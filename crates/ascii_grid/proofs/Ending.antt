@@ -13,9 +13,9 @@ use Rattle.ascii_grid.specs.Reading.{flat, IsParted, HasWords, HasJudged, AreHei
 use Rattle.decimals.specs.Plain.{IsPlain}
 use Rattle.ascii_grid.specs.declared.fault.GridFault.{GridFault}
 use Rattle.ascii_grid.specs.declared.fault.GridFault.TheVariants.{TooLong, Memory}
-use Rattle.ascii_grid.specs.declared.judge.Judge.{Judge}
-use Rattle.ascii_grid.specs.declared.judge.Stage.TheVariants.{AtHeights}
-use Rattle.ascii_grid.specs.declared.progress.Tokenizer.{Tokenizer}
+use Rattle.ascii_grid.specs.declared.builder.GridBuilder.{GridBuilder}
+use Rattle.ascii_grid.specs.declared.builder.Stage.TheVariants.{AtHeights}
+use Rattle.ascii_grid.specs.declared.tokenizer.Tokenizer.{Tokenizer}
 use Rattle.ascii_grid.proofs.Parting.{words-parted, IsParted-byte, IsParted-separator}
 use Rattle.ascii_grid.proofs.Judging.{Pairs, HasBegun-more}
 use Rattle.ascii_grid.proofs.JudgedWords.{at_heights, is_memory, word_fault, long_fault, height_word}
@@ -43,37 +43,37 @@ words-last p text h some =
     let more : 0 < length h.last = omega (arith, length-take 65 h.last) in
     words-parted text h.ended h.last h.parted ∙ ap (λ z. h.ended ++ z) (filter-word h.last more)
 
-pub ended_ok : (p : Tokenizer) (j : Judge) (text : List ℕ) (h : HasWords p text) → 0 < length p.word → length p.word ≤ 64 → HasJudged j (h.ended ++ p.word ∷ []) → HasJudged j (words text)
+pub ended_ok : (p : Tokenizer) (j : GridBuilder) (text : List ℕ) (h : HasWords p text) → 0 < length p.word → length p.word ≤ 64 → HasJudged j (h.ended ++ p.word ∷ []) → HasJudged j (words text)
 ended_ok p j text h some short k =
     let size = ap length h.front in
     let same : p.word ≡ h.last = h.front ∙ take_all 65 h.last (omega (arith, length-take 65 h.last)) in
     subst (HasJudged j) (ap (λ w. h.ended ++ w ∷ []) same ∙ sym (words-last p text h some)) k
 
-pub ended_fault : (p : Tokenizer) (text : List ℕ) (f : GridFault) (h : HasWords p text) → 0 < length p.word → (64 < length p.word → f ≡ TooLong) → IsWordFault p.judge.scale (h.ended ++ p.word ∷ []) f → IsWordFault p.judge.scale (words text) f
+pub ended_fault : (p : Tokenizer) (text : List ℕ) (f : GridFault) (h : HasWords p text) → 0 < length p.word → (64 < length p.word → f ≡ TooLong) → IsWordFault p.builder.scale (h.ended ++ p.word ∷ []) f → IsWordFault p.builder.scale (words text) f
 ended_fault p text f h some long k =
     let size = ap length h.front in
     elim (cases_lt 64 (length p.word)) [
       | inl far ↦
           let more : 64 < length h.last = omega (arith, length-take 65 h.last) in
-          let at : words_fault p.judge.scale (words text) ≡ Some TooLong = ap (words_fault p.judge.scale) (words-last p text h some) ∙ long_fault p.judge h.ended h.last h.judged more in
-          word_fault p.judge.scale (words text) f (ap (λ g. is_memory (Some g)) (long far)) (at ∙ ap Some (sym (long far)))
+          let at : words_fault p.builder.scale (words text) ≡ Some TooLong = ap (words_fault p.builder.scale) (words-last p text h some) ∙ long_fault p.builder h.ended h.last h.judged more in
+          word_fault p.builder.scale (words text) f (ap (λ g. is_memory (Some g)) (long far)) (at ∙ ap Some (sym (long far)))
       | inr near ↦
           let same : p.word ≡ h.last = h.front ∙ take_all 65 h.last (omega (arith, length-take 65 h.last)) in
-          subst (λ ws. IsWordFault p.judge.scale ws f) (ap (λ w. h.ended ++ w ∷ []) same ∙ sym (words-last p text h some)) k
+          subst (λ ws. IsWordFault p.builder.scale ws f) (ap (λ w. h.ended ++ w ∷ []) same ∙ sym (words-last p text h some)) k
     ]
 
 -- ---- one more byte
 
-pub words_after_byte : (p p' : Tokenizer) (text : List ℕ) (b : ℕ) (h : HasWords p text) → is_separator b ≡ false → p'.judge ≡ p.judge → p'.word ≡ take 65 (h.last ++ b ∷ []) → HasWords p' (text ++ b ∷ [])
-words_after_byte p p' text b h e judge word = record {
+pub words_after_byte : (p p' : Tokenizer) (text : List ℕ) (b : ℕ) (h : HasWords p text) → is_separator b ≡ false → p'.builder ≡ p.builder → p'.word ≡ take 65 (h.last ++ b ∷ []) → HasWords p' (text ++ b ∷ [])
+words_after_byte p p' text b h e builder word = record {
   ended = h.ended;
   last = h.last ++ b ∷ [];
   parted = IsParted-byte text h.ended h.last b h.parted e;
-  judged = subst (λ j. HasJudged j h.ended) (sym judge) h.judged;
+  judged = subst (λ j. HasJudged j h.ended) (sym builder) h.judged;
   front = word;
 }
 
-pub words_after_separator : (p p' : Tokenizer) (text : List ℕ) (b : ℕ) → HasWords p text → is_separator b ≡ true → (p'.word ≡ []) × HasJudged p'.judge (words text) → HasWords p' (text ++ b ∷ [])
+pub words_after_separator : (p p' : Tokenizer) (text : List ℕ) (b : ℕ) → HasWords p text → is_separator b ≡ true → (p'.word ≡ []) × HasJudged p'.builder (words text) → HasWords p' (text ++ b ∷ [])
 words_after_separator p p' text b h e k = record {
   ended = words text;
   last = [];
@@ -118,20 +118,20 @@ parted_ended p text h e =
     subst (λ z. IsParted text h.ended z) last h.parted
 
 -- a plain height in a piece, and the separator after it
-pub plain_word : {T : Type 0} (p : Tokenizer) (j : Judge) (text bytes : List ℕ) (len b : ℕ) (value : ℤ) (r : Result T GridFault) → HasWords p text → p.word ≡ [] → p.judge.stage ≡ AtHeights → IsPlain p.judge.scale bytes len value → len < length bytes → b ≡ get_or bytes len 0 → is_separator b ≡ true → j.header ≡ p.judge.header → j.stage ≡ p.judge.stage
-    → ((ps : Pairs) (hs : List Word) (w : Word) → AreHeights p.judge ps hs → length w ≤ 64 → scaled_value p.judge.scale w ≡ Some value → MatchResult r (λ _. AreHeights j ps (hs ++ w ∷ [])) (λ f. (f ≡ Memory) ⊎ (height_fault p.judge.scale (flat ps) (length hs) w ≡ Some f)))
-    → MatchResult r (λ _. HasWords (record p { judge = j }) (text ++ take (len + 1) bytes)) (λ f. (n : ℕ) × (n ≤ length bytes) × IsWordFault p.judge.scale (ended_words (text ++ take n bytes)) f)
+pub plain_word : {T : Type 0} (p : Tokenizer) (j : GridBuilder) (text bytes : List ℕ) (len b : ℕ) (value : ℤ) (r : Result T GridFault) → HasWords p text → p.word ≡ [] → p.builder.stage ≡ AtHeights → IsPlain p.builder.scale bytes len value → len < length bytes → b ≡ get_or bytes len 0 → is_separator b ≡ true → j.header ≡ p.builder.header → j.stage ≡ p.builder.stage
+    → ((ps : Pairs) (hs : List Word) (w : Word) → AreHeights p.builder ps hs → length w ≤ 64 → scaled_value p.builder.scale w ≡ Some value → MatchResult r (λ _. AreHeights j ps (hs ++ w ∷ [])) (λ f. (f ≡ Memory) ⊎ (height_fault p.builder.scale (flat ps) (length hs) w ≡ Some f)))
+    → MatchResult r (λ _. HasWords (record p { builder = j }) (text ++ take (len + 1) bytes)) (λ f. (n : ℕ) × (n ≤ length bytes) × IsWordFault p.builder.scale (ended_words (text ++ take n bytes)) f)
 plain_word p j text bytes len b value r h none stage plain inside at ends header same judged =
     let w = take len bytes in
     let short : length w ≤ 64 = omega (arith, plain.short, length-take len bytes) in
-    let there = at_heights p.judge h.ended h.judged stage in
+    let there = at_heights p.builder h.ended h.judged stage in
     let parted = parted_word text bytes h.ended len b (parted_ended p text h none) plain.whole plain.some inside at ends in
     let ps = h.judged.pairs in
     let hs = h.judged.rest in
     MatchResult-weaker r
-    (height_word p.judge j h.ended ps hs w r h.judged.header h.judged.words (HasBegun-more hs (w ∷ []) there.0) there.1 short header (same ∙ stage) (judged ps hs w there.1 short plain.scaled))
+    (height_word p.builder j h.ended ps hs w r h.judged.header h.judged.words (HasBegun-more hs (w ∷ []) there.0) there.1 short header (same ∙ stage) (judged ps hs w there.1 short plain.scaled))
     (λ _ more. record { ended = h.ended ++ w ∷ []; last = []; parted = parted; judged = more; front = none })
-    (λ f fault. (len + 1, omega arith, subst (λ ws. IsWordFault p.judge.scale ws f) (sym parted.ended) fault))
+    (λ f fault. (len + 1, omega arith, subst (λ ws. IsWordFault p.builder.scale ws f) (sym parted.ended) fault))
 
 pub same_front : (text bytes rest : List ℕ) (at n : ℕ) → rest ≡ drop at bytes → (text ++ take at bytes) ++ take n rest ≡ text ++ take (at + n) bytes
 same_front text bytes rest at n e =

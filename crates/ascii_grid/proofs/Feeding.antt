@@ -10,11 +10,12 @@ use Rattle.std.proofs.Math.Seq.{take-append-add}
 use Rattle.terrain.specs.Words.{Word, words, ended_words}
 use Rattle.terrain.specs.Raster.{Raster, IsLawful}
 use Rattle.ascii_grid.specs.GridText.{most_bytes, words_fault, end_fault, fault_so_far, text_fault, judged_words, grid_of, AsksForCells, AsksAtHeight, AsksInText, IsGridText, IsRefusal, IsRefusalSoFar}
+use Rattle.std.specs.Result.{result_err}
 use Rattle.ascii_grid.specs.Reader.{Reader, IsReading, HasTaken, Feeds}
 use Rattle.ascii_grid.specs.Reading.{HasWords, IsWordFault, IsEndFault}
 use Rattle.ascii_grid.specs.declared.fault.GridFault.{GridFault}
 use Rattle.ascii_grid.specs.declared.fault.GridFault.TheVariants.{TooLong}
-use Rattle.ascii_grid.specs.declared.progress.Tokenizer.{Tokenizer}
+use Rattle.ascii_grid.specs.declared.tokenizer.Tokenizer.{Tokenizer}
 use Rattle.ascii_grid.proofs.Judging.{option_or-none, or_none}
 use Rattle.ascii_grid.proofs.JudgedWords.{judged_none, reported_further}
 use Rattle.ascii_grid.proofs.Stays.{ended-more, ended-words, words_fault-more, asks-more}
@@ -61,7 +62,7 @@ in_time-more front more =
     let next = ended-more (take most_bytes front) cut.0 in
     (next.0, ap ended_words cut.1 ∙ next.1)
 
--- they are also the first of the judged words
+-- words that ended within the first 2^29 bytes are the first of the judged words
 in_time-judged : (text : List ℕ) → (others : List Word) × (judged_words text ≡ ended_words (take most_bytes text) ++ others)
 in_time-judged text =
     elim (cases_lt most_bytes (length text)) [
@@ -69,7 +70,7 @@ in_time-judged text =
       | inr near ↦ let last = ended-words text in (last.0, rw (le-leb (length text) most_bytes near, take_all most_bytes text near) last.1)
     ]
 
--- a fault so far stays the fault so far
+-- a fault so far stays the fault as the text goes on
 so_far_stays : (d : ℕ) (front more : List ℕ) (f : GridFault) → fault_so_far d front ≡ Some f → fault_so_far d (front ++ more) ≡ Some f
 so_far_stays d front more f h =
     elim (cases_lt most_bytes (length front)) [
@@ -129,8 +130,8 @@ refused d front f short h =
     (λ g e. few_so_far d front short ∙ e) h
 
 -- words that were read have no fault
-read_none : (p : Tokenizer) (text : List ℕ) → HasWords p text → words_fault p.judge.scale (ended_words text) ≡ None
-read_none p text h = ap (words_fault p.judge.scale) h.parted.ended ∙ judged_none p.judge h.ended h.judged
+read_none : (p : Tokenizer) (text : List ℕ) → HasWords p text → words_fault p.builder.scale (ended_words text) ≡ None
+read_none p text h = ap (words_fault p.builder.scale) h.parted.ended ∙ judged_none p.builder h.ended h.judged
 
 -- ---- the end
 
@@ -175,7 +176,7 @@ answered_more r text more f e h =
 
 -- ---- a piece
 
-pub fed_fault : (r : Reader) (text piece : List ℕ) (within : ℕ) (f : GridFault) → within ≡ min (length piece) (most_bytes - r.count) → r.fault ≡ None → HasTaken r text → ((t : List ℕ) → HasWords r.words t → (n : ℕ) × (n ≤ length (take within piece)) × IsWordFault r.words.judge.scale (ended_words (t ++ take n (take within piece))) f) → IsRefusalSoFar r.words.judge.scale (text ++ piece) f
+pub fed_fault : (r : Reader) (text piece : List ℕ) (within : ℕ) (f : GridFault) → within ≡ min (length piece) (most_bytes - r.count) → r.fault ≡ None → HasTaken r text → ((t : List ℕ) → HasWords r.words t → (n : ℕ) × (n ≤ length (take within piece)) × IsWordFault r.words.builder.scale (ended_words (t ++ take n (take within piece))) f) → IsRefusalSoFar r.words.builder.scale (text ++ piece) f
 fed_fault r text piece within f cut none h fault =
     let k = reading r text none h in
     let part = take within piece in
@@ -183,21 +184,21 @@ fed_fault r text piece within f cut none h fault =
     let size : length (text ++ take at.0 part) ≤ most_bytes = omega (arith, cut, k.size, k.short, at.1, length-append text (take at.0 part), length-take at.0 part, length-take within piece) in
     let whole : piece ≡ take at.0 part ++ (drop at.0 part ++ drop within piece) = sym (take-append-drop within piece) ∙ ap (λ z. z ++ drop within piece) (sym (take-append-drop at.0 part)) ∙ append_assoc (take at.0 part) (drop at.0 part) (drop within piece) in
     let more = ap (λ z. text ++ z) whole ∙ sym (append_assoc text (take at.0 part) (drop at.0 part ++ drop within piece)) in
-    subst (λ t. IsRefusalSoFar r.words.judge.scale t f) (sym more)
-    (refusal_stays r.words.judge.scale (text ++ take at.0 part) (drop at.0 part ++ drop within piece) f (refused r.words.judge.scale (text ++ take at.0 part) f size at.2))
+    subst (λ t. IsRefusalSoFar r.words.builder.scale t f) (sym more)
+    (refusal_stays r.words.builder.scale (text ++ take at.0 part) (drop at.0 part ++ drop within piece) f (refused r.words.builder.scale (text ++ take at.0 part) f size at.2))
 
 -- a piece that makes the text too long
-pub fed_long : (r : Reader) (p : Tokenizer) (text piece : List ℕ) (within : ℕ) → within ≡ min (length piece) (most_bytes - r.count) → r.fault ≡ None → HasTaken r text → within < length piece → ((t : List ℕ) → HasWords r.words t → HasWords p (t ++ take within piece)) → fault_so_far p.judge.scale (text ++ piece) ≡ Some TooLong
+pub fed_long : (r : Reader) (p : Tokenizer) (text piece : List ℕ) (within : ℕ) → within ≡ min (length piece) (most_bytes - r.count) → r.fault ≡ None → HasTaken r text → within < length piece → ((t : List ℕ) → HasWords r.words t → HasWords p (t ++ take within piece)) → fault_so_far p.builder.scale (text ++ piece) ≡ Some TooLong
 fed_long r p text piece within cut none h over next =
     let k = reading r text none h in
     let longer : most_bytes < length (text ++ piece) = omega (arith, cut, over, k.size, k.short, length-append text piece) in
     let full : most_bytes ≡ length text + within = omega (arith, cut, over, k.size, k.short) in
     let in_time : take most_bytes (text ++ piece) ≡ text ++ take within piece = ap (λ n. take n (text ++ piece)) full ∙ take-append-add text piece within in
-    many_so_far p.judge.scale (text ++ piece) longer
-    ∙ ap (λ o. option_or o (Some TooLong)) (ap (λ z. words_fault p.judge.scale (ended_words z)) in_time ∙ read_none p (text ++ take within piece) (next text k.words_of))
+    many_so_far p.builder.scale (text ++ piece) longer
+    ∙ ap (λ o. option_or o (Some TooLong)) (ap (λ z. words_fault p.builder.scale (ended_words z)) in_time ∙ read_none p (text ++ take within piece) (next text k.words_of))
 
 -- a piece without a fault
-pub fed_all : (r r' : Reader) (text piece : List ℕ) → r.fault ≡ None → HasTaken r text → length piece ≤ most_bytes - r.count → ((t : List ℕ) → HasWords r.words t → HasWords r'.words (t ++ piece)) → r'.words.judge.scale ≡ r'.scale → r'.count ≡ r.count + length piece → IsReading r' (text ++ piece)
+pub fed_all : (r r' : Reader) (text piece : List ℕ) → r.fault ≡ None → HasTaken r text → length piece ≤ most_bytes - r.count → ((t : List ℕ) → HasWords r.words t → HasWords r'.words (t ++ piece)) → r'.words.builder.scale ≡ r'.scale → r'.count ≡ r.count + length piece → IsReading r' (text ++ piece)
 fed_all r r' text piece none h few next scale count =
     let k = reading r text none h in
     let size : length (text ++ piece) ≡ length text + length piece = length-append text piece in
@@ -208,43 +209,47 @@ fed_all r r' text piece none h few next scale count =
       short = omega (arith, size, k.size, k.short, few);
     }
 
-pub fed_whole : (r r' : Reader) (text piece : List ℕ) (within : ℕ) → within ≡ min (length piece) (most_bytes - r.count) → r.fault ≡ None → HasTaken r text → length piece ≤ within → ((t : List ℕ) → HasWords r.words t → HasWords r'.words (t ++ take within piece)) → r'.words.judge.scale ≡ r'.scale → r'.count ≡ r.count + within → IsReading r' (text ++ piece)
+pub fed_whole : (r r' : Reader) (text piece : List ℕ) (within : ℕ) → within ≡ min (length piece) (most_bytes - r.count) → r.fault ≡ None → HasTaken r text → length piece ≤ within → ((t : List ℕ) → HasWords r.words t → HasWords r'.words (t ++ take within piece)) → r'.words.builder.scale ≡ r'.scale → r'.count ≡ r.count + within → IsReading r' (text ++ piece)
 fed_whole r r' text piece within cut none h all next scale count =
     fed_all r r' text piece none h (omega (arith, cut, all)) (λ t was. subst (λ z. HasWords r'.words (t ++ z)) (take_all within piece all) (next t was)) scale (omega (arith, cut, all, count))
 
 -- what a reader has read has no fault so far
 pub faultless : (r : Reader) (text : List ℕ) → IsReading r text → fault_so_far r.scale text ≡ None
-faultless r text h = rw (← h.same_scale) (few_so_far r.words.judge.scale text h.short ∙ read_none r.words text h.words_of)
+faultless r text h = rw (← h.same_scale) (few_so_far r.words.builder.scale text h.short ∙ read_none r.words text h.words_of)
 
 -- ---- one piece after another
 
-pub Feeds-none : (r : Reader) → r.fault ≡ None → Feeds r r [] (Ok (tt {0}))
-Feeds-none r none = record {
-  scale = refl;
-  taken = λ text h. subst (HasTaken r) (sym (append-nil text)) h;
-  ok = λ text h. subst (λ t. fault_so_far r.scale t ≡ None) (sym (append-nil text)) (faultless r text (reading r text none h));
-  err = λ text h. tt;
-  fault = none;
-  again = λ f e. absurd (let no : None ≡ Some f = sym none ∙ e in cc);
+-- What a reader has taken says whether its text has a fault so far.
+has_fault : {T : Type 0} (b : Reader) (text : List ℕ) (r : Result T GridFault)
+    → b.fault ≡ result_err r → HasTaken b text
+    → OnOk r (fault_so_far b.scale text ≡ None) × IfErr r (λ f. IsRefusalSoFar b.scale text f)
+has_fault b text (Ok x) e h = (faultless b text (reading b text e h), tt)
+has_fault b text (Err f) e h = (tt, answered b text f e h)
+
+-- A reader is fed a piece if it has taken the piece and returns its own fault.
+pub Feeds-taken : {T : Type 0} (a b : Reader) (piece : List ℕ) (r : Result T GridFault)
+    → b.scale ≡ a.scale → ((text : List ℕ) → HasTaken a text → HasTaken b (text ++ piece))
+    → b.fault ≡ result_err r → ((f : GridFault) → a.fault ≡ Some f → r ≡ Err f) → Feeds a b piece r
+Feeds-taken a b piece r scale taken fault again = record {
+  scale = scale;
+  taken = taken;
+  ok = λ text h. rw (← scale) (has_fault b (text ++ piece) r fault (taken text h)).0;
+  err = λ text h. rw (← scale) (has_fault b (text ++ piece) r fault (taken text h)).1;
+  fault = fault;
+  again = again;
 }
 
+pub Feeds-none : (r : Reader) → r.fault ≡ None → Feeds r r [] (Ok (tt {0}))
+Feeds-none r none = Feeds-taken r r [] (Ok tt) refl (λ text h. rw append-nil h) none
+    (λ f e. absurd (let no : None ≡ Some f = sym none ∙ e in cc))
+
 pub Feeds-more : {T : Type 0} (a b c : Reader) (front piece : List ℕ) (r : Result T GridFault) → Feeds a b front (Ok (tt {0})) → Feeds b c piece r → Feeds a c (front ++ piece) r
-Feeds-more a b c front piece r h k = record {
-  scale = k.scale ∙ h.scale;
-  taken = λ text was. subst (HasTaken c) (append_assoc text front piece) (k.taken (text ++ front) (h.taken text was));
-  ok = λ text was. subst (λ d. OnOk r (fault_so_far d (text ++ (front ++ piece)) ≡ None)) h.scale (subst (λ t. OnOk r (fault_so_far b.scale t ≡ None)) (append_assoc text front piece) (k.ok (text ++ front) (h.taken text was)));
-  err = λ text was. subst (λ d. IfErr r (λ f. IsRefusalSoFar d (text ++ (front ++ piece)) f)) h.scale (subst (λ t. IfErr r (λ f. IsRefusalSoFar b.scale t f)) (append_assoc text front piece) (k.err (text ++ front) (h.taken text was)));
-  fault = k.fault;
-  again = λ f e. absurd (let no = h.again f e in cc);
-}
+Feeds-more a b c front piece r h k = Feeds-taken a c (front ++ piece) r (k.scale ∙ h.scale)
+    (λ text was. rw (← append_assoc text front piece) (k.taken (text ++ front) (h.taken text was)))
+    k.fault (λ f e. absurd (let no = h.again f e in cc))
 
 -- after a fault, the rest is not read
 pub Feeds-stopped : {T : Type 0} (a b : Reader) (front more : List ℕ) (f : GridFault) → Feeds {T = T} a b front (Err f) → Feeds {T = T} a b (front ++ more) (Err f)
-Feeds-stopped a b front more f h = record {
-  scale = h.scale;
-  taken = λ text was. subst (HasTaken b) (append_assoc text front more) (answered_more b (text ++ front) more f h.fault (h.taken text was));
-  ok = λ text was. tt;
-  err = λ text was. subst (λ t. IsRefusalSoFar a.scale t f) (append_assoc text front more) (refusal_stays a.scale (text ++ front) more f (h.err text was));
-  fault = h.fault;
-  again = h.again;
-}
+Feeds-stopped a b front more f h = Feeds-taken a b (front ++ more) (Err f) h.scale (λ text was.
+    rw (← append_assoc text front more)
+    (answered_more b (text ++ front) more f h.fault (h.taken text was))) h.fault h.again

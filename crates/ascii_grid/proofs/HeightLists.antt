@@ -13,9 +13,9 @@ use Rattle.ascii_grid.specs.Header.{nodata_for, header_words, missing_fault}
 use Rattle.ascii_grid.specs.GridText.{is_cell, spelled_cell, cells_wanted, heights_fault}
 use Rattle.ascii_grid.specs.HeightList.{Form, IsHeightWord, AreCells, IsEndedWord}
 use Rattle.ascii_grid.specs.Reading.{flat, IsParted, HasWords, AreHeights}
-use Rattle.ascii_grid.specs.declared.judge.Judge.{Judge}
-use Rattle.ascii_grid.specs.declared.judge.Stage.TheVariants.{AtHeights}
-use Rattle.ascii_grid.specs.declared.progress.Tokenizer.{Tokenizer}
+use Rattle.ascii_grid.specs.declared.builder.GridBuilder.{GridBuilder}
+use Rattle.ascii_grid.specs.declared.builder.Stage.TheVariants.{AtHeights}
+use Rattle.ascii_grid.specs.declared.tokenizer.Tokenizer.{Tokenizer}
 use Rattle.ascii_grid.proofs.Parting.{words-parted, IsParted-none, IsParted-byte, IsParted-separator}
 use Rattle.ascii_grid.proofs.Judging.{Pairs, HasBegun-more, heights_fault-append}
 use Rattle.ascii_grid.proofs.JudgedWords.{at_heights, judged-heights, words-after, height_fault-none, place_of}
@@ -43,7 +43,7 @@ only_ended text bytes vs ws w h e k =
 pub IsParted-ended : (bytes : List ℕ) → ended_words bytes ≡ words bytes → IsParted bytes (words bytes) []
 IsParted-ended bytes e = let at = parted bytes in only_ended bytes bytes [] at.0 at.1 at.2 e at.2
 
--- the words of such bytes
+-- the ended words are all words, if none is unfinished
 pub words-ended : (bytes : List ℕ) (ws : List Word) → IsParted bytes ws [] → words bytes ≡ ws
 words-ended bytes ws h = words-parted bytes ws [] h ∙ append-nil ws
 
@@ -125,7 +125,7 @@ heights_none form d header place (w ∷ more) scale nodata whole room h =
     ap (λ o. option_or o (heights_fault d header (place + 1) more)) (height_fault-none d header place w first.short whole (omega (arith, room)) is)
     ∙ heights_none form d header (place + 1) more scale nodata whole (omega (arith, room)) (All-tail (IsHeightWord form) w more h)
 
-pub AreHeights-more : (j j' : Judge) (ps : Pairs) (hs more : List Word) (form : Form) (cells : List (Option ℤ)) → AreHeights j ps hs → form.scale ≡ j.scale → form.nodata ≡ j.nodata → All (IsHeightWord form) more → cells ≡ map (spelled_cell form.scale form.nodata) more → length j.cells.items + length cells ≤ j.wanted → j'.wanted ≡ j.wanted → j'.nodata ≡ j.nodata → j'.nodata_value ≡ j.nodata_value → j'.scale ≡ j.scale → j'.cells.items ≡ j.cells.items ++ cells → AreHeights j' ps (hs ++ more)
+pub AreHeights-more : (j j' : GridBuilder) (ps : Pairs) (hs more : List Word) (form : Form) (cells : List (Option ℤ)) → AreHeights j ps hs → form.scale ≡ j.scale → form.nodata ≡ j.nodata → All (IsHeightWord form) more → cells ≡ map (spelled_cell form.scale form.nodata) more → length j.cells.items + length cells ≤ j.wanted → j'.wanted ≡ j.wanted → j'.nodata ≡ j.nodata → j'.nodata_value ≡ j.nodata_value → j'.scale ≡ j.scale → j'.cells.items ≡ j.cells.items ++ cells → AreHeights j' ps (hs ++ more)
 AreHeights-more j j' ps hs more form cells h same_scale same_nodata heights are room wanted nodata value scale all =
     let size = ap length are ∙ length-map more (spelled_cell form.scale form.nodata) in
     let known : cells ≡ map (spelled_cell j.scale j.nodata) more = subst (λ n. cells ≡ map (spelled_cell j.scale n) more) same_nodata (subst (λ x. cells ≡ map (spelled_cell x form.nodata) more) same_scale are) in
@@ -139,22 +139,22 @@ AreHeights-more j j' ps hs more form cells h same_scale same_nodata heights are 
     }
 
 -- adding the cells of more bytes, without an unfinished word
-pub HasWords-more : (p p' : Tokenizer) (text piece : List ℕ) (form : Form) (cells : List (Option ℤ)) → HasWords p text → p.word ≡ [] → p.judge.stage ≡ AtHeights → AreCells form piece cells → p'.word ≡ p.word → p'.judge.header ≡ p.judge.header → p'.judge.stage ≡ p.judge.stage → ((ps : Pairs) (hs more : List Word) → AreHeights p.judge ps hs → All (IsHeightWord form) more → cells ≡ map (spelled_cell form.scale form.nodata) more → AreHeights p'.judge ps (hs ++ more)) → HasWords p' (text ++ piece)
+pub HasWords-more : (p p' : Tokenizer) (text piece : List ℕ) (form : Form) (cells : List (Option ℤ)) → HasWords p text → p.word ≡ [] → p.builder.stage ≡ AtHeights → AreCells form piece cells → p'.word ≡ p.word → p'.builder.header ≡ p.builder.header → p'.builder.stage ≡ p.builder.stage → ((ps : Pairs) (hs more : List Word) → AreHeights p.builder ps hs → All (IsHeightWord form) more → cells ≡ map (spelled_cell form.scale form.nodata) more → AreHeights p'.builder ps (hs ++ more)) → HasWords p' (text ++ piece)
 HasWords-more p p' text piece form cells h none stage k word header same judged =
-    let there = at_heights p.judge h.ended h.judged stage in
+    let there = at_heights p.builder h.ended h.judged stage in
     let ps = h.judged.pairs in
     let hs = h.judged.rest in
     record {
       ended = h.ended ++ words piece;
       last = [];
       parted = IsParted-more text piece h.ended (parted_ended p text h none) k.ended;
-      judged = judged-heights p.judge p'.judge h.ended ps hs (words piece) h.judged.header h.judged.words (HasBegun-more hs (words piece) there.0) (judged ps hs (words piece) there.1 k.heights k.are) header (same ∙ stage);
+      judged = judged-heights p.builder p'.builder h.ended ps hs (words piece) h.judged.header h.judged.words (HasBegun-more hs (words piece) there.0) (judged ps hs (words piece) there.1 k.heights k.are) header (same ∙ stage);
       front = word ∙ none;
     }
 
 -- the NODATA word in use is the header's
-pub form_nodata : (p : Tokenizer) (text : List ℕ) → HasWords p text → p.judge.stage ≡ AtHeights → p.judge.nodata ≡ nodata_for (header_words (ended_words text))
+pub form_nodata : (p : Tokenizer) (text : List ℕ) → HasWords p text → p.builder.stage ≡ AtHeights → p.builder.nodata ≡ nodata_for (header_words (ended_words text))
 form_nodata p text h stage =
-    let there = at_heights p.judge h.ended h.judged stage in
-    let header = (words-after p.judge.header h.judged.pairs h.judged.rest h.judged.header there.0).0 in
+    let there = at_heights p.builder h.ended h.judged stage in
+    let header = (words-after p.builder.header h.judged.pairs h.judged.rest h.judged.header there.0).0 in
     there.1.nodata ∙ ap nodata_for (sym (ap header_words (h.parted.ended ∙ h.judged.words) ∙ header))

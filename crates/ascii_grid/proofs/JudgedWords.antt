@@ -5,7 +5,7 @@ use Rattle.std.specs.Option.{option_or, option_map_or}
 use Rattle.std.specs.List.{list_any}
 use Rattle.std.proofs.Math.Bool.{or-false}
 use Rattle.std.proofs.lemmas.Bool.{cases_Bool, lt-ltb, le-ltb}
-use Rattle.std.proofs.lemmas.List.{append-nil, append_assoc, length-append, map_push, length-map}
+use Rattle.std.proofs.lemmas.List.{append-nil, append_assoc, length-append, length-map}
 use Rattle.terrain.specs.Words.{Word}
 use Rattle.ascii_grid.specs.Header.{fills, slot_of, is_long, is_value, bad_value, begins_with_letter, header_words, height_words, key_left, nodata_for, header_fault, key_fault, value_fault, missing_fault}
 use Rattle.ascii_grid.specs.GridText.{AsksForCells, is_cell, spelled_cell, cells_wanted, words_fault, heights_fault, height_fault, AsksAtHeight, IsReported}
@@ -15,24 +15,24 @@ use Rattle.ascii_grid.specs.declared.fault.Key.{Key}
 use Rattle.ascii_grid.specs.declared.fault.GridFault.{GridFault}
 use Rattle.ascii_grid.specs.declared.fault.GridFault.TheVariants.{UnknownKey, RepeatedKey, TooLong, MissingKey, BadHeight, TooMany, Memory}
 use Rattle.ascii_grid.specs.declared.header.Header.{Header}
-use Rattle.ascii_grid.specs.declared.judge.Stage.{Stage}
-use Rattle.ascii_grid.specs.declared.judge.Stage.TheVariants.{AtKey, AtValue, AtHeights}
-use Rattle.ascii_grid.specs.declared.judge.Judge.{Judge}
+use Rattle.ascii_grid.specs.declared.builder.Stage.{Stage}
+use Rattle.ascii_grid.specs.declared.builder.Stage.TheVariants.{AtKey, AtValue, AtHeights}
+use Rattle.ascii_grid.specs.declared.builder.GridBuilder.{GridBuilder}
 use Rattle.ascii_grid.proofs.Judging.{Pairs, or_none, then_none, words-flat, key_left-flat, flat-push, are_keys-push, header_fault-flat, list_any-keys_before, is_given-slots_of, with_value-slots_of, words_fault-flat, words_fault-key, words_fault-value, words_fault-heights, words-begun, heights_fault-push, HasBegun-more}
 use Rattle.std.proofs.lemmas.Result.{MatchResult-weaker}
 use Rattle.ascii_grid.specs.declared.fault.Key.TheVariants.{Ncols}
 
 -- ---- the stage
 
-pub at_key : (j : Judge) (ws : List Word) (h : HasJudged j ws) → j.stage ≡ AtKey → ws ≡ flat h.pairs
+pub at_key : (j : GridBuilder) (ws : List Word) (h : HasJudged j ws) → j.stage ≡ AtKey → ws ≡ flat h.pairs
 at_key j ws h e = h.words ∙ ap (λ z. flat h.pairs ++ z) (rw e at h.at) ∙ append-nil (flat h.pairs)
 
-pub at_value : (j : Judge) (ws : List Word) (h : HasJudged j ws) (slot : Key) (centre : Bool) → j.stage ≡ AtValue slot centre → (k : Word) × (ws ≡ flat h.pairs ++ k ∷ []) × AwaitsValue h.pairs k slot centre
+pub at_value : (j : GridBuilder) (ws : List Word) (h : HasJudged j ws) (slot : Key) (centre : Bool) → j.stage ≡ AtValue slot centre → (k : Word) × (ws ≡ flat h.pairs ++ k ∷ []) × AwaitsValue h.pairs k slot centre
 at_value j ws h slot centre e =
     let there = rw e at h.at in
     (there.0, h.words ∙ ap (λ z. flat h.pairs ++ z) there.1, there.2)
 
-pub at_heights : (j : Judge) (ws : List Word) (h : HasJudged j ws) → j.stage ≡ AtHeights → HasBegun h.rest × AreHeights j h.pairs h.rest
+pub at_heights : (j : GridBuilder) (ws : List Word) (h : HasJudged j ws) → j.stage ≡ AtHeights → HasBegun h.rest × AreHeights j h.pairs h.rest
 at_heights j ws h e = subst (IsAt j h.pairs h.rest) e h.at
 
 -- ---- a key
@@ -56,7 +56,7 @@ slot_fault : (ps : Pairs) (o : Option Key) (f : GridFault) → MatchOption o (f 
 slot_fault ps None f e = ap Some (sym e)
 slot_fault ps (Some slot) f e = ap (λ b. cond b (Some (RepeatedKey slot)) None) (repeats slot ps ∙ e.0) ∙ ap Some (sym e.1)
 
-pub judged-key : (j j' : Judge) (ws : List Word) (w : Word) (slot : Key) → HasJudged j ws → j.stage ≡ AtKey → length w ≤ 64 → begins_with_letter w ≡ true → slot_of w ≡ Some slot → is_given j.header slot ≡ false → j'.header ≡ j.header → j'.stage ≡ AtValue slot (is_centre w) → HasJudged j' (ws ++ w ∷ [])
+pub judged-key : (j j' : GridBuilder) (ws : List Word) (w : Word) (slot : Key) → HasJudged j ws → j.stage ≡ AtKey → length w ≤ 64 → begins_with_letter w ≡ true → slot_of w ≡ Some slot → is_given j.header slot ≡ false → j'.header ≡ j.header → j'.stage ≡ AtValue slot (is_centre w) → HasJudged j' (ws ++ w ∷ [])
 judged-key j j' ws w slot h e short letter s free same stage =
     let none : is_given (slots_of h.pairs) slot ≡ false = ap (λ x. is_given x slot) (sym h.header.slots) ∙ free in
     let awaits : AwaitsValue h.pairs w slot (is_centre w) = record { letter = letter; faultless = key_fault-short h.pairs w short ∙ ap (fault_of_slot h.pairs) s ∙ ap (λ b. cond b (Some (RepeatedKey slot)) None) (repeats slot h.pairs ∙ none); key_is = s; named = refl; free = none } in
@@ -69,10 +69,10 @@ judged-key j j' ws w slot h e short letter s free same stage =
     }
 
 -- the fault of a word in a key's place
-pub next-key : (j : Judge) (ws : List Word) (w : Word) (h : HasJudged j ws) → j.stage ≡ AtKey → begins_with_letter w ≡ true → words_fault j.scale (ws ++ w ∷ []) ≡ key_fault (keys_before h.pairs []) w
+pub next-key : (j : GridBuilder) (ws : List Word) (w : Word) (h : HasJudged j ws) → j.stage ≡ AtKey → begins_with_letter w ≡ true → words_fault j.scale (ws ++ w ∷ []) ≡ key_fault (keys_before h.pairs []) w
 next-key j ws w h e letter = ap (λ z. words_fault j.scale (z ++ w ∷ [])) (at_key j ws h e) ∙ words_fault-key j.scale h.pairs w h.header.keys h.header.faultless letter
 
-pub fault-key : (j : Judge) (ws : List Word) (w : Word) (f : GridFault) → HasJudged j ws → j.stage ≡ AtKey → length w ≤ 64 → begins_with_letter w ≡ true → MatchOption (slot_of w) (f ≡ UnknownKey) (λ slot. (is_given j.header slot ≡ true) × (f ≡ RepeatedKey slot)) → words_fault j.scale (ws ++ w ∷ []) ≡ Some f
+pub fault-key : (j : GridBuilder) (ws : List Word) (w : Word) (f : GridFault) → HasJudged j ws → j.stage ≡ AtKey → length w ≤ 64 → begins_with_letter w ≡ true → MatchOption (slot_of w) (f ≡ UnknownKey) (λ slot. (is_given j.header slot ≡ true) × (f ≡ RepeatedKey slot)) → words_fault j.scale (ws ++ w ∷ []) ≡ Some f
 fault-key j ws w f h e short letter m =
     next-key j ws w h e letter ∙ key_fault-short h.pairs w short
     ∙ slot_fault h.pairs (slot_of w) f (subst (λ x. MatchOption (slot_of w) (f ≡ UnknownKey) (λ slot. (is_given x slot ≡ true) × (f ≡ RepeatedKey slot))) h.header.slots m)
@@ -82,7 +82,7 @@ fault-key j ws w f h e short letter m =
 value_fault-short : (k v : Word) (slot : Key) → length v ≤ 64 → slot_of k ≡ Some slot → value_fault k v ≡ cond (is_value slot v) None (Some (bad_value slot))
 value_fault-short k v slot h s = rw (is_short v h, s) refl
 
-pub judged-value : (j j' : Judge) (ws : List Word) (v : Word) (slot : Key) (centre : Bool) → HasJudged j ws → j.stage ≡ AtValue slot centre → length v ≤ 64 → is_value slot v ≡ true → j'.header ≡ with_value j.header slot centre v → j'.stage ≡ AtKey → HasJudged j' (ws ++ v ∷ [])
+pub judged-value : (j j' : GridBuilder) (ws : List Word) (v : Word) (slot : Key) (centre : Bool) → HasJudged j ws → j.stage ≡ AtValue slot centre → length v ≤ 64 → is_value slot v ≡ true → j'.header ≡ with_value j.header slot centre v → j'.stage ≡ AtKey → HasJudged j' (ws ++ v ∷ [])
 judged-value j j' ws v slot centre h e short ok same stage =
     let there = at_value j ws h slot centre e in
     let k = there.0 in
@@ -103,13 +103,13 @@ judged-value j j' ws v slot centre h e short ok same stage =
     }
 
 -- the fault of a word in a value's place
-pub next-value : (j : Judge) (ws : List Word) (v : Word) (slot : Key) (centre : Bool) (h : HasJudged j ws) (e : j.stage ≡ AtValue slot centre) → words_fault j.scale (ws ++ v ∷ []) ≡ value_fault (at_value j ws h slot centre e).0 v
+pub next-value : (j : GridBuilder) (ws : List Word) (v : Word) (slot : Key) (centre : Bool) (h : HasJudged j ws) (e : j.stage ≡ AtValue slot centre) → words_fault j.scale (ws ++ v ∷ []) ≡ value_fault (at_value j ws h slot centre e).0 v
 next-value j ws v slot centre h e =
     let there = at_value j ws h slot centre e in
     ap (words_fault j.scale) (ap (λ z. z ++ v ∷ []) there.1 ∙ append_assoc (flat h.pairs) (there.0 ∷ []) (v ∷ []))
     ∙ words_fault-value j.scale h.pairs there.0 v h.header.keys h.header.faultless there.2.letter there.2.faultless
 
-pub fault-value : (j : Judge) (ws : List Word) (v : Word) (slot : Key) (centre : Bool) → HasJudged j ws → j.stage ≡ AtValue slot centre → length v ≤ 64 → is_value slot v ≡ false → words_fault j.scale (ws ++ v ∷ []) ≡ Some (bad_value slot)
+pub fault-value : (j : GridBuilder) (ws : List Word) (v : Word) (slot : Key) (centre : Bool) → HasJudged j ws → j.stage ≡ AtValue slot centre → length v ≤ 64 → is_value slot v ≡ false → words_fault j.scale (ws ++ v ∷ []) ≡ Some (bad_value slot)
 fault-value j ws v slot centre h e short bad =
     let there = at_value j ws h slot centre e in
     next-value j ws v slot centre h e
@@ -144,7 +144,7 @@ first_short d header [] w short none = rw (is_short w short) refl
 first_short d header (x ∷ hs) w short none = rw (then_none (is_long x) TooLong _ (or_none (height_fault d header 0 x) _ none).0).0 refl
 
 -- more heights after a header
-pub judged-heights : (j j' : Judge) (ws : List Word) (ps : Pairs) (hs more : List Word) → IsHeaderOf j.header ps → ws ≡ flat ps ++ hs → HasBegun (hs ++ more) → AreHeights j' ps (hs ++ more) → j'.header ≡ j.header → j'.stage ≡ AtHeights → HasJudged j' (ws ++ more)
+pub judged-heights : (j j' : GridBuilder) (ws : List Word) (ps : Pairs) (hs more : List Word) → IsHeaderOf j.header ps → ws ≡ flat ps ++ hs → HasBegun (hs ++ more) → AreHeights j' ps (hs ++ more) → j'.header ≡ j.header → j'.stage ≡ AtHeights → HasJudged j' (ws ++ more)
 judged-heights j j' ws ps hs more k e begun heights same stage = record {
   pairs = ps;
   rest = hs ++ more;
@@ -162,7 +162,7 @@ next-height d ws ps hs w h k e begun none =
     ∙ ap (λ n. height_fault d (flat ps) n w) (omega arith)
 
 -- want of memory at a height
-pub memory-height : (j : Judge) (ws : List Word) (ps : Pairs) (hs : List Word) (w : Word) (h : Header) → IsHeaderOf h ps → ws ≡ flat ps ++ hs → HasBegun (hs ++ w ∷ []) → missing_fault (flat ps) ≡ None → heights_fault j.scale (flat ps) 0 hs ≡ None → length w ≤ 64 → AsksAtHeight (ws ++ w ∷ [])
+pub memory-height : (j : GridBuilder) (ws : List Word) (ps : Pairs) (hs : List Word) (w : Word) (h : Header) → IsHeaderOf h ps → ws ≡ flat ps ++ hs → HasBegun (hs ++ w ∷ []) → missing_fault (flat ps) ≡ None → heights_fault j.scale (flat ps) 0 hs ≡ None → length w ≤ 64 → AsksAtHeight (ws ++ w ∷ [])
 memory-height j ws ps hs w h k e begun whole none short =
     let words : ws ++ w ∷ [] ≡ flat ps ++ (hs ++ w ∷ []) = ap (λ z. z ++ w ∷ []) e ∙ append_assoc (flat ps) hs (w ∷ []) in
     rw words (asks h ps (hs ++ w ∷ []) k begun whole (first_short j.scale (flat ps) hs w short none), rw ((words-after h ps (hs ++ w ∷ []) k begun).1) (omega (arith, length-append hs (w ∷ []))))
@@ -173,21 +173,11 @@ pub height_fault-none : (d : ℕ) (header : List Word) (place : ℕ) (w : Word) 
 height_fault-none d header place w short whole room ok = rw (is_short w short, whole, lt-ltb place (cells_wanted header) room, ok) refl
 
 -- as many cells are stored as heights were read
-pub place_of : (j : Judge) (ps : Pairs) (hs : List Word) → AreHeights j ps hs → length j.cells.items ≡ length hs
+pub place_of : (j : GridBuilder) (ps : Pairs) (hs : List Word) → AreHeights j ps hs → length j.cells.items ≡ length hs
 place_of j ps hs h = ap length h.cells ∙ length-map hs (spelled_cell j.scale j.nodata)
 
-pub AreHeights-push : (j j' : Judge) (ps : Pairs) (hs : List Word) (w : Word) → AreHeights j ps hs → length w ≤ 64 → length j.cells.items < j.wanted → is_cell j.scale j.nodata w ≡ true → j'.wanted ≡ j.wanted → j'.nodata ≡ j.nodata → j'.nodata_value ≡ j.nodata_value → j'.scale ≡ j.scale → j'.cells.items ≡ j.cells.items ++ spelled_cell j.scale j.nodata w ∷ [] → AreHeights j' ps (hs ++ w ∷ [])
-AreHeights-push j j' ps hs w h short room ok wanted nodata value scale cells = record {
-  whole = h.whole;
-  wanted = wanted ∙ h.wanted;
-  nodata = nodata ∙ h.nodata;
-  value = value ∙ h.value ∙ rw (scale, nodata) refl;
-  faultless = rw scale (heights_fault-push j.scale (flat ps) 0 hs w ∙ ap (λ o. option_or o (height_fault j.scale (flat ps) (0 + length hs) w)) h.faultless ∙ height_fault-none j.scale (flat ps) (0 + length hs) w short h.whole (omega (arith, place_of j ps hs h, h.wanted, room)) (ap (λ n. is_cell j.scale n w) (sym h.nodata) ∙ ok));
-  cells = cells ∙ rw (scale, nodata) (ap (λ z. z ++ spelled_cell j.scale j.nodata w ∷ []) h.cells ∙ sym (map_push (spelled_cell j.scale j.nodata) hs w));
-}
-
 -- words that were read have no fault
-pub judged_none : (j : Judge) (ws : List Word) → HasJudged j ws → words_fault j.scale ws ≡ None
+pub judged_none : (j : GridBuilder) (ws : List Word) → HasJudged j ws → words_fault j.scale ws ≡ None
 judged_none j ws h = by_stage j.stage refl
   where
     by_stage : (s : Stage) → j.stage ≡ s → words_fault j.scale ws ≡ None
@@ -256,7 +246,7 @@ pub memory_fault : (d : ℕ) (ws : List Word) (f : GridFault) → f ≡ Memory �
 memory_fault d ws f e h = rw e h
 
 -- a word of more than 64 bytes
-pub long_fault : (j : Judge) (ws : List Word) (w : Word) → HasJudged j ws → 64 < length w → words_fault j.scale (ws ++ w ∷ []) ≡ Some TooLong
+pub long_fault : (j : GridBuilder) (ws : List Word) (w : Word) → HasJudged j ws → 64 < length w → words_fault j.scale (ws ++ w ∷ []) ≡ Some TooLong
 long_fault j ws w h far = by_stage j.stage refl
   where
     long : is_long w ≡ true
@@ -274,7 +264,7 @@ long_fault j ws w h far = by_stage j.stage refl
         next-height j.scale ws h.pairs h.rest w j.header h.header h.words (HasBegun-more h.rest (w ∷ []) there.0) there.1.faultless ∙ rw long refl
 
 -- a height, the first or a later one
-pub height_word : {T : Type 0} (j j' : Judge) (ws : List Word) (ps : Pairs) (hs : List Word) (w : Word) (r : Result T GridFault) → IsHeaderOf j.header ps → ws ≡ flat ps ++ hs → HasBegun (hs ++ w ∷ []) → AreHeights j ps hs → length w ≤ 64 → j'.header ≡ j.header → j'.stage ≡ AtHeights → MatchResult r (λ _. AreHeights j' ps (hs ++ w ∷ [])) (λ f. (f ≡ Memory) ⊎ (height_fault j.scale (flat ps) (length hs) w ≡ Some f)) → MatchResult r (λ _. HasJudged j' (ws ++ w ∷ [])) (IsWordFault j.scale (ws ++ w ∷ []))
+pub height_word : {T : Type 0} (j j' : GridBuilder) (ws : List Word) (ps : Pairs) (hs : List Word) (w : Word) (r : Result T GridFault) → IsHeaderOf j.header ps → ws ≡ flat ps ++ hs → HasBegun (hs ++ w ∷ []) → AreHeights j ps hs → length w ≤ 64 → j'.header ≡ j.header → j'.stage ≡ AtHeights → MatchResult r (λ _. AreHeights j' ps (hs ++ w ∷ [])) (λ f. (f ≡ Memory) ⊎ (height_fault j.scale (flat ps) (length hs) w ≡ Some f)) → MatchResult r (λ _. HasJudged j' (ws ++ w ∷ [])) (IsWordFault j.scale (ws ++ w ∷ []))
 height_word j j' ws ps hs w r k e begun heights short same stage m =
     MatchResult-weaker r m (λ _ more. judged-heights j j' ws ps hs (w ∷ []) k e begun more same stage)
     (λ f why. elim why [
@@ -283,7 +273,7 @@ height_word j j' ws ps hs w r k e begun heights short same stage m =
     ])
 
 -- a first height that fails: a header slot is missing, or memory is wanting
-pub no_first_height : (j : Judge) (ws : List Word) (w : Word) (f : GridFault) (h : HasJudged j ws) → j.stage ≡ AtKey → begins_with_letter w ≡ false → length w ≤ 64 → (missing_fault (flat h.pairs) ≡ Some f) ⊎ ((f ≡ Memory) × (missing_fault (flat h.pairs) ≡ None)) → IsWordFault j.scale (ws ++ w ∷ []) f
+pub no_first_height : (j : GridBuilder) (ws : List Word) (w : Word) (f : GridFault) (h : HasJudged j ws) → j.stage ≡ AtKey → begins_with_letter w ≡ false → length w ≤ 64 → (missing_fault (flat h.pairs) ≡ Some f) ⊎ ((f ≡ Memory) × (missing_fault (flat h.pairs) ≡ None)) → IsWordFault j.scale (ws ++ w ∷ []) f
 no_first_height j ws w f h stage begun short why =
     let e = at_key j ws h stage ∙ sym (append-nil (flat h.pairs)) in
     elim why [

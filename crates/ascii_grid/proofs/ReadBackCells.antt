@@ -64,7 +64,7 @@ length-decimals : (d n : ℕ) → length (decimals_text d n) ≤ d + 1
 length-decimals zero n = omega arith
 length-decimals (suc d) n = omega (arith, length-last_digits (suc d) n)
 
--- this text begins with a digit, so it has no sign
+-- `body` begins with a digit, so it has no sign
 body_unsigned : (d n : ℕ) → n < 2 ^ 64 → (without_sign (body d n) ≡ body d n) × (is_negative (body d n) ≡ false)
 body_unsigned d n h = bare_digits (decimal (n / 10 ^ d)) (decimals_text d n) (decimal_nonempty (n / 10 ^ d) (whole_small d n h)) (decimal_digits (n / 10 ^ d) (whole_small d n h))
 

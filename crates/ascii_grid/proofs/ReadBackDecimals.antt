@@ -16,7 +16,7 @@ use Rattle.ascii_grid.proofs.Parting.{IsClean}
 abbrev pub is_sign : ℕ → Bool
 is_sign b = b == 43 || b == 45
 
--- a test that fails for digits, signs, the point and the marks of an exponent
+-- a test that is false for digits, signs, the point and the exponent marks
 record PassesNoByte (q : ℕ → Bool) : Type 0 where
   digits : PassesNoDigit q
   plus : q 43 ≡ false
@@ -102,7 +102,7 @@ decimal_bytes q none w h =
     (mantissa_bytes q none w parts.0)
     (ap (list_any q) (exponent_of_unsigned w) ∙ exponent_bytes q none w parts.1))
 
--- a decimal text is a word
+-- a decimal text has no separator, so it is a word
 no_separators : PassesNoByte is_separator
 no_separators = record { digits = no_separator; plus = refl; minus = refl; point = refl; mark = refl; capital = refl }
 

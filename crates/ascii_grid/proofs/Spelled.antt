@@ -22,8 +22,8 @@ use Rattle.ascii_grid.specs.declared.fault.Key.TheVariants.{Ncols, Nrows, Xll, Y
 use Rattle.ascii_grid.specs.declared.fault.GridFault.{GridFault}
 use Rattle.ascii_grid.specs.declared.fault.GridFault.TheVariants.{MissingKey, BadHeight, TooFew, TooMany, TooLong, NoValue, Memory}
 use Rattle.terrain.specs.declared.grid.Anchor.{Anchor}
-use Rattle.ascii_grid.specs.declared.judge.Judge.{Judge}
-use Rattle.ascii_grid.specs.declared.judge.Stage.TheVariants.{AtKey, AtValue, AtHeights}
+use Rattle.ascii_grid.specs.declared.builder.GridBuilder.{GridBuilder}
+use Rattle.ascii_grid.specs.declared.builder.Stage.TheVariants.{AtKey, AtValue, AtHeights}
 use Rattle.ascii_grid.proofs.Keys.{slot_filled}
 use Rattle.ascii_grid.proofs.Judging.{Pairs, or_none, then_none, else_none, pairs-flat, words-flat, words-whole, key_left-flat, is_given-slots_of, missing_of-slots_of, number-of_pair}
 use Rattle.ascii_grid.proofs.JudgedWords.{at_key, at_value, at_heights, place_of, words-after, paired, judged_none, is_memory, reported, not_memory_missing}
@@ -128,7 +128,7 @@ cells_ok d header place (w ∷ hs) h none =
 -- ---- the fault at the end
 
 -- after a key without its value
-pub end-value : (j : Judge) (ws : List Word) (slot : Key) (centre : Bool) → HasJudged j ws → j.stage ≡ AtValue slot centre → end_fault ws ≡ Some (NoValue slot)
+pub end-value : (j : GridBuilder) (ws : List Word) (slot : Key) (centre : Bool) → HasJudged j ws → j.stage ≡ AtValue slot centre → end_fault ws ≡ Some (NoValue slot)
 end-value j ws slot centre h e =
     let there = at_value j ws h slot centre e in
     let k = there.0 in
@@ -139,14 +139,14 @@ end-value j ws slot centre h e =
     rw (header, left, there.2.key_is) refl
 
 -- in the header, with a required slot missing
-pub end-missing : (j : Judge) (ws : List Word) (f : GridFault) (h : HasJudged j ws) → j.stage ≡ AtKey → missing_fault (flat h.pairs) ≡ Some f → IsEndFault ws f
+pub end-missing : (j : GridBuilder) (ws : List Word) (f : GridFault) (h : HasJudged j ws) → j.stage ≡ AtKey → missing_fault (flat h.pairs) ≡ Some f → IsEndFault ws f
 end-missing j ws f h e missing =
     let same = at_key j ws h e in
     let at_end : end_fault (flat h.pairs) ≡ Some f = rw ((words-whole h.pairs h.header.keys).0, paired h.pairs, missing) refl in
     let there = ap end_fault same ∙ at_end in
     reported (AsksForCells ws) (end_fault ws) f (ap is_memory (there ∙ sym missing) ∙ not_memory_missing (flat h.pairs)) there
 
-pub end-memory : (j : Judge) (ws : List Word) (f : GridFault) (h : HasJudged j ws) → j.stage ≡ AtKey → f ≡ Memory → missing_fault (flat h.pairs) ≡ None → IsEndFault ws f
+pub end-memory : (j : GridBuilder) (ws : List Word) (f : GridFault) (h : HasJudged j ws) → j.stage ≡ AtKey → f ≡ Memory → missing_fault (flat h.pairs) ≡ None → IsEndFault ws f
 end-memory j ws f h e m whole =
     let same = at_key j ws h e in
     let are = words-whole h.pairs h.header.keys in
@@ -161,14 +161,14 @@ some_wanted header none missing =
     one-le-mul (size_between (word_for Ncols header) (value_of header Ncols none given.cols).0).0 (size_between (word_for Nrows header) (value_of header Nrows none given.rows).0).0
 
 -- in a whole header: there is no height
-pub end-none : (j j' : Judge) (ws : List Word) (h : HasJudged j ws) → j.stage ≡ AtKey → AreHeights j' h.pairs [] → end_fault ws ≡ Some (TooFew 0)
+pub end-none : (j j' : GridBuilder) (ws : List Word) (h : HasJudged j ws) → j.stage ≡ AtKey → AreHeights j' h.pairs [] → end_fault ws ≡ Some (TooFew 0)
 end-none j j' ws h e heights =
     let are = words-whole h.pairs h.header.keys in
     let some : nat_lt 0 (cells_wanted (flat h.pairs)) ≡ true = lt-ltb 0 (cells_wanted (flat h.pairs)) (let k = some_wanted (flat h.pairs) h.header.faultless heights.whole in omega (arith, k)) in
     ap end_fault (at_key j ws h e) ∙ rw (are.0, paired h.pairs, heights.whole, are.1, some) refl
 
 -- among the heights: too few, or enough
-pub end-heights : (j : Judge) (ws : List Word) (h : HasJudged j ws) → j.stage ≡ AtHeights → end_fault ws ≡ cond (nat_lt (length j.cells.items) j.wanted) (Some (TooFew (length j.cells.items))) None
+pub end-heights : (j : GridBuilder) (ws : List Word) (h : HasJudged j ws) → j.stage ≡ AtHeights → end_fault ws ≡ cond (nat_lt (length j.cells.items) j.wanted) (Some (TooFew (length j.cells.items))) None
 end-heights j ws h e =
     let there = at_heights j ws h e in
     let are = words-after j.header h.pairs h.rest h.header there.0 in
@@ -232,10 +232,10 @@ lawful_words d ws few faultless end =
     }
 
 -- among the heights, the header is whole
-pub whole-grid : (j : Judge) (ws : List Word) → HasJudged j ws → j.stage ≡ AtHeights → IsWhole j.header
+pub whole-grid : (j : GridBuilder) (ws : List Word) → HasJudged j ws → j.stage ≡ AtHeights → IsWhole j.header
 whole-grid j ws h e = subst IsWhole (sym h.header.slots) (whole_slots h.pairs (at_heights j ws h e).1.whole)
 
-pub spelled-grid : (j : Judge) (ws : List Word) → HasJudged j ws → j.stage ≡ AtHeights → raster_of j.header j.scale j.nodata j.cells.items ≡ grid_of j.scale ws
+pub spelled-grid : (j : GridBuilder) (ws : List Word) → HasJudged j ws → j.stage ≡ AtHeights → raster_of j.header j.scale j.nodata j.cells.items ≡ grid_of j.scale ws
 spelled-grid j ws h e =
     let there = at_heights j ws h e in
     let are = words-after j.header h.pairs h.rest h.header there.0 in
@@ -244,7 +244,7 @@ spelled-grid j ws h e =
     ∙ ap (λ n. raster_of (slots_of h.pairs) j.scale n (map (spelled_cell j.scale n) h.rest)) there.1.nodata
     ∙ raster_of-grid_of j.scale h.pairs ws h.rest (ap header_words h.words ∙ are.0) (ap height_words h.words ∙ are.1)
 
-pub lawful-grid : (j : Judge) (ws : List Word) → HasJudged j ws → j.stage ≡ AtHeights → j.scale ≤ 6 → j.wanted ≤ length j.cells.items → IsLawful (raster_of j.header j.scale j.nodata j.cells.items)
+pub lawful-grid : (j : GridBuilder) (ws : List Word) → HasJudged j ws → j.stage ≡ AtHeights → j.scale ≤ 6 → j.wanted ≤ length j.cells.items → IsLawful (raster_of j.header j.scale j.nodata j.cells.items)
 lawful-grid j ws h e scale enough =
     subst IsLawful (sym (spelled-grid j ws h e))
     (lawful_words j.scale ws scale (judged_none j ws h) (end-heights j ws h e ∙ cond-false _ _ _ (le-ltb (length j.cells.items) j.wanted enough)))

@@ -74,7 +74,7 @@ after_front-pair d before front k v rest letter =
     ∙ option_or-assoc (key_fault before k) (option_or (value_fault k v) (header_fault (k ∷ before) (header_words rest))) _
     ∙ ap (option_or (key_fault before k)) (option_or-assoc (value_fault k v) (header_fault (k ∷ before) (header_words rest)) _)
 
--- a word that is no key ends the header
+-- a word that begins with no letter ends the header
 after_front-height : (d : ℕ) (before front : List Word) (k : Word) (rest : List Word) → begins_with_letter k ≡ false → after_front d before front (k ∷ rest) ≡ heights_fault d (front ++ []) 0 (k ∷ rest)
 after_front-height d before front k [] letter = rw letter refl
 after_front-height d before front k (v ∷ rest) letter = rw letter refl

@@ -45,21 +45,11 @@ size_digits n h = length-decimal-le 4 n (omega arith) (omega arith) (omega arith
 
 header_short : (g : Raster) → IsLawful g → length (header_text g g.nodata) ≤ 400
 header_short g h =
-    let l1 = line_text (codes "ncols         ") (decimal g.terrain.cols) in
-    let l2 = line_text (codes "nrows         ") (decimal g.terrain.rows) in
-    let l3 = anchor_text (codes "xllcorner     ") (codes "xllcenter     ") g.xll in
-    let l4 = anchor_text (codes "yllcorner     ") (codes "yllcenter     ") g.yll in
-    let l5 = line_text (codes "cellsize      ") g.cellsize in
-    let l6 = line_text (codes "NODATA_value  ") g.nodata in
-    six l1 l2 l3 l4 l5 l6
-    (let e = line_length (codes "ncols         ") (decimal g.terrain.cols) in omega (arith, e, size_digits g.terrain.cols h.terrain.few_cols))
-    (let e = line_length (codes "nrows         ") (decimal g.terrain.rows) in omega (arith, e, size_digits g.terrain.rows h.terrain.few_rows))
-    (let e = anchor_length (codes "xllcorner     ") (codes "xllcenter     ") g.xll refl refl in omega (arith, e, h.xll.0))
-    (let e = anchor_length (codes "yllcorner     ") (codes "yllcenter     ") g.yll refl refl in omega (arith, e, h.yll.0))
-    (let e = line_length (codes "cellsize      ") g.cellsize in omega (arith, e, h.cellsize.0))
-    (let e = line_length (codes "NODATA_value  ") g.nodata in omega (arith, e, h.nodata.0)) where
-      six : (a b c d e f : List ℕ) → length a ≤ 19 → length b ≤ 19 → length c ≤ 79 → length d ≤ 79 → length e ≤ 79 → length f ≤ 79 → length (((((a ++ b) ++ c) ++ d) ++ e) ++ f) ≤ 400
-      six a b c d e f i j k l m n = omega (arith, i, j, k, l, m, n, length-append ((((a ++ b) ++ c) ++ d) ++ e) f, length-append (((a ++ b) ++ c) ++ d) e, length-append ((a ++ b) ++ c) d, length-append (a ++ b) c, length-append a b)
+    let xll = anchor_length (codes "xllcorner     ") (codes "xllcenter     ") g.xll refl refl in
+    let yll = anchor_length (codes "yllcorner     ") (codes "yllcenter     ") g.yll refl refl in
+    let cols = size_digits g.terrain.cols h.terrain.few_cols in
+    let rows = size_digits g.terrain.rows h.terrain.few_rows in
+    simp length-append (omega (arith, simp length-append at xll, simp length-append at yll))
 
 cells_short : (g : Raster) → IsLawful g → length g.nodata ≤ 30 → All (λ c. length (cell_text (height_text g.scale) g.nodata c) ≤ 30) g.terrain.cells
 cells_short g h nodata = λ k d within. cell_short g h nodata (get_or g.terrain.cells k d) (h.terrain.heights k d within) where

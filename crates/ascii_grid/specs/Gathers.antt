@@ -3,7 +3,7 @@
 use Rattle.std.specs.Prelude.{◌≡◌, ℕ, List, ◌++◌, Option, Result, OnOk, OnErr}
 use Rattle.ascii_grid.specs.Device.{Device, HasWritten, HasWrittenPart, CountsFailure}
 
--- The bytes written, and then those in the page, are the bytes that were in the page and the text.
+-- The bytes written, and then the page, are the page as it was, and then the text.
 abbrev pub LosesNoByte : {W : Type 0} → (W → Option (List ℕ)) → Device W → List ℕ → Device W →
     List ℕ → List ℕ → Type 0
 LosesNoByte contents old waited new waits text =

@@ -1,11 +1,11 @@
--- The cells that some bytes of a text spell, parsed apart from the rest. Source: this project.
+-- The cells that bytes spell, parsed without the text before them. Source: this project.
 -- Public.
 use Rattle.std.specs.Prelude.{◌≡◌, ℕ, ◌<◌, ◌≤◌, ℤ, true, false, List, map, length, take, get_or, Option}
 use Rattle.std.specs.List.{All, list_any}
 use Rattle.terrain.specs.Words.{Word, is_separator, words, ended_words}
 use Rattle.ascii_grid.specs.GridText.{is_cell, spelled_cell}
 
--- What is needed to parse heights apart from their text: the scale and the NODATA word.
+-- The scale and the NODATA word: all that a job needs to parse heights.
 pub record Form : Type 0 where
   pub scale : ℕ
   pub nodata : Word

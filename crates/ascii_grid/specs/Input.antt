@@ -10,14 +10,13 @@ use Rattle.ascii_grid.specs.declared.fault.GridFault.{GridFault}
 use Rattle.ascii_grid.specs.declared.input.InputFault.{InputFault}
 use Rattle.ascii_grid.specs.declared.input.InputFault.TheVariants.{Grid, Read}
 
--- These bytes were read from the device: at most 2^29 + 1, which show that a text is too long.
+-- These bytes were read from the device, at most one more than a text may have.
 pub record Takes {R : Type 0} (remaining : R → Option (List ℕ)) (old new : Device R) : Type 0 where
   pub bytes : List ℕ
   pub read : HasRead remaining old new bytes
   pub few : length bytes ≤ most_bytes + 1
 
--- A call reads a grid from a device. `remaining` is the text that the device has yet to give, if
--- known.
+-- A call reads a grid from a device. `remaining` is the text left to read from a device, if known.
 pub record ReadsGrid {R : Type 0} (remaining : R → Option (List ℕ)) (scale : ℕ) (old new : Device R)
     (result : Result Raster InputFault) : Type 0 where
   pub taken : Takes remaining old new

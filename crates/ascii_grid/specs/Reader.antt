@@ -6,7 +6,7 @@ use Rattle.std.specs.Result.{result_err}
 use Rattle.ascii_grid.specs.GridText.{most_bytes, fault_so_far, IsRefusalSoFar}
 use Rattle.ascii_grid.specs.Reading.{HasWords}
 use Rattle.ascii_grid.specs.declared.fault.GridFault.{GridFault}
-use Rattle.ascii_grid.specs.declared.progress.Tokenizer.{Tokenizer}
+use Rattle.ascii_grid.specs.declared.tokenizer.Tokenizer.{Tokenizer}
 
 -- The reader's scale, the fault that it has returned, its words so far, and the count of bytes fed.
 pub record Reader : Type 0 where
@@ -18,7 +18,7 @@ pub record Reader : Type 0 where
 -- The reader holds the words of this text, which has at most 2^29 bytes.
 pub record IsReading (r : Reader) (text : List ℕ) : Type 0 where
   pub words_of : HasWords r.words text
-  pub same_scale : r.words.judge.scale ≡ r.scale
+  pub same_scale : r.words.builder.scale ≡ r.scale
   pub size : r.count ≡ length text
   pub short : length text ≤ most_bytes
 

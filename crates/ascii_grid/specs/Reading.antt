@@ -1,4 +1,4 @@
--- What the words so far have put into a reader's state. Source: this project.
+-- The state of a reader after the words so far. Source: this project.
 -- Public.
 use Rattle.std.specs.Prelude.{◌≡◌, ℕ, Bool, true, false, List, [], ◌∷◌, ◌++◌, map, filter, find, take, Option, None, Some, option_map}
 use Rattle.std.specs.List.{slice_split, list_all}
@@ -11,11 +11,11 @@ use Rattle.ascii_grid.specs.declared.fault.Key.{Key}
 use Rattle.ascii_grid.specs.declared.fault.Key.TheVariants.{Ncols, Nrows, Xll, Yll, Cellsize, Nodata}
 use Rattle.ascii_grid.specs.declared.fault.GridFault.{GridFault}
 use Rattle.ascii_grid.specs.declared.header.Header.{Header}
-use Rattle.ascii_grid.specs.declared.judge.Stage.{Stage}
-use Rattle.ascii_grid.specs.declared.judge.Stage.TheVariants.{AtKey, AtValue, AtHeights}
-use Rattle.ascii_grid.specs.declared.judge.Judge.{Judge}
-use Rattle.ascii_grid.specs.declared.progress.Tokenizer.{Tokenizer}
-use Rattle.ascii_grid.specs.declared.progress.TheConstants.{KEPT_BYTES}
+use Rattle.ascii_grid.specs.declared.builder.Stage.{Stage}
+use Rattle.ascii_grid.specs.declared.builder.Stage.TheVariants.{AtKey, AtValue, AtHeights}
+use Rattle.ascii_grid.specs.declared.builder.GridBuilder.{GridBuilder}
+use Rattle.ascii_grid.specs.declared.tokenizer.Tokenizer.{Tokenizer}
+use Rattle.ascii_grid.specs.declared.tokenizer.TheConstants.{KEPT_BYTES}
 
 -- The key and the value words of pairs, in their order.
 abbrev pub flat : List (Word × Word) → List Word
@@ -63,7 +63,7 @@ HasBegun [] = ⊥
 HasBegun (h ∷ rest) = begins_with_letter h ≡ false
 
 -- These words follow the pairs as heights without a fault, and their cells are stored.
-pub record AreHeights (j : Judge) (ps : List (Word × Word)) (hs : List Word) : Type 0 where
+pub record AreHeights (j : GridBuilder) (ps : List (Word × Word)) (hs : List Word) : Type 0 where
   pub whole : missing_fault (flat ps) ≡ None
   pub wanted : j.wanted ≡ cells_wanted (flat ps)
   pub nodata : j.nodata ≡ nodata_for (flat ps)
@@ -72,13 +72,13 @@ pub record AreHeights (j : Judge) (ps : List (Word × Word)) (hs : List Word) : 
   pub cells : j.cells.items ≡ map (spelled_cell j.scale j.nodata) hs
 
 -- The words after the pairs fit the stage: none at a key, the key at its value, else heights.
-abbrev pub IsAt : Judge → List (Word × Word) → List Word → Stage → Type 0
+abbrev pub IsAt : GridBuilder → List (Word × Word) → List Word → Stage → Type 0
 IsAt j ps rest AtKey = rest ≡ []
 IsAt j ps rest (AtValue slot centre) = (k : Word) × (rest ≡ k ∷ []) × AwaitsValue ps k slot centre
 IsAt j ps rest AtHeights = HasBegun rest × AreHeights j ps rest
 
 -- These words were read without a fault, as pairs of the header and then the rest.
-pub record HasJudged (j : Judge) (ws : List Word) : Type 0 where
+pub record HasJudged (j : GridBuilder) (ws : List Word) : Type 0 where
   pub pairs : List (Word × Word)
   pub rest : List Word
   pub words : ws ≡ flat pairs ++ rest
@@ -105,5 +105,5 @@ pub record HasWords (p : Tokenizer) (text : List ℕ) : Type 0 where
   pub ended : List Word
   pub last : Word
   pub parted : IsParted text ended last
-  pub judged : HasJudged p.judge ended
+  pub judged : HasJudged p.builder ended
   pub front : p.word ≡ take KEPT_BYTES last

@@ -26,7 +26,9 @@ pub enum GridFault {
     BadPlace(Key),
     /// The NODATA word is no decimal text.
     BadNodata,
-    /// The word of this cell, from 0 in row order, is no height at the scale.
+    /// The word of this cell is neither NODATA nor a height at the scale.
+    ///
+    /// Cells count from 0 in row order.
     BadHeight(u32),
     /// The text ends after this many heights, fewer than the header asks for.
     TooFew(u32),

@@ -155,6 +155,7 @@ impl Header {
     }
 }
 
+/// Returns a decimal text as a stored word, else `None`.
 fn decimal(word: &[u8]) -> Option<Word>
     requires { length word.now ≤ MOST_WORD_BYTES }
     ensures { result ≡ (if is_decimal word.now then Some word.now else None) }

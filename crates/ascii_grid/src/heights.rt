@@ -1,6 +1,6 @@
-//! Parses heights apart from their text, for jobs.
+//! Parses heights without the text before them, for jobs.
 //!
-//! [`HeightForm`] holds the scale and the NODATA word; [`HeightForm::cells`] parses bytes.
+//! [`HeightParser`] holds the scale and the NODATA word; [`HeightParser::cells`] parses bytes.
 ghost use Rattle.std.specs.Prelude.{◌≡◌, IsTrue, ℕ, ◌<◌, ◌≤◌, ◌++◌, List, length, take, IfSome};
 ghost use Rattle.std.specs.List.{position};
 ghost use Rattle.terrain.specs.Words.{is_separator};
@@ -9,20 +9,20 @@ ghost use Rattle.ascii_grid.specs.Meaning.{meaning_of};
 ghost use Rattle.ascii_grid.specs.HeightList.{AreCells, IsEndedWord};
 
 use crate::cell::{Meaning, cell, value_cell};
-use crate::progress::is_separator;
+use crate::tokenizer::is_separator;
 use decimals::{plain_number, scaled_value};
 use std::alloc::Global;
 use std::marker::Model;
 use terrain::{Cell, MOST_WORD_BYTES, Word};
 
-/// What parsing heights apart from their text needs: the scale and NODATA word.
+/// The scale and the NODATA word: all that a job needs to parse heights.
 #[derive(Drop)]
-pub struct HeightForm {
+pub struct HeightParser {
     scale: u8,
     nodata: Word,
 }
 
-impl Model for HeightForm {
+impl Model for HeightParser {
     ghost use Rattle.std.specs.Prelude.{◌≤◌};
     ghost use Rattle.ascii_grid.specs.HeightList.{Form};
 
@@ -33,12 +33,12 @@ impl Model for HeightForm {
     ghost invariant = { λ f. f.scale ≤ 6 };
 }
 
-impl HeightForm {
+impl HeightParser {
     pub(crate) fn new(scale: u8, nodata: Word) -> Self
         requires { scale ≤ 6 }
         ensures { result ≡ record { scale = scale; nodata = nodata } }
     {
-        HeightForm { scale, nodata }
+        HeightParser { scale, nodata }
     }
 
     /// Whether the form has this scale and this NODATA word.
@@ -50,12 +50,13 @@ impl HeightForm {
 
     /// Returns the cells of bytes in which a separator follows each word.
     ///
-    /// `None` if the last word has no separator after it, if a word has more than 64 bytes or is no
-    /// cell, and for want of memory.
+    /// `None` if the last word has no separator after it, if a word has more than 64 bytes or
+    /// spells no cell, or if memory is refused: 4 bytes for each byte of text.
     pub fn cells(&self, alloc: Global, bytes: &[u8]) -> Option<Vec<Cell>>
         ensures { IfSome result (λ cells. AreCells self.now bytes.now cells.items) }
     {
         let nodata_value = scaled_value(self.scale, self.nodata.as_bytes());
+        // A word and its separator have at least 2 bytes.
         let mut cells = Vec::with_capacity(alloc, bytes.len() / 2 + 1).ok()?;
         let mut at = 0;
         while at < bytes.len() {
@@ -64,7 +65,7 @@ impl HeightForm {
         Some(cells)
     }
 
-    /// Reads a separator, or a word and its separator. Adds the word's cell.
+    /// Skips a separator, or adds the cell of the next word. Returns the bytes read.
     #[inline(always)]
     fn add_next(
         &self,

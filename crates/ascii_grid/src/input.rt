@@ -25,7 +25,11 @@ pub enum InputFault {
 
 /// Reads a grid from a device, its heights in units of 10^-scale.
 ///
-/// Reads into an array of [`PIECE_BYTES`] bytes, never the whole text, and at most 2^29 + 1 bytes.
+/// Reads at most 2^29 + 1 bytes, in pieces of at most [`PIECE_BYTES`].
+///
+/// # Memory
+///
+/// A list of 8 bytes a cell, allocated when the header ends.
 ///
 /// # Errors
 ///
@@ -56,8 +60,8 @@ pub fn read_grid<R: Read>(
 
 /// Reads a grid from a device by calls of `read_next`, which reads into the buffer.
 ///
-/// `read_next` feeds what it reads to the [`GridReader`]. It returns how many bytes these are, or
-/// `None` at the end of the text.
+/// `read_next` feeds the bytes to the [`GridReader`] and returns their number, or `None` at the end
+/// of the text.
 ///
 /// # Errors
 ///
@@ -86,6 +90,7 @@ pub fn read_grid_by<
     let mut grid_reader = GridReader::new(alloc, scale);
     let mut taken = 0;
     loop {
+        // One byte past the limit shows that a text is too long.
         let room = buffer.len().min(MOST_TEXT_BYTES + 1 - taken);
         match read_next(&mut grid_reader, reader, &mut buffer[..room]) {
             Ok(Some(count)) => taken += count,

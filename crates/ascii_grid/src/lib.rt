@@ -8,12 +8,12 @@
 //! - `read`: reads a whole text
 //! - `input`: reads a grid from a device
 //! - `reader`: reads a text in pieces
-//! - `progress`: splits a text into words
-//! - `judge`: checks each word, fills header slots, adds cells
+//! - `tokenizer`: splits a text into words
+//! - `builder`: checks each word, fills header slots, adds cells
 //! - `key`: the slot that a key word fills
 //! - `header`: the slots of a header
 //! - `cell`: the cell that a word spells
-//! - `heights`: parses heights apart from their text, for jobs
+//! - `heights`: parses heights without the text before them, for jobs
 //! - `write`: writes a map as text
 //! - `cell_text`: the text of one value
 //! - `page`: a byte buffer on the stack
@@ -22,6 +22,7 @@
 //! - `laws`: theorems about the definitions
 #![tactic(auto)]
 
+mod builder;
 mod cell;
 mod cell_text;
 mod counted;
@@ -29,26 +30,25 @@ mod fault;
 mod header;
 mod heights;
 mod input;
-mod judge;
 mod key;
 pub mod laws;
 mod page;
-mod progress;
 mod read;
 mod reader;
+mod tokenizer;
 pub mod write;
 
 pub use counted::{Counted, ReadFailed, UncountedFailure, WriteFailed};
 pub use drainage::Code;
 pub use fault::{GridFault, Key};
-pub use heights::HeightForm;
+pub use heights::HeightParser;
 pub use input::{InputFault, PIECE_BYTES, read_grid, read_grid_by};
 pub use page::Page;
-pub use progress::is_separator;
 pub use read::read_text;
 pub use reader::{GridReader, MOST_TEXT_BYTES};
 pub use terrain::{
     Anchor, Cell, Count, Frame, Grid, GridHeader, HIGHEST, Height, LOWEST, NoMemory, Place,
     SinkFault, Word,
 };
+pub use tokenizer::is_separator;
 pub use write::{write_codes, write_counts, write_framed_counts, write_heights};

@@ -1,6 +1,6 @@
 //! Reads a text in pieces: [`GridReader`].
 //!
-//! A fault is returned once its word has ended, and again by every later call. `progress` splits
+//! A fault is returned once its word has ended, and again by every later call. `tokenizer` splits
 //! the text into words.
 ghost use Rattle.std.specs.Prelude.{◌≡◌, ◌≤◌, [], ℕ, List, None, Some, Ok, Err, IfOk, IfErr, IfSome, OnSome, IsTrue, false};
 ghost use Rattle.terrain.specs.Words.{ended_words};
@@ -10,8 +10,8 @@ ghost use Rattle.ascii_grid.specs.HeightList.{AreCells};
 ghost use Rattle.ascii_grid.specs.Reader.{HasTaken, Feeds};
 
 use crate::fault::GridFault;
-use crate::heights::HeightForm;
-use crate::progress::Tokenizer;
+use crate::heights::HeightParser;
+use crate::tokenizer::Tokenizer;
 use std::alloc::Global;
 use std::marker::Model;
 use terrain::{Cell, Grid};
@@ -43,14 +43,14 @@ impl Model for GridReader {
     ghost Value = { Reader };
 
     ghost view = { λ r. record {
-      scale = r.words.judge.scale;
+      scale = r.words.builder.scale;
       fault = r.fault;
       words = r.words;
       count = r.taken;
     } };
 
-    ghost invariant = { λ r. (r.words.judge.scale ≤ 6) × ((text : List ℕ) × HasTaken (record {
-      scale = r.words.judge.scale;
+    ghost invariant = { λ r. (r.words.builder.scale ≤ 6) × ((text : List ℕ) × HasTaken (record {
+      scale = r.words.builder.scale;
       fault = r.fault;
       words = r.words;
       count = r.taken;
@@ -77,8 +77,8 @@ impl GridReader {
     /// # Errors
     ///
     /// The first fault of a word, once a separator has ended the word; [`GridFault::TooLong`] past
-    /// [`MOST_TEXT_BYTES`]; [`GridFault::Memory`] at the first height. Every later call returns the
-    /// fault again.
+    /// [`MOST_TEXT_BYTES`]; [`GridFault::Memory`] at the first height, if the list of cells is
+    /// refused. Every later call returns the fault again.
     pub fn feed(&mut self, piece: &[u8]) -> Result<(), GridFault>
         ensures { Feeds self.old self.new piece.now result }
     {
@@ -101,7 +101,7 @@ impl GridReader {
     /// Returns what jobs need to parse the next heights.
     ///
     /// `None` until the first height has ended, within a word, and after a fault.
-    pub fn height_form(&self) -> Option<HeightForm>
+    pub fn height_parser(&self) -> Option<HeightParser>
         ensures sound { OnSome result (self.now.fault ≡ None) }
         ensures scale { IfSome result (λ form. form.scale ≡ self.now.scale) }
         ensures nodata { (text : List ℕ) → HasTaken self.now text →
@@ -110,20 +110,20 @@ impl GridReader {
         if let Some(_) = self.fault {
             return None;
         }
-        self.words.height_form()
+        self.words.height_parser()
     }
 
-    /// Reads a piece of the text, which [`HeightForm::cells`] parsed into `cells`.
+    /// Reads a piece of the text, which [`HeightParser::cells`] parsed into `cells`.
     ///
-    /// Adds the cells if `form` is what [`height_form`](Self::height_form) returns and they fit. If
-    /// not, parses the piece.
+    /// Adds the cells if `form` equals that of [`height_parser`](Self::height_parser) and they fit;
+    /// otherwise parses the piece.
     ///
     /// # Errors
     ///
     /// Those of [`feed`](Self::feed).
     pub fn feed_cells(
         &mut self,
-        form: &HeightForm,
+        form: &HeightParser,
         piece: &[u8],
         cells: &[Cell],
     ) -> Result<(), GridFault>
@@ -137,7 +137,7 @@ impl GridReader {
     }
 
     /// Adds the cells of a piece, or returns false and changes nothing.
-    fn take_cells(&mut self, form: &HeightForm, piece: &[u8], cells: &[Cell]) -> bool
+    fn take_cells(&mut self, form: &HeightParser, piece: &[u8], cells: &[Cell]) -> bool
         requires { AreCells form.now piece.now cells.now }
         ensures taken { IsTrue result → Feeds self.old self.new piece.now (Ok (tt {0})) }
         ensures refused { result ≡ false → self.new ≡ self.old }
@@ -156,8 +156,8 @@ impl GridReader {
     ///
     /// # Errors
     ///
-    /// The text's first fault, or [`GridFault::Memory`]. A fault of
-    /// [`feed`](Self::feed) is returned again.
+    /// The text's first fault, or [`GridFault::Memory`]. Returns a fault of [`feed`](Self::feed)
+    /// again.
     pub fn finish(self) -> Result<Grid, GridFault>
         ensures grid { (text : List ℕ) → HasTaken self text →
             IfOk result (λ g. IsGridText self.scale text g) }
@@ -174,6 +174,6 @@ impl GridReader {
             return Err(fault);
         }
         words.end_word()?;
-        words.judge.finish()
+        words.builder.finish()
     }
 }

@@ -53,7 +53,7 @@ fn make_room<W: Write>(page: &mut Page, out: &mut Counted<W>) -> Result<(), Writ
 }
 
 /// A cell of a map: a value or NODATA.
-pub trait Entry: Copy {
+pub trait MapCell: Copy {
     /// The cell's text, by the scale and the NODATA word.
     ghost text: { ℕ → List ℕ → Self → List ℕ };
 
@@ -65,7 +65,7 @@ pub trait Entry: Copy {
         ensures { page.new ≡ page.old ++ text scale nodata.now self ++ end ∷ [] };
 }
 
-impl<T: CellValue> Entry for Option<T> {
+impl<T: CellValue> MapCell for Option<T> {
     ghost text = { λ scale. cell_text (T.text scale) };
 
     #[inline(always)]
@@ -80,7 +80,7 @@ impl<T: CellValue> Entry for Option<T> {
     }
 }
 
-impl Entry for Cell {
+impl MapCell for Cell {
     ghost text = { λ scale. cell_text (height_text scale) };
 
     #[inline(always)]
@@ -89,7 +89,7 @@ impl Entry for Cell {
     }
 }
 
-impl Entry for Count {
+impl MapCell for Count {
     ghost text = { λ _. cell_text decimal };
 
     #[inline(always)]
@@ -100,7 +100,7 @@ impl Entry for Count {
 
 /// Writes one cell and the byte `end`, by way of the page.
 #[inline(always)]
-fn write_cell<E: Entry, W: Write>(
+fn write_cell<E: MapCell, W: Write>(
     cell: E,
     end: u8,
     scale: u8,
@@ -120,7 +120,7 @@ fn write_cell<E: Entry, W: Write>(
 }
 
 /// Writes one row of cells as a line, by way of the page.
-fn write_row<E: Entry, W: Write>(
+fn write_row<E: MapCell, W: Write>(
     cells: &[E],
     scale: u8,
     nodata: &[u8],
@@ -142,7 +142,7 @@ fn write_row<E: Entry, W: Write>(
 }
 
 /// Writes the rows of cells as lines, by way of the page.
-fn write_rows<E: Entry, W: Write>(
+fn write_rows<E: MapCell, W: Write>(
     cells: &[E],
     cols: usize,
     scale: u8,
@@ -165,7 +165,7 @@ fn write_rows<E: Entry, W: Write>(
 }
 
 /// Writes the page and then the rows of cells, and flushes the device.
-fn write_page_and_rows<E: Entry, W: Write>(
+fn write_page_and_rows<E: MapCell, W: Write>(
     page: &mut Page,
     cells: &[E],
     cols: usize,
@@ -241,7 +241,7 @@ fn header_page(frame: &Frame, nodata: &[u8]) -> Page
 /// # Errors
 ///
 /// [`WriteFailed`] if a write or the flush fails.
-pub fn write_cells<E: Entry, W: Write>(
+pub fn write_cells<E: MapCell, W: Write>(
     frame: &Frame,
     cells: &[E],
     nodata: &[u8],
@@ -261,7 +261,11 @@ pub fn write_cells<E: Entry, W: Write>(
 }
 
 /// Returns the text of the rows of cells, a line each.
-pub fn lines<E: Entry>(
+///
+/// # Errors
+///
+/// [`NoMemory`] if memory for the text is refused.
+pub fn lines<E: MapCell>(
     alloc: Global,
     cells: &[E],
     cols: usize,

@@ -46,7 +46,7 @@ fn named(rt: &impl Abort, alloc: Global, grid: &Grid, sinks: &[Place]) -> Grid
     grid.with_sinks(alloc, sinks).expect(rt, "sinks")
 }
 
-/// The filled heights of [`bowl`].
+/// The heights of [`bowl`], but 5 in the middle.
 const FILLED: [Option<Height>; 9] = [
     Some(5),
     Some(5),
@@ -78,7 +78,7 @@ fn is_edge(rt: &impl Abort, grid: &Grid, place: Place) -> bool {
 }
 
 /// Asserts the sinks of a grid.
-fn has_sinks(rt: &impl Abort, grid: &Grid, sinks: &[Place]) {
+fn expect_sinks(rt: &impl Abort, grid: &Grid, sinks: &[Place]) {
     assert_eq!(rt; grid.sinks(), sinks);
 }
 
@@ -87,23 +87,23 @@ fn refuses(rt: &impl Abort, alloc: Global, grid: &Grid, sinks: &[Place], fault: 
     assert_eq!(rt; grid.with_sinks(alloc, sinks).err(), Some(fault));
 }
 
-fn is_word(rt: &impl Abort, word: &Word, text: &[u8]) {
+fn expect_word(rt: &impl Abort, word: &Word, text: &[u8]) {
     assert_eq!(rt; word.as_bytes(), text);
 }
 
-fn is_anchor(rt: &impl Abort, anchor: &Anchor, centre: bool, text: &[u8]) {
+fn expect_anchor(rt: &impl Abort, anchor: &Anchor, centre: bool, text: &[u8]) {
     assert_eq!(rt; anchor.centre, centre);
-    is_word(rt, &anchor.word, text);
+    expect_word(rt, &anchor.word, text);
 }
 
 #[test]
 fn parts_of_a_grid(rt: HostRuntime) {
     let grid = bowl(&rt, rt.alloc());
     assert_eq!(rt; grid.scale(), 1);
-    is_anchor(&rt, grid.frame().xll(), true, b"100.5");
-    is_anchor(&rt, grid.frame().yll(), false, b"-2E1");
-    is_word(&rt, grid.frame().cellsize(), b"30.0");
-    is_word(&rt, grid.frame().nodata(), b"-9999");
+    expect_anchor(&rt, grid.frame().xll(), true, b"100.5");
+    expect_anchor(&rt, grid.frame().yll(), false, b"-2E1");
+    expect_word(&rt, grid.frame().cellsize(), b"30.0");
+    expect_word(&rt, grid.frame().nodata(), b"-9999");
 }
 
 #[test]
@@ -124,12 +124,12 @@ fn other_cells(rt: HostRuntime) {
     expect_cells(&rt, other.cells(), &FILLED);
     assert_eq!(rt; other.cols(), 3);
     assert_eq!(rt; other.scale(), 1);
-    is_anchor(&rt, other.frame().xll(), true, b"100.5");
-    is_word(&rt, other.frame().nodata(), b"-9999");
+    expect_anchor(&rt, other.frame().xll(), true, b"100.5");
+    expect_word(&rt, other.frame().nodata(), b"-9999");
     assert_eq!(rt; grid.at(MIDDLE), Some(-1));
 }
 
-/// A pit filled to its rim of nines: only the cells change.
+/// With cells of nine only the cells of a grid change.
 #[test]
 fn nine_nines(rt: HostRuntime) -> Result<(), NoMemory> {
     let pit = grid_of(&rt, rt.alloc(), 0, PIT, &PIT_CELLS);
@@ -140,11 +140,11 @@ fn nine_nines(rt: HostRuntime) -> Result<(), NoMemory> {
     let nines = pit.with_cells(rt.alloc(), &cells)?;
     expect_cells(&rt, nines.cells(), &[Some(9); 9]);
     assert_eq!(rt; (nines.cols(), nines.rows(), nines.scale()), (3, 3, 0));
-    is_anchor(&rt, nines.frame().xll(), false, b"0");
-    is_anchor(&rt, nines.frame().yll(), false, b"0");
-    is_word(&rt, nines.frame().cellsize(), b"1");
-    is_word(&rt, nines.frame().nodata(), b"-9999");
-    has_sinks(&rt, &nines, &[]);
+    expect_anchor(&rt, nines.frame().xll(), false, b"0");
+    expect_anchor(&rt, nines.frame().yll(), false, b"0");
+    expect_word(&rt, nines.frame().cellsize(), b"1");
+    expect_word(&rt, nines.frame().nodata(), b"-9999");
+    expect_sinks(&rt, &nines, &[]);
     Ok(())
 }
 
@@ -160,10 +160,10 @@ fn counts(rt: HostRuntime) {
 #[test]
 fn sink_in_a_pit(rt: HostRuntime) {
     let pit = grid_of(&rt, rt.alloc(), 0, PIT, &PIT_CELLS);
-    has_sinks(&rt, &pit, &[]);
+    expect_sinks(&rt, &pit, &[]);
     assert!(rt; !is_edge(&rt, &pit, MIDDLE));
     let named = named(&rt, rt.alloc(), &pit, &[MIDDLE]);
-    has_sinks(&rt, &named, &[MIDDLE]);
+    expect_sinks(&rt, &named, &[MIDDLE]);
     assert!(rt; is_edge(&rt, &named, MIDDLE));
     expect_cells(&rt, named.cells(), &PIT_CELLS);
 }
@@ -173,11 +173,11 @@ fn sinks_count_once_and_are_replaced(rt: HostRuntime) {
     let bowl = bowl(&rt, rt.alloc());
     let repeated = [MIDDLE, SOUTH_WEST, MIDDLE, NORTH_EAST, SOUTH_WEST, MIDDLE];
     let first = named(&rt, rt.alloc(), &bowl, &repeated);
-    has_sinks(&rt, &first, &[MIDDLE, SOUTH_WEST, NORTH_EAST]);
+    expect_sinks(&rt, &first, &[MIDDLE, SOUTH_WEST, NORTH_EAST]);
     let second = named(&rt, rt.alloc(), &first, &[NORTH_EAST]);
-    has_sinks(&rt, &second, &[NORTH_EAST]);
+    expect_sinks(&rt, &second, &[NORTH_EAST]);
     let none = named(&rt, rt.alloc(), &second, &[]);
-    has_sinks(&rt, &none, &[]);
+    expect_sinks(&rt, &none, &[]);
 }
 
 #[test]
@@ -185,7 +185,7 @@ fn sinks_stay_with_other_cells(rt: HostRuntime) {
     let grid = bowl(&rt, rt.alloc());
     let sunk = named(&rt, rt.alloc(), &grid, &[NORTH_EAST, MIDDLE]);
     let other = filled(&rt, rt.alloc(), &sunk);
-    has_sinks(&rt, &other, &[NORTH_EAST, MIDDLE]);
+    expect_sinks(&rt, &other, &[NORTH_EAST, MIDDLE]);
     expect_cells(&rt, other.cells(), &FILLED);
 }
 
@@ -206,7 +206,7 @@ fn bad_sinks(rt: HostRuntime) {
 fn most_sinks(rt: HostRuntime) -> Result<(), Fail> {
     let grid = bowl(&rt, rt.alloc());
     let mut sinks = vec![in rt.alloc(); MIDDLE; 1024]?;
-    has_sinks(&rt, &named(&rt, rt.alloc(), &grid, &sinks), &[MIDDLE]);
+    expect_sinks(&rt, &named(&rt, rt.alloc(), &grid, &sinks), &[MIDDLE]);
     sinks.push(PAST_THE_ROWS)?;
     refuses(&rt, rt.alloc(), &grid, &sinks, SinkFault::TooManySinks);
     Ok(())
@@ -224,6 +224,6 @@ fn refused_sinks_are_named_once_more(rt: HostRuntime) {
                 .expect(&rt, "once more")
         }
     };
-    has_sinks(&rt, &named, &[MIDDLE]);
+    expect_sinks(&rt, &named, &[MIDDLE]);
     expect_cells(&rt, named.cells(), &PIT_CELLS);
 }

@@ -13,7 +13,7 @@ use std::process::Abort;
 /// A header of 2 columns and 1 row, with the lower left corner at 0 0.
 const HEADER: &[u8] = b"ncols 2 nrows 1 xllcorner 0 yllcorner 0 cellsize 1";
 
-/// Reads `text` in pieces of `piece` bytes, with empty pieces before each and last.
+/// Reads `text` in pieces of `piece` bytes, an empty one before each and last.
 fn read_in_pieces(alloc: Global, scale: u8, text: &[u8], piece: usize) -> Result<Grid, GridFault>
     requires scale { scale ≤ 6 }
     requires piece { 0 < piece }
@@ -281,7 +281,7 @@ fn bad_keys(rt: HostRuntime) {
         b"\xef\xbb\xbfncols 2",
         GridFault::MissingKey(Key::Ncols),
     );
-    // An accented letter of two bytes begins no key either.
+    // An accented letter of two bytes begins no key.
     refuses(
         &rt,
         rt.alloc(),
@@ -365,7 +365,12 @@ fn long_words(rt: HostRuntime) {
 }
 
 /// Feeds the next piece, and asserts what the reader returns.
-fn answers(rt: &impl Abort, reader: &mut GridReader, piece: &[u8], answer: Result<(), GridFault>) {
+fn expect_feed(
+    rt: &impl Abort,
+    reader: &mut GridReader,
+    piece: &[u8],
+    answer: Result<(), GridFault>,
+) {
     assert_eq!(rt; reader.feed(piece), answer);
 }
 
@@ -374,8 +379,8 @@ fn fault_stays(rt: HostRuntime) {
     let fault = GridFault::UnknownKey;
     for piece in [b"".as_slice(), b" ", b"ncols 0 ", HEADER] {
         let mut reader = GridReader::new(rt.alloc(), 0);
-        answers(&rt, &mut reader, b"bogus ", Err(fault));
-        answers(&rt, &mut reader, piece, Err(fault));
+        expect_feed(&rt, &mut reader, b"bogus ", Err(fault));
+        expect_feed(&rt, &mut reader, piece, Err(fault));
         assert_eq!(rt; reader.finish().err(), Some(fault));
     }
 }
@@ -384,9 +389,9 @@ fn fault_stays(rt: HostRuntime) {
 fn fault_of_a_word_once_it_has_ended(rt: HostRuntime) {
     let mut reader = GridReader::new(rt.alloc(), 0);
     let fault = GridFault::BadSize(Key::Ncols);
-    answers(&rt, &mut reader, b"ncols 0", Ok(()));
-    answers(&rt, &mut reader, b"\n", Err(fault));
-    answers(&rt, &mut reader, HEADER, Err(fault));
+    expect_feed(&rt, &mut reader, b"ncols 0", Ok(()));
+    expect_feed(&rt, &mut reader, b"\n", Err(fault));
+    expect_feed(&rt, &mut reader, HEADER, Err(fault));
     assert_eq!(rt; reader.finish().err(), Some(fault));
 }
 

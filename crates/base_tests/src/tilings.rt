@@ -41,7 +41,7 @@ fn place_in(rt: &impl Abort, tiling: &Tiling, row: u32, col: u32) -> Place
     place(row, col)
 }
 
-fn has_tiles(rt: &impl Abort, cols: u32, rows: u32, side: u32, tiles: u32) {
+fn expect_tiles(rt: &impl Abort, cols: u32, rows: u32, side: u32, tiles: u32) {
     let tiling = cut(rt, cols, rows, side);
     assert_eq!(rt; tiling.tiles(), tiles, "{cols} by {rows}, side {side}");
     assert_eq!(rt; tiling.cols(), cols);
@@ -50,11 +50,11 @@ fn has_tiles(rt: &impl Abort, cols: u32, rows: u32, side: u32, tiles: u32) {
 
 #[test]
 fn tile_counts(rt: HostRuntime) {
-    has_tiles(&rt, 256, 256, 1, 65_536);
-    has_tiles(&rt, 4_096, 4_096, 16, 65_536);
-    has_tiles(&rt, 4_096, 4_096, 4_096, 1);
-    has_tiles(&rt, 5, 3, 2, 6);
-    has_tiles(&rt, 1, 1, 1, 1);
+    expect_tiles(&rt, 256, 256, 1, 65_536);
+    expect_tiles(&rt, 4_096, 4_096, 16, 65_536);
+    expect_tiles(&rt, 4_096, 4_096, 4_096, 1);
+    expect_tiles(&rt, 5, 3, 2, 6);
+    expect_tiles(&rt, 1, 1, 1, 1);
 }
 
 fn refuses(rt: &impl Abort, cols: u32, rows: u32, side: u32, fault: TilingFault) {
@@ -200,7 +200,7 @@ fn cells_of_bounds_in_row_order(rt: HostRuntime) {
     assert_eq!(rt; bounds.side_count(), 14);
 }
 
-/// Asserts which neighbours of a cell of 5 by 3 cells are in other tiles.
+/// Asserts which neighbours of a cell are in other tiles, in a grid of 5 by 3.
 fn has_outer(rt: &impl Abort, alloc: Global, side: u32, row: u32, col: u32, outer: &str) {
     let tiling = cut(rt, 5, 3, side);
     let place = place_in(rt, &tiling, row, col);

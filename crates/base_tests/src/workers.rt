@@ -184,6 +184,7 @@ fn fewer_jobs_than_may_be_run(rt: HostRuntime) -> Result<(), Fail> {
     Ok(())
 }
 
+/// 60,000 jobs, of the 65,536 that one run may have.
 #[test]
 fn most_jobs(rt: HostRuntime) -> Result<(), Fail> {
     let squares = run_squares(&rt, rt.alloc(), 60000, 60000, 4)?;
@@ -258,7 +259,7 @@ fn refused_memory_is_told(rt: HostRuntime) {
     }
 }
 
-/// Without stealing, one of the three held jobs would wait in vain.
+/// Each case holds one job; without stealing, the first would wait in vain.
 #[test]
 fn idle_worker_steals(rt: HostRuntime) -> Result<(), Fail> {
     for waits in [[0b110, 0, 0, 0], [0, 0b101, 0, 0], [0, 0, 0b011, 0]] {

@@ -165,6 +165,7 @@ fn lenient_text(rt: HostRuntime) {
     }
 }
 
+/// Counts have -9999 for NODATA, whatever the grid's own NODATA word.
 #[test]
 fn lenient_flow(rt: HostRuntime) {
     let grid = lenient_grid(&rt, rt.alloc());

@@ -132,7 +132,7 @@ some_gap cells size not_all = elim (cases_Bool (is_some (get_or cells 0 None))) 
   all (suc (suc zero)) a b c low = c
   all (suc (suc (suc k))) a b c low = absurd (omega (arith, low))
 
--- A gap among three cells of a row is a gap around the middle one and the cells above and below it.
+-- A gap among the three cells of a row at or around a cell is a gap around that cell.
 pub gap_beside : (v : View (Option ℤ)) (cell p : Place) (cells : List (Option ℤ))
     → length cells ≡ 3 → AreBeside v p cells → p.col ≡ cell.col → 0 < cell.col
     → cell.row ≤ p.row + 1 → p.row ≤ cell.row + 1
@@ -162,7 +162,7 @@ gap_beside v cell p cells size are col some above below not_all =
       ],
     ))
 
--- Where all three have data, none of them is a gap.
+-- If the three cells of a row around a cell have data, no place of that row around it is a gap.
 pub no_gap_beside : (v : View (Option ℤ)) (cell p q : Place) (cells : List (Option ℤ))
     → length cells ≡ 3 → AreBeside v p cells → p.col ≡ cell.col → (p.row < v.cutting.rows) × (p.col + 1 < v.cutting.cols)
     → Touches cell q → q.row ≡ p.row

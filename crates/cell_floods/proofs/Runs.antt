@@ -11,7 +11,7 @@ part_length : (entries : List (Option ℤ)) (first count : ℕ) → first + coun
 part_length entries first count inside =
     length-take-le (first + count - first) (drop first entries) (omega (arith, inside, length-drop first entries)) ∙ omega arith
 
--- The data cells of a part are those of the list, and the other way round.
+-- A slice has data throughout exactly if the list has, at the indexes of the slice.
 pub part_there : (entries : List (Option ℤ)) (first count : ℕ) → first + count ≤ length entries → EachIndex (slice_range entries first (first + count)) (λ k. IsSome (get_or (slice_range entries first (first + count)) k None)) → AreAllThere entries first (first + count)
 part_there entries first count inside all index from below =
     let at : index ≡ first + (index - first) = omega (arith, from) in

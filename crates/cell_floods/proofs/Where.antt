@@ -12,8 +12,8 @@ use Rattle.tiles.proofs.Cut.{in_tile}
 use Rattle.cell_floods.specs.Cells.{inner_rows, last_of}
 use Rattle.terrain.proofs.Options.{cases_option, none_some}
 use Rattle.cell_floods.proofs.Nets.{length-inner_rows}
-use Rattle.cell_floods.specs.Labels.{IsTable, labels_by, label_of_node}
-use Rattle.cell_floods.specs.TileFlood.{Flood, IsTileLevel, IsTilePath, levels_where}
+use Rattle.cell_floods.specs.Labels.{IsTable, LabelTable, labels_by, label_of_node}
+use Rattle.cell_floods.specs.TileFlood.{Flood, IsTileLevel, IsTilePath, flood_of, levels_where}
 use Rattle.cell_floods.proofs.TileWindows.{AreTileLevels, data_within}
 use Rattle.drainage.proofs.Heights.{first_is_data}
 use Rattle.std.specs.List.{All}
@@ -114,7 +114,7 @@ labels_inside t c tile b levels labels h l cuts is k label e = elim (cases_lt k 
       ]
 ]
 
--- What holds of all labels holds of each place of their table.
+-- A property of all labels is one of all places of their table.
 pub table_inside : (P : Place → Type 0) (labels places : List (Option Place)) (cells : List ℕ) → labels ≡ labels_by places cells → IsTable places cells → ((k : ℕ) (p : Place) → get_or labels k None ≡ Some p → P p) → (k : ℕ) (p : Place) → get_or places k None ≡ Some p → P p
 table_inside P labels places cells are table inside k p e =
     let held = Any-from_list_any (λ n. n == k) cells (table.used k p e) in
@@ -130,11 +130,16 @@ all_inside P places inside = All-from_get_or (λ (o : Option Place). IfSome o P)
 ])
 
 -- The level of a cell, by its label and height.
-pub level_shown : (f : Flood) (labels : List (Option Place)) (heights : List ℤ) (i : ℕ) (label : Option Place) → f.levels ≡ levels_where labels heights → f.labels ≡ labels → length labels ≡ length heights → label ≡ get_or f.labels i None
-    → get_or f.levels i None ≡ option_map (λ _. get_or heights i (pos 0)) label
-level_shown f labels heights i label levels_are labels_are fit is =
-    ap (λ (z : List (Option ℤ)). get_or z i None) levels_are ∙ levels_where-at labels heights i fit
-    ∙ ap (option_map (λ _. get_or heights i (pos 0))) (sym (is ∙ ap (λ (z : List (Option Place)). get_or z i None) labels_are))
+pub level_shown : (b : Bounds) (heights : List ℤ) (t : LabelTable) (ends : List (Option ℤ))
+    (f : Flood) (i : ℕ) → flood_of b heights t ends ≡ f → length heights ≡ length t.indexes →
+    (length f.labels ≡ length heights) × (get_or f.levels i None
+    ≡ option_map (λ _. get_or heights i (pos 0)) (get_or (labels_by t.places t.indexes) i None))
+level_shown b heights t ends f i is whole =
+    let fit = length-map t.indexes (λ k. get_or t.places k None) ∙ sym whole in (
+      ap (λ (z : Flood). length z.labels) (sym is) ∙ fit,
+      ap (λ (z : Flood). get_or z.levels i None)
+          (sym is) ∙ levels_where-at (labels_by t.places t.indexes) heights i fit,
+    )
 
 -- There is a height for each cell.
 pub heights_whole : (b : Bounds) (levels : List (Option ℤ)) (nodes : List (Option ℕ)) (places : List (Option Place)) (cells : List ℕ) (heights : List ℤ) → length levels ≡ (b.rows + 2) * (b.cols + 2) → length nodes ≡ (b.rows + 2) * (b.cols + 2)

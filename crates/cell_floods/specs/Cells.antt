@@ -127,7 +127,7 @@ abbrev pub last_of : Place → List Place → Place
 last_of p [] = p
 last_of p (q ∷ rest) = last_of q rest
 
--- The cell has no data, or its noted crest is at most the greater of its height and `top`.
+-- The cell has no data, or a crest is noted for it, at most the greater of its height and `top`.
 abbrev pub IsPassed : Option ℤ → ℤ → ℤ → Type 0
 IsPassed cell top noted =
     (height : ℤ) → cell ≡ Some height → (noted ≤ℤ int_max height top) × (noted ≢ lack)

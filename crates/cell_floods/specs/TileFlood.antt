@@ -14,13 +14,13 @@ use Rattle.tiles.specs.Cutting.{Cutting, IsWithinLimits, tile_of_place, bounds_o
 abbrev pub IsTileSource : Terrain → Cutting → Place → Type 0
 IsTileSource t c p = (IsDataCell t p × IsTrue (is_on_rim c p)) ⊎ IsEnd t p
 
--- A path that stays in one tile and ends at a source of the tile.
+-- A tile path: neighbours in one tile, the last a source of the tile.
 abbrev pub IsTilePath : Terrain → Cutting → Place → List Place → Type 0
 IsTilePath t c p [] = IsTileSource t c p
 IsTilePath t c p (q ∷ rest) =
     IsNeighbour t p q × (tile_of_place c q ≡ tile_of_place c p) × IsTilePath t c q rest
 
--- The level is the least crest of the paths in the tile, and a path of that crest ends at the
+-- The level is the least crest of the cell's tile paths, and one of that crest ends at the
 -- label. A source whose level is its own height is its own label.
 pub record IsTileLevel (t : Terrain) (c : Cutting) (p : Place) (level : ℤ)
     (label : Place) : Type 0 where
@@ -41,7 +41,8 @@ pub record AreEndHeights (t : Terrain) (places : List (Option Place)) (ends : Li
   pub each : (k : ℕ) (p : Place)
       → slice_index_or places k None ≡ Some p → IsEndHeight t p (slice_index_or ends k None)
 
--- A tile's bounds; levels and labels in its row order; the table of labels; their end heights.
+-- A tile's bounds; its levels and labels in row order; the table of labels; the heights of those
+-- that are end cells.
 pub record Flood : Type 0 where
   pub bounds : Bounds
   pub levels : List (Option ℤ)
@@ -49,14 +50,14 @@ pub record Flood : Type 0 where
   pub table : LabelTable
   pub ends : List (Option ℤ)
 
--- The level of each cell: its height, None for a cell without a label.
+-- The level of each cell: its entry of `heights`, None for a cell without a label.
 abbrev pub levels_where : List (Option Place) → List ℤ → List (Option ℤ)
 levels_where [] heights = []
 levels_where (label ∷ labels) [] = []
 levels_where (label ∷ labels) (height ∷ heights) =
     option_map (λ _. height) label ∷ levels_where labels heights
 
--- The flood with these bounds, heights, labels and heights of end cells.
+-- The flood with these bounds, levels (`heights`), table and heights of end cells.
 abbrev pub flood_of : Bounds → List ℤ → LabelTable → List (Option ℤ) → Flood
 flood_of b heights table ends =
     let labels = labels_by table.places table.indexes in
@@ -68,15 +69,15 @@ flood_of b heights table ends =
       ends = ends;
     }
 
--- The level at a place, None outside the tile.
+-- The level at a place, None if it has none.
 abbrev pub level_in : Flood → Place → Option ℤ
 level_in f p = entry_in f.bounds f.levels p
 
--- The label at a place, None outside the tile.
+-- The label at a place, None if it has none.
 abbrev pub label_in : Flood → Place → Option Place
 label_in f p = entry_in f.bounds f.labels p
 
--- What holds of each `TileFlood`: a table of labels, and levels and labels for all cells.
+-- The invariant of a `TileFlood`: a table of labels, and levels and labels for all cells.
 pub record IsFlood (f : Flood) : Type 0 where
   pub labels : f.labels ≡ labels_by f.table.places f.table.indexes
   pub table : IsTable f.table.places f.table.indexes

@@ -1,7 +1,7 @@
 //! A rectangle of cells as a net: [`CellNet`].
 //!
-//! A border of gaps gives each cell eight cells around it. It makes rim cells sources, as gaps make
-//! edge cells sources.
+//! A gap is a cell without data. A border of gaps gives each cell eight cells around it. A data
+//! cell beside a gap is a source, so the border makes rim cells sources.
 ghost use Rattle.std.specs.Prelude.{◌≡◌, None, ◌+◌, ◌-◌, ◌*◌, ◌^◌, ◌<◌, ◌≤◌, ◌∷◌, ◌++◌, ◌↔◌, [], EachIndex, IsSome, IsTrue, length, All, IfOk, OnOk, is_none, slice_index_or, replicate};
 ghost use Rattle.std.specs.List.{list_any, filter_map, cons_option};
 ghost use Rattle.std.specs.Bool.{OnTrue};
@@ -25,8 +25,10 @@ use tiles::{Bounds, TileView};
 /// around it is a source, and so is a sink.
 #[derive(Drop)]
 pub struct CellNet {
+    /// The number of cells in a row, its two border cells included.
     stride: u32,
     cells: Vec<Cell>,
+    /// Whether each node is a sink; empty if none is.
     sinks: Vec<bool>,
 }
 
@@ -136,12 +138,13 @@ fn is_passed(cell: Cell, top: Height, noted: Height) -> bool
     ensures { OnTrue result (IsPassed cell top noted) }
 {
     let number = cell.number();
-    // The number of no data is above all heights, so the last comparison covers both cases. The
-    // others always hold: they give the prover that no height is the number of no data.
+    // `NO_DATA` is above all heights, so the last comparison covers both cases. The others always
+    // hold: they give the prover that no height is `NO_DATA`.
     top < NO_DATA && Cell::of(number) == cell && noted <= number.max(top)
 }
 
 /// Queues the cell `to` unless it has no data, a label or a crest as low.
+/// `height` is the height of the cell `from.node`, at most its level.
 #[inline(always)]
 fn push_cell(
     queue: &mut Queue,
@@ -199,7 +202,7 @@ fn push_three(
 }
 
 /// Queues the eight cells around `from.node`, each as [`push_cell`] does.
-/// Eight calls, not a loop: the processor then predicts the branch of each call by itself.
+/// Eight calls, not a loop, so that the processor predicts the branch of each call separately.
 #[inline(always)]
 fn push_around(
     queue: &mut Queue,
@@ -412,6 +415,10 @@ fn bordered_tile(alloc: Global, view: &TileView<'_, Cell>) -> Result<Vec<Cell>, 
 impl CellNet {
     /// Makes the net of a whole grid, with the grid's sinks.
     ///
+    /// # Errors
+    ///
+    /// [`NoMemory`] if an allocation fails.
+    ///
     /// # Examples
     ///
     /// ```ignore
@@ -437,6 +444,10 @@ impl CellNet {
     }
 
     /// Makes the net of a tile, with those of `sinks` that lie in the tile.
+    ///
+    /// # Errors
+    ///
+    /// [`NoMemory`] if an allocation fails.
     pub fn of_view(
         alloc: Global,
         view: &TileView<'_, Cell>,

@@ -1,6 +1,6 @@
 //! Which labels of a tile are end cells: edge cells and sinks.
 //!
-//! A tile's view includes the cells around its rim, so no other tile is read.
+//! A tile's view also shows the cells around its rim, so it suffices to find edge cells.
 ghost use Rattle.std.specs.Prelude.{◌≡◌, ◌↔◌, ◌⊎◌, ◌<◌, IsTrue, IfOk, IfSome, List, None, Some, Contains};
 ghost use Rattle.std.specs.List.{All};
 ghost use Rattle.terrain.specs.Neighbours.{HasGapAround};
@@ -63,6 +63,7 @@ fn end_height(view: &TileView<'_, Cell>, sinks: &[bool], label: Option<Place>) -
     let Some(place) = label else {
         return Cell::no_data();
     };
+    // Never `None`, since labels lie in the tile.
     let Some(cell) = view.at(place) else {
         return Cell::no_data();
     };

@@ -75,6 +75,7 @@ fn place_of(bounds: Bounds, node: u32) -> Place
     ensures { result ≡ place_of_node bounds.top bounds.left bounds.cols node }
 {
     let stride = bounds.cols + 2;
+    // No label is a border node, so nothing saturates; the prover need not know that here.
     Place {
         row: (bounds.top + node / stride).saturating_sub(1),
         col: (bounds.left + node % stride).saturating_sub(1),

@@ -1,7 +1,6 @@
 //! The cells of a tile or a grid as a net, and the flood of that net.
 //!
-//! [`tile_flood`] floods one tile, [`filled_heights`] a whole grid at once. Depends on `floods` and
-//! `tiles`.
+//! [`tile_flood`] floods one tile, [`filled_heights`] a whole grid at once.
 //!
 //! Modules, callers first:
 //!

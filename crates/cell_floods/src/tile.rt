@@ -143,6 +143,10 @@ impl TileFlood {
 ///
 /// Paths end on the rim, at edge cells, and at those of `sinks` that lie in the tile.
 ///
+/// # Errors
+///
+/// [`NoMemory`] if an allocation fails.
+///
 /// # Examples
 ///
 /// ```ignore

@@ -11,6 +11,10 @@ use terrain::{Grid, Height, NoMemory};
 
 /// Returns the filled height of each cell of a grid, in row order.
 ///
+/// # Errors
+///
+/// [`NoMemory`] if an allocation fails.
+///
 /// # Examples
 ///
 /// ```ignore

@@ -37,7 +37,7 @@ pub fn is_above_zero(word: &[u8]) -> bool
 /// Returns the value of a decimal text in units of 10^-scale.
 ///
 /// `None` if the word is no decimal text or has an exponent, if it has a digit other than 0 past
-/// the scale, and if its value is not from -10^18 to 10^18.
+/// the scale, or if its scaled value is not from -10^18 to 10^18.
 ///
 /// # Examples
 ///
@@ -62,8 +62,9 @@ pub fn scaled_value(scale: u8, word: &[u8]) -> Option<i64>
 
 /// Parses up to 16 digits at the front of a text, after an optional `-`.
 ///
-/// Returns the length in bytes, with the sign, and the value times 10^scale. The word may go on.
-/// `None` if there is no digit, or if the number of digits and the scale add up to more than 16.
+/// Returns the length in bytes, with the sign, and the value times 10^scale. The word may go on
+/// after these bytes. `None` if there is no digit, or if the number of digits and the scale add up
+/// to more than 16.
 #[inline(always)]
 pub fn plain_number(scale: u8, bytes: &[u8]) -> Option<(usize, i64)>
     requires { scale ≤ 6 }
@@ -202,6 +203,7 @@ fn point_at(word: &[u8]) -> Option<usize>
     word.iter().position(|b| *b == b'.')
 }
 
+/// Whether both parts have digits alone, and at least one between them.
 #[tactic(auto, using(crate::proofs::Scaled::are_digits_joined))]
 fn are_digits_in_all(whole: &[u8], fraction: &[u8]) -> bool
     ensures { result ≡ are_digits (whole.now ++ fraction.now) }

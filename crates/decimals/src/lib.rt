@@ -1,7 +1,7 @@
 //! Parses decimal words and digits into whole numbers.
 //!
-//! Begin with [`scaled_value`] for heights and [`whole_number`] for command-line words. The
-//! definitions are in `Decimal` and `Words` of `terrain`.
+//! Begin with [`scaled_value`] for heights and [`whole_number`] for command-line words. Contracts
+//! cite the definitions of `terrain/specs/Decimal.antt`.
 //!
 //! Modules, callers first:
 //!

@@ -130,7 +130,7 @@ module _ (t : Terrain) (sinks : List Place) (index : ℕ) (b : Bounds) (counts :
         λ off. absurd (elim off [ inl a ↦ omega (arith, a, on.0) | inr a ↦ omega (arith, a, on.1) ]),
       )
 
--- a cell has one initial count
+-- a cell has at most one initial count
 one_begun : (Drains : Place → Type 0) (p : Place) (x y : Option ℕ) → IsBegun Drains p x → IsBegun Drains p y → x ≡ y
 one_begun Drains p None None f g = refl
 one_begun Drains p (Some n) y f g = let drains = (f.only n refl).0 in f.zero drains ∙ sym (g.zero drains)

@@ -15,9 +15,7 @@ use Rattle.tiles.proofs.Cut.{in_bounds, in_tile, tile_of_place_below}
 use Rattle.drain.specs.Rounds.{IsSource, IsWalked, AreCounting}
 use Rattle.drain.specs.Lowering.{count_of, counts_in, total, AreLevel, IsEvenInside, IsChange, IsLowered, IsReported, IsLoweredTo, IsEntered, IsAmong, MayGoOn}
 use Rattle.drain.specs.declared.changes.Change.{Change}
-use Rattle.drain.specs.Entering.{AreEntries, IsRun}
 use Rattle.drain.specs.declared.changes.Entry.{Entry}
-use Rattle.drain.specs.declared.changes.Run.{Run}
 use Rattle.drain.specs.declared.lowering.Lowered.{Lowered}
 use Rattle.drain.proofs.Spreading.{touches_back}
 use Rattle.drain.proofs.Unique.{at_place}
@@ -273,11 +271,6 @@ own_bounds c p q b lawful e inside = subst (λ (x : Bounds). IsInBounds x q) (sy
 pub reached_tile : (t : Terrain) (c : Cutting) (tile other : ℕ) (steps : List (Option ℕ)) (Done : Place → Type 0) (bound : ℕ) (old new : Lowered) → tile ≡ other →
     IsLoweredTo t c tile steps Done bound old new → IsLoweredTo t c other steps Done bound old new
 reached_tile t c tile other steps Done bound old new e f = subst (λ (k : ℕ). IsLoweredTo t c k steps Done bound old new) e f
-
--- an entry of a run is for the run's tile
-pub entry_own : (t : Terrain) (c : Cutting) (steps : List (Option ℕ)) (entries : List Entry) (run : Run) (k : ℕ) (e : Entry) → AreEntries t c steps entries → IsRun entries run → run.from ≤ k → k < run.end → slice_get entries k ≡ Some e →
-    tile_of_place c e.change.place ≡ run.tile
-entry_own t c steps entries run k e are is past below at = (are e (k, at)).inside.1 ∙ is.own k e past below at
 
 -- entries stay applied while counts fall
 pub entered_low : (c : Cutting) (entries : List Entry) (from end : ℕ) (f g : ℕ → ℕ) → ((k : ℕ) → g k ≤ f k) → IsEntered c entries from end f → IsEntered c entries from end g

@@ -88,11 +88,11 @@ pub in_own_tile : (t : Terrain) (c : Cutting) (p : Place) → Cuts c t → (p.ro
 in_own_tile t c p cuts inside = ((omega (arith, inside.0, cuts.1), omega (arith, inside.1, cuts.0)), refl)
 
 -- the sources of the initial counts are the cells that drain at once
-pub begun_lent : (t : Terrain) (counts : List (Option ℕ)) → AreBegun t counts → (p : Place) → DrainsAtOnce t p → IsSource t counts p
-begun_lent t counts begun p drains = let is = drains_data t p drains in (is, (begun.each p (data_inside t p is)).zero drains)
+pub begun_input : (t : Terrain) (counts : List (Option ℕ)) → AreBegun t counts → (p : Place) → DrainsAtOnce t p → IsSource t counts p
+begun_input t counts begun p drains = let is = drains_data t p drains in (is, (begun.each p (data_inside t p is)).zero drains)
 
-lent_drains : (t : Terrain) (counts : List (Option ℕ)) → AreBegun t counts → (p : Place) → IsSource t counts p → DrainsAtOnce t p
-lent_drains t counts begun p input = ((begun.each p (data_inside t p input.0)).only 0 input.1).0
+input_drains : (t : Terrain) (counts : List (Option ℕ)) → AreBegun t counts → (p : Place) → IsSource t counts p → DrainsAtOnce t p
+input_drains t counts begun p input = ((begun.each p (data_inside t p input.0)).only 0 input.1).0
 
 -- each initial count is 0, the length of a walk without moves
 pub begun_walked : (Ends : Place → Type 0) (t : Terrain) (counts : List (Option ℕ)) → AreBegun t counts → ((p : Place) → DrainsAtOnce t p → Ends p) → AreWalked Ends t counts
@@ -104,7 +104,7 @@ begun_walked Ends t counts begun to p = if_some (entry_at t.cols t.rows counts p
 pub begun_counting : (t : Terrain) (counts : List (Option ℕ)) → AreBegun t counts → AreCounting (with_sinks t []) counts
 begun_counting t counts begun = record {
   size = begun.size;
-  walked = are_walked_to (IsSource t counts) (IsSource t counts) t [] counts (λ p input. input) (begun_walked (IsSource t counts) t counts begun (begun_lent t counts begun));
+  walked = are_walked_to (IsSource t counts) (IsSource t counts) t [] counts (λ p input. input) (begun_walked (IsSource t counts) t counts begun (begun_input t counts begun));
 }
 
 -- a round to ends of one kind is a round to ends of a wider kind, with any sinks
@@ -135,8 +135,8 @@ counts_are_steps t c steps lists cuts cutting zeros quiet lawful filled size =
 pub settled_is_steps : (c : Cutting) (t : Terrain) (begun steps : List (Option ℕ)) → Cuts c t → IsTerrain t → IsFilled t t.cells → AreBegun t begun → AreSettled c (with_sinks t []) begun steps → AreSteps t steps
 settled_is_steps c t begun steps cuts lawful filled first settled =
     still_is_steps t steps
-    (λ p drains. ((settled.same_sources p).0 (begun_lent t begun first p drains)).1)
-    (are_walked_to (IsSource t steps) (DrainsAtOnce t) (with_sinks t []) t.sinks steps (λ p input. lent_drains t begun first p ((settled.same_sources p).1 input)) settled.counting.walked)
+    (λ p drains. ((settled.same_sources p).0 (begun_input t begun first p drains)).1)
+    (are_walked_to (IsSource t steps) (DrainsAtOnce t) (with_sinks t []) t.sinks steps (λ p input. input_drains t begun first p ((settled.same_sources p).1 input)) settled.counting.walked)
     (λ p q next level.
     let inside = in_own_tile t c p cuts (data_inside t p next.from_data) in
     (settled.still (tile_of_place c p) (tile_of_place_below c p settled.cutting inside.0)).near p q inside (next_with t [] p q next) level)

@@ -29,8 +29,8 @@ pub record AreCarried (t : Terrain) (old new : List (Option ℕ)) : Type 0 where
   pub kept : (p : Place) (m : ℕ) → entry_at t.cols t.rows old p ≡ Some m → (n : ℕ) × (entry_at t.cols t.rows new p ≡ Some n) × (n ≤ m)
   pub walked : (p : Place) → IfSome (entry_at t.cols t.rows new p) (IsWalked (IsSource t old) t p)
 
-pub carried_lend_same : (t : Terrain) (old new : List (Option ℕ)) → AreCarried t old new → HaveSameSources t old new
-carried_lend_same t old new carried p = (
+pub carried_input_same : (t : Terrain) (old new : List (Option ℕ)) → AreCarried t old new → HaveSameSources t old new
+carried_input_same t old new carried p = (
   λ input. (let n = carried.kept p 0 input.1 in (input.0, n.1 ∙ ap Some (let none : n.0 ≡ 0 = omega (arith, n.2) in none))),
   λ input. (let walk = MatchOption-at_some _ _ 0 input.1 (carried.walked p) in ended (IsSource t old) t p walk.1 walk.2 walk.3),
 )
@@ -41,7 +41,7 @@ carried_counting c levels old new carried =
     record {
       size = carried.size;
       walked = λ p. if_some (entry_at t.cols t.rows new p) (IsWalked (IsSource t new) t p) (λ n e.
-          walked_to (IsSource t old) (IsSource t new) t [] (λ q input. (carried_lend_same t old new carried q).0 input) p n (MatchOption-at_some _ _ n e (carried.walked p)));
+          walked_to (IsSource t old) (IsSource t new) t [] (λ q input. (carried_input_same t old new carried q).0 input) p n (MatchOption-at_some _ _ n e (carried.walked p)));
     }
 
 pub one_above : (m n : Option ℕ) → unwrap_or m (2 ^ 24) ≤ unwrap_or n (2 ^ 24) + 1 → IsOneAbove m n
@@ -221,7 +221,7 @@ module _ (r : Rounding) (outs : List (Vec Change Global)) (new : List (Option �
         };
         same_cutting = refl;
         same_levels = refl;
-        same_sources = carried_lend_same (levels_of r) r.steps new put_carried;
+        same_sources = carried_input_same (levels_of r) r.steps new put_carried;
         low = (let less = put_less x given in omega (arith, less));
       }
 
@@ -282,10 +282,10 @@ module _ (c : Cutting) (levels : List (Option ℤ)) (old : List (Option ℕ)) (l
 pub next_none : (r : Rounding) → IsRounding r → IsNext r r
 next_none r rounding = record { rounding = rounding; same_cutting = refl; same_levels = refl; same_sources = λ p. (λ input. input, λ input. input); low = omega arith }
 
--- a second step keeps the sources that a first step kept
-lend_on : (first second : Rounding) (third : List (Option ℕ)) → second.cutting ≡ first.cutting → second.levels ≡ first.levels → HaveSameSources (levels_of first) first.steps second.steps →
+-- if two rounds in turn keep the sources, both together do
+input_on : (first second : Rounding) (third : List (Option ℕ)) → second.cutting ≡ first.cutting → second.levels ≡ first.levels → HaveSameSources (levels_of first) first.steps second.steps →
     HaveSameSources (levels_of second) second.steps third → HaveSameSources (levels_of first) first.steps third
-lend_on first second third e f one next =
+input_on first second third e f one next =
     let same : HaveSameSources (levels_of first) second.steps third = subst (λ (c : Cutting). HaveSameSources (sinkless_terrain c first.levels) second.steps third) e
     (subst (λ (xs : List (Option ℤ)). HaveSameSources (sinkless_terrain second.cutting xs) second.steps third) f next) in
     λ p. (λ input. (same p).0 ((one p).0 input), λ input. (one p).1 ((same p).1 input))
@@ -295,7 +295,7 @@ next_then first second third one next = record {
   rounding = next.rounding;
   same_cutting = next.same_cutting ∙ one.same_cutting;
   same_levels = next.same_levels ∙ one.same_levels;
-  same_sources = lend_on first second third.steps one.same_cutting one.same_levels one.same_sources next.same_sources;
+  same_sources = input_on first second third.steps one.same_cutting one.same_levels one.same_sources next.same_sources;
   low = (let a = one.low in let b = next.low in omega (arith, a, b));
 }
 

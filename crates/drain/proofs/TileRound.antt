@@ -181,8 +181,8 @@ module _ (t : Terrain) (c : Cutting) (tile : ℕ) (b : Bounds) (steps shown : Li
   entry_is p i = entry_of_tile c tile (IsCopied b new) list cutting handed p i (spot_of b p) (spot_inner b p (in_bounds_of p i)).1
 
   -- the old count of a place is that of its spot
-  lent_is : (s q : Place) (m : ℕ) → IsSpot b s → Shows b s q → entry_at t.cols t.rows steps q ≡ Some m → count_on b (known_counts shown) s ≡ m
-  lent_is s q m spot f e =
+  input_is : (s q : Place) (m : ℕ) → IsSpot b s → Shows b s q → entry_at t.cols t.rows steps q ≡ Some m → count_on b (known_counts shown) s ≡ m
+  input_is s q m spot f e =
       count-known b shown s size spot ∙ ap (λ (o : Option ℕ). unwrap_or o no_count) ((seen s spot).0 q f ∙ e)
 
   walked_here : (p : Place) → IsInTile c tile p → IfSome (tile_entry c tile list p) (IsWalked (IsSource t steps) t p)
@@ -204,7 +204,7 @@ module _ (t : Terrain) (c : Cutting) (tile : ℕ) (b : Bounds) (steps shown : Li
       let levels_are : level_on b levels r.0 ≡ level_on b levels s =
       (on r.0 r.1).0 q r.2 ∙ level ∙ sym ((on s (spot_from_inner b s inner.0)).0 p inner.1) in
       let near : count_on b new s ≤ count_on b (known_counts shown) r.0 + 1 = (settled.near s inner.0).each r.0 r.3 levels_are in
-      let was = lent_is r.0 q m r.1 r.2 e in
+      let was = input_is r.0 q m r.1 r.2 e in
       let few : count_on b new s < no_count = omega (arith, near, was) in
       (count_on b new s, entry_is p i ∙ known-some (count_on b new s) few, omega (arith, near, was))
 
@@ -224,7 +224,7 @@ module _ (t : Terrain) (c : Cutting) (tile : ℕ) (b : Bounds) (steps shown : Li
   kept_here p m i e =
       let inner = spot_inner b p (in_bounds_of p i) in
       let s = spot_of b p in
-      let was = lent_is s p m (spot_from_inner b s inner.0) inner.1 e in
+      let was = input_is s p m (spot_from_inner b s inner.0) inner.1 e in
       let real = MatchOption-at_some _ _ m e (walks p) in
       let fewer = (spread_not_above b levels (known_counts shown) new settled.spread).each (spot_index b s) in
       let few : count_on b new s < no_count = omega (arith, fewer, was, real.0) in
@@ -240,15 +240,15 @@ module _ (t : Terrain) (c : Cutting) (tile : ℕ) (b : Bounds) (steps shown : Li
   }
 
 -- the counts of the window, by its bounds
-pub lent_to : (v : View (Option ℤ)) (w : View (Option ℕ)) (b : Bounds) (old : List ℕ) → w.cutting ≡ v.cutting → w.tile ≡ v.tile → b ≡ bounds_of v.cutting v.tile →
+pub input_to : (v : View (Option ℤ)) (w : View (Option ℕ)) (b : Bounds) (old : List ℕ) → w.cutting ≡ v.cutting → w.tile ≡ v.tile → b ≡ bounds_of v.cutting v.tile →
     AreWindowCounts w.cutting.cols w.cutting.rows w.cells (bounds_of w.cutting w.tile) old → AreWindowCounts v.cutting.cols v.cutting.rows w.cells b old
-lent_to v w b old cutting tile bounds input =
+input_to v w b old cutting tile bounds input =
     subst (λ (z : Bounds). AreWindowCounts v.cutting.cols v.cutting.rows w.cells z old) (sym bounds)
     (subst (λ (k : ℕ). AreWindowCounts v.cutting.cols v.cutting.rows w.cells (bounds_of v.cutting k) old) tile
     (subst (λ (z : Cutting). AreWindowCounts z.cols z.rows w.cells (bounds_of z w.tile) old) cutting input))
 
-pub lent_small : (t : Terrain) (b : Bounds) (steps : List (Option ℕ)) (old : List ℕ) → AreWindowCounts t.cols t.rows steps b old → AreWalked (IsSource t steps) t steps → AreCounts old
-lent_small t b steps old input walks = subst (λ (xs : List ℕ). AreCounts xs) (sym input.value) (counts_small t b steps input.shown input.size input.seen walks)
+pub input_small : (t : Terrain) (b : Bounds) (steps : List (Option ℕ)) (old : List ℕ) → AreWindowCounts t.cols t.rows steps b old → AreWalked (IsSource t steps) t steps → AreCounts old
+input_small t b steps old input walks = subst (λ (xs : List ℕ). AreCounts xs) (sym input.value) (counts_small t b steps input.shown input.size input.seen walks)
 
 pub round_from : (v : View (Option ℤ)) (w : View (Option ℕ)) (b : Bounds) (levels : List (Option ℤ)) (old new : List ℕ) (list : List (Option ℕ)) →
     IsCutting v.cutting → b ≡ bounds_of v.cutting v.tile → AreShown v.cutting.cols v.cutting.rows v.cells None b levels → AreWindowCounts v.cutting.cols v.cutting.rows w.cells b old →

@@ -1,4 +1,4 @@
--- Each data cell of a filled terrain has one direction, so a terrain has one list of directions.
+-- Each data cell of a filled terrain has one direction; a terrain has at most one list of them.
 use Rattle.std.proofs.Common.{◌≡◌, ℕ, ◌+◌, ◌*◌, ◌/◌, ◌%◌, ◌<◌, ◌≤◌, inl, inr, List, length, get_or, Option, None, Some, sym, ap, subst, ◌∙◌, arith, map, is_some, MatchOption, ℤ, refl}
 use Rattle.std.proofs.lemmas.Bool.{cases_eq}
 use Rattle.std.proofs.lemmas.Option.{MatchOption-at_none, MatchOption-at_some}
@@ -23,7 +23,7 @@ use Rattle.drain.proofs.Counted.{has_steps, height_is}
 use Rattle.drain.proofs.Laid.{direction_is}
 use Rattle.drainage.proofs.Reach.{is_end_cell, end_true, true_end}
 
--- the place of an index in row order
+-- the place of an index has that index
 pub index-place_at : (cols i : ℕ) → index_of cols (place_at cols i) ≡ i
 index-place_at cols i = let whole : cols * (i / cols) + i % cols ≡ i = div-add-mod i cols in omega arith
 

@@ -1,4 +1,4 @@
--- The initial counts of the first round: 0 at each cell that drains at once.
+-- Counts before the first round, and counts that a round leaves as they are.
 -- Public.
 use Rattle.std.specs.Prelude.{◌≡◌, ◌⊎◌, ◌≤◌, ◌<◌, ℕ, ◌+◌, ◌-◌, ◌*◌, ℤ, ◌<ℤ◌, List, length, Option, None, Some}
 use Rattle.terrain.specs.Neighbours.{IsInside, entry_at, IsEdge}
@@ -16,11 +16,11 @@ abbrev pub IsGapOrLower : ℤ → Option ℤ → Type 0
 IsGapOrLower level None = Unit {0}
 IsGapOrLower level (Some height) = height <ℤ level
 
--- The cell has a lower neighbour or is an edge cell; named sinks do not count.
+-- The cell has a lower neighbour or is an edge cell; named sinks are left out.
 abbrev pub IsEdgeOrHasLower : Terrain → Place → Type 0
 IsEdgeOrHasLower t p = HasLower t p ⊎ IsEdge t p
 
--- The count is 0 if the cell drains, and `None` otherwise.
+-- The count is 0 where `Drains` holds, and `None` elsewhere.
 pub record IsBegun (Drains : Place → Type 0) (p : Place) (count : Option ℕ) : Type 0 where
   pub zero : Drains p → count ≡ Some 0
   pub only : (n : ℕ) → count ≡ Some n → Drains p × (n ≡ 0)
@@ -31,7 +31,7 @@ pub record AreBegun (t : Terrain) (counts : List (Option ℕ)) : Type 0 where
   pub each : (p : Place) → IsInside t p →
       IsBegun (DrainsAtOnce t) p (entry_at t.cols t.rows counts p)
 
--- The initial count at a spot: that of the place that it shows, and none off the grid.
+-- The initial count at a spot of a window: that of its place, and none off the grid.
 abbrev pub IsBegunSpot : (Place → Type 0) → Bounds → Place → ℕ → Type 0
 IsBegunSpot Drains b s count = (count ≤ no_count)
     × ((p : Place) → Shows b s p → IsBegun Drains p (known count))
@@ -57,7 +57,7 @@ pub record IsQuiet (t : Terrain) (c : Cutting) (steps : List (Option ℕ))
 abbrev pub IsOutermost : Terrain → Place → Type 0
 IsOutermost t p = (p.row ≡ 0) ⊎ (p.col ≡ 0) ⊎ (p.row ≡ t.rows - 1) ⊎ (p.col ≡ t.cols - 1)
 
--- The bounds lie in the terrain, whose axes are within the limit.
+-- The bounds lie in a terrain of at most 4,096 rows and columns.
 pub record IsPartOf (t : Terrain) (b : Bounds) : Type 0 where
   pub few_rows : t.rows ≤ longest_axis
   pub few_cols : t.cols ≤ longest_axis

@@ -1,4 +1,4 @@
--- Ways down from an interior cell, which has eight places of the grid around it.
+-- Ways down by the eight heights around a cell; the surroundings of an interior cell.
 -- Private.
 use Rattle.std.specs.Prelude.{◌≡◌, ℕ, ◌+◌, ◌%◌, ◌<◌, ◌≤◌, ◌*◌, ◌⊎◌, ◌==◌, max, ℤ, ◌-ℤ◌, ◌≤ℤ◌, List, length, fold, Option, None, Some, option_map, unwrap_or, position, slice_index_or}
 use Rattle.std.specs.Option.{option_zip}
@@ -27,7 +27,7 @@ abbrev pub height_on : ℤ → List (Option ℤ) → ℕ → ℕ → ℤ
 height_on level heights parity turn =
     unwrap_or (slice_index_or heights (2 * turn + parity) None) level
 
--- The lowest of this level and the heights on the first ways of one parity.
+-- The lowest of this level and one parity's heights on the turns before `end`.
 pub record IsLowestBefore (level : ℤ) (heights : List (Option ℤ)) (parity end : ℕ)
     (lowest : ℤ) : Type 0 where
   pub low : lowest ≤ℤ level
@@ -51,7 +51,7 @@ pub record IsSteepestWay (a : Around) (found : Option ℕ) : Type 0 where
       let most = fold max 0 (weights a) in
       (way < 8) × (0 < most) × (position (λ w. w == most) (weights a) ≡ Some way)
 
--- The surroundings have this level, these steps, and the cells at these eight indexes.
+-- The surroundings have this level, `own` steps, and the cells at these eight indexes.
 pub record StandAround (a : Around) (cells : List (Option ℤ)) (steps : List (Option ℕ))
     (at : List ℕ) (level : ℤ) (own : ℕ) : Type 0 where
   pub own_level : a.level ≡ level

@@ -22,7 +22,7 @@ pub record Rounding : Type 0 where
   pub steps : List (Option ℕ)
   pub entries : List Entry
 
--- The state that the code keeps.
+-- The state in a `Counting` of the code.
 abbrev pub rounding_of : Counting → Rounding
 rounding_of c = record {
   cutting = c.tiling.now;
@@ -93,8 +93,8 @@ pub record ArePut (cols : ℕ) (old new : List (Option ℕ)) (Given : Change →
       × (slice_index_or new k None ≡ Some x.count))
 
 -- The sum of all counts.
-abbrev pub left_in : Rounding → ℕ
-left_in r = total (r.cutting.cols * r.cutting.rows) (count_of r.steps)
+abbrev pub count_sum : Rounding → ℕ
+count_sum r = total (r.cutting.cols * r.cutting.rows) (count_of r.steps)
 
 -- A later state: still lawful, of the same heights and sources, and with no greater sum of counts.
 pub record IsNext (old new : Rounding) : Type 0 where
@@ -102,4 +102,4 @@ pub record IsNext (old new : Rounding) : Type 0 where
   pub same_cutting : new.cutting ≡ old.cutting
   pub same_levels : new.levels ≡ old.levels
   pub same_sources : HaveSameSources (levels_of old) old.steps new.steps
-  pub low : left_in new ≤ left_in old
+  pub low : count_sum new ≤ count_sum old

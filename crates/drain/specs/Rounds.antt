@@ -16,12 +16,12 @@ IsSource t steps p = IsDataCell t p × (entry_at t.cols t.rows steps p ≡ Some 
 abbrev pub HaveSameSources : Terrain → List (Option ℕ) → List (Option ℕ) → Type 0
 HaveSameSources t old new = (p : Place) → IsSource t old p ↔ IsSource t new p
 
--- The count is below 2^24, and some level walk to an end has this many moves.
+-- The count is below 2^24, and some level walk to a cell of `Ends` has this many moves.
 abbrev pub IsWalked : (Place → Type 0) → Terrain → Place → ℕ → Type 0
 IsWalked Ends t p n =
     (n < 2 ^ 24) × (rest : List Place) × IsLevelWalk Ends t p rest × (length rest ≡ n)
 
--- Each count of the list, in row order, is the length of a level walk from its cell to an end.
+-- Each count of the list, in row order, is the length of a level walk to a cell of `Ends`.
 abbrev pub AreWalked : (Place → Type 0) → Terrain → List (Option ℕ) → Type 0
 AreWalked Ends t steps = (p : Place) → IfSome (entry_at t.cols t.rows steps p) (IsWalked Ends t p)
 

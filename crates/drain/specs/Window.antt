@@ -62,7 +62,7 @@ pub data IsSpread (b : Bounds) (levels : List (Option ℤ)) (old : List ℕ) : L
       n ≡ count_on b some s + 1
       → n < count_on b counts r → IsSpread b levels old (slice_set counts (spot_index b r) n)
 
--- One more than the least count on a level, in one row from a spot to a column; at most the bound.
+-- The least count on a level in columns `from.col..end` of a row, plus 1; at most the bound.
 pub record IsLeastAlong (b : Bounds) (levels : List (Option ℤ)) (counts : List ℕ) (from : Place)
     (end : ℕ) (level : Option ℤ) (bound least : ℕ) : Type 0 where
   pub low : least ≤ bound

@@ -86,7 +86,7 @@ fn begin_at(grid: &Grid, place: Place) -> u32
     }
 }
 
-/// Returns the initial count at a spot without sinks, `NO_COUNT` off the grid.
+/// Returns the initial count at a spot, sinks left out; `NO_COUNT` off the grid.
 #[inline(always)]
 fn begin_spot(grid: &Grid, bounds: Bounds, spot: Place) -> u32
     requires inside { IsPartOf grid.now.terrain bounds }
@@ -99,7 +99,7 @@ fn begin_spot(grid: &Grid, bounds: Bounds, spot: Place) -> u32
     }
 }
 
-/// Appends the initial counts, without sinks, of one row of the window.
+/// Appends the initial counts of one row of the window, sinks left out.
 fn begin_along(
     grid: &Grid,
     bounds: Bounds,

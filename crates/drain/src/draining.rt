@@ -12,7 +12,7 @@ ghost use Rattle.drain.specs.Directions.{AreDirections};
 ghost use Rattle.drainage.specs.Drained.{AllFlowEnds, directed_of};
 
 use crate::first::first_round;
-use crate::rounds::settle;
+use crate::rounds::run_rounds;
 use crate::stages::Codes;
 use crate::window::Window;
 use crate::{looking, window};
@@ -37,7 +37,7 @@ pub(crate) fn round(
     ensures { IfOk result
         (λ v. IsRoundOf window.now.bounds window.now.levels.items old.now v.items) }
 {
-    let counts = window::settled_counts(alloc, window, old)?;
+    let counts = window::searched_counts(alloc, window, old)?;
     let list = looking::copy_counts(alloc, window, &counts)?;
     Ok(list)
 }
@@ -46,7 +46,11 @@ pub(crate) fn round(
 ///
 /// Searches from all counts in `steps`, in the tile and around it, until none in the tile falls.
 /// No count rises or is lost. `steps` must be 0 at each cell that drains at once, named sinks
-/// included.
+/// included; any other count must be a number of moves over the flat to such a cell.
+///
+/// # Errors
+///
+/// [`NoMemory`] if memory runs out.
 pub fn flat_steps(
     alloc: Global,
     levels: &TileView<'_, Cell>,
@@ -80,7 +84,7 @@ fn count_steps<R: Threads + Wait + Sync, G: Gate + Sync>(
 {
     let grid = filled.grid();
     let first = first_round(runner, grid, tiling)?;
-    let steps = settle(runner, tiling, grid.cells(), first)?;
+    let steps = run_rounds(runner, tiling, grid.cells(), first)?;
     Ok(steps)
 }
 
@@ -124,7 +128,7 @@ pub fn directions<R: Threads + Wait + Sync, G: Gate + Sync>(
     let grid = filled.grid();
     let steps = count_steps(&runner, filled, tiling)?;
     let reported = Snapshot::of(&steps);
-    let codes = runner.made(Codes {
+    let codes = runner.map_tiles(Codes {
         grid,
         steps,
         tiling,

@@ -1,4 +1,4 @@
-//! Smaller counts that adjacent tiles offer to a tile.
+//! Finds entries: lower counts that cells offer to neighbours in other tiles.
 ghost use Rattle.std.specs.Prelude.{◌≡◌, ◌≢◌, ◌+◌, ◌*◌, ◌<◌, ◌≤◌, ◌↔◌, length, Some, IsTrue, OnOk};
 ghost use Rattle.terrain.specs.declared.place.Place.{Place};
 ghost use Rattle.drain.specs.declared.changes.Change.{Change};
@@ -14,7 +14,7 @@ use std::alloc::AllocError;
 use terrain::{Cell, Place};
 use tiles::{Bounds, Tiling};
 
-/// Input of a round: filled heights and counts of a tiled grid, in row order.
+/// The filled heights and counts that a round reads, in row order, and the tiling.
 #[derive(Clone, Copy)]
 pub(crate) struct RoundInput<'a> {
     pub(crate) tiling: &'a Tiling,
@@ -131,8 +131,8 @@ impl<'a> RoundInput<'a> {
         Ok(())
     }
 
-    /// Queues entries for the cells around a tile's rim that it would lower.
-    /// Inside the tile none is left to lower.
+    /// Queues entries for the cells around a tile that its rim's counts would lower.
+    /// In the tile itself none is left to lower.
     pub(crate) fn note_rim(&self, tile: u32, entries: &mut Vec<Entry>) -> Result<(), AllocError>
         requires counting { AreCounting (sinkless_terrain self.now.tiling.now self.now.levels.now)
             self.now.steps.now }
@@ -162,7 +162,7 @@ impl<'a> RoundInput<'a> {
     }
 
     /// Queues entries for the cells whose counts these changed cells would lower.
-    /// Most changes lie inside the first one's tile, off its rim, and reach no other tile.
+    /// The changes of a job lie in one tile; those off its rim reach no other tile.
     pub(crate) fn note_changes(
         &self,
         changes: &[Change],

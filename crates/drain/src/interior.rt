@@ -56,6 +56,7 @@ fn leads_on(level: Height, own: u32, height: Option<Height>, steps: Option<u32>)
         result ≡ leads_on a (option_zip height steps) }
 {
     match (steps, height) {
+        // The `<` shows the prover that the sum does not overflow.
         (Some(count), Some(height)) => count < own && count + 1 == own && height == level,
         _ => false,
     }

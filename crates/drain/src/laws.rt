@@ -53,6 +53,7 @@ pub fn directions_are_one()
 {}
 
 /// If a round over all tiles changes no count, the counts are the steps.
+/// Each cell that drains at once must have the count 0.
 #[tactic(auto, using(crate::proofs::Quiet::counts_are_steps))]
 pub fn quiet_is_counted()
     ensures { (t : Terrain) (c : Cutting) (steps : List (Option ℕ)) (lists : ℕ → List (Option ℕ)) →

@@ -12,6 +12,7 @@ use terrain::{Cell, Place};
 use tiles::{Bounds, TileView};
 
 /// Returns the place at a spot, `None` if it lies north or west of the grid.
+/// A spot south or east of the grid gets a place outside the grid.
 #[inline(always)]
 pub(crate) fn place_shown(bounds: Bounds, spot: Place) -> Option<Place>
     requires bounds { (bounds.top + bounds.rows ≤ 4096) × (bounds.left + bounds.cols ≤ 4096) }

@@ -60,7 +60,7 @@ fn empty_rows(alloc: Global, rows: u32) -> Result<Vec<Vec<u32>>, AllocError>
 }
 
 /// Sets the count at `col` of a row that begins at index `first` of the grid.
-/// A shorter row first gets the shared counts up to there.
+/// Extends a shorter row by the shared counts up to `col`.
 fn put_in_row(
     input: &RoundInput<'_>,
     first: usize,
@@ -205,12 +205,13 @@ fn spread(
 }
 
 /// Returns whether an entry is due before the next change is spread.
-/// Changes are then recorded in the order of their counts, since entries are sorted by count.
+/// Entries are sorted by count, so changes go from low counts to high, and no cell changes twice.
 #[inline(always)]
-fn comes_first(entry: Entry, changes: &[Change], done: usize) -> bool
+fn is_entry_due(entry: Entry, changes: &[Change], done: usize) -> bool
     ensures { OnFalse result (done < length changes.now) }
 {
     match changes.get(done) {
+        // Counts are below 2^24, so the sum never saturates; no contract here says so.
         Some(change) => entry.change.count <= change.count.saturating_add(1),
         None => true,
     }
@@ -246,7 +247,7 @@ pub(crate) fn lower_tile(
     let mut next = run.from;
     let mut done = 0;
     while next < run.end || done < lowered.changes.len() {
-        if next < run.end && comes_first(entries[next], &lowered.changes, done) {
+        if next < run.end && is_entry_due(entries[next], &lowered.changes, done) {
             let entry = entries[next];
             lower(input, bounds, &mut lowered, entry.change)?;
             next += 1;

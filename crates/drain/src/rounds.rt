@@ -1,6 +1,6 @@
-//! Rounds after the first, which carry steps over rims until a round changes nothing.
+//! Rounds after the first: they carry steps over rims until one changes nothing.
 //!
-//! A round runs a job for each tile. Rounds with few entries run on the caller's thread.
+//! A round runs a job for each tile, or on the caller's thread if it has few entries.
 ghost use Rattle.std.specs.Prelude.{◌≡◌, ◌≢◌, ℕ, ◌*◌, ◌<◌, ◌≤◌, ◌↔◌, [], true, false, IsTrue, Vec, length, vec_len, OnOk, IfOk};
 ghost use Rattle.tile_jobs.specs.Fault.{RefusesWorkers};
 ghost use Rattle.tiles.specs.Cutting.{IsCutting, IsWithin, tile_of_place};
@@ -9,7 +9,7 @@ ghost use Rattle.drain.specs.declared.changes.Change.{Change};
 ghost use Rattle.drain.specs.Rounds.{AreCounting, AreSettled};
 ghost use Rattle.drain.specs.Lowering.{IsAmong, IsEvenInside, count_of};
 ghost use Rattle.drain.specs.Entering.{sinkless_terrain, AreEntered};
-ghost use Rattle.drain.specs.Rounding.{AreAnswered, ArePut, IsGiven, IsRounding, IsNext, IsAnswer, left_in};
+ghost use Rattle.drain.specs.Rounding.{AreAnswered, ArePut, IsGiven, IsRounding, IsNext, IsAnswer, count_sum};
 
 use crate::changes::{Change, Entry, Run};
 use crate::entering::RoundInput;
@@ -269,7 +269,7 @@ impl<'a> Counting<'a> {
         requires some { (x : Change) × IsGiven outs.now x }
         ensures next { OnOk result (IsNext (rounding_of self.old) (rounding_of self.new)) }
         ensures less { OnOk result
-            (left_in (rounding_of self.new) < left_in (rounding_of self.old)) }
+            (count_sum (rounding_of self.new) < count_sum (rounding_of self.old)) }
     {
         put_all(self.tiling, &mut self.steps, outs);
         let input = RoundInput {
@@ -292,7 +292,7 @@ impl<'a> Counting<'a> {
         requires workers { (1 ≤ runner.now.workers) × (runner.now.workers ≤ 64) }
         ensures next { OnOk result (IsNext (rounding_of self.old) (rounding_of self.new)) }
         ensures less { IfOk result (λ changed. changed ≡ true →
-            left_in (rounding_of self.new) < left_in (rounding_of self.old)) }
+            count_sum (rounding_of self.new) < count_sum (rounding_of self.old)) }
         ensures last { IfOk result
             (λ changed. changed ≡ false → length self.new.entries.items ≡ 0) }
         ensures workers { RefusesWorkers runner.now.workers result }
@@ -318,7 +318,7 @@ impl<'a> Counting<'a> {
         requires some { 0 < vec_len self.old.entries }
         ensures next { OnOk result (IsNext (rounding_of self.old) (rounding_of self.new)) }
         ensures less { OnOk result
-            (left_in (rounding_of self.new) < left_in (rounding_of self.old)) }
+            (count_sum (rounding_of self.new) < count_sum (rounding_of self.old)) }
     {
         let outs = {
             let input = RoundInput {
@@ -343,7 +343,7 @@ impl<'a> Counting<'a> {
     }
 }
 
-/// Returns how many entries are worth a round of jobs, after `rounds` of them.
+/// Returns the fewest entries worth a round of jobs, after `rounds` such rounds.
 /// A winding flat takes thousands of rounds, each with an entry or two into a single tile.
 fn enough_entries(tiling: &Tiling, rounds: u32) -> usize {
     if rounds < FULL_ROUNDS {
@@ -354,7 +354,7 @@ fn enough_entries(tiling: &Tiling, rounds: u32) -> usize {
 
 /// Runs rounds after the first until one changes nothing, and returns the counts.
 /// After [`FULL_ROUNDS`] rounds of jobs, rounds with few entries run on the caller's thread.
-pub(crate) fn settle<R: Threads + Wait + Sync, G: Gate + Sync>(
+pub(crate) fn run_rounds<R: Threads + Wait + Sync, G: Gate + Sync>(
     runner: &Runner<'_, R, G>,
     tiling: &Tiling,
     levels: &[Cell],

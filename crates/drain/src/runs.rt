@@ -9,6 +9,7 @@ use crate::changes::{Entry, Run};
 use std::alloc::{AllocError, Global};
 
 /// Sorts entries by tile, and those of one tile by count.
+/// The second sort is stable, so it keeps the order by count.
 pub(crate) fn sort(entries: &mut Vec<Entry>) -> Result<(), AllocError>
     ensures sorted { OnOk result (IsNonDecreasingBy (λ e. e.tile) entries.new.items) }
     ensures same { OnOk result (IsPermutation entries.old.items entries.new.items) }

@@ -1,7 +1,7 @@
-//! The direction of one cell: down the steepest way, else to a neighbour with one step fewer.
+//! The D8 direction of one cell: [`direction`].
 //!
-//! Of equal ways the smallest code is taken. [`direction`] is the rule; `steepest` compares drops
-//! exactly.
+//! `steepest` finds the steepest way down, and compares drops exactly, by their squares. `onward`
+//! finds a way over the flat. Of equal ways both return the first, whose code is the smallest.
 ghost use Rattle.std.specs.Prelude.{◌≡◌, ◌*◌, ◌<◌, ◌≤◌, ◌<ℤ◌, ◌≤ℤ◌, ℕ, IfSome, IsTrue, Some, None, option_map, slice_index_or, position};
 ghost use Rattle.std.specs.Bool.{MatchBool};
 ghost use Rattle.std.specs.List.{list_any};
@@ -49,6 +49,7 @@ fn lowest(level: Height, heights: &[Option<Height>; 8], parity: usize) -> Height
 }
 
 /// Returns whether `height` is above `lowest`.
+/// The contract gives the prover both cases.
 #[inline(always)]
 fn is_above(height: Height, lowest: Height) -> bool
     ensures { MatchBool result (lowest <ℤ height) (height ≤ℤ lowest) }
@@ -159,6 +160,7 @@ fn leads_onward(around: &Around, way: usize) -> bool
     ensures { result ≡ leads_on around.now (slice_index_or around.now.ways way None) }
 {
     match around.ways[way] {
+        // The `<` shows the prover that the sum does not overflow.
         Some((height, steps)) => height == around.level
             && steps < around.steps
             && steps + 1 == around.steps,

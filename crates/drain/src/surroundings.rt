@@ -43,7 +43,7 @@ fn entry_on(grid: &Grid, steps: &[StepCount], way: usize, place: Place) -> Optio
     }
 }
 
-/// Returns the surroundings of a data cell of an outermost row or column.
+/// Returns the surroundings of an outermost data cell, which is an edge cell.
 #[inline(always)]
 fn around(grid: &Grid, steps: &[StepCount], place: Place, level: Height, own: u32) -> Around
     requires size { length steps.now ≡ grid.now.terrain.cols * grid.now.terrain.rows }
@@ -72,6 +72,7 @@ fn around(grid: &Grid, steps: &[StepCount], place: Place, level: Height, own: u3
 }
 
 /// Returns the code of a data cell of an outermost row or column.
+/// Out of line, to keep the hot path small.
 #[inline(never)]
 #[tactic(auto, using(crate::proofs::Laid::fitting))]
 fn code_outermost(grid: &Grid, steps: &[StepCount], place: Place, level: Height, own: u32) -> Code

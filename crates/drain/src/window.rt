@@ -9,7 +9,8 @@ use terrain::{Cell, Place};
 use tiles::Bounds;
 
 /// Filled heights of a tile and the places around it, in row order.
-/// It has one row and one column more than the tile on each side. Its places are called spots.
+/// The window has one row and one column more than the tile on each side; its places are spots.
+/// Spots with one filled height are level.
 #[derive(Drop)]
 pub(crate) struct Window {
     pub(crate) bounds: Bounds,
@@ -193,7 +194,7 @@ fn spread(
     Ok(())
 }
 
-/// Spreads from each queued spot in order, until the queue is done.
+/// Spreads from each queued spot in order, those queued on the way included.
 #[tactic(auto, using(crate::proofs::Spreading::spread_none, crate::proofs::Spreading::spread_on, crate::proofs::Spreading::spread_counts, crate::proofs::Spreading::sum_spread, crate::proofs::Noted::even_end))]
 fn search(window: &Window, counts: &mut [u32], mut reached: Vec<Place>) -> Result<(), AllocError>
     requires size { length counts.old ≡ area_of window.now.bounds }
@@ -310,7 +311,12 @@ fn pull(
 
 /// Searches from all known counts until none in the tile falls.
 #[tactic(auto, using(crate::proofs::Spreading::spread_counts))]
-fn settle(alloc: Global, window: &Window, old: &[u32], counts: &mut [u32]) -> Result<(), AllocError>
+fn search_window(
+    alloc: Global,
+    window: &Window,
+    old: &[u32],
+    counts: &mut [u32],
+) -> Result<(), AllocError>
     requires size { length old.now ≡ area_of window.now.bounds }
     requires counts { AreCounts old.now }
     requires same { counts.old ≡ old.now }
@@ -322,7 +328,7 @@ fn settle(alloc: Global, window: &Window, old: &[u32], counts: &mut [u32]) -> Re
 }
 
 /// Returns the counts of a window after a search from the counts `old`.
-pub(crate) fn settled_counts(
+pub(crate) fn searched_counts(
     alloc: Global,
     window: &Window,
     old: &[u32],
@@ -334,6 +340,6 @@ pub(crate) fn settled_counts(
     ensures size { IfOk result (λ new. length new.items ≡ length old.now) }
 {
     let mut counts = Vec::from_slice(alloc, old)?;
-    settle(alloc, window, old, &mut counts)?;
+    search_window(alloc, window, old, &mut counts)?;
     Ok(counts)
 }

@@ -20,7 +20,7 @@ of_list P (x ∷ xs) each n any = elim (or_cases _ _ any) [
 cases_code : (P : ℕ → Type 0) → P 0 → Each P way_codes → (n : ℕ) → IsCode n → P n
 cases_code P zero each n is = elim (or_cases _ _ is) [ inl e ↦ subst P (sym (eqb-true n 0 e)) zero | inr any ↦ of_list P way_codes each n any ]
 
--- the code of direction k is 2 to the k
+-- the direction of a code other than 0 is the number of its trailing zeros
 pub way_by_zeros : (n : ℕ) → IsCode n → n ≢ 0 → (way_of n ≡ Some (count_trailing_zeros 8 n)) × (count_trailing_zeros 8 n < 8)
 unfolding count_trailing_zeros
 way_by_zeros = cases_code (λ n. n ≢ 0 → (way_of n ≡ Some (count_trailing_zeros 8 n)) × (count_trailing_zeros 8 n < 8)) (λ some. absurd (some refl))

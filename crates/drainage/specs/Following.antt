@@ -33,7 +33,7 @@ moves d = d.cols * d.rows
 abbrev pub last_of : Directed → Place → Place
 last_of d p = follow d p (moves d)
 
--- The cell has code 0, of an outlet.
+-- The cell has code 0, so it is an outlet.
 abbrev pub IsOutlet : Directed → Place → Type 0
 IsOutlet d p = code_at d p ≡ Some 0
 

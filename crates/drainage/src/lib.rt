@@ -1,7 +1,8 @@
 //! The results that drainage stages pass on: filled grids and maps of directions.
 //!
 //! In a [`Filled`] grid, each cell has its filled height. In [`Directions`], each flow path ends.
-//! `fill` makes filled grids, `drain` makes directions; `flow` and `relief` read them.
+//! `fill` makes filled grids, which `drain` and `relief` read. `drain` makes directions, which
+//! `flow` and `relief` read.
 //!
 //! Modules, callers first:
 //!

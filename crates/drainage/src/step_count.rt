@@ -4,7 +4,8 @@ ghost use Rattle.drainage.specs.StepCounts.{known, no_count};
 
 use std::marker::Model;
 
-/// The stored number of unknown steps; greater than every number of steps.
+/// The stored number of unknown steps, above every number of steps.
+/// A grid has at most 2^24 cells, and a cell's steps are fewer than the cells.
 pub const NO_COUNT: u32 = 1 << 24;
 
 /// The steps from a cell to one that drains at once, or unknown.

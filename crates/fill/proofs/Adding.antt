@@ -14,7 +14,7 @@ use Rattle.terrain.specs.Ways.{before, place_if_both, place_on, ways_from}
 use Rattle.terrain.specs.declared.place.Place.{Place}
 use Rattle.terrain.proofs.EightWays.{Touches-from_ways}
 use Rattle.terrain.proofs.Places.{same_place}
-use Rattle.fill.specs.Gathering.{Marks, are_both_sources, Spared, IsSpared, Meets, IsPairFrom, IsBetween, IsLowBetween, IsPairOn, joins_of, Adds, AddsCovered, Covered, IsAfter}
+use Rattle.fill.specs.Gathering.{Marks, are_both_sources, LeftOutJoins, IsLeftOut, Meets, IsPairFrom, IsBetween, IsLowBetween, IsPairOn, joins_of, Adds, AddsCovered, Covered, IsAfter}
 use Rattle.fill.specs.declared.spills.Join.{Join}
 use Rattle.fill.specs.declared.marks.CellLabel.{CellLabel}
 use Rattle.floods.proofs.Heaps.{cons_head, cons_cases, one_held}
@@ -54,7 +54,7 @@ joins_of_is sources from (Some to) j h = elim (cases_eq from.node to.node) [
 pub covered_itself : (joins : List Join) (j : Join) → Contains joins j → Covered joins j
 covered_itself joins j h = (j, h, refl, refl, ≤ℤ_refl j.height)
 
--- What is covered stays covered.
+-- A covered join stays covered.
 covered_still : (now new : List Join) → ((j : Join) → Contains now j → Covered new j) → (j : Join) → Covered now j → Covered new j
 covered_still now new kept j c = let d = kept c.0 c.1 in (d.0, d.1, d.2 ∙ c.2, d.3 ∙ c.3, trans _ _ _ d.4 c.4)
 
@@ -91,16 +91,16 @@ adds_lower old at met j inside is from to low = record {
   there : Contains (set old at j) j
   there = (at, omega (arith, inside, length-set old at j), get_or-set_same old at j j inside)
 
-spared_still : (marks : Marks) (out : Spared) (p q : Place) (now new : List Join) → ((j : Join) → Contains now j → Covered new j) → (j : Join) → IsSpared marks out p q ⊎ Covered now j → IsSpared marks out p q ⊎ Covered new j
-spared_still marks out p q now new kept j (inl spared) = inl spared
-spared_still marks out p q now new kept j (inr covered) = inr (covered_still now new kept j covered)
+left_out_still : (marks : Marks) (out : LeftOutJoins) (p q : Place) (now new : List Join) → ((j : Join) → Contains now j → Covered new j) → (j : Join) → IsLeftOut marks out p q ⊎ Covered now j → IsLeftOut marks out p q ⊎ Covered new j
+left_out_still marks out p q now new kept j (inl spared) = inl spared
+left_out_still marks out p q now new kept j (inr covered) = inr (covered_still now new kept j covered)
 
 -- The join of two cells at a corner is left out if a cell between is no higher.
-pub spared_corner : (marks : Marks) (out : Spared) (p q middle : Place) (from : CellLabel) (between to : Option CellLabel)
+pub left_out_corner : (marks : Marks) (out : LeftOutJoins) (p q middle : Place) (from : CellLabel) (between to : Option CellLabel)
     → IsBetween p q middle → marks p ≡ Some from → between ≡ marks middle → to ≡ marks q
     → q.row ≡ p.row + 1 → p.col ≢ q.col
-    → IsLowBetween out from between to → IsSpared marks out p q
-spared_corner marks out p q middle from between to is_middle from_is between_is to_is next_row aside by = (
+    → IsLowBetween out from between to → IsLeftOut marks out p q
+left_out_corner marks out p q middle from between to is_middle from_is between_is to_is next_row aside by = (
   by.0,
   record {
     middle = middle;
@@ -134,7 +134,7 @@ after_way p q t (inl down) =
       ]
     ]
 
--- A place on one of those ways is in the same row or in the next.
+-- A place on one of the first four ways is in the same row or in the next.
 west_row : (row n : ℕ) (q : Place) → place_if_both (Some row) (before n) ≡ Some q → row ≡ q.row
 west_row row zero q on = none_some (place_if_both (Some row) None) q refl on
 west_row row (suc n) q on = ap (λ (z : Place). z.row) (same_Some _ q on)
@@ -146,7 +146,7 @@ next_row p q (suc (suc zero)) few on differ = sym (ap (λ (z : Place). z.row) (s
 next_row p q (suc (suc (suc zero))) few on differ = sym (west_row (p.row + 1) p.col q on)
 next_row p q (suc (suc (suc (suc way)))) few on differ = absurd (omega (arith, few))
 
--- A place on one of those ways in the same column is the one below.
+-- A place on one of the first four ways and in the same column is the one below.
 west_col : (row n : ℕ) (q : Place) → place_if_both (Some row) (before n) ≡ Some q → q.col ≢ n
 west_col row zero q on same = none_some (place_if_both (Some row) None) q refl on
 west_col row (suc n) q on same = omega (arith, ap (λ (z : Place). z.col) (same_Some _ q on), same)
@@ -159,7 +159,7 @@ same_col p q (suc (suc (suc zero))) few on same = absurd (west_col (p.row + 1) p
 same_col p q (suc (suc (suc (suc way)))) few on same = absurd (omega (arith, few))
 
 -- The cell on a way has no mark, or the join with it has been added.
-pub adds_on_way : (marks : Marks) (out : Spared) (p q : Place) (way : ℕ) (wanted : Place → Bool) (from : CellLabel) (o : Option CellLabel) (old new : List Join) → marks p ≡ Some from → marks q ≡ o → way < 8 → place_on way p ≡ Some q → wanted q ≡ true → AddsCovered old (joins_of out.sources from o) new → Adds marks out (IsPairOn way p wanted) old new
+pub adds_on_way : (marks : Marks) (out : LeftOutJoins) (p q : Place) (way : ℕ) (wanted : Place → Bool) (from : CellLabel) (o : Option CellLabel) (old new : List Join) → marks p ≡ Some from → marks q ≡ o → way < 8 → place_on way p ≡ Some q → wanted q ≡ true → AddsCovered old (joins_of out.sources from o) new → Adds marks out (IsPairOn way p wanted) old new
 adds_on_way marks out p q way wanted from o old new here there few on want s = record {
   kept = s.kept;
   only = λ j h. elim (s.only j h) [
@@ -195,15 +195,15 @@ adds_on_way marks out p q way wanted from o old new here there few on want s = r
 }
 
 -- The join with the cell on a way is left out.
-pub adds_spared : (marks : Marks) (out : Spared) (p q : Place) (way : ℕ) (wanted : Place → Bool) (old : List Join) → place_on way p ≡ Some q → IsSpared marks out p q → Adds marks out (IsPairOn way p wanted) old old
-adds_spared marks out p q way wanted old on spared = record {
+pub adds_left_out : (marks : Marks) (out : LeftOutJoins) (p q : Place) (way : ℕ) (wanted : Place → Bool) (old : List Join) → place_on way p ≡ Some q → IsLeftOut marks out p q → Adds marks out (IsPairOn way p wanted) old old
+adds_left_out marks out p q way wanted old on spared = record {
   kept = λ j h. covered_itself old j h;
   only = λ j h. inl h;
   every = λ x r j at after m.
-      inl (subst (λ (z : Place). IsSpared marks out z r) (sym at.0) (subst (IsSpared marks out p) (same_Some q r (sym on ∙ at.1)) spared));
+      inl (subst (λ (z : Place). IsLeftOut marks out z r) (sym at.0) (subst (IsLeftOut marks out p) (same_Some q r (sym on ∙ at.1)) spared));
 }
 
-pub adds_none : (marks : Marks) (out : Spared) (pairs : Place → Place → Type 0) (old new : List Join) → new ≡ old → ((p q : Place) → pairs p q → ⊥) → Adds marks out pairs old new
+pub adds_none : (marks : Marks) (out : LeftOutJoins) (pairs : Place → Place → Type 0) (old new : List Join) → new ≡ old → ((p q : Place) → pairs p q → ⊥) → Adds marks out pairs old new
 adds_none marks out pairs old new same none = subst (Adds marks out pairs old) (sym same) (record {
   kept = λ j h. covered_itself old j h;
   only = λ j h. inl h;
@@ -211,7 +211,7 @@ adds_none marks out pairs old new same none = subst (Adds marks out pairs old) (
 })
 
 -- A cell without a mark has no joins.
-pub no_mark_adds : (marks : Marks) (out : Spared) (p : Place) (wanted : Place → Bool) (old : List Join) → marks p ≡ None → Adds marks out (IsPairFrom p wanted) old old
+pub no_mark_adds : (marks : Marks) (out : LeftOutJoins) (p : Place) (wanted : Place → Bool) (old : List Join) → marks p ≡ None → Adds marks out (IsPairFrom p wanted) old old
 no_mark_adds marks out p wanted old none = record {
   kept = λ j h. covered_itself old j h;
   only = λ j h. inl h;
@@ -219,18 +219,18 @@ no_mark_adds marks out p wanted old none = record {
 }
 
 -- Adding the joins of some pairs and then of others adds those of all.
-pub adds_then : (marks : Marks) (out : Spared) (first later both : Place → Place → Type 0) (old now new : List Join) → ((p q : Place) → both p q ↔ (first p q ⊎ later p q)) → Adds marks out first old now → Adds marks out later now new → Adds marks out both old new
+pub adds_then : (marks : Marks) (out : LeftOutJoins) (first later both : Place → Place → Type 0) (old now new : List Join) → ((p q : Place) → both p q ↔ (first p q ⊎ later p q)) → Adds marks out first old now → Adds marks out later now new → Adds marks out both old new
 adds_then marks out first later both old now new split a b = record {
   kept = λ j h. covered_still now new b.kept j (a.kept j h);
   only = λ j h. elim (b.only j h) [
     | inr late ↦ inr (late.0, late.1, (split late.0 late.1).1 (inr late.2), late.3)
     | inl was ↦ elim (a.only j was) [ inl old ↦ inl old | inr early ↦ inr (early.0, early.1, (split early.0 early.1).1 (inl early.2), early.3) ]
   ];
-  every = λ p q j at after m. elim ((split p q).0 at) [ inl early ↦ spared_still marks out p q now new b.kept j (a.every p q j early after m) | inr late ↦ b.every p q j late after m ];
+  every = λ p q j at after m. elim ((split p q).0 at) [ inl early ↦ left_out_still marks out p q now new b.kept j (a.every p q j early after m) | inr late ↦ b.every p q j late after m ];
 }
 
 -- Only pairs of cells that have marks and touch matter.
-pub adds_as : (marks : Marks) (out : Spared) (first both : Place → Place → Type 0) (old new : List Join) → ((p q : Place) → first p q → both p q) → ((p q : Place) → Touches p q → IsAfter p q → (m : CellLabel) → marks p ≡ Some m → (n : CellLabel) → marks q ≡ Some n → both p q → first p q) → Adds marks out first old new → Adds marks out both old new
+pub adds_as : (marks : Marks) (out : LeftOutJoins) (first both : Place → Place → Type 0) (old new : List Join) → ((p q : Place) → first p q → both p q) → ((p q : Place) → Touches p q → IsAfter p q → (m : CellLabel) → marks p ≡ Some m → (n : CellLabel) → marks q ≡ Some n → both p q → first p q) → Adds marks out first old new → Adds marks out both old new
 adds_as marks out first both old new wider narrower a = record {
   kept = a.kept;
   only = λ j h. elim (a.only j h) [ inl was ↦ inl was | inr made ↦ inr (made.0, made.1, wider made.0 made.1 made.2, made.3) ];
@@ -238,7 +238,7 @@ adds_as marks out first both old new wider narrower a = record {
 }
 
 -- The joins of a cell are those on its first four ways.
-pub adds_four : (marks : Marks) (out : Spared) (p : Place) (wanted : Place → Bool) (old first second third new : List Join)
+pub adds_four : (marks : Marks) (out : LeftOutJoins) (p : Place) (wanted : Place → Bool) (old first second third new : List Join)
     → Adds marks out (IsPairOn 0 p wanted) old first → Adds marks out (IsPairOn 1 p wanted) first second
     → Adds marks out (IsPairOn 2 p wanted) second third → Adds marks out (IsPairOn 3 p wanted) third new
     → Adds marks out (IsPairFrom p wanted) old new

@@ -15,12 +15,12 @@ use Rattle.tiles.proofs.Cut.{in_tile, in_bounds_parts, in_bounds_from}
 use Rattle.cell_floods.specs.TileFlood.{Flood, IsFlood, label_in}
 use Rattle.cell_floods.specs.Labels.{labels_by, IsTable}
 use Rattle.fill.specs.Numbers.{first_of}
-use Rattle.fill.specs.Gathering.{Fit, LabelsInside, Marks, IsInner, IsPairFrom, IsPairOn, cells_after, AreEqualAfter, mark_of, mark_in, mark_among, Adds, mark_with, joins_of, Spared, IsBetween, IsLowBetween, IsSpared, AddsAfter, AddsCorner, AddsCovered}
+use Rattle.fill.specs.Gathering.{Fit, LabelsInside, Marks, IsInner, IsPairFrom, IsPairOn, cells_after, AreEqualAfter, mark_of, mark_in, mark_among, Adds, mark_with, joins_of, LeftOutJoins, IsBetween, IsLowBetween, IsLeftOut, AddsAfter, AddsCorner, AddsCovered}
 use Rattle.fill.specs.declared.spills.Join.{Join}
 use Rattle.fill.specs.declared.marks.CellLabel.{CellLabel}
 use Rattle.std.proofs.lemmas.Nat.{mul-le}
 use Rattle.terrain.proofs.Options.{cases_option, none_some}
-use Rattle.fill.proofs.Adding.{adds_as, adds_four, adds_on_way, adds_spared, covered_itself, joins_of_is, no_mark_adds, spared_corner, west_of}
+use Rattle.fill.proofs.Adding.{adds_as, adds_four, adds_on_way, adds_left_out, covered_itself, joins_of_is, no_mark_adds, left_out_corner, west_of}
 use Rattle.tiles.proofs.TileOrder.{bounds_from_entry, entry_in-inside}
 
 -- If the labels of a flood lie in the grid, so do the places of its table.
@@ -134,7 +134,7 @@ same_label_adds f sources i j from now is same = record {
 }
 
 -- A cell with the label of its four later neighbours has no joins with them.
-pub equal_after_adds : (f : Flood) (out : Spared) (i width : ℕ) (now : List Join) → AreEqualAfter f.table.indexes i width → MatchOption (mark_with 0 f i) (now ≡ now) (λ from. AddsAfter f out from i width now now)
+pub equal_after_adds : (f : Flood) (out : LeftOutJoins) (i width : ℕ) (now : List Join) → AreEqualAfter f.table.indexes i width → MatchOption (mark_with 0 f i) (now ≡ now) (λ from. AddsAfter f out from i width now now)
 equal_after_adds f out i width now e = elim (cases_option (mark_with 0 f i)) [
   | inl none ↦ subst (λ (o : Option CellLabel). MatchOption o (now ≡ now) (λ from. AddsAfter f out from i width now now)) (sym none) refl
   | inr found ↦ subst (λ (o : Option CellLabel). MatchOption o (now ≡ now) (λ from. AddsAfter f out from i width now now)) (sym found.1) (record {
@@ -153,11 +153,11 @@ equal_after_adds f out i width now e = elim (cases_option (mark_with 0 f i)) [
 abbrev pub anywhere : Place → Bool
 anywhere q = true
 
-pub adds_anywhere : (marks : Marks) (out : Spared) (p : Place) (old new : List Join) → Adds marks out (IsPairFrom p anywhere) old new → Adds marks out (λ q r. q ≡ p) old new
+pub adds_anywhere : (marks : Marks) (out : LeftOutJoins) (p : Place) (old new : List Join) → Adds marks out (IsPairFrom p anywhere) old new → Adds marks out (λ q r. q ≡ p) old new
 adds_anywhere marks out p old new s = adds_as marks out (IsPairFrom p anywhere) (λ q r. q ≡ p) old new (λ q r at. at.0) (λ q r touch after m m_is n n_is at. (at, refl)) s
 
 -- The joins of a cell with its four later neighbours have been added.
-pub inner_adds : (f : Flood) (out : Spared) (p : Place) (i : ℕ) (from : CellLabel) (old new : List Join) → IsInner f.bounds p → i ≡ index_in f.bounds p → mark_with 0 f i ≡ Some from → AddsAfter f out from i f.bounds.cols old new → Adds (mark_in 0 f) out (λ q r. q ≡ p) old new
+pub inner_adds : (f : Flood) (out : LeftOutJoins) (p : Place) (i : ℕ) (from : CellLabel) (old new : List Join) → IsInner f.bounds p → i ≡ index_in f.bounds p → mark_with 0 f i ≡ Some from → AddsAfter f out from i f.bounds.cols old new → Adds (mark_in 0 f) out (λ q r. q ≡ p) old new
 inner_adds f out p i from old new inner at is s =
     adds_anywhere (mark_in 0 f) out p old new (adds_four (mark_in 0 f) out p anywhere old s.after_first s.after_second s.after_third new
     (step 0 p.row east (i + 1) _ _ (omega arith) refl (omega (arith, inner), omega (arith, inner)) (omega (arith, inner), omega (arith, inner)) (omega (arith, at, inner)) s.east)
@@ -201,18 +201,18 @@ inner_adds f out p i from old new inner at is s =
         | inr added ↦ step way row col j now next few on rows cols index added
         | inl round ↦
             let near : Place = record { row = row; col = col } in
-            let spared : (middle : Place) (between : Option CellLabel) → IsBetween p near middle → mark_in 0 f middle ≡ between → IsLowBetween out from between (mark_with 0 f j) → IsSpared (mark_in 0 f) out p near = λ middle between is_middle there low.
-            spared_corner (mark_in 0 f) out p near middle from between (mark_with 0 f j) is_middle
+            let spared : (middle : Place) (between : Option CellLabel) → IsBetween p near middle → mark_in 0 f middle ≡ between → IsLowBetween out from between (mark_with 0 f j) → IsLeftOut (mark_in 0 f) out p near = λ middle between is_middle there low.
+            left_out_corner (mark_in 0 f) out p near middle from between (mark_with 0 f j) is_middle
             (entry_in_mark f p i (omega (arith, inner), omega (arith, inner), omega (arith, inner), omega (arith, inner)) at ∙ is)
             (sym there) (sym (entry_in_mark f near j (rows.0, rows.1, cols.0, cols.1) index)) next_row aside low in
             subst (Adds (mark_in 0 f) out (IsPairOn way p anywhere) now) (sym round.1)
-            (adds_spared (mark_in 0 f) out p near way anywhere now on (elim round.0 [
+            (adds_left_out (mark_in 0 f) out p near way anywhere now on (elim round.0 [
               | inl low ↦ spared (record { row = p.row + 1; col = p.col }) (mark_with 0 f (i + b.cols)) (inl (sym next_row, refl)) below_is low
               | inr low ↦ spared (record { row = p.row; col = col }) (mark_with 0 f beside) (inr (refl, refl)) beside_is low
             ]))
       ]
 
-pub inner_cell_adds : (f : Flood) (out : Spared) (p : Place) (i : ℕ) (old new : List Join) → IsInner f.bounds p → i ≡ index_in f.bounds p → MatchOption (mark_with 0 f i) (new ≡ old) (λ from. AddsAfter f out from i f.bounds.cols old new) → Adds (mark_in 0 f) out (λ q r. q ≡ p) old new
+pub inner_cell_adds : (f : Flood) (out : LeftOutJoins) (p : Place) (i : ℕ) (old new : List Join) → IsInner f.bounds p → i ≡ index_in f.bounds p → MatchOption (mark_with 0 f i) (new ≡ old) (λ from. AddsAfter f out from i f.bounds.cols old new) → Adds (mark_in 0 f) out (λ q r. q ≡ p) old new
 inner_cell_adds f out p i old new inner at s = elim (cases_option (mark_with 0 f i)) [
   | inl none ↦
       let same = MatchOption-at_none _ _ none s in
@@ -260,7 +260,7 @@ row_so_far Inside row col inside p = (
 pub some_below : {X : Type 0} (xs : List (Option X)) (i : ℕ) (x : X) → get_or xs i None ≡ Some x → i < length xs
 some_below xs i x e = elim (cases_lt i (length xs)) [ inl low ↦ low | inr past ↦ none_some (get_or xs i None) x (get_or_past xs i None past) e ]
 
--- The mark with its label counted from this number.
+-- The mark with `first` added to the number of its label.
 abbrev pub shift : ℕ → CellLabel → CellLabel
 shift first m = record { level = m.level; node = first + m.node }
 

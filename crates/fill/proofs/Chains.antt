@@ -54,17 +54,17 @@ chain_same f g (suc n) at same = elim (cases_eq at (suc n)) [
       ∙ sym (cond-false _ _ _ (ne_eqb at (suc n) (λ here. absurd (other here))))
 ]
 
-pub ways_at : (lasts : List ℕ) (joins : List Join) (befores : List PreviousJoins) (label : ℕ) → label < length lasts
-    → get_or (ways_by lasts joins befores) label [] ≡ chain (link_at joins befores label) (length befores) (get_or lasts label 0)
-ways_at lasts joins befores label low =
-    get_or-map-range_with_len (λ a. chain (link_at joins befores a) (length befores) (get_or lasts a 0)) 0 (length lasts) label label [] low (omega arith)
+pub ways_at : (lasts : List ℕ) (joins : List Join) (previous : List PreviousJoins) (label : ℕ) → label < length lasts
+    → get_or (ways_by lasts joins previous) label [] ≡ chain (link_at joins previous label) (length previous) (get_or lasts label 0)
+ways_at lasts joins previous label low =
+    get_or-map-range_with_len (λ a. chain (link_at joins previous a) (length previous) (get_or lasts a 0)) 0 (length lasts) label label [] low (omega arith)
 
-pub ways_length : (lasts : List ℕ) (joins : List Join) (befores : List PreviousJoins) → length (ways_by lasts joins befores) ≡ length lasts
-ways_length lasts joins befores =
-    length-map (range_with_len 0 (length lasts)) (λ a. chain (link_at joins befores a) (length befores) (get_or lasts a 0)) ∙ length-range_with_len 0 (length lasts)
+pub ways_length : (lasts : List ℕ) (joins : List Join) (previous : List PreviousJoins) → length (ways_by lasts joins previous) ≡ length lasts
+ways_length lasts joins previous =
+    length-map (range_with_len 0 (length lasts)) (λ a. chain (link_at joins previous a) (length previous) (get_or lasts a 0)) ∙ length-range_with_len 0 (length lasts)
 
 -- No join yet.
-module _ (labels : ℕ) (lasts : List ℕ) (joins : List Join) (befores : List PreviousJoins) (is : lasts ≡ replicate labels 0) (none : befores ≡ []) where
+module _ (labels : ℕ) (lasts : List ℕ) (joins : List Join) (previous : List PreviousJoins) (is : lasts ≡ replicate labels 0) (none : previous ≡ []) where
   size : length lasts ≡ labels
   size = ap length is ∙ length-replicate {A = ℕ} labels 0
 
@@ -75,15 +75,15 @@ module _ (labels : ℕ) (lasts : List ℕ) (joins : List Join) (befores : List P
     all_none (suc n) zero = refl
     all_none (suc n) (suc i) = all_none n i
 
-  pub no_ways : ways_by lasts joins befores ≡ replicate labels []
+  pub no_ways : ways_by lasts joins previous ≡ replicate labels []
   no_ways =
-      ext_get_or [] (ways_by lasts joins befores) (replicate labels []) (ways_length lasts joins befores ∙ size ∙ sym (length-replicate {A = List Spill} labels [])) (λ i low.
-      let inside : i < labels = omega (arith, low, ways_length lasts joins befores, size) in
-      ways_at lasts joins befores i (omega (arith, inside, size))
-      ∙ ap (chain (link_at joins befores i) (length befores)) (begun i)
-      ∙ chain_none (link_at joins befores i) (length befores) ∙ sym (get_or-replicate labels i [] [] inside))
+      ext_get_or [] (ways_by lasts joins previous) (replicate labels []) (ways_length lasts joins previous ∙ size ∙ sym (length-replicate {A = List Spill} labels [])) (λ i low.
+      let inside : i < labels = omega (arith, low, ways_length lasts joins previous, size) in
+      ways_at lasts joins previous i (omega (arith, inside, size))
+      ∙ ap (chain (link_at joins previous i) (length previous)) (begun i)
+      ∙ chain_none (link_at joins previous i) (length previous) ∙ sym (get_or-replicate labels i [] [] inside))
 
-  pub none_linked : AreLinked lasts joins befores
+  pub none_linked : AreLinked lasts joins previous
   none_linked = record {
     fit = omega (arith, ap length none);
     begin = λ label. omega (arith, begun label);
@@ -111,32 +111,32 @@ one_way j w old new a b h is same = (
 )
 
 -- One more join.
-module _ (lasts : List ℕ) (joins : List Join) (befores : List PreviousJoins) (j : Join) (linked : AreLinked lasts joins befores) (more : length befores < length joins)
-    (is : get_or joins (length befores) (record { from = 0; to = 0; height = pos 0 }) ≡ j) (from : j.from < length lasts) (to : j.to < length lasts) where
+module _ (lasts : List ℕ) (joins : List Join) (previous : List PreviousJoins) (j : Join) (linked : AreLinked lasts joins previous) (more : length previous < length joins)
+    (is : get_or joins (length previous) (record { from = 0; to = 0; height = pos 0 }) ≡ j) (from : j.from < length lasts) (to : j.to < length lasts) where
   abbrev count : ℕ
-  count = length befores
+  count = length previous
 
   abbrev pub both : PreviousJoins
   both = record { from = get_or lasts j.from 0; to = get_or lasts j.to 0 }
 
   abbrev pub after : List PreviousJoins
-  after = befores ++ both ∷ []
+  after = previous ++ both ∷ []
 
   abbrev pub lasts_after : List ℕ
   lasts_after = set (set lasts j.from (length after)) j.to (length after)
 
   after_size : length after ≡ count + 1
-  after_size = length_push befores both
+  after_size = length_push previous both
 
   same_length : length lasts_after ≡ length lasts
   same_length = length-set (set lasts j.from (length after)) j.to (length after) ∙ length-set lasts j.from (length after)
 
   -- The links of earlier joins, and of this one.
-  old_link : (label i : ℕ) → i < count → link_at joins after label i ≡ link_at joins befores label i
-  old_link label i low = ap (link_from label (get_or joins i _)) (get_or_append_left befores (both ∷ []) _ i low)
+  old_link : (label i : ℕ) → i < count → link_at joins after label i ≡ link_at joins previous label i
+  old_link label i low = ap (link_from label (get_or joins i _)) (get_or_append_left previous (both ∷ []) _ i low)
 
   new_link : (label : ℕ) → link_at joins after label count ≡ link_from label j both
-  new_link label = ap (λ (k : Join). link_from label k (get_or after count (record { from = 0; to = 0 }))) is ∙ ap (link_from label j) (get_or_push befores both (record { from = 0; to = 0 }) count refl)
+  new_link label = ap (λ (k : Join). link_from label k (get_or after count (record { from = 0; to = 0 }))) is ∙ ap (link_from label j) (get_or_push previous both (record { from = 0; to = 0 }) count refl)
 
   link_of_from : (label : ℕ) → j.from ≡ label → link_from label j both ≡ record { way = way_of j; before = get_or lasts j.from 0 }
   link_of_from label same = cond-true _ _ _ (eq-eqb j.from label same)
@@ -178,7 +178,7 @@ module _ (lasts : List ℕ) (joins : List Join) (befores : List PreviousJoins) (
     before = λ label i low. elim (cases_eq i count) [
       | inr other ↦
           let early : i < count = omega (arith, low, after_size, other) in
-          let was : (link_at joins befores label i).before ≤ i = linked.before label i early in
+          let was : (link_at joins previous label i).before ≤ i = linked.before label i early in
           omega (arith, ap (λ (l : Link). l.before) (old_link label i early), was)
       | inl here ↦
           let was : (link_from label j both).before ≤ count = earlier label in
@@ -192,7 +192,7 @@ module _ (lasts : List ℕ) (joins : List Join) (befores : List PreviousJoins) (
     ]
 
   abbrev old : List (List Spill)
-  old = ways_by lasts joins befores
+  old = ways_by lasts joins previous
 
   abbrev new : List (List Spill)
   new = ways_by lasts_after joins after
@@ -204,19 +204,19 @@ module _ (lasts : List ℕ) (joins : List Join) (befores : List PreviousJoins) (
       ways_at lasts_after joins after label (omega (arith, low, same_length)) ∙ ap (chain (link_at joins after label) (length after)) last
       ∙ ap (λ n. chain (link_at joins after label) n n) after_is ∙ chain_here (link_at joins after label) count
       ∙ ap (λ (l : Link). l.way ∷ chain (link_at joins after label) count l.before) (new_link label ∙ link)
-      ∙ ap (λ z. way ∷ z) (chain_same (link_at joins after label) (link_at joins befores label) count (get_or lasts label 0) (old_link label) ∙ sym (ways_at lasts joins befores label low)) where
+      ∙ ap (λ z. way ∷ z) (chain_same (link_at joins after label) (link_at joins previous label) count (get_or lasts label 0) (old_link label) ∙ sym (ways_at lasts joins previous label low)) where
         after_is : length after ≡ suc count
         after_is = omega (arith, after_size)
 
   elsewhere : (label : ℕ) → label ≢ j.from → label ≢ j.to → get_or new label [] ≡ get_or old label []
   elsewhere label not_from not_to = elim (cases_lt label (length lasts)) [
-    | inr past ↦ get_or_past new label [] (omega (arith, past, same_length, ways_length lasts_after joins after)) ∙ sym (get_or_past old label [] (omega (arith, past, ways_length lasts joins befores)))
+    | inr past ↦ get_or_past new label [] (omega (arith, past, same_length, ways_length lasts_after joins after)) ∙ sym (get_or_past old label [] (omega (arith, past, ways_length lasts joins previous)))
     | inl low ↦
         let begun : get_or lasts label 0 ≤ count = linked.begin label in
         ways_at lasts_after joins after label (omega (arith, low, same_length)) ∙ ap (chain (link_at joins after label) (length after)) (last_other label not_from not_to)
         ∙ chain_upto (link_at joins after label) (length after) (get_or lasts label 0) (omega (arith, begun, after_size))
         ∙ sym (chain_upto (link_at joins after label) count (get_or lasts label 0) begun)
-        ∙ chain_same (link_at joins after label) (link_at joins befores label) count (get_or lasts label 0) (old_link label) ∙ sym (ways_at lasts joins befores label low)
+        ∙ chain_same (link_at joins after label) (link_at joins previous label) count (get_or lasts label 0) (old_link label) ∙ sym (ways_at lasts joins previous label low)
   ]
 
   inside_from : (label : ℕ) → label ≡ j.from → label < length lasts
@@ -227,7 +227,7 @@ module _ (lasts : List ℕ) (joins : List Join) (befores : List PreviousJoins) (
 
   pub join_added : AddsWays (j ∷ []) old new
   join_added = record {
-    size = ways_length lasts_after joins after ∙ same_length ∙ sym (ways_length lasts joins befores);
+    size = ways_length lasts_after joins after ∙ same_length ∙ sym (ways_length lasts joins previous);
     each = λ a b h. elim (cases_eq a j.from) [
       | inl is_from ↦
           one_way j (way_of j) (get_or old a []) (get_or new a []) a b h (here a (way_of j) (inside_from a is_from) (last_from a is_from) (at_from a is_from)) (
@@ -269,36 +269,36 @@ module _ (lasts : List ℕ) (joins : List Join) (befores : List PreviousJoins) (
     back a b h is_to way = ap (λ n. record { from = j.from; to = n; height = j.height }) (sym is_to) ∙ ap (λ (w : Spill). record { from = w.to; to = a; height = w.height }) (sym way)
 
 -- Whether there is a way from a label.
-pub some_way : (lasts : List ℕ) (joins : List Join) (befores : List PreviousJoins) (label : ℕ) → AreLinked lasts joins befores → label < length lasts
-    → (0 < get_or lasts label 0 → has_ways (ways_by lasts joins befores) label ≡ true) × (get_or lasts label 0 ≡ 0 → has_ways (ways_by lasts joins befores) label ≡ false)
-some_way lasts joins befores label linked low =
-    let last : get_or lasts label 0 ≤ length befores = linked.begin label in (
+pub some_way : (lasts : List ℕ) (joins : List Join) (previous : List PreviousJoins) (label : ℕ) → AreLinked lasts joins previous → label < length lasts
+    → (0 < get_or lasts label 0 → has_ways (ways_by lasts joins previous) label ≡ true) × (get_or lasts label 0 ≡ 0 → has_ways (ways_by lasts joins previous) label ≡ false)
+some_way lasts joins previous label linked low =
+    let last : get_or lasts label 0 ≤ length previous = linked.begin label in (
       λ some.
           let begun : get_or lasts label 0 ≡ suc (get_or lasts label 0 - 1) = omega (arith, some) in
-          let inside : get_or lasts label 0 - 1 < length befores = omega (arith, some, last) in
-          ap is_some_way (ways_at lasts joins befores label low ∙ ap (chain (link_at joins befores label) (length befores)) begun
-          ∙ chain_step (link_at joins befores label) (length befores) (get_or lasts label 0 - 1) inside (linked.before label (get_or lasts label 0 - 1) inside)),
-      λ none. ap is_some_way (ways_at lasts joins befores label low ∙ ap (chain (link_at joins befores label) (length befores)) none ∙ chain_none (link_at joins befores label) (length befores)),
+          let inside : get_or lasts label 0 - 1 < length previous = omega (arith, some, last) in
+          ap is_some_way (ways_at lasts joins previous label low ∙ ap (chain (link_at joins previous label) (length previous)) begun
+          ∙ chain_step (link_at joins previous label) (length previous) (get_or lasts label 0 - 1) inside (linked.before label (get_or lasts label 0 - 1) inside)),
+      λ none. ap is_some_way (ways_at lasts joins previous label low ∙ ap (chain (link_at joins previous label) (length previous)) none ∙ chain_none (link_at joins previous label) (length previous)),
     )
 
 -- The ways from a label are `done`, and then those from join `at` on.
-pub record IsOnChain (lasts : List ℕ) (joins : List Join) (befores : List PreviousJoins) (label : ℕ) (done : List Spill) (at : ℕ) : Type 0 where
-  pub inside : at ≤ length befores
-  pub ways : done ++ chain (link_at joins befores label) (length befores) at ≡ get_or (ways_by lasts joins befores) label []
+pub record IsOnChain (lasts : List ℕ) (joins : List Join) (previous : List PreviousJoins) (label : ℕ) (done : List Spill) (at : ℕ) : Type 0 where
+  pub inside : at ≤ length previous
+  pub ways : done ++ chain (link_at joins previous label) (length previous) at ≡ get_or (ways_by lasts joins previous) label []
 
-pub chain_begun : (lasts : List ℕ) (joins : List Join) (befores : List PreviousJoins) (label at : ℕ) → AreLinked lasts joins befores → label < length lasts → at ≡ get_or lasts label at
-    → IsOnChain lasts joins befores label [] at
-chain_begun lasts joins befores label at linked low is =
+pub chain_begun : (lasts : List ℕ) (joins : List Join) (previous : List PreviousJoins) (label at : ℕ) → AreLinked lasts joins previous → label < length lasts → at ≡ get_or lasts label at
+    → IsOnChain lasts joins previous label [] at
+chain_begun lasts joins previous label at linked low is =
     let same : at ≡ get_or lasts label 0 = is ∙ get_or_default lasts label at 0 low in
-    let last : get_or lasts label 0 ≤ length befores = linked.begin label in
-    record { inside = omega (arith, same, last); ways = ap (chain (link_at joins befores label) (length befores)) same ∙ sym (ways_at lasts joins befores label low) }
+    let last : get_or lasts label 0 ≤ length previous = linked.begin label in
+    record { inside = omega (arith, same, last); ways = ap (chain (link_at joins previous label) (length previous)) same ∙ sym (ways_at lasts joins previous label low) }
 
-module _ (lasts : List ℕ) (joins : List Join) (befores : List PreviousJoins) (label at : ℕ) (link : Link) (done : List Spill) (linked : AreLinked lasts joins befores) (some : 0 < at)
-    (is : link ≡ link_at joins befores label (at - 1)) (on : IsOnChain lasts joins befores label done at) where
+module _ (lasts : List ℕ) (joins : List Join) (previous : List PreviousJoins) (label at : ℕ) (link : Link) (done : List Spill) (linked : AreLinked lasts joins previous) (some : 0 < at)
+    (is : link ≡ link_at joins previous label (at - 1)) (on : IsOnChain lasts joins previous label done at) where
   abbrev links : ℕ → Link
-  links = link_at joins befores label
+  links = link_at joins previous label
 
-  inside : at - 1 < length befores
+  inside : at - 1 < length previous
   inside = omega (arith, some, on.inside)
 
   pub link_before : link.before < at
@@ -306,26 +306,26 @@ module _ (lasts : List ℕ) (joins : List Join) (befores : List PreviousJoins) (
       let early : (links (at - 1)).before ≤ at - 1 = linked.before label (at - 1) inside in
       omega (arith, ap (λ (l : Link). l.before) is, early, some)
 
-  step : done ++ link.way ∷ chain links (length befores) link.before ≡ get_or (ways_by lasts joins befores) label []
+  step : done ++ link.way ∷ chain links (length previous) link.before ≡ get_or (ways_by lasts joins previous) label []
   step =
       let next : suc (at - 1) ≡ at = omega (arith, some) in
-      ap (λ (l : Link). done ++ l.way ∷ chain links (length befores) l.before) is
-      ∙ sym (ap (λ z. done ++ z) (ap (chain links (length befores)) (sym next) ∙ chain_step links (length befores) (at - 1) inside (linked.before label (at - 1) inside)))
+      ap (λ (l : Link). done ++ l.way ∷ chain links (length previous) l.before) is
+      ∙ sym (ap (λ z. done ++ z) (ap (chain links (length previous)) (sym next) ∙ chain_step links (length previous) (at - 1) inside (linked.before label (at - 1) inside)))
       ∙ on.ways
 
-  pub chain_more : IsOnChain lasts joins befores label (done ++ link.way ∷ []) link.before
+  pub chain_more : IsOnChain lasts joins previous label (done ++ link.way ∷ []) link.before
   chain_more = record {
     inside = omega (arith, link_before, on.inside);
-    ways = append_assoc done (link.way ∷ []) (chain links (length befores) link.before) ∙ step;
+    ways = append_assoc done (link.way ∷ []) (chain links (length previous) link.before) ∙ step;
   }
 
-  pub chain_has : Contains (get_or (ways_by lasts joins befores) label []) link.way
+  pub chain_has : Contains (get_or (ways_by lasts joins previous) label []) link.way
   chain_has =
       subst (λ (z : List Spill). Contains z link.way) step
-      (Contains-append_right done (link.way ∷ chain links (length befores) link.before) link.way (cons_head link.way (chain links (length befores) link.before)))
+      (Contains-append_right done (link.way ∷ chain links (length previous) link.before) link.way (cons_head link.way (chain links (length previous) link.before)))
 
-pub chain_done : (lasts : List ℕ) (joins : List Join) (befores : List PreviousJoins) (label at : ℕ) (done : List Spill) → at ≡ 0 → IsOnChain lasts joins befores label done at
-    → done ≡ get_or (ways_by lasts joins befores) label []
-chain_done lasts joins befores label at done none on =
+pub chain_done : (lasts : List ℕ) (joins : List Join) (previous : List PreviousJoins) (label at : ℕ) (done : List Spill) → at ≡ 0 → IsOnChain lasts joins previous label done at
+    → done ≡ get_or (ways_by lasts joins previous) label []
+chain_done lasts joins previous label at done none on =
     sym (append-nil done)
-    ∙ ap (λ z. done ++ z) (sym (ap (chain (link_at joins befores label) (length befores)) none ∙ chain_none (link_at joins befores label) (length befores))) ∙ on.ways
+    ∙ ap (λ z. done ++ z) (sym (ap (chain (link_at joins previous label) (length previous)) none ∙ chain_none (link_at joins previous label) (length previous))) ∙ on.ways

@@ -1,4 +1,4 @@
--- The number of each tile's first label, and the heights of end cells by number.
+-- The number of the first entry of each tile's table, and the heights of end cells by number.
 use Rattle.std.proofs.Common.{◌≡◌, ℕ, ◌+◌, ◌-◌, ◌*◌, ◌<◌, ◌≤◌, inl, inr, List, [], ◌∷◌, ◌++◌, length, get_or, take, None, Some, ◌∙◌, sym, ap, subst, refl, arith}
 use Rattle.std.proofs.Math.Nat.{mul-mul-mul_comm}
 use Rattle.std.proofs.lemmas.Nat.{mul-le}

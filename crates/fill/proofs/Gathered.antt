@@ -19,7 +19,7 @@ use Rattle.cell_floods.proofs.Where.{labels_inside}
 use Rattle.floods.proofs.Heaps.{all_by_contains}
 use Rattle.floods.specs.declared.net.Spill.{Spill}
 use Rattle.drainage.proofs.Uniqueness.{between}
-use Rattle.fill.specs.Gathering.{Fit, LabelsInside, Spared, IsBypassed, mark_among, Meets, Covered, IsAfter, IsBefore, AreRising, AreLowest, AreGathered, are_both_sources, turned}
+use Rattle.fill.specs.Gathering.{Fit, LabelsInside, LeftOutJoins, IsBypassed, mark_among, Meets, Covered, IsAfter, IsBefore, AreRising, AreLowest, AreGathered, are_both_sources, turned}
 use Rattle.fill.specs.LabelNet.{HasWaysOf, IsJoinOf, IsNumberPass, IsNumberGraph}
 use Rattle.fill.specs.Numbers.{places_of, ends_of, nodes_of, node_of_label}
 use Rattle.fill.specs.Parts.{IsGraph, graph_with}
@@ -40,7 +40,7 @@ and_turned true false = refl
 and_turned false true = refl
 and_turned false false = refl
 
--- Joins in order have each two labels once.
+-- Joins in order have each pair of labels once.
 one_join : (joins : List Join) → AreRising joins → (j k : Join) → Contains joins j → Contains joins k → j.from ≡ k.from → j.to ≡ k.to → j ≡ k
 one_join joins rise j k a b e f = elim (cases_order a.0 b.0) [
   | inl same ↦ sym (there a.0 j a.2 a.1) ∙ ap (λ n. get_or joins n j) same ∙ move b.0 b.1 b.2
@@ -59,7 +59,7 @@ one_join joins rise j k a b e f = elim (cases_order a.0 b.0) [
   apart x y u v p q g h (inl a) = let s = ap (λ (z : Join). z.from) p in let t = ap (λ (z : Join). z.from) q in omega (arith, a, g, s, t)
   apart x y u v p q g h (inr a) = let s = ap (λ (z : Join). z.to) p in let t = ap (λ (z : Join). z.to) q in omega (arith, a.1, h, s, t)
 
-meets_turned : (c : Cutting) (floods : List Flood) (out : Spared) (p q : Place) (j : Join) → Meets (mark_among c floods) out p q j → Meets (mark_among c floods) out q p (turned j)
+meets_turned : (c : Cutting) (floods : List Flood) (out : LeftOutJoins) (p q : Place) (j : Join) → Meets (mark_among c floods) out p q j → Meets (mark_among c floods) out q p (turned j)
 meets_turned c floods out p q j m = record {
   touches = record { row_down = m.touches.row_up; row_up = m.touches.row_down; col_right = m.touches.col_left; col_left = m.touches.col_right };
   from_level = m.to_level;
@@ -81,7 +81,7 @@ after_cases p q differ = elim (cases_order p.row q.row) [
   ]
 ]
 
-meets_differ : (c : Cutting) (floods : List Flood) (out : Spared) (p q : Place) (j : Join) → Meets (mark_among c floods) out p q j → p ≢ q
+meets_differ : (c : Cutting) (floods : List Flood) (out : LeftOutJoins) (p q : Place) (j : Join) → Meets (mark_among c floods) out p q j → p ≢ q
 meets_differ c floods out p q j m e =
     let same = same_Some (record { level = m.from_level; node = j.from }) (record { level = m.to_level; node = j.to }) (sym m.from_is ∙ ap (mark_among c floods) e ∙ m.to_is) in
     m.different (ap (λ (z : CellLabel). z.node) same)
@@ -97,7 +97,7 @@ fit_labels t c tile f h below cuts flood = labels_inside t c tile f.bounds f.lev
 })
 
 -- No join is left out.
-abbrev pub all_joined : Spared
+abbrev pub all_joined : LeftOutJoins
 all_joined = record { sources = []; bypassed = false }
 
 none_are_sources : (a b : ℕ) → are_both_sources [] a b ≡ false
@@ -117,7 +117,7 @@ module _ (t : Terrain) (c : Cutting) (floods : List Flood) (are : AreFloods t c 
   mark_data p m x e = level_has_data t c floods are.lawful are p m.level (marked_within c floods p m are.lawful fit e) x.level_is
 
   -- Cells that meet are a pass by number.
-  meets_number : (out : Spared) (p q : Place) (j : Join) → Meets (mark_among c floods) out p q j → IsNumberPass t c floods j.from j.to j.height
+  meets_number : (out : LeftOutJoins) (p q : Place) (j : Join) → Meets (mark_among c floods) out p q j → IsNumberPass t c floods j.from j.to j.height
   meets_number out p q j m =
       let x = numbered c floods p _ lawful m.from_is in
       let y = numbered c floods q _ lawful m.to_is in
@@ -133,7 +133,7 @@ module _ (t : Terrain) (c : Cutting) (floods : List Flood) (are : AreFloods t c 
       }
 
   -- A pass by number is two cells that meet, unless both labels are sources.
-  number_meets : (out : Spared) (a b : ℕ) (h : ℤ) → a ≢ b → are_both_sources out.sources a b ≡ false → (x : IsNumberPass t c floods a b h) → Meets (mark_among c floods) out x.from x.to (record { from = a; to = b; height = h })
+  number_meets : (out : LeftOutJoins) (a b : ℕ) (h : ℤ) → a ≢ b → are_both_sources out.sources a b ≡ false → (x : IsNumberPass t c floods a b h) → Meets (mark_among c floods) out x.from x.to (record { from = a; to = b; height = h })
   number_meets out a b h differ apart x = record {
     touches = x.neighbours.touches;
     from_level = x.from_level;
@@ -146,7 +146,7 @@ module _ (t : Terrain) (c : Cutting) (floods : List Flood) (are : AreFloods t c 
   }
 
   -- Labels that meet are joined as low, in one order or the other.
-  number_cover : (out : Spared) (joins : List Join) → AreGathered c floods out joins → (a b : ℕ) (h : ℤ) → a ≢ b → are_both_sources out.sources a b ≡ false → (x : IsNumberPass t c floods a b h) → ((out.bypassed ≡ true) × (IsBypassed (mark_among c floods) x.from x.to ⊎ IsBypassed (mark_among c floods) x.to x.from)) ⊎ ((low : ℤ) × IsJoinOf joins a b low × (low ≤ℤ h))
+  number_cover : (out : LeftOutJoins) (joins : List Join) → AreGathered c floods out joins → (a b : ℕ) (h : ℤ) → a ≢ b → are_both_sources out.sources a b ≡ false → (x : IsNumberPass t c floods a b h) → ((out.bypassed ≡ true) × (IsBypassed (mark_among c floods) x.from x.to ⊎ IsBypassed (mark_among c floods) x.to x.from)) ⊎ ((low : ℤ) × IsJoinOf joins a b low × (low ≤ℤ h))
   number_cover out joins s a b h differ apart x =
       let m = number_meets out a b h differ apart x in
       elim (after_cases x.from x.to x.neighbours.different) [
@@ -175,16 +175,16 @@ module _ (t : Terrain) (c : Cutting) (floods : List Flood) (are : AreFloods t c 
   }
 
   -- Each join is a pass by number.
-  joins_pass : (out : Spared) (joins : List Join) → AreGathered c floods out joins → (j : Join) → Contains joins j → IsNumberPass t c floods j.from j.to j.height
+  joins_pass : (out : LeftOutJoins) (joins : List Join) → AreGathered c floods out joins → (j : Join) → Contains joins j → IsNumberPass t c floods j.from j.to j.height
   joins_pass out joins s j there = let m = s.only j there in meets_number out m.0 m.1 j m.3
 
-  pub joins_below : (out : Spared) (joins : List Join) → AreGathered c floods out joins → All (λ j. (j.from < length (places_of floods)) × (j.to < length (places_of floods))) joins
+  pub joins_below : (out : LeftOutJoins) (joins : List Join) → AreGathered c floods out joins → All (λ j. (j.from < length (places_of floods)) × (j.to < length (places_of floods))) joins
   joins_below out joins s = all_by_contains (λ (j : Join). (j.from < length (places_of floods)) × (j.to < length (places_of floods))) joins (λ j there.
       let x = joins_pass out joins s j there in
       (number_below c floods x.from _ lawful x.from_is, number_below c floods x.to _ lawful x.to_is))
 
   -- The spill graph by number.
-  pub is_number_graph : (out : Spared) (sources : List (Option ℤ)) (joins : List Join) (ways : List (List Spill)) → AreGathered c floods out joins → out.sources ≡ sources → sources ≡ ends_of floods → length ways ≡ length sources → HasWaysOf joins ways → IsNumberGraph t c floods ways sources
+  pub is_number_graph : (out : LeftOutJoins) (sources : List (Option ℤ)) (joins : List Join) (ways : List (List Spill)) → AreGathered c floods out joins → out.sources ≡ sources → sources ≡ ends_of floods → length ways ≡ length sources → HasWaysOf joins ways → IsNumberGraph t c floods ways sources
   is_number_graph out sources joins ways s out_is is size has = record {
     count = size ∙ ap length is ∙ ends_length t c floods are;
     ends = is;

@@ -1,4 +1,4 @@
--- The joins inside a tile, with labels counted from the tile's first number.
+-- The joins inside a tile, with the number of the first entry of its table added to their labels.
 use Rattle.std.proofs.Common.{◌≡◌, ℕ, ◌+◌, ◌<◌, ◌≤◌, ◌⊎◌, ◌&&◌, inl, inr, Bool, ℤ, List, ◌++◌, length, get_or, map, Option, None, Some, is_some, ◌∙◌, sym, ap, subst, arith}
 use Rattle.std.specs.Prelude.{slice_get, option_map}
 use Rattle.std.specs.List.{All, Contains}
@@ -17,7 +17,7 @@ use Rattle.tiles.specs.Cutting.{Cutting, IsInBounds, IsInTile, bounds_of, tile_o
 use Rattle.tiles.proofs.Cut.{in_bounds, in_tile}
 use Rattle.cell_floods.specs.TileFlood.{Flood}
 use Rattle.fill.specs.Numbers.{first_of}
-use Rattle.fill.specs.Gathering.{Adds, IsInnerOf, IsOutside, IsSpared, Meets, are_both_sources, mark_among, mark_in, shifted, spared_in, spared_of}
+use Rattle.fill.specs.Gathering.{Adds, IsInnerOf, IsOutside, IsLeftOut, Meets, are_both_sources, mark_among, mark_in, shifted, left_out_in, left_out_of}
 use Rattle.fill.specs.declared.spills.Join.{Join}
 use Rattle.fill.specs.declared.marks.CellLabel.{CellLabel}
 use Rattle.fill.proofs.Adding.{adds_as, adds_then, covered_itself, no_join}
@@ -57,16 +57,16 @@ module _ (t : Terrain) (c : Cutting) (floods : List Flood) (are : AreFloods t c 
   mark_from : (p : Place) (m : CellLabel) → IsInTile c tile p → mark_among c floods p ≡ Some m → (n : CellLabel) × (mark_in 0 f p ≡ Some n) × (shift first n ≡ m)
   mark_from p m inside is = shift_back first (mark_in 0 f p) m (sym (mark_there p inside) ∙ is)
 
-  settled_there : (a b : ℕ) → a < length f.table.places → b < length f.table.places → are_both_sources (spared_of spare floods).sources (first + a) (first + b) ≡ are_both_sources (spared_in spare f).sources a b
+  settled_there : (a b : ℕ) → a < length f.table.places → b < length f.table.places → are_both_sources (left_out_of spare floods).sources (first + a) (first + b) ≡ are_both_sources (left_out_in spare f).sources a b
   settled_there a b a_low b_low = elim (cases_Bool spare) [
     | inl holds ↦
-        let all : (k : ℕ) → k < length f.table.places → get_or (spared_of spare floods).sources (first + k) None ≡ get_or (spared_in spare f).sources k None = λ k low.
+        let all : (k : ℕ) → k < length f.table.places → get_or (left_out_of spare floods).sources (first + k) None ≡ get_or (left_out_in spare f).sources k None = λ k low.
         ap (λ (z : List (Option ℤ)). get_or z (first + k) None) (cond-true _ _ _ holds) ∙ end_at t c floods tile k f are there low ∙ ap (λ (z : List (Option ℤ)). get_or z k None) (sym (cond-true _ _ _ holds)) in
-        ap (λ o. is_some o && is_some (get_or (spared_of spare floods).sources (first + b) None)) (all a a_low) ∙ ap (λ o. is_some (get_or (spared_in spare f).sources a None) && is_some o) (all b b_low)
+        ap (λ o. is_some o && is_some (get_or (left_out_of spare floods).sources (first + b) None)) (all a a_low) ∙ ap (λ o. is_some (get_or (left_out_in spare f).sources a None) && is_some o) (all b b_low)
     | inr fails ↦ ap (λ (z : List (Option ℤ)). are_both_sources z (first + a) (first + b)) (cond-false _ _ _ fails) ∙ ap (λ (z : List (Option ℤ)). are_both_sources z a b) (sym (cond-false _ _ _ fails))
   ]
 
-  meets_there : (p q : Place) (j : Join) → Meets (mark_in 0 f) (spared_in spare f) p q j → Meets (mark_among c floods) (spared_of spare floods) p q (shifted first j)
+  meets_there : (p q : Place) (j : Join) → Meets (mark_in 0 f) (left_out_in spare f) p q j → Meets (mark_among c floods) (left_out_of spare floods) p q (shifted first j)
   meets_there p q j m = record {
     touches = m.touches;
     from_level = m.from_level;
@@ -78,7 +78,7 @@ module _ (t : Terrain) (c : Cutting) (floods : List Flood) (are : AreFloods t c 
     greater = m.greater;
   }
 
-  meets_from : (p q : Place) (j : Join) → IsInTile c tile p → IsInTile c tile q → Meets (mark_among c floods) (spared_of spare floods) p q j → (k : Join) × Meets (mark_in 0 f) (spared_in spare f) p q k × (shifted first k ≡ j)
+  meets_from : (p q : Place) (j : Join) → IsInTile c tile p → IsInTile c tile q → Meets (mark_among c floods) (left_out_of spare floods) p q j → (k : Join) × Meets (mark_in 0 f) (left_out_in spare f) p q k × (shifted first k ≡ j)
   meets_from p q j p_in q_in m =
       let x = mark_from p _ p_in m.from_is in
       let y = mark_from q _ q_in m.to_is in
@@ -95,14 +95,14 @@ module _ (t : Terrain) (c : Cutting) (floods : List Flood) (are : AreFloods t c 
           from_is = x.1;
           to_is = y.1;
           different = λ e. m.different (sym x_node ∙ ap (λ n. first + n) e ∙ y_node);
-          apart = sym settled ∙ ap (λ n. are_both_sources (spared_of spare floods).sources n (first + y.0.node)) x_node ∙ ap (λ n. are_both_sources (spared_of spare floods).sources j.from n) y_node ∙ m.apart;
+          apart = sym settled ∙ ap (λ n. are_both_sources (left_out_of spare floods).sources n (first + y.0.node)) x_node ∙ ap (λ n. are_both_sources (left_out_of spare floods).sources j.from n) y_node ∙ m.apart;
           greater = ap (λ z. int_max z y.0.level) x_level ∙ ap (λ z. int_max m.from_level z) y_level ∙ m.greater;
         },
         ap (λ n. record { from = n; to = first + y.0.node; height = j.height }) x_node ∙ ap (λ n. record { from = j.from; to = n; height = j.height }) y_node,
       )
 
-  spared_there : (p q : Place) → IsSpared (mark_in 0 f) (spared_in spare f) p q → IsSpared (mark_among c floods) (spared_of spare floods) p q
-  spared_there p q s = (
+  left_out_there : (p q : Place) → IsLeftOut (mark_in 0 f) (left_out_in spare f) p q → IsLeftOut (mark_among c floods) (left_out_of spare floods) p q
+  left_out_there p q s = (
     s.0,
     record {
       middle = s.1.middle;
@@ -130,8 +130,8 @@ module _ (t : Terrain) (c : Cutting) (floods : List Flood) (are : AreFloods t c 
   ])
 
   -- The joins inside the tile have been added.
-  pub shift_adds : (inner old new : List Join) → IsInnerOf spare f inner → new ≡ old ++ map (shifted first) inner → Adds (mark_among c floods) (spared_of spare floods) (λ p q. IsInTile c tile p × IsInTile c tile q) old new
-  shift_adds inner old new s is = subst (Adds (mark_among c floods) (spared_of spare floods) (λ p q. IsInTile c tile p × IsInTile c tile q) old) (sym is) (record {
+  pub shift_adds : (inner old new : List Join) → IsInnerOf spare f inner → new ≡ old ++ map (shifted first) inner → Adds (mark_among c floods) (left_out_of spare floods) (λ p q. IsInTile c tile p × IsInTile c tile q) old new
+  shift_adds inner old new s is = subst (Adds (mark_among c floods) (left_out_of spare floods) (λ p q. IsInTile c tile p × IsInTile c tile q) old) (sym is) (record {
     kept = λ j h. covered_itself _ j (Contains-append_left old (map (shifted first) inner) j h);
     only = λ j h. elim (Contains-append_cases old (map (shifted first) inner) j h) [
       | inl was ↦ inl was
@@ -139,13 +139,13 @@ module _ (t : Terrain) (c : Cutting) (floods : List Flood) (are : AreFloods t c 
           let k = contains_map_back (shifted first) inner j made in
           elim (s.only k.0 k.1) [
             | inl none ↦ absurd (no_join k.0 none)
-            | inr m ↦ inr (m.0, m.1, (of_tile m.0 (mark_inside f m.0 _ m.3.from_is), of_tile m.1 (mark_inside f m.1 _ m.3.to_is)), subst (Meets (mark_among c floods) (spared_of spare floods) m.0 m.1) k.2 (meets_there m.0 m.1 k.0 m.3))
+            | inr m ↦ inr (m.0, m.1, (of_tile m.0 (mark_inside f m.0 _ m.3.from_is), of_tile m.1 (mark_inside f m.1 _ m.3.to_is)), subst (Meets (mark_among c floods) (left_out_of spare floods) m.0 m.1) k.2 (meets_there m.0 m.1 k.0 m.3))
           ]
     ];
     every = λ p q j at after m.
         let k = meets_from p q j at.0 at.1 m in
         elim (s.every p q k.0 (of_bounds p at.0) after k.1) [
-          | inl spared ↦ inl (spared_there p q spared)
+          | inl spared ↦ inl (left_out_there p q spared)
           | inr low ↦ inr (
             shifted first low.0,
             Contains-append_right old (map (shifted first) inner) (shifted first low.0) (contains_map (shifted first) inner low.0 low.1),
@@ -157,11 +157,11 @@ module _ (t : Terrain) (c : Cutting) (floods : List Flood) (are : AreFloods t c 
   })
 
   -- The joins inside the tile and those over its rim have been added.
-  pub tile_adds : (old now new : List Join) → Adds (mark_among c floods) (spared_of spare floods) (λ p q. IsInTile c tile p × IsInTile c tile q) old now → Adds (mark_among c floods) (spared_of spare floods) (λ p q. IsInTile c tile p × IsOutside c tile q) now new → Adds (mark_among c floods) (spared_of spare floods) (λ p q. IsInTile c tile p) old new
+  pub tile_adds : (old now new : List Join) → Adds (mark_among c floods) (left_out_of spare floods) (λ p q. IsInTile c tile p × IsInTile c tile q) old now → Adds (mark_among c floods) (left_out_of spare floods) (λ p q. IsInTile c tile p × IsOutside c tile q) now new → Adds (mark_among c floods) (left_out_of spare floods) (λ p q. IsInTile c tile p) old new
   tile_adds old now new inside outside =
-      adds_as (mark_among c floods) (spared_of spare floods) (λ p q. (IsInTile c tile p × IsInTile c tile q) ⊎ (IsInTile c tile p × IsOutside c tile q)) (λ p q. IsInTile c tile p) old new
+      adds_as (mark_among c floods) (left_out_of spare floods) (λ p q. (IsInTile c tile p × IsInTile c tile q) ⊎ (IsInTile c tile p × IsOutside c tile q)) (λ p q. IsInTile c tile p) old new
       (λ p q at. elim at [ inl both ↦ both.0 | inr over ↦ over.0 ])
       (λ p q touch after m m_is n n_is at.
       let within = marked_within c floods q n are.lawful (fit_of t c floods are) n_is in
       elim (cases_eq (tile_of_place c q) tile) [ inl same ↦ inl (at, (within, same)) | inr other ↦ inr (at, λ i. other i.1) ])
-      (adds_then (mark_among c floods) (spared_of spare floods) (λ p q. IsInTile c tile p × IsInTile c tile q) (λ p q. IsInTile c tile p × IsOutside c tile q) (λ p q. (IsInTile c tile p × IsInTile c tile q) ⊎ (IsInTile c tile p × IsOutside c tile q)) old now new (λ p q. (λ at. at, λ at. at)) inside outside)
+      (adds_then (mark_among c floods) (left_out_of spare floods) (λ p q. IsInTile c tile p × IsInTile c tile q) (λ p q. IsInTile c tile p × IsOutside c tile q) (λ p q. (IsInTile c tile p × IsInTile c tile q) ⊎ (IsInTile c tile p × IsOutside c tile q)) old now new (λ p q. (λ at. at, λ at. at)) inside outside)

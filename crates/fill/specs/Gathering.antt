@@ -35,7 +35,7 @@ mark_of node (Some level) (Some label) = Some (record { level = level; node = no
 mark_of node (Some level) None = None
 mark_of node None label = None
 
--- The mark of the cell at an index of its tile. The tile's first label has number `first`.
+-- The mark of the cell at an index of its tile. The first entry of its table has number `first`.
 abbrev pub mark_with : ℕ → Flood → ℕ → Option CellLabel
 mark_with first f index = mark_of (first + slice_index_or f.table.indexes index 0)
     (slice_index_or f.levels index None) (slice_index_or f.labels index None)
@@ -55,7 +55,7 @@ abbrev pub Marks : Type 0
 Marks = Place → Option CellLabel
 
 -- The joins to leave out: those of two sources and, if `bypassed`, those of bypassed cells.
-pub record Spared : Type 0 where
+pub record LeftOutJoins : Type 0 where
   pub sources : List (Option ℤ)
   pub bypassed : Bool
 
@@ -85,7 +85,7 @@ are_both_sources sources a b =
 
 -- Two cells that touch have the two labels of the join, which differ and are not both sources. The
 -- height of the join is the greater of the levels of the cells.
-pub record Meets (marks : Marks) (out : Spared) (p q : Place) (j : Join) : Type 0 where
+pub record Meets (marks : Marks) (out : LeftOutJoins) (p q : Place) (j : Join) : Type 0 where
   pub touches : Touches p q
   pub from_level : ℤ
   pub to_level : ℤ
@@ -96,14 +96,14 @@ pub record Meets (marks : Marks) (out : Spared) (p q : Place) (j : Join) : Type 
   pub greater : int_max from_level to_level ≡ j.height
 
 -- A pair of these places gives the join.
-abbrev pub IsMeetingAt : Marks → Spared → (Place → Place → Type 0) → Join → Type 0
+abbrev pub IsMeetingAt : Marks → LeftOutJoins → (Place → Place → Type 0) → Join → Type 0
 IsMeetingAt marks out pairs j = (p q : Place) × pairs p q × Meets marks out p q j
 
 -- The join of two cells is left out, since a third cell bypasses it.
-abbrev pub IsSpared : Marks → Spared → Place → Place → Type 0
-IsSpared marks out p q = (out.bypassed ≡ true) × IsBypassed marks p q
+abbrev pub IsLeftOut : Marks → LeftOutJoins → Place → Place → Type 0
+IsLeftOut marks out p q = (out.bypassed ≡ true) × IsBypassed marks p q
 
--- The join of two marks: none for one label or two sources, else one.
+-- The join of two marks: none if their labels are equal or both sources, else one.
 abbrev pub joins_of : List (Option ℤ) → CellLabel → Option CellLabel → List Join
 joins_of sources from None = []
 joins_of sources from (Some to) =
@@ -111,7 +111,7 @@ joins_of sources from (Some to) =
     (if are_both_sources sources from.node to.node then []
     else (record { from = from.node; to = to.node; height = int_max from.level to.level }) ∷ [])
 
--- A listed join has the same labels and is at most as high.
+-- A listed join has the labels of `j` and is at most as high.
 abbrev pub Covered : List Join → Join → Type 0
 Covered joins j =
     (k : Join) × Contains joins k × (k.from ≡ j.from) × (k.to ≡ j.to) × (k.height ≤ℤ j.height)
@@ -141,25 +141,26 @@ AreEqualAfter xs i width =
     All (λ k. slice_index_or xs k 0 ≡ slice_index_or xs i 0) (cells_after width i)
 
 -- Bypassed joins are left out, and the middle mark is no higher than one of the other two.
-abbrev pub IsLowBetween : Spared → CellLabel → Option CellLabel → Option CellLabel → Type 0
+abbrev pub IsLowBetween : LeftOutJoins → CellLabel → Option CellLabel → Option CellLabel → Type 0
 IsLowBetween out from between to =
     (out.bypassed ≡ true) × (third end : CellLabel) × (between ≡ Some third) × (to ≡ Some end)
     × (third.level ≤ℤ int_max from.level end.level)
 
 -- The join of a cell with the one at an index has been added, if there is one.
-abbrev pub AddsNear : Flood → Spared → CellLabel → ℕ → List Join → List Join → Type 0
+abbrev pub AddsNear : Flood → LeftOutJoins → CellLabel → ℕ → List Join → List Join → Type 0
 AddsNear f out from near old new =
     AddsCovered old (joins_of out.sources from (mark_with 0 f near)) new
 
 -- The join at a corner has been added, or a cell at one of two other indexes bypasses it.
-abbrev pub AddsCorner : Flood → Spared → CellLabel → ℕ → ℕ → ℕ → List Join → List Join → Type 0
+abbrev pub AddsCorner : Flood → LeftOutJoins → CellLabel → ℕ → ℕ → ℕ → List Join → List Join →
+    Type 0
 AddsCorner f out from below beside near old new =
     ((IsLowBetween out from (mark_with 0 f below) (mark_with 0 f near)
     ⊎ IsLowBetween out from (mark_with 0 f beside) (mark_with 0 f near)) × (new ≡ old))
     ⊎ AddsNear f out from near old new
 
 -- The joins of a cell with its four neighbours after it have been added.
-pub record AddsAfter (f : Flood) (out : Spared) (from : CellLabel) (i width : ℕ)
+pub record AddsAfter (f : Flood) (out : LeftOutJoins) (from : CellLabel) (i width : ℕ)
     (old new : List Join) : Type 0 where
   pub after_first : List Join
   pub after_second : List Join
@@ -174,7 +175,7 @@ pub record AddsAfter (f : Flood) (out : Spared) (from : CellLabel) (i width : �
 abbrev pub IsAfter : Place → Place → Type 0
 IsAfter p q = (p.row < q.row) ⊎ ((p.row ≡ q.row) × (p.col < q.col))
 
--- The first place is `p`, and the second is wanted and lies on this way from it.
+-- The first place is `p`, and the second is wanted and lies in this direction from it.
 abbrev pub IsPairOn : ℕ → Place → (Place → Bool) → Place → Place → Type 0
 IsPairOn way p wanted q r = (q ≡ p) × (place_on way p ≡ Some r) × (wanted r ≡ true)
 
@@ -197,12 +198,12 @@ IsTileWithRow c tile row other = other ≡ row / c.side * across c + tile % acro
 
 -- The joins of these pairs of places, the first before the second in row order, have been added,
 -- except those left out. Joins of the same labels may have been merged.
-pub record Adds (marks : Marks) (out : Spared) (pairs : Place → Place → Type 0)
+pub record Adds (marks : Marks) (out : LeftOutJoins) (pairs : Place → Place → Type 0)
     (old new : List Join) : Type 0 where
   pub kept : (j : Join) → Contains old j → Covered new j
   pub only : (j : Join) → Contains new j → Contains old j ⊎ IsMeetingAt marks out pairs j
   pub every : (p q : Place) (j : Join) → pairs p q → IsAfter p q → Meets marks out p q j →
-      IsSpared marks out p q ⊎ Covered new j
+      IsLeftOut marks out p q ⊎ Covered new j
 
 -- The join from its other label.
 abbrev pub turned : Join → Join
@@ -212,38 +213,39 @@ turned j = record { from = j.to; to = j.from; height = j.height }
 abbrev pub IsBefore : Join → Join → Type 0
 IsBefore j k = (j.from < k.from) ⊎ ((j.from ≡ k.from) × (j.to < k.to))
 
--- The joins are in the order of their labels, each two labels at most once.
+-- The joins are in the order of their labels, each pair of labels at most once.
 abbrev pub AreRising : List Join → Type 0
 AreRising joins = (m n : ℕ) (d : Join) → m < n → n < length joins →
     IsBefore (slice_index_or joins m d) (slice_index_or joins n d)
 
--- The lowest join of each two labels, in the order of the labels.
+-- The lowest join of each pair of labels, in the order of the labels.
 pub record AreLowest (joins lowest : List Join) : Type 0 where
   pub only : (j : Join) → Contains lowest j → Contains joins j
   pub every : (j : Join) → Contains joins j → Covered lowest j
   pub rising : AreRising lowest
 
 -- The joins of all cells with the cells after them, except those left out.
-pub record AreGathered (c : Cutting) (floods : List Flood) (out : Spared)
+pub record AreGathered (c : Cutting) (floods : List Flood) (out : LeftOutJoins)
     (joins : List Join) : Type 0 where
   pub only : (j : Join) → Contains joins j →
       IsMeetingAt (mark_among c floods) out (λ p q. IsWithin c p) j
   pub every : (p q : Place) (j : Join) → IsWithin c p → IsAfter p q →
       Meets (mark_among c floods) out p q j →
-      IsSpared (mark_among c floods) out p q ⊎ Covered joins j
+      IsLeftOut (mark_among c floods) out p q ⊎ Covered joins j
 
 -- The joins to leave out over all tiles: none, or those that lower no level.
-abbrev pub spared_of : Bool → List Flood → Spared
-spared_of spare floods = record { sources = if spare then ends_of floods else []; bypassed = spare }
+abbrev pub left_out_of : Bool → List Flood → LeftOutJoins
+left_out_of spare floods =
+    record { sources = if spare then ends_of floods else []; bypassed = spare }
 
 -- The joins to leave out inside a tile: none, or those that lower no level.
-abbrev pub spared_in : Bool → Flood → Spared
-spared_in spare f = record { sources = if spare then f.ends else []; bypassed = spare }
+abbrev pub left_out_in : Bool → Flood → LeftOutJoins
+left_out_in spare f = record { sources = if spare then f.ends else []; bypassed = spare }
 
--- The joins inside a tile, with labels counted from 0.
+-- The joins inside a tile, by the indexes of their labels in its table.
 abbrev pub IsInnerOf : Bool → Flood → List Join → Type 0
 IsInnerOf spare f joins =
-    Adds (mark_in 0 f) (spared_in spare f) (λ p q. IsInBounds f.bounds p) [] joins
+    Adds (mark_in 0 f) (left_out_in spare f) (λ p q. IsInBounds f.bounds p) [] joins
 
 -- The joins inside each tile.
 pub record AreInner (floods : List Flood) (spare : Bool)
@@ -252,7 +254,7 @@ pub record AreInner (floods : List Flood) (spare : Bool)
   pub each : (tile : ℕ) (f : Flood) (joins : Vec Join Global) → slice_get floods tile ≡ Some f →
       slice_get inner tile ≡ Some joins → IsInnerOf spare f joins.items
 
--- The join with its labels counted from this number.
+-- The join with `first` added to its labels.
 abbrev pub shifted : ℕ → Join → Join
 shifted first j = record { from = first + j.from; to = first + j.to; height = j.height }
 

@@ -1,4 +1,4 @@
--- The labels of all tiles by number, counted tile by tile.
+-- The labels of all tiles by number: the entries of their tables, counted tile by tile.
 -- Private.
 use Rattle.std.specs.Prelude.{◌≡◌, ℕ, ◌+◌, ◌<◌, ◌≤◌, ℤ, List, map, take, length, Option, None, Some, slice_get, slice_index_or}
 use Rattle.std.specs.List.{flat_map}
@@ -14,11 +14,11 @@ places_of floods = flat_map (λ f. f.table.places) floods
 abbrev pub ends_of : List Flood → List (Option ℤ)
 ends_of floods = flat_map (λ f. f.ends) floods
 
--- The number of a tile's first label.
+-- The number of the first entry of a tile's table.
 abbrev pub first_of : List Flood → ℕ → ℕ
 first_of floods tile = length (places_of (take tile floods))
 
--- The number of each tile's first label. All numbers fit in 32 bits.
+-- The number of the first entry of each tile's table. All numbers fit in 32 bits.
 pub record AreFirsts (floods : List Flood) (firsts : List ℕ) : Type 0 where
   pub size : length firsts ≡ length floods
   pub each : (tile : ℕ) → tile < length floods → slice_index_or firsts tile 0 ≡ first_of floods tile

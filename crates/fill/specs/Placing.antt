@@ -13,7 +13,7 @@ join_at nodes j = record {
   height = j.height;
 }
 
--- That join, unless both labels are one place.
+-- The join of the places of two labels, unless they are one place.
 abbrev pub placed_joins_of : List ℕ → Join → List Join
 placed_joins_of nodes j =
     if (join_at nodes j).from == (join_at nodes j).to then [] else join_at nodes j ∷ []

@@ -19,7 +19,7 @@ abbrev pub raised_among : Cutting → List Flood → List (Option ℤ) → Place
 raised_among c floods levels p =
     greater_of (level_among c floods p) (spill_with levels (mark_among c floods p))
 
--- The level of the label at an index of a tile. The first label has number `first`.
+-- The level of the label at an index of a tile's table. The first entry has number `first`.
 abbrev pub spill_at : List (Option ℤ) → ℕ → List (Option Place) → ℕ → Option ℤ
 spill_at levels first places k =
     option_and_then (λ _. slice_index_or levels (first + k) None) (slice_index_or places k None)

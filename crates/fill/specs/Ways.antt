@@ -17,9 +17,9 @@ link_from label j b =
 
 -- The link of the join at an index.
 abbrev pub link_at : List Join → List PreviousJoins → ℕ → ℕ → Link
-link_at joins befores label i =
+link_at joins previous label i =
     link_from label (slice_index_or joins i (record { from = 0; to = 0; height = pos 0 }))
-    (slice_index_or befores i (record { from = 0; to = 0 }))
+    (slice_index_or previous i (record { from = 0; to = 0 }))
 
 -- The ways from join `at` on, by the links of a label.
 abbrev pub chain : (ℕ → Link) → ℕ → ℕ → List Spill
@@ -30,16 +30,16 @@ chain link (suc count) at =
 
 -- The ways from each label.
 abbrev pub ways_by : List ℕ → List Join → List PreviousJoins → List (List Spill)
-ways_by lasts joins befores =
-    map (λ label. chain (link_at joins befores label) (length befores)
+ways_by lasts joins previous =
+    map (λ label. chain (link_at joins previous label) (length previous)
     (slice_index_or lasts label 0)) (range_with_len 0 (length lasts))
 
 -- Each join is linked to earlier joins.
 pub record AreLinked (lasts : List ℕ) (joins : List Join)
-    (befores : List PreviousJoins) : Type 0 where
-  pub fit : length befores ≤ length joins
-  pub begin : (label : ℕ) → slice_index_or lasts label 0 ≤ length befores
-  pub before : (label i : ℕ) → i < length befores → (link_at joins befores label i).before ≤ i
+    (previous : List PreviousJoins) : Type 0 where
+  pub fit : length previous ≤ length joins
+  pub begin : (label : ℕ) → slice_index_or lasts label 0 ≤ length previous
+  pub before : (label i : ℕ) → i < length previous → (link_at joins previous label i).before ≤ i
 
 -- The list has a way.
 abbrev pub is_some_way : List Spill → Bool

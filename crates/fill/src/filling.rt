@@ -177,7 +177,7 @@ fn filled_cells<R: Threads + Wait + Sync, G: Gate + Sync>(
     };
     drop(tiles);
     drop(inner);
-    let cells = runner.made(RaisedTiles {
+    let cells = runner.map_tiles(RaisedTiles {
         tiling: *tiling,
         floods,
         firsts,

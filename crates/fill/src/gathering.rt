@@ -3,7 +3,7 @@ ghost use Rattle.std.specs.Prelude.{◌≡◌, Bool, ◌+◌, ◌<◌, ◌≤◌
 ghost use Rattle.std.specs.List.{All};
 ghost use Rattle.terrain.specs.Raster.{Terrain};
 ghost use Rattle.fill.specs.Spills.{AreFloods};
-ghost use Rattle.fill.specs.Gathering.{AreGathered, AreInner, shifted, spared_of};
+ghost use Rattle.fill.specs.Gathering.{AreGathered, AreInner, shifted, left_out_of};
 
 use crate::left_out::LeftOut;
 use crate::marks::NumberedFloods;
@@ -11,7 +11,7 @@ use crate::rim_joins::push_rim_joins;
 use crate::spills::Join;
 use std::alloc::{AllocError, Global};
 
-/// Adds joins inside a tile, and renumbers them from `first`, its first label.
+/// Adds the joins inside a tile, with `first` added to the indexes of their labels.
 fn push_shifted(joins: &mut Vec<Join>, first: u32, inner: &[Join]) -> Result<(), AllocError>
     requires { All (λ j. (first + j.from ≤ 4294967295) × (first + j.to ≤ 4294967295)) inner.now }
     ensures { OnOk result (joins.new.items ≡ joins.old.items ++ map (shifted first) inner.now) }
@@ -34,7 +34,7 @@ pub(crate) fn graph_joins(
     inner: &[Vec<Join>],
 ) -> Result<Vec<Join>, AllocError>
     requires floods { (t : Terrain) × AreFloods t tiles.now.tiling.now tiles.now.floods.now }
-    requires inner { (spare : Bool) × (left_out.now ≡ spared_of spare tiles.now.floods.now)
+    requires inner { (spare : Bool) × (left_out.now ≡ left_out_of spare tiles.now.floods.now)
         × AreInner tiles.now.floods.now spare inner.now }
     ensures { IfOk result (λ v.
         AreGathered tiles.now.tiling.now tiles.now.floods.now left_out.now v.items) }

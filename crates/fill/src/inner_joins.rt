@@ -1,13 +1,13 @@
 //! The joins inside a tile, by the indexes of its labels: [`inner_joins`].
 //!
-//! Looks at each two neighbouring cells once, from the first of them in row order.
+//! Looks at each pair of neighbouring cells once, from the first in row order.
 ghost use Rattle.std.specs.Prelude.{◌≡◌, ◌+◌, ◌<◌, ◌≤◌, [], Some, slice_index_or, MatchOption, IfOk, OnOk, length};
 ghost use Rattle.std.specs.Bool.{OnTrue};
 ghost use Rattle.tiles.specs.Cutting.{IsInBounds};
 ghost use Rattle.fill.specs.Gathering.{IsInner, AreEqualAfter, Adds, AddsAfter, AddsCorner, AddsNear, mark_in, mark_with};
 
 use crate::join_table::JoinTable;
-use crate::left_out::{LeftOut, is_spared, join_of};
+use crate::left_out::{LeftOut, is_left_out, join_of};
 use crate::marks::{CellLabel, mark_in, mark_of_entry};
 use crate::rim_cells::{JoinList, KnownCells, push_join, push_rim_cells};
 use crate::spills::Join;
@@ -47,7 +47,8 @@ fn has_same_label(flood: &TileFlood, first: usize, second: usize) -> bool
     indexes[first] == indexes[second]
 }
 
-/// Adds the join of the cells at `index` and `near`, if their labels differ.
+/// Adds the join of the cells at `index` and `near`, if there is one.
+/// Compares the labels first: that is cheaper than making a mark.
 #[inline(always)]
 fn push_near(
     table: &mut JoinTable,
@@ -68,7 +69,7 @@ fn push_near(
     push_join(table, left_out.sources, from, mark_of_entry(flood, near))
 }
 
-/// Adds the join of two cells that touch at a corner, if their labels differ.
+/// Adds the join of two cells that touch at a corner, if there is one.
 /// Leaves it out if a path by one of the two cells between them is as low.
 #[inline(always)]
 fn push_corner(
@@ -96,10 +97,10 @@ fn push_corner(
     let Some(join) = join_of(left_out.sources, from, to) else {
         return Ok(());
     };
-    if is_spared(left_out, from, mark_of_entry(flood, below), to) {
+    if is_left_out(left_out, from, mark_of_entry(flood, below), to) {
         return Ok(());
     }
-    if is_spared(left_out, from, mark_of_entry(flood, beside), to) {
+    if is_left_out(left_out, from, mark_of_entry(flood, beside), to) {
         return Ok(());
     }
     table.add(join)
@@ -148,7 +149,7 @@ fn are_equal_after(labels: &[u32], index: usize, width: usize) -> bool
 }
 
 /// Adds the joins of a cell with its four later neighbours, all in the tile.
-/// Most cells have one label with the four, and so no join.
+/// Most cells have the label of all four, and so no join.
 #[inline(always)]
 fn push_inner_cell(
     table: &mut JoinTable,

@@ -1,4 +1,4 @@
-//! The joins of one tile: [`JoinTable`], which seldom has two of the same labels.
+//! The joins of one tile, seldom two for one pair of labels: [`JoinTable`].
 ghost use Rattle.std.specs.Prelude.{◌≡◌, ◌<◌, ◌≤◌, ◌∷◌, [], IfOk, OnOk, length};
 ghost use Rattle.std.specs.Bool.{OnTrue, OnFalse};
 ghost use Rattle.fill.specs.Gathering.{AddsCovered};
@@ -25,7 +25,8 @@ pub(crate) struct JoinTable {
     alloc: Global,
     joins: Vec<Join>,
     /// The index of a join in each slot, and `usize::MAX` in a free slot.
-    /// Probing is linear: no free slot is between a join's own slot and the slot that it is in.
+    /// The number of slots is a power of two. Probing is linear: no free slot is between a join's
+    /// own slot and the slot that it is in.
     slots: Vec<usize>,
     ghost some: { 0 < length slots.items },
 }
@@ -125,6 +126,7 @@ impl JoinTable {
     fn grow(&mut self) -> Result<(), AllocError>
         ensures { OnOk result (self.new ≡ self.old) }
     {
+        // Never saturates, but a plain product needs a bound from the prover.
         let count = self.slots.len().saturating_mul(2);
         let mut slots = vec![in self.alloc; usize::MAX; count]?;
         fill_slots(&self.joins, &mut slots);
@@ -143,7 +145,7 @@ impl JoinTable {
         self.grow()
     }
 
-    /// Returns the joins, and frees spare capacity, since they live until the graph.
+    /// Returns the joins without spare capacity: they live until the graph is made.
     pub(crate) fn into_joins(self) -> Vec<Join>
         ensures { result.items ≡ self }
     {

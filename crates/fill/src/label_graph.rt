@@ -1,4 +1,4 @@
-//! The spill graph by the numbers of its labels: [`LabelGraph`], which `filled` uses.
+//! The spill graph by the numbers of labels: [`LabelGraph`], which `filled` uses.
 ghost use Rattle.std.specs.Prelude.{◌≡◌, ◌<◌, ◌≤◌, IfOk, length, slice_index_or, None};
 ghost use Rattle.std.specs.List.{All};
 ghost use Rattle.fill.specs.LabelNet.{AreNumberLevels, HasWaysOf};
@@ -12,7 +12,7 @@ use std::marker::Model;
 use terrain::{Cell, Height, NoMemory};
 
 /// The spill graph: the labels of all tiles as a net, by their numbers.
-/// The sources are the end cells that have a join.
+/// Its flood starts at the end cells that have a join.
 #[derive(Drop)]
 pub(crate) struct LabelGraph {
     sources: Vec<Cell>,
@@ -76,7 +76,7 @@ impl Net for LabelGraph {
     }
 }
 
-/// The level of each label in the spill graph, by number.
+/// The least crest from each label to an end cell, by the labels' numbers.
 /// An end cell without a join has its own height as level.
 #[derive(Drop)]
 pub(crate) struct LabelLevels {
@@ -109,7 +109,7 @@ impl LabelLevels {
 }
 
 impl LabelGraph {
-    /// Makes the graph of these joins; `sources` has the heights of end cells.
+    /// Makes the graph of these joins; `sources` has end cells' heights by number.
     pub(crate) fn of_joins(
         alloc: Global,
         sources: Vec<Cell>,

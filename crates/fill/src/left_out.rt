@@ -14,14 +14,15 @@ use terrain::Cell;
 /// touch at a corner, where a path by a third cell is as low.
 #[derive(Drop)]
 pub(crate) struct LeftOut<'a> {
+    /// The heights of end cells by label number. Other labels have no data or no entry.
     pub(crate) sources: &'a [Cell],
     pub(crate) bypassed: bool,
 }
 
 impl<'a> Model for LeftOut<'a> {
-    ghost use Rattle.fill.specs.Gathering.{Spared};
+    ghost use Rattle.fill.specs.Gathering.{LeftOutJoins};
 
-    ghost Value = { Spared };
+    ghost Value = { LeftOutJoins };
 
     ghost view = { λ l. record { sources = l.sources.now; bypassed = l.bypassed } };
 }
@@ -57,7 +58,7 @@ fn are_both_sources(sources: &[Cell], from: u32, to: u32) -> bool
     is_source(sources, from) && is_source(sources, to)
 }
 
-/// Returns the join of two marks, unless they have one label or two sources.
+/// Returns the join of two marks, unless their labels are equal or both sources.
 #[inline(always)]
 pub(crate) fn join_of(sources: &[Cell], from: CellLabel, to: Option<CellLabel>) -> Option<Join>
     ensures { joins_of sources.now from to ≡ option_to_list result }
@@ -77,9 +78,10 @@ pub(crate) fn join_of(sources: &[Cell], from: CellLabel, to: Option<CellLabel>) 
 }
 
 /// Returns whether to leave out the join of two cells that touch at a corner.
-/// The cell between them is no higher than one of them, so its joins with both are as low.
+/// With `bypassed`, true if the cell between is no higher than one of them: its joins with both are
+/// as low.
 #[inline(always)]
-pub(crate) fn is_spared(
+pub(crate) fn is_left_out(
     left_out: &LeftOut<'_>,
     from: CellLabel,
     between: Option<CellLabel>,

@@ -1,7 +1,8 @@
 //! Filled heights: floods of tiles, the spill graph over them, and raising.
 //!
-//! Begin with [`filled`], which runs all stages. [`SpillGraph`] and [`raise`] run single stages.
-//! The calls of `cell_floods` and `floods` that they need are exported here.
+//! Begin with [`filled`], which runs all stages. [`SpillGraph`] and [`raise`] run single stages, on
+//! the full graph; [`filled`] leaves out the joins that lower no level. The calls of `cell_floods`
+//! and `floods` that single stages need are exported here.
 //!
 //! Modules, callers first:
 //!

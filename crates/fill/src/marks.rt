@@ -1,4 +1,4 @@
-//! The level and the label of any cell, from the floods of all tiles: [`CellLabel`].
+//! The marks of cells, from the floods of all tiles: [`CellLabel`].
 ghost use Rattle.std.specs.Prelude.{◌≡◌, ◌+◌, ◌*◌, ◌<◌, ◌≤◌, length};
 ghost use Rattle.tiles.specs.Cutting.{IsCutting, IsInTile, IsWithin};
 ghost use Rattle.terrain.specs.Neighbours.{index_of};
@@ -9,7 +9,7 @@ use cell_floods::TileFlood;
 use terrain::{Height, Place};
 use tiles::Tiling;
 
-/// A cell's level, in units, and the number of its label.
+/// A cell's mark: its level, in units, and the number of its label.
 #[derive(Clone, Copy, Debug, PartialEq, Eq)]
 pub struct CellLabel {
     pub level: Height,
@@ -26,7 +26,7 @@ pub(crate) fn node_of(tiling: &Tiling, place: Place) -> u32
     place.row * tiling.cols() + place.col
 }
 
-/// The floods of all tiles, and the number of each tile's first label.
+/// The floods of all tiles, and the number of the first entry of each table.
 #[derive(Drop)]
 pub(crate) struct NumberedFloods<'a> {
     pub(crate) tiling: &'a Tiling,
@@ -36,7 +36,8 @@ pub(crate) struct NumberedFloods<'a> {
     ghost numbers: { AreFirsts floods.now firsts.now },
 }
 
-/// Returns the mark of the cell at an index, with labels counted from 0.
+/// Returns the mark of the cell at an index; `None` without data.
+/// The number of its label is the index in the tile's table.
 #[inline(always)]
 pub(crate) fn mark_of_entry(flood: &TileFlood, index: usize) -> Option<CellLabel>
     requires { index < length flood.now.labels }
@@ -49,8 +50,8 @@ pub(crate) fn mark_of_entry(flood: &TileFlood, index: usize) -> Option<CellLabel
     })
 }
 
-/// Returns the mark of a place, with labels counted from 0.
-/// `None` outside the tile and without data.
+/// Returns the mark of a place; `None` outside the tile and without data.
+/// The number of its label is the index in the tile's table.
 #[inline(always)]
 pub(crate) fn mark_in(flood: &TileFlood, place: Place) -> Option<CellLabel>
     ensures { result ≡ mark_in 0 flood.now place }

@@ -1,4 +1,7 @@
-//! The numbers of all labels, counted tile by tile.
+//! The numbers of labels over all tiles, and the heights of end cells by number.
+//!
+//! Numbers count the entries of the tiles' tables of labels, tile by tile. The first entry of each
+//! table, `None`, has a number too.
 ghost use Rattle.std.specs.Prelude.{◌≡◌, ◌+◌, ◌<◌, ◌≤◌, IfOk, length, map, slice_index_or};
 ghost use Rattle.std.specs.List.{flat_map};
 ghost use Rattle.terrain.specs.Raster.{Terrain};
@@ -10,7 +13,7 @@ use std::alloc::{AllocError, Global};
 use terrain::Cell;
 use tiles::Tiling;
 
-/// Returns the number of the first label of each tile.
+/// Returns the number of the first entry of each tile's table.
 pub(crate) fn first_numbers(
     alloc: Global,
     tiling: &Tiling,

@@ -1,4 +1,4 @@
-//! Joins by the numbers of labels, as joins by places.
+//! Turns joins by the numbers of labels into joins by the labels' places.
 ghost use Rattle.std.specs.Prelude.{◌≡◌, ◌↔◌, ◌<◌, ◌++◌, [], IfOk, IfSome, IsTrue, OnOk, length, map};
 ghost use Rattle.std.specs.Option.{option_to_list};
 ghost use Rattle.std.specs.List.{All};
@@ -72,6 +72,7 @@ fn place_join(join: Join, nodes: &[u32]) -> Option<Join>
         to: nodes[join.to as usize],
         height: join.height,
     };
+    // Never so for labels of floods, but the contract does not require that.
     if placed.from == placed.to {
         return None;
     }
@@ -111,10 +112,11 @@ fn is_repeat(joins: &[Join], index: usize) -> bool
     before.from == join.from && before.to == join.to
 }
 
-/// Returns the lowest join of each two labels, in the order of the labels.
+/// Returns the lowest join of each pair of labels, in the order of the labels.
 pub(crate) fn lowest_joins(alloc: Global, mut joins: Vec<Join>) -> Result<Vec<Join>, AllocError>
     ensures { IfOk result (λ v. AreLowest joins.items v.items) }
 {
+    // By labels, then by height: the first join of a pair is its lowest.
     joins.sort_unstable();
     let mut lowest = Vec::with_capacity(alloc, joins.len())?;
     for index in 0..joins.len() {

@@ -49,7 +49,7 @@ fn spill_cell(levels: &LabelLevels, number: usize, label: Option<Place>) -> Cell
     }
 }
 
-/// Returns the levels of these labels as cells; the first label has number `first`.
+/// Returns the levels of these labels as cells; `places[0]` has number `first`.
 fn spill_cells(
     alloc: Global,
     levels: &LabelLevels,
@@ -68,8 +68,8 @@ fn spill_cells(
 }
 
 impl<'a> RaisedTile<'a> {
-    /// Makes it from a tile's flood and the levels of the spill graph.
-    /// The tile's first label has number `first`.
+    /// Makes a raised tile from its flood and the levels of the spill graph.
+    /// The first entry of the tile's table has number `first`.
     fn new(
         alloc: Global,
         flood: &'a TileFlood,

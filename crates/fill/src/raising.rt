@@ -76,6 +76,7 @@ fn greater_levels(
 }
 
 /// Returns the raised heights of a tile, in its row order.
+/// [`raise`] calls this alone, since its longer contract is proved from this one.
 fn raised_by(
     alloc: Global,
     tiling: &Tiling,
@@ -95,6 +96,10 @@ fn raised_by(
 ///
 /// `levels` are those of the [`SpillGraph`](crate::SpillGraph) that was gathered from all floods,
 /// `flood` among them.
+///
+/// # Errors
+///
+/// [`NoMemory`] if an allocation fails.
 ///
 /// # Examples
 ///

@@ -1,4 +1,4 @@
-//! The joins of cells on a tile's rim with later cells in row order: [`push_rim_cells`].
+//! The joins of rim cells with later cells in row order: [`push_rim_cells`].
 //!
 //! A [`KnownCells`] has the marks of cells, and selects the cells to join with.
 ghost use Rattle.std.specs.Prelude.{◌≡◌, ◌+◌, ◌<◌, ◌≤◌, ◌∷◌, [], List, Bool, Some, true, OnOk};
@@ -7,7 +7,7 @@ ghost use Rattle.tiles.specs.Cutting.{IsInBounds, IsWithinLimits};
 ghost use Rattle.fill.specs.Gathering.{Adds, AddsCovered, IsOnRimRow, IsPairFrom, IsPairOn, Marks, joins_of};
 ghost use Rattle.fill.specs.declared.spills.Join.{Join};
 
-use crate::left_out::{LeftOut, is_spared, join_of};
+use crate::left_out::{LeftOut, is_left_out, join_of};
 use crate::marks::CellLabel;
 use crate::spills::Join;
 use std::alloc::AllocError;
@@ -38,7 +38,7 @@ pub(crate) trait JoinList {
         ensures { OnOk result (AddsCovered (joins self.old) (join ∷ []) (joins self.new)) };
 }
 
-/// Adds the join of two marks, unless they have one label or two sources.
+/// Adds the join of two marks, unless their labels are equal or both sources.
 #[inline(always)]
 pub(crate) fn push_join<J: JoinList>(
     joins: &mut J,
@@ -56,8 +56,8 @@ pub(crate) fn push_join<J: JoinList>(
     Ok(())
 }
 
-/// Adds the join of a cell with its neighbour on a way, if it is wanted.
-/// The way is 0 for east, 1 south-east, 2 south or 3 south-west; `below` is the mark to the south.
+/// Adds the join of a cell with its neighbour in direction `way`, if it is wanted.
+/// `way` is 0 for E, 1 for SE, 2 for S or 3 for SW; `below` is the mark to the south.
 /// Leaves out the join at a corner if a path by a cell between is as low.
 #[inline(always)]
 fn push_on_way<C: KnownCells, J: JoinList>(
@@ -90,14 +90,14 @@ fn push_on_way<C: KnownCells, J: JoinList>(
         return Ok(());
     };
     if near.row != place.row {
-        if is_spared(left_out, from, below, to) {
+        if is_left_out(left_out, from, below, to) {
             return Ok(());
         }
         let beside = cells.mark(Place {
             row: place.row,
             col: near.col,
         });
-        if is_spared(left_out, from, beside, to) {
+        if is_left_out(left_out, from, beside, to) {
             return Ok(());
         }
     }
@@ -150,7 +150,7 @@ fn push_row<C: KnownCells, J: JoinList>(
 }
 
 /// Adds the wanted joins of each cell that has a later neighbour off the tile.
-/// In a row these are the first and the last cell; in the last row of the tile, all.
+/// These are all cells of the tile's last row, and the first and last cell of any other row.
 pub(crate) fn push_rim_cells<C: KnownCells, J: JoinList>(
     joins: &mut J,
     cells: &C,

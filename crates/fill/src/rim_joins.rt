@@ -1,6 +1,6 @@
 //! The joins over the rim of a tile, by the numbers of labels: [`push_rim_joins`].
 //!
-//! Looks at each two neighbouring cells of two tiles once, from the first of them in row order.
+//! Looks at each pair of neighbouring cells of two tiles once, from the first in row order.
 ghost use Rattle.std.proofs.Props.{props};
 ghost use Rattle.std.specs.Bool.{OnTrue};
 ghost use Rattle.std.specs.Prelude.{◌≡◌, ◌+◌, ◌<◌, ◌≤◌, OnOk};
@@ -141,7 +141,7 @@ impl<'a> KnownCells for CellsAround<'a> {
     }
 }
 
-/// Searches for no join: rim cells are their own labels, so no two meet twice.
+/// Pushes without a search: rim cells are their own labels, so no pair repeats.
 impl JoinList for Vec<Join> {
     ghost joins = { λ list. list.items };
 

@@ -15,7 +15,7 @@ use std::alloc::{AllocError, Global};
 use terrain::{Cell, Height, Place};
 use tiles::Tiling;
 
-/// Writes the height of a label that is an end cell at its node.
+/// Writes `end`, the height of a label that is an end cell, at the label's node.
 #[inline(always)]
 fn put_end(heights: &mut Vec<Option<Height>>, tiling: &Tiling, label: Option<Place>, end: Cell)
     requires label { IfSome label (IsWithin tiling.now) }
@@ -31,7 +31,7 @@ fn put_end(heights: &mut Vec<Option<Height>>, tiling: &Tiling, label: Option<Pla
     heights[node_of(tiling, place) as usize] = Some(height);
 }
 
-/// Writes the heights of a tile's labels that are end cells at their nodes.
+/// Writes, at their nodes, the heights of a tile's labels that are end cells.
 fn put_ends(heights: &mut Vec<Option<Height>>, tiling: &Tiling, flood: &TileFlood)
     requires labels { LabelsInside tiling.now flood.now }
     requires size { length heights.old.items ≡ tiling.now.cols * tiling.now.rows }

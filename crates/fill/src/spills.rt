@@ -63,7 +63,7 @@ impl Join {
 #[derive(Drop)]
 pub struct SpillGraph {
     tiling: Tiling,
-    // each in both directions, in the order of the labels
+    /// Each join in both directions, in the order of the labels.
     joins: Vec<Join>,
     sources: Vec<Option<Height>>,
 }
@@ -174,6 +174,10 @@ fn inner_joins_of(alloc: Global, floods: &[TileFlood]) -> Result<Vec<Vec<Join>>,
 impl SpillGraph {
     /// Makes the graph of the floods of all tiles, in tile order.
     ///
+    /// # Errors
+    ///
+    /// [`NoMemory`] if an allocation fails.
+    ///
     /// # Examples
     ///
     /// ```ignore
@@ -210,6 +214,10 @@ impl SpillGraph {
 
     /// Returns the least crest from each label to an end cell.
     /// The list is in row order of the grid, with `None` at a place that is no label.
+    ///
+    /// # Errors
+    ///
+    /// [`NoMemory`] if an allocation fails.
     pub fn levels(&self, alloc: Global) -> Result<Vec<Option<Height>>, NoMemory>
         ensures { IfOk result (λ v. AreLevelsOf self.now v.items) }
     {

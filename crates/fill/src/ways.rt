@@ -1,4 +1,6 @@
 //! The ways from each label, as linked lists over one list of joins: [`WayLists`].
+//!
+//! A way is a [`Spill`]: the label that a join leads to, and the height of the join.
 ghost use Rattle.std.specs.Prelude.{◌≡◌, ◌<◌, ◌≤◌, ◌-◌, [], All, IfOk, OnOk, length, replicate, slice_index_or};
 ghost use Rattle.floods.specs.Flood.{candidates_in, InOrder, AreNoted, Follows};
 ghost use Rattle.fill.specs.LabelNet.{AddsWays};
@@ -29,14 +31,14 @@ struct Link {
 
 /// Returns the link of join `at` in the list of `label`, one of its labels.
 #[inline(always)]
-fn link_at(joins: &[Join], befores: &[PreviousJoins], label: u32, at: usize) -> Link
+fn link_at(joins: &[Join], previous: &[PreviousJoins], label: u32, at: usize) -> Link
     requires some { 1 ≤ at }
     requires joins { at ≤ length joins.now }
-    requires befores { at ≤ length befores.now }
-    ensures { result ≡ link_at joins.now befores.now label (at - 1) }
+    requires previous { at ≤ length previous.now }
+    ensures { result ≡ link_at joins.now previous.now label (at - 1) }
 {
     let join = joins[at - 1];
-    let before = befores[at - 1];
+    let before = previous[at - 1];
     if join.from == label {
         Link {
             way: join.way(),
@@ -56,7 +58,7 @@ pub(crate) struct WayLists {
     /// The last join of each label.
     lasts: Vec<usize>,
     joins: Vec<Join>,
-    befores: Vec<PreviousJoins>,
+    previous: Vec<PreviousJoins>,
 }
 
 impl Model for WayLists {
@@ -66,9 +68,9 @@ impl Model for WayLists {
 
     ghost Value = { List (List Spill) };
 
-    ghost view = { λ w. ways_by w.lasts.items w.joins.items w.befores.items };
+    ghost view = { λ w. ways_by w.lasts.items w.joins.items w.previous.items };
 
-    ghost invariant = { λ w. AreLinked w.lasts.items w.joins.items w.befores.items };
+    ghost invariant = { λ w. AreLinked w.lasts.items w.joins.items w.previous.items };
 }
 
 impl WayLists {
@@ -82,19 +84,19 @@ impl WayLists {
         ensures { IfOk result (AddsWays joins.items (replicate labels [])) }
     {
         let mut lasts = vec![in alloc; NO_JOIN; labels]?;
-        let mut befores = Vec::with_capacity(alloc, joins.len())?;
+        let mut previous = Vec::with_capacity(alloc, joins.len())?;
         for join in &joins {
-            befores.push(PreviousJoins {
+            previous.push(PreviousJoins {
                 from: lasts[join.from as usize],
                 to: lasts[join.to as usize],
             })?;
-            lasts[join.from as usize] = befores.len();
-            lasts[join.to as usize] = befores.len();
+            lasts[join.from as usize] = previous.len();
+            lasts[join.to as usize] = previous.len();
         }
         Ok(WayLists {
             lasts,
             joins,
-            befores,
+            previous,
         })
     }
 
@@ -123,7 +125,7 @@ impl WayLists {
         let mut ways = SmallVec::new(alloc);
         let mut at = self.lasts[label as usize];
         while at != NO_JOIN {
-            let link = link_at(&self.joins, &self.befores, label, at);
+            let link = link_at(&self.joins, &self.previous, label, at);
             ways.push(link.way)?;
             at = link.before;
         }
@@ -150,7 +152,7 @@ impl WayLists {
     {
         let mut at = self.lasts[from.node as usize];
         while at != NO_JOIN {
-            let link = link_at(&self.joins, &self.befores, from.node, at);
+            let link = link_at(&self.joins, &self.previous, from.node, at);
             queue_neighbour(queue, link.way, from, labels, levels)?;
             at = link.before;
         }

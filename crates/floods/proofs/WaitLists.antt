@@ -90,7 +90,7 @@ passed_ordered base first next end lists others s empty = record {
       ]);
 }
 
--- Adding an entry to its level's list keeps the order.
+-- Adding an entry to its height's list keeps the order.
 pub list_put_ordered : (base : ℤ) (first end new_end k : ℕ) (x : Candidate) (lists : List (List Candidate)) (l others : List Candidate) → AreOrdered base first end lists others → k < length lists → l ≡ get_or lists k [] ++ x ∷ [] → x.height.0 ≡ base +ℤ pos k → first ≤ k → k < new_end → end ≤ new_end → new_end ≤ length lists → AreOrdered base first new_end (set lists k l) others
 list_put_ordered base first end new_end k x lists l others s inside is level from below more room = record {
   heap = s.heap;
@@ -122,7 +122,7 @@ pop_taken k (Some w) lists l others inside is =
     let more = one_more w lists k l (get_or lists k []) inside is in
     IsPermutation-append_left others (w ∷ flat_map (λ l. l) (set lists k l)) _ (subst (λ (z : List (List Candidate)). IsPermutation (w ∷ flat_map (λ l. l) (set lists k l)) (flat_map (λ l. l) z)) (set-get_or lists k []) more)
 
--- A height at most all of the heap and all lists' levels is at most all entries.
+-- A height at most all heights of the heap and of the lists is at most all entries.
 pub is_lowest : (base level : ℤ) (first end : ℕ) (lists : List (List Candidate)) (others : List Candidate) → ((k : ℕ) → All (IsListed base first end k) (get_or lists k [])) → ((k : ℕ) → first ≤ k → k < end → level ≤ℤ (base +ℤ pos k)) → All (λ x. level ≤ℤ x.height.0) others → All (λ x. level ≤ℤ x.height.0) (all_entries lists others)
 is_lowest base level first end lists others listed low rest =
     All-append (λ x. level ≤ℤ x.height.0) (flat_map (λ l. l) lists) others (all_by_contains (λ x. level ≤ℤ x.height.0) (flat_map (λ l. l) lists) (λ x h.

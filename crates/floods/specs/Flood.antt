@@ -17,7 +17,7 @@ use Rattle.floods.specs.declared.net.Spill.{Spill}
 abbrev pub candidate_order : Candidate → Candidate → Ordering
 candidate_order x y = int_cmp y.height.0 x.height.0
 
--- The entries of each level's list.
+-- The entries of each list.
 abbrev pub entries_of : {Z : Type 0} → List (Vec Candidate Z) → List (List Candidate)
 entries_of lists = map (λ l. l.items) lists
 
@@ -29,13 +29,13 @@ all_entries lists others = flat_map (λ entries. entries) lists ++ others
 abbrev pub candidates_in : Queue → List Candidate
 candidates_in w = all_entries (entries_of w.lists.items) (heap_items w.others)
 
--- The entry has the level of list k, from `first` on and before `end`.
+-- The entry is at the height of list k, which is from `first` on and before `end`.
 pub record IsListed (base : ℤ) (first end k : ℕ) (w : Candidate) : Type 0 where
   pub level : w.height.0 ≡ base +ℤ pos k
   pub from : first ≤ k
   pub below : k < end
 
--- The heap is in order, and each entry of a list is at that list's level.
+-- The heap is in order, and each entry of a list is at that list's height.
 pub record AreOrdered (base : ℤ) (first end : ℕ) (lists : List (List Candidate))
     (others : List Candidate) : Type 0 where
   pub heap : IsHeap candidate_order others
@@ -58,7 +58,7 @@ HasNone waiting = (w : Candidate) → Contains waiting w → ⊥
 abbrev pub entry_of : {X : Type 0} → List (Option X) → ℕ → Option X
 entry_of xs a = slice_index_or xs a None
 
--- The entry's node has a label, so its level is final. Before, its level is the least crest found.
+-- The entry's node has a label, so its level is final. Until then it is the least crest found.
 abbrev pub IsDone : List (Option ℕ) → Candidate → Type 0
 IsDone labels w = IsSome (entry_of labels w.node)
 
@@ -71,7 +71,7 @@ pub record TakesLowest (labels : List (Option ℕ)) (old : List Candidate) (w : 
   pub left : All (Contains old) new
   pub kept : All (λ x. IsDone labels x ⊎ (x ≡ w) ⊎ Contains new x) old
 
--- The entry of a neighbour of `from`: its crest is the greater of join and level.
+-- A neighbour's entry: at the greater of the join's spill height and the height of `from`.
 abbrev pub candidate_by : Candidate → Spill → Candidate
 candidate_by from way = record {
   height = record { 0 = int_max way.height from.height.0 };

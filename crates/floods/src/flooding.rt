@@ -1,4 +1,4 @@
-//! The flood: finds levels and labels of a net's nodes, from the lowest source upward.
+//! The flood: finds levels and labels of nodes, from the lowest source upward.
 //!
 //! [`flood_net`] takes the lowest node from the queue, labels it, and queues its neighbours.
 ghost use Rattle.std.specs.Prelude.{◌≡◌, IfOk, length, replicate, None};
@@ -14,7 +14,8 @@ use std::cmp::Reverse;
 use terrain::{Height, NoMemory};
 
 /// The level and the label of each node; `None` where no walk leads to a source.
-/// The level is the least crest of its walks to a source, the label a source that has it.
+/// The level, in units, is the least crest of its walks. The label is the source where a walk of
+/// that crest ends.
 #[derive(Drop)]
 pub struct Flooded {
     pub level: Vec<Option<Height>>,
@@ -60,7 +61,11 @@ fn queue_sources<N: Net>(
     Ok(queue)
 }
 
-/// Returns the least crest from each node to a source, and a source that has it.
+/// Returns the level and the label of each node, in 13 bytes a node.
+///
+/// # Errors
+///
+/// [`NoMemory`] if an allocation fails.
 pub fn flood_net<N: Net>(alloc: Global, net: &N) -> Result<FloodedNet, NoMemory>
     ensures { IfOk result (λ f.
         IsFlooded (N.joins net.now) (N.source_height net.now) (N.node_count net.now) f.levels
@@ -72,6 +77,7 @@ pub fn flood_net<N: Net>(alloc: Global, net: &N) -> Result<FloodedNet, NoMemory>
     let mut queue = queue_sources(alloc, net, &mut levels)?;
     while let Some(waiting) = next_unlabelled(&mut queue, &labels) {
         let Reverse(height) = waiting.height;
+        // Noted already when queued, but the contract of `Net::spread` does not promise that.
         levels.put(waiting.node, height);
         labels.put(waiting.node, waiting.label);
         net.spread(alloc, &mut queue, &waiting, &labels, &mut levels)?;
@@ -102,14 +108,18 @@ fn list_of_labels(alloc: Global, labels: &NodeLabels) -> Result<Vec<Option<u32>>
     Ok(list)
 }
 
-/// Returns the least crest from each node to a source, and a source that has it.
+/// Returns the level and the label of each node.
 ///
 /// [`flood_net`] returns them in lists that take less memory.
+///
+/// # Errors
+///
+/// [`NoMemory`] if an allocation fails.
 ///
 /// # Examples
 ///
 /// ```ignore
-/// // `level[node]` is the least crest, and `label[node]` a source that has it
+/// // `level[node]` is the least crest of the node's walks, `label[node]` where such a walk ends
 /// let Flooded { level, label } = flood(alloc, &net)?;
 /// ```
 pub fn flood<N: Net>(alloc: Global, net: &N) -> Result<Flooded, NoMemory>

@@ -7,15 +7,16 @@ use std::alloc::{AllocError, Global};
 use std::marker::Model;
 use terrain::Height;
 
-/// Marks a missing height. Being the greatest, it fails most comparisons by itself.
+/// The number stored for a missing height.
+/// No number is greater, so [`HeightList::is_no_higher`] seldom reads `greatest`.
 const LACK: Height = Height::MAX;
 
-/// A list of heights or none, in 9 bytes an entry. `Option<Height>` takes 16.
+/// A list of optional heights, in 9 bytes an entry. An `Option<Height>` takes 16.
 #[derive(Drop)]
 pub struct HeightList {
     /// A missing height is stored as [`LACK`].
     heights: Vec<Height>,
-    /// Tells a height equal to [`LACK`] from a missing one. Used at such entries only.
+    /// Whether an entry equal to [`LACK`] is a height. Read at such entries only.
     greatest: Vec<bool>,
     ghost size: { length greatest.items ≡ length heights.items },
 }

@@ -1,4 +1,8 @@
-//! Finds the least crest from each node of a net to a source, and such a source.
+//! The flood of a net: finds the level and the label of each node.
+//!
+//! A walk follows joins from a node to a source. Its crest is the greatest of the joins' spill
+//! heights and the source's height. A node's level is the least crest of its walks, and its label
+//! the source where a walk of that crest ends.
 //!
 //! Begin with [`flood`] over any [`Net`]. [`flood_net`] returns the levels and labels in lists
 //! that take less memory.

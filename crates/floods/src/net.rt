@@ -1,6 +1,7 @@
 //! The trait of nets, whose nodes are joined at spill heights: [`Net`].
 //!
-//! A net may queue neighbours without listing them, and skip runs of nodes without sources.
+//! A net may write [`Net::spread`] to queue neighbours without listing them, and
+//! [`Net::next_candidate`] to skip runs of nodes without sources.
 ghost use Rattle.std.specs.Prelude.{◌≡◌, ◌<◌, ◌≤◌, ℕ, ℤ, Option, IfOk, OnOk, length};
 ghost use Rattle.floods.specs.Walk.{HasJust, HasNoSource};
 ghost use Rattle.floods.specs.Flood.{candidates_in, InOrder, Spreads, AreNoted};
@@ -26,7 +27,7 @@ pub trait Net {
     // Node a is joined to node b at this spill height.
     ghost joins: { Self → ℕ → ℕ → ℤ → Type 0 };
 
-    // The height of a source, `None` of another node.
+    // The height of a source; `None` for any other node.
     ghost source_height: { Self → ℕ → Option ℤ };
 
     /// The number of nodes.
@@ -34,11 +35,15 @@ pub trait Net {
         ensures { result ≡ node_count self.now };
 
     /// Returns the neighbours of a node, each with the spill height of the join.
+    ///
+    /// # Errors
+    ///
+    /// [`NoMemory`] if an allocation fails.
     fn neighbours(&self, alloc: Global, node: u32) -> Result<SmallVec<Spill, 8>, NoMemory>
         requires { node < node_count self.now }
         ensures { IfOk result (λ v. HasJust (joins self.now node) v.items) };
 
-    /// The height of a node that is a source, `None` of another.
+    /// Returns the height of a source; `None` for any other node.
     fn source(&self, node: u32) -> Option<Height>
         requires { node < node_count self.now }
         ensures { result ≡ source_height self.now node };
@@ -56,6 +61,10 @@ pub trait Net {
     }
 
     /// Queues each neighbour of `from` unless it has a label or a crest as low.
+    ///
+    /// # Errors
+    ///
+    /// [`NoMemory`] if an allocation fails.
     #[inline]
     fn spread(
         &self,

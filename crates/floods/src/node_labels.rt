@@ -36,7 +36,7 @@ pub fn label_of(number: u32) -> Option<u32>
 }
 
 impl NodeLabels {
-    /// Makes labels for `nodes` nodes, none of which has one.
+    /// Makes a list for `nodes` nodes, none of which has a label.
     pub(crate) fn none(alloc: Global, nodes: usize) -> Result<Self, AllocError>
         ensures { IfOk result (λ l. l ≡ replicate nodes None) }
     {

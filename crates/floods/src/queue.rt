@@ -1,7 +1,7 @@
 //! The priority queue of a flood: the lowest node first.
 //!
-//! Each level of a window has a list; nodes at other levels are in a heap. [`queue_neighbour`]
-//! queues a node again only at a lower crest.
+//! A window of consecutive heights has a list for each height; all other nodes are in a heap.
+//! [`queue_neighbour`] queues a node again only at a lower crest.
 ghost use Rattle.std.specs.Prelude.{◌≡◌, ◌<◌, ◌≤◌, pos, ◌+ℤ◌, ◌≤ℤ◌, ◌∷◌, [], ℕ, ℤ, IfOk, OnOk, IfSome, IfNone, length, All, replicate, slice_index_or};
 ghost use Rattle.std.specs.BinaryHeap.{heap_items, heap_len};
 ghost use Rattle.floods.specs.Flood.{entries_of, candidates_in, InOrder, PutsIn, HasNone, IsDone, TakesLowest, Follows, AreNoted};
@@ -26,22 +26,23 @@ pub struct Candidate {
     pub label: u32,
 }
 
-/// The greatest number of levels of the window.
-/// A tile of 256 by 256 cells mostly spans fewer. It bounds the empty lists to be skipped.
-const MOST_LEVELS: usize = 512;
+/// The greatest number of heights in the window, and so of empty lists to skip.
+/// A tile of 256 by 256 cells mostly spans fewer heights.
+const MOST_WINDOW: usize = 512;
 
-/// The least number of levels of a window. For smaller nets the heap is as fast.
-const FEWEST_LEVELS: usize = 16;
+/// The least number of heights in a window. For smaller nets the heap is as fast.
+const LEAST_WINDOW: usize = 16;
 
-/// The least number of nodes a level, so that making the lists is cheap.
-const NODES_A_LEVEL: usize = 16;
+/// The least number of nodes for each list, so that making the lists is cheap.
+const NODES_A_LIST: usize = 16;
 
 /// The first capacity of each list and of the heap, in nodes, so that few grow.
-/// Above 1 KiB: an allocator may keep smaller freed blocks, which hold back memory below them.
+/// At 16 bytes an entry this is above 1 KiB: an allocator may keep smaller freed blocks, which hold
+/// back memory below them.
 const FIRST_ROOM: usize = 80;
 
-/// The priority queue of a flood. The window begins at height `base`.
-/// A node at a level of the window is in that level's list; all others are in the heap.
+/// The priority queue of a flood. List `k` has nodes at height `base + k` alone.
+/// All other nodes are in the heap, some of them perhaps at heights of the window.
 #[derive(Drop)]
 pub struct Queue {
     base: Height,
@@ -53,15 +54,15 @@ pub struct Queue {
     others: BinaryHeap<Candidate>,
 }
 
-/// The number of levels of the window, for a net of `nodes` nodes.
-fn level_count(nodes: usize) -> usize
-    ensures { result ≤ MOST_LEVELS }
+/// Returns the number of heights in the window, for a net of `nodes` nodes.
+fn window_length(nodes: usize) -> usize
+    ensures { result ≤ MOST_WINDOW }
 {
-    let levels = nodes / NODES_A_LEVEL;
-    if levels < FEWEST_LEVELS {
+    let levels = nodes / NODES_A_LIST;
+    if levels < LEAST_WINDOW {
         0
     } else {
-        levels.min(MOST_LEVELS)
+        levels.min(MOST_WINDOW)
     }
 }
 
@@ -95,11 +96,12 @@ fn first_nonempty(lists: &[Vec<Candidate>], first: usize, stop: usize) -> usize
 
 impl Queue {
     /// Makes an empty queue for `nodes` nodes. The first entry taken begins the window.
+    /// Until then `first` is past all lists, so each entry goes to the heap.
     pub(crate) fn new(alloc: Global, nodes: usize) -> Result<Self, AllocError>
         ensures order { IfOk result (λ w. InOrder w) }
         ensures none { IfOk result (λ w. HasNone (candidates_in w)) }
     {
-        let lists = empty_lists(alloc, level_count(nodes))?;
+        let lists = empty_lists(alloc, window_length(nodes))?;
         let others = BinaryHeap::with_capacity(alloc, FIRST_ROOM)?;
         Ok(Queue {
             base: 0,
@@ -128,7 +130,7 @@ impl Queue {
         }
     }
 
-    /// The number of lists, before `end`, whose level is below a height.
+    /// Returns the number of lists, before `end`, of heights below `height`.
     #[inline(always)]
     fn lists_below(&self, height: Height) -> usize
         ensures end { result ≤ self.now.end }
@@ -161,7 +163,7 @@ impl Queue {
         self.lists_below(height)
     }
 
-    /// Takes the lowest of the heap. If all lists are empty, a window begins at it.
+    /// Takes the heap's lowest entry. If all lists are empty, the window moves to it.
     #[inline]
     fn pop_heap(&mut self) -> Option<Candidate>
         requires order { InOrder self.old }
@@ -243,6 +245,11 @@ pub(crate) fn next_unlabelled(queue: &mut Queue, labels: &NodeLabels) -> Option<
 }
 
 /// Queues a neighbour of `from` unless it has a label or a crest as low.
+/// Its crest by `from` is the greater of `way.height` and the level of `from`; `levels` notes it.
+///
+/// # Errors
+///
+/// [`AllocError`] if an allocation fails.
 #[inline(always)]
 pub fn queue_neighbour(
     queue: &mut Queue,
@@ -262,6 +269,8 @@ pub fn queue_neighbour(
     if levels.is_no_higher(way.to, crest) {
         return Ok(());
     }
+    // Never so in a flood: nodes get labels in the order of their levels, so labelled ones returned
+    // above. The contract does not assume that order.
     if labels.has(way.to) {
         return Ok(());
     }

@@ -92,6 +92,14 @@ node_after-stays links i e (suc k) = ap (onward links) (node_after-stays links i
 pub end-onward : (links : List ℕ) → AreStreams links → (i : ℕ) → i < length links → end_of links (onward links i) ≡ end_of links i
 end-onward links s i h = node_after-first links i (length links) ∙ s.ends i h
 
+-- A node whose path ends where that of `from` does.
+abbrev pub IsOnPath : List ℕ → ℕ → ℕ → Type 0
+IsOnPath links from node = (node < length links) × (end_of links node ≡ end_of links from)
+
+pub next_on_path : (links : List ℕ) → AreStreams links → (from node : ℕ) →
+    IsOnPath links from node → IsOnPath links from (onward links node)
+next_on_path links s from node on = (s.inside node on.0, end-onward links s node on.0 ∙ on.1)
+
 pub end-along : (links : List ℕ) → AreStreams links → (i : ℕ) → i < length links → (k : ℕ) → end_of links (node_after links i k) ≡ end_of links i
 end-along links s i h zero = refl
 end-along links s i h (suc k) = end-onward links s (node_after links i k) (node_after-inside links s i h k) ∙ end-along links s i h k

@@ -48,7 +48,7 @@ toward_touches p q code e = elim (cases_option (way_of code)) [
       ])
 ]
 
--- On the rim, a place that is no outlet has the entry of its rim number.
+-- On the rim, a place that is no outlet has the outlet listed for its rim number.
 pub outlet_listed : (t : Cutting) (flows : List Flow) (listed : List (Option Place)) (p : Place) → is_outlet_code (code_in t flows p) ≡ false → is_place (rim_place t (rim_number t p)) p ≡ true →
     outlet_by t flows listed p ≡ get_or listed (rim_number t p) None
 outlet_listed t flows listed p f y = cond-false {A = Option Place} _ (Some p) (cond {A = Option Place} (is_place (rim_place t (rim_number t p)) p) (get_or listed (rim_number t p) None) None) f ∙ cond-true {A = Option Place} _ _ _ y
@@ -140,7 +140,7 @@ module _ (d : Directed) (t : Cutting) (flows : List Flow) (s : AreFlowsOf d t fl
   abbrev going_out : Flow → Place → Option Place
   going_out f p = cond {A = Option Place} (is_in_bounds f.bounds (next_in f p)) None (Some (next_in f p))
 
-  -- The next cell of such a cell is outside the bounds of its tile.
+  -- If a cell's direction leads into another tile, the next cell is outside the tile's bounds.
   out_of_bounds : (p : Place) → Crosses p → is_in_bounds (bounds_of t (tile_of_place t p)) (next d p) ≡ false
   out_of_bounds p c =
       let below = tile_of_place_below t p s.cutting (within_of p c.coded) in

@@ -49,7 +49,7 @@ module _ (d : Directed) (t : Cutting) (flows : List Flow) (s : AreFlowsOf d t fl
   pub entry_back : (p : Place) → Crosses d t flows s p → rim_place t (rim_number t (next d p)) ≡ next d p
   entry_back p c = number_back t s.cutting (next d p) (within_of d t flows s (next d p) (coded_along d s.ends p c.coded 1)) (entry_side p c)
 
-  -- The flow path of q enters p from another tile, after so many steps.
+  -- The flow path of q enters p from another tile, by the move after the first `steps` moves.
   record Enters (p q : Place) : Type 0 where
     pub steps : ℕ
     pub crosses : Crosses d t flows s (follow d q steps)

@@ -17,11 +17,11 @@ use Rattle.flow.specs.Counts.{IsMapOf}
 use Rattle.flow.specs.declared.gauges.GaugeFault.{GaugeFault}
 use Rattle.flow.specs.declared.gauges.GaugeFault.TheVariants.{Outside, OnNodata, TooManyGauges, Jobs}
 
--- The place, from 1, of the first entry in the list that names the cell; 0 if none does.
+-- The position, from 1, of the first entry in the list that names the cell; 0 if none does.
 abbrev pub gauge_number : List Place → Place → ℕ
 gauge_number gauges p = unwrap_or (position_from (is_place p) 1 gauges) 0
 
--- The flow path of p, from p on. It repeats its outlet up to the number of cells of the grid.
+-- The flow path of p, from p on, its outlet repeated: as many places as the grid has cells.
 abbrev pub flow_path : Directed → Place → List Place
 flow_path d p = map (follow d p) (range_with_len 0 (moves d))
 
@@ -52,7 +52,7 @@ gauges_fault t gauges = option_map fault_of_gauge (sinks_fault t gauges)
 -- How catchments fail: with the gauges' fault if there is one, otherwise only as jobs fail.
 pub record RefusesGauges {T : Type 0} (fault : Option GaugeFault) (workers : ℕ)
     (result : Result T GaugeFault) : Type 0 where
-  pub told : (f : GaugeFault) → fault ≡ Some f → result ≡ Err f
+  pub reported : (f : GaugeFault) → fault ≡ Some f → result ≡ Err f
   pub jobs : fault ≡ None → (f : GaugeFault) → result ≡ Err f →
       (f ≡ Jobs Memory) ⊎ (f ≡ Jobs BadWorkers) ⊎ (f ≡ Jobs NoThread)
   pub bad_workers : fault ≡ None →

@@ -34,7 +34,7 @@ pub record AreRimWeights (inflows : Inflows) (b : Bounds) (cells : List (Option 
       slice_index weights (index_in b p)
       ≡ slice_index (weights_by cells) (index_in b p) + listed_inflow inflows p
 
--- What the job of a tile relies on: links whose paths end, and sums that fit 32 bits.
+-- The premises of a tile's job: links whose paths end, and sums that fit 32 bits.
 pub record IsCountable (inflows : Inflows) (tile : ℕ) (f : Flow) : Type 0 where
   pub bounds : f.bounds ≡ bounds_of inflows.cutting tile
   pub size : length f.codes ≡ cell_count inflows.cutting tile
@@ -47,7 +47,7 @@ pub record IsCountable (inflows : Inflows) (tile : ℕ) (f : Flow) : Type 0 wher
       AreRimWeights inflows (bounds_of inflows.cutting tile) f.codes weights →
       (i : ℕ) → i < length f.codes → total (links_by f.bounds f.codes) weights i < 2 ^ 32
 
--- What all jobs rely on: one flow for each tile, with `IsCountable`.
+-- The premises of all jobs: one flow for each tile, with `IsCountable`.
 pub record AreCountable (t : Cutting) (flows : List Flow) (inflows : Inflows) : Type 0 where
   pub same_cutting : inflows.cutting ≡ t
   pub count : length flows ≡ tile_count t

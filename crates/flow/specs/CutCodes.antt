@@ -27,6 +27,6 @@ abbrev pub gauge_numbers : {S : Type 0} → ℕ → HashMap ℕ ℕ S → EndNum
 gauge_numbers cells numbers =
     record { cells = cells; number = λ i. unwrap_or (hash.get nat_eq numbers i) 0 }
 
--- The place, from 1, of the first entry that names the cell at row-order index i.
+-- The position, from 1, of the first entry that names the cell at row-order index i.
 abbrev pub number_of_index : ℕ → List Place → ℕ → Option ℕ
 number_of_index cols gauges i = position_from (λ (g : Place). index_of cols g == i) 1 gauges

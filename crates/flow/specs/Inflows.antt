@@ -11,11 +11,11 @@ use Rattle.flow.specs.TileFlow.{Flow, through_in, inflow_of}
 use Rattle.tiles.specs.RimNumbers.{stride, number_count, rim_number, rim_place}
 use Rattle.flow.specs.RimGraph.{side_cell, target_by}
 
--- How many other cells of its tile flow through a place.
+-- How many other cells' flow paths reach a place inside its tile.
 abbrev pub through_by : Cutting → List Flow → Place → Option ℕ
 through_by t flows p = option_and_then (λ f. through_in f p) (slice_get flows (tile_of_place t p))
 
--- How many cells leave their tile by an exit into another tile; 0 without such an exit.
+-- How many cells of a tile drain out of it by an exit into another tile; 0 without such an exit.
 abbrev pub weight_or : Option ℕ → Option Place → ℕ
 weight_or through None = 0
 weight_or through (Some entry) = unwrap_or through 0 + 1
@@ -26,16 +26,17 @@ rim_weight t flows i = weight_or (through_by t flows (rim_place t i)) (target_by
 abbrev pub rim_weights_by : Cutting → List Flow → List ℕ
 rim_weights_by t flows = map (rim_weight t flows) (range_with_len 0 (number_count t))
 
--- What rim number k receives of an amount sent to an entry: all if the entry has number k.
+-- Rim number k's part of an amount sent to a place: all if the place has number k, else 0.
 abbrev pub sent_to : Cutting → ℕ → Option Place → ℕ → ℕ
 sent_to t k None amount = 0
 sent_to t k (Some entry) amount = if rim_number t entry == k then amount else 0
 
+-- The amount that rim number i sends to number k: its weight and the sum upstream, or 0.
 abbrev pub entering : Cutting → List (Option Place) → List ℕ → List ℕ → ℕ → ℕ → ℕ
 entering t targets weights upstream k i =
     sent_to t k (slice_index_or targets i None) (slice_index upstream i + slice_index weights i)
 
--- The inflow of each rim number: what all rim numbers send to it.
+-- The inflow of each rim number: the sum of what all rim numbers send to it.
 pub record AreEntering (t : Cutting) (targets : List (Option Place))
     (weights upstream listed : List ℕ) : Type 0 where
   pub size : length listed ≡ number_count t
@@ -47,6 +48,7 @@ pub record Inflows : Type 0 where
   pub cutting : Cutting
   pub listed : List ℕ
 
+-- The inflow at a place: that of its rim number, or 0 off the rim.
 abbrev pub inflow_by : Cutting → List ℕ → Place → ℕ
 inflow_by t listed p =
     if is_place (rim_place t (rim_number t p)) p then slice_index listed (rim_number t p) else 0
@@ -60,11 +62,12 @@ pub record AreInflows (d : Directed) (t : Cutting) (l : Inflows) : Type 0 where
   pub size : length l.listed ≡ number_count t
   pub each : (p : Place) → IsWithin t p → listed_inflow l p ≡ inflow_of d t p
 
--- What an amount at a rim cell adds at p: the amount if p is that cell, 0 otherwise.
+-- The addition at p of an amount at a rim cell: the amount if p is that cell, 0 otherwise.
 abbrev pub adds_at : Option Place → ℕ → Place → ℕ
 adds_at None amount p = 0
 adds_at (Some q) amount p = if is_place q p then amount else 0
 
+-- The inflow that one side number of a tile adds at p.
 abbrev pub adds : Cutting → List ℕ → ℕ → ℕ → Place → ℕ
 adds t listed tile side p =
     let largest = bounds_of t 0 in

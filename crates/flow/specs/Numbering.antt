@@ -49,14 +49,14 @@ pub record IsExitOfTile (outlets : Outlets) (flows : List Flow) (n : EndNumbers)
   pub numbered : IfSome (listed_outlet outlets flows e)
       (λ q. index_of outlets.cutting.cols q < n.cells)
 
--- What the job of a tile relies on: all its exits are in the tile and have numbered outlets.
+-- The premises of a tile's job: all its exits are in the tile and have numbered outlets.
 pub record IsReady (t : Cutting) (flows : List Flow) (outlets : Outlets) (n : EndNumbers) (tile : ℕ)
     (f : Flow) : Type 0 where
   pub size : length f.exits ≡ cell_count t tile
   pub exits : (i : ℕ) →
       IfSome (slice_index_or f.exits i None) (IsExitOfTile outlets flows n f.bounds)
 
--- What all jobs rely on: one flow for each tile, with `IsReady`.
+-- The premises of all jobs: one flow for each tile, with `IsReady`.
 pub record AreReady (t : Cutting) (flows : List Flow) (outlets : Outlets)
     (n : EndNumbers) : Type 0 where
   pub same_cutting : outlets.cutting ≡ t

@@ -82,7 +82,7 @@ rim_link t flows i =
 abbrev pub rim_links_by : Cutting → List Flow → List ℕ
 rim_links_by t flows = map (rim_link t flows) (range_with_len 0 (number_count t))
 
--- The outlet of an exit into another tile: in the tile that the last such exit leads to.
+-- The outlet of an exit into another tile: in the tile that the last such exit downstream enters.
 abbrev pub rim_outlet : Cutting → List Flow → List ℕ → ℕ → Option Place
 rim_outlet t flows ends i = option_and_then
     (λ _. option_and_then (λ q. exit_by t flows q) (target_by t flows (slice_index ends i)))
@@ -91,7 +91,7 @@ rim_outlet t flows ends i = option_and_then
 abbrev pub rim_outlets_by : Cutting → List Flow → List ℕ → List (Option Place)
 rim_outlets_by t flows ends = map (rim_outlet t flows ends) (range_with_len 0 (number_count t))
 
--- The outlet of an exit: the exit itself or the entry of its rim number.
+-- The outlet of an exit: the exit itself, or the outlet listed for its rim number.
 abbrev pub outlet_by : Cutting → List Flow → List (Option Place) → Place → Option Place
 outlet_by t flows outlets p =
     if is_outlet_code (code_in t flows p) then Some p

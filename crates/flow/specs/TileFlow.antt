@@ -23,7 +23,7 @@ abbrev pub reaches_inside : Directed → Cutting → Place → Place → Bool
 reaches_inside d c p q =
     list_any (λ k. is_place p (follow d q k) && stays d c q k) (range_with_len 0 (moves d))
 
--- How many other data cells reach p without leaving the tile.
+-- How many other data cells' flow paths reach p without leaving the tile.
 abbrev pub through_of : Directed → Cutting → Place → ℕ
 through_of d c p =
     count_by (λ q. is_some (code_at d q) && not (is_place p q) && reaches_inside d c p q)
@@ -55,7 +55,7 @@ pub record Flow : Type 0 where
   pub through : List (Option ℕ)
   pub exits : List (Option Place)
 
--- The count of other cells that flow through a place.
+-- The count at a place, as `through_of` counts.
 abbrev pub through_in : Flow → Place → Option ℕ
 through_in f p = entry_in f.bounds f.through p
 

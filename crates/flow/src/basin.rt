@@ -18,12 +18,12 @@ use tiles::Tiling;
 
 /// Returns each cell's basin: the number of the outlet that ends its flow path.
 ///
-/// Outlets are numbered from 1 in row order. Each tile has three jobs: one counts the outlets in
-/// a run of codes, one finds the tile's exits, and one numbers the tile's cells.
+/// Outlets are numbered from 1 in row order. Three stages have as many jobs as there are tiles:
+/// they count the outlets in runs of codes, find each tile's exits, and number each tile's cells.
 ///
 /// # Errors
 ///
-/// [`JobFault::BadWorkers`] if `workers` is 0 or above `MOST_WORKERS`, [`JobFault::NoThread`] if
+/// [`JobFault::BadWorkers`] if `workers` is 0 or above 64, [`JobFault::NoThread`] if
 /// a thread could not be started, [`JobFault::Memory`] if memory ran out.
 ///
 /// # Examples

@@ -41,15 +41,17 @@ fn cut_codes(
 /// Returns each cell's catchment: the number of the first gauge on its flow path.
 ///
 /// The flow path includes the cell itself; without a gauge on it the value is 0. A gauge's number
-/// is its place in the list, from 1. Of entries that name one cell the first counts.
+/// is its position in the list, from 1. Of entries that name one cell the first counts.
 ///
-/// Gauges end flow paths here, as outlets do in [`basins`](crate::basins). Each tile has two jobs.
+/// Cells are numbered by the ends of flow paths in a copy of the codes, where gauges are outlets.
+/// Each tile has two jobs: one finds its exits, and a later one numbers its cells.
 ///
 /// # Errors
 ///
 /// The first of these: [`GaugeFault::TooManyGauges`] for more than 1,024 entries, repeats counted;
 /// [`GaugeFault::Outside`] or [`GaugeFault::OnNodata`] for the first gauge outside the grid or
-/// without data; [`GaugeFault::Jobs`] with the fault of the jobs.
+/// without data; [`GaugeFault::Jobs`] for workers not from 1 to 64, or a want of memory or of a
+/// thread.
 ///
 /// # Examples
 ///

@@ -126,6 +126,7 @@ pub(crate) fn tile_weights(alloc: Global, cells: &[Option<Code>]) -> Result<Vec<
         .collect(alloc)
 }
 
+/// Returns whether two places are equal, by the definition `is_place`.
 #[inline(always)]
 pub(crate) fn is_place(place: Place, other: Place) -> bool
     ensures { result ≡ is_place place other }
@@ -133,6 +134,7 @@ pub(crate) fn is_place(place: Place, other: Place) -> bool
     place.row == other.row && place.col == other.col
 }
 
+/// Returns the link of the cell with this index and place.
 #[inline(always)]
 fn link_of(bounds: Bounds, index: u32, place: Place, code: Option<Code>) -> u32
     requires small { IsSmall bounds }

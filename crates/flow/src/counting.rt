@@ -1,6 +1,7 @@
 //! Accumulations of a map of directions: [`accumulation`].
 //!
-//! A job for each tile finds its flow, `inflows` adds up inflow, and a second job counts cells.
+//! A job for each tile finds its flow, `inflows` adds up the inflow at each rim cell, and a second
+//! job finds the tile's accumulations.
 ghost use Rattle.std.proofs.Props.{props};
 ghost use Rattle.std.specs.Prelude.{◌≡◌, ◌+◌, ◌^◌, ◌<◌, ℕ, length, slice_index, IfOk};
 ghost use Rattle.tiles.specs.Cutting.{Cuts, IsInBounds, bounds_of, cell_count, tile_count};
@@ -26,7 +27,7 @@ use tile_jobs::{Gate, JobFault};
 use tile_maps::{Runner, TileMap};
 use tiles::Tiling;
 
-/// What the jobs read to count cells: the flows of all tiles and their inflows.
+/// Input of the jobs that find accumulations: all tiles' flows and inflows.
 #[derive(Drop)]
 struct Counting<'a> {
     tiling: &'a Tiling,
@@ -56,11 +57,11 @@ impl<'a> TileMap for Counting<'a> {
 }
 
 /// Returns each cell's accumulation: how many other cells' flow paths hold it.
-/// Each tile has two jobs: one finds its flow, and a later one counts its cells.
+/// Each tile has two jobs: one finds its flow, and a later one its accumulations.
 ///
 /// # Errors
 ///
-/// [`JobFault::BadWorkers`] if `workers` is 0 or above `MOST_WORKERS`, [`JobFault::NoThread`] if
+/// [`JobFault::BadWorkers`] if `workers` is 0 or above 64, [`JobFault::NoThread`] if
 /// a thread could not be started, [`JobFault::Memory`] if memory ran out.
 ///
 /// # Examples
@@ -91,7 +92,7 @@ pub fn accumulation<R: Threads + Wait + Sync, G: Gate + Sync>(
     let crossings = Crossings::of(alloc, tiling, &flows)?;
     let inflows = Inflows::join(alloc, tiling, &flows, &crossings)?;
     drop(crossings);
-    runner.made(Counting {
+    runner.map_tiles(Counting {
         tiling,
         flows,
         inflows,
@@ -115,7 +116,7 @@ fn tile_counts(
     counts(alloc, codes, &weights, &upstream)
 }
 
-/// Returns each cell's weight: 1 for a data cell, and its inflow.
+/// Returns each cell's weight: its inflow, plus 1 for a data cell.
 fn rim_weights(
     alloc: Global,
     inflows: &Inflows,
@@ -134,7 +135,7 @@ fn rim_weights(
     Ok(weights)
 }
 
-/// Returns each data cell's sum, less 1 for the cell itself. NODATA sums to 0.
+/// Returns each data cell's weight plus the weights upstream, less 1 for the cell.
 #[tactic(auto, using(crate::proofs::Windows::mapped_next))]
 fn counts(
     alloc: Global,
@@ -151,6 +152,7 @@ fn counts(
     let mut values = Vec::with_capacity(alloc, cells.len())?;
     for index in 0..cells.len() {
         let total = upstream[index] + weights[index];
+        // The total of NODATA is 0, hence `saturating_sub`.
         values.push(count_where_data(cells[index], total.saturating_sub(1)))?;
     }
     Ok(values)

@@ -18,7 +18,8 @@ use tiles::Tiling;
 /// The largest number of entries in a list of gauges, repeats counted.
 pub const MOST_GAUGES: usize = 1_024;
 
-/// Why catchments are refused. An index is a place in the list of gauges, from 0.
+/// Why catchments are refused.
+/// An index is a position in the list of gauges, from 0.
 #[derive(Clone, Copy, Debug, PartialEq, Eq)]
 pub enum GaugeFault {
     /// The gauge at this index lies outside the grid.
@@ -77,7 +78,7 @@ pub fn gauges_fault(grid: &Grid, gauges: &[Place]) -> Option<GaugeFault>
     }
 }
 
-/// Returns the fault of one gauge, if it has one; `index` is its place in the list.
+/// Returns the fault of one gauge, if any; `index` is its position in the list.
 fn gauge_fault_at(d: &Directions, tiling: &Tiling, gauge: Place, index: u32) -> Option<GaugeFault>
     requires { Cuts tiling.now d.now.terrain }
     ensures { result ≡ option_map fault_of_gauge (sink_fault_of d.now.terrain index gauge) }
@@ -120,13 +121,14 @@ pub(crate) fn first_fault(d: &Directions, tiling: &Tiling, gauges: &[Place]) -> 
 /// The numbers of the cells that gauges name; any other cell has 0.
 #[derive(Drop)]
 pub struct GaugeNumbers {
+    // The number of cells of the grid; for contracts alone.
     cells: usize,
     // Keys are the indexes of cells in row order.
     numbers: HashMap<usize, u32>,
 }
 
 impl GaugeNumbers {
-    /// Numbers the gauges of a grid by their places in the list, from 1.
+    /// Numbers the gauges of a grid by their positions in the list, from 1.
     /// Of entries that name one cell the first counts.
     pub(crate) fn of_gauges(
         alloc: Global,

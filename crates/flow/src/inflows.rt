@@ -60,7 +60,8 @@ impl Inflows {
         let targets = &crossings.targets;
         let weights = rim_weights(alloc, tiling, flows, targets)?;
         let upstream = upstream_weights(alloc, &crossings.links, &weights)?;
-        let listed = all_entering(alloc, tiling, targets, &weights, &upstream)?;
+        let mut listed = zeros(alloc, tiling.number_count() as usize)?;
+        send_all(tiling, targets, &weights, &upstream, &mut listed);
         Ok(Inflows {
             tiling: *tiling,
             listed,
@@ -138,7 +139,7 @@ fn add_at(cell: Option<Place>, amount: u32, bounds: Bounds, weights: &mut [u32])
     }
 }
 
-/// Returns how many other cells of its tile flow through `place`.
+/// Returns how many other cells' flow paths reach `place` inside its tile.
 #[inline(always)]
 fn through_at(tiling: &Tiling, flows: &[TileFlow], place: Place) -> Option<u32>
     requires count { length flows.now ≡ tile_count tiling.now }
@@ -148,7 +149,7 @@ fn through_at(tiling: &Tiling, flows: &[TileFlow], place: Place) -> Option<u32>
     flows[tiling.tile_of(place) as usize].through(place)
 }
 
-/// Returns how many cells leave their tile at this rim number, or 0 if none do.
+/// Returns how many cells of a tile drain out of it at this rim number, maybe 0.
 fn weight_of(tiling: &Tiling, flows: &[TileFlow], targets: &[Option<Place>], number: u32) -> u32
     requires flows { (d : Directed) × AreFlowsOf d tiling.now flows.now
         × AreTileCounts d tiling.now flows.now }
@@ -162,6 +163,7 @@ fn weight_of(tiling: &Tiling, flows: &[TileFlow], targets: &[Option<Place>], num
     through_at(tiling, flows, tiling.rim_place(number)).unwrap_or(0) + 1
 }
 
+/// Returns the number of cells that drain out of their own tile at each rim number.
 #[tactic(auto, using(crate::proofs::Windows::mapped_next))]
 fn rim_weights(
     alloc: Global,
@@ -182,31 +184,7 @@ fn rim_weights(
     Ok(weights)
 }
 
-/// Returns the inflow of each rim number.
-fn all_entering(
-    alloc: Global,
-    tiling: &Tiling,
-    targets: &[Option<Place>],
-    weights: &[u32],
-    upstream: &[u32],
-) -> Result<Vec<u32>, AllocError>
-    requires targets { length targets.now ≡ number_count tiling.now }
-    requires within { (i : ℕ) → i < number_count tiling.now →
-        IfSome (slice_index_or targets.now i None) (IsWithin tiling.now) }
-    requires weights { length weights.now ≡ number_count tiling.now }
-    requires upstream { length upstream.now ≡ number_count tiling.now }
-    requires amounts { (i : ℕ) → i < number_count tiling.now →
-        slice_index upstream.now i + slice_index weights.now i < 2 ^ 32 }
-    requires few { (k : ℕ) → sum_below (entering tiling.now targets.now weights.now upstream.now k)
-        (number_count tiling.now) < 2 ^ 32 }
-    ensures { IfOk result
-        (λ v. AreEntering tiling.now targets.now weights.now upstream.now v.items) }
-{
-    let mut listed = zeros(alloc, tiling.number_count() as usize)?;
-    send_all(tiling, targets, weights, upstream, &mut listed);
-    Ok(listed)
-}
-
+/// Adds each exit's total to the inflow of the place that its water enters.
 fn send_all(
     tiling: &Tiling,
     targets: &[Option<Place>],

@@ -46,6 +46,10 @@ impl<'a> Model for RimLinks<'a> {
 impl<'a> RimLinks<'a> {
     /// Links the flows of all tiles, given in tile order.
     ///
+    /// # Errors
+    ///
+    /// [`NoMemory`] if memory runs out.
+    ///
     /// # Examples
     ///
     /// ```ignore
@@ -62,6 +66,7 @@ impl<'a> RimLinks<'a> {
         ensures links { IfOk result (λ l. (d : Directed) → AllFlowEnds d →
             AreTileFlows d tiling.now flows.now → AreLinks d tiling.now l) }
     {
+        // The call brings the prover `IsCutting` of the tiling, which `cols` ensures.
         prove!(tiling.cols() > 0);
         let crossings = Crossings::of(alloc, tiling, flows)?;
         let inflows = Inflows::join(alloc, tiling, flows, &crossings)?;

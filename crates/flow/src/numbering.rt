@@ -26,7 +26,7 @@ use tile_jobs::{Gate, JobFault};
 use tile_maps::{Runner, TileMap};
 use tiles::Tiling;
 
-/// What the jobs read to number cells: exits, their outlets, outlets' numbers.
+/// Input of the jobs that number cells: flows, outlets of exits, numbers of ends.
 #[derive(Drop)]
 struct Numbering<'a, N: EndNumbering> {
     tiling: &'a Tiling,
@@ -139,7 +139,7 @@ pub(crate) fn number_cells<R: Threads + Wait + Sync, G: Gate + Sync, N: EndNumbe
     let crossings = Crossings::of(runner.alloc, tiling, &flows)?;
     let outlets = Outlets::join(runner.alloc, tiling, &flows, &crossings)?;
     drop(crossings);
-    runner.made(Numbering {
+    runner.map_tiles(Numbering {
         tiling,
         flows,
         outlets,

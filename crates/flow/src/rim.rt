@@ -1,4 +1,7 @@
 //! The rim cells of a tile, and where their paths end inside the tile.
+//!
+//! A side number is a rim cell's number in its tile (`Bounds::side_number`); a rim number is its
+//! number among the rim cells of all tiles (`Tiling::rim_number`).
 ghost use Rattle.std.specs.Prelude.{◌≡◌, ◌*◌, ◌^◌, ◌<◌, ◌≤◌, length, IfOk, IfSome};
 ghost use Rattle.tiles.specs.Cutting.{IsInBounds, IsWithinLimits, index_in};
 ghost use Rattle.tiles.specs.RimNumbers.{stride};
@@ -14,7 +17,7 @@ use terrain::Place;
 use tiles::Bounds;
 
 /// Returns the cell of a tile with this side number, if there is one.
-/// A corner has only the first of its two numbers; a smaller tile does not use all numbers.
+/// A cell on two sides has only the first of its numbers; a smaller tile does not use all numbers.
 #[inline(always)]
 pub(crate) fn side_cell(largest: Bounds, bounds: Bounds, side: u32) -> Option<Place>
     requires largest { IsWithinLimits largest }
@@ -45,6 +48,7 @@ pub(crate) fn rim_ends(alloc: Global, bounds: Bounds, links: &[u32]) -> Result<V
     ends_of_sides(alloc, bounds, links, &mut found)
 }
 
+/// Returns the index where each rim cell's path ends, noting ends in `found`.
 #[tactic(auto, using(crate::proofs::Windows::mapped_next))]
 fn ends_of_sides(
     alloc: Global,

@@ -1,6 +1,7 @@
 //! Sums along links: each node adds its weight to every node downstream.
 //!
-//! A node linked to itself is an end. A node's donors are the other nodes linked to it.
+//! A node linked to itself is an end. A node's donors are the other nodes linked to it. Proofs name
+//! the loop of `send_from` by its label.
 ghost use Rattle.std.specs.Prelude.{◌≡◌, ◌≢◌, ◌+◌, ◌^◌, ◌<◌, ◌≤◌, ℕ, length, slice_index, IfOk};
 ghost use Rattle.flow.specs.Streams.{AreStreams, AreUpstream, total};
 ghost use Rattle.flow.specs.Sending.{IsSending, AreDonorCounts, AreZeros};

@@ -49,7 +49,7 @@ impl Model for TileFlow {
 }
 
 impl TileFlow {
-    /// Returns how many other cells flow through `place` without leaving the tile.
+    /// Returns how many other cells' flow paths reach `place` inside the tile.
     /// `None` outside the tile or without data.
     pub fn through(&self, place: Place) -> Option<u32>
         ensures { result ≡ through_in self.now place }
@@ -105,7 +105,7 @@ impl TileFlow {
         self.codes.len()
     }
 
-    /// Returns the count of the cell at this index in the tile's row order.
+    /// Returns a cell's count by its index in the tile; `None` without data or counts.
     #[inline(always)]
     fn count_at(&self, index: usize) -> Option<u32>
         requires { index < length self.now.codes }
@@ -188,6 +188,10 @@ pub(crate) fn is_outlet(code: Option<Code>) -> bool
 
 /// Returns the flow inside one tile of a map of directions.
 ///
+/// # Errors
+///
+/// [`NoMemory`] if memory runs out.
+///
 /// # Examples
 ///
 /// ```ignore
@@ -199,6 +203,7 @@ pub fn tile_flow(alloc: Global, codes: &TileView<'_, Option<Code>>) -> Result<Ti
     ensures { IfOk result (λ f.
         IsTileFlow (directed_by codes.now) codes.now.cutting codes.now.tile f) }
 {
+    // The call brings the prover `IsView` of the codes, which `bounds` ensures.
     prove!(codes.bounds().cols > 0);
     let mut flow = tile_exits(alloc, codes)?;
     let weights = tile_weights(alloc, &flow.codes)?;

@@ -21,3 +21,15 @@ value_abs z fits = omega (arith, ints, fits)
 -- A number of 64 bits times one of at most 4096 fits in 128 bits.
 pub product_fits : (z x : ℤ) → unsigned_abs z ≤ 2 ^ 63 → unsigned_abs x ≤ 4096 → FitsSigned w128 (z *ℤ x)
 product_fits z x h few = fits_signed_mul w128 z x (2 ^ 63) 4096 h few (omega arith)
+
+-- The product, as the code computes it, of a number of 64 bits and one of at most 4096.
+abbrev pub long_product : ℤ → ℤ → ℤ
+long_product z x = to_z w128 (of_z w128 (to_z w64 (of_z w64 z))) *ℤ to_z w128 (of_z w128 x)
+
+pub product_is : (z x : ℤ) → FitsSigned w64 z → unsigned_abs x ≤ 4096 →
+    FitsSigned w128 (long_product z x) × (to_z w128 (of_z w128 (long_product z x)) ≡ z *ℤ x)
+product_is z x fits few =
+    let abs = value_abs z fits in
+    let product = product_fits z x abs few in
+    rw (to_z-of_z w64 z fits, back_long z (omega (arith, abs)), back_long x (omega (arith, few)))
+    (product, to_z-of_z w128 (z *ℤ x) product)

@@ -59,7 +59,8 @@ fn push_or_extend(pieces: &mut Vec<Piece>, piece: Piece) -> Result<(), AllocErro
     Ok(())
 }
 
-/// The first piece that ends above an index. No piece before `first` may.
+/// Returns the position of the first piece that ends above `index`.
+/// No piece before position `first` may end above it.
 #[inline(always)]
 fn first_above(pieces: &[Piece], first: usize, index: usize) -> usize
     requires index { index < extent pieces.now }
@@ -120,6 +121,10 @@ impl Horizon {
     }
 
     /// Extends the horizon up to `end` by a ramp, unless it already reaches there.
+    ///
+    /// # Errors
+    ///
+    /// [`AllocError`] if an allocation fails.
     #[inline]
     pub fn push(&mut self, end: usize, ramp: Ramp) -> Result<(), AllocError>
         ensures { OnOk result (IsPushed self.old end ramp self.new) }

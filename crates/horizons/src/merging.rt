@@ -25,6 +25,7 @@ fn is_above_at(targets: &[Target], one: Ramp, other: Ramp, index: usize) -> bool
 }
 
 /// Returns whether `one` is above `other` at no target from `from` up to `end`.
+/// The difference of two ramps is straight, so the first and the last target decide.
 #[inline(always)]
 pub fn is_never_above(targets: &[Target], one: Ramp, other: Ramp, from: usize, end: usize) -> bool
     requires targets { AreTargets targets.now }
@@ -40,7 +41,7 @@ pub fn is_never_above(targets: &[Target], one: Ramp, other: Ramp, from: usize, e
 }
 
 /// Finds where the comparison of two ramps first differs from `first`, or `end`.
-/// The difference of two ramps is straight, so this changes at most once.
+/// The difference of two ramps is straight, so the comparison changes at most once.
 #[inline(always)]
 fn first_change(
     targets: &[Target],
@@ -76,6 +77,10 @@ fn first_change(
 }
 
 /// Extends a horizon up to `end` by the greater of two ramps at each target.
+///
+/// # Errors
+///
+/// [`AllocError`] if an allocation fails.
 ///
 /// # Examples
 ///

@@ -12,7 +12,7 @@ pub type Value = i64;
 type Product = i128;
 
 /// A straight line over the slope `s`: `(gain * s + level) / lines`.
-/// It is the ground's rise above the eye a line, at `s` cells aside a line.
+/// Its value is the ground's rise above the eye per line, in units; `s` is cells aside per line.
 #[derive(Clone, Copy, PartialEq)]
 pub struct Ramp {
     pub gain: Value,

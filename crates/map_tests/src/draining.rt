@@ -27,6 +27,7 @@ fn number(level: Height, steps: u32, edge: bool, ways: [Option<(Height, u32)>; 8
 
 const NONE: Option<(Height, u32)> = None;
 
+/// An edge cell drains to the steeper of two lower cells; without one it has 0.
 #[test]
 fn code_of_one_cell(rt: HostRuntime) {
     let (side, corner, n) = (Some((15, 0)), Some((13, 0)), NONE);
@@ -37,6 +38,7 @@ fn code_of_one_cell(rt: HostRuntime) {
     assert_eq!(rt; number(20, 0, true, [same, same, n, n, n, n, n, n]), 0);
 }
 
+/// Drops decide first, then on flats the fewest steps and the smallest code.
 #[test]
 fn codes_of_surroundings(rt: HostRuntime) {
     let (side, corner, s) = (Some((15, 0)), Some((13, 0)), Some((20, 0)));
@@ -50,7 +52,7 @@ fn codes_of_surroundings(rt: HostRuntime) {
     );
 }
 
-/// Returns the faults of the four drainage maps for a number of workers.
+/// Returns the faults of filling, directions, accumulation and basins.
 fn faults<R: Abort + Threads + Wait + Sync>(
     rt: &R,
     alloc: Global,

@@ -6,7 +6,7 @@ ghost use Rattle.tiles.specs.Cutting.{Cuts, tile_count};
 ghost use Rattle.drain.specs.Beginning.{AreBegun};
 ghost use Rattle.drain.specs.Steps.{IsLower, HasLower, DrainsAtOnce};
 
-use crate::ground::{PITS, cut, land};
+use crate::ground::{PIT_OF_TWO, cut, land};
 use crate::maps::agree;
 use crate::refused::again;
 use drain::flat_steps;
@@ -171,7 +171,7 @@ fn hole_among_nines(rt: HostRuntime) {
 #[test]
 fn pits_as_read(rt: HostRuntime) {
     let alloc = rt.alloc();
-    let pits = land(&rt, alloc, 4, 4, PITS);
+    let pits = land(&rt, alloc, 4, 4, PIT_OF_TWO);
     let wanted = land(&rt, alloc, 4, 4, "0 0 0 0\n0 -9999 0 0\n0 0 0 0\n0 0 0 0");
     assert!(rt; agree(&first_round(&rt, alloc, &pits, 4, 0), &wanted));
 }

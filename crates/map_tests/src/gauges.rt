@@ -1,8 +1,8 @@
 //! Catchments of gauges on small terrains.
 //!
 //! Values come from worked examples, or from a separate program that follows the definition.
-use crate::ground::{PITS, cut, land};
-use crate::maps::{agree, told};
+use crate::ground::{PIT_OF_TWO, cut, land};
+use crate::maps::{agree, values_of};
 use crate::stages::{directions_of, filled_grid};
 use flow::{GaugeFault, MOST_GAUGES, catchments};
 use std::alloc::Global;
@@ -62,14 +62,14 @@ fn expect_catchments<R: Abort + Threads + Wait + Sync>(
             rt,
             "catchments",
         );
-        let values = told(alloc, &counts).expect(rt, "values");
+        let values = values_of(alloc, &counts).expect(rt, "values");
         assert!(rt; agree(&values, &wanted), "side {side}, {workers} workers");
     }
 }
 
 #[test]
 fn one_gauge_in_a_valley(rt: HostRuntime) {
-    let pits = land(&rt, rt.alloc(), 4, 4, PITS);
+    let pits = land(&rt, rt.alloc(), 4, 4, PIT_OF_TWO);
     expect_catchments(
         &rt,
         rt.alloc(),
@@ -82,7 +82,7 @@ fn one_gauge_in_a_valley(rt: HostRuntime) {
 /// Each cell has the number of the first gauge on its flow path.
 #[test]
 fn nested_gauges(rt: HostRuntime) {
-    let pits = land(&rt, rt.alloc(), 4, 4, PITS);
+    let pits = land(&rt, rt.alloc(), 4, 4, PIT_OF_TWO);
     let gauges = [place(3, 3), place(1, 1), place(2, 2)];
     expect_catchments(
         &rt,
@@ -95,7 +95,7 @@ fn nested_gauges(rt: HostRuntime) {
 
 #[test]
 fn first_entry_of_a_cell_counts(rt: HostRuntime) {
-    let pits = land(&rt, rt.alloc(), 4, 4, PITS);
+    let pits = land(&rt, rt.alloc(), 4, 4, PIT_OF_TWO);
     expect_catchments(
         &rt,
         rt.alloc(),
@@ -107,7 +107,7 @@ fn first_entry_of_a_cell_counts(rt: HostRuntime) {
 
 #[test]
 fn no_gauge(rt: HostRuntime) {
-    let pits = land(&rt, rt.alloc(), 4, 4, PITS);
+    let pits = land(&rt, rt.alloc(), 4, 4, PIT_OF_TWO);
     expect_catchments(
         &rt,
         rt.alloc(),
@@ -117,7 +117,7 @@ fn no_gauge(rt: HostRuntime) {
     );
 }
 
-/// One gauge inside the flat; then three, one at the outlet and two on rims.
+/// One gauge inside the flat; then three, the first at the outlet.
 #[test]
 fn gauges_on_a_flat_through_ten_tiles(rt: HostRuntime) {
     let winding = land(&rt, rt.alloc(), 7, 7, WINDING);

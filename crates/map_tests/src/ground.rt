@@ -7,8 +7,8 @@ use std::process::Abort;
 use terrain::{Cell, Grid, Height};
 use tiles::Tiling;
 
-/// Pits along the diagonal of 4 by 4 cells, which spill at the last one's height.
-pub(crate) const PITS: &str = "9 9 9 9\n9 1 9 9\n9 9 2 9\n9 9 9 3";
+/// A pit of two cells on the diagonal of 4 by 4 cells, which spills at height 3.
+pub(crate) const PIT_OF_TWO: &str = "9 9 9 9\n9 1 9 9\n9 9 2 9\n9 9 9 3";
 
 /// Returns a grid of these whole heights; -9999 is NODATA.
 pub(crate) fn land(rt: &impl Abort, alloc: Global, cols: u32, rows: u32, heights: &str) -> Grid {

@@ -2,8 +2,8 @@
 //!
 //! Modules:
 //!
-//! - `streams`: all drainage maps of small terrains
-//! - `maps`: compares all maps of a terrain with expected ones
+//! - `streams`: filled heights, codes, accumulations and basins of small terrains
+//! - `maps`: compares a terrain's drainage maps, without catchments, with expected ones
 //! - `stages`: filling and directions, without a gate
 //! - `ground`: builds, cuts and compares small grids
 //! - `nodes`: floods of a net of four nodes
@@ -14,7 +14,7 @@
 //! - `flows`: flow in tiles and over their rims
 //! - `gauges`: catchments of gauges
 //! - `seeing`: lines of sight and viewsheds
-//! - `pits`: calls that were refused memory
+//! - `pits`: calls that may be refused memory
 //! - `refused`: repeats a call that was refused memory
 #![tactic(auto)]
 

@@ -85,7 +85,7 @@ fn lowest_of_nine(levels: &[Option<Height>], cols: u8, row: u8, col: u8) -> Opti
     Some(lowest)
 }
 
-/// Lowers each inner level to its height or, if that is lower, the least nearby.
+/// Lowers each inner level to the least level nearby, but not below its height.
 fn sweep(heights: &[Option<Height>], levels: &mut [Option<Height>], cols: u8, rows: u8) {
     for row in 1..=rows {
         for col in 1..=cols {

@@ -1,4 +1,6 @@
-//! Compares all drainage maps of a terrain with expected ones, for many tilings and workers.
+//! Compares a terrain's drainage maps, without catchments, with expected ones.
+//!
+//! Each comparison takes many tile sides and numbers of workers.
 use crate::ground::{cut, expect_cells, expect_heights, land};
 use crate::stages::{directions_of, filled_grid};
 use drain::Code;
@@ -56,7 +58,7 @@ fn numbers(alloc: Global, codes: &[Option<Code>]) -> Result<Vec<Option<u32>>, No
 }
 
 /// Returns the values of counts.
-pub(crate) fn told(alloc: Global, counts: &[Count]) -> Result<Vec<Option<u32>>, AllocError> {
+pub(crate) fn values_of(alloc: Global, counts: &[Count]) -> Result<Vec<Option<u32>>, AllocError> {
     counts.iter().map(|count| count.value()).collect(alloc)
 }
 
@@ -93,9 +95,9 @@ impl Maps {
         let ways = directions_of(rt, alloc, &level, &tiling, workers).expect(rt, "ways");
         let codes = numbers(alloc, ways.codes()).expect(rt, "codes");
         let counts = accumulation(rt, alloc, &ways, &tiling, workers, &NoGate).expect(rt, "counts");
-        let counts = told(alloc, &counts).expect(rt, "counts told");
+        let counts = values_of(alloc, &counts).expect(rt, "counts values_of");
         let numbers = basins(rt, alloc, &ways, &tiling, workers, &NoGate).expect(rt, "basins");
-        let numbers = told(alloc, &numbers).expect(rt, "basins told");
+        let numbers = values_of(alloc, &numbers).expect(rt, "basins values_of");
         let agreed = [
             self.agrees(rt, alloc, &codes, self.codes),
             self.agrees(rt, alloc, &counts, self.accumulation),

@@ -79,6 +79,7 @@ fn expect_labels(rt: &impl Abort, flooded: &Flooded, labels: &[Option<u32>]) {
     assert_eq!(rt; flooded.label.as_slice(), labels);
 }
 
+/// A source labels its own node unless the other source's crest there is lower.
 #[test]
 fn four_nodes(rt: HostRuntime) -> Result<(), Fail> {
     let two = Some(2);

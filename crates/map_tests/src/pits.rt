@@ -1,10 +1,10 @@
-//! Calls that allocate, on a grid of pits. A call that is refused memory is repeated.
+//! Calls that allocate, on a grid with a pit. A call that is refused memory is repeated.
 ghost use Rattle.std.specs.Prelude.{◌≡◌, ◌<◌, ◌*◌, length};
 ghost use Rattle.fill.specs.Spills.{AreFloods};
 
 use crate::filling::{floods_of, label_levels};
 use crate::flows::{expect_links, flow_of, flows_of};
-use crate::ground::{PITS, cut, expect_heights, land};
+use crate::ground::{PIT_OF_TWO, cut, expect_heights, land};
 use crate::refused::again;
 use crate::stages::{directions_of, filled_grid};
 use fill::{CellNet, TileFlood, flood, raise, tile_flood};
@@ -17,7 +17,7 @@ const C: Option<Height> = Some(3);
 
 const H: Option<Height> = Some(9);
 
-/// The filled pits, with NODATA around them as in a net of cells.
+/// [`PIT_OF_TWO`] filled, with NODATA around it as in a net of cells.
 const FILLED_IN_NET: &str = "-9999 -9999 -9999 -9999 -9999 -9999\n\
     -9999 9 9 9 9 -9999\n\
     -9999 9 3 9 9 -9999\n\
@@ -26,7 +26,7 @@ const FILLED_IN_NET: &str = "-9999 -9999 -9999 -9999 -9999 -9999\n\
     -9999 -9999 -9999 -9999 -9999 -9999";
 
 fn pits(rt: &impl Abort, alloc: Global) -> Grid {
-    land(rt, alloc, 4, 4, PITS)
+    land(rt, alloc, 4, 4, PIT_OF_TWO)
 }
 
 #[test]
@@ -40,7 +40,7 @@ fn cells_of_tiles(rt: HostRuntime) {
         Vec::from_slice(alloc, &[Some(2), H, H, C]).expect(&rt, "a list"),
     ];
     let whole = again!(&rt, tiling.put_back(alloc, &lists));
-    expect_heights(&rt, alloc, &whole, 4, 4, PITS);
+    expect_heights(&rt, alloc, &whole, 4, 4, PIT_OF_TWO);
 }
 
 #[test]

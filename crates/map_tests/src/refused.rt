@@ -1,6 +1,6 @@
 //! Repeats a call that was refused memory.
 
-/// Gives the result of a call, or of its repetition if memory was refused.
+/// The result of a call, or of its repetition if memory was refused.
 macro_rules! again {
     ($rt:expr, $call:expr) => {
         match $call {

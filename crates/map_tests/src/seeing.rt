@@ -92,6 +92,7 @@ fn expect_far<R: Abort + Threads + Wait + Sync>(
     );
 }
 
+/// A ridge hides a cell, unless eye or target is high enough.
 #[test]
 fn one_line(rt: HostRuntime) {
     let land = land(&rt, rt.alloc(), 3, 1, "0 6 10");
@@ -107,6 +108,7 @@ fn one_line(rt: HostRuntime) {
     assert!(rt; !sees(&land, &CORNER, beyond, 2, 1));
 }
 
+/// Ground as high as the line does not block; ground one unit higher does.
 #[test]
 fn as_high_as_the_line(rt: HostRuntime) {
     let level = land(&rt, rt.alloc(), 3, 1, "0 5 10");
@@ -115,12 +117,14 @@ fn as_high_as_the_line(rt: HostRuntime) {
     expect_far(&rt, rt.alloc(), &higher, &[CORNER], 0, "110");
 }
 
+/// A crossing between a high cell and NODATA does not block.
 #[test]
 fn no_data_tests_nothing(rt: HostRuntime) {
     let gap = land(&rt, rt.alloc(), 3, 2, "0 30000 0\n0 -9999 0");
     expect_far(&rt, rt.alloc(), &gap, &[CORNER], 0, "110 1.1");
 }
 
+/// At a crossing between two cells their average height decides.
 #[test]
 fn heights_between_two_cells(rt: HostRuntime) {
     let above = land(&rt, rt.alloc(), 3, 2, "0 8 0\n0 -7 0");
@@ -156,6 +160,7 @@ fn nobody_looks(rt: HostRuntime) {
     expect_far(&rt, rt.alloc(), &gap, &[], 0, "0.0");
 }
 
+/// Heights, eyes and targets at their limits.
 #[test]
 fn greatest_numbers(rt: HostRuntime) {
     let heights =
@@ -326,12 +331,12 @@ fn refused_observers(rt: HostRuntime) {
         (observer(0, 0, 1_000_001), SightFault::BadEye(Some(1))),
         (observer(9, 9, 1_000_001), SightFault::BadEye(Some(1))),
     ] {
-        let told = refusal(&rt, rt.alloc(), &[CORNER, second], 0, FARTHEST, 1);
-        assert_eq!(rt; told, Some(fault), "{second:?}");
+        let values_of = refusal(&rt, rt.alloc(), &[CORNER, second], 0, FARTHEST, 1);
+        assert_eq!(rt; values_of, Some(fault), "{second:?}");
     }
     let first = [observer(1, 1, 0), observer(9, 9, 0)];
-    let told = refusal(&rt, rt.alloc(), &first, 0, FARTHEST, 1);
-    assert_eq!(rt; told, Some(SightFault::OnNodata(0)));
+    let values_of = refusal(&rt, rt.alloc(), &first, 0, FARTHEST, 1);
+    assert_eq!(rt; values_of, Some(SightFault::OnNodata(0)));
 }
 
 /// A target height above the limit is refused for any number of observers.
@@ -366,22 +371,22 @@ fn refusals_in_order(rt: HostRuntime) {
     let outside = observer(9, 9, 0);
     let many = [bad; 1025];
     let most = [bad; 1024];
-    let told = refusal(&rt, rt.alloc(), &many, 1_000_001, 0, 0);
-    assert_eq!(rt; told, Some(SightFault::TooManyObservers));
-    let told = refusal(&rt, rt.alloc(), &most, 1_000_001, 0, 0);
-    assert_eq!(rt; told, Some(SightFault::BadEye(None)));
-    let told = refusal(&rt, rt.alloc(), &most, 1_000_000, 0, 0);
-    assert_eq!(rt; told, Some(SightFault::BadEye(Some(0))));
+    let values_of = refusal(&rt, rt.alloc(), &many, 1_000_001, 0, 0);
+    assert_eq!(rt; values_of, Some(SightFault::TooManyObservers));
+    let values_of = refusal(&rt, rt.alloc(), &most, 1_000_001, 0, 0);
+    assert_eq!(rt; values_of, Some(SightFault::BadEye(None)));
+    let values_of = refusal(&rt, rt.alloc(), &most, 1_000_000, 0, 0);
+    assert_eq!(rt; values_of, Some(SightFault::BadEye(Some(0))));
     for radius in [0, 8_193] {
-        let told = refusal(&rt, rt.alloc(), &[outside], 0, radius, 0);
-        assert_eq!(rt; told, Some(SightFault::BadRadius), "{radius}");
+        let values_of = refusal(&rt, rt.alloc(), &[outside], 0, radius, 0);
+        assert_eq!(rt; values_of, Some(SightFault::BadRadius), "{radius}");
     }
-    let told = refusal(&rt, rt.alloc(), &[outside], 0, 1, 0);
-    assert_eq!(rt; told, Some(SightFault::Outside(0)));
+    let values_of = refusal(&rt, rt.alloc(), &[outside], 0, 1, 0);
+    assert_eq!(rt; values_of, Some(SightFault::Outside(0)));
     for workers in [0, 65] {
-        let told = refusal(&rt, rt.alloc(), &[CORNER], 0, 1, workers);
+        let values_of = refusal(&rt, rt.alloc(), &[CORNER], 0, 1, workers);
         assert_eq!(rt;
-            told,
+            values_of,
             Some(SightFault::Jobs(JobFault::BadWorkers)),
             "{workers}"
         );

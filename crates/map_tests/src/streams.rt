@@ -183,7 +183,7 @@ fn level_ground(rt: HostRuntime) {
     maps.expect(&rt, rt.alloc());
 }
 
-/// First, more outlets than a block has codes. Then no outlet in the first block:
+/// More outlets than the 16 codes of a block; then no outlet in the first block:
 /// a river along row 0 to its end, a ridge, and pairs of cells whose second is an outlet.
 #[test]
 fn outlets_of_several_runs(rt: HostRuntime) {

@@ -26,7 +26,7 @@ reading_refused remaining contents w reader left writer (input.Grid f) reads =
     let same : left.failures ≡ reader.failures = reads.sound (λ e. cc) in record {
       taken = reads.taken;
       written = tt;
-      refused = λ text told. reads.fault text f told refl;
+      refused = λ text reported. reads.fault text f reported refl;
       unwritten = λ other. refl;
       part = λ e. absurd (cc);
       read = (λ e. absurd (cc), λ more. absurd (omega arith));
@@ -38,7 +38,7 @@ reading_refused remaining contents w reader left writer input.Read reads =
     let more : left.failures ≡ reader.failures + 1 = reads.read refl in record {
       taken = reads.taken;
       written = tt;
-      refused = λ text told. tt;
+      refused = λ text reported. tt;
       unwritten = λ other. refl;
       part = λ e. absurd (cc);
       read = (λ e. omega arith, λ less. refl);
@@ -52,14 +52,14 @@ module _ {R W : Type 0} (remaining : R → Option (List ℕ)) (contents : W → 
   same = reads.sound (λ bad. cc)
 
   whole : (text : List ℕ) → remaining reader.device ≡ Some text → IsGridText w.scale text g
-  whole text told = subst (λ (z : List ℕ). IsGridText w.scale z g) (consumed_end _ _ text reads.taken.bytes told reads.taken.read.known reads.grid.1) reads.grid.0
+  whole text reported = subst (λ (z : List ℕ). IsGridText w.scale z g) (consumed_end _ _ text reads.taken.bytes reported reads.taken.read.known reads.grid.1) reads.grid.0
 
   pub making_refused : (f : RunFault) → IsWorkRefusal w g f → Runs {T = Unit {0}} remaining contents w reader left writer writer (Err f)
   making_refused f refusal =
       let other = work_is_no_device w g f refusal in record {
         taken = reads.taken;
         written = tt;
-        refused = λ text told. work_refused w text g f (whole text told) refusal;
+        refused = λ text reported. work_refused w text g f (whole text reported) refusal;
         unwritten = λ no_write. refl;
         part = λ e. absurd (other.1 (let same_fault : f ≡ Write = cc in same_fault));
         read = (λ e. absurd (other.0 (let same_fault : f ≡ Read = cc in same_fault)), λ more. absurd (omega (arith, same)));
@@ -75,7 +75,7 @@ module _ {R W : Type 0} (remaining : R → Option (List ℕ)) (contents : W → 
         let more : grown.failures ≡ writer.failures + 1 = writes.count.err in record {
           taken = reads.taken;
           written = tt;
-          refused = λ text told. (g, whole text told, sym (fault_without w g w.sinks) ∙ ready);
+          refused = λ text reported. (g, whole text reported, sym (fault_without w g w.sinks) ∙ ready);
           unwritten = λ other. absurd (other refl);
           part = λ failed. (map, map_of_text w reads.taken.bytes map g reads.grid.0 made, writes.part, reads.grid.1);
           read = (λ failed. absurd (cc), λ less. absurd (omega (arith, same)));
@@ -88,7 +88,7 @@ module _ {R W : Type 0} (remaining : R → Option (List ℕ)) (contents : W → 
     ran writes = record {
       taken = reads.taken;
       written = (map, map_of_text w reads.taken.bytes map g reads.grid.0 made, writes.all, reads.grid.1);
-      refused = λ text told. tt;
+      refused = λ text reported. tt;
       unwritten = tt;
       part = λ e. absurd (cc);
       read = (λ e. absurd (cc), λ more. absurd (omega (arith, same)));

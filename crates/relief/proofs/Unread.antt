@@ -9,10 +9,10 @@ use Rattle.clap.specs.declared.error.kind.ErrorKind.{ErrorKind}
 use Rattle.clap.specs.declared.error.kind.ErrorKind.TheVariants.{OutOfMemory}
 use Rattle.ascii_grid.specs.Device.{Device}
 use Rattle.request.specs.CommandLine.{HasBadGauge, HasBadObserver, HasBadSink, IsHelp, program_app}
-use Rattle.relief.specs.Ends.{EndsLine, EndsShowing, EndsUnread, IsRefusalText, Tells}
+use Rattle.relief.specs.Ends.{EndsLine, EndsShowing, EndsUnread, IsRefusalText, WritesLine}
 use Rattle.request.specs.WordsFaults.{IsFaultOf}
 use Rattle.request.specs.declared.words.WordsFault.TheVariants.{NoMap}
-use Rattle.request.proofs.Asked.{bad_alone, bad_gauge_alone, bad_gauge_requests_none, bad_sink_requests_none, bad_requests_none, no_gauge_observed, one_bad, one_bad_gauge, one_bad_sink}
+use Rattle.request.proofs.Requested.{bad_alone, bad_gauge_alone, bad_gauge_requests_none, bad_sink_requests_none, bad_requests_none, no_gauge_observed, one_bad, one_bad_gauge, one_bad_sink}
 
 any_among : (P : ErrorKind → Type 0) (k : ErrorKind) (ks : Kinds) → P k → IsAmong k ks → Any P ks
 any_among P k [] p among = absurd among
@@ -28,14 +28,14 @@ help_is_no_want : (k : ErrorKind) → IsHelp k → k ≡ OutOfMemory → ⊥
 help_is_no_want k (inl help) want = absurd (cc)
 help_is_no_want k (inr version) want = absurd (cc)
 
-module _ {R W E : Type 0} (contents : W → Option (List ℕ)) (lines : E → Option (List ℕ)) (words : List Text) (reader : Device R) (writer grown : Device W) (errors told : Device E) (status : ℕ) where
+module _ {R W E : Type 0} (contents : W → Option (List ℕ)) (lines : E → Option (List ℕ)) (words : List Text) (reader : Device R) (writer grown : Device W) (errors reported : Device E) (status : ℕ) where
   abbrev Unread : Type 0
-  Unread = EndsUnread contents lines words reader reader writer grown errors told status
+  Unread = EndsUnread contents lines words reader reader writer grown errors reported status
 
-  pub words_refused : (text : List ℕ) → IsRefusalText words text → Tells lines errors told text → grown ≡ writer → status ≡ 1 → Unread
+  pub words_refused : (text : List ℕ) → IsRefusalText words text → WritesLine lines errors reported text → grown ≡ writer → status ≡ 1 → Unread
   words_refused text refusal told_text same refused = record { unread = refl; reason = inr (inl ((text, refusal, told_text), refused, same)) }
 
-  pub shown : (e : Error) → EndsShowing contents lines (kind_of e) writer grown errors told status → HasKind (fault_of program_app words) e → Unread
+  pub shown : (e : Error) → EndsShowing contents lines (kind_of e) writer grown errors reported status → HasKind (fault_of program_app words) e → Unread
   shown e (inl help) (inl want) = absurd (help_is_no_want (kind_of e) help.0 want)
   shown e (inl help) (inr among) = record {
     unread = refl;

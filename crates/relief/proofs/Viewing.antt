@@ -24,7 +24,7 @@ use Rattle.relief.specs.declared.fault.RunFault.{RunFault}
 
 pub no_fault : {T : Type 0} (fault : Option SightFault) (workers : ℕ) (x : T) → RefusesSight fault workers (Ok x) → fault ≡ None
 no_fault None workers x h = refl
-no_fault (Some f) workers x h = let bad = h.told f refl in absurd (cc)
+no_fault (Some f) workers x h = let bad = h.reported f refl in absurd (cc)
 
 -- a fault of the observers is a work refusal
 sight_refused : (w : Request) (g : Raster) (f : SightFault) → ((x : JobFault) → f ≡ sight.Jobs x → ⊥) → request_fault w g ≡ Some (Sight f) → IsWorkRefusal w g (of_sight f)
@@ -50,19 +50,19 @@ of_jobs fault f (inr (inr e)) = (jobs.NoThread, e)
 pub view_refused : {T : Type 0} (w : Request) (g : Raster) (fault : Option SightFault) (f : SightFault) → 1 ≤ w.workers → w.workers ≤ 64 → ((x : JobFault) → fault ≡ Some (sight.Jobs x) → ⊥)
     → request_fault w g ≡ option_map Sight fault → RefusesSight {T = T} fault w.workers (Err f) → IsWorkRefusal w g (of_sight f)
 view_refused w g None f some few other is h =
-    let told = of_jobs sight.Jobs f (h.jobs refl f refl) in
-    subst (λ (s : SightFault). IsWorkRefusal w g (of_sight s)) (sym told.1)
-    (job_refused w g some few is told.0 (λ e. (h.bad_workers refl).0 (ap Err (told.1 ∙ ap sight.Jobs e))) (λ e. h.no_thread (ap Err (told.1 ∙ ap sight.Jobs e))))
+    let reported = of_jobs sight.Jobs f (h.jobs refl f refl) in
+    subst (λ (s : SightFault). IsWorkRefusal w g (of_sight s)) (sym reported.1)
+    (job_refused w g some few is reported.0 (λ e. (h.bad_workers refl).0 (ap Err (reported.1 ∙ ap sight.Jobs e))) (λ e. h.no_thread (ap Err (reported.1 ∙ ap sight.Jobs e))))
 view_refused w g (Some k) f some few other is h =
-    let same : k ≡ f = let told = h.told k refl in cc in
+    let same : k ≡ f = let reported = h.reported k refl in cc in
     sight_refused w g f (λ x bad. other x (ap Some (same ∙ bad))) (is ∙ ap (λ (s : SightFault). Some (Sight s)) same)
 
 pub catchments_refused : {T : Type 0} (w : Request) (g : Raster) (fault : Option GaugeFault) (f : GaugeFault) → 1 ≤ w.workers → w.workers ≤ 64 → fault ≡ None
     → request_fault w g ≡ None → RefusesGauges {T = T} fault w.workers (Err f) → IsWorkRefusal w g (of_gauges f)
 catchments_refused w g fault f some few sound is h =
-    let told = of_jobs gauges.Jobs f (h.jobs sound f refl) in
-    subst (λ (k : GaugeFault). IsWorkRefusal w g (of_gauges k)) (sym told.1)
-    (job_refused w g some few is told.0 (λ e. (h.bad_workers sound).0 (ap Err (told.1 ∙ ap gauges.Jobs e))) (λ e. h.no_thread (ap Err (told.1 ∙ ap gauges.Jobs e))))
+    let reported = of_jobs gauges.Jobs f (h.jobs sound f refl) in
+    subst (λ (k : GaugeFault). IsWorkRefusal w g (of_gauges k)) (sym reported.1)
+    (job_refused w g some few is reported.0 (λ e. (h.bad_workers sound).0 (ap Err (reported.1 ∙ ap gauges.Jobs e))) (λ e. h.no_thread (ap Err (reported.1 ∙ ap gauges.Jobs e))))
 
 -- only tiles, sinks, gauges and observers forbid a map
 abbrev pub Forbids : RunFault → Type 0

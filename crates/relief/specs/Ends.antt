@@ -13,33 +13,33 @@ use Rattle.relief.specs.Runs.{Runs}
 use Rattle.request.specs.CommandLine.{AskForHelp, AreRefused, HasBadGauge, HasBadObserver, HasBadSink, IsHelp, RequestFor}
 
 -- `text` was written to the device, or a front part of it if the write failed.
-abbrev pub Tells : {D : Type 0} → (D → Option (List ℕ)) → Device D → Device D → List ℕ → Type 0
-Tells contents old new text =
+abbrev pub WritesLine : {D : Type 0} → (D → Option (List ℕ)) → Device D → Device D → List ℕ → Type 0
+WritesLine contents old new text =
     (written : Result ⊤ WriteFailed) × Writes contents old new text written
 
 -- A complete run writes nothing on the errors and has status 0. A fault writes its line and has its
 -- own status.
 abbrev pub EndsAs : {E : Type 0} → (E → Option (List ℕ)) → Device E → Device E → Result ⊤ RunFault →
     ℕ → Type 0
-EndsAs lines errors told result status = MatchResult result
-    (λ _. (status ≡ 0) × (told ≡ errors))
-    (λ f. (status ≡ fault_status f) × Tells lines errors told (fault_line f))
+EndsAs lines errors reported result status = MatchResult result
+    (λ _. (status ≡ 0) × (reported ≡ errors))
+    (λ f. (status ≡ fault_status f) × WritesLine lines errors reported (fault_line f))
 
 -- The program ran the requested map and ends as the run's result demands.
 pub record EndsRun {R W E : Type 0} (remaining : R → Option (List ℕ))
     (contents : W → Option (List ℕ)) (lines : E → Option (List ℕ)) (request : Request)
-    (reader left : Device R) (writer grown : Device W) (errors told : Device E)
+    (reader left : Device R) (writer grown : Device W) (errors reported : Device E)
     (status : ℕ) : Type 0 where
   pub result : Result ⊤ RunFault
   pub runs : Runs remaining contents request reader left writer grown result
-  pub ends : EndsAs lines errors told result status
+  pub ends : EndsAs lines errors reported result status
 
 -- The text ends with a line feed.
 abbrev pub EndsLine : List ℕ → Type 0
 EndsLine text = (front : List ℕ) × (text ≡ front ++ codes "\n")
 
--- A message for refused words, which ends a line. For a bad observer, gauge or sink word it gives
--- the place of the first. The words of other messages are left open.
+-- A message for refused words, with a line feed last. For a bad observer, gauge or sink word it
+-- gives the place of the first. The words of other messages are left open.
 pub record IsRefusalText (words : List Text) (text : List ℕ) : Type 0 where
   pub refused : AreRefused words
   pub line : EndsLine text
@@ -54,30 +54,32 @@ pub record IsRefusalText (words : List Text) (text : List ℕ) : Type 0 where
 -- are refused, with a message on the errors; or memory was refused.
 pub record EndsUnread {R W E : Type 0} (contents : W → Option (List ℕ))
     (lines : E → Option (List ℕ)) (words : List Text) (reader left : Device R)
-    (writer grown : Device W) (errors told : Device E) (status : ℕ) : Type 0 where
+    (writer grown : Device W) (errors reported : Device E) (status : ℕ) : Type 0 where
   pub unread : left ≡ reader
   pub reason : (AskForHelp words × (status ≡ 0)
-      × ((text : List ℕ) × EndsLine text × Tells contents writer grown text) × (told ≡ errors))
-      ⊎ (((text : List ℕ) × IsRefusalText words text × Tells lines errors told text) × (status ≡ 1)
-      × (grown ≡ writer))
-      ⊎ ((status ≡ 3) × (grown ≡ writer) × (told ≡ errors))
+      × ((text : List ℕ) × EndsLine text × WritesLine contents writer grown text)
+      × (reported ≡ errors))
+      ⊎ (((text : List ℕ) × IsRefusalText words text × WritesLine lines errors reported text)
+      × (status ≡ 1) × (grown ≡ writer))
+      ⊎ ((status ≡ 3) × (grown ≡ writer) × (reported ≡ errors))
 
 -- The program ends without reading the grid, or it ran the map that its words request.
 abbrev pub EndsProgram : {R W E : Type 0} → (R → Option (List ℕ)) → (W → Option (List ℕ)) →
     (E → Option (List ℕ)) → List Text → Device R → Device R → Device W → Device W → Device E →
     Device E → ℕ → Type 0
-EndsProgram remaining contents lines words reader left writer grown errors told status =
-    EndsUnread contents lines words reader left writer grown errors told status
+EndsProgram remaining contents lines words reader left writer grown errors reported status =
+    EndsUnread contents lines words reader left writer grown errors reported status
     ⊎ ((request : Request) × RequestFor words request
-    × EndsRun remaining contents lines request reader left writer grown errors told status)
+    × EndsRun remaining contents lines request reader left writer grown errors reported status)
 
 -- How an error of `clap` of this kind is written, and the exit status.
 abbrev pub EndsShowing : {W E : Type 0} → (W → Option (List ℕ)) → (E → Option (List ℕ)) →
     ErrorKind → Device W → Device W → Device E → Device E → ℕ → Type 0
-EndsShowing contents lines kind writer grown errors told status =
+EndsShowing contents lines kind writer grown errors reported status =
     (IsHelp kind × (status ≡ 0)
-    × ((text : List ℕ) × EndsLine text × Tells contents writer grown text) × (told ≡ errors))
+    × ((text : List ℕ) × EndsLine text × WritesLine contents writer grown text)
+    × (reported ≡ errors))
     ⊎ ((¬ IsHelp kind × (kind ≢ OutOfMemory))
-    × ((text : List ℕ) × EndsLine text × Tells lines errors told text) × (status ≡ 1)
+    × ((text : List ℕ) × EndsLine text × WritesLine lines errors reported text) × (status ≡ 1)
     × (grown ≡ writer))
-    ⊎ ((status ≡ 3) × (grown ≡ writer) × (told ≡ errors))
+    ⊎ ((status ≡ 3) × (grown ≡ writer) × (reported ≡ errors))

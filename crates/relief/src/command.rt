@@ -3,7 +3,7 @@ ghost use Rattle.std.specs.Prelude.{◌≡◌, ◌≤◌, ◌<◌, ◌-◌, ◌^
 ghost use Rattle.ascii_grid.specs.Device.{Writes};
 ghost use Rattle.clap.specs.Words.{kind_of};
 ghost use Rattle.request.specs.CommandLine.{words_given};
-ghost use Rattle.relief.specs.Ends.{EndsLine, EndsProgram, EndsRun, EndsShowing, Tells};
+ghost use Rattle.relief.specs.Ends.{EndsLine, EndsProgram, EndsRun, EndsShowing, WritesLine};
 ghost use Rattle.relief.specs.FaultLine.{fault_line, fault_status};
 ghost use Rattle.relief.specs.Runs.{Runs};
 
@@ -46,11 +46,11 @@ fn write_line<W: Write>(text: &str, out: &mut Counted<W>) -> Result<(), WriteFai
     out.flush()
 }
 
-/// Writes `text` as a line, and returns `status` even if the write fails.
+/// Writes `text` and a line feed, and returns `status` even if the write fails.
 fn show<W: Write>(text: &str, out: &mut Counted<W>, status: u8) -> u8
     requires { out.old.failures < 2 ^ 64 - 1 }
     ensures status { result ≡ status }
-    ensures line { (line : List ℕ) × EndsLine line × Tells W.contents out.old out.new line }
+    ensures line { (line : List ℕ) × EndsLine line × WritesLine W.contents out.old out.new line }
 {
     let _ = write_line(text, out);
     status
@@ -210,7 +210,7 @@ fn run_options<H: Threads + Wait + Sync, R: Read, W: Write, E: Write, P: Progres
 fn end_with<E: Write>(fault: &RunFault, errors: &mut Counted<E>) -> u8
     requires { errors.old.failures < 2 ^ 64 - 1 }
     ensures status { result ≡ fault_status fault.now }
-    ensures line { Tells E.contents errors.old errors.new (fault_line fault.now) }
+    ensures line { WritesLine E.contents errors.old errors.new (fault_line fault.now) }
 {
     let _ = tell(fault, errors);
     fault.status()

@@ -34,7 +34,7 @@ pub enum RunFault {
 }
 
 impl From<InputFault> for RunFault {
-    ghost from_gives = { λ fault told. told ≡ of_input fault };
+    ghost from_gives = { λ fault reported. reported ≡ of_input fault };
 
     fn from(fault: InputFault) -> Self {
         match fault {
@@ -45,7 +45,7 @@ impl From<InputFault> for RunFault {
 }
 
 impl From<TilingFault> for RunFault {
-    ghost from_gives = { λ fault told. told ≡ Tiling fault };
+    ghost from_gives = { λ fault reported. reported ≡ Tiling fault };
 
     fn from(fault: TilingFault) -> Self {
         RunFault::Tiling(fault)
@@ -53,7 +53,7 @@ impl From<TilingFault> for RunFault {
 }
 
 impl From<JobFault> for RunFault {
-    ghost from_gives = { λ fault told. told ≡ Jobs fault };
+    ghost from_gives = { λ fault reported. reported ≡ Jobs fault };
 
     fn from(fault: JobFault) -> Self {
         RunFault::Jobs(fault)
@@ -62,7 +62,7 @@ impl From<JobFault> for RunFault {
 
 // A fault of the jobs is `Jobs`, whichever map they make.
 impl From<SightFault> for RunFault {
-    ghost from_gives = { λ fault told. told ≡ of_sight fault };
+    ghost from_gives = { λ fault reported. reported ≡ of_sight fault };
 
     fn from(fault: SightFault) -> Self {
         match fault {
@@ -73,7 +73,7 @@ impl From<SightFault> for RunFault {
 }
 
 impl From<SinkFault> for RunFault {
-    ghost from_gives = { λ fault told. told ≡ of_sinks fault };
+    ghost from_gives = { λ fault reported. reported ≡ of_sinks fault };
 
     fn from(fault: SinkFault) -> Self {
         match fault {
@@ -84,7 +84,7 @@ impl From<SinkFault> for RunFault {
 }
 
 impl From<GaugeFault> for RunFault {
-    ghost from_gives = { λ fault told. told ≡ of_gauges fault };
+    ghost from_gives = { λ fault reported. reported ≡ of_gauges fault };
 
     fn from(fault: GaugeFault) -> Self {
         match fault {
@@ -95,14 +95,14 @@ impl From<GaugeFault> for RunFault {
 }
 
 impl From<WriteFailed> for RunFault {
-    ghost from_gives = { λ _ told. told ≡ Write };
+    ghost from_gives = { λ _ reported. reported ≡ Write };
 
     fn from(_: WriteFailed) -> Self {
         RunFault::Write
     }
 }
 
-/// What a line gives after a fault's name: a header key, a place or a count.
+/// The word after a fault's name in its line: a header key, an index or a count.
 #[derive(Clone, Copy, Debug, PartialEq, Eq)]
 pub(crate) enum Detail {
     Slot(Key),

@@ -3,7 +3,7 @@
 //! [`run`] reads a grid and writes one map; its contract `Runs` is the headline of
 //! `docs/promises.md`. [`run_words`] parses the command line first. Depends on all stages.
 //!
-//! Modules, callers before what they call:
+//! Modules, callers first:
 //!
 //! - `command`: `run_words`, from a command line to an exit status
 //! - `running`: `run`, from bytes to bytes

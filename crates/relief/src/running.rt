@@ -20,7 +20,7 @@ use tile_maps::Runner;
 
 /// Reads a grid, makes the requested map with its sinks, and writes it.
 ///
-/// Tile size, number of workers and schedule do not change the map. At most 2^29 + 1 bytes are
+/// Tile side, number of workers and schedule do not change the map. At most 2^29 + 1 bytes are
 /// read. Nothing is written before the map is complete, and nothing is allocated after the first
 /// byte written.
 ///

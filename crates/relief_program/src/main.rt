@@ -16,8 +16,8 @@ const WORDS_REFUSED: u8 = 1;
 
 const NO_MEMORY: u8 = 3;
 
-/// The longest list that the C library keeps when it is freed, in bytes.
-/// With the allocator's header it ends in the last whole page below 32 MiB.
+/// The length of the list that [`keep_freed_lists`] frees, in bytes.
+/// With the allocator's header it takes one page less than the C library's limit, 32 MiB.
 const LONGEST_KEPT: usize = (1 << 25) - (1 << 13);
 
 /// Returns the status for unreadable words. One that is not UTF-8 gets a line.

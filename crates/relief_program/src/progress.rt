@@ -87,8 +87,8 @@ impl Stage {
 /// A [`Gate`] that reports the progress of each stage of a run.
 ///
 /// On a terminal it replaces one line at most ten times a second, and clears it when the stage
-/// ends, so that the map may follow. Elsewhere it writes a line for each tenth. A line that cannot
-/// be allocated or written is dropped.
+/// ends, so that the map may follow. Elsewhere it writes a line whenever a further tenth is
+/// finished. A line that cannot be allocated or written is dropped.
 #[derive(Drop)]
 pub struct ProgressReport<'a, R> {
     rt: &'a R,
@@ -98,6 +98,7 @@ pub struct ProgressReport<'a, R> {
 }
 
 impl<'a, R: Clock + Wait> ProgressReport<'a, R> {
+    /// Makes a report on `errors`, before the first stage.
     pub fn new(rt: &'a R, alloc: Global, errors: Stderr) -> Self {
         ProgressReport {
             rt,

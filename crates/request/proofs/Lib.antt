@@ -1,5 +1,5 @@
 mod Commas
 mod Commands
 mod Given
-pub mod Asked
+pub mod Requested
 mod Requests

@@ -59,7 +59,7 @@ progress_rule = record (new_rule (codes "progress")) {
 abbrev pub target_rule : Rule
 target_rule = number_rule (codes "target") (from_to 0 4294967295) (codes "0")
 
--- `--radius N`: how far is seen, in cells.
+-- `--radius N`: the greatest distance of a target, in cells.
 abbrev pub radius_rule : Rule
 radius_rule = number_rule (codes "radius") (from_to 0 4294967295) (codes "8192")
 

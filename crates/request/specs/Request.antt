@@ -1,4 +1,4 @@
--- The request of a command line.
+-- A requested map with its options, and their limits.
 -- Trust base.
 use Rattle.std.specs.Prelude.{◌≡◌, ℕ, ◌≤◌, ⊤, Bool, List, []}
 use Rattle.terrain.specs.declared.place.Place.{Place}

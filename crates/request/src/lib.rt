@@ -1,9 +1,8 @@
 //! Parses the command line into a map and its options.
 //!
-//! [`parse`] returns the requested [`Options`]; `clap` matches words with options. Depends on
-//! `terrain` and `decimals`.
+//! [`parse`] returns the requested [`Options`]; `clap` matches words with options.
 //!
-//! Modules, callers before what they call:
+//! Modules, callers first:
 //!
 //! - `words`: parses the command line
 //! - `program`: declares subcommands and options

@@ -17,6 +17,7 @@ pub enum Map {
         gauges: Vec<Place>,
     },
     /// Viewshed: how many of the observers see each cell.
+    ///
     /// `target` is a height in units of 10^-scale, `radius` a number of cells.
     View {
         observers: Vec<Observer>,

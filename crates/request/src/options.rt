@@ -16,6 +16,7 @@ pub(crate) const MOST_WORKERS: u32 = 64;
 pub(crate) const MOST_DECIMALS: u8 = 6;
 
 /// A requested map with its options, each within its limits.
+///
 /// Holds tile side, workers, scale, named sinks, and whether progress is reported.
 ///
 /// # Examples
@@ -30,6 +31,7 @@ pub struct Options {
     tile: u32,
     workers: u32,
     scale: u8,
+    // `None` for no sinks, as `new` has no allocator.
     sinks: Option<Vec<Place>>,
     progress: bool,
 }
@@ -63,6 +65,7 @@ impl Model for Options {
 
 impl Options {
     /// Returns options without sinks and without a report of progress.
+    ///
     /// `None` if `tile` is not 1 to 4,096 cells, `workers` not 1 to 64, or `scale` above 6.
     pub fn new(map: Map, tile: u32, workers: u32, scale: u8) -> Option<Self>
         ensures some { IfSome result (λ o. o

@@ -66,7 +66,8 @@ fn number(part: &[u8]) -> Option<u32>
 }
 
 /// Parses an observer word `ROW,COL,EYE`. Returns `None` for any other word.
-/// Each number has 1 to 10 digits and is below 2^32.
+///
+/// Each number has 1 to 10 digits and is below 2^32. The eye's height is in units of 10^-scale.
 pub fn parse_observer(word: &str) -> Option<Observer>
     ensures { result ≡ observer_of word.now }
 {
@@ -82,6 +83,7 @@ pub fn parse_observer(word: &str) -> Option<Observer>
 }
 
 /// Parses a sink or gauge word `ROW,COL`. Returns `None` for any other word.
+///
 /// Each number has 1 to 10 digits and is below 2^32.
 pub fn parse_sink(word: &str) -> Option<Place>
     ensures { result ≡ sink_of word.now }

@@ -66,6 +66,7 @@ fn progress_flag<'a>(alloc: Global) -> Arg<'a>
         .help("Report on standard error how far the run is, in tenths of each stage")
 }
 
+/// Returns `--target N`. The run, not `clap`, refuses more than 1,000,000 units.
 fn target_option<'a>(alloc: Global) -> Arg<'a>
     ensures { IsArg target_rule result }
 {
@@ -73,6 +74,7 @@ fn target_option<'a>(alloc: Global) -> Arg<'a>
     number_option(alloc, "target", "N", value_parser!(u32), "0", help)
 }
 
+/// Returns `--radius N`. The run, not `clap`, refuses what is not 1 to 8,192 cells.
 fn radius_option<'a>(alloc: Global) -> Arg<'a>
     ensures { IsArg radius_rule result }
 {
@@ -103,7 +105,7 @@ fn sink_option<'a>(alloc: Global) -> Arg<'a>
         .help(SINK_OPTION)
 }
 
-/// Returns the positional sink words of a drainage map.
+/// Returns the positional sink words of a drainage map other than catchments.
 fn sink_words<'a>(alloc: Global) -> Arg<'a>
     ensures { IsArg sinks_rule result }
 {
@@ -139,7 +141,7 @@ fn drainage_command<'a>(
     map_command(alloc, name, help)?.arg(sink_words(alloc))
 }
 
-/// Adds the subcommand of a drainage map to the program.
+/// Adds the subcommand of a drainage map other than catchments to the program.
 fn with_drainage<'a>(
     alloc: Global,
     program: Command<'a>,

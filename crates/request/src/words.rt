@@ -29,7 +29,7 @@ pub enum WordsFault {
     BadGauge(usize),
     /// The first word that is no sink, by its place among them from 0.
     BadSink(usize),
-    /// The words name no map. `clap` refuses such words first.
+    /// The words name no map or exceed a limit. `clap` refuses such words first.
     NoMap,
 }
 
@@ -231,6 +231,7 @@ fn requested_options<'a>(alloc: Global, words: &'a [&'a str]) -> Result<Options,
     let Some(options) = with_options(map, found) else {
         return Err(WordsFault::NoMap);
     };
+    // `Err` is a viewshed unchanged, for which `sinks` is empty.
     match options.with_sinks(sinks) {
         Ok(options) => Ok(options),
         Err(options) => Ok(options),
@@ -238,6 +239,7 @@ fn requested_options<'a>(alloc: Global, words: &'a [&'a str]) -> Result<Options,
 }
 
 /// Returns the options that `words` request, the program's name first.
+///
 /// An empty list counts as the program's name alone.
 ///
 /// # Errors

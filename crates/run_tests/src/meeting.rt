@@ -17,8 +17,8 @@ use terrain::Grid;
 use tile_jobs::{Gate, NoGate};
 use tiles::Tiling;
 
-/// Pits along the diagonal of 4 by 4 cells, which spill at the last one's height.
-const PITS: &[u8] =
+/// A pit of two cells on the diagonal of 4 by 4 cells, which spills at height 3.
+const PIT_OF_TWO: &[u8] =
     b"ncols 4\nnrows 4\nxllcorner 0\nyllcorner 0\ncellsize 1\n9 9 9 9\n9 1 9 9\n9 9 2 9\n9 9 9 3\n";
 
 /// Two hollows in two tiles of side 3, which spill at height 6 in the second.
@@ -41,7 +41,7 @@ const LEVEL: &[u8] =
 /// How often a held job checks for the other.
 const MOST_LOOKS: u32 = 10_000_000;
 
-/// A gate that holds each of a stage's first two jobs until the other entered.
+/// A gate that holds each of a stage's first two jobs until the other has entered.
 #[derive(Drop)]
 struct Meeting {
     // how often each of the two has entered: once at each stage
@@ -118,11 +118,11 @@ fn cut(rt: &impl Abort, alloc: Global, text: &[u8], side: u32) -> (Grid, Tiling)
 
 /// Each stage has one job for each tile.
 /// `viewshed`: greatest heights of blocks, values. `filled`: floods, raising. `accumulation` and
-/// `catchments`: flow in tiles, values. `basins`: flow in tiles, outlets, values.
+/// `catchments`: flow in tiles, values. `basins`: outlets, flow in tiles, values.
 #[test]
 fn tiles_meet_at_each_stage(rt: HostRuntime) {
     let alloc = rt.alloc();
-    let (pit, tiling) = cut(&rt, alloc, PITS, 2);
+    let (pit, tiling) = cut(&rt, alloc, PIT_OF_TWO, 2);
     let gate = Meeting::new();
     let seen = viewshed(&rt, alloc, &pit, &[CORNER], 0, 9, &tiling, 2, &gate);
     assert!(rt; seen.is_ok());
@@ -170,7 +170,7 @@ fn tiles_meet_in_each_round(rt: HostRuntime) {
 #[test]
 fn idle_tiles_have_a_job_in_each_round(rt: HostRuntime) {
     let alloc = rt.alloc();
-    let (pit, tiling) = cut(&rt, alloc, PITS, 2);
+    let (pit, tiling) = cut(&rt, alloc, PIT_OF_TWO, 2);
     let level = filled(&rt, alloc, &pit, &tiling, 1, &NoGate).expect(&rt, "levels");
     let gate = Meeting::new();
     assert!(rt; directions(&rt, alloc, &level, &tiling, 2, &gate).is_ok());
@@ -225,7 +225,7 @@ fn expect_map(rt: &impl Abort, alloc: Global, map: &[u8], cols: u32, rows: u32, 
     assert_eq!(rt; map, wanted.as_bytes());
 }
 
-/// At each stage of each map, the first two of four tiles run at once.
+/// At each stage of a map without gauges, the first two of four tiles run at once.
 #[test]
 fn tiles_meet(rt: HostRuntime) {
     let alloc = rt.alloc();
@@ -253,7 +253,7 @@ fn tiles_meet(rt: HostRuntime) {
         (view, 1, "\n1 1 0 0\n1 1 1 0\n0 1 1 1\n0 0 1 1\n"),
     ] {
         let gate = Meeting::new();
-        let out = gated_map(&rt, alloc, PITS, 2, map, &gate);
+        let out = gated_map(&rt, alloc, PIT_OF_TWO, 2, map, &gate);
         gate.expect_met(&rt, least, lines);
         expect_map(&rt, alloc, &out, 4, 4, lines);
     }
@@ -266,7 +266,7 @@ fn tiles_of_catchments_meet(rt: HostRuntime) {
     let mut gauges = Vec::new(alloc);
     gauges.push(Place { row: 2, col: 2 }).expect(&rt, "a gauge");
     let gate = Meeting::new();
-    let out = gated_map(&rt, alloc, PITS, 2, Map::Catchments { gauges }, &gate);
+    let out = gated_map(&rt, alloc, PIT_OF_TWO, 2, Map::Catchments { gauges }, &gate);
     gate.expect_met(&rt, 8, "catchments");
     let lines = "\n1 1 1 0\n1 1 1 1\n1 1 1 0\n0 1 0 0\n";
     expect_map(&rt, alloc, &out, 4, 4, lines);

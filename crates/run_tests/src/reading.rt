@@ -82,7 +82,7 @@ fn bytes_given(
 }
 
 /// A bad word is refused before more than 1 MiB is read, from its first byte on.
-/// A run cannot foresee a bad word, so good words become cells as early.
+/// A run cannot foresee a bad word, so it parses good words as early.
 #[test]
 fn little_is_read_ahead(rt: HostRuntime) -> Result<(), Fail> {
     let alloc = rt.alloc();

@@ -92,7 +92,7 @@ impl Write for Short {
     }
 }
 
-/// One worker reads and writes without jobs, several with jobs.
+/// Numbers of workers: one reads and writes without jobs, several with jobs.
 const WORKERS: [u32; 3] = [1, 2, 8];
 
 /// Runs `fill` on the bowl, and asserts the bytes written and the failures.
@@ -126,6 +126,7 @@ fn expect_written(
     Ok(())
 }
 
+/// The filled bowl is written byte for byte, and no device fails.
 #[test]
 fn bowl_of_nines(rt: HostRuntime) -> Result<(), Fail> {
     let options = Options::new(Map::Fill, 256, 1, 0).ok_or("options")?;
@@ -293,6 +294,7 @@ fn a_reader_that_fails(rt: HostRuntime) -> Result<(), Fail> {
     Ok(())
 }
 
+/// The text is refused as too long after at most 2^29 + 1 bytes.
 #[test]
 fn a_reader_without_end(rt: HostRuntime) -> Result<(), Fail> {
     let options = Options::new(Map::Fill, 256, 1, 0).ok_or("options")?;

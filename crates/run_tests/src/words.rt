@@ -68,16 +68,16 @@ fn words_and_statuses(rt: HostRuntime) {
         ),
         (["relief", "--help"].as_slice(), 0, b"".as_slice()),
     ] {
-        let told = outcome_of(&rt, rt.alloc(), words);
-        assert_eq!(rt; told.status, status, "{words:?}");
-        assert_eq!(rt; told.errors.as_slice(), errors, "{words:?}");
+        let outcome = outcome_of(&rt, rt.alloc(), words);
+        assert_eq!(rt; outcome.status, status, "{words:?}");
+        assert_eq!(rt; outcome.errors.as_slice(), errors, "{words:?}");
     }
 }
 
 /// Returns whether these words are refused, with a message on the errors.
 fn are_refused<R: Threads + Wait + Sync>(rt: &R, alloc: Global, words: &[&str]) -> bool {
-    let told = outcome_of(rt, alloc, words);
-    told.status == 1 && !told.errors.is_empty()
+    let outcome = outcome_of(rt, alloc, words);
+    outcome.status == 1 && !outcome.errors.is_empty()
 }
 
 #[test]
@@ -95,10 +95,10 @@ fn no_words_and_refused_words(rt: HostRuntime) {
 #[test]
 fn help_of_each_map(rt: HostRuntime) -> Result<(), Fail> {
     for name in ["fill", "flow", "accumulate", "basins", "catchments", "view"] {
-        let told = outcome_of(&rt, rt.alloc(), ["relief", name, "--help"].as_slice());
-        assert_eq!(rt; told.status, 0, "{name}");
-        assert!(rt; told.errors.is_empty(), "{name}");
-        let help = String::from_utf8_lossy(rt.alloc(), told.out.as_slice())?;
+        let outcome = outcome_of(&rt, rt.alloc(), ["relief", name, "--help"].as_slice());
+        assert_eq!(rt; outcome.status, 0, "{name}");
+        assert!(rt; outcome.errors.is_empty(), "{name}");
+        let help = String::from_utf8_lossy(rt.alloc(), outcome.out.as_slice())?;
         for part in [
             "\nUsage: relief ",
             " < dem.asc > map.asc\n",
@@ -118,11 +118,11 @@ fn help_of_each_map(rt: HostRuntime) -> Result<(), Fail> {
 
 #[test]
 fn version_alone(rt: HostRuntime) -> Result<(), Fail> {
-    let told = outcome_of(&rt, rt.alloc(), ["relief", "--version"].as_slice());
-    assert_eq!(rt; told.status, 0);
-    assert!(rt; told.errors.is_empty());
+    let outcome = outcome_of(&rt, rt.alloc(), ["relief", "--version"].as_slice());
+    assert_eq!(rt; outcome.status, 0);
+    assert!(rt; outcome.errors.is_empty());
     let line = format!(in rt.alloc(); "relief {VERSION}\n")?;
-    assert_eq!(rt; told.out.as_slice(), line.as_bytes());
+    assert_eq!(rt; outcome.out.as_slice(), line.as_bytes());
     Ok(())
 }
 
@@ -216,8 +216,8 @@ fn fault_lines(rt: HostRuntime) -> Result<(), Fail> {
     ] {
         let mut out = Vec::new(rt.alloc());
         let mut writer = Counted::new(&mut out);
-        let told: Result<(), WriteFailed> = tell(&fault, &mut writer);
-        assert_eq!(rt; told, Ok(()));
+        let outcome: Result<(), WriteFailed> = tell(&fault, &mut writer);
+        assert_eq!(rt; outcome, Ok(()));
         drop(writer);
         assert_eq!(rt; out.as_slice(), line);
     }
@@ -349,6 +349,7 @@ fn progress_of_a_view(rt: HostRuntime) {
     }
 }
 
+/// A refused map calls `finish` alone. Without `--progress` nothing is called.
 #[test]
 fn progress_where_asked_for(rt: HostRuntime) {
     let alloc = rt.alloc();

@@ -16,7 +16,7 @@ use Rattle.sight.specs.Hiding.{mark_in_window, mark_index, mark_left, rise_at, t
 use Rattle.sight.specs.declared.family.Family.{Family}
 use Rattle.sight.specs.declared.window.Window.{Window}
 use Rattle.sight.specs.declared.sweep.Sweep.{Sweep}
-use Rattle.sight.specs.declared.looking.Look.{Look}
+use Rattle.sight.specs.declared.looking.SweepLookup.{SweepLookup}
 
 -- equal indices have equal rows and columns
 parts_of : (x y a b s : ℕ) → y < s → b < s → x * s + y ≡ a * s + b → (x ≡ a) × (y ≡ b)
@@ -82,7 +82,7 @@ rank_at rays targets ranks n rank within are at =
     ap (slice_get targets) (sym (get_or_from_slice_get ranks n rank 0 has)) ∙ are.each n t (slice_get-get_or rays n (record { offset = pos 0; line = 0 }) within)
 
 -- a look at one line is kept where only its cursor moves
-pub looked_on : (cells : List (Option ℤ)) (f : Family) (targets : List Target) (k : ℕ) (old new : Look) → LooksFrom cells f targets k old → new.line ≡ old.line → new.sweep ≡ old.sweep
+pub looked_on : (cells : List (Option ℤ)) (f : Family) (targets : List Target) (k : ℕ) (old new : SweepLookup) → LooksFrom cells f targets k old → new.line ≡ old.line → new.sweep ≡ old.sweep
     → IsUpTo new.sweep.highest new.cursor new.last → LooksFrom cells f targets new.line new
 looked_on cells f targets k old new were line sweep cursor = record {
   line = refl;

@@ -1,5 +1,5 @@
 -- Rays gathered line by line and cell by cell.
-use Rattle.std.proofs.Common.{arith, refl, sym, ap, subst, ◌∙◌, ◌≡◌, ℕ, ◌+◌, ◌<◌, ◌≤◌, ◌++◌, Bool, false, List, [], ◌∷◌, length, Some, inl, inr}
+use Rattle.std.proofs.Common.{arith, refl, sym, ap, subst, ◌∙◌, ◌≡◌, ℕ, ◌+◌, ◌*◌, ◌<◌, ◌≤◌, ◌++◌, ◌⊎◌, Bool, false, List, [], ◌∷◌, length, Some, inl, inr}
 use Rattle.std.specs.Prelude.{slice_get}
 use Rattle.std.proofs.lemmas.Bool.{cases_lt}
 use Rattle.std.proofs.lemmas.List.{length-append}
@@ -11,36 +11,36 @@ use Rattle.sight.specs.declared.family.Family.{Family}
 use Rattle.sight.specs.declared.window.Window.{Window}
 use Rattle.sight.proofs.Ranking.{slice_get-front, slice_get-last}
 
-pub line_ended : (f : Family) (w : Window) (marks : List Bool) (n c : ℕ) (rays : List Target) → w.side.first + w.side.cells ≤ c → c ≤ 4096 → AreRays f w marks n c rays → AreRays f w marks (n + 1) 0 rays
-line_ended f w marks n c rays all few are = record {
-  few = omega (arith, are.few);
+-- rays up to a place are all rays before a later line, if none of those stands between
+lines_passed : (f : Family) (w : Window) (marks : List Bool) (n c k : ℕ) (rays : List Target)
+    → n < k → length rays ≤ k * 4096 → ((m y : ℕ) → m < k → Crosses f w m → IsInRun w.side y →
+    (m < n) ⊎ ((m ≡ n) × (y < c))) → AreRays f w marks n c rays → AreRays f w marks k 0 rays
+lines_passed f w marks n c k rays less few none_between are = record {
+  few = omega (arith, few);
   each = λ u t at. let is = are.each u t at in (is.0, omega (arith, is.1));
   sorted = are.sorted;
   whole = λ m y before crosses in_run marked. elim before [
-    | inl h ↦ elim (cases_lt m n) [
-      | inl less ↦ are.whole m y (inl less) crosses in_run marked
-      | inr not ↦ are.whole m y (inr (omega arith, omega (arith, in_run))) crosses in_run marked
-    ]
+    | inl h ↦ are.whole m y (none_between m y h crosses in_run) crosses in_run marked
     | inr h ↦ absurd (omega (arith, h.1))
   ];
 }
 
+pub line_ended : (f : Family) (w : Window) (marks : List Bool) (n c : ℕ) (rays : List Target) → w.side.first + w.side.cells ≤ c → c ≤ 4096 → AreRays f w marks n c rays → AreRays f w marks (n + 1) 0 rays
+line_ended f w marks n c rays all few are =
+    lines_passed f w marks n c (n + 1) rays (omega arith) (omega (arith, are.few))
+    (λ m y h crosses in_run. elim (cases_lt m n) [
+      | inl less ↦ inl less
+      | inr not ↦ inr (omega arith, omega arith)
+    ]) are
+
 pub line_passed : (f : Family) (w : Window) (marks : List Bool) (n : ℕ) (rays : List Target) → (Crosses f w n → ⊥) → AreRays f w marks n 0 rays → AreRays f w marks (n + 1) 0 rays
-line_passed f w marks n rays not_there are = record {
-  few = omega (arith, are.few);
-  each = λ u t at. let is = are.each u t at in (is.0, omega (arith, is.1));
-  sorted = are.sorted;
-  whole = λ m y before crosses in_run marked. elim before [
-    | inl h ↦ elim (cases_lt m n) [
-      | inl less ↦ are.whole m y (inl less) crosses in_run marked
+line_passed f w marks n rays not_there are = lines_passed f w marks n 0 (n + 1) rays (omega arith)
+    (omega (arith, are.few)) (λ m y h crosses in_run. elim (cases_lt m n) [
+      | inl less ↦ inl less
       | inr not ↦
           let m_is : m ≡ n = omega arith in
-          let P : ℕ → Type 0 = λ k. Crosses f w k in
-          absurd (not_there (subst P m_is crosses))
-    ]
-    | inr h ↦ absurd (omega (arith, h.1))
-  ];
-}
+          absurd (not_there (subst (λ (k : ℕ). Crosses f w k) m_is crosses))
+    ]) are
 
 pub cell_passed : (f : Family) (w : Window) (marks : List Bool) (n c : ℕ) (rays : List Target) → mark_in_window w (lead_of f n) c marks ≡ false → AreRays f w marks n c rays → AreRays f w marks n (c + 1) rays
 cell_passed f w marks n c rays unmarked are = record {
@@ -102,9 +102,5 @@ cell_taken f w marks n c rays is_f is_w crosses in_run are =
     }
 
 pub all_gathered : (f : Family) (w : Window) (marks : List Bool) (n : ℕ) (rays : List Target) → n ≤ 4096 → ((m : ℕ) → Crosses f w m → m < n) → AreRays f w marks n 0 rays → AreRays f w marks 4097 0 rays
-all_gathered f w marks n rays few end are = record {
-  few = omega (arith, are.few);
-  each = λ u t at. let is = are.each u t at in (is.0, omega (arith, is.1));
-  sorted = are.sorted;
-  whole = λ m y before crosses in_run marked. are.whole m y (inl (end m crosses)) crosses in_run marked;
-}
+all_gathered f w marks n rays few end are = lines_passed f w marks n 0 4097 rays (omega arith)
+    (omega (arith, are.few)) (λ m y h crosses in_run. inl (end m crosses)) are

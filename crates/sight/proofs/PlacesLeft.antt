@@ -27,9 +27,9 @@ column_marks b x y n size in_x in_y = omega (arith, size, mul-add-lt y b.cols x 
 pub row_marks : (b : Bounds) (x y n : ℕ) → n ≡ b.rows * b.cols → x < b.rows → y < b.cols → x * b.cols + y * 1 < n
 row_marks b x y n size in_x in_y = omega (arith, size, mul-add-lt x b.cols y b.rows in_x in_y)
 
--- what is known of a mark, at an equal index and after an equal test
-told : (new old : List Bool) (i j : ℕ) (walked blocked : Bool) → i ≡ j → walked ≡ blocked → get_or new i false ≡ (get_or old i false && not walked) → get_or new j false ≡ (get_or old j false && not blocked)
-told new old i j walked blocked at same is =
+-- the new mark at an equal index, by an equal test
+reported : (new old : List Bool) (i j : ℕ) (walked blocked : Bool) → i ≡ j → walked ≡ blocked → get_or new i false ≡ (get_or old i false && not walked) → get_or new j false ≡ (get_or old j false && not blocked)
+reported new old i j walked blocked at same is =
     ap (λ k. get_or new k false) (sym at) ∙ is ∙ ap (λ k. get_or old k false && not walked) at ∙ ap (λ b. get_or old j false && not b) same
 
 module _ (t : Terrain) (p : Place) (b : Bounds) (e : ℤ) (target : ℕ) (old new : List Bool) (observer : IsInside t p) (rows : b.top + b.rows ≤ t.rows) (cols : b.left + b.cols ≤ t.cols) where
@@ -48,14 +48,14 @@ module _ (t : Terrain) (p : Place) (b : Bounds) (e : ℤ) (target : ℕ) (old ne
   pub columns_left : AreOpen t.cells (family_of (columns_at b p) (rows_at t b p) e) (window_of (columns_at b p) (rows_at t b p)) target old new → AreLeft b (λ (q : Place). not (column_blocks t p q e (height_of t q +ℤ pos target))) old new
   columns_left are = record {
     size = are.size;
-    each = λ q inside. told new old ((q.col - b.left) * 1 + (q.row - b.top) * b.cols) (index_in b q) _ _ (omega arith) (column_told q (omega (arith, inside.1, rows), omega (arith, inside.3, cols)))
+    each = λ q inside. reported new old ((q.col - b.left) * 1 + (q.row - b.top) * b.cols) (index_in b q) _ _ (omega arith) (column_told q (omega (arith, inside.1, rows), omega (arith, inside.3, cols)))
         (are.each q.col q.row (inside.2, inside.3) (inside.0, inside.1));
   }
 
   pub rows_left : AreOpen t.cells (family_of (rows_at t b p) (columns_at b p) e) (window_of (rows_at t b p) (columns_at b p)) target old new → AreLeft b (λ (q : Place). not (row_blocks t p q e (height_of t q +ℤ pos target))) old new
   rows_left are = record {
     size = are.size;
-    each = λ q inside. told new old ((q.row - b.top) * b.cols + (q.col - b.left) * 1) (index_in b q) _ _ (omega arith) (row_told q (omega (arith, inside.1, rows), omega (arith, inside.3, cols)))
+    each = λ q inside. reported new old ((q.row - b.top) * b.cols + (q.col - b.left) * 1) (index_in b q) _ _ (omega arith) (row_told q (omega (arith, inside.1, rows), omega (arith, inside.3, cols)))
         (are.each q.row q.col (inside.0, inside.1) (inside.2, inside.3));
   }
 

@@ -1,4 +1,4 @@
--- The ground that a ray meets on a line, as a ramp that is the same for all targets.
+-- The ramp of a line's ground between two cells, and where rays cross the line.
 use Rattle.std.proofs.Common.{arith, refl, sym, ap, ◌∙◌, ◌≡◌, ◌+◌, ◌-◌, ◌*◌, ◌/◌, ◌%◌, ◌<◌, ◌≤◌, ℕ, ℤ, pos, negsuc, ◌+ℤ◌, ◌-ℤ◌, ◌*ℤ◌, ◌≤ℤ◌, ◌<ℤ◌, int_lt, false, Option, None, Some, inl, inr}
 use borrow.Author.Differences.{up, down}
 use Rattle.std.proofs.lemmas.Int.{ints}
@@ -23,7 +23,7 @@ ground_gains near far r m = omega (arith, ints, rest_times far near (pos m))
 sight_rises : (e rise : ℤ) (k r : ℕ) → ((e *ℤ pos r) +ℤ ((e +ℤ rise) *ℤ pos k)) ≡ (rise *ℤ pos k) +ℤ (e *ℤ pos (r + k))
 sight_rises e rise k r = omega (arith, ints, sum_times e rise (pos k))
 
--- the value of a ramp at a ray, m n-ths of a cell past a cell
+-- a ramp's value at a ray, m n-ths past the cell at `offset`
 pub ramp_gains : (base step offset j : ℤ) (n k m : ℕ) → j *ℤ pos k ≡ (offset *ℤ pos n) +ℤ pos m
     → ((step *ℤ pos k) *ℤ j) +ℤ ((base -ℤ (step *ℤ offset)) *ℤ pos n) ≡ (base *ℤ pos n) +ℤ (pos m *ℤ step)
 ramp_gains base step offset j n k m is =
@@ -45,7 +45,7 @@ above_between near far z n m h =
       | inr none ↦ let m_is : m ≡ 0 = omega arith in rw (m_is, weighed_height-some (Some near) (n - 0) (omega arith), no_part far) refl
     ]
 
--- the ramp hides a target where the ground between two cells is above the line
+-- a ramp hides a target exactly where its ground is above the line of sight
 pub shown_between : (near far e rise offset j : ℤ) (n k m : ℕ) → m < n → k ≤ n → j *ℤ pos k ≡ (offset *ℤ pos n) +ℤ pos m
     → int_lt (rise *ℤ pos k) ((((far -ℤ near) *ℤ pos k) *ℤ j) +ℤ (((near -ℤ e) -ℤ ((far -ℤ near) *ℤ offset)) *ℤ pos n))
     ≡ is_above (Some near) (n - m) (Some far) m (sight e (e +ℤ rise) n k)
@@ -63,14 +63,14 @@ shown_between near far e rise offset j n k m below few is =
     raised : (near e step : ℤ) (n m : ℕ) → ((near *ℤ pos n) +ℤ (step *ℤ pos m)) ≡ (((near -ℤ e) *ℤ pos n) +ℤ (pos m *ℤ step)) +ℤ (e *ℤ pos n)
     raised near e step n m = omega (arith, ints, rest_times near e (pos n))
 
--- a crossing beside a NODATA cell does not block
+-- where NODATA takes part, no crossing blocks
 pub not_shown_near : (far : Option ℤ) (n m : ℕ) (z : ℤ) → m < n → is_above None (n - m) far m z ≡ false
 not_shown_near far n m z h = rw (weighed_height-some None (n - m) (omega arith)) refl
 
 pub not_shown_far : (near : ℤ) (n m : ℕ) (z : ℤ) → m < n → 0 < m → is_above (Some near) (n - m) None m z ≡ false
 not_shown_far near n m z h part = rw (weighed_height-some (Some near) (n - m) (omega arith), weighed_height-some None m part) refl
 
--- the offset at which a ray crosses a line, by the target's cell y and the observer's cell o
+-- a ray from cell o to cell y crosses a line m n-ths past cell c, which is o + offset
 located : (o y c r k m : ℕ) (offset : ℤ) → (pos y -ℤ pos o) *ℤ pos k ≡ (offset *ℤ pos (r + k)) +ℤ pos m → pos c ≡ pos o +ℤ offset → o * r + y * k ≡ c * (r + k) + m
 located o y c r k m offset is at = omega (arith, ints, is, rest_times (pos y) (pos o) (pos k), ap (λ z. z *ℤ pos (r + k)) at, sum_times (pos o) offset (pos (r + k)))
 
@@ -82,7 +82,7 @@ cell_is o y c n k m offset few below is at =
     let t_is : toward o y n k ≡ c * n + m = there ∙ ap (λ z. c * z + m) (sym n_is) in
     (rw t_is (div-mul-add c n m below), rw t_is (mod-mul-add c n m below))
 
--- a ray stays between the observer's cell and the target's
+-- a ray between cells below `cells` stays below `cells`
 at_most : (o y cells r k c m : ℕ) → o < cells → y < cells → 0 < r + k → o * r + y * k ≡ c * (r + k) + m → c < cells
 at_most o y cells r k c m a b some is =
     elim (cases_lt c cells) [
@@ -117,7 +117,7 @@ next_inside o y cells c n k m offset a b few part is at =
       | inr past ↦ absurd (omega (arith, there, mul-le o r (cells - 1) r (omega arith) (omega arith), mul-le y k (cells - 1) k (omega arith) (omega arith), mul-le (cells - 1) (r + k) c (r + k) (omega arith) (omega arith)))
     ]
 
--- a ray of a greater slope crosses at no lower offset, for slopes j / n and i / m in two parts
+-- `low_onward` in natural numbers: offset a - b, slopes (j - l) / n and (i - h) / m
 onward : (a b j l i h n m k : ℕ) → 0 < n → j * m + h * n ≤ i * n + l * m → a * n + l * k ≤ j * k + b * n → a * m + h * k ≤ i * k + b * m
 onward a b j l i h n m k some slope low =
     elim (cases_lt (i * k + b * m) (a * m + h * k)) [
@@ -139,7 +139,7 @@ back_from a b j l i h n m k some slope high =
       | inr not ↦ absurd (omega (arith, mul-le (i * k + b * m + 1) n (a * m + h * k) n (omega arith) (omega arith), mul-le (a * n + l * k) m (j * k + b * n) m not (omega arith), mul-le (j * m + h * n) k (i * n + l * m) k slope (omega arith)))
     ]
 
--- a ray of slope i / m crosses at no lower offset than one of a smaller slope j / n
+-- if slope j / n reaches an offset on line k, so does i / m, which is no less
 pub low_onward : (offset j i : ℤ) (n m k : ℕ) → 0 < n → (j *ℤ pos m) ≤ℤ (i *ℤ pos n) → (offset *ℤ pos n) ≤ℤ (j *ℤ pos k) → (offset *ℤ pos m) ≤ℤ (i *ℤ pos k)
 low_onward offset j i n m k some slope low =
     let is = onward (up offset) (down offset) (up j) (down j) (up i) (down i) n m k some (omega (arith, ints, slope)) (omega (arith, ints, low)) in

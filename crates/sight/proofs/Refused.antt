@@ -48,7 +48,7 @@ module _ (f : JobFault) where
 -- a result that is the observers' fault is a correct refusal
 pub refuses : {T : Type 0} (fault : Option SightFault) (f : SightFault) (workers : ℕ) → ((job : JobFault) → IsNot (Jobs job) fault) → fault ≡ Some f → RefusesSight {T = T} fault workers (Err f)
 refuses fault f workers not e = record {
-  told = λ h is. cc;
+  reported = λ h is. cc;
   jobs = λ none. absurd (cc);
   bad_workers = λ none. absurd (cc);
   no_thread = λ is. absurd (not NoThread (cc));

@@ -46,11 +46,11 @@ pub viewsheds_are_one : (t : Terrain) (observers : List Observer) (target radius
     → IsViewshed t observers target radius values → IsViewshed t observers target radius others → values ≡ others
 viewsheds_are_one t observers target radius values others a b = all_are t observers target radius values a ∙ sym (all_are t observers target radius others b)
 
-told : (h : Option ℤ) (n : ℕ) (entry : Option ℕ) → entry ≡ option_map (λ _. n) h → MatchOption h (entry ≡ None) (λ _. entry ≡ Some n)
-told None n entry e = e
-told (Some x) n entry e = e
+reported : (h : Option ℤ) (n : ℕ) (entry : Option ℕ) → entry ≡ option_map (λ _. n) h → MatchOption h (entry ≡ None) (λ _. entry ≡ Some n)
+reported None n entry e = e
+reported (Some x) n entry e = e
 
 pub whole_viewed : (c : Cutting) (t : Terrain) (observers : List Observer) (target radius : ℕ) (values : List (Option ℕ)) → Cuts c t → IsMadeMap c (HasValue t observers target radius) values → IsViewshed t observers target radius values
 whole_viewed c t observers target radius values cuts made =
     let all = map_of_size c t.cols t.rows (HasValue t observers target radius) values cuts.0 cuts.1 made in
-    record { size = all.0; each = λ p i. told (height_at t p) (viewshed_value t observers target radius p) (entry_at t.cols t.rows values p) (all.1 p i) }
+    record { size = all.0; each = λ p i. reported (height_at t p) (viewshed_value t observers target radius p) (entry_at t.cols t.rows values p) (all.1 p i) }

@@ -5,11 +5,11 @@ use Rattle.horizons.specs.declared.target.Target.{Target}
 use Rattle.horizons.specs.Horizons.{IsUpTo}
 use Rattle.sight.specs.Sweep.{HidesBefore}
 use Rattle.sight.specs.declared.family.Family.{Family}
-use Rattle.sight.specs.declared.looking.Look.{Look}
+use Rattle.sight.specs.declared.looking.SweepLookup.{SweepLookup}
 
 -- The look is at line k: its horizon hides what the lines before line k block.
 pub record LooksFrom (cells : List (Option ℤ)) (f : Family) (targets : List Target) (k : ℕ)
-    (l : Look) : Type 0 where
+    (l : SweepLookup) : Type 0 where
   pub line : l.line ≡ k
   pub hides : HidesBefore cells f targets k l.sweep.highest
   pub cursor : IsUpTo l.sweep.highest l.cursor l.last

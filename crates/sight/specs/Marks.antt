@@ -34,9 +34,9 @@ TellsSeenIfOpen t o target radius p mark =
     (mark && is_open t o p target) ≡ is_seen t o p target radius
 
 -- The mark is what a check promises: of the whole line of sight, or of its first crossings.
-abbrev pub Tells : Check → Terrain → Observer → ℕ → ℕ → Place → Bool → Type 0
-Tells Whole = TellsSeen
-Tells FirstCrossings = TellsSeenIfOpen
+abbrev pub IsMarkOf : Check → Terrain → Observer → ℕ → ℕ → Place → Bool → Type 0
+IsMarkOf Whole = TellsSeen
+IsMarkOf FirstCrossings = TellsSeenIfOpen
 
 -- Exactly the marks whose places pass a test are kept.
 pub record AreLeft (b : Bounds) (test : Place → Bool) (old new : List Bool) : Type 0 where

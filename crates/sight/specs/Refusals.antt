@@ -48,7 +48,7 @@ observers_fault t observers target radius =
 -- the jobs.
 pub record RefusesSight {T : Type 0} (fault : Option SightFault) (workers : ℕ)
     (result : Result T SightFault) : Type 0 where
-  pub told : (f : SightFault) → fault ≡ Some f → result ≡ Err f
+  pub reported : (f : SightFault) → fault ≡ Some f → result ≡ Err f
   pub jobs : fault ≡ None → (f : SightFault) → result ≡ Err f →
       (f ≡ Jobs Memory) ⊎ (f ≡ Jobs BadWorkers) ⊎ (f ≡ Jobs NoThread)
   pub bad_workers : fault ≡ None →

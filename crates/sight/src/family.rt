@@ -11,7 +11,7 @@ ghost use Rattle.sightlines.specs.Blocks.{IsTopOf};
 ghost use Rattle.sight.specs.Hiding.{height_at};
 ghost use Rattle.sight.specs.Sweep.{lead_of, offset_of, ramp_of, level_ramp, IsFamily, IsLine, IsCell, Passes, PassesAmong, Shows};
 
-use crate::heights::{height_at, raised};
+use crate::heights::{greater_height, height_at};
 use horizons::{Ramp, Target};
 use terrain::{Cell, Height};
 
@@ -200,7 +200,7 @@ impl Family {
         let start = self.lead_of(line) as usize * self.lines.stride;
         let mut top = None;
         for cell in first..past.min(self.side.cells) {
-            top = raised(
+            top = greater_height(
                 top,
                 height_at(cells, start + cell as usize * self.side.stride),
             );

@@ -15,7 +15,7 @@ pub enum SightFault {
     BadEye(Option<u32>),
     /// The radius is 0 or above 8,192 cells.
     BadRadius,
-    /// A job had no memory or no thread, or the number of workers is out of range.
+    /// Memory or a thread was refused, or the number of workers is out of range.
     Jobs(JobFault),
 }
 

@@ -81,6 +81,7 @@ impl Family {
     }
 
     /// Returns the rays to all marked cells of a window on lines 2 and beyond.
+    /// No line is before line 1, so nothing hides its cells.
     pub(crate) fn gather(
         self,
         alloc: Global,

@@ -17,7 +17,7 @@ pub(crate) fn height_at(cells: &[Cell], index: usize) -> Option<Height>
 
 /// Returns the greater of two heights, where `None` is below all heights.
 #[inline(always)]
-pub(crate) fn raised(top: Option<Height>, height: Option<Height>) -> Option<Height>
+pub(crate) fn greater_height(top: Option<Height>, height: Option<Height>) -> Option<Height>
     ensures kept { (h : ℤ) → IsTopOf top h → IsTopOf result h }
     ensures raised { (h : ℤ) → height ≡ Some h → IsTopOf result h }
     ensures one { (result ≡ top) ⊎ (result ≡ height) }

@@ -5,7 +5,7 @@ ghost use Rattle.sight.specs.Sweep.{IsFamily, StandsAt, lead_of};
 ghost use Rattle.sight.specs.Hiding.{mark_index, AreHidden, IsApart, IsRay, IsWindow};
 
 use crate::family::Family;
-use crate::looking::Look;
+use crate::looking::SweepLookup;
 use crate::ranks::rank;
 use crate::window::Window;
 use horizons::Target;
@@ -47,7 +47,7 @@ pub(crate) fn hide(
 {
     let rays = family.gather(alloc, window, marks)?;
     let ranked = rank(alloc, &rays)?;
-    let mut look = Look::new(alloc, &ranked.targets)?;
+    let mut look = SweepLookup::new(alloc, &ranked.targets)?;
     for (number, ray) in rays.iter().enumerate() {
         look.go_to(cells, family, ray.line, &ranked.targets)?;
         let rise = family.rise(cells, *ray, height);

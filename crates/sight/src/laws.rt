@@ -1,10 +1,10 @@
-//! Facts about the definitions.
+//! Theorems about the definitions, as functions without code.
 ghost use Rattle.std.specs.Prelude.{◌≡◌, ℕ, List, Option};
 ghost use Rattle.terrain.specs.Raster.{Terrain};
 ghost use Rattle.sight.specs.Viewshed.{IsViewshed};
 ghost use Rattle.terrain.specs.declared.observer.Observer.{Observer};
 
-/// A terrain, observers, target height and radius have at most one viewshed.
+/// Proves that terrain, observers, target and radius have at most one viewshed.
 pub fn viewsheds_are_one()
     ensures { (t : Terrain) (observers : List Observer) (target radius : ℕ)
         (values others : List (Option ℕ)) →

@@ -25,7 +25,7 @@
 //! - `window`: parts of the grid whose cells have marks
 //! - `heights`: heights of cells in a list
 //! - `by_place`: lists with one entry for each place of some bounds
-//! - `laws`: facts about the definitions
+//! - `laws`: theorems about the definitions
 #![tactic(auto)]
 
 mod by_place;

@@ -111,8 +111,8 @@ fn count_before_side(family: Family, line: u32, targets: &[Target]) -> usize
     count_before(targets, 0, targets.len(), line, first)
 }
 
-/// Whether a piece of a horizon is the ground of the line before this one.
-/// This line mostly rises above such a piece too, so `raise` does not call `is_too_low`.
+/// Whether a piece has the number of the line before, as that line's ground has.
+/// This line mostly rises above that ground too, so `raise` does not call `is_too_low`.
 #[inline(always)]
 fn is_of_last_line(piece: Piece, line: u32) -> bool
     requires line { 0 < line }
@@ -120,7 +120,7 @@ fn is_of_last_line(piece: Piece, line: u32) -> bool
     piece.ramp.lines == line - 1
 }
 
-/// True only where a line is nowhere above a piece of a horizon, from `from` on.
+/// Returns true only if a line is nowhere above a horizon's piece from `from` on.
 #[inline(always)]
 fn is_too_low(
     cells: &[Cell],
@@ -179,6 +179,7 @@ fn raise_piece(
     let mut from = raised.extent();
     while from < piece.end {
         let span = family.span(cells, line, targets[from]);
+        // this ray and all later ones are past the side, so the sweep has passed their targets
         if span.offset >= family.end_offset() {
             return raised.push(piece.end, passed());
         }

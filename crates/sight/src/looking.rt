@@ -25,21 +25,21 @@ fn cursor_at(cursor: Cursor, last: usize, rank: usize) -> Cursor
 /// A sweep of the lines before `line`, with a cursor into its horizon.
 /// `last` is the last rank that was looked up.
 #[derive(Drop)]
-pub struct Look {
+pub struct SweepLookup {
     pub sweep: Sweep,
     pub line: u32,
     pub cursor: Cursor,
     pub last: usize,
 }
 
-impl Look {
+impl SweepLookup {
     /// Returns a look at the first line.
     pub(crate) fn new(alloc: Global, targets: &[Target]) -> Result<Self, AllocError>
         requires { AreTargets targets.now }
         ensures { IfOk result
             (λ l. (cells : List (Option ℤ)) (f : Family) → LooksFrom cells f targets.now 1 l) }
     {
-        Ok(Look {
+        Ok(SweepLookup {
             sweep: Sweep::new(alloc, targets)?,
             line: 1,
             cursor: Cursor::start(),

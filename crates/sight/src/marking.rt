@@ -6,7 +6,7 @@ ghost use Rattle.std.specs.Prelude.{◌≡◌, ◌+◌, ◌-◌, ◌*◌, ◌<�
 ghost use Rattle.terrain.specs.Neighbours.{IsInside};
 ghost use Rattle.tiles.specs.Cutting.{AreBounds, IsCutting};
 ghost use Rattle.sightlines.specs.Sight.{highest_eye, place_of};
-ghost use Rattle.sight.specs.Marks.{AreMarkedBelow, AreMarked, TellsSeen, Tells};
+ghost use Rattle.sight.specs.Marks.{AreMarkedBelow, AreMarked, TellsSeen, IsMarkOf};
 
 use crate::tile::Viewing;
 use sightlines::{WalkCache, may_see, sees_past_blocks};
@@ -23,7 +23,7 @@ const USUAL_SIDE: u32 = 256;
 /// The least average of crossings per sampled walk at which a usual tile is swept.
 const SWEPT_CROSSINGS: u32 = 128;
 
-/// Tiles with shorter sides count as having this side in the choice, in cells.
+/// The least side, in cells, that the choice takes a tile to have.
 const SWEPT_SIDE: u32 = 64;
 
 /// Which crossings of a line of sight are tested: all, or those beside the target.
@@ -68,6 +68,7 @@ impl<'a> Viewing<'a> {
         requires eye { observer.now.eye ≤ highest_eye }
     {
         let mut walked = WalkCache::none();
+        // steps of 37 rows and 61 columns, both prime, scatter the sample over most tiles
         for step in 0..SAMPLES {
             let place = Place {
                 row: bounds.top + step * 37 % bounds.rows,
@@ -87,7 +88,7 @@ impl<'a> Viewing<'a> {
         requires eye { observer.now.eye ≤ highest_eye }
         requires size { length marks.old ≡ bounds.rows * bounds.cols }
         ensures { AreMarked bounds
-            (Tells check self.now.grid.now.terrain observer.now self.now.target_height
+            (IsMarkOf check self.now.grid.now.terrain observer.now self.now.target_height
             self.now.radius) marks.new }
     {
         let mut walked = WalkCache::none();
@@ -112,11 +113,11 @@ impl<'a> Viewing<'a> {
         requires eye { observer.now.eye ≤ highest_eye }
         requires row { (bounds.top ≤ row) × (row < bounds.top + bounds.rows) }
         requires marks { AreMarkedBelow bounds
-            (Tells check self.now.grid.now.terrain observer.now self.now.target_height
+            (IsMarkOf check self.now.grid.now.terrain observer.now self.now.target_height
             self.now.radius)
             ((row - bounds.top) * bounds.cols) marks.old }
         ensures { AreMarkedBelow bounds
-            (Tells check self.now.grid.now.terrain observer.now self.now.target_height
+            (IsMarkOf check self.now.grid.now.terrain observer.now self.now.target_height
             self.now.radius)
             ((row + 1 - bounds.top) * bounds.cols) marks.new }
     {
@@ -143,7 +144,7 @@ impl<'a> Viewing<'a> {
         requires observer { IsInside self.now.grid.now.terrain (place_of observer.now) }
         requires eye { observer.now.eye ≤ highest_eye }
         requires place { IsInside self.now.grid.now.terrain place }
-        ensures { Tells check self.now.grid.now.terrain observer.now self.now.target_height
+        ensures { IsMarkOf check self.now.grid.now.terrain observer.now self.now.target_height
             self.now.radius place result }
     {
         match check {

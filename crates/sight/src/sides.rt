@@ -116,6 +116,7 @@ impl<'a> Viewing<'a> {
             row: observer.row,
             col: observer.col,
         };
+        // an observer's cell has data; elsewhere the definition takes 0 too
         let ground = height_at(cells, stands.index_in(cols));
         let eye = level(ground.unwrap_or(0), observer.eye);
         let columns = Coordinate {

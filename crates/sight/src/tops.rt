@@ -6,7 +6,7 @@ ghost use Rattle.sightlines.specs.Blocks.{IsTopOf, AreTops, IsTops};
 ghost use Rattle.sight.specs.BlockTops.{ground_of, IsGround, IsBlock, IsBlockTop, block_count, AreTopsBetween};
 ghost use Rattle.terrain.specs.Raster.{IsHeight};
 
-use crate::heights::{height_at, raised};
+use crate::heights::{greater_height, height_at};
 use sightlines::{FAR_BLOCK, MaxHeights, NEAR_BLOCK, blocks_in};
 use std::alloc::{AllocError, Global};
 use std::sync::Wait;
@@ -24,7 +24,7 @@ fn top_of(cells: &[Cell]) -> Option<Height>
 {
     let mut top = None;
     for index in 0..cells.len() {
-        top = raised(top, height_at(cells, index));
+        top = greater_height(top, height_at(cells, index));
     }
     top
 }
@@ -77,7 +77,7 @@ impl<'a> Blocks<'a> {
         for row in first..self.rows.min(first + self.size) {
             let line = row as usize * self.cols as usize;
             let run = &self.cells[line + from as usize..line + to as usize];
-            top = raised(top, top_of(run));
+            top = greater_height(top, top_of(run));
         }
         top_cell(top)
     }

@@ -73,6 +73,6 @@ pub fn viewshed<R: Threads + Wait + Sync, G: Gate + Sync>(
         radius,
         tiling,
     };
-    let values = runner.made(GatedViewing { viewing, gate })?;
+    let values = runner.map_tiles(GatedViewing { viewing, gate })?;
     Ok(values)
 }

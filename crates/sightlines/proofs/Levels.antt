@@ -46,9 +46,14 @@ sight_fits e f n k p q h l = fits (sight e f n k) (sight_bounded e f n k p q h l
 pub scaled_fits : (e : ℤ) (n : ℕ) → IsLevel e → n ≤ 4096 → FitsSigned w64 (e *ℤ pos n)
 scaled_fits e n p h = rw (← sight_none e e n) (sight_fits e e n 0 p p (omega arith) h)
 
--- a scaled level fits, as the code computes it
-pub scaled_as_reckoned : (e : ℤ) (n : ℕ) → IsLevel e → n ≤ 4096 → FitsSigned w64 (to_z w64 (of_z w64 e) *ℤ to_z w64 n)
-scaled_as_reckoned e n p h = rw (to_z-of_z w64 e (level_fits e p), to_z_pos w64 n (omega arith)) (scaled_fits e n p h)
+-- a scaled level, as the code computes it
+pub scaled_as_reckoned : (e : ℤ) (n : ℕ) → IsLevel e → n ≤ 4096 →
+    let z = to_z w64 (of_z w64 e) *ℤ to_z w64 n in
+    FitsSigned w64 z × (to_z w64 (of_z w64 z) ≡ e *ℤ pos n)
+scaled_as_reckoned e n p h =
+    let fit = scaled_fits e n p h in
+    rw (to_z-of_z w64 e (level_fits e p), to_z_pos w64 n (omega arith))
+    (fit, to_z-of_z w64 (e *ℤ pos n) fit)
 
 pub rise_fits : (e f : ℤ) → IsLevel e → IsLevel f → FitsSigned w64 (f -ℤ e)
 rise_fits e f p q = omega (arith, ints)
@@ -77,13 +82,10 @@ leap_fits e f m p q h = omega (arith, ints, scaled_small e m p h, scaled_small f
 pub rise_is : (e f : ℤ) (m : ℕ) → IsLevel e → IsLevel f → m < 4096
     → let rise = to_z w64 (of_z w64 (to_z w64 (of_z w64 f) *ℤ to_z w64 m)) -ℤ to_z w64 (of_z w64 (to_z w64 (of_z w64 e) *ℤ to_z w64 m)) in FitsSigned w64 rise × (to_z w64 (of_z w64 rise) ≡ (f *ℤ pos m) -ℤ (e *ℤ pos m))
 rise_is e f m p q h =
-    let from = to_z-of_z w64 e (level_fits e p) in
-    let to = to_z-of_z w64 f (level_fits f q) in
-    let count = to_z_pos w64 m (omega arith) in
-    let one = to_z-of_z w64 (e *ℤ pos m) (scaled_fits e m p (omega arith)) in
-    let two = to_z-of_z w64 (f *ℤ pos m) (scaled_fits f m q (omega arith)) in
+    let from = scaled_as_reckoned e m p (omega arith) in
+    let to = scaled_as_reckoned f m q (omega arith) in
     let fit = leap_fits e f m p q h in
-    rw (from, to, count, one, two) (fit, to_z-of_z w64 ((f *ℤ pos m) -ℤ (e *ℤ pos m)) fit)
+    rw (from.1, to.1) (fit, to_z-of_z w64 ((f *ℤ pos m) -ℤ (e *ℤ pos m)) fit)
 
 -- the level after a leap, as the code computes it
 pub leapt_level : (e f z rise : ℤ) (n k m : ℕ) → IsLevel e → IsLevel f → k + m ≤ n → n < 4096 → z ≡ sight e f n k → rise ≡ (f *ℤ pos m) -ℤ (e *ℤ pos m)

@@ -134,6 +134,29 @@ pub low_more : (top : Option ℤ) (n : ℕ) (z w : ℤ) → z ≤ℤ w → IsLow
 low_more None n z w h low = tt
 low_more (Some m) n z w h low = omega (arith, ints, h, low)
 
+-- a step does not block if the cells that the line passes between are low
+not_blocked : (cells : List (Option ℤ)) (line : Sightline) (k : ℕ) → 0 < steps_of line
+    → k < steps_of line → (let n = steps_of line in let b = whole_at line.side n k in
+    (cell : ℕ) → b ≤ cell → cell ≤ b + 1 → cell ≤ max line.side.from line.side.to → (h : ℤ)
+    → get_or cells (whole_at line.lead n k * line.lead.stride + cell * line.side.stride) None
+    ≡ Some h → (pos n *ℤ h) ≤ℤ sight line.from_level line.to_level n k)
+    → step_blocks cells line.lead line.side line.from_level line.to_level (steps_of line) k ≡ false
+not_blocked cells line k some inside low_at =
+    let n = steps_of line in
+    let b = whole_at line.side n k in
+    let m = part_at line.side n k in
+    let index = index_at line.lead line.side n k in
+    let next = whole_at line.lead n k * line.lead.stride + (b + 1) * line.side.stride in
+    let part_below = mod_below (toward line.side.from line.side.to n k) n some in
+    let all : (n - m) + m ≡ n = omega (arith, part_below) in
+    let beside : next ≡ index + line.side.stride = omega arith in
+    let b_in = whole_le line.side n k some (omega arith) in
+    low_not_above (get_or cells index None) (get_or cells (index + line.side.stride) None) (n - m) m
+    (sight line.from_level line.to_level n k) (omega (arith, part_below))
+    (λ h is. rw all (low_at b (omega arith) (omega arith) b_in h is))
+    (λ part h is. rw all (low_at (b + 1) (omega arith) (omega arith)
+    (whole_lt line.side n k some (omega arith) part) h (ap (λ x. get_or cells x None) beside ∙ is)))
+
 -- a line above the blocks between two steps is not blocked there
 pub step_passed : (size : ℕ) (cells tops : List (Option ℤ)) (line : Sightline) (s : BlockStrides) (i j k block : ℕ) (start end : Step)
     → 0 < steps_of line → i ≤ k → k < j → j ≤ steps_of line → IsAt line i start → IsAt line j end → AreTopsAlong size cells tops line s
@@ -142,32 +165,16 @@ pub step_passed : (size : ℕ) (cells tops : List (Option ℤ)) (line : Sightlin
 step_passed size cells tops line s i j k block start end some low high few at_start at_end is_top in_block is_low =
     let n = steps_of line in
     let a = whole_at line.lead n k in
-    let b = whole_at line.side n k in
-    let m = part_at line.side n k in
-    let index = index_at line.lead line.side n k in
-    let e = line.from_level in
-    let f = line.to_level in
     let between = whole_between line.side n i j k some low (omega arith) few in
     let a_in = whole_le line.lead n k some (omega arith) in
-    let b_in = whole_le line.side n k some (omega arith) in
-    let part_below = mod_below (toward line.side.from line.side.to n k) n some in
-    let all : (n - m) + m ≡ n = omega (arith, part_below) in
-    let low_at : (cell : ℕ) → min start.whole end.whole ≤ cell → cell ≤ max start.whole end.whole + 1 → cell ≤ max line.side.from line.side.to
-    → (h : ℤ) → get_or cells (a * line.lead.stride + cell * line.side.stride) None ≡ Some h → (pos ((n - m) + m) *ℤ h) ≤ℤ sight e f n k =
-    λ cell above below inside h is.
+    not_blocked cells line k some (omega arith) (λ cell above below inside h is.
     let top = get_or tops (block * s.lead + cell / size * s.side) None in
-    let place : get_or tops (a / size * s.lead + cell / size * s.side) None ≡ top = ap (λ x. get_or tops (x * s.lead + cell / size * s.side) None) in_block in
-    let P : Option ℤ → Type 0 = λ x. IsTopOf x h in
-    let is_under : IsTopOf top h = subst P place (is_top.above a cell h a_in inside is) in
-    let lows = is_low cell above below inside in
+    let is_under = rw in_block at (is_top.above a cell h a_in inside is) in
+    let lows = is_low cell (omega (arith, between, at_start.whole, at_end.whole))
+    (omega (arith, between, at_start.whole, at_end.whole)) inside in
     let one = rw at_start.sight at (low_height top n start.sight h is_under lows.0) in
     let two = rw at_end.sight at (low_height top n end.sight h is_under lows.1) in
-    rw all (sight_between e f (pos n *ℤ h) n i j k low (omega arith) few one two) in
-    let beside : a * line.lead.stride + (b + 1) * line.side.stride ≡ index + line.side.stride = omega arith in
-    low_not_above (get_or cells index None) (get_or cells (index + line.side.stride) None) (n - m) m (sight e f n k) (omega (arith, part_below))
-    (low_at b (omega (arith, between, at_start.whole, at_end.whole)) (omega (arith, between, at_start.whole, at_end.whole)) b_in)
-    (λ part h is. low_at (b + 1) (omega (arith, between, at_start.whole, at_end.whole)) (omega (arith, between, at_start.whole, at_end.whole))
-    (whole_lt line.side n k some (omega arith) part) h (ap (λ x. get_or cells x None) beside ∙ is))
+    sight_between line.from_level line.to_level (pos n *ℤ h) n i j k low (omega arith) few one two)
 
 -- a line above the peak from one step on is not blocked from there on
 pub step_above : (size : ℕ) (cells tops : List (Option ℤ)) (line : Sightline) (s : BlockStrides) (peak : ℤ) (i k : ℕ) (start : Step)
@@ -176,26 +183,17 @@ pub step_above : (size : ℕ) (cells tops : List (Option ℤ)) (line : Sightline
 step_above size cells tops line s peak i k start some low high at_start is_top is_peak above ends =
     let n = steps_of line in
     let a = whole_at line.lead n k in
-    let b = whole_at line.side n k in
-    let m = part_at line.side n k in
-    let index = index_at line.lead line.side n k in
     let e = line.from_level in
     let f = line.to_level in
-    let a_in = whole_le line.lead n k some (omega arith) in
-    let b_in = whole_le line.side n k some (omega arith) in
-    let part_below = mod_below (toward line.side.from line.side.to n k) n some in
-    let all : (n - m) + m ≡ n = omega (arith, part_below) in
     let none_left : n - n ≡ 0 = omega arith in
     let end : (pos n *ℤ peak) ≤ℤ sight e f n n = rw none_left (at_end e f peak n ends) in
-    let low_at : (cell : ℕ) → cell ≤ max line.side.from line.side.to → (h : ℤ) → get_or cells (a * line.lead.stride + cell * line.side.stride) None ≡ Some h → (pos ((n - m) + m) *ℤ h) ≤ℤ sight e f n k =
-    λ cell inside h is.
+    let a_in = whole_le line.lead n k some (omega arith) in
+    not_blocked cells line k some high (λ cell from to inside h is.
     let under = below_peak (get_or tops (a / size * s.lead + cell / size * s.side) None) peak h (is_top.above a cell h a_in inside is) (is_peak (a / size * s.lead + cell / size * s.side)) in
     let lower = times_le n h peak under in
-    rw all (sight_between e f (pos n *ℤ h) n i n k low (omega arith) (omega arith) (omega (arith, ints, lower, (rw at_start.sight at above))) (omega (arith, ints, lower, end))) in
-    let beside : a * line.lead.stride + (b + 1) * line.side.stride ≡ index + line.side.stride = omega arith in
-    low_not_above (get_or cells index None) (get_or cells (index + line.side.stride) None) (n - m) m (sight e f n k) (omega (arith, part_below))
-    (low_at b b_in)
-    (λ part h is. low_at (b + 1) (whole_lt line.side n k some (omega arith) part) h (ap (λ x. get_or cells x None) beside ∙ is))
+    let before = rw at_start.sight at above in
+    sight_between e f (pos n *ℤ h) n i n k low (omega arith) (omega arith)
+    (omega (arith, ints, lower, before)) (omega (arith, ints, lower, end)))
   where
     times_le : (n : ℕ) (h p : ℤ) → h ≤ℤ p → (pos n *ℤ h) ≤ℤ (pos n *ℤ p)
     times_le n h p le = omega (arith, ints, mul-le n (up h + down p) n (up p + down h) (omega arith) (omega (arith, ints, le)))

@@ -1,4 +1,4 @@
--- An observer sees a target where neither of the two lines between them is blocked.
+-- With data, within the radius, a target is seen where neither walk is blocked.
 use Rattle.std.proofs.Common.{arith, refl, sym, ap, ◌∙◌, ◌≡◌, ℤ, pos, ◌+ℤ◌, ℕ, Bool, true, false, not, ◌&&◌, Some, is_some}
 use Rattle.terrain.specs.Raster.{Terrain, IsTerrain}
 use Rattle.terrain.specs.Neighbours.{IsInside, height_at}
@@ -23,12 +23,12 @@ seen_is t o q target radius from to a b from_is to_is near =
     let back_rows = walk_back t.cells (over_rows t p q e f) in
     rw (from_is, to_is, near, cs, rs, back_columns, back_rows) refl
 
--- no place outside the radius is seen
 out_of_reach : (a b c : Bool) → (a && b && false && c) ≡ false
 out_of_reach false b c = refl
 out_of_reach true true c = refl
 out_of_reach true false c = refl
 
+-- no place outside the radius is seen
 pub unseen : (t : Terrain) (o : Observer) (q : Place) (target radius : ℕ) → is_near (place_of o) q radius ≡ false → is_seen t o q target radius ≡ false
 unseen t o q target radius far = rw far (out_of_reach (is_some (height_at t (place_of o))) (is_some (height_at t q)) _)
 
@@ -79,7 +79,7 @@ pub hidden_by_rows : (seen a b : Bool) → seen ≡ (not a && not b) → b ≡ t
 hidden_by_rows seen true b is blocked = sym is
 hidden_by_rows seen false b is blocked = sym (is ∙ ap not blocked)
 
--- the rows' first crossings and the test of all crossings decide what is seen
+-- a first crossing with a row may hide the target; else `is_open` decides
 pub seen_if_open : (seen is_open a b rows : Bool) → seen ≡ (not a && not b) → seen ≡ is_open → (rows ≡ true → b ≡ true) → (not rows && is_open) ≡ seen
-seen_if_open seen is_open a b true is same told = hidden_by_rows seen a b is (told refl)
-seen_if_open seen is_open a b false is same told = sym same
+seen_if_open seen is_open a b true is same reported = hidden_by_rows seen a b is (reported refl)
+seen_if_open seen is_open a b false is same reported = sym same

@@ -80,10 +80,10 @@ next_is lead side n k pace index part e h p stays passes =
     elim (cases_lt (part_at side n k + pace.part) n) [
       | inl low ↦
           let is = index_stays lead side n k pace e h p low in
-          let told = stays (omega (arith, low, p.steps)) in
-          (omega (arith, is, told), omega (arith, is, told))
+          let reported = stays (omega (arith, low, p.steps)) in
+          (omega (arith, is, reported), omega (arith, is, reported))
       | inr high ↦
           let is = index_passes lead side n k pace e h p high in
-          let told = passes (omega (arith, high, p.steps)) in
-          (omega (arith, is, told), omega (arith, is, told, p.steps))
+          let reported = passes (omega (arith, high, p.steps)) in
+          (omega (arith, is, reported), omega (arith, is, reported, p.steps))
     ]

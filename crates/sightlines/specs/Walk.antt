@@ -1,6 +1,6 @@
 -- A walk along a line of sight, over a list of cells. The line is tested at each whole step of its
--- leading coordinate; the other coordinate is at its side. Public clauses cite `IsLevel`, and by
--- `IsTops` of `Blocks` also `AreHeights`.
+-- leading coordinate; the other coordinate is at its side. Public clauses cite `IsLevel` and,
+-- through `IsTops` of `Blocks`, `AreHeights`.
 -- Public.
 use Rattle.std.specs.Prelude.{◌≡◌, ℕ, ◌+◌, ◌-◌, ◌*◌, ◌/◌, ◌%◌, ◌^◌, ◌<◌, ◌≤◌, Bool, false, not, ◌&&◌, ◌==◌, if◌then◌else◌, ℤ, pos, unsigned_abs, ◌+ℤ◌, ◌*ℤ◌, int_lt, List, length, Option, None, Some, option_map, option_and_then, slice_index_or, max}
 use Rattle.std.specs.Int.{abs_diff}

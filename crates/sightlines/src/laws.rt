@@ -1,7 +1,7 @@
-//! Facts about the definitions.
+//! Theorems about the definitions, as functions without code.
 ghost use Rattle.sightlines.specs.Sight.{CrossingsAreOnTheLine};
 
-/// States that unsigned arithmetic finds the crossings of a line of sight.
+/// Proves that unsigned arithmetic finds the crossings of a line of sight.
 /// A quotient, rounded down, is the whole cell, and its remainder the part of a cell past it.
 #[tactic(auto, using(crate::proofs::OnTheLine::crossings_are_on_the_line))]
 pub fn crossings_are_on_the_line()

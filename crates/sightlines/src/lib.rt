@@ -1,7 +1,7 @@
 //! One line of sight over a terrain grid: whether an observer sees a place.
 //!
 //! A line of sight runs from an observer's eye to a height above a cell. It is tested where it
-//! crosses the lines between neighbouring cell centres. The earth counts as flat.
+//! crosses the lines that join neighbouring cell centres. The earth counts as flat.
 //!
 //! [`sees`] tests every crossing. [`sees_past_blocks`] returns the same result and skips blocks of
 //! cells below the line. Depends on `terrain` alone.
@@ -13,7 +13,7 @@
 //! - `passing`: skips blocks of cells below the line
 //! - `tops`: the greatest heights of blocks
 //! - `reach`: whether a place is within the radius
-//! - `laws`: facts about the definitions
+//! - `laws`: theorems about the definitions
 #![tactic(auto)]
 
 pub mod laws;

@@ -1,6 +1,6 @@
 //! Whether an observer sees a place: [`sees`], [`sees_past_blocks`].
 //!
-//! The second tests first what hid the last targets, which it keeps in [`WalkCache`].
+//! [`sees_past_blocks`] first tests the crossings that hid earlier targets, kept in [`WalkCache`].
 ghost use Rattle.std.specs.Prelude.{◌≡◌, ◌<◌, ◌≤◌, pos, ◌+ℤ◌, true, false, not, ◌&&◌, MatchOption};
 ghost use Rattle.terrain.specs.Raster.{IsHeight};
 ghost use Rattle.terrain.specs.Neighbours.{IsInside};
@@ -94,7 +94,7 @@ fn lines_of_sight(
 ///
 /// Both must be data cells, and the target at most `radius` cells away. No crossing of the line
 /// with a column or row of cell centres may block. A crossing blocks where the ground, a straight
-/// slope between two centres, is above the line. With NODATA at one of them nothing blocks.
+/// slope between two centres, is above the line; not where a NODATA cell takes part.
 ///
 /// # Examples
 ///
@@ -154,7 +154,7 @@ fn is_blocked_from(cells: &[Cell], line: Sightline, first: u32, crossings: u32) 
 }
 
 /// Returns false only if the observer does not see the place.
-/// It tests the data, the radius and the first crossings beside the target, which hide the most.
+/// Tests the data, the radius and the first crossings beside the target, which block most often.
 #[inline(always)]
 pub fn may_see(
     grid: &Grid,
@@ -203,7 +203,7 @@ pub(crate) struct Blocker {
 }
 
 impl Blocker {
-    /// Whether a crossing at this distance from the observer hides another target.
+    /// Whether a crossing around this distance from the observer hides a target.
     #[inline(always)]
     fn hides(self, cells: &[Cell], lines: Sightlines) -> bool
         requires heights { AreHeights cells.now }
@@ -236,7 +236,7 @@ impl Blocker {
     }
 }
 
-/// The number of entries for columns.
+/// The number of entries of `WalkCache::above`.
 /// Columns share an entry if they are a multiple of this apart.
 const COLUMNS: usize = 256;
 

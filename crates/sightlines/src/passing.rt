@@ -10,18 +10,18 @@ use crate::tops::{FAR_BLOCK, MaxHeights, NEAR_BLOCK};
 use crate::walk::{Leap, Pace, Sightline, Step, blocking_step, weigh};
 use terrain::{Cell, Height};
 
-/// A run of steps that meets more blocks than this is walked without testing them.
+/// A run of steps that meets more blocks than this is not tested against them.
 const MOST_BLOCKS: u32 = 5;
 
 /// The distances in the list of blocks between neighbours along a line.
-/// `lead` is along the leading coordinate, `side` along the one at its side.
+/// `lead` is along the leading coordinate, `side` along the other.
 #[derive(Clone, Copy)]
 pub struct BlockStrides {
     pub lead: usize,
     pub side: usize,
 }
 
-/// Returns the step at which the leading coordinate leaves its block, or `last`.
+/// Returns the first step in the leading coordinate's next block, at most `last`.
 #[inline(always)]
 fn block_end(line: Sightline, size: u32, step: u32, last: u32) -> u32
     requires line { IsSightline line }
@@ -42,7 +42,7 @@ fn block_end(line: Sightline, size: u32, step: u32, last: u32) -> u32
     last.min(step + left)
 }
 
-/// Whether none of `count` blocks in a row is above the sight.
+/// Whether none of `count` blocks, `stride` apart, is above the sight.
 /// `sight` is a level times `weight`.
 #[inline(always)]
 fn are_low(tops: &[Cell], first: usize, stride: usize, count: u32, weight: u32, sight: i64) -> bool
@@ -63,7 +63,7 @@ fn are_low(tops: &[Cell], first: usize, stride: usize, count: u32, weight: u32, 
     true
 }
 
-/// True only if no block that a line can meet between two steps is above the line.
+/// Returns true only if no block a line can meet between two steps is above it.
 /// Between them the leading coordinate stays in block `lead_block`.
 #[inline(always)]
 fn is_above_blocks(
@@ -143,7 +143,7 @@ fn blocking_step_past_near_blocks(
     None
 }
 
-/// True only if a line stays above `peak` from one of its steps on.
+/// Returns true only if a line is nowhere below `peak` from one of its steps on.
 #[inline(always)]
 fn is_clear(peak: Height, line: Sightline, here: Step) -> bool
     requires line { IsSightline line }
@@ -156,8 +156,9 @@ fn is_clear(peak: Height, line: Sightline, here: Step) -> bool
 
 /// Returns a step between the two ends at which the ground is above the line.
 /// The walk first tests the crossings in the block where it begins, which is seldom below the line.
-/// Then it skips far or near blocks below the line, and ends once the line stays above the peak.
-/// Adds the crossings of tested runs to `crossings_tested`. Out of line: the hot path stays small.
+/// Then it skips far or near blocks below the line, and ends once the line cannot fall below the
+/// peak. Adds the crossings of tested runs to `crossings_tested`.
+/// Out of line, to keep the hot path small.
 #[inline(never)]
 pub(crate) fn blocking_step_past_blocks(
     cells: &[Cell],

@@ -1,4 +1,4 @@
-//! The greatest heights of blocks of 16 and of 128 cells: [`MaxHeights`].
+//! The greatest heights of blocks of 16 by 16 and of 128 by 128 cells: [`MaxHeights`].
 ghost use Rattle.std.specs.Prelude.{◌≡◌, ◌<◌, ◌≤◌};
 ghost use Rattle.sightlines.specs.Blocks.{blocks_in};
 

@@ -80,7 +80,7 @@ impl Sightline {
     }
 }
 
-/// The move of a coordinate in some of a number of equal steps.
+/// How far a coordinate moves in one or more of a line's steps.
 /// It is `ahead` less `behind` cells, and `part` parts. As many parts as steps make a cell.
 #[derive(Clone, Copy)]
 struct Gain {
@@ -90,7 +90,7 @@ struct Gain {
 }
 
 impl Axis {
-    /// Returns the move in one of as many steps as there are cells between the ends.
+    /// Returns the move of a leading coordinate in one step: one cell.
     fn whole_gain(self) -> Gain
         requires { 0 < abs_diff self.from self.to }
         ensures { Gains self (abs_diff self.from self.to) 1 result.ahead result.behind result.part }

@@ -66,7 +66,7 @@ Touches-from_ways p q h = way_touches p q h.0 h.1 h.2
 here : (n m : ℕ) → n ≡ m → Some n ≡ Some m
 here n m e = ap (λ k. Some k) e
 
--- the places around a place are those that touch it
+-- each other place that touches a place is one of the eight around it
 Contains-ways_from : (p q : Place) → Touches p q → p ≢ q → Contains (ways_from p) (Some q)
 Contains-ways_from p q h d =
     let a = h.row_down in
@@ -148,7 +148,7 @@ zip_some {X = X} {Y = Y} f g (Some q) x y e = at (f q) (g q) refl refl e
         (q, refl, u ∙ ap Some both.0, v ∙ ap Some both.1)
 
 -- `q` is the place in direction `way` from `p`, which lies past row `top` and column `left`.
--- `at` is its index in the row order of rows of `cols` columns that begin there.
+-- `at` is the index of `p` in the row order of bounds of `cols` columns that begin there.
 pub record IsOnWay (top left cols at : ℕ) (p : Place) (way : ℕ) (q : Place) : Type 0 where
   pub on : place_on way p ≡ Some q
   pub index : (q.row - top) * cols + (q.col - left) ≡ get_or (around_index cols at) way 0

@@ -1,4 +1,4 @@
--- A terrain's numbers are heights, and heights fit in an `i64`.
+-- A terrain's heights are within their limits, and fit in an `i64`.
 use Rattle.std.proofs.Common.{◌≡◌, ℕ, ◌<◌, ◌≤◌, ◌^◌, ℤ, pos, negsuc, true, List, length, get_or, Option, None, Some, IfSome, unwrap_or, sym, ap, ◌∙◌, arith}
 use Rattle.std.specs.Prelude.{int_le, unsigned_abs}
 use Rattle.std.proofs.lemmas.Int.{fits_signed_from_abs}
@@ -27,11 +27,11 @@ height_fits z low high = fits_signed_from_abs height_width z (omega (arith, heig
 pub height_is : (t : Terrain) (p : Place) (h : ℤ) → height_at t p ≡ Some h → height_of t p ≡ h
 height_is t p h e = ap (λ (o : Option ℤ). unwrap_or o (pos 0)) e
 
--- an entry of a list of heights is a height
+-- each height in a list of lawful cells is within its limits
 pub listed_height : (cells : List (Option ℤ)) (i : ℕ) (h : ℤ) → All (λ c. IfSome c IsHeight) cells → i < length cells → get_or cells i None ≡ Some h → IsHeight h
 listed_height cells i h heights within e = MatchOption-at_some _ _ h e (All-get_or (λ (c : Option ℤ). IfSome c IsHeight) cells i None within heights)
 
--- a number at a place of a terrain is a height
+-- the height at a place of a terrain is within its limits
 pub height_in : (t : Terrain) (q : Place) (h : ℤ) → IsTerrain t → height_at t q ≡ Some h → IsHeight h
 height_in t q h lawful e =
     let inside = inside_from_entry t.cols t.rows t.cells q h e in

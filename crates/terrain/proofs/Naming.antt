@@ -11,6 +11,7 @@ use Rattle.terrain.specs.Sinks.{named_once, each_once, sink_fault_of, first_sink
 use Rattle.terrain.specs.declared.place.Place.{Place}
 use Rattle.terrain.specs.declared.sinks.SinkFault.{SinkFault}
 use Rattle.terrain.specs.declared.sinks.SinkFault.TheVariants.{Outside, OnNodata, TooManySinks}
+use Rattle.terrain.proofs.OtherCells.{lawful_with_parts}
 
 none_of_both : (a b : Option SinkFault) → option_or a b ≡ None → (a ≡ None) × (b ≡ None)
 none_of_both None b h = (refl, h)
@@ -74,21 +75,5 @@ sinks_inside t sinks h =
 pub lawful_with_sinks : (g : Raster) (sinks : List Place) → IsLawful g → sinks_fault g.terrain sinks ≡ None → IsLawful (raster_with_sinks g sinks)
 lawful_with_sinks g sinks lawful fault =
     let t = lawful.terrain in
-    record {
-      terrain = record {
-        some_col = t.some_col;
-        some_row = t.some_row;
-        few_cols = t.few_cols;
-        few_rows = t.few_rows;
-        size = t.size;
-        heights = t.heights;
-        sinks = sinks_inside g.terrain sinks fault;
-      };
-      scale = lawful.scale;
-      xll = lawful.xll;
-      yll = lawful.yll;
-      cellsize = lawful.cellsize;
-      above_zero = lawful.above_zero;
-      nodata = lawful.nodata;
-      apart = lawful.apart;
-    }
+    lawful_with_parts g g.terrain.cells (each_once sinks) lawful t.size t.heights lawful.apart
+    (sinks_inside g.terrain sinks fault)

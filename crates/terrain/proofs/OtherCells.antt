@@ -4,8 +4,9 @@ use Rattle.std.specs.Prelude.{IfSome}
 use Rattle.std.specs.List.{All, Contains}
 use Rattle.std.proofs.lemmas.List.Elements.{All-contains}
 use Rattle.terrain.specs.Decimal.{scaled_value}
-use Rattle.terrain.specs.Raster.{Raster, IsLawful, IsHeight}
+use Rattle.terrain.specs.Raster.{Raster, IsLawful, IsHeight, IsInGrid}
 use Rattle.terrain.specs.Parts.{raster_with_parts}
+use Rattle.terrain.specs.declared.place.Place.{Place}
 
 -- a property of all heights of a list holds for cells with heights from it
 heights_kept : (P : ℤ → Type 0) (old cells : List (Option ℤ)) → All (λ c. IfSome c P) old → All (λ c. IfSome c (λ h. Contains old (Some h))) cells → All (λ c. IfSome c P) cells
@@ -14,9 +15,13 @@ heights_kept P old cells all held i d low = at (get_or cells i d) (held i d low)
   at None h = h
   at (Some z) h = All-contains (λ c. IfSome c P) old (Some z) all h
 
--- a grid stays lawful with cells whose heights occur in it
-pub lawful_with_cells : (g : Raster) (cells : List (Option ℤ)) → IsLawful g → length cells ≡ g.terrain.cols * g.terrain.rows → All (λ c. IfSome c (λ h. Contains g.terrain.cells (Some h))) cells → IsLawful (raster_with_parts g cells g.terrain.sinks)
-lawful_with_cells g cells lawful size held =
+-- A grid stays lawful with other cells and sinks that are within their limits.
+pub lawful_with_parts : (g : Raster) (cells : List (Option ℤ)) (sinks : List Place) → IsLawful g
+    → length cells ≡ g.terrain.cols * g.terrain.rows → All (λ c. IfSome c IsHeight) cells
+    → All (λ c. IfSome c (λ h. scaled_value g.scale g.nodata ≢ Some h)) cells
+    → All (IsInGrid g.terrain.cols g.terrain.rows) sinks
+    → IsLawful (raster_with_parts g cells sinks)
+lawful_with_parts g cells sinks lawful size heights apart inside =
     let t = lawful.terrain in
     record {
       terrain = record {
@@ -25,8 +30,8 @@ lawful_with_cells g cells lawful size held =
         few_cols = t.few_cols;
         few_rows = t.few_rows;
         size = size;
-        heights = heights_kept IsHeight g.terrain.cells cells t.heights held;
-        sinks = t.sinks;
+        heights = heights;
+        sinks = inside;
       };
       scale = lawful.scale;
       xll = lawful.xll;
@@ -34,5 +39,13 @@ lawful_with_cells g cells lawful size held =
       cellsize = lawful.cellsize;
       above_zero = lawful.above_zero;
       nodata = lawful.nodata;
-      apart = heights_kept (λ h. scaled_value g.scale g.nodata ≢ Some h) g.terrain.cells cells lawful.apart held;
+      apart = apart;
     }
+
+-- a grid stays lawful with cells whose heights occur in it
+pub lawful_with_cells : (g : Raster) (cells : List (Option ℤ)) → IsLawful g → length cells ≡ g.terrain.cols * g.terrain.rows → All (λ c. IfSome c (λ h. Contains g.terrain.cells (Some h))) cells → IsLawful (raster_with_parts g cells g.terrain.sinks)
+lawful_with_cells g cells lawful size held =
+    let old = g.terrain.cells in
+    lawful_with_parts g cells g.terrain.sinks lawful size
+    (heights_kept _ old cells lawful.terrain.heights held)
+    (heights_kept _ old cells lawful.apart held) lawful.terrain.sinks

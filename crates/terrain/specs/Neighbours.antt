@@ -52,12 +52,12 @@ pub record IsNeighbour (t : Terrain) (p q : Place) : Type 0 where
   pub from_data : IsDataCell t p
   pub to_data : IsDataCell t q
 
--- At least one of the eight places around is a gap. A place in the first row or column has one:
--- the places to the north or west of it are outside the grid.
+-- The place or one of the eight around it is a gap. In the first row or column one always is:
+-- the places to the north or west are outside the grid.
 abbrev pub HasGapWhere : (Place → Type 0) → Place → Type 0
 HasGapWhere is_gap p = (p.row ≡ 0) ⊎ (p.col ≡ 0) ⊎ ((q : Place) × Touches p q × is_gap q)
 
--- At least one of the eight places around is outside the grid or has no data.
+-- The place or one of the eight around it is outside the grid or has no data.
 abbrev pub HasGapAround : Terrain → Place → Type 0
 HasGapAround t p = HasGapWhere (λ q. IsNone (height_at t q)) p
 

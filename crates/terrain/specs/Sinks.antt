@@ -21,7 +21,7 @@ named_once named p = if list_any (is_place p) named then named else named ++ p �
 abbrev pub each_once : List Place → List Place
 each_once places = fold named_once [] places
 
--- The fault of a sink that is this entry of the list.
+-- The fault of a sink, the entry at `index` of a list; `None` for a data cell.
 abbrev pub sink_fault_of : Terrain → ℕ → Place → Option SinkFault
 sink_fault_of t index p =
     if not (is_in_grid t.cols t.rows p) then Some (Outside index)
@@ -50,5 +50,5 @@ raster_with_sinks g sinks = record g { terrain = with_sinks g.terrain (each_once
 -- A list of sinks with a fault is refused with that fault; one without fails only for memory.
 pub record RefusesSinks {T : Type 0} (fault : Option SinkFault)
     (result : Result T SinkFault) : Type 0 where
-  pub told : (f : SinkFault) → fault ≡ Some f → result ≡ Err f
+  pub reported : (f : SinkFault) → fault ≡ Some f → result ≡ Err f
   pub memory : fault ≡ None → (f : SinkFault) → result ≡ Err f → f ≡ Memory

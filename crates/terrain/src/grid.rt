@@ -27,7 +27,7 @@ impl From<AllocError> for NoMemory {
     }
 }
 
-/// A coordinate of the lower left cell: that of its corner, or of its centre.
+/// A coordinate of the lower left cell: of its centre if `centre`, else its corner.
 #[derive(Drop)]
 pub struct Anchor {
     pub centre: bool,
@@ -72,7 +72,7 @@ impl GridHeader {
 }
 
 /// A grid's header, scale and sinks, without its cells.
-/// Contracts see the cells too: those that the grid had when the frame was made.
+/// Contracts see the grid's cells too, by a [`Snapshot`], which has no bytes at run time.
 #[derive(Drop)]
 pub struct Frame {
     header: GridHeader,
@@ -176,7 +176,12 @@ impl Frame {
         &self.header.nodata
     }
 
-    /// Returns the frame's grid with other cells; their heights must occur in the grid.
+    /// Returns the frame's grid with other cells, whose heights all occur in its cells.
+    /// So each height is within its limits and none equals the NODATA value.
+    ///
+    /// # Errors
+    ///
+    /// [`NoMemory`] if an allocation fails.
     pub fn with_cells(&self, alloc: Global, cells: Vec<Cell>) -> Result<Grid, NoMemory>
         requires size { length cells.items ≡ self.now.terrain.cols * self.now.terrain.rows }
         requires heights { All (λ c. IfSome c (λ h. Contains self.now.terrain.cells (Some h)))
@@ -301,6 +306,7 @@ impl Grid {
         self.at(place).is_some() && (self.has_gap_around(place) || is_one_of(self.sinks(), place))
     }
 
+    /// Returns whether `place` or one of the eight around it is outside or has no data.
     fn has_gap_around(&self, place: Place) -> bool
         requires { IsInside self.now.terrain place }
         ensures { IsTrue result ↔ HasGapAround self.now.terrain place }
@@ -321,6 +327,11 @@ impl Grid {
     }
 
     /// Returns the grid with other cells; their heights must occur in the grid.
+    /// So each height is within its limits and none equals the NODATA value.
+    ///
+    /// # Errors
+    ///
+    /// [`NoMemory`] if an allocation fails.
     pub fn with_cells(&self, alloc: Global, cells: &[Cell]) -> Result<Grid, NoMemory>
         requires size { length cells.now ≡ self.now.terrain.cols * self.now.terrain.rows }
         requires heights { All (λ c. IfSome c (λ h. Contains self.now.terrain.cells (Some h)))
@@ -365,7 +376,7 @@ impl Grid {
         Ok(self.frame.with_parts(cells, sinks))
     }
 
-    /// Replaces the grid's sinks by `sinks`, each once. Copies no cell.
+    /// Replaces the sinks, each once, without a copy. A fault drops the grid.
     ///
     /// # Errors
     ///

@@ -21,7 +21,7 @@ pub enum SinkFault {
     OnNodata(u32),
     /// The list has more than [`MOST_SINKS`] entries.
     TooManySinks,
-    /// Memory for the grid could not be allocated.
+    /// An allocation failed.
     Memory,
 }
 

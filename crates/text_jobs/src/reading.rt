@@ -13,7 +13,7 @@ use terrain::Grid;
 use tile_jobs::{Gate, MOST_JOBS};
 use tile_maps::Runner;
 
-/// Bytes at a batch's front for the caller's thread: a header or a cut word.
+/// A batch's first bytes, a header or a cut word, which the caller's thread parses.
 const FRONT_BYTES: usize = 4096;
 
 /// Reads a grid from a device, by several workers.
@@ -21,6 +21,10 @@ const FRONT_BYTES: usize = 4096;
 /// Heights are in units of 10^-scale. With more than one worker, the caller's thread reads batches
 /// of at most 1 MiB, and jobs parse their heights. If a thread or memory is refused, the caller's
 /// thread parses them.
+///
+/// # Memory
+///
+/// 8 bytes a cell, and with more than one worker about 5 MiB for a batch and its cells.
 ///
 /// # Errors
 ///
@@ -110,12 +114,13 @@ fn feed_heights<T: Threads + Wait + Sync, G: Gate + Sync>(
 ) -> Result<(), GridFault>
     ensures { Feeds reader.old reader.new piece.now result }
 {
-    let Some(form) = reader.height_form() else {
+    let Some(form) = reader.height_parser() else {
         return reader.feed(piece);
     };
     let Ok(runs) = runs_of(runner.alloc, piece) else {
         return reader.feed(piece);
     };
+    // At most 17 runs, of which the prover has no bound: the test brings the premise of `run`.
     if runs.len() > MOST_JOBS as usize {
         return reader.feed(piece);
     }

@@ -5,7 +5,7 @@ ghost use Rattle.ascii_grid.specs.HeightList.{AreCells};
 ghost use Rattle.ascii_grid.specs.Reader.{Feeds};
 ghost use Rattle.text_jobs.specs.Runs.{HasRun};
 
-use ascii_grid::{GridFault, GridReader, HeightForm, is_separator};
+use ascii_grid::{GridFault, GridReader, HeightParser, is_separator};
 use std::alloc::{AllocError, Global};
 use terrain::Cell;
 use tile_jobs::{JobFault, Work};
@@ -57,7 +57,7 @@ fn behind_last_separator(bytes: &[u8]) -> usize
 /// One job for each run: its cells, or `None` at a fault or for want of memory.
 #[derive(Drop)]
 pub(crate) struct RunJobs<'a> {
-    pub form: &'a HeightForm,
+    pub form: &'a HeightParser,
     pub runs: &'a [&'a [u8]],
 }
 
@@ -80,7 +80,7 @@ impl<'a> Work for RunJobs<'a> {
 /// Feeds runs to a reader in order, by their cells where jobs have parsed them.
 pub(crate) fn feed_runs(
     reader: &mut GridReader,
-    form: &HeightForm,
+    form: &HeightParser,
     runs: &[&[u8]],
     lists: &[Option<Vec<Cell>>],
 ) -> Result<(), GridFault>
@@ -99,7 +99,7 @@ pub(crate) fn feed_runs(
 
 fn feed_run(
     reader: &mut GridReader,
-    form: &HeightForm,
+    form: &HeightParser,
     run: &[u8],
     cells: &Option<Vec<Cell>>,
 ) -> Result<(), GridFault>

@@ -7,7 +7,7 @@ ghost use Rattle.terrain.specs.declared.word.TheConstants.{MOST_WORD_BYTES};
 ghost use Rattle.ascii_grid.specs.Device.{Writes};
 ghost use Rattle.ascii_grid.specs.Text.{header_text, rows_text, heights_text, counts_text};
 
-use ascii_grid::write::{COUNTS_NODATA, Entry, lines, write_cells, write_lines};
+use ascii_grid::write::{COUNTS_NODATA, MapCell, lines, write_cells, write_lines};
 use ascii_grid::{Counted, WriteFailed};
 use drainage::Code;
 use std::alloc::Global;
@@ -35,7 +35,7 @@ struct LineJobs<'a, E> {
     ghost short: { length nodata.now ≤ MOST_WORD_BYTES },
 }
 
-impl<'a, E: Entry> Work for LineJobs<'a, E> {
+impl<'a, E: MapCell> Work for LineJobs<'a, E> {
     ghost use Rattle.std.specs.Int.{div_ceil};
     ghost use Rattle.text_jobs.specs.Parts.{part_text};
 
@@ -61,7 +61,7 @@ impl<'a, E: Entry> Work for LineJobs<'a, E> {
 /// Makes the texts of a map's rows, in order, by several workers.
 ///
 /// `None` with one worker, and if a thread or memory is refused.
-fn make_lines<T: Threads + Wait + Sync, G: Gate + Sync, E: Entry + Sync>(
+fn make_lines<T: Threads + Wait + Sync, G: Gate + Sync, E: MapCell + Sync>(
     runner: &Runner<T, G>,
     frame: &Frame,
     cells: &[E],
@@ -94,7 +94,7 @@ fn make_lines<T: Threads + Wait + Sync, G: Gate + Sync, E: Entry + Sync>(
 }
 
 /// Writes a map. With several workers, jobs make all its text first.
-fn write_map<T: Threads + Wait + Sync, G: Gate + Sync, E: Entry + Sync, W: Write>(
+fn write_map<T: Threads + Wait + Sync, G: Gate + Sync, E: MapCell + Sync, W: Write>(
     runner: &Runner<T, G>,
     frame: &Frame,
     cells: &[E],
@@ -117,10 +117,14 @@ fn write_map<T: Threads + Wait + Sync, G: Gate + Sync, E: Entry + Sync, W: Write
 
 /// Writes a grid's header and heights, but not its sinks, by several workers.
 ///
+/// # Memory
+///
+/// With more than one worker, the text of all rows. If it or a thread is refused, the map is
+/// written without jobs, which allocates nothing.
+///
 /// # Errors
 ///
-/// [`WriteFailed`] if a write or the flush fails. Want of memory is no error: the map is
-/// then written without jobs, which allocates nothing.
+/// [`WriteFailed`] if a write or the flush fails.
 ///
 /// # Examples
 ///
@@ -143,10 +147,14 @@ pub fn write_heights<T: Threads + Wait + Sync, G: Gate + Sync, W: Write>(
 
 /// Writes a map of whole numbers, with the header of a frame, by several workers.
 ///
+/// # Memory
+///
+/// With more than one worker, the text of all rows. If it or a thread is refused, the map is
+/// written without jobs, which allocates nothing.
+///
 /// # Errors
 ///
-/// [`WriteFailed`] if a write or the flush fails. Want of memory is no error: the map is
-/// then written without jobs, which allocates nothing.
+/// [`WriteFailed`] if a write or the flush fails.
 pub fn write_framed_counts<T: Threads + Wait + Sync, G: Gate + Sync, W: Write>(
     runner: &Runner<T, G>,
     frame: &Frame,
@@ -162,10 +170,14 @@ pub fn write_framed_counts<T: Threads + Wait + Sync, G: Gate + Sync, W: Write>(
 
 /// Writes a map of direction codes, with a frame's header, by several workers.
 ///
+/// # Memory
+///
+/// With more than one worker, the text of all rows. If it or a thread is refused, the map is
+/// written without jobs, which allocates nothing.
+///
 /// # Errors
 ///
-/// [`WriteFailed`] if a write or the flush fails. Want of memory is no error: the map is
-/// then written without jobs, which allocates nothing.
+/// [`WriteFailed`] if a write or the flush fails.
 pub fn write_codes<T: Threads + Wait + Sync, G: Gate + Sync, W: Write>(
     runner: &Runner<T, G>,
     frame: &Frame,

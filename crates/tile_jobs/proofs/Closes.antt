@@ -123,8 +123,10 @@ abbrev pub head : ℕ → ℕ → ℕ
 head s v = v - cond (nat_lt s v) 1 0
 
 module _ (jobs seats : ℕ) (ss : List SeatState) (deal_of_all : IsDeal jobs seats ss) (each : (s : ℕ) (d : SeatState) → s < seats → IsSeat (get_or ss s d)) where
-  pub own_names : (v : ℕ) (d : SeatState) → v < seats → ((get_or ss v d).own.jobs ≡ jobs) × ((get_or ss v d).own.seats ≡ seats) × ((get_or ss v d).own.deque ≡ v)
-  own_names v d low = let n = deal_of_all.numbers v d low in (n.1, n.2, (each v d low).own_is.2 ∙ n.0)
+  pub own_names : (v : ℕ) (own : EndState) (d : SeatState) → v < seats → own ≡ (get_or ss v d).own
+      → (own.jobs ≡ jobs) × (own.seats ≡ seats) × (own.deque ≡ v)
+  own_names v own d low is = let n = deal_of_all.numbers v d low in
+      rw is (n.1, n.2, (each v d low).own_is.2 ∙ n.0)
 
   pub own_takes : (v : ℕ) (d : SeatState) → v < seats → (get_or ss v d).own.took ≡ of v seats (get_or ss v d).taken
   own_takes v d low = let n = deal_of_all.numbers v d low in (each v d low).own_is.3 ∙ rw (n.0, n.2) refl

@@ -30,7 +30,7 @@ pub feed_end_at : (jobs seats v t : ℕ) (rest : List Entry) → End ∷ rest �
 unfolding feed
 feed_end_at jobs seats v t rest e = end_at (deal jobs seats v) seats t rest e
 
-pub one_share : (marked : Bool) (u : Log) → IsSeated marked u → u.leaves + u.marks ≡ 1
+pub one_share : (marked : Bool) (u : Log) → IsSeated marked u → u.marks_due + u.marks ≡ 1
 one_share true u is = let a = is.1 in let b = is.2 in omega arith
 one_share false u is = let a = is.1 in let b = is.2 in omega arith
 

@@ -13,7 +13,7 @@ use Rattle.tile_jobs.specs.declared.deque.Entry.{Entry}
 use Rattle.tile_jobs.specs.declared.deque.Entry.TheVariants.{Job, End}
 use Rattle.tile_jobs.specs.declared.deque.Log.{Log}
 use Rattle.tile_jobs.specs.Board.{deal, feed, jobs_of, ends_of, times, IsRising}
-use Rattle.tile_jobs.specs.Rule.{total, all_taken, taken, share, blank, spent, once, dealing, IsOf, Lawful, CanTake, Took, lent, lending, taken_back, TookNext}
+use Rattle.tile_jobs.specs.Rule.{total, all_taken, taken, share, blank, spent, once, dealing, IsOf, Lawful, CanTake, Took, split_off, after_split, taken_back, TookNext}
 use Rattle.tile_jobs.proofs.Totals.{total_set, total_at, total_snoc, total_plus, total_alone}
 use Rattle.tile_jobs.proofs.Entries.{cut_take, cut_drop, cut_below, cut_past, times_append, jobs_append, ends_append, feed_ends, feed_early, feed_late, feed_is, feed_rises, all_below}
 
@@ -22,7 +22,7 @@ no_list = All-cons IsRising [] [] (λ i k d l low. absurd (omega arith)) (λ k d
 
 -- A pass that may take has the deque's numbers.
 pub names : (items : List Entry) (views : List Log) (h : Lawful items views) (port : ℕ) (u : Log) → get_elem? views port ≡ some u → CanTake u → (u.jobs ≡ h.jobs) × (u.seats ≡ h.seats) × (u.deque ≡ h.v)
-names items views h port u at can = let n : 0 < u.leaves = can.0 in (h.views_are port u at).named (inr (omega arith))
+names items views h port u at can = let n : 0 < u.marks_due = can.0 in (h.views_are port u at).named (inr (omega arith))
 
 pub settled : (items : List Entry) (views : List Log) (h : Lawful items views) (port : ℕ) (u : Log) → get_elem? views port ≡ some u → CanTake u → h.pushed ≡ length (feed h.jobs h.seats h.v)
 settled items views h port u at can =
@@ -59,7 +59,7 @@ after x items views h port u w at can more same jobs ends is =
       each = λ y. rw (t', next, jobs_append, times_append)
           (let s = total_set (λ (v : Log). times y (all_taken v)) views port u w at in let old = h.each y in let new = jobs y in omega arith);
       marks = rw (t', next, ends_append) (let s = total_set (λ (v : Log). v.marks) views port u w at in let old = h.marks in omega arith);
-      leaves = (let s = total_set share views port u w at in let old = h.leaves in omega arith);
+      marks_due = (let s = total_set share views port u w at in let old = h.marks_due in omega arith);
       closed = λ _. whole;
       views_are = λ j v e. ⊎_elim (λ (q : (j ≡ port) × (w ≡ v)). subst (λ (y : ℕ × Log). IsOf h.jobs h.seats h.v h.pushed h.owner y.0 y.1) (λ i. (sym q.0 i, q.1 i)) is)
           (λ (q : (j ≢ port) × (get_elem? views j ≡ some v)). h.views_are j v q.1) (at_set views port j w v e);
@@ -73,7 +73,7 @@ takes_job j items views h port u at can =
     let n = names (Job j ∷ items) views h port u at can in
     let held = left_of_feed (Job j ∷ items) views h port u at can in
     let w : Log = record u { took = u.took ++ j ∷ [] } in
-    let some_leave : 0 < u.leaves = can.0 in
+    let some_leave : 0 < u.marks_due = can.0 in
     let early = feed_early h.jobs h.seats h.v t j items held in
     let mine_of_all = total_at taken views port u at in
     let marks_of_all = total_at (λ (v : Log). v.marks) views port u at in
@@ -94,11 +94,11 @@ takes_job j items views h port u at can =
     )
 
 takes_mark : (items : List Entry) (views : List Log) (h : Lawful (End ∷ items) views) (port : ℕ) (u : Log) → get_elem? views port ≡ some u → CanTake u
-    → let w = record u { marks = suc u.marks; leaves = u.leaves - 1 } in Lawful items (set views port w) × Took u (End ∷ []) w
+    → let w = record u { marks = suc u.marks; marks_due = u.marks_due - 1 } in Lawful items (set views port w) × Took u (End ∷ []) w
 takes_mark items views h port u at can =
     let mine = h.views_are port u at in
-    let w : Log = record u { marks = suc u.marks; leaves = u.leaves - 1 } in
-    let some_leave : 0 < u.leaves = can.0 in (
+    let w : Log = record u { marks = suc u.marks; marks_due = u.marks_due - 1 } in
+    let some_leave : 0 < u.marks_due = can.0 in (
       after End items views h port u w at can (omega arith) (omega arith) (λ y. omega arith) (omega arith)
           (record { named = λ _. mine.named (inr (omega arith)); owns = mine.owns; ready = λ r. ((mine.ready r).0, omega arith); idle = λ z. absurd (omega arith); rising = mine.rising }),
       refl,
@@ -109,7 +109,7 @@ pub takes : (port : ℕ) (u : Log) → CanTake u → Takes Lawful port u 1 (Took
 takes port u can [] items views some_x few h at = absurd (omega arith)
 takes port u can (x ∷ y ∷ zs) items views some_x few h at = absurd (omega arith)
 takes port u can (Job j ∷ []) items views some_x few h at = let r = takes_job j items views h port u at can in (record u { took = u.took ++ j ∷ [] }, r.0, r.1)
-takes port u can (End ∷ []) items views some_x few h at = let r = takes_mark items views h port u at can in (record u { marks = suc u.marks; leaves = u.leaves - 1 }, r.0, r.1)
+takes port u can (End ∷ []) items views some_x few h at = let r = takes_mark items views h port u at can in (record u { marks = suc u.marks; marks_due = u.marks_due - 1 }, r.0, r.1)
 
 pub never_empty : (port : ℕ) (u : Log) → CanTake u → (views : List Log) → Lawful [] views → get_elem? views port ≡ some u → ⊥
 never_empty port u can views h at =
@@ -118,10 +118,10 @@ never_empty port u can views h at =
     let held = left_of_feed [] views h port u at can in
     let past : length all ≤ t = cut_past all t held in
     let marks : total (λ (v : Log). v.marks) views ≡ h.seats = h.marks ∙ ap ends_of (take_all t all past) ∙ feed_ends h.jobs h.seats h.v in
-    let sums = total_plus (λ (v : Log). v.leaves) (λ (v : Log). v.marks) views in
-    let mine = total_at (λ (v : Log). v.leaves) views port u at in
-    let some_leave : 0 < u.leaves = can.0 in
-    let leaves = h.leaves in
+    let sums = total_plus (λ (v : Log). v.marks_due) (λ (v : Log). v.marks) views in
+    let mine = total_at (λ (v : Log). v.marks_due) views port u at in
+    let some_leave : 0 < u.marks_due = can.0 in
+    let marks_due = h.marks_due in
     absurd (omega arith)
 
 pub finds : (port : ℕ) (u : Log) → CanTake u → Finds Lawful port u ⊥
@@ -132,13 +132,13 @@ finds_few port u can [] views few h at = never_empty port u can views h at
 finds_few port u can (x ∷ xs) views few h at = absurd (omega arith)
 
 -- Splitting a stealing pass off the owner's keeps `Lawful`.
-pub forks : (port : ℕ) (u : Log) → u.owns ≡ true → u.pushed ≡ length (feed u.jobs u.seats u.deque) → 1 < u.leaves → Forks Lawful port u (lending u) (lent u)
+pub forks : (port : ℕ) (u : Log) → u.owns ≡ true → u.pushed ≡ length (feed u.jobs u.seats u.deque) → 1 < u.marks_due → Forks Lawful port u (after_split u) (split_off u)
 forks port u owns all two items views h at =
     let mine = h.views_are port u at in
     let n = mine.named (inl owns) in
     let whole : h.pushed ≡ length (feed h.jobs h.seats h.v) = sym (mine.owns owns).1 ∙ rw (n.0, n.1, n.2) at all in
-    let l : Log = lending u in
-    let r : Log = lent u in
+    let l : Log = after_split u in
+    let r : Log = split_off u in
     let vs : List Log = set views port l in
     let left_is : IsOf h.jobs h.seats h.v h.pushed h.owner port l = record { named = λ _. n; owns = mine.owns; ready = λ q. ((mine.ready q).0, omega arith); idle = λ z. absurd (omega arith); rising = mine.rising } in
     let right_is : (j : ℕ) → IsOf h.jobs h.seats h.v h.pushed h.owner j r = λ j. record { named = λ _. n; owns = λ o. absurd (true≢false (sym o)); ready = λ q. (whole, omega arith); idle = λ z. absurd (omega arith); rising = no_list } in
@@ -153,7 +153,7 @@ forks port u owns all two items views h at =
       held = rw same h.held;
       each = λ y. rw same (let s = total_set (λ (v : Log). times y (all_taken v)) views port u l at in let k = total_snoc (λ (v : Log). times y (all_taken v)) vs r in let old = h.each y in omega arith);
       marks = rw same (let s = total_set (λ (v : Log). v.marks) views port u l at in let k = total_snoc (λ (v : Log). v.marks) vs r in let old = h.marks in omega arith);
-      leaves = (let s = total_set share views port u l at in let k = total_snoc share vs r in let old = h.leaves in omega arith);
+      marks_due = (let s = total_set share views port u l at in let k = total_snoc share vs r in let old = h.marks_due in omega arith);
       closed = λ _. whole;
       views_are = λ j v e. ⊎_elim
           (λ (x : get_elem? vs j ≡ some v). ⊎_elim (λ (q : (j ≡ port) × (l ≡ v)). subst (λ (y : ℕ × Log). IsOf h.jobs h.seats h.v h.pushed h.owner y.0 y.1) (λ i. (sym q.0 i, q.1 i)) left_is)
@@ -190,7 +190,7 @@ merges port u other w owns items views h at two at' =
       each = λ y. rw same (let s = total_set (λ (v : Log). times y (all_taken v)) views port u both at in let k = total_set (λ (v : Log). times y (all_taken v)) vs other w spent at' in let old = h.each y in
           let c : times y (all_taken both) ≡ times y (all_taken u) + times y (all_taken w) = ap (times y) joins ∙ times_append y (all_taken u) (all_taken w) in omega arith);
       marks = rw same (let s = total_set (λ (v : Log). v.marks) views port u both at in let k = total_set (λ (v : Log). v.marks) vs other w spent at' in let old = h.marks in omega arith);
-      leaves = (let s = total_set share views port u both at in let k = total_set share vs other w spent at' in let old = h.leaves in omega arith);
+      marks_due = (let s = total_set share views port u both at in let k = total_set share vs other w spent at' in let old = h.marks_due in omega arith);
       closed = rw same h.closed;
       views_are = λ j v e. ⊎_elim (λ (q : (j ≡ other) × (spent ≡ v)). subst (λ (y : ℕ × Log). IsOf h.jobs h.seats h.v h.pushed h.owner y.0 y.1) (λ i. (sym q.0 i, q.1 i)) spent_is)
           (λ (q : (j ≢ other) × (get_elem? vs j ≡ some v)). ⊎_elim (λ (r : (j ≡ port) × (both ≡ v)). subst (λ (y : ℕ × Log). IsOf h.jobs h.seats h.v h.pushed h.owner y.0 y.1) (λ i. (sym r.0 i, r.1 i)) both_is)
@@ -207,7 +207,7 @@ whole_learns port u is items views h at y =
     let n = mine.named (inl is.0) in
     let all = feed h.jobs h.seats h.v in
     let t = total taken views in
-    let alone : total share views ≡ share u = h.leaves ∙ sym n.1 ∙ sym is.1 in
+    let alone : total share views ≡ share u = h.marks_due ∙ sym n.1 ∙ sym is.1 in
     let weigh : (j : ℕ) (v : Log) → get_elem? views j ≡ some v → share v ≡ 0 → times y (all_taken v) ≡ 0 = λ j v e z. ap (times y) ((h.views_are j v e).idle z) in
     let only = total_alone (λ (v : Log). times y (all_taken v)) share views port u weigh at alone in
     let marks = total_at (λ (v : Log). v.marks) views port u at in
@@ -231,7 +231,7 @@ begins = record {
   held = refl;
   each = λ y. refl;
   marks = refl;
-  leaves = refl;
+  marks_due = refl;
   closed = λ z. absurd (omega arith);
   views_are = first_is;
 }
@@ -258,7 +258,7 @@ pushed_after J S V n e rest items views h port at next none held shares others =
       held = rw (t', cut_take all n e rest next) (ap (λ l. l ++ e ∷ []) held);
       each = λ y. rw t' (let s = total_set (λ (v : Log). times y (all_taken v)) views port u w at in let old = rw none at (h.each y) in omega arith);
       marks = rw t' (let s = total_set (λ (v : Log). v.marks) views port u w at in let old = rw none at h.marks in omega arith);
-      leaves = (let s = total_set share views port u w at in omega arith);
+      marks_due = (let s = total_set share views port u w at in omega arith);
       closed = λ z. absurd (omega arith);
       views_are = λ j v x. ⊎_elim (λ (q : (j ≡ port) × (w ≡ v)). subst (λ (y : ℕ × Log). IsOf J S V (suc n) port y.0 y.1) (λ i. (sym q.0 i, q.1 i)) w_is)
           (λ (q : (j ≢ port) × (get_elem? views j ≡ some v)). others j v q.0 q.1) (at_set views port j w v x);
@@ -277,7 +277,7 @@ pushes J S V zero port e rest next items views h at =
     let none : total taken views ≡ 0 = omega arith in
     let p : h.pushed ≡ 0 = sym o.1 in
     let held : items ≡ [] = h.held ∙ rw (none, p) in
-    let shares : total share views ≡ 0 = h.leaves ∙ sym n.1 in
+    let shares : total share views ≡ 0 = h.marks_due ∙ sym n.1 in
     let others : (j : ℕ) (v : Log) → j ≢ port → get_elem? views j ≡ some v → IsOf J S V 1 port j v = λ j v far x.
     let theirs = h.views_are j v x in
     let little = total_at share views j v x in
@@ -297,7 +297,7 @@ pushes J S V (suc m) port e rest next items views h at =
     let low' : suc m < length (feed h.jobs h.seats h.v) = rw (n.0, n.1, n.2) at low in
     let none : total taken views ≡ 0 = none_yet (total taken views) h.pushed (length (feed h.jobs h.seats h.v)) h.closed (omega arith) in
     let held : items ≡ take (suc m) (feed J S V) = h.held ∙ rw (none, n.0, n.1, n.2, o.1) in
-    let leaves = h.leaves in
+    let marks_due = h.marks_due in
     let others : (j : ℕ) (v : Log) → j ≢ port → get_elem? views j ≡ some v → IsOf J S V (suc (suc m)) port j v = λ j v far x.
     let theirs = h.views_are j v x in
     record {
@@ -313,7 +313,7 @@ next_is : (xs items : List Entry) (views : List Log) (h : Lawful (xs ++ items) v
     → (rest : List Entry) × (xs ++ rest ≡ drop (taken u) (feed u.jobs u.seats u.deque))
 next_is xs items views h port u at can owns whole =
     let n = (h.views_are port u at).named (inl owns) in
-    let alone : total share views ≡ share u = h.leaves ∙ sym n.1 ∙ sym whole in
+    let alone : total share views ≡ share u = h.marks_due ∙ sym n.1 ∙ sym whole in
     let weigh : (j : ℕ) (v : Log) → get_elem? views j ≡ some v → share v ≡ 0 → taken v ≡ 0 = λ j v e z. (let k = ap length ((h.views_are j v e).idle z) in omega arith) in
     let only = total_alone taken share views port u weigh at alone in
     (items, rw (n.0, n.1, n.2, ← only) (left_of_feed (xs ++ items) views h port u at can))

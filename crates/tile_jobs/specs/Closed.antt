@@ -1,4 +1,4 @@
--- What `Board::close` returns: the jobs left, and that each job occurs exactly once.
+-- The promise of `Board::close`: which jobs are left, and that each job occurs exactly once.
 -- Public.
 use Rattle.std.specs.Prelude.{◌≡◌, ℕ, ◌+◌, ◌%◌, ◌<◌, ◌≤◌, true, List, [], length, drop, get_or}
 use Rattle.std.specs.List.{concat}

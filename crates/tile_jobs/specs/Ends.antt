@@ -12,8 +12,9 @@ use Rattle.tile_jobs.specs.Rule.{share}
 abbrev pub DequeId : Type 0
 DequeId = RowsId × Global
 
--- One seat's end of one deque: the deque's numbers, the jobs that the seat took there, whether
--- it has its end mark, and how many entries it has seen taken, 0 before its first steal.
+-- One seat's end of one deque: the deque's numbers, the jobs that the seat took there, and whether
+-- it has its end mark. `seen` counts the entries that it saw taken: 0 for the owner and before the
+-- first steal.
 pub record EndState : Type 0 where
   pub id : DequeId
   pub jobs : ℕ
@@ -37,8 +38,8 @@ end_of id marked seen u = record {
 
 -- A seat's view between two calls: it may take one end mark, or took it and is `marked`.
 abbrev pub IsSeated : Bool → Log → Type 0
-IsSeated marked u = (u.gathered ≡ []) × (u.leaves ≡ cond marked 0 1) × (u.marks ≡ cond marked 1 0)
-    × (length u.took ≤ length (deal u.jobs u.seats u.deque))
+IsSeated marked u = (u.gathered ≡ []) × (u.marks_due ≡ cond marked 0 1)
+    × (u.marks ≡ cond marked 1 0) × (length u.took ≤ length (deal u.jobs u.seats u.deque))
 
 -- The owner's view between two calls: all entries were pushed.
 abbrev pub IsOwn : Bool → Log → Type 0
@@ -158,18 +159,18 @@ MarksStay s t = (s.own.marked ≡ true → t.own.marked ≡ true)
     × ((k : ℕ) (d : EndState) → k < length s.others → (get_or s.others k d).marked ≡ true →
     (get_or t.others k d).marked ≡ true)
 
--- The dealer of one deque. `leaves` is one more than the stealing ends still to be made.
+-- The dealer of one deque. `marks_due` is one more than the stealing ends still to be made.
 pub record DealerState : Type 0 where
   pub id : DequeId
   pub jobs : ℕ
   pub seats : ℕ
   pub deque : ℕ
-  pub leaves : ℕ
+  pub marks_due : ℕ
 
 -- The dealer that has this view of the deque.
 abbrev pub dealer_of : DequeId → Log → DealerState
 dealer_of id u =
-    record { id = id; jobs = u.jobs; seats = u.seats; deque = u.deque; leaves = u.leaves }
+    record { id = id; jobs = u.jobs; seats = u.seats; deque = u.deque; marks_due = u.marks_due }
 
 -- A dealer's view: all entries were pushed and none taken.
 abbrev pub IsDealer : Log → Type 0
@@ -243,7 +244,7 @@ closing_of id marked u = record {
 -- The owner's view during the closing: it has an end mark, or may still take one.
 abbrev pub IsClosing : Bool → Log → Type 0
 IsClosing marked u = (u.owns ≡ true) × (u.pushed ≡ length (feed u.jobs u.seats u.deque))
-    × (marked ≡ true → 0 < u.marks) × (marked ≡ false → 0 < u.leaves)
+    × (marked ≡ true → 0 < u.marks) × (marked ≡ false → 0 < u.marks_due)
 
 -- The closing begins with the owner's end alone.
 abbrev pub Begins : EndState → ClosingState → Type 0

@@ -2,7 +2,8 @@
 -- end marks. Then the owner pops and the other seats steal, each until it gets an end mark.
 -- Each pass has a view (`Log`) of what it did. A step changes only the view of its pass: a push by
 -- `dealing`, a pop or a steal by `Took`. Before the first take the dealer splits off a pass for
--- each other seat, which may take one mark (`lending`, `lent`). `taken_back` joins it again.
+-- each other seat, which may take one mark (`after_split`, `split_off`). `taken_back` joins
+-- it again.
 -- Private.
 use Rattle.std.specs.Prelude.{◌≡◌, ℕ, zero, suc, ◌+◌, ◌-◌, ◌%◌, ◌<◌, ◌≤◌, ◌⊎◌, true, false, List, [], ◌∷◌, ◌++◌, length, take, drop, All}
 use Rattle.std.specs.List.{concat}
@@ -28,7 +29,7 @@ taken v = length (all_taken v) + v.marks
 
 -- The number of end marks that a pass took or may take.
 abbrev pub share : Log → ℕ
-share v = v.leaves + v.marks
+share v = v.marks_due + v.marks
 
 -- The owner's view before the first push.
 abbrev pub blank : Log
@@ -39,7 +40,7 @@ blank = record {
   owns = true;
   pushed = 0;
   ready = false;
-  leaves = 0;
+  marks_due = 0;
   marks = 0;
   took = [];
   gathered = [];
@@ -54,7 +55,7 @@ spent = record {
   owns = false;
   pushed = 0;
   ready = false;
-  leaves = 0;
+  marks_due = 0;
   marks = 0;
   took = [];
   gathered = [];
@@ -74,7 +75,7 @@ dealing jobs seats v n = record {
   owns = true;
   pushed = n;
   ready = false;
-  leaves = once n seats;
+  marks_due = once n seats;
   marks = 0;
   took = [];
   gathered =
@@ -106,7 +107,7 @@ pub record Lawful (items : List Entry) (views : List Log) : Type 0 where
   pub each : (x : ℕ) → total (λ u. times x (all_taken u)) views
       ≡ times x (jobs_of (take (total taken views) (feed jobs seats v)))
   pub marks : total (λ u. u.marks) views ≡ ends_of (take (total taken views) (feed jobs seats v))
-  pub leaves : total share views ≡ seats
+  pub marks_due : total share views ≡ seats
   -- No entry is taken before all are pushed.
   pub closed : 0 < total taken views → pushed ≡ length (feed jobs seats v)
   pub views_are : (port : ℕ) (u : Log) → get_elem? views port ≡ some u →
@@ -114,7 +115,7 @@ pub record Lawful (items : List Entry) (views : List Log) : Type 0 where
 
 -- The pass may take: all entries were pushed, and it may still take an end mark.
 abbrev pub CanTake : Log → Type 0
-CanTake u = (0 < u.leaves)
+CanTake u = (0 < u.marks_due)
     × ((u.ready ≡ true) ⊎ ((u.owns ≡ true) × (u.pushed ≡ length (feed u.jobs u.seats u.deque))))
 
 -- Job j of this deque was taken, and is the last of the view's list.
@@ -131,32 +132,32 @@ pub record AddsJob (u : Log) (j : ℕ) (w : Log) : Type 0 where
 abbrev pub Took : Log → List Entry → Log → Type 0
 Took u [] w = ⊥
 Took u (Job j ∷ []) w = AddsJob u j w
-Took u (End ∷ []) w = (w ≡ record u { marks = suc u.marks; leaves = u.leaves - 1 })
+Took u (End ∷ []) w = (w ≡ record u { marks = suc u.marks; marks_due = u.marks_due - 1 })
 Took u (_ ∷ _ ∷ _) w = ⊥
 
 -- The view of a stealing pass that is split off: it may take one end mark.
-abbrev pub lent : Log → Log
-lent u = record {
+abbrev pub split_off : Log → Log
+split_off u = record {
   jobs = u.jobs;
   seats = u.seats;
   deque = u.deque;
   owns = false;
   pushed = 0;
   ready = true;
-  leaves = 1;
+  marks_due = 1;
   marks = 0;
   took = [];
   gathered = [];
 }
 
 -- The owner's view after splitting off a stealing pass.
-abbrev pub lending : Log → Log
-lending u = record u { leaves = u.leaves - 1 }
+abbrev pub after_split : Log → Log
+after_split u = record u { marks_due = u.marks_due - 1 }
 
--- The owner's view u after joining a pass of view w: it gets w's lists, marks and leaves.
+-- The owner's view u after joining a pass of view w: it gets w's lists, marks and marks_due.
 abbrev pub taken_back : Log → Log → Log
 taken_back u w = record u {
-  leaves = u.leaves + w.leaves;
+  marks_due = u.marks_due + w.marks_due;
   marks = u.marks + w.marks;
   gathered = u.gathered ++ (w.took ∷ w.gathered);
 }

@@ -15,7 +15,7 @@ MatchTake Empty job again empty = empty
 pub record TakesJob (s : SeatState) (j : ℕ) (t : SeatState) : Type 0 where
   pub below : j < s.own.jobs
   pub taken : t.taken ≡ s.taken ++ j ∷ []
-  -- It is greater than each job that the seat took of that job's deque before.
+  -- Job j is greater than each job of its deque that the seat took before.
   pub rises : All (λ x. x < j) (of (j % s.own.seats) s.own.seats s.taken)
   pub own_first : (j % s.own.seats ≡ s.number) ⊎ (t.own.marked ≡ true)
 

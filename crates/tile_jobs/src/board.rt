@@ -11,12 +11,13 @@ ghost use Rattle.tile_jobs.specs.Rows.{EachHead, HaveHeads, WithoutHeads, IsLeft
 use crate::closing::Closing;
 use crate::dealing::{deal_all, seat_all};
 use crate::ends::{OtherEnd, OwnEnd};
-use crate::room::put;
+use crate::reserved::put;
 use crate::seat::Seat;
 use crate::{JobFault, MOST_JOBS, MOST_WORKERS, check_workers};
 use std::alloc::Global;
 
 /// Joins the ends of deque `v` from all rows to its owner's end.
+/// Each is the first of its row: deques close in order, and the ends of closed ones are gone.
 fn gather(own: OwnEnd, rows: &mut Vec<Vec<OtherEnd>>, v: usize) -> Closing
     requires own { v < vec_len rows.old }
     requires ids { HaveHeads (vec_len rows.old) v rows.old.items own.id }
@@ -47,11 +48,11 @@ fn gather(own: OwnEnd, rows: &mut Vec<Vec<OtherEnd>>, v: usize) -> Closing
 fn close_one(own: OwnEnd, rows: &mut Vec<Vec<OtherEnd>>, v: usize, left: &mut Vec<u32>)
     requires own { (v < vec_len rows.old) × (own.seats ≡ vec_len rows.old) }
     requires ids { HaveHeads (vec_len rows.old) v rows.old.items own.id }
-    requires room { vec_len left.old + length (deal_list own.jobs own.seats own.deque)
+    requires capacity { vec_len left.old + length (deal_list own.jobs own.seats own.deque)
         ≤ vec_capacity left.old }
     ensures len { vec_len rows.new ≡ vec_len rows.old }
     ensures rows { WithoutHeads (vec_len rows.old) v rows.old.items rows.new.items }
-    ensures room { vec_capacity left.old ≤ vec_capacity left.new }
+    ensures capacity { vec_capacity left.old ≤ vec_capacity left.new }
     ensures left { (more : List ℕ) × (left.new.items ≡ left.old.items ++ more)
         × IsLeftOf own (vec_len rows.old) v rows.old.items more }
 {
@@ -67,7 +68,7 @@ fn open_all(
     taken: &mut Vec<Vec<u32>>,
 )
     requires empty { (owns.old.items ≡ []) × (rows.old.items ≡ []) × (taken.old.items ≡ []) }
-    requires room { (vec_len seats ≤ vec_capacity owns.old)
+    requires capacity { (vec_len seats ≤ vec_capacity owns.old)
         × (vec_len seats ≤ vec_capacity rows.old) × (vec_len seats ≤ vec_capacity taken.old) }
     ensures len { (vec_len owns.new ≡ vec_len seats) × (vec_len rows.new ≡ vec_len seats)
         × (vec_len taken.new ≡ vec_len seats) }
@@ -150,7 +151,7 @@ impl Board {
             IfOk result (λ c. IsClosed jobs (vec_len seats) seats.items c.left.items) }
     {
         let count = seats.len();
-        let Ok(mut left) = Vec::with_capacity(alloc, seats[0].room()) else {
+        let Ok(mut left) = Vec::with_capacity(alloc, seats[0].capacity()) else {
             return Err(seats);
         };
         let Ok(mut owns) = Vec::with_capacity(alloc, count) else {

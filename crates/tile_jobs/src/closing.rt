@@ -1,12 +1,12 @@
-//! Closes one deque: takes back the ends of all seats and lists the jobs that are left.
+//! Closes one deque: joins the ends of all seats and lists the jobs left.
 ghost use Rattle.std.specs.Prelude.{◌≡◌, ℕ, ◌+◌, ◌-◌, ◌<◌, ◌≤◌, true, false, List, [], ◌++◌, length, drop, vec_len, vec_capacity, MatchOption};
 ghost use Rattle.crossbeam_deque.specs.Handles.{worker_deque, worker_view, worker_flavor};
 ghost use Rattle.tile_jobs.specs.Board.{times};
 ghost use Rattle.tile_jobs.specs.Ends.{ClosingState, closing_of, IsClosing, Begins, CameBack, PoppedJob, PoppedMark, deal_of};
 
-use crate::deque::{Deque, Entry, Lends, Whole, pop_next};
+use crate::deque::{Deque, Entry, SplitsEnd, Whole, pop_next};
 use crate::ends::{OtherEnd, OwnEnd};
-use crate::room::put;
+use crate::reserved::put;
 use std::marker::Model;
 
 /// A deque that is being closed, and whether its owner's end mark was taken.
@@ -33,13 +33,13 @@ impl Closing {
         Closing { worker, marked }
     }
 
-    /// Takes back another seat's end, with its list of jobs and its mark.
+    /// Joins another seat's end, with its list of jobs and its mark.
     pub(crate) fn absorb(&mut self, other: OtherEnd)
         requires { self.old.id ≡ other.id }
         ensures { CameBack self.old other self.new }
     {
         let pass = other.into_pass();
-        self.worker.absorb::<Lends>(pass);
+        self.worker.absorb::<SplitsEnd>(pass);
     }
 
     /// Pops the next job. Returns `None` on popping the owner's end mark.
@@ -59,7 +59,7 @@ impl Closing {
     }
 
     /// Drops the deque. `len_as` yields the fact that each job was taken exactly once.
-    pub(crate) fn settle(self)
+    pub(crate) fn finish(self)
         requires back { self.back ≡ self.seats }
         requires marked { self.marked ≡ true }
         ensures { (y : ℕ) → times y (self.took ++ self.gathered) ≡ times y (deal_of self) }
@@ -72,12 +72,13 @@ impl Closing {
     }
 
     /// Moves the jobs that are left in the deque to the end of `left`.
+    /// No job is left once an end mark was taken, since end marks come after all jobs.
     pub(crate) fn drain(self, left: &mut Vec<u32>)
         requires back { self.back ≡ self.seats }
         requires marked { self.marked ≡ true → 0 < self.marks }
-        requires room { vec_len left.old + length (deal_of self)
+        requires capacity { vec_len left.old + length (deal_of self)
             ≤ vec_capacity left.old + length self.took }
-        ensures room { vec_capacity left.old ≤ vec_capacity left.new }
+        ensures capacity { vec_capacity left.old ≤ vec_capacity left.new }
         ensures left { (p : List ℕ) × (left.new.items ≡ left.old.items ++ p)
             × ((k : ℕ) × (p ≡ drop k (deal_of self))) × (0 < self.marks → p ≡ [])
             × ((y : ℕ) →
@@ -90,6 +91,6 @@ impl Closing {
                 None => {}
             }
         }
-        closing.settle();
+        closing.finish();
     }
 }

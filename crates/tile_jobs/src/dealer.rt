@@ -5,7 +5,7 @@ ghost use Rattle.tile_jobs.specs.Board.{deal};
 ghost use Rattle.tile_jobs.specs.Rule.{dealing};
 ghost use Rattle.tile_jobs.specs.Ends.{DealerState, dealer_of, IsDealer, fresh};
 
-use crate::deque::{Deque, DequeKey, Entry, Lends, push};
+use crate::deque::{Deque, DequeKey, Entry, SplitsEnd, push};
 use crate::ends::{OtherEnd, OwnEnd};
 use std::alloc::{AllocError, Global};
 use std::marker::Model;
@@ -42,7 +42,7 @@ fn push_jobs<D: DequeKey>(worker: &mut Deque, jobs: u32, seats: u32, v: u32)
     requires seat { v < seats }
     requires none_yet { (worker_index worker.old ≡ 0)
         × (worker_view worker.old ≡ dealing D.jobs D.seats D.deque 0) }
-    requires room { length (deal jobs seats v) ≤ worker_capacity worker.old }
+    requires capacity { length (deal jobs seats v) ≤ worker_capacity worker.old }
     ensures same { SameWorker worker.old worker.new }
     ensures index { worker_index worker.new ≡ length (deal jobs seats v) }
     ensures view { worker_view worker.new
@@ -59,7 +59,7 @@ fn push_marks<D: DequeKey>(worker: &mut Deque, seats: u32)
     requires index { worker_index worker.old ≡ length (deal D.jobs seats D.deque) }
     requires view { worker_view worker.old
         ≡ dealing D.jobs seats D.deque (worker_index worker.old) }
-    requires room { length (deal D.jobs seats D.deque) + seats ≤ worker_capacity worker.old }
+    requires capacity { length (deal D.jobs seats D.deque) + seats ≤ worker_capacity worker.old }
     ensures same { SameWorker worker.old worker.new }
     ensures index { worker_index worker.new ≡ length (deal D.jobs seats D.deque) + seats }
     ensures view { worker_view worker.new ≡ dealing D.jobs seats D.deque (worker_index worker.new) }
@@ -80,7 +80,7 @@ impl Dealer {
         requires place { (D.jobs ≡ jobs) × (D.seats ≡ seats) × (D.deque ≡ v) }
         requires seat { v < seats }
         ensures { IfOk result
-            (λ d. (d.jobs ≡ jobs) × (d.seats ≡ seats) × (d.deque ≡ v) × (d.leaves ≡ seats)) }
+            (λ d. (d.jobs ≡ jobs) × (d.seats ≡ seats) × (d.deque ≡ v) × (d.marks_due ≡ seats)) }
     {
         let count = count_jobs(jobs, seats, v);
         let mut worker = Deque::fifo_as(alloc, count as usize + seats as usize)?;
@@ -90,19 +90,19 @@ impl Dealer {
     }
 
     /// Makes an end for a seat that is not the owner.
-    pub(crate) fn lend(&mut self) -> Result<OtherEnd, AllocError>
-        requires { 1 < self.old.leaves }
+    pub(crate) fn split_end(&mut self) -> Result<OtherEnd, AllocError>
+        requires { 1 < self.old.marks_due }
         ensures { IfOk result (λ e. (e ≡ fresh self.old)
-            × (self.new ≡ record self.old { leaves = self.old.leaves - 1 })) }
+            × (self.new ≡ record self.old { marks_due = self.old.marks_due - 1 })) }
     {
         let thief = self.worker.stealer()?;
-        let pass = self.worker.another::<Lends>();
+        let pass = self.worker.another::<SplitsEnd>();
         Ok(OtherEnd::new(thief, pass))
     }
 
     /// Turns the dealer into the owner's end, after all other ends were made.
     pub(crate) fn own(self) -> OwnEnd
-        requires { self.leaves ≡ 1 }
+        requires { self.marks_due ≡ 1 }
         ensures { result ≡ fresh self }
     {
         let Dealer { worker } = self;

@@ -1,4 +1,6 @@
-//! Deals the jobs to all deques and makes the seats, each with an end of every deque.
+//! Deals the jobs to all deques and makes the seats.
+//!
+//! Each seat has an end of every deque.
 ghost use Rattle.std.specs.Prelude.{◌≡◌, ℕ, ◌++◌, ◌∷◌, [], ◌<◌, ◌≤◌, ◌==◌, cond, vec_len, slice_index_or, IfOk, OnOk};
 ghost use Rattle.tile_jobs.specs.Ends.{EndState, SeatState, seat_of, fresh, without, AllFresh};
 
@@ -9,16 +11,16 @@ use crate::seat::Seat;
 use std::alloc::{AllocError, Global};
 use std::marker::Brand;
 
-/// Pushes an end of the dealer's deque to the row of each seat but `v`.
-fn lend_to_all(
+/// Pushes an end of the dealer's deque to the row of each seat but `v`, the owner.
+fn split_for_all(
     dealer: &mut Dealer,
     rows: &mut Vec<Vec<OtherEnd>>,
     v: usize,
 ) -> Result<(), AllocError>
-    requires leaves { dealer.old.leaves ≡ vec_len rows.old }
+    requires marks_due { dealer.old.marks_due ≡ vec_len rows.old }
     requires own { v < vec_len rows.old }
     ensures len { vec_len rows.new ≡ vec_len rows.old }
-    ensures dealer { OnOk result (dealer.new ≡ record dealer.old { leaves = 1 }) }
+    ensures dealer { OnOk result (dealer.new ≡ record dealer.old { marks_due = 1 }) }
     ensures rows { OnOk result ((s : ℕ) (d : _) → s < vec_len rows.old →
         (slice_index_or rows.new.items s d).items
         ≡ cond (s == v) (slice_index_or rows.old.items s d).items
@@ -26,7 +28,7 @@ fn lend_to_all(
 {
     for s in 0..rows.len() {
         if s != v {
-            let other = dealer.lend()?;
+            let other = dealer.split_end()?;
             rows[s].push(other).map_err(AllocError::from)?;
         }
     }
@@ -65,8 +67,9 @@ pub(crate) fn deal_all(alloc: Global, jobs: u32, seats: u32) -> Result<Ends, All
     let mut rows = empty_rows(alloc, seats)?;
     let mut owns = Vec::with_capacity(alloc, seats as usize)?;
     for v in 0..seats {
+        // The proof gives `Brand` the numbers of deque `v`: `ghosts-new` in `Invariants.antt`.
         let mut dealer = Dealer::new::<Brand>(alloc, jobs, seats, v)?;
-        lend_to_all(&mut dealer, &mut rows, v as usize)?;
+        split_for_all(&mut dealer, &mut rows, v as usize)?;
         owns.push(dealer.own()).map_err(AllocError::from)?;
     }
     Ok(Ends { owns, rows })
@@ -87,6 +90,7 @@ pub(crate) fn seat_all(alloc: Global, jobs: u32, ends: Ends) -> Result<Vec<Seat>
     let mut seats = Vec::with_capacity(alloc, owns.len())?;
     let mut number = 0;
     for own in owns {
+        // Cheap: at most 64 rows shift.
         let others = rows.remove(0);
         seats
             .push(Seat::new(alloc, number, own, others, jobs)?)

@@ -29,10 +29,10 @@ pub struct Log {
     // true for the pass that pushes and pops
     pub owns: bool,
     pub pushed: u64,
-    // all entries were pushed, for a stealing pass
+    // true for a stealing pass: all entries were pushed before it was split off
     pub ready: bool,
     // the number of end marks that it may still take, and that it took
-    pub leaves: u64,
+    pub marks_due: u64,
     pub marks: u64,
     // the jobs taken by this pass
     pub took: LinkedList<u32>,
@@ -68,6 +68,7 @@ pub trait DequeKey {
     ghost deque: { ℕ };
 }
 
+// Placeholders: each call with `Brand` chooses its own numbers in its proof.
 impl DequeKey for Brand {
     ghost jobs = { 0 };
 
@@ -111,17 +112,17 @@ impl Outcome<Entry, Log> for TakesNext {
 }
 
 /// Splits a stealing pass off the owner's, and joins it to the owner's again.
-pub struct Lends;
+pub struct SplitsEnd;
 
-impl Split<Log> for Lends {
-    ghost use Rattle.tile_jobs.specs.Rule.{lending, lent};
+impl Split<Log> for SplitsEnd {
+    ghost use Rattle.tile_jobs.specs.Rule.{after_split, split_off};
 
-    ghost left = { lending };
+    ghost left = { after_split };
 
-    ghost right = { lent };
+    ghost right = { split_off };
 }
 
-impl Join<Log> for Lends {
+impl Join<Log> for SplitsEnd {
     ghost use Rattle.tile_jobs.specs.Rule.{taken_back, spent};
 
     ghost both = { taken_back };
@@ -146,7 +147,7 @@ pub(crate) fn push<D: DequeKey>(worker: &mut Deque, entry: Entry)
         ≡ dealing D.jobs D.seats D.deque (worker_index worker.old) }
     requires next { entry ∷ drop (suc (worker_index worker.old)) (feed D.jobs D.seats D.deque)
         ≡ drop (worker_index worker.old) (feed D.jobs D.seats D.deque) }
-    requires room { worker_index worker.old < worker_capacity worker.old }
+    requires capacity { worker_index worker.old < worker_capacity worker.old }
     ensures same { SameWorker worker.old worker.new
         × (worker_index worker.new ≡ suc (worker_index worker.old)) }
     ensures view { worker_view worker.new

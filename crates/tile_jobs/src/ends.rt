@@ -29,7 +29,7 @@ impl Model for OwnEnd {
 pub struct OtherEnd {
     thief: Thief,
     pass: Pass<Entry, Log>,
-    // at least one steal was tried
+    // at least one steal was tried; contracts alone read it
     tried: bool,
     marked: bool,
 }
@@ -48,7 +48,7 @@ impl Model for OtherEnd {
 #[derive(Clone, Copy, PartialEq, Eq, Debug)]
 pub enum StealOutcome {
     Job(u32),
-    // this end has its end mark, now or before
+    // this end has its end mark, from this steal or an earlier one
     Mark,
     // the steal lost a race
     Missed,
@@ -149,7 +149,7 @@ pub enum RoundOutcome {
     Nothing,
 }
 
-/// Tries the ends from `from` up to `to`, until one steal gets a job.
+/// Tries the ends `from..to` in order, until one steal gets a job.
 pub(crate) fn steal_among(others: &mut Vec<OtherEnd>, from: usize, to: usize) -> RoundOutcome
     requires { (from ≤ to) × (to ≤ vec_len others.old) }
     ensures len { vec_len others.new ≡ vec_len others.old }

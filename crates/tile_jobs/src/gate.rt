@@ -13,7 +13,8 @@ pub trait Gate {
     /// Called after each job that succeeds, on the thread that ran it.
     fn leave(&self, _job: u32) {}
 
-    /// Called after each of the `parts` equal parts of a job that is split into parts.
+    /// Called after each of a job's `parts` parts, on the thread that runs it.
+    /// A job without parts never calls it.
     fn finish_part(&self, _parts: usize) {}
 }
 

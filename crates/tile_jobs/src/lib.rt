@@ -17,9 +17,9 @@
 //! - `deque`: the protocol of one deque
 //! - `dealer`: fills one deque with jobs and end marks
 //! - `dealing`: fills all deques
-//! - `closing`: empties one deque and lists its jobs
+//! - `closing`: empties one deque and lists the jobs left in it
 //! - `slots`: results in job order
-//! - `room`: pushes to lists of sufficient capacity
+//! - `reserved`: pushes to lists of sufficient capacity
 //! - `work`: what a job does
 //! - `gate`: callbacks at the start and end of jobs
 #![tactic(auto)]
@@ -33,7 +33,7 @@ mod dealing;
 mod deque;
 mod ends;
 mod gate;
-mod room;
+mod reserved;
 mod running;
 mod seat;
 mod slots;

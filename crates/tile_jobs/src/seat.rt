@@ -6,7 +6,7 @@ ghost use Rattle.tile_jobs.specs.Ends.{SeatState, seat_of, IsSeat, SameSeat, Mar
 ghost use Rattle.tile_jobs.specs.Take.{MatchTake, TakesJob, MeetsTaker, FindsNone};
 
 use crate::ends::{OtherEnd, OwnEnd, RoundOutcome, steal_round};
-use crate::room::put;
+use crate::reserved::put;
 use std::alloc::{AllocError, Global};
 use std::marker::Model;
 
@@ -41,7 +41,7 @@ impl Model for Seat {
 }
 
 impl Seat {
-    /// Makes a seat that took no job, with room for the numbers of all `jobs`.
+    /// Makes a seat that took no job, with capacity for the numbers of all `jobs`.
     pub(crate) fn new(
         alloc: Global,
         number: u32,
@@ -62,8 +62,8 @@ impl Seat {
         })
     }
 
-    /// The capacity of the list of jobs taken, at least the jobs of the board.
-    pub(crate) fn room(&self) -> usize
+    /// The capacity of the list of jobs taken: at least the number of the board's jobs.
+    pub(crate) fn capacity(&self) -> usize
         ensures { self.now.own.jobs ≤ result }
     {
         self.taken.capacity()
@@ -84,8 +84,8 @@ impl Seat {
 
     /// Takes the first job of the seat's own deque, or else tries to steal one.
     ///
-    /// Tries at most one steal at each other deque, in the order of the seats after this one.
-    /// A seat gets the jobs of one deque in rising order. Never allocates and never waits.
+    /// Tries at most one steal at each other deque, from the next seat's to the last, then from the
+    /// first. A seat gets the jobs of one deque in rising order. Never allocates and never waits.
     ///
     /// Returns [`Take::Empty`] once this seat has the end mark of every deque, and from then on.
     /// Returns [`Take::Again`] only if a steal of this call lost a race to another seat.

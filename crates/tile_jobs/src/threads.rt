@@ -4,7 +4,7 @@ ghost use Rattle.tile_jobs.specs.Workers.{AreNew, AreOutcomes};
 
 use crate::JobFault;
 use crate::gate::Gate;
-use crate::room::put;
+use crate::reserved::put;
 use crate::seat::Seat;
 use crate::work::Work;
 use crate::worker::{WorkerPromise, WorkerResult, work_seat};
@@ -24,7 +24,7 @@ fn join_all<R: Threads, T: Drop, P: Promise<T>>(rt: &R, children: Vec<PromisedHa
 /// Runs each seat's worker on a thread of its own, and joins all threads.
 ///
 /// Starts at most `starts` threads: one more fails with [`JobFault::NoThread`]. Every started
-/// thread is joined before the call returns, also at an error.
+/// thread is joined before the call returns, even on an error.
 pub(crate) fn run_on_threads<'s, E, R: Threads + Wait + Sync, W: Work + Sync, G: Gate + Sync>(
     rt: &'s R,
     alloc: Global,

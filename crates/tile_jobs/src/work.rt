@@ -15,7 +15,11 @@ pub trait Work {
     // Relates a job's number to the results that it may return.
     ghost gives: { Self → ℕ → Self.Out → Type 0 };
 
-    /// Runs one job. The only fault is [`JobFault::Memory`].
+    /// Runs one job.
+    ///
+    /// # Errors
+    ///
+    /// Only [`JobFault::Memory`], if memory runs out.
     fn run(&self, alloc: Global, job: u32) -> Result<Self::Out, JobFault>
         requires { job < most self.now }
         ensures given { IfOk result (λ out. gives self.now job out) }

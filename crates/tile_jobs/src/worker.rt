@@ -36,6 +36,7 @@ where
     ensures { IsOutcome (W.gives work.now) seat result }
 {
     let mut answers = Vec::new(alloc);
+    // A steal may lose any number of races, so the turns have no bound.
     for _ in rt.forever() {
         match seat.try_take() {
             Take::Job(job) => {

@@ -35,7 +35,7 @@ module _ {X : Type 0} (c : Cutting) (Has : Place → X → Type 0) (n : ℕ) (li
         ];
   }
 
--- a list is made if `Has` holds at each place of the tile
+-- a list of a tile's length is the tile's if `Has` holds at each of its places
 pub tile_of_entries : {X : Type 0} (c : Cutting) (tile : ℕ) (Has : Place → Option X → Type 0) (list : List (Option X)) → length list ≡ cell_count c tile →
     ((p : Place) → IsInTile c tile p → Has p (tile_entry c tile list p)) → IsMadeTile c tile Has list
 tile_of_entries {X} c tile Has list size each = record {

@@ -1,7 +1,7 @@
 //! Makes maps of a grid tile by tile, by one job for each tile.
 //!
 //! A [`TileMap`] makes the entries of one tile. A [`Runner`] has what a stage needs to run jobs.
-//! [`Runner::made`] makes the whole map.
+//! [`Runner::map_tiles`] makes the whole map.
 //!
 //! Modules, callers first:
 //!

@@ -16,14 +16,18 @@ pub trait TileMap {
     // The grid's size and the side of its tiles.
     ghost cutting: { Self → Cutting };
 
-    // Whether the map may have an entry at a place.
+    // Whether the map may have this entry at this place.
     ghost has: { Self → Place → Self.Entry → Type 0 };
 
     /// Returns the tiling of the grid.
     fn tiling(&self) -> Tiling
         ensures { result ≡ cutting self.now };
 
-    /// Returns the map's entries in a tile, in its row order.
+    /// Returns the map's entries in a tile, in the tile's row order.
+    ///
+    /// # Errors
+    ///
+    /// [`NoMemory`] if an allocation fails.
     fn tile(&self, alloc: Global, tile: u32) -> Result<Vec<Self::Entry>, NoMemory>
         requires { tile < tile_count (cutting self.now) }
         ensures { IfOk result

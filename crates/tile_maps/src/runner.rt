@@ -1,6 +1,6 @@
 //! What a stage needs to run jobs: runtime, allocator, number of workers and gate.
 //!
-//! [`Runner::run`] runs any jobs, and [`Runner::made`] makes a map.
+//! [`Runner::run`] runs any jobs, and [`Runner::map_tiles`] makes a map.
 ghost use Rattle.std.specs.Prelude.{◌≡◌, ◌≤◌, vec_len, IfOk};
 ghost use Rattle.tile_jobs.specs.Answers.{AllGiven};
 ghost use Rattle.tile_jobs.specs.Fault.{RefusesWorkers};
@@ -17,11 +17,11 @@ use tile_jobs::{Gate, JobFault, MOST_JOBS, Work, run_jobs};
 pub struct Runner<'a, R, G> {
     /// Starts the threads and waits for them.
     pub rt: &'a R,
-    /// Allocates the results.
+    /// Allocates for the jobs and their results.
     pub alloc: Global,
-    /// The number of threads that share the jobs, from 1 to 64.
+    /// The number of workers, from 1 to 64; a single one runs on the caller's thread.
     pub workers: u32,
-    /// Called as jobs begin and end.
+    /// Called as stages begin, and as jobs begin and end.
     pub gate: &'a G,
 }
 
@@ -69,7 +69,7 @@ impl<'a, R: Threads + Wait + Sync, G: Gate + Sync> Runner<'a, R, G> {
         run_jobs(self.rt, self.alloc, work, jobs, self.workers, self.gate)
     }
 
-    /// Makes a map of the whole grid, in row order, by one job for each tile.
+    /// Returns the map of the whole grid in row order, made by one job for each tile.
     /// Frees `map` before it joins the tiles' lists.
     ///
     /// # Errors
@@ -82,9 +82,9 @@ impl<'a, R: Threads + Wait + Sync, G: Gate + Sync> Runner<'a, R, G> {
     /// ```ignore
     /// // `map` is a `TileMap`, and `entries` has its entry at each cell
     /// let runner = Runner { rt, alloc, workers, gate };
-    /// let entries = runner.made(map)?;
+    /// let entries = runner.map_tiles(map)?;
     /// ```
-    pub fn made<M: TileMap + Sync + Drop>(&self, map: M) -> Result<Vec<M::Entry>, JobFault>
+    pub fn map_tiles<M: TileMap + Sync + Drop>(&self, map: M) -> Result<Vec<M::Entry>, JobFault>
     where
         M::Entry: Copy + Send + Drop,
         ensures made { IfOk result (λ whole. IsMadeMap (M.cutting map) (M.has map) whole.items) }

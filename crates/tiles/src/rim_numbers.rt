@@ -43,7 +43,8 @@ impl Tiling {
         tile * largest.side_count() + self.bounds(tile).side_number(largest, place)
     }
 
-    /// Returns the rim cell of `number`. Numbers without a cell give some other place.
+    /// Returns the rim cell of `number`.
+    /// A number without a cell gives an arbitrary place, perhaps outside the grid.
     pub fn rim_place(&self, number: u32) -> Place
         requires { number < number_count self.now }
         ensures { result ≡ rim_place self.now number }
@@ -83,7 +84,8 @@ impl Bounds {
         }
     }
 
-    /// Returns the rim cell of a number of [`side_number`](Self::side_number).
+    /// Returns the rim cell whose [`side_number`](Self::side_number) is `number`.
+    /// A number without a cell gives an arbitrary place, perhaps outside the tile.
     pub fn side_place(self, largest: Bounds, number: u32) -> Place
         requires largest { IsWithinLimits largest }
         requires limits { IsWithinLimits self }

@@ -18,8 +18,10 @@ use std::alloc::{AllocError, Global};
 use std::marker::Model;
 use terrain::{NoMemory, Place, place_on};
 
+/// The greatest side of a tile, in cells: one tile may be the largest grid.
 const LONGEST_SIDE: u32 = 4_096;
 
+/// The greatest number of tiles: each is a job, and `tile_jobs` runs no more jobs.
 const MOST_TILES: u32 = 65_536;
 
 /// Why a tiling is refused.
@@ -241,6 +243,10 @@ impl Tiling {
     }
 
     /// Joins the tiles' lists, each in row order, into the grid's list in row order.
+    ///
+    /// # Errors
+    ///
+    /// [`NoMemory`] if an allocation fails.
     pub fn put_back<T: Copy + Drop>(
         &self,
         alloc: Global,

@@ -83,8 +83,8 @@ impl<'a, T> TileView<'a, T> {
         }
     }
 
-    /// Returns three cells: west of `place`, at it and east of it.
-    /// `None` where one of them is outside the grid.
+    /// Returns the cells west of `place`, at it and east of it, anywhere in the grid.
+    /// Returns `None` where one of them is outside the grid.
     #[inline(always)]
     pub fn beside(&self, place: Place) -> Option<&'a [T]>
         requires { place.col < 4294967295 }

@@ -7,4 +7,4 @@ use Rattle.ascii_grid.proofs.write.write_row.Given as goal
 abbrev pub invariant-loop-index : goal.invariant-loop-index
 invariant-loop-index g l =
     Gathers {T = Unit {0}} {E = WriteFailed} g.W.Write.contents l.fn.out l.fn.page l.out l.page
-    (spaced (g.E.Entry.text l.scale l.nodata) (take l.index l.cells)) (Ok tt)
+    (spaced (g.E.MapCell.text l.scale l.nodata) (take l.index l.cells)) (Ok tt)

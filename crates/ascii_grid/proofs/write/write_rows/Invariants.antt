@@ -7,4 +7,4 @@ use Rattle.ascii_grid.proofs.write.write_rows.Given as goal
 abbrev pub invariant-loop-row : goal.invariant-loop-row
 invariant-loop-row g l =
     Gathers {T = Unit {0}} {E = WriteFailed} g.W.Write.contents l.fn.out l.fn.page l.out l.page
-    (rows_text (g.E.Entry.text l.scale l.nodata) l.cols l.row l.cells) (Ok tt)
+    (rows_text (g.E.MapCell.text l.scale l.nodata) l.cols l.row l.cells) (Ok tt)

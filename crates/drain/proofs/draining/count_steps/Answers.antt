@@ -26,8 +26,8 @@ returns-clause-steps g c =
     (subst (λ (x : Raster). AreBegun x.terrain first.0) c.grid-grid.ensures.value first.1)
     (subst (λ (x : Terrain). AreSettled v x first.0 steps) (sym same) settled)
 
-pub settle-requires-clause-counting : goal.settle-requires-clause-counting
-settle-requires-clause-counting g c = rw c.cells.ensures.value (λ κs alive. c.in_ok-first.ensures.counting)
+pub run_rounds-requires-clause-counting : goal.run_rounds-requires-clause-counting
+run_rounds-requires-clause-counting g c = rw c.cells.ensures.value (λ κs alive. c.in_ok-first.ensures.counting)
 
-pub settle-requires-clause-even : goal.settle-requires-clause-even
-settle-requires-clause-even g c = rw c.cells.ensures.value (λ κs alive. c.in_ok-first.ensures.even)
+pub run_rounds-requires-clause-even : goal.run_rounds-requires-clause-even
+run_rounds-requires-clause-even g c = rw c.cells.ensures.value (λ κs alive. c.in_ok-first.ensures.even)

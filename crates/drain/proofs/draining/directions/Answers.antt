@@ -10,8 +10,8 @@ use Rattle.drain.proofs.DrainedLemmas.{are_draining}
 use Rattle.drainage.proofs.Ends.{falling_ends}
 use Rattle.drain.proofs.draining.directions.Goals as goal
 
-pub invariant_of-made : goal.invariant_of-made
-invariant_of-made g c =
+pub invariant_of-map_tiles : goal.invariant_of-map_tiles
+invariant_of-map_tiles g c =
     let same = sym c.grid-grid.ensures.value in
     record {
       lawful = subst (λ (x : Raster). IsTerrain x.terrain) same c.in_ok-steps.ensures.lawful;

@@ -10,7 +10,7 @@ use Rattle.drain.specs.Beginning.{HasZeros}
 use Rattle.drain.specs.Window.{AreCounts, IsSettled}
 use Rattle.drain.proofs.Few.{drains_data}
 use Rattle.drain.proofs.Quiet.{ended, are_walked_to, round_to}
-use Rattle.drain.proofs.TileRound.{lent_to, lent_small, round_from}
+use Rattle.drain.proofs.TileRound.{input_to, input_small, round_from}
 use Rattle.drain.proofs.draining.flat_steps.Goals as goal
 
 walks : (t : Terrain) (v : View (Option ℤ)) (steps : List (Option ℕ)) → terrain_of v ≡ with_sinks t [] → HasZeros t steps → AreWalked (DrainsAtOnce t) t steps → AreWalked (IsSource (terrain_of v) steps) (terrain_of v) steps
@@ -22,14 +22,20 @@ each_is : (xs : List (Option ℕ)) → map (λ x. x) xs ≡ xs
 each_is [] = refl
 each_is (x ∷ xs) = ap (λ (ys : List (Option ℕ)). x ∷ ys) (each_is xs)
 
-pub round-requires-clause-counts : goal.round-requires-clause-counts
-round-requires-clause-counts g c =
+pub round-requires : goal.round-requires
+round-requires g c =
     let v = c.args.levels.now in
     let w = c.args.steps.now in
     let b = c.in_ok-window.window.bounds in
-    let input = lent_to v w b c.in_ok-old.old.items c.requires.1.0 c.requires.1.1.0 c.in_ok-window.ensures.bounds c.in_ok-old.ensures in
-    subst (λ (xs : List ℕ). AreCounts xs) (sym c.deref.ensures.value)
-    (lent_small (terrain_of v) b w.cells c.in_ok-old.old.items input (walks g.terrain v w.cells c.requires.0 c.requires.1.1.1.0 c.requires.1.1.1.1))
+    let input = input_to v w b c.in_ok-old.old.items c.requires.1.0 c.requires.1.1.0 c.in_ok-window.ensures.bounds c.in_ok-old.ensures in
+    let size = simp length-map at
+    (ap (λ (xs : List ℕ). length xs) (c.deref.ensures.value ∙ input.value)) in
+    record {
+      size = size ∙ input.size;
+      counts = subst (λ (xs : List ℕ). AreCounts xs) (sym c.deref.ensures.value)
+          (input_small (terrain_of v) b w.cells c.in_ok-old.old.items input
+          (walks g.terrain v w.cells c.requires.0 c.requires.1.1.1.0 c.requires.1.1.1.1));
+    }
 
 pub returns : goal.returns
 returns g c =
@@ -40,7 +46,7 @@ returns g c =
     let b = window.bounds in
     let old = c.in_ok-old.old.items in
     let list = c.in_ok-counts.counts.items in
-    let input = lent_to v w b old c.requires.1.0 c.requires.1.1.0 c.in_ok-window.ensures.bounds c.in_ok-old.ensures in
+    let input = input_to v w b old c.requires.1.0 c.requires.1.1.0 c.in_ok-window.ensures.bounds c.in_ok-old.ensures in
     let round = c.in_ok-counts.ensures in
     let settled = subst (λ (xs : List ℕ). IsSettled b window.levels.items xs round.0) c.deref.ensures.value round.1 in
     let made = round_from v w b window.levels.items old round.0 list c.in_ok-window.ensures.lawful c.in_ok-window.ensures.bounds c.in_ok-window.ensures.shown input
@@ -49,11 +55,3 @@ returns g c =
     (round_to (IsSource t w.cells) (DrainsAtOnce t) (with_sinks t []) t.sinks v.cutting v.tile w.cells list
     (λ p input. let walk = MatchOption-at_some _ _ 0 input.1 (c.requires.1.1.1.1 p) in ended (DrainsAtOnce t) t p walk.1 walk.2 walk.3)
     (subst (λ (x : Terrain). IsRound (IsSource x w.cells) x v.cutting v.tile w.cells list) c.requires.0 made))
-
-pub round-requires-clause-size : goal.round-requires-clause-size
-round-requires-clause-size g c =
-    let v = c.args.levels.now in
-    let w = c.args.steps.now in
-    let input = lent_to v w c.in_ok-window.window.bounds c.in_ok-old.old.items c.requires.1.0 c.requires.1.1.0 c.in_ok-window.ensures.bounds c.in_ok-old.ensures in
-    let size = simp length-map at (ap (λ (xs : List ℕ). length xs) (c.deref.ensures.value ∙ input.value)) in
-    size ∙ input.size

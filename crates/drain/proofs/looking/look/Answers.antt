@@ -1,16 +1,12 @@
-use Rattle.std.proofs.Common.{◌≡◌, ◌+◌, ◌*◌, ℕ, subst, arith}
+use Rattle.std.proofs.Common.{◌≡◌, ◌+◌, ◌*◌, arith}
 use Rattle.tiles.specs.Cutting.{bounds_of}
-use Rattle.drain.specs.Window.{AreShownBelow}
 use Rattle.drain.proofs.Spots.{shown_whole}
 use Rattle.drain.proofs.looking.look.Goals as goal
 
 pub look_beside-requires-2-clause-list : goal.look_beside-requires-2-clause-list
 look_beside-requires-2-clause-list g c =
-    let v = c.args.view.now in
-    let none = c.args.none in
-    let b = c.bounds-bounds.result in
-    let end : c.loop-row.row ≡ b.rows + 1 = omega arith in
-    subst (λ (n : ℕ). AreShownBelow {X = g.row.T.Denot} v.cutting.cols v.cutting.rows v.cells none b (n * (b.cols + 2)) c.loop-row.list.items) end c.loop-row.invariant
+    let end : c.loop-row.row ≡ c.bounds-bounds.result.rows + 1 = omega arith in
+    rw end at c.loop-row.invariant
 
 pub returns : goal.returns
 returns g c =

@@ -18,14 +18,12 @@ loop-col-preserved g c =
 
 pub loop-col-init : goal.loop-col-init
 loop-col-init g c =
-    let v = c.args.view.now in
-    let b = c.args.bounds in
-    let start : c.args.row * (b.cols + 2) ≡ c.args.row * (b.cols + 2) + 0 = omega arith in
-    subst (λ (n : ℕ). AreShownBelow {X = g.row.T.Denot} v.cutting.cols v.cutting.rows v.cells c.args.none b n c.args.list.now.items) start c.requires.list
+    let width = c.args.bounds.cols + 2 in
+    let start : c.args.row * width ≡ c.args.row * width + 0 = omega arith in
+    rw start at c.requires.list
 
 pub returns : goal.returns
 returns g c =
-    let v = c.args.view.now in
-    let b = c.args.bounds in
-    let end : c.args.row * (b.cols + 2) + c.loop-col.col ≡ (c.args.row + 1) * (b.cols + 2) = omega arith in
-    subst (λ (n : ℕ). AreShownBelow {X = g.row.T.Denot} v.cutting.cols v.cutting.rows v.cells c.args.none b n c.loop-col.list.items) end c.loop-col.invariant
+    let width = c.args.bounds.cols + 2 in
+    let end : c.args.row * width + c.loop-col.col ≡ (c.args.row + 1) * width = omega arith in
+    rw end at c.loop-col.invariant

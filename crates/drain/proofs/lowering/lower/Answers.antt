@@ -62,10 +62,7 @@ returns-in_ok-push c =
 pub returns-else-change-count : goal.returns-else-change-count
 returns-else-change-count c =
     let v = c.args.input.now.tiling.now in
-    let t = sinkless_terrain v c.args.input.now.levels.now in
-    let steps = c.args.input.now.steps.now in
-    let old = c.args.lowered.now in
-    let x = c.args.change in
-    let tile = tile_of_place v x.place in
-    reached_same t v tile steps (λ p. p ≡ x.place) x.count old
-    (λ p e. let here = ap (λ (q : Place). counts_in v tile steps old (index_of v.cols q)) e in omega (arith, here, c.count.ensures, c.if-change-count.false))
+    reached_same _ _ _ _ _ _ _ (λ p e.
+    let here = ap (λ (q : Place). counts_in v (tile_of_place v c.args.change.place)
+    c.args.input.now.steps.now c.args.lowered.now (index_of v.cols q)) e in
+    omega (arith, here, c.count.ensures, c.if-change-count.false))

@@ -37,18 +37,11 @@ lower-requires-clause-walked c = λ less.
 
 pub returns-in_ok-lower : goal.returns-in_ok-lower
 returns-in_ok-lower c =
-    let v = c.args.input.now.tiling.now in
-    let t = sinkless_terrain v c.args.input.now.levels.now in
-    let steps = c.args.input.now.steps.now in
-    let from = c.args.from in
-    let to = c.args.to in
-    reached_all t v (tile_of_place v from.place) steps (λ p. p ≡ to) (λ p. (p ≡ to) × (height_at t p ≡ height_at t from.place)) (from.count + 1) c.args.lowered.now _ (λ p done. done.0)
-    (reached_tile t v (tile_of_place v to) (tile_of_place v from.place) steps (λ p. p ≡ to) (from.count + 1) c.args.lowered.now _ c.requires.to.0.1 c.in_ok-lower.ensures)
+    reached_all _ _ _ _ (λ p. p ≡ c.args.to) _ _ _ _ (λ p done. done.0)
+    (reached_tile _ _ _ _ _ _ _ _ _ c.requires.to.0.1 c.in_ok-lower.ensures)
 
 pub returns-else-is_level : goal.returns-else-is_level
 returns-else-is_level c =
-    let v = c.args.input.now.tiling.now in
-    let t = sinkless_terrain v c.args.input.now.levels.now in
-    let from = c.args.from in
-    reached_same t v (tile_of_place v from.place) c.args.input.now.steps.now (λ p. (p ≡ c.args.to) × (height_at t p ≡ height_at t from.place)) (from.count + 1) c.args.lowered.now
-    (λ p done. absurd (false≢true (sym c.if-is_level.false ∙ c.is_level.ensures.1 (ap (λ (q : Place). height_at t q) (sym done.0) ∙ done.1))))
+    let t = sinkless_terrain c.args.input.now.tiling.now c.args.input.now.levels.now in
+    reached_same _ _ _ _ _ _ _ (λ p done. absurd (false≢true (sym c.if-is_level.false
+    ∙ c.is_level.ensures.1 (ap (λ (q : Place). height_at t q) (sym done.0) ∙ done.1))))

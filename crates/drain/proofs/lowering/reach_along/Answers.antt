@@ -17,9 +17,8 @@ reach-requires-clause-to c =
 
 pub loop-col-init : goal.loop-col-init
 loop-col-init c =
-    let v = c.args.input.now.tiling.now in
     reached_none _ _ _ _ _ _ _ (λ p done.
-    let own = own_bounds v c.args.from.place p c.args.bounds c.args.input.now.lawful c.requires.ready.bounds done.0 in
+    let own = own_bounds _ _ p _ c.args.input.now.lawful c.requires.ready.bounds done.0 in
     let low : p.col < c.max-first.result - 1 = done.4 in omega (arith, own, low, done.1.col_left, c.max-first.ensures))
 
 pub loop-col-preserved : goal.loop-col-preserved
@@ -31,7 +30,6 @@ loop-col-preserved c =
 
 pub returns : goal.returns
 returns c =
-    let v = c.args.input.now.tiling.now in
     reached_all _ _ _ _ _ _ _ _ _ (λ p done.
-    let own = own_bounds v c.args.from.place p c.args.bounds c.args.input.now.lawful c.requires.ready.bounds done.0 in
+    let own = own_bounds _ _ p _ c.args.input.now.lawful c.requires.ready.bounds done.0 in
     (done.0, done.1, done.2, done.3, omega (arith, own, done.1.col_right))) c.loop-col.invariant

@@ -13,9 +13,8 @@ reach_along-requires-clause-row c =
 
 pub loop-row-init : goal.loop-row-init
 loop-row-init c =
-    let v = c.args.input.now.tiling.now in
     reached_none _ _ _ _ _ _ _ (λ p done.
-    let own = own_bounds v c.args.from.place p c.args.bounds c.args.input.now.lawful c.requires.bounds done.0 in
+    let own = own_bounds _ _ p _ c.args.input.now.lawful c.requires.bounds done.0 in
     let low : p.row < c.max-first.result - 1 = done.3 in omega (arith, own, low, done.1.row_up, c.max-first.ensures))
 
 pub loop-row-preserved : goal.loop-row-preserved
@@ -27,9 +26,8 @@ loop-row-preserved c =
 
 pub returns : goal.returns
 returns c =
-    let v = c.args.input.now.tiling.now in
     reached_all _ _ _ _ _ _ _ _ _ (λ p done.
-    let own = own_bounds v c.args.from.place p c.args.bounds c.args.input.now.lawful c.requires.bounds done.0 in
+    let own = own_bounds _ _ p _ c.args.input.now.lawful c.requires.bounds done.0 in
     (done.0, done.1, done.2, omega (arith, own, done.1.row_down))) c.loop-row.invariant
 
 pub overflow_add-bounds : goal.overflow_add-bounds

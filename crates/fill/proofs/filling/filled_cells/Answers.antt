@@ -11,8 +11,8 @@ invariant_of-tiles g c = rw (c.deref-2.ensures.value, c.deref-3.ensures.value) (
 pub label_levels-requires-clause-floods : goal.label_levels-requires-clause-floods
 label_levels-requires-clause-floods g c = (c.requires.floods.0, rw c.deref-2.ensures.value c.requires.floods.1)
 
-pub invariant_of-made : goal.invariant_of-made
-invariant_of-made g c = record {
+pub invariant_of-map_tiles : goal.invariant_of-map_tiles
+invariant_of-map_tiles g c = record {
   lawful = c.requires.floods.1.lawful;
   fit = fit_of c.requires.floods.0 c.args.tiling.now c.args.floods.items c.requires.floods.1;
   numbers = rw c.deref.ensures.value at c.in_ok-firsts.ensures;

@@ -1,5 +1,5 @@
 use Rattle.std.proofs.Common.{◌≡◌, ◌∙◌, length, true, refl, ap, sym, arith}
-use Rattle.fill.specs.Gathering.{Spared}
+use Rattle.fill.specs.Gathering.{LeftOutJoins}
 use Rattle.fill.specs.Numbers.{ends_of}
 use Rattle.fill.proofs.Gathered.{is_number_graph, joins_below}
 use Rattle.fill.proofs.Numbered.{ends_length}
@@ -21,7 +21,7 @@ of_joins-requires-clause-inside c =
     let k = c.args.tiles.now.tiling.now in
     let floods = c.args.tiles.now.floods.now in
     let sources = c.in_ok-sources.sources.items in
-    let out : Spared = record { sources = sources; bypassed = true } in
+    let out : LeftOutJoins = record { sources = sources; bypassed = true } in
     let size : length (ends_of floods) ≡ length sources = sym (ap length c.in_ok-sources.ensures) in
     rw (← size, ends_length t k floods c.requires.floods.1)
     (joins_below t k floods c.requires.floods.1 c.args.tiles.now.numbers.lawful out _ (rw c.deref.ensures.value at c.in_ok-joins.ensures))
@@ -31,7 +31,7 @@ returns c t are =
     let k = c.args.tiles.now.tiling.now in
     let floods = c.args.tiles.now.floods.now in
     let sources = c.in_ok-sources.sources.items in
-    let out : Spared = record { sources = sources; bypassed = true } in
+    let out : LeftOutJoins = record { sources = sources; bypassed = true } in
     let gathered = rw c.deref.ensures.value at c.in_ok-joins.ensures in
     rw c.in_ok-graph.ensures.sources
     (is_number_graph t k floods are c.args.tiles.now.numbers.lawful out sources _ _ gathered refl

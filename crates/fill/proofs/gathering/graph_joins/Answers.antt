@@ -4,7 +4,7 @@ use Rattle.std.proofs.lemmas.Bool.{cases_lt}
 use Rattle.std.proofs.lemmas.Option.{slice_get_read}
 use Rattle.tiles.specs.Cutting.{IsInTile, IsWithin, tile_of_place}
 use Rattle.tiles.proofs.Cut.{tile_of_place_below}
-use Rattle.fill.specs.Gathering.{Adds, IsOutside, Spared, mark_among}
+use Rattle.fill.specs.Gathering.{Adds, IsOutside, LeftOutJoins, mark_among}
 use Rattle.fill.proofs.Adding.{adds_none, adds_then, no_join}
 use Rattle.fill.proofs.Rims.{list_there}
 use Rattle.fill.proofs.Shifting.{inner_few, shift_adds, tile_adds}
@@ -50,7 +50,7 @@ loop-tile-preserved c =
     let inside =
     shift_adds t k floods are numbers.lawful spare tile f.0 f.1 list.items _ _ (c.requires.inner.2.each tile f.0 list f.1 listed)
     (rw (c.deref.ensures.value, numbers.each tile low) at c.in_ok-push_shifted.ensures) in
-    let over = subst (λ (o : Spared). Adds marks o (λ p q. IsInTile k tile p × IsOutside k tile q) c.push_shifted.new.joins.items c.push_rim_joins.new.joins.items) out c.in_ok-push_rim_joins.ensures in
+    let over = subst (λ (o : LeftOutJoins). Adds marks o (λ p q. IsInTile k tile p × IsOutside k tile q) c.push_shifted.new.joins.items c.push_rim_joins.new.joins.items) out c.in_ok-push_rim_joins.ensures in
     let both = tile_adds t k floods are numbers.lawful spare tile f.0 f.1 _ _ _ inside over in
     adds_then marks c.args.left_out.now
     (λ p q. IsWithin k p × (tile_of_place k p < tile)) (λ p q. IsInTile k tile p) (λ p q. IsWithin k p × (tile_of_place k p < tile + 1)) _ _ _
@@ -62,7 +62,7 @@ loop-tile-preserved c =
       λ at. elim at [ inl early ↦ (early.0, omega (arith, early.1)) | inr here ↦ (here.0, omega (arith, here.1)) ],
     ))
     c.loop-tile.invariant
-    (subst (λ (o : Spared). Adds marks o (λ p q. IsInTile k tile p) c.loop-tile.joins.items c.push_rim_joins.new.joins.items) (sym out) both)
+    (subst (λ (o : LeftOutJoins). Adds marks o (λ p q. IsInTile k tile p) c.loop-tile.joins.items c.push_rim_joins.new.joins.items) (sym out) both)
 
 pub returns : goal.returns
 returns c =

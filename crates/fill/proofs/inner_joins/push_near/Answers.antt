@@ -1,6 +1,6 @@
 use Rattle.std.proofs.Common.{ap}
 use Rattle.std.proofs.lemmas.Bool.{OnTrue_at}
-use Rattle.fill.specs.Gathering.{Spared}
+use Rattle.fill.specs.Gathering.{LeftOutJoins}
 use Rattle.fill.proofs.CellMarks.{same_label_adds}
 use Rattle.fill.proofs.inner_joins.push_near.Goals as goal
 
@@ -9,4 +9,4 @@ returns-then-has_same_label c =
     same_label_adds c.args.flood.now c.args.left_out.now.sources c.args.index c.args.near c.args.from _ c.requires.from (OnTrue_at c.if-has_same_label.true c.has_same_label.ensures)
 
 pub returns : goal.returns
-returns c = rw (ap (λ (z : Spared). z.sources) c.left_out.view_is, c.mark_of_entry.ensures) at c.push_join.ensures
+returns c = rw (ap (λ (z : LeftOutJoins). z.sources) c.left_out.view_is, c.mark_of_entry.ensures) at c.push_join.ensures

@@ -4,9 +4,9 @@ use Rattle.std.proofs.lemmas.Option.{same_Some}
 use Rattle.std.proofs.lemmas.Result.{on_ok_weaker}
 use Rattle.terrain.proofs.Options.{none_some}
 use Rattle.terrain.specs.Ways.{place_on}
-use Rattle.fill.specs.Gathering.{AddsCovered, IsPairOn, Spared}
+use Rattle.fill.specs.Gathering.{AddsCovered, IsPairOn, LeftOutJoins}
 use Rattle.fill.specs.declared.spills.Join.{Join}
-use Rattle.fill.proofs.Adding.{adds_none, adds_on_way, adds_spared, next_row, same_col, spared_corner}
+use Rattle.fill.proofs.Adding.{adds_none, adds_on_way, adds_left_out, next_row, same_col, left_out_corner}
 use Rattle.fill.proofs.rim_cells.push_on_way.Goals as goal
 
 pub returns-in_default : goal.returns-in_default
@@ -29,32 +29,32 @@ returns-then-near-place g c =
     on_ok_weaker _ (λ added.
     adds_on_way (g.C.KnownCells.marks c.args.cells.now) c.args.left_out.now c.args.place c.in-Some.near c.args.way (g.C.KnownCells.wanted c.args.cells.now) c.args.from _ _ _
     c.requires.from (ap (g.C.KnownCells.marks c.args.cells.now) is_below ∙ sym c.requires.below) (omega (arith, c.requires.after)) on
-    (sym c.is_wanted.ensures ∙ cc c.if-not-is_wanted.false) added) (rw (ap (λ (z : Spared). z.sources) c.left_out.view_is) at c.push_join.ensures)
+    (sym c.is_wanted.ensures ∙ cc c.if-not-is_wanted.false) added) (rw (ap (λ (z : LeftOutJoins). z.sources) c.left_out.view_is) at c.push_join.ensures)
 
 -- The cell below or the one beside bypasses the join.
-pub returns-then-is_spared : goal.returns-then-is_spared
-returns-then-is_spared g c =
+pub returns-then-is_left_out : goal.returns-then-is_left_out
+returns-then-is_left_out g c =
     let marks = g.C.KnownCells.marks c.args.cells.now in
     let on = sym c.place_on.ensures ∙ c.in-Some.is in
     let row = next_row c.args.place c.in-Some.near c.args.way c.requires.after on (λ e. c.if-near-place-2.true (sym e)) in
-    adds_spared marks c.args.left_out.now c.args.place c.in-Some.near c.args.way (g.C.KnownCells.wanted c.args.cells.now) _ on
-    (spared_corner marks c.args.left_out.now c.args.place c.in-Some.near (record { row = c.args.place.row + 1; col = c.args.place.col }) c.args.from c.args.below c.mark-to.result
+    adds_left_out marks c.args.left_out.now c.args.place c.in-Some.near c.args.way (g.C.KnownCells.wanted c.args.cells.now) _ on
+    (left_out_corner marks c.args.left_out.now c.args.place c.in-Some.near (record { row = c.args.place.row + 1; col = c.args.place.col }) c.args.from c.args.below c.mark-to.result
     (inl (sym row, refl)) c.requires.from c.requires.below c.mark-to.ensures row
-    (λ e. c.if-near-place.false (sym e)) (OnTrue_at c.if-is_spared.true c.is_spared.ensures))
+    (λ e. c.if-near-place.false (sym e)) (OnTrue_at c.if-is_left_out.true c.is_left_out.ensures))
 
-pub returns-then-is_spared-2 : goal.returns-then-is_spared-2
-returns-then-is_spared-2 g c =
+pub returns-then-is_left_out-2 : goal.returns-then-is_left_out-2
+returns-then-is_left_out-2 g c =
     let marks = g.C.KnownCells.marks c.args.cells.now in
     let on = sym c.place_on.ensures ∙ c.in-Some.is in
     let row = next_row c.args.place c.in-Some.near c.args.way c.requires.after on (λ e. c.if-near-place-2.true (sym e)) in
-    adds_spared marks c.args.left_out.now c.args.place c.in-Some.near c.args.way (g.C.KnownCells.wanted c.args.cells.now) _ on
-    (spared_corner marks c.args.left_out.now c.args.place c.in-Some.near (record { row = c.args.place.row; col = c.in-Some.near.col }) c.args.from c.mark-beside.result c.mark-to.result
+    adds_left_out marks c.args.left_out.now c.args.place c.in-Some.near c.args.way (g.C.KnownCells.wanted c.args.cells.now) _ on
+    (left_out_corner marks c.args.left_out.now c.args.place c.in-Some.near (record { row = c.args.place.row; col = c.in-Some.near.col }) c.args.from c.mark-beside.result c.mark-to.result
     (inr (refl, refl)) c.requires.from c.mark-beside.ensures c.mark-to.ensures row
-    (λ e. c.if-near-place.false (sym e)) (OnTrue_at c.if-is_spared-2.true c.is_spared-then-near-place-2.ensures))
+    (λ e. c.if-near-place.false (sym e)) (OnTrue_at c.if-is_left_out-2.true c.is_left_out-then-near-place-2.ensures))
 
 pub returns : goal.returns
 returns g c =
-    let join = rw (ap (λ (z : Spared). z.sources) c.left_out.view_is) at c.in-Some-join_of.ensures in
+    let join = rw (ap (λ (z : LeftOutJoins). z.sources) c.left_out.view_is) at c.in-Some-join_of.ensures in
     on_ok_weaker _ (λ added.
     adds_on_way (g.C.KnownCells.marks c.args.cells.now) c.args.left_out.now c.args.place c.in-Some.near c.args.way (g.C.KnownCells.wanted c.args.cells.now) c.args.from _ _ _
     c.requires.from (sym c.mark-to.ensures) (omega (arith, c.requires.after)) (sym c.place_on.ensures ∙ c.in-Some.is) (sym c.is_wanted.ensures ∙ cc c.if-not-is_wanted.false)

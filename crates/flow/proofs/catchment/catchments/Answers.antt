@@ -41,9 +41,6 @@ number_cells-requires-clause-grid g c κs within =
       ends = cut_ends d (ending_of d t flow.ends c.in_ok-codes.ensures.cutting (refl, refl)) c.args.gauges.now c.in_ok-codes.codes.items coded c.in_ok-codes.ensures.cut;
     })
 
-pub number_cells-requires-clause-size : goal.number_cells-requires-clause-size
-number_cells-requires-clause-size g c κs within = c.in_ok-numbers.ensures.cells
-
 pub number_cells-requires-clause-few : goal.number_cells-requires-clause-few
 number_cells-requires-clause-few g c κs within i below =
     let few = few_gauges c.args.d.now c.codes.ensures.draining c.args.gauges.now (sym c.first_fault.ensures ∙ c.in_default.is) in

@@ -29,9 +29,3 @@ loop-side-preserved c =
     ∙ sym (target_in_tile t c.args.flows.now c.args.tile c.loop-side.side c.index-flows-tile.result below flow) in
     mapped_all (target_by t c.args.flows.now) _ _ _
     (mapped_pushed (target_by t c.args.flows.now) (first + c.loop-side.side) _ _ _ c.loop-side.invariant target c.in_ok-push.ensures.items) (omega arith)
-
-pub returns : goal.returns
-returns c =
-    let t = c.args.tiling.now in
-    mapped_all (target_by t c.args.flows.now) _ _ _ c.loop-side.invariant
-    (omega (arith, c.loop-side-test.false, c.loop-side.auto.side-end, c.side_count-side-end.ensures.value, ap stride c.bounds-largest.ensures.value))

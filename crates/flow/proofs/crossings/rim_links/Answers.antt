@@ -1,10 +1,7 @@
 use Rattle.std.proofs.Common.{arith}
 use Rattle.flow.specs.RimGraph.{rim_link}
-use Rattle.flow.proofs.Windows.{mapped_pushed, mapped_all}
+use Rattle.flow.proofs.Windows.{mapped_all}
 use Rattle.flow.proofs.crossings.rim_links.Goals as goal
-
-pub loop-number-preserved : goal.loop-number-preserved
-loop-number-preserved c = mapped_pushed (rim_link c.args.tiling.now c.args.flows.now) _ _ _ _ c.loop-number.invariant c.link_of.ensures c.in_ok-push.ensures.items
 
 pub returns : goal.returns
 returns c =

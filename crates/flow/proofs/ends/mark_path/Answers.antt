@@ -1,16 +1,7 @@
-use Rattle.std.proofs.Common.{◌≢◌, ℕ, ◌<◌, inl, inr, length, set, subst, sym, refl, ◌∙◌, arith}
+use Rattle.std.proofs.Common.{◌≢◌, ℕ, ◌<◌, inl, inr, length, set, subst, sym, ◌∙◌, arith}
 use Rattle.flow.specs.Finding.{IsKnown, unknown_mark}
 use Rattle.flow.proofs.Ending.{found_more, known_same, known_still, end-onward, end-inside, marks_fall}
 use Rattle.flow.proofs.ends.mark_path.Goals as goal
-
-pub path-init : goal.path-init
-path-init c = record {
-  found = c.requires.found;
-  inside = c.requires.inside;
-  last = c.requires.last;
-  kept = λ i k. k;
-  marked = inl refl;
-}
 
 pub path-preserved : goal.path-preserved
 path-preserved c =
@@ -31,9 +22,3 @@ pub path-smaller : goal.path-smaller
 path-smaller c =
     let ne : c.args.last ≢ unknown_mark = λ e. omega (arith, e, c.requires.last, end-inside c.args.links.now c.requires.streams c.args.from c.requires.inside, c.requires.few) in
     marks_fall c.args.links.now c.path.ends c.path.node c.args.last c.requires.streams c.path.invariant.found c.path.invariant.inside c.path-test.true ne
-
-pub returns-clause-marked : goal.returns-clause-marked
-returns-clause-marked c = elim c.path.invariant.marked [
-  | inl here ↦ subst (λ (n : ℕ). IsKnown c.path.ends n) here c.path-test.false
-  | inr known ↦ known
-]

@@ -1,21 +1,9 @@
-use Rattle.std.proofs.Common.{◌≡◌, ◌+◌, ap, ◌∙◌, arith, rules}
+use Rattle.std.proofs.Common.{◌≡◌, ◌+◌, ap, ◌∙◌, arith}
 use Rattle.flow.specs.Streams.{sum_below}
 use Rattle.tiles.specs.RimNumbers.{number_count}
 use Rattle.flow.specs.Inflows.{entering}
 use Rattle.flow.proofs.Sums.{sum_more, sum_below-part}
 use Rattle.flow.proofs.inflows.send_all.Goals as goal
-
-pub loop-number-init : goal.loop-number-init
-loop-number-init c = record { size = c.requires.none.size; each = λ k h. c.requires.none.zeros k }
-
-pub overflow_add-amount : goal.overflow_add-amount
-overflow_add-amount c =
-    let fits = c.requires.amounts c.loop-number.number (omega (arith, c.loop-number-test.true, c.number_count-number-end.ensures.value)) in
-    search rules
-
-pub send-requires-clause-within : goal.send-requires-clause-within
-send-requires-clause-within c =
-    c.requires.within c.loop-number.number (omega (arith, c.loop-number-test.true, c.number_count-number-end.ensures.value))
 
 pub send-requires-clause-fits : goal.send-requires-clause-fits
 send-requires-clause-fits c = λ k h.

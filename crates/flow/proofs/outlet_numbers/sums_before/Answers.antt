@@ -21,6 +21,3 @@ overflow_add-sum c =
     let most = sum_by_more_le (λ (r : RunCounts). r.total) c.args.runs.now c.loop-run.run-index c.run-item.result c.loop-run-test.true in
     let fits : c.loop-run.sum + c.run-item.result.total < 2 ^ 32 = omega (arith, most, c.requires, c.loop-run.invariant.sum, ap (λ (r : RunCounts). r.total) c.run-item.is) in
     search rules
-
-pub returns : goal.returns
-returns c = record { size = omega (arith, c.loop-run.invariant.size, c.loop-run-test.false, c.loop-run.auto.run-index-end); each = c.loop-run.invariant.each }

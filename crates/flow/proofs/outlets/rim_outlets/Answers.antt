@@ -1,10 +1,7 @@
 use Rattle.std.proofs.Common.{arith}
 use Rattle.flow.specs.RimGraph.{rim_outlet}
-use Rattle.flow.proofs.Windows.{mapped_pushed, mapped_all}
+use Rattle.flow.proofs.Windows.{mapped_all}
 use Rattle.flow.proofs.outlets.rim_outlets.Goals as goal
-
-pub loop-number-preserved : goal.loop-number-preserved
-loop-number-preserved c = mapped_pushed (rim_outlet c.args.tiling.now c.args.flows.now c.args.ends.now) _ _ _ _ c.loop-number.invariant c.outlet_of.ensures c.in_ok-push.ensures.items
 
 pub returns : goal.returns
 returns c =

@@ -4,12 +4,6 @@ use Rattle.flow.specs.Sending.{sent_mark}
 use Rattle.flow.proofs.Sending.{upstream_le, step_waits, step_sending, step_fits, step_falls, step_early, end_sending, end_early}
 use Rattle.flow.proofs.streams.send_from.Goals as goal
 
-pub bounds-upstream-next : goal.bounds-upstream-next
-bounds-upstream-next c = omega (arith, c.requires.streams.inside c.downstream.node c.downstream.invariant.inside, c.downstream.invariant.sending.upstream_size)
-
-pub bounds-upstream-next-in-downstream : goal.bounds-upstream-next-in-downstream
-bounds-upstream-next-in-downstream c = omega (arith, c.requires.streams.inside c.downstream.node c.downstream.invariant.inside, c.downstream.invariant.sending.upstream_size)
-
 pub overflow_add-upstream : goal.overflow_add-upstream
 overflow_add-upstream c =
     let fits : get_or c.downstream.upstream c.downstream.node 0 + get_or c.args.weights.now c.downstream.node 0 < 2 ^ 32 =

@@ -1,12 +1,8 @@
-use Rattle.std.proofs.Common.{arith, refl, ◌∙◌, ◌≡◌, ◌-◌, Bool, true, false, not}
-use Rattle.std.proofs.lemmas.Bool.{OnTrue_from}
+use Rattle.std.proofs.Common.{arith, ◌∙◌, ◌-◌, false, not}
+use Rattle.std.proofs.lemmas.Bool.{OnTrue_from, not-true}
 use Rattle.horizons.specs.Merging.{IsAboveOn}
 use Rattle.horizons.proofs.Merged.{even_between}
 use Rattle.horizons.proofs.merging.is_never_above.Goals as goal
-
-opened : (b : Bool) → not b ≡ true → b ≡ false
-opened false e = refl
-opened true e = cc
 
 pub returns : goal.returns
 returns c =
@@ -14,4 +10,5 @@ returns c =
     OnTrue_from (not c.is_above_at-2.result) (IsAboveOn targets c.args.one c.args.other false c.args.from c.args.end) (λ yes i t low high at.
     even_between targets c.args.one c.args.other false c.args.from (c.args.end - 1) c.requires.targets (omega arith) (omega arith)
     (λ u at_u. c.is_above_at.ensures u at_u ∙ c.if-is_above_at.false)
-    (λ u at_u. c.is_above_at-2.ensures u at_u ∙ opened c.is_above_at-2.result yes) i t low (omega arith) at)
+    (λ u at_u. c.is_above_at-2.ensures u at_u ∙ not-true c.is_above_at-2.result yes)
+    i t low (omega arith) at)

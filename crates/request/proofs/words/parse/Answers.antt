@@ -1,6 +1,6 @@
 use Rattle.std.proofs.Common.{IfErr, sym, subst}
 use Rattle.request.specs.WordsFaults.{IsFaultOf}
-use Rattle.request.proofs.Asked.{words_given_some}
+use Rattle.request.proofs.Requested.{words_given_some}
 use Rattle.request.proofs.words.parse.Goals as goal
 
 pub returns-else-is_empty-clause-fault : goal.returns-else-is_empty-clause-fault

@@ -6,7 +6,7 @@ use Rattle.clap.specs.Kinds.{HasKind}
 use Rattle.request.specs.CommandLine.{Spell, RequestFor, program_app}
 use Rattle.request.specs.PlaceWords.{sink_of}
 use Rattle.request.specs.Request.{IsView}
-use Rattle.request.proofs.Asked.{accepted, found_in, map_refused, named_by, none_by, none_named, options_refused, program_free, sinks_refused, requested}
+use Rattle.request.proofs.Requested.{accepted, found_in, map_refused, named_by, none_by, none_named, options_refused, program_free, sinks_refused, requested}
 use Rattle.request.proofs.Given.{view_without_sinks}
 use Rattle.request.proofs.words.requested_options.Goals as goal
 

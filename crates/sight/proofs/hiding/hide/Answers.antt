@@ -1,4 +1,4 @@
-use Rattle.std.proofs.Common.{arith, rules, sym, ap, subst, ◌∙◌, ◌≡◌, ℕ, ◌+◌, Bool, List, length, get_or, pos, Some, w64, FitsSigned}
+use Rattle.std.proofs.Common.{arith, rules, sym, ap, subst, ◌∙◌, ◌≡◌, ℕ, ◌+◌, Bool, List, length, get_or, pos, Some, w64}
 use Rattle.std.specs.Prelude.{slice_get}
 use Rattle.std.proofs.lemmas.Int.{to_z-of_z}
 use Rattle.std.proofs.lemmas.Option.{slice_get-get_or, slice_get_within}
@@ -48,24 +48,19 @@ rise-rise-requires-clause-target c =
     let ray = ray_at c.args.family c.args.window c.args.marks.now c.in_ok-rays.rays.items c.deref-ray-items.result.now c.loop-number.number c.deref-ray-items.ensures.value c.loop-number-test.true c.in_ok-rays.ensures.rays in
     ray_is_target c.args.family c.args.window c.args.marks.now _ c.requires.family c.requires.window ray
 
-pub hides-requires-clause-rank : goal.hides-requires-clause-rank
-hides-requires-clause-rank c =
+pub hides-requires : goal.hides-requires
+hides-requires c =
     let look = rw c.deref-in-loop-number.ensures.value at c.in_ok-go_to.ensures in
     let ranked = rw (c.deref.ensures.value, sym c.deref-ray-items.ensures.value) at c.in_ok-ranked.ensures in
     let at = rank_at c.deref-ray-items.result.now c.in_ok-ranked.ranked.targets.items c.in_ok-ranked.ranked.ranks.items c.loop-number.number c.index.result.now c.loop-number-test.true ranked c.index.ensures in
-    omega (arith, look.hides.over.whole, slice_get_within c.in_ok-ranked.ranked.targets.items c.index.result.now _ at)
-
-pub hides-requires-clause-target : goal.hides-requires-clause-target
-hides-requires-clause-target c =
     let ray = ray_at c.args.family c.args.window c.args.marks.now c.in_ok-rays.rays.items c.deref-ray-items.result.now c.loop-number.number c.deref-ray-items.ensures.value c.loop-number-test.true c.in_ok-rays.ensures.rays in
-    ray_is_target c.args.family c.args.window c.args.marks.now _ c.requires.family c.requires.window ray
-
-pub hides-requires-clause-at : goal.hides-requires-clause-at
-hides-requires-clause-at c r at_r =
-    let look = rw c.deref-in-loop-number.ensures.value at c.in_ok-go_to.ensures in
-    let ranked = rw (c.deref.ensures.value, sym c.deref-ray-items.ensures.value) at c.in_ok-ranked.ensures in
-    let at = rank_at c.deref-ray-items.result.now c.in_ok-ranked.ranked.targets.items c.in_ok-ranked.ranked.ranks.items c.loop-number.number c.index.result.now c.loop-number-test.true ranked c.index.ensures in
-    look.hides.over.each c.index.result.now _ r at at_r
+    record {
+      rank = omega (arith, look.hides.over.whole, slice_get_within _ c.index.result.now _ at);
+      cursor = look.cursor;
+      target = ray_is_target c.args.family c.args.window c.args.marks.now _ c.requires.family
+          c.requires.window ray;
+      at = λ r at_r. look.hides.over.each c.index.result.now _ r at at_r;
+    }
 
 pub unmark-requires-clause-window : goal.unmark-requires-clause-window
 unmark-requires-clause-window c = window_kept c.args.family c.args.window c.args.marks.now c.loop-number.marks c.loop-number.invariant.marks.size c.requires.window
@@ -92,9 +87,8 @@ loop-number-preserved c =
     let look : LooksFrom cells f targets t.line c.go_to.new.self = rw c.deref-in-loop-number.ensures.value at c.in_ok-go_to.ensures in
     let ranked = rw (c.deref.ensures.value, sym c.deref-ray-items.ensures.value) at c.in_ok-ranked.ensures in
     let at_rank = rank_at rays targets c.in_ok-ranked.ranked.ranks.items n c.index.result.now c.loop-number-test.true ranked c.index.ensures in
-    let fits : FitsSigned w64 c.rise-rise.result = search rules in
-    let answer = rw (to_z-of_z w64 c.rise-rise.result fits) at c.hides.ensures.answer in
-    let told : c.hides.result ≡ is_blocked_before cells f t.line ray.cell (rise_at cells f height t.line ray.cell) t.line =
+    let answer = rw (to_z-of_z w64 c.rise-rise.result (search rules)) at c.hides.ensures.answer in
+    let reported : c.hides.result ≡ is_blocked_before cells f t.line ray.cell (rise_at cells f height t.line ray.cell) t.line =
     answer ∙ look.hides.hides c.index.result.now t ray.cell c.rise-rise.result at_rank ray.stands (omega arith) c.rise-rise.ensures.small
     ∙ ap (λ z. is_blocked_before cells f t.line ray.cell z t.line) (c.rise-rise.ensures.value ray.cell ray.stands) in
     let line : c.hides.new.self.line ≡ t.line = c.hides.ensures.line ∙ look.line in
@@ -105,10 +99,10 @@ loop-number-preserved c =
       marks = elim c.if-hides.branch [
         | then-hides w' ↦
             subst (λ (ms : List Bool). AreHiddenBelow cells f w height rays (n + 1) old ms) (sym (w'.marks-is ∙ w'.unmark.ensures ray.cell ray.stands))
-            (blocked_asked cells f w height rays n old marks t ray.cell c.requires.apart (window_kept f w old marks c.loop-number.invariant.marks.size c.requires.window) at_t ray.stands ray.within ray.crosses (sym told ∙ w'.if-hides.true) c.loop-number.invariant.marks)
+            (blocked_asked cells f w height rays n old marks t ray.cell c.requires.apart (window_kept f w old marks c.loop-number.invariant.marks.size c.requires.window) at_t ray.stands ray.within ray.crosses (sym reported ∙ w'.if-hides.true) c.loop-number.invariant.marks)
         | else-hides w' ↦
             subst (λ (ms : List Bool). AreHiddenBelow cells f w height rays (n + 1) old ms) (sym w'.marks-is)
-            (open_asked cells f w height rays n old marks t ray.cell at_t ray.stands (sym told ∙ w'.if-hides.false) c.loop-number.invariant.marks)
+            (open_asked cells f w height rays n old marks t ray.cell at_t ray.stands (sym reported ∙ w'.if-hides.false) c.loop-number.invariant.marks)
       ];
     }
 

@@ -20,8 +20,8 @@ pub count_before-requires-clause-before : goal.count_before-requires-clause-befo
 count_before-requires-clause-before c =
     let first = c.first_offset-first.result in
     let back = back_short first (omega (arith, c.first_offset-first.ensures.small)) in
-    let told = rw back at c.is_before.ensures in
-    rw back (before_to c.args.targets.now c.args.line 0 first _ c.requires.targets (first_is c.args.targets.now (sym c.is_empty.ensures ∙ c.if-is_empty.false)) (told.0 c.if-not-is_before.false))
+    let reported = rw back at c.is_before.ensures in
+    rw back (before_to c.args.targets.now c.args.line 0 first _ c.requires.targets (first_is c.args.targets.now (sym c.is_empty.ensures ∙ c.if-is_empty.false)) (reported.0 c.if-not-is_before.false))
 
 pub returns-clause-before : goal.returns-clause-before
 returns-clause-before c =

@@ -8,15 +8,15 @@ loop-index-preserved c =
     let cells = c.args.cells.now in
     let index = c.loop-index.index in
     record {
-      height = λ h is. elim c.raised-top.ensures.one [
+      height = λ h is. elim c.greater_height-top.ensures.one [
         | inl old ↦ c.loop-index.invariant.height h (sym old ∙ is)
         | inr new ↦ c.requires index h (sym c.height_at.ensures ∙ sym new ∙ is)
       ];
       above = λ i h below is. elim (cases_lt i index) [
-        | inl before ↦ c.raised-top.ensures.kept h (c.loop-index.invariant.above i h before is)
+        | inl before ↦ c.greater_height-top.ensures.kept h (c.loop-index.invariant.above i h before is)
         | inr last ↦
             let same : index ≡ i = omega arith in
-            c.raised-top.ensures.raised h (c.height_at.ensures ∙ ap (λ n. get_or cells n None) same ∙ is)
+            c.greater_height-top.ensures.raised h (c.height_at.ensures ∙ ap (λ n. get_or cells n None) same ∙ is)
       ];
     }
 

@@ -9,8 +9,8 @@ returns-in-Some-clause-refusals g c =
     let t = c.args.grid.now.terrain in
     let os = c.args.observers.now in
     let fault = observers_fault t os c.args.target_height c.args.radius in
-    let told : fault ≡ Some c.in-Some.fault = rw c.first_fault.ensures at c.in-Some.is in
-    refuses fault c.in-Some.fault c.args.workers (λ job. not_jobs job t os c.args.target_height c.args.radius) told
+    let reported : fault ≡ Some c.in-Some.fault = rw c.first_fault.ensures at c.in-Some.is in
+    refuses fault c.in-Some.fault c.args.workers (λ job. not_jobs job t os c.args.target_height c.args.radius) reported
 
 pub returns-clause-values : goal.returns-clause-values
 returns-clause-values g c =

@@ -1,4 +1,4 @@
-use Rattle.std.proofs.Common.{rules, sym, ◌∙◌, ◌≡◌, pos, ◌+ℤ◌, FitsSigned, Some, true}
+use Rattle.std.proofs.Common.{rules, sym, ◌∙◌, ◌≡◌, pos, ◌+ℤ◌, Some, true}
 use Rattle.std.specs.Int.{w64}
 use Rattle.std.proofs.lemmas.Int.{to_z-of_z}
 use Rattle.terrain.specs.Neighbours.{height_at}
@@ -26,10 +26,9 @@ returns c =
     let q = c.args.target in
     let eye = c.in_ok-eye_ground.eye_ground in
     let ground = c.in_ok-target_ground.target_ground in
-    let eye_fits : FitsSigned w64 eye = search rules in
-    let ground_fits : FitsSigned w64 ground = search rules in
-    let eye_level : c.level-eye_level.result ≡ eye +ℤ pos o.eye = rw (to_z-of_z w64 eye eye_fits) at c.level-eye_level.ensures.value in
-    let target_level : c.level-target_level.result ≡ ground +ℤ pos c.args.target_height = rw (to_z-of_z w64 ground ground_fits) at c.level-target_level.ensures.value in
+    let eye_level = rw (to_z-of_z w64 eye (search rules)) at c.level-eye_level.ensures.value in
+    let target_level =
+    rw (to_z-of_z w64 ground (search rules)) at c.level-target_level.ensures.value in
     let eye_back = to_z-of_z w64 c.level-eye_level.result (search rules) in
     let target_back = to_z-of_z w64 c.level-target_level.result (search rules) in
     let near : is_near (place_of o) q c.args.radius ≡ true = sym c.is_in_reach.ensures ∙ c.if-not-is_in_reach.false in

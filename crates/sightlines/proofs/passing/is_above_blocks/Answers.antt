@@ -1,4 +1,4 @@
-use Rattle.std.proofs.Common.{rules, arith, ap, subst, ◌≡◌, ◌+◌, ◌-◌, ◌*◌, ◌/◌, ◌≤◌, ℕ, ℤ, Option, None, get_or, max, FitsSigned, ◌≤ℤ◌}
+use Rattle.std.proofs.Common.{rules, arith, ap, subst, ◌≡◌, ◌+◌, ◌-◌, ◌*◌, ◌/◌, ◌≤◌, ℕ, ℤ, Option, None, get_or, max, ◌≤ℤ◌}
 use Rattle.std.specs.Int.{w64}
 use Rattle.std.proofs.lemmas.Int.{to_z-of_z}
 use Rattle.std.proofs.lemmas.Bool.{OnTrue_at, OnTrue_from}
@@ -31,12 +31,9 @@ returns c =
     let low = c.min.result / c.args.size in
     let first = c.args.lead_block * strides.lead in
     let size = c.args.size in
-    let start_fits : FitsSigned w64 c.args.start.sight = search rules in
-    let end_fits : FitsSigned w64 c.args.end.sight = search rules in
-    let sight_fits : FitsSigned w64 c.min-sight.result = search rules in
-    let start_is = to_z-of_z w64 c.args.start.sight start_fits in
-    let end_is = to_z-of_z w64 c.args.end.sight end_fits in
-    let sight_is = to_z-of_z w64 c.min-sight.result sight_fits in
+    let start_is = to_z-of_z w64 c.args.start.sight (search rules) in
+    let end_is = to_z-of_z w64 c.args.end.sight (search rules) in
+    let sight_is = to_z-of_z w64 c.min-sight.result (search rules) in
     let below_start : c.min-sight.result ≤ℤ c.args.start.sight = rw start_is at c.min-sight.ensures.self_bound in
     let below_end : c.min-sight.result ≤ℤ c.args.end.sight = rw end_is at c.min-sight.ensures.other_bound in
     OnTrue_from c.are_low.result (AreLowBetween c.args.size tops strides line c.args.lead_block c.args.start c.args.end) (λ yes cell above below inside.

@@ -32,11 +32,11 @@ returns-then-is_higher-clause-answer c =
     let line = c.args.line in
     let n = steps_of line in
     let k = c.loop-step.step in
-    let told : c.is_higher.result ≡ step_blocks c.args.cells.now line.lead line.side line.from_level line.to_level n k =
+    let reported : c.is_higher.result ≡ step_blocks c.args.cells.now line.lead line.side line.from_level line.to_level n k =
     rw (c.loop-step.invariant.index, c.loop-step.invariant.part, c.loop-step.invariant.sight, c.requires.pace.steps) at c.is_higher.ensures in
     let at : c.args.first + (k - c.args.first) ≡ k = omega arith in
     let p = step_blocks c.args.cells.now line.lead line.side line.from_level line.to_level n in
-    sym (any_at p c.args.first (c.args.end - c.args.first) (k - c.args.first) (omega arith) (ap p at ∙ sym told ∙ c.if-is_higher.true))
+    sym (any_at p c.args.first (c.args.end - c.args.first) (k - c.args.first) (omega arith) (ap p at ∙ sym reported ∙ c.if-is_higher.true))
 
 pub next-requires-clause-room : goal.next-requires-clause-room
 next-requires-clause-room c =
@@ -72,7 +72,7 @@ loop-step-preserved c =
     (rw (c.loop-step.invariant.index, c.loop-step.invariant.part) at c.next.ensures.passes) in
     let level = next_level line.from_level line.to_level n k c.loop-step.sight-bits c.requires.line.from_level c.requires.line.to_level (omega arith) (omega arith) c.loop-step.invariant.sight in
     let p = step_blocks c.args.cells.now line.lead line.side line.from_level line.to_level n in
-    let told : c.is_higher.result ≡ p k =
+    let reported : c.is_higher.result ≡ p k =
     rw (c.loop-step.invariant.index, c.loop-step.invariant.part, c.loop-step.invariant.sight, c.requires.pace.steps) at c.is_higher.ensures in
     let at : first + (k - first) ≡ k = omega arith in
     let more : k + 1 - first ≡ (k - first) + 1 = omega arith in
@@ -80,7 +80,7 @@ loop-step-preserved c =
       index = next.0;
       part = next.1;
       sight = level.1;
-      clear = rw more (any_more p first (k - first) c.loop-step.invariant.clear (ap p at ∙ sym told ∙ c.if-is_higher.false));
+      clear = rw more (any_more p first (k - first) c.loop-step.invariant.clear (ap p at ∙ sym reported ∙ c.if-is_higher.false));
     }
 
 pub loop-step-init : goal.loop-step-init

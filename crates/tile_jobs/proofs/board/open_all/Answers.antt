@@ -1,4 +1,4 @@
-use Rattle.std.proofs.Common.{rules, arith, sym, ap, ◌≡◌, ℕ, suc, ◌∷◌, List, length, drop, get_or, ◌∙◌, vec_len, subst, below_more}
+use Rattle.std.proofs.Common.{rules, arith, sym, ap, ◌≡◌, ℕ, suc, ◌∷◌, length, drop, get_or, ◌∙◌, vec_len, subst, below_more}
 use Rattle.std.proofs.lemmas.Grind.{common_steps}
 use Rattle.std.specs.Vec.Iter.{into_iter_items}
 use Rattle.tile_jobs.specs.Ends.{EndState, SeatState, IsSeat}
@@ -12,10 +12,8 @@ loop-seat-preserved c =
     let n = vec_len c.loop-seat.owns in
     let inv = c.loop-seat.invariant in
     let seat : SeatState = c.in-Some.seat in
-    let rest : List SeatState = into_iter_items c.next.new.self in
-    let step : into_iter_items c.loop-seat.seat-iterator ≡ seat ∷ rest = grind (arith, common_steps) in
-    let held : seat ∷ rest ≡ drop n all = sym step ∙ inv.rest in
-    let at : (d : SeatState) → seat ≡ get_or all n d = λ d. get_drop all n seat d rest held in
+    let held : seat ∷ into_iter_items c.next.new.self ≡ drop n all = grind (arith, common_steps) in
+    let at : (d : SeatState) → seat ≡ get_or all n d = λ d. get_drop all n seat d _ held in
     let parts = c.into_parts-own.ensures.parts in
     let r = c.into_parts-own.result in
     let len : vec_len c.put.new.list ≡ suc n = c.put.ensures.len in
@@ -24,10 +22,10 @@ loop-seat-preserved c =
     let s3 : length c.loop-seat.taken.items ≡ n = (let q : length c.loop-seat.taken.items ≡ vec_len c.loop-seat.taken = search rules in q ∙ inv.same.1) in
     let O : ℕ → EndState → Type 0 = λ j x. (d : SeatState) → x ≡ (get_or all j d).own in
     record {
-      rest = rw len (cut_drop all n seat rest held);
-      count = omega (arith, inv.count, ap length step, len);
+      rest = rw len (cut_drop all n seat _ held);
+      count = omega (arith, inv.count, ap length inv.rest, ap length held, len);
       same = (c.put-in-loop-seat.ensures.len ∙ ap suc inv.same.0 ∙ sym len, c.put-in-loop-seat-2.ensures.len ∙ ap suc inv.same.1 ∙ sym len);
-      room = (omega (arith, inv.room.0, c.put.ensures.room), omega (arith, inv.room.1, c.put-in-loop-seat.ensures.room), omega (arith, inv.room.2, c.put-in-loop-seat-2.ensures.room));
+      capacity = (omega (arith, inv.capacity.0, c.put.ensures.capacity), omega (arith, inv.capacity.1, c.put-in-loop-seat.ensures.capacity), omega (arith, inv.capacity.2, c.put-in-loop-seat-2.ensures.capacity));
       seats = λ s d low. below_more (λ j. IsSeat (get_or all j d)) n (λ j l. inv.seats j d l) (subst IsSeat (at d) c.into_parts-own.ensures.seat) s (omega (arith, len));
       owns = λ s d o low. rw c.put.ensures.items (get_snoc O c.loop-seat.owns.items r.0 (λ j x l e. inv.owns j e x (omega (arith, s1))) (λ e. rw s1 (sym (ap (λ (x : SeatState). x.own) parts) ∙ ap (λ (x : SeatState). x.own) (at e))) s o (omega (arith, s1, len)) d);
       rows = λ s d o low. rw c.put-in-loop-seat.ensures.items

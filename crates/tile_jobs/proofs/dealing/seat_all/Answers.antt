@@ -1,9 +1,8 @@
-use Rattle.std.proofs.Common.{arith, ap, sym, ◌≡◌, ℕ, ◌+◌, ◌<◌, ◌∙◌, length, get_or, drop, List, ◌++◌, ◌∷◌, [], vec_len, add-one}
+use Rattle.std.proofs.Common.{arith, ap, ◌≡◌, ℕ, ◌+◌, ◌<◌, ◌∙◌, length, get_or, List, ◌++◌, ◌∷◌, [], vec_len, add-one}
 use Rattle.std.proofs.lemmas.Grind.{common_steps}
 use Rattle.std.proofs.lemmas.List.{get_or-drop}
-use Rattle.std.specs.Vec.Iter.{into_iter_items}
 use Rattle.tile_jobs.specs.Ends.{EndState, SeatState, seat_of, without}
-use Rattle.tile_jobs.proofs.Entries.{get_drop, cut_below, cut_drop}
+use Rattle.tile_jobs.proofs.Entries.{cut_drop}
 use Rattle.tile_jobs.proofs.Seats.{fresh_seat, get_snoc}
 use Rattle.tile_jobs.proofs.dealing.seat_all.Goals as goal
 
@@ -12,37 +11,34 @@ new-requires-clause-seat c =
     let all = c.args.ends.owns.items in
     let n = c.loop-own.number in
     let own : EndState = c.in-Some.own in
-    let rest : List EndState = into_iter_items c.next.new.self in
-    let step : into_iter_items c.loop-own.own-iterator ≡ own ∷ rest = grind (arith, common_steps) in
-    let held : own ∷ rest ≡ drop n all = sym step ∙ c.loop-own.invariant.rest in
-    let low = cut_below all n own rest held in
-    let size : length all ≡ vec_len c.args.ends.owns = grind (arith, common_steps) in
-    let some_row : 0 < vec_len c.loop-own.rows = omega (arith, low, c.loop-own.invariant.size) in
-    let here = c.loop-own.invariant.rows 0 c.remove-others.result some_row in
-    let row : c.remove-others.result.items ≡ without n all = ap (λ v. v.items) c.remove-others.ensures.value ∙ here ∙ ap (λ k. without k all) (omega arith) in
-    rw row (fresh_seat c.args.jobs (vec_len c.args.ends.owns) n all own c.requires.owns size (omega (arith, low, size)) (get_drop all n own own rest held))
+    let seats = vec_len c.args.ends.owns in
+    let size : length all ≡ seats = grind (arith, common_steps) in
+    let low : n < seats = grind (arith, common_steps) in
+    let was = c.loop-own.invariant.rows 0 c.remove-others.result in
+    let row : c.remove-others.result.items ≡ without n all = grind (arith, common_steps, was) in
+    let own_is : own ≡ get_or all n own = grind (arith, common_steps) in
+    rw row (fresh_seat c.args.jobs seats n all own c.requires.owns size low own_is)
 
 pub loop-own-preserved : goal.loop-own-preserved
 loop-own-preserved c =
     let all = c.args.ends.owns.items in
     let n = c.loop-own.number in
     let own : EndState = c.in-Some.own in
-    let rest : List EndState = into_iter_items c.next.new.self in
-    let step : into_iter_items c.loop-own.own-iterator ≡ own ∷ rest = grind (arith, common_steps) in
-    let held : own ∷ rest ≡ drop n all = sym step ∙ c.loop-own.invariant.rest in
-    let some_row : 0 < vec_len c.loop-own.rows = (let low = cut_below all n own rest held in omega (arith, c.loop-own.invariant.size)) in
-    let here = c.loop-own.invariant.rows 0 c.remove-others.result some_row in
-    let row : c.remove-others.result.items ≡ without n all = ap (λ v. v.items) c.remove-others.ensures.value ∙ here ∙ ap (λ k. without k all) (omega arith) in
+    let was = c.loop-own.invariant.rows 0 c.remove-others.result (grind (arith, common_steps)) in
+    let row : c.remove-others.result.items ≡ without n all =
+    ap (λ v. v.items) c.remove-others.ensures.value ∙ was ∙ ap (λ k. without k all) (omega arith) in
     let seats : List SeatState = c.loop-own.seats.items in
     let seat : SeatState = c.in_ok-new.field-0 in
     let items : c.push.new.self.items ≡ seats ++ seat ∷ [] = grind (arith, common_steps) in
     let size : length seats ≡ n = grind (arith, common_steps) in
     let P : ℕ → SeatState → Type 0 = λ s x. (e : EndState) → x ≡ seat_of s (get_or all s e) (without s all) [] in
     let made : seat ≡ seat_of n own c.remove-others.result.items [] = c.in_ok-new.ensures in
-    let last : P (length seats) seat = λ e. rw size (made ∙ rw row (ap (λ o. seat_of n o (without n all) []) (get_drop all n own e rest held))) in
+    let last : P (length seats) seat = λ e.
+    let own_is : own ≡ get_or all n e = grind (arith, common_steps) in
+    rw (size, ← row, ← own_is) made in
     record {
-      rest = rw add-one (cut_drop all n own rest held);
-      count = omega (arith, c.loop-own.invariant.count, ap length step);
+      rest = rw add-one (cut_drop all n own _ (grind (arith, common_steps)));
+      count = grind (arith, common_steps);
       size = omega (arith, c.loop-own.invariant.size, c.remove-others.ensures.len);
       len = grind (arith, common_steps);
       rows = λ i d low. ap (λ v. v.items) (ap (λ l. get_or l i d) c.remove-others.ensures.items ∙ get_or-drop 1 c.loop-own.rows.items i d) ∙ c.loop-own.invariant.rows (1 + i) d (omega (arith, c.remove-others.ensures.len)) ∙ ap (λ k. without k all) (omega arith);

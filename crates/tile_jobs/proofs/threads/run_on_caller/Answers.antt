@@ -1,4 +1,4 @@
-use Rattle.std.proofs.Common.{rules, arith, sym, ap, subst, ◌≡◌, suc, [], ◌∷◌, ◌++◌, List, length, drop, get_or, ◌∙◌, vec_len}
+use Rattle.std.proofs.Common.{rules, arith, ap, List, subst, ◌≡◌, suc, [], ◌∷◌, ◌++◌, length, drop, get_or, ◌∙◌, vec_len}
 use Rattle.std.proofs.lemmas.Grind.{common_steps}
 use Rattle.std.specs.Vec.Iter.{into_iter_items}
 use Rattle.tile_jobs.specs.Ends.{SeatState}
@@ -14,8 +14,7 @@ loop-seat-preserved g c =
     let inv = c.loop-seat.invariant in
     let seat : SeatState = c.in-Some.seat in
     let rest : List SeatState = into_iter_items c.next.new.self in
-    let step : into_iter_items c.loop-seat.seat-iterator ≡ seat ∷ rest = grind (arith, common_steps) in
-    let held : seat ∷ rest ≡ drop n all = sym step ∙ inv.rest in
+    let held : seat ∷ rest ≡ drop n all = grind (arith, common_steps) in
     let was = c.loop-seat.results.items in
     let out = c.work_seat.result in
     let gives = g.W.Work.gives c.args.work.now in
@@ -24,7 +23,7 @@ loop-seat-preserved g c =
     let len : vec_len c.push.new.self ≡ suc n = grind (arith, common_steps) in
     record {
       rest = rw len (cut_drop all n seat rest held);
-      count = omega (arith, inv.count, ap length step, len);
+      count = omega (arith, inv.count, ap length inv.rest, ap length held, len);
       each = λ s r d low. rw items (get_snoc (λ j x. (d : SeatState) → IsOutcome gives (get_or all j d) x) was out (λ j x l e. inv.each j x e (omega (arith, size))) (λ e. rw size (subst (λ q. IsOutcome gives q out) (get_drop all n seat e rest held) c.work_seat.ensures)) s r (omega (arith, size, len)) d);
     }
 
@@ -32,9 +31,8 @@ pub returns-clause-outcomes : goal.returns-clause-outcomes
 returns-clause-outcomes g c =
     let all = c.args.seats.items in
     let inv = c.loop-seat.invariant in
-    let done : into_iter_items c.loop-seat.seat-iterator ≡ [] = grind (arith, common_steps) in
     let size : length c.loop-seat.results.items ≡ vec_len c.loop-seat.results = search rules in
-    let whole : vec_len c.loop-seat.results ≡ length all = (let k = inv.count in let e = ap length done in omega arith) in
+    let whole : vec_len c.loop-seat.results ≡ length all = grind (arith, common_steps) in
     record {
       count = size ∙ whole;
       each = λ s d r low. inv.each s r d (omega arith);

@@ -1,4 +1,4 @@
-use Rattle.std.proofs.Common.{rules, arith, sym, ap, ◌≡◌, suc, [], ◌∷◌, ◌++◌, List, length, drop, get_or, ◌∙◌, vec_len}
+use Rattle.std.proofs.Common.{rules, arith, ap, List, ◌≡◌, suc, [], ◌∷◌, ◌++◌, length, drop, get_or, ◌∙◌, vec_len}
 use Rattle.std.proofs.lemmas.Grind.{common_steps}
 use Rattle.std.specs.Vec.Iter.{into_iter_items}
 use Rattle.tile_jobs.specs.Ends.{SeatState}
@@ -13,8 +13,7 @@ loop-seat-preserved g c =
     let inv = c.loop-seat.invariant in
     let seat : SeatState = c.in-Some.seat in
     let rest : List SeatState = into_iter_items c.next.new.self in
-    let step : into_iter_items c.loop-seat.seat-iterator ≡ seat ∷ rest = grind (arith, common_steps) in
-    let held : seat ∷ rest ≡ drop n all = sym step ∙ inv.rest in
+    let held : seat ∷ rest ≡ drop n all = grind (arith, common_steps) in
     let was = c.loop-seat.children.items in
     let child = c.in-Ok.child in
     let items : c.put.new.list.items ≡ was ++ child ∷ [] = c.put.ensures.items in
@@ -24,8 +23,8 @@ loop-seat-preserved g c =
     let same_seat : child.promise.seat.value ≡ seat = grind (arith, common_steps) in
     record {
       rest = rw len (cut_drop all n seat rest held);
-      count = omega (arith, inv.count, ap length step, len);
+      count = omega (arith, inv.count, ap length inv.rest, ap length held, len);
       started = omega (arith, len);
-      room = omega (arith, inv.room, c.put.ensures.room);
+      capacity = omega (arith, inv.capacity, c.put.ensures.capacity);
       each = λ s h d low. rw items (get_snoc (λ j x. (d : SeatState) → (x.promise.work.now ≡ c.args.work.now) × (x.promise.seat.value ≡ get_or all j d)) was child (λ j x l e. inv.each j x e (omega (arith, size))) (λ e. (same_work, rw size (same_seat ∙ get_drop all n seat e rest held))) s h (omega (arith, size, len)) d);
     }

@@ -24,7 +24,7 @@ returns c =
     let k = reading _ text c.in_default.is (subst (λ r. HasTaken r text) (sym c.self.view_is) h) in
     let judged = (c.in_ok-end_word.ensures.words text k.words_of).1 in
     subst (λ d. MatchResult c.finish.result (IsGridText d text) (IsRefusal d text)) scale
-    (finished c.end_word.new.self.judge.scale text c.finish.result k.short (judged_none c.end_word.new.self.judge (words text) judged) (c.finish.ensures (words text) judged)) in
+    (finished c.end_word.new.self.builder.scale text c.finish.result k.short (judged_none c.end_word.new.self.builder (words text) judged) (c.finish.ensures (words text) judged)) in
     record {
       grid = λ text h. MatchResult-weaker c.finish.result (m text h) (λ _ k. k) (λ _ _. tt);
       fault = λ text h. MatchResult-weaker c.finish.result (m text h) (λ _ _. tt) (λ _ k. k);

@@ -15,9 +15,7 @@ loop-row-preserved c =
 
 pub returns : goal.returns
 returns c =
-    let v = c.args.self.now.tiling.now in
-    let t = sinkless_terrain v c.args.self.now.levels.now in
-    let steps = c.args.self.now.steps.now in
+    let t = sinkless_terrain c.args.self.now.tiling.now c.args.self.now.levels.now in
     noted_all _ _ _ _ _ _ _ (λ p q done side.
     let inside = data_inside t p side.next.from_data in
     let row : q.row ≡ c.args.place.row = ap (λ (r : Place). r.row) done in

@@ -1,7 +1,6 @@
 use Rattle.std.proofs.Common.{inl, inr, sym, ◌∙◌, subst, arith}
 use Rattle.std.specs.Prelude.{Contains}
 use Rattle.terrain.proofs.Places.{cases_place}
-use Rattle.drain.specs.Entering.{sinkless_terrain}
 use Rattle.drain.proofs.Noting.{noted_all, noted_then}
 use Rattle.std.proofs.lemmas.Map.Made.{Contains-tail}
 use Rattle.tiles.proofs.Members.{Contains-rim_places, Contains-from_rim_places}
@@ -30,8 +29,6 @@ loop-place-preserved c =
 pub returns : goal.returns
 returns c =
     let v = c.args.self.now.tiling.now in
-    let t = sinkless_terrain v c.args.self.now.levels.now in
-    let steps = c.args.self.now.steps.now in
     let none = c.in-None.ensures.steps.0 in
     noted_all _ _ _ _ _ _ _ (λ p q done side.
     let rim = on_rim v q p c.args.self.now.lawful done.0.0 (λ i. done.1 (i.1 ∙ done.0.1)) (touches_back p q side.next.touches) in

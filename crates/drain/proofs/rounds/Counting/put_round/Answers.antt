@@ -2,7 +2,7 @@ use Rattle.std.proofs.Common.{◌<◌, ℕ, List, Option, sym, subst, ◌∙◌,
 use Rattle.std.proofs.lemmas.List.{with_items_is}
 use Rattle.drain.specs.Rounds.{AreCounting}
 use Rattle.drain.specs.Entering.{sinkless_terrain}
-use Rattle.drain.specs.Rounding.{rounding_of, left_in, IsNext}
+use Rattle.drain.specs.Rounding.{rounding_of, count_sum, IsNext}
 use Rattle.drain.proofs.RoundLemmas.{given_within, carried_counting, next_round, put_carried, put_less}
 use Rattle.drain.proofs.rounds.Counting.put_round.Goals as goal
 
@@ -35,5 +35,5 @@ returns-clause-less c =
     let now = c.args.self.now in
     let put = rw c.deref_mut.ensures.value at c.put_all.ensures in
     let whole = with_items_is now.steps c.put_all.new.steps (omega (arith, put.size, now.steps.ok.0)) in
-    subst (λ (xs : List (Option ℕ)). left_in (record { cutting = now.tiling.now; levels = now.levels.now; steps = xs; entries = c.sort.new.entries.items }) < left_in (rounding_of now)) (sym whole)
+    subst (λ (xs : List (Option ℕ)). count_sum (record { cutting = now.tiling.now; levels = now.levels.now; steps = xs; entries = c.sort.new.entries.items }) < count_sum (rounding_of now)) (sym whole)
     (put_less (rounding_of now) c.args.outs.now c.put_all.new.steps c.requires.rounding c.requires.answered put c.requires.some.0 c.requires.some.1)

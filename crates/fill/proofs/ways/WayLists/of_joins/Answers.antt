@@ -13,13 +13,13 @@ pub loop-join-init : goal.loop-join-init
 loop-join-init c =
     let lasts = c.in_ok-lasts.lasts.items in
     let joins = c.deref-join-items.result.now in
-    let befores = c.in_ok-befores.befores.items in
+    let previous = c.in_ok-previous.previous.items in
     let zeros = c.in_ok-lasts.ensures.items_if_clones_equal (λ y e. e) in
     record {
-      size = ap length c.in_ok-befores.ensures.items;
+      size = ap length c.in_ok-previous.ensures.items;
       labels = ap length zeros ∙ length-replicate c.args.labels 0;
-      linked = none_linked c.args.labels lasts joins befores zeros c.in_ok-befores.ensures.items;
-      added = rw (no_ways c.args.labels lasts joins befores zeros c.in_ok-befores.ensures.items) (no_ways_added _);
+      linked = none_linked c.args.labels lasts joins previous zeros c.in_ok-previous.ensures.items;
+      added = rw (no_ways c.args.labels lasts joins previous zeros c.in_ok-previous.ensures.items) (no_ways_added _);
     }
 
 -- Both labels of a join are indexes into a list of all labels.
@@ -50,25 +50,25 @@ loop-join-preserved c =
     let i = c.loop-join.invariant in
     let lasts = c.loop-join.lasts.items in
     let joins = c.deref-join-items.result.now in
-    let befores = c.loop-join.befores.items in
+    let previous = c.loop-join.previous.items in
     let index = c.loop-join.join-index in
     let j = get_or joins index none in
     let ends = ends_in _ _ _ _ _ c.deref-join-items.ensures.value c.requires i.labels c.loop-join-test.true in
     let from : j.from < length lasts = ends.0 in
     let to : j.to < length lasts = ends.1 in
-    let more : length befores < length joins = omega (arith, i.size, c.loop-join-test.true) in
-    let is : get_or joins (length befores) none ≡ j = ap (λ k. get_or joins k none) i.size in
-    let pushed : c.push.new.self.items ≡ after lasts joins befores j i.linked more is from to =
+    let more : length previous < length joins = omega (arith, i.size, c.loop-join-test.true) in
+    let is : get_or joins (length previous) none ≡ j = ap (λ k. get_or joins k none) i.size in
+    let pushed : c.push.new.self.items ≡ after lasts joins previous j i.linked more is from to =
     c.in_ok-push.ensures.items
-    ∙ ap (λ (n : _). befores ++ record { from = n; to = c.index-in-loop-join.result.now } ∷ []) (c.index.ensures ∙ get_or_default lasts j.from _ 0 from)
-    ∙ ap (λ n. befores ++ record { from = get_or lasts j.from 0; to = n } ∷ []) (c.index-in-loop-join.ensures ∙ get_or_default lasts j.to _ 0 to) in
-    let first : c.len-in-loop-join.result ≡ length (after lasts joins befores j i.linked more is from to) = omega (arith, c.len-in-loop-join.ensures, c.push.new.self.ok.0, ap length pushed) in
-    let second : c.len-in-loop-join-2.result ≡ length (after lasts joins befores j i.linked more is from to) = omega (arith, c.len-in-loop-join-2.ensures, c.push.new.self.ok.0, ap length pushed) in
+    ∙ ap (λ (n : _). previous ++ record { from = n; to = c.index-in-loop-join.result.now } ∷ []) (c.index.ensures ∙ get_or_default lasts j.from _ 0 from)
+    ∙ ap (λ n. previous ++ record { from = get_or lasts j.from 0; to = n } ∷ []) (c.index-in-loop-join.ensures ∙ get_or_default lasts j.to _ 0 to) in
+    let first : c.len-in-loop-join.result ≡ length (after lasts joins previous j i.linked more is from to) = omega (arith, c.len-in-loop-join.ensures, c.push.new.self.ok.0, ap length pushed) in
+    let second : c.len-in-loop-join-2.result ≡ length (after lasts joins previous j i.linked more is from to) = omega (arith, c.len-in-loop-join-2.ensures, c.push.new.self.ok.0, ap length pushed) in
     rw (first, second, pushed) (record {
-      size = length_push befores (both lasts joins befores j i.linked more is from to) ∙ ap (λ k. k + 1) i.size;
+      size = length_push previous (both lasts joins previous j i.linked more is from to) ∙ ap (λ k. k + 1) i.size;
       labels = length-set _ j.to _ ∙ length-set lasts j.from _ ∙ i.labels;
-      linked = still_linked lasts joins befores j i.linked more is from to;
-      added = rw (take_more joins index none c.loop-join-test.true) (ways_then _ _ _ _ _ i.added (join_added lasts joins befores j i.linked more is from to));
+      linked = still_linked lasts joins previous j i.linked more is from to;
+      added = rw (take_more joins index none c.loop-join-test.true) (ways_then _ _ _ _ _ i.added (join_added lasts joins previous j i.linked more is from to));
     })
 
 pub invariant_of-result : goal.invariant_of-result

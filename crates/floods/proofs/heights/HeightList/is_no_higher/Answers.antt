@@ -1,6 +1,5 @@
 use Rattle.std.proofs.Common.{rules, ◌<◌, ◌∙◌, length, false, sym, ap, arith, refl}
 use Rattle.std.specs.Ordering.{int_eq}
-use mir.Val.{SFits}
 use Rattle.std.proofs.lemmas.Int.{to_z-of_z}
 use Rattle.std.proofs.lemmas.List.{get_or_read}
 use Rattle.terrain.proofs.Heights.{height_width}
@@ -18,10 +17,8 @@ pub returns-then-not-is_lack : goal.returns-then-not-is_lack
 returns-then-not-is_lack c =
     let inside : c.args.index < length c.self.inside.heights.items = omega (arith, c.requires, ap length c.self.view_is, length-where _ _ c.self.inside.size) in
     let value = get_or_read c.self.inside.heights.items c.args.index c.index-noted.result.now inside c.index-noted.ensures lack in
-    let fits : SFits height_width c.args.height = search rules in
-    let fits_here : SFits height_width c.index-noted.result.now = search rules in
-    let height = to_z-of_z height_width c.args.height fits in
-    let here = to_z-of_z height_width c.index-noted.result.now fits_here in
+    let height = to_z-of_z height_width c.args.height (search rules) in
+    let here = to_z-of_z height_width c.index-noted.result.now (search rules) in
     let low = is_low _ _ (rw (here, height, value) at c.if-noted-height.true) in
     let lacks = c.is_lack.ensures ∙ ap (λ z. int_eq z lack) (here ∙ value) in
     (λ _. no_higher _ _ _ c.args.index c.args.height c.self.inside.size c.self.view_is (noted_other _ _ (sym lacks ∙ c.if-not-is_lack.true)) low, λ _. rw c.if-not-is_lack.true refl)
@@ -30,10 +27,8 @@ pub returns-else-not-is_lack : goal.returns-else-not-is_lack
 returns-else-not-is_lack c =
     let inside : c.args.index < length c.self.inside.heights.items = omega (arith, c.requires, ap length c.self.view_is, length-where _ _ c.self.inside.size) in
     let value = get_or_read c.self.inside.heights.items c.args.index c.index-noted.result.now inside c.index-noted.ensures lack in
-    let fits : SFits height_width c.args.height = search rules in
-    let fits_here : SFits height_width c.index-noted.result.now = search rules in
-    let height = to_z-of_z height_width c.args.height fits in
-    let here = to_z-of_z height_width c.index-noted.result.now fits_here in
+    let height = to_z-of_z height_width c.args.height (search rules) in
+    let here = to_z-of_z height_width c.index-noted.result.now (search rules) in
     let marked = get_or_read c.self.inside.greatest.items c.args.index c.index.result.now (omega (arith, inside, c.self.inside.size)) c.index.ensures false in
     let low = is_low _ _ (rw (here, height, value) at c.if-noted-height.true) in
     let lacks = c.is_lack.ensures ∙ ap (λ z. int_eq z lack) (here ∙ value) in (
@@ -45,8 +40,6 @@ pub returns-else-noted-height : goal.returns-else-noted-height
 returns-else-noted-height c =
     let inside : c.args.index < length c.self.inside.heights.items = omega (arith, c.requires, ap length c.self.view_is, length-where _ _ c.self.inside.size) in
     let value = get_or_read c.self.inside.heights.items c.args.index c.index-noted.result.now inside c.index-noted.ensures lack in
-    let fits : SFits height_width c.args.height = search rules in
-    let fits_here : SFits height_width c.index-noted.result.now = search rules in
-    let height = to_z-of_z height_width c.args.height fits in
-    let here = to_z-of_z height_width c.index-noted.result.now fits_here in
+    let height = to_z-of_z height_width c.args.height (search rules) in
+    let here = to_z-of_z height_width c.index-noted.result.now (search rules) in
     (λ is. absurd (cc (is, c.if-noted-height.false)), λ s. rw (here, height, value) (low_is _ _ (no_higher_is _ _ _ c.args.index c.args.height c.self.inside.size c.self.view_is s).1))

@@ -1,6 +1,5 @@
 use Rattle.std.proofs.Common.{rules, ◌∙◌, length, sym, ap, arith}
 use Rattle.std.specs.Ordering.{int_eq}
-use mir.Val.{SFits}
 use Rattle.std.proofs.lemmas.Int.{to_z-of_z}
 use Rattle.terrain.proofs.Heights.{height_width}
 use Rattle.floods.specs.Notes.{lack}
@@ -15,11 +14,10 @@ index_mut-requires-then-is_lack c = omega (arith, c.requires, ap length c.self.v
 
 pub returns-then-is_lack : goal.returns-then-is_lack
 returns-then-is_lack c =
-    let fits : SFits height_width c.args.height = search rules in
-    rw (to_z-of_z height_width c.args.height fits, ← c.self.view_is) (where-marked _ _ c.args.index c.args.height c.self.inside.size)
+    rw (to_z-of_z height_width c.args.height (search rules), ← c.self.view_is)
+    (where-marked _ _ c.args.index c.args.height c.self.inside.size)
 
 pub returns-else-is_lack : goal.returns-else-is_lack
 returns-else-is_lack c =
-    let fits : SFits height_width c.args.height = search rules in
-    let height = to_z-of_z height_width c.args.height fits in
+    let height = to_z-of_z height_width c.args.height (search rules) in
     rw (height, ← c.self.view_is) (where-set _ _ c.args.index c.args.height c.self.inside.size (sym (c.is_lack.ensures ∙ ap (λ z. int_eq z lack) height) ∙ c.if-is_lack.false))

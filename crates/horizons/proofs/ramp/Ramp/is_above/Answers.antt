@@ -1,43 +1,33 @@
-use Rattle.std.proofs.Common.{refl, arith, pos, ◌*ℤ◌}
+use Rattle.std.proofs.Common.{refl, arith, w64, to_z, of_z, pos, ◌*ℤ◌, ◌≡◌, FitsSigned}
 use mir.Syntax.{w128}
-use Rattle.std.proofs.lemmas.Int.{to_z-of_z}
-use Rattle.horizons.specs.Horizons.{value_at}
-use Rattle.horizons.proofs.Sizes.{back, back_long, back_count, product_fits}
+use Rattle.std.proofs.lemmas.Int.{fits_signed_from_abs}
+use Rattle.horizons.specs.declared.ramp.Ramp.{Ramp}
+use Rattle.horizons.specs.declared.target.Target.{Target}
+use Rattle.horizons.specs.Horizons.{IsRampAt, value_at}
+use Rattle.horizons.proofs.Sizes.{long_product, product_is}
 use Rattle.horizons.proofs.ramp.Ramp.is_above.Goals as goal
+
+-- the value of a ramp times the lines of another
+value_times : (r s : Ramp) (t : Target) → IsRampAt r t → IsRampAt s t →
+    let p = long_product (value_at r t) (pos s.lines) in
+    FitsSigned w128 p × (to_z w128 (of_z w128 p) ≡ value_at r t *ℤ pos s.lines)
+value_times r s t at other =
+    let fits = fits_signed_from_abs w64 (value_at r t) at.value in
+    product_is (value_at r t) (pos s.lines) fits (omega (arith, other.lines))
 
 pub overflow_mul-result : goal.overflow_mul-result
 overflow_mul-result c =
-    let r = c.args.self in
-    let s = c.args.other in
-    let t = c.args.target in
-    let value = back (value_at r t) c.requires.at.value in
-    let value_long = back_long (value_at r t) (omega (arith, c.requires.at.value)) in
-    let lines = back_count s.lines (omega (arith, c.requires.other.lines)) in
-    rw (c.from.ensures, c.from-2.ensures, c.value_at.ensures, value, value_long, lines)
-    (product_fits (value_at r t) (pos s.lines) (omega (arith, c.requires.at.value)) (omega (arith, c.requires.other.lines)))
+    let is = value_times c.args.self c.args.other c.args.target c.requires.at c.requires.other in
+    rw (c.from.ensures, c.from-2.ensures, c.value_at.ensures) is.0
 
 pub overflow_mul-result-2 : goal.overflow_mul-result-2
 overflow_mul-result-2 c =
-    let r = c.args.self in
-    let s = c.args.other in
-    let t = c.args.target in
-    let value = back (value_at s t) c.requires.other.value in
-    let value_long = back_long (value_at s t) (omega (arith, c.requires.other.value)) in
-    let lines = back_count r.lines (omega (arith, c.requires.at.lines)) in
-    rw (c.from-3.ensures, c.from-4.ensures, c.value_at-2.ensures, value, value_long, lines)
-    (product_fits (value_at s t) (pos r.lines) (omega (arith, c.requires.other.value)) (omega (arith, c.requires.at.lines)))
+    let is = value_times c.args.other c.args.self c.args.target c.requires.other c.requires.at in
+    rw (c.from-3.ensures, c.from-4.ensures, c.value_at-2.ensures) is.0
 
 pub returns : goal.returns
 returns c =
-    let r = c.args.self in
-    let s = c.args.other in
-    let t = c.args.target in
-    let value = back (value_at r t) c.requires.at.value in
-    let other = back (value_at s t) c.requires.other.value in
-    let value_long = back_long (value_at r t) (omega (arith, c.requires.at.value)) in
-    let other_long = back_long (value_at s t) (omega (arith, c.requires.other.value)) in
-    let lines = back_count r.lines (omega (arith, c.requires.at.lines)) in
-    let other_lines = back_count s.lines (omega (arith, c.requires.other.lines)) in
-    let one = to_z-of_z w128 (value_at r t *ℤ pos s.lines) (product_fits (value_at r t) (pos s.lines) (omega (arith, c.requires.at.value)) (omega (arith, c.requires.other.lines))) in
-    let two = to_z-of_z w128 (value_at s t *ℤ pos r.lines) (product_fits (value_at s t) (pos r.lines) (omega (arith, c.requires.other.value)) (omega (arith, c.requires.at.lines))) in
-    rw (c.from.ensures, c.from-2.ensures, c.from-3.ensures, c.from-4.ensures, c.value_at.ensures, c.value_at-2.ensures, value, other, value_long, other_long, lines, other_lines, one, two) refl
+    let is = value_times c.args.self c.args.other c.args.target c.requires.at c.requires.other in
+    let also = value_times c.args.other c.args.self c.args.target c.requires.other c.requires.at in
+    rw (c.from.ensures, c.from-2.ensures, c.from-3.ensures, c.from-4.ensures)
+    (rw (c.value_at.ensures, c.value_at-2.ensures, is.1, also.1) refl)

@@ -1,4 +1,4 @@
-use Rattle.std.proofs.Common.{arith, rules, refl, sym, ap, ◌∙◌, ◌≡◌, ◌+◌, pos, ◌≤ℤ◌, get_or, None, Some, w64, FitsSigned, subst, true, ◌&&◌, ℕ, ℤ, int_eq, eqb}
+use Rattle.std.proofs.Common.{arith, rules, refl, sym, ap, ◌∙◌, ◌≡◌, ◌+◌, pos, ◌≤ℤ◌, get_or, None, Some, w64, subst, true, ◌&&◌, ℕ, ℤ, int_eq, eqb}
 use Rattle.std.proofs.lemmas.Bool.{OnTrue_from, and_parts, eqb-true}
 use Rattle.std.proofs.lemmas.Int.{ints, to_z-of_z}
 use Rattle.horizons.specs.declared.target.Target.{Target}
@@ -44,10 +44,8 @@ returns-clause-shows c =
     let near = c.in-Some-height_at.near in
     let far = c.in-Some-height_at-2.far in
     let back = back_short offset (omega (arith, c.requires.offset)) in
-    let near_fits : FitsSigned w64 near = search rules in
-    let far_fits : FitsSigned w64 far = search rules in
-    let near_back = to_z-of_z w64 near near_fits in
-    let far_back = to_z-of_z w64 far far_fits in
+    let near_back = to_z-of_z w64 near (search rules) in
+    let far_back = to_z-of_z w64 far (search rules) in
     let cell : IsCell f k offset c.in-Some.index = rw back at c.in-Some.ensures in
     let here : get_or cells (near_index f k cell.0) None ≡ Some near = ap (λ n. get_or cells n None) (sym cell.3) ∙ sym c.height_at.ensures ∙ c.in-Some-height_at.is in
     let next : get_or cells (near_index f k cell.0 + f.side.stride) None ≡ Some far = ap (λ n. get_or cells (n + f.side.stride) None) (sym cell.3) ∙ sym c.height_at-2.ensures ∙ c.in-Some-height_at-2.is in

@@ -1,124 +1,87 @@
-use Rattle.std.proofs.Common.{arith, rules, refl, sym, ap, ◌∙◌, ◌≡◌, ℕ, ◌+◌, ◌≤◌, pos, ◌+ℤ◌, ◌*ℤ◌, ◌<ℤ◌, get_or, None, Some, w64, FitsSigned}
+use Rattle.std.proofs.Common.{arith, rules, refl, sym, ap, ◌∙◌, ◌≡◌, ◌+◌, ◌≤◌, pos, ◌*ℤ◌, ◌<ℤ◌, get_or, None, Some, w32, w64, to_z, of_z}
 use Rattle.std.proofs.lemmas.Int.{ints, to_z-of_z, by_lt_z}
 use Rattle.std.proofs.lemmas.Nat.{mul-le}
 use Rattle.horizons.specs.Horizons.{hides_by}
 use Rattle.horizons.proofs.Sizes.{back_short}
-use Rattle.sight.specs.Sweep.{lead_of, IsCell, ramp_of}
+use Rattle.sight.specs.Sweep.{lead_of}
 use Rattle.sight.proofs.Below.{among_shows, passes_one}
 use Rattle.sightlines.proofs.Heights.{kept}
 use Rattle.sight.proofs.Rays.{past_onward}
 use Rattle.sight.proofs.Spans.{near_index, none_outside, nothing_near, nothing_far, shows_ramp, shows_centre}
 use Rattle.sight.proofs.family.Family.span.Goals as goal
 
-pub returns-in_default : goal.returns-in_default
-returns-in_default c =
-    let f = c.args.self in
-    let k = c.args.line in
-    let offset = c.offset_at-offset.result in
-    let back = back_short offset (omega (arith, c.offset_at-offset.ensures.small)) in
-    let out : (n : ℕ) → pos n ≡ pos f.side.at +ℤ offset → f.side.cells ≤ n = rw back at c.in_default.ensures in
-    rw back (record {
-      passes = c.offset_at-offset.ensures.passes;
-      small = c.offset_at-offset.ensures.small;
-      last = (omega (arith, ints), c.offset_at-offset.ensures.small);
-      shows = λ t is_t slope among alone.
-          let passes = passes_one k offset t among in
-          record {
-            at = c.nothing.ensures.at t is_t;
-            hides = λ y rise stands later is.
-                let cell = none_outside f k y offset t c.requires.family stands later passes in
-                absurd (omega (arith, out cell.0 cell.1, cell.2));
-          };
-    })
+pub returns-in_default-clause-shows : goal.returns-in_default-clause-shows
+returns-in_default-clause-shows c t is_t slope among alone = record {
+  at = c.nothing.ensures.at t is_t;
+  hides = λ y rise stands later is.
+      let passes = passes_one c.args.line _ t among in
+      let cell = none_outside c.args.self c.args.line y _ t c.requires.family stands later passes in
+      absurd (omega (arith, c.in_default.ensures cell.0 cell.1, cell.2));
+}
 
-pub returns-in_default-height_at : goal.returns-in_default-height_at
-returns-in_default-height_at c =
+pub returns-in_default-height_at-clause-shows : goal.returns-in_default-height_at-clause-shows
+returns-in_default-height_at-clause-shows c t is_t slope among alone =
     let f = c.args.self in
     let k = c.args.line in
     let cells = c.args.cells.now in
-    let offset = c.offset_at-offset.result in
-    let back = back_short offset (omega (arith, c.offset_at-offset.ensures.small)) in
-    let cell : IsCell f k offset c.in-Some.index = rw back at c.in-Some.ensures in
+    let cell = c.in-Some.ensures in
+    let passes = passes_one k _ t among in
     let none : get_or cells (near_index f k cell.0) None ≡ None = ap (λ n. get_or cells n None) (sym cell.3) ∙ sym c.height_at.ensures ∙ c.in_default-height_at.is in
-    rw back (record {
-      passes = c.offset_at-offset.ensures.passes;
-      small = c.offset_at-offset.ensures.small;
-      last = (omega (arith, ints), c.offset_at-offset.ensures.small);
-      shows = λ t is_t slope among alone.
-          let passes = passes_one k offset t among in
-          record {
-            at = c.nothing.ensures.at t is_t;
-            hides = λ y rise stands later is. c.nothing.ensures.below t rise is_t is ∙ sym (nothing_near cells f k cell.0 y offset rise t stands later passes cell.2 none);
-          };
-    })
+    record {
+      at = c.nothing.ensures.at t is_t;
+      hides = λ y rise stands later is. c.nothing.ensures.below t rise is_t is
+          ∙ sym (nothing_near cells f k cell.0 y _ rise t stands later passes cell.2 none);
+    }
 
-pub returns-in-Some-height_at-2 : goal.returns-in-Some-height_at-2
-returns-in-Some-height_at-2 c =
+pub returns-in-Some-height_at-2-clause-shows : goal.returns-in-Some-height_at-2-clause-shows
+returns-in-Some-height_at-2-clause-shows c t is_t slope among alone =
     let f = c.args.self in
     let k = c.args.line in
     let cells = c.args.cells.now in
-    let offset = c.offset_at-offset.result in
     let near = c.in-Some-height_at.near in
     let far = c.in-Some-height_at-2.far in
-    let back = back_short offset (omega (arith, c.offset_at-offset.ensures.small)) in
-    let near_fits : FitsSigned w64 near = search rules in
-    let far_fits : FitsSigned w64 far = search rules in
-    let near_back = to_z-of_z w64 near near_fits in
-    let far_back = to_z-of_z w64 far far_fits in
-    let cell : IsCell f k offset c.in-Some.index = rw back at c.in-Some.ensures in
+    let offset = to_z w32 (of_z w32 c.offset_at-offset.result) in
+    let near_back = to_z-of_z w64 near (search rules) in
+    let far_back = to_z-of_z w64 far (search rules) in
+    let cell = c.in-Some.ensures in
     let here : get_or cells (near_index f k cell.0) None ≡ Some near = ap (λ n. get_or cells n None) (sym cell.3) ∙ sym c.height_at.ensures ∙ c.in-Some-height_at.is in
     let next : get_or cells (near_index f k cell.0 + f.side.stride) None ≡ Some far = ap (λ n. get_or cells (n + f.side.stride) None) (sym cell.3) ∙ sym c.height_at-2.ensures ∙ c.in-Some-height_at-2.is in
-    let ramp : c.ramp-ramp.result ≡ ramp_of f k offset near far = rw (back, near_back, far_back) at c.ramp-ramp.ensures.ramp in
-    let at = rw back at c.ramp-ramp.ensures.at in
+    let ramp = rw (near_back, far_back) at c.ramp-ramp.ensures.ramp in
     let last = c.last_of.result in
     let last_back = back_short last (omega (arith, ints, c.last_of.ensures.range, c.offset_at-offset.ensures.small)) in
-    let onward = rw back at c.last_of.ensures.shows in
-    let range = rw back at c.last_of.ensures.range in
-    rw (back, last_back) (record {
-      passes = c.offset_at-offset.ensures.passes;
-      small = c.offset_at-offset.ensures.small;
-      last = (range.0, omega (arith, ints, range, c.offset_at-offset.ensures.small));
-      shows = λ t is_t slope among alone.
-          among_shows cells f k offset last c.ramp-ramp.result t is_t.line.0 among
-          (λ passes. record {
-            at = at t is_t passes;
-            hides = λ y rise stands later is. ap (λ r. hides_by r t rise) ramp ∙ shows_ramp cells f k cell.0 y offset near far rise t stands later passes cell.2 here next;
-          })
-          (λ b past below passes. onward b t past below is_t passes);
+    among_shows cells f k offset last c.ramp-ramp.result t is_t.line.0 (rw last_back at among)
+    (λ passes. record {
+      at = c.ramp-ramp.ensures.at t is_t passes;
+      hides = λ y rise stands later is. ap (λ r. hides_by r t rise) ramp
+          ∙ shows_ramp cells f k cell.0 y _ near far rise t stands later passes cell.2 here next;
     })
+    (λ b past below passes. c.last_of.ensures.shows b t past below is_t passes)
 
-pub returns-then-not-is_at_centre : goal.returns-then-not-is_at_centre
-returns-then-not-is_at_centre c =
+pub returns-then-not-is_at_centre-clause-shows : goal.returns-then-not-is_at_centre-clause-shows
+returns-then-not-is_at_centre-clause-shows c t is_t slope among alone =
     let f = c.args.self in
     let k = c.args.line in
     let cells = c.args.cells.now in
     let target = c.args.target in
-    let offset = c.offset_at-offset.result in
     let near = c.in-Some-height_at.near in
-    let back = back_short offset (omega (arith, c.offset_at-offset.ensures.small)) in
-    let cell : IsCell f k offset c.in-Some.index = rw back at c.in-Some.ensures in
+    let offset = to_z w32 (of_z w32 c.offset_at-offset.result) in
+    let back = back_short c.offset_at-offset.result (omega arith) in
+    let cell = c.in-Some.ensures in
     let here : get_or cells (near_index f k cell.0) None ≡ Some near = ap (λ n. get_or cells n None) (sym cell.3) ∙ sym c.height_at.ensures ∙ c.in-Some-height_at.is in
     let next : get_or cells (near_index f k cell.0 + f.side.stride) None ≡ None = ap (λ n. get_or cells (n + f.side.stride) None) (sym cell.3) ∙ sym c.height_at-2.ensures ∙ c.in_default-height_at-2.is in
-    let passed = c.offset_at-offset.ensures.passes.low in
-    let centre = rw back at c.is_at_centre.ensures in
     let beyond : (offset *ℤ pos target.line) <ℤ (target.offset *ℤ pos k) = by_lt_z (offset *ℤ pos target.line) (target.offset *ℤ pos k) (λ less. less) (λ not.
-    let centred : (target.offset *ℤ pos k) ≡ offset *ℤ pos target.line = omega (arith, ints, passed, not) in
-    let yes = centre.1 centred in
+    let passed = rw (← back) at c.offset_at-offset.ensures.passes in
+    let yes = c.is_at_centre.ensures.1 (omega (arith, ints, passed.low, not)) in
     let no = c.if-not-is_at_centre.true in
     absurd (cc)) in
-    rw back (record {
-      passes = c.offset_at-offset.ensures.passes;
-      small = c.offset_at-offset.ensures.small;
-      last = (omega (arith, ints), c.offset_at-offset.ensures.small);
-      shows = λ t is_t slope among alone.
-          let passes = passes_one k offset t among in
-          record {
-            at = c.nothing.ensures.at t is_t;
-            hides = λ y rise stands later is.
-                let past = past_onward offset target.offset t.offset target.line t.line k is_t.line.0 slope beyond in
-                c.nothing.ensures.below t rise is_t is ∙ sym (nothing_far cells f k cell.0 y offset rise near t stands later passes cell.2 here next past);
-          };
-    })
+    let past =
+    past_onward offset target.offset t.offset target.line t.line k is_t.line.0 slope beyond in
+    let passes = passes_one k offset t among in
+    record {
+      at = c.nothing.ensures.at t is_t;
+      hides = λ y rise stands later is. c.nothing.ensures.below t rise is_t is ∙ sym
+          (nothing_far cells f k cell.0 y _ rise near t stands later passes cell.2 here next past);
+    }
 
 pub ramp-ramp-requires-clause-heights : goal.ramp-ramp-requires-clause-heights
 ramp-ramp-requires-clause-heights c = (
@@ -133,49 +96,33 @@ ramp-requires-clause-heights c =
 
 pub last_of-requires-clause-first : goal.last_of-requires-clause-first
 last_of-requires-clause-first c =
-    let f = c.args.self in
-    let offset = c.offset_at-offset.result in
-    let back = back_short offset (omega (arith, c.offset_at-offset.ensures.small)) in
-    let cell : IsCell f c.args.line offset c.in-Some.index = rw back at c.in-Some.ensures in
-    rw back (omega (arith, ints, cell.1, cell.2, c.requires.family))
+    omega (arith, ints, c.in-Some.ensures.1, c.in-Some.ensures.2, c.requires.family)
 
 pub ramp-requires-clause-offset : goal.ramp-requires-clause-offset
 ramp-requires-clause-offset c =
-    let f = c.args.self in
-    let offset = c.offset_at-offset.result in
-    let back = back_short offset (omega (arith, c.offset_at-offset.ensures.small)) in
-    let cell : IsCell f c.args.line offset c.in-Some.index = rw back at c.in-Some.ensures in
-    rw back (omega (arith, ints, cell.1, cell.2, c.requires.family))
+    omega (arith, ints, c.in-Some.ensures.1, c.in-Some.ensures.2, c.requires.family)
 
-pub returns : goal.returns
-returns c =
+pub returns-clause-shows : goal.returns-clause-shows
+returns-clause-shows c t is_t slope among alone =
     let f = c.args.self in
     let k = c.args.line in
     let cells = c.args.cells.now in
     let target = c.args.target in
-    let offset = c.offset_at-offset.result in
+    let offset = to_z w32 (of_z w32 c.offset_at-offset.result) in
     let near = c.in-Some-height_at.near in
-    let back = back_short offset (omega (arith, c.offset_at-offset.ensures.small)) in
-    let near_fits : FitsSigned w64 near = search rules in
-    let near_back = to_z-of_z w64 near near_fits in
-    let cell : IsCell f k offset c.in-Some.index = rw back at c.in-Some.ensures in
+    let near_back = to_z-of_z w64 near (search rules) in
+    let cell = c.in-Some.ensures in
     let here : get_or cells (near_index f k cell.0) None ≡ Some near = ap (λ n. get_or cells n None) (sym cell.3) ∙ sym c.height_at.ensures ∙ c.in-Some-height_at.is in
-    let ramp : c.ramp.result ≡ ramp_of f k offset near near = rw (back, near_back) at c.ramp.ensures.ramp in
-    let at = rw back at c.ramp.ensures.at in
-    let centre = rw back at c.is_at_centre.ensures in
-    let centred : (target.offset *ℤ pos k) ≡ offset *ℤ pos target.line = centre.0 c.if-not-is_at_centre.false in
-    rw back (record {
-      passes = c.offset_at-offset.ensures.passes;
-      small = c.offset_at-offset.ensures.small;
-      last = (omega (arith, ints), c.offset_at-offset.ensures.small);
-      shows = λ t is_t slope among alone.
-          let passes = passes_one k offset t among in
-          let same : t ≡ target = alone refl in
-          record {
-            at = at t is_t passes;
-            hides = λ y rise stands later is. ap (λ r. hides_by r t rise) ramp ∙ shows_centre cells f k cell.0 y offset near rise t stands later (ap (λ u. u.offset *ℤ pos k) same ∙ centred ∙ ap (λ u. offset *ℤ pos u.line) (sym same)) cell.2 here;
-          };
-    })
+    let ramp = rw near_back at c.ramp.ensures.ramp in
+    let centred = c.is_at_centre.ensures.0 c.if-not-is_at_centre.false in
+    let same : t ≡ target = alone refl in
+    record {
+      at = c.ramp.ensures.at t is_t (passes_one k offset t among);
+      hides = λ y rise stands later is. ap (λ r. hides_by r t rise) ramp
+          ∙ shows_centre cells f k cell.0 y offset near rise t stands later
+          (ap (λ u. u.offset *ℤ pos k) same ∙ centred ∙ ap (λ u. offset *ℤ pos u.line) (sym same))
+          cell.2 here;
+    }
 
 pub overflow_add-index : goal.overflow_add-index
 overflow_add-index c =

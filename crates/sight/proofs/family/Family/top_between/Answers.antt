@@ -15,12 +15,12 @@ loop-cell-preserved c =
     let here : c.height_at.result ≡ height_at cells f k cell = c.height_at.ensures ∙ ap (λ n. get_or cells (n * f.lines.stride + cell * f.side.stride) None) c.lead_of.ensures in
     record {
       tops = λ b h from below is. elim (cases_lt b cell) [
-        | inl before ↦ c.raised-top.ensures.kept h (c.loop-cell.invariant.tops b h from before is)
+        | inl before ↦ c.greater_height-top.ensures.kept h (c.loop-cell.invariant.tops b h from before is)
         | inr last ↦
             let same : cell ≡ b = omega arith in
-            c.raised-top.ensures.raised h (here ∙ ap (height_at cells f k) same ∙ is)
+            c.greater_height-top.ensures.raised h (here ∙ ap (height_at cells f k) same ∙ is)
       ];
-      height = λ h is. elim c.raised-top.ensures.one [
+      height = λ h is. elim c.greater_height-top.ensures.one [
         | inl old ↦ c.loop-cell.invariant.height h (sym old ∙ is)
         | inr new ↦ c.requires.heights _ h (sym c.height_at.ensures ∙ sym new ∙ is)
       ];

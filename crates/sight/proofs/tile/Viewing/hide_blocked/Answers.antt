@@ -1,4 +1,4 @@
-use Rattle.std.proofs.Common.{rules, arith, ◌≡◌, ◌+◌, ◌*◌, ◌≤◌, None, get_or, not, pos, ◌+ℤ◌, FitsSigned, ap, sym, ◌∙◌, unwrap_or}
+use Rattle.std.proofs.Common.{rules, arith, ◌≡◌, ◌+◌, ◌*◌, ◌≤◌, None, get_or, not, pos, ◌+ℤ◌, ap, sym, ◌∙◌, unwrap_or}
 use Rattle.std.specs.Int.{w64}
 use Rattle.std.proofs.lemmas.Int.{to_z-of_z}
 use Rattle.std.proofs.lemmas.Result.{on_ok_weaker}
@@ -41,8 +41,7 @@ returns c =
     let ground = c.unwrap_or.result in
     let index : c.index_in.result ≡ p.row * t.cols + p.col = rw c.cols-cols.ensures.value at c.index_in.ensures in
     let at : get_or c.cells-cells.result.now c.index_in.result None ≡ height_at t p = rw c.cells-cells.ensures.value (sym (height_is t p.row p.col c.index_in.result c.requires.observer.0 c.requires.observer.1 index)) in
-    let fits : FitsSigned w64 ground = search rules in
-    let level : c.level-eye.result ≡ ground +ℤ pos o.eye = rw (to_z-of_z w64 ground fits) at c.level-eye.ensures.value in
+    let level = rw (to_z-of_z w64 ground (search rules)) at c.level-eye.ensures.value in
     let eye : c.level-eye.result ≡ height_of t p +ℤ pos o.eye = level ∙ ap (λ z. z +ℤ pos o.eye) (c.unwrap_or.ensures ∙ ap (λ h. unwrap_or h (pos 0)) c.height_at-ground.ensures ∙ ap (λ h. unwrap_or h (pos 0)) at) in
     let back = to_z-of_z w64 c.level-eye.result (search rules) in
     let e = height_of t p +ℤ pos o.eye in

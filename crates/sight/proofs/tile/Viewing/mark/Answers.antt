@@ -1,5 +1,5 @@
 use Rattle.std.proofs.Common.{◌≡◌, ◌-◌, ◌*◌, ℕ, subst, arith}
-use Rattle.sight.specs.Marks.{AreMarkedBelow, Tells}
+use Rattle.sight.specs.Marks.{AreMarkedBelow, IsMarkOf}
 use Rattle.sight.proofs.tile.Viewing.mark.Goals as goal
 
 pub loop-row-init : goal.loop-row-init
@@ -12,4 +12,4 @@ returns c =
     let self = c.args.self.now in
     let b = c.args.bounds in
     let all : c.loop-row.row - b.top ≡ b.rows = omega arith in
-    subst (λ (n : ℕ). AreMarkedBelow b (Tells c.args.check self.grid.now.terrain c.args.observer.now self.target_height self.radius) (n * b.cols) c.loop-row.marks) all c.loop-row.invariant
+    subst (λ (n : ℕ). AreMarkedBelow b (IsMarkOf c.args.check self.grid.now.terrain c.args.observer.now self.target_height self.radius) (n * b.cols) c.loop-row.marks) all c.loop-row.invariant

@@ -2,7 +2,7 @@ use Rattle.std.proofs.Common.{◌≡◌, ◌+◌, ◌-◌, ◌*◌, ℕ, set, ap
 use Rattle.terrain.proofs.Places.{make_place}
 use Rattle.tiles.specs.Cutting.{index_in}
 use Rattle.tiles.proofs.TileOrder.{index_in_below}
-use Rattle.sight.specs.Marks.{AreMarkedBelow, Tells}
+use Rattle.sight.specs.Marks.{AreMarkedBelow, IsMarkOf}
 use Rattle.sight.proofs.Marked.{marked_more}
 use Rattle.sight.proofs.tile.Viewing.mark_row.Goals as goal
 
@@ -16,7 +16,7 @@ pub loop-col-preserved : goal.loop-col-preserved
 loop-col-preserved c =
     let self = c.args.self.now in
     let b = c.args.bounds in
-    let Says = Tells c.args.check self.grid.now.terrain c.args.observer.now self.target_height self.radius in
+    let Says = IsMarkOf c.args.check self.grid.now.terrain c.args.observer.now self.target_height self.radius in
     let p = make_place c.args.row c.loop-col.col in
     let at : (c.args.row - b.top) * b.cols + (c.loop-col.col - b.left) ≡ index_in b p = omega arith in
     let next : (c.args.row - b.top) * b.cols + (c.loop-col.col - b.left) + 1 ≡ (c.args.row - b.top) * b.cols + (c.loop-col.col + 1 - b.left) = omega arith in
@@ -30,4 +30,4 @@ returns c =
     let up : c.args.row + 1 - b.top ≡ (c.args.row - b.top) + 1 = omega (arith, c.requires.row) in
     let wide : c.loop-col.col - b.left ≡ b.cols = omega arith in
     let all : (c.args.row - b.top) * b.cols + (c.loop-col.col - b.left) ≡ (c.args.row + 1 - b.top) * b.cols = omega (arith, wide, ap (λ (n : ℕ). n * b.cols) up) in
-    subst (λ (n : ℕ). AreMarkedBelow b (Tells c.args.check self.grid.now.terrain c.args.observer.now self.target_height self.radius) n c.loop-col.marks) all c.loop-col.invariant
+    subst (λ (n : ℕ). AreMarkedBelow b (IsMarkOf c.args.check self.grid.now.terrain c.args.observer.now self.target_height self.radius) n c.loop-col.marks) all c.loop-col.invariant

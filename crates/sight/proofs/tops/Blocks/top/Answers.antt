@@ -10,12 +10,12 @@ loop-row-preserved c =
     let self = c.args.self.now in
     let t = ground_of self.cols self.rows self.cells.now in
     record {
-      height = λ h is. elim c.raised-top.ensures.one [
+      height = λ h is. elim c.greater_height-top.ensures.one [
         | inl old ↦ c.loop-row.invariant.height h (sym old ∙ is)
         | inr new ↦ c.top_of.ensures.height h (sym new ∙ is)
       ];
       above = λ p h row below col is. elim (cases_lt p.row c.loop-row.row) [
-        | inl before ↦ c.raised-top.ensures.kept h (c.loop-row.invariant.above p h row before col is)
+        | inl before ↦ c.greater_height-top.ensures.kept h (c.loop-row.invariant.above p h row before col is)
         | inr last ↦
             let here : p.row ≡ c.loop-row.row = omega arith in
             let inside = inside_from_entry t.cols t.rows t.cells p h is in
@@ -25,7 +25,7 @@ loop-row-preserved c =
             let run = run_at self.cells.now (line + from) (line + c.min-to.result) (p.col - from) (omega (arith, in_cols, inside, c.min-to.ensures)) in
             let place : line + from + (p.col - from) ≡ p.row * self.cols + p.col = omega (arith, in_cols, ap (λ n. n * self.cols) here) in
             let at = run ∙ ap (λ n. get_or self.cells.now n None) place ∙ sym (entry-inside t.cols t.rows t.cells p inside.0 inside.1) ∙ is in
-            top_over c.top_of.result c.raised-top.result h c.raised-top.ensures.raised (c.top_of.ensures.top (p.col - from) h at)
+            top_over c.top_of.result c.greater_height-top.result h c.greater_height-top.ensures.raised (c.top_of.ensures.top (p.col - from) h at)
       ];
     }
 

@@ -16,7 +16,9 @@ returns c =
     }
 
 pub overflow_mul-result : goal.overflow_mul-result
-overflow_mul-result c = scaled_as_reckoned c.args.line.to_level 16 c.requires.line.to_level (omega arith)
+overflow_mul-result c =
+    (scaled_as_reckoned c.args.line.to_level 16 c.requires.line.to_level (omega arith)).0
 
 pub overflow_mul-result-2 : goal.overflow_mul-result-2
-overflow_mul-result-2 c = scaled_as_reckoned c.args.line.from_level 16 c.requires.line.from_level (omega arith)
+overflow_mul-result-2 c =
+    (scaled_as_reckoned c.args.line.from_level 16 c.requires.line.from_level (omega arith)).0

@@ -1,52 +1,44 @@
-use Rattle.std.proofs.Common.{arith, refl, ◌-◌, pos, ◌*ℤ◌}
+use Rattle.std.proofs.Common.{arith, refl, ◌≡◌, ℕ, ◌-◌, ◌≤◌, ◌+ℤ◌, ◌*ℤ◌, FitsSigned, to_z, of_z}
 use Rattle.std.specs.Int.{w64}
-use Rattle.std.proofs.lemmas.Int.{to_z-of_z, to_z_pos}
+use Rattle.std.proofs.lemmas.Int.{to_z-of_z}
 use Rattle.sightlines.specs.Sight.{sight}
-use Rattle.sightlines.specs.Walk.{steps_of}
-use Rattle.sightlines.proofs.Levels.{level_fits, scaled_fits, sight_fits}
+use Rattle.sightlines.specs.Walk.{steps_of, IsSightline}
+use Rattle.sightlines.specs.declared.walk.Sightline.{Sightline}
+use Rattle.sightlines.proofs.Levels.{scaled_as_reckoned, sight_fits}
 use Rattle.sightlines.proofs.walk.Sightline.at.Goals as goal
 
 pub overflow_mul-result : goal.overflow_mul-result
 overflow_mul-result c =
-    let line = c.args.self in
     let left = c.steps-steps.result - c.args.step in
-    let from = to_z-of_z w64 line.from_level (level_fits line.from_level c.requires.line.from_level) in
-    let left_is = to_z_pos w64 left (omega arith) in
-    rw (from, left_is) (scaled_fits line.from_level left c.requires.line.from_level (omega arith))
+    (scaled_as_reckoned c.args.self.from_level left c.requires.line.from_level (omega arith)).0
 
 pub overflow_mul-result-2 : goal.overflow_mul-result-2
 overflow_mul-result-2 c =
-    let line = c.args.self in
-    let to = to_z-of_z w64 line.to_level (level_fits line.to_level c.requires.line.to_level) in
-    let step_is = to_z_pos w64 c.args.step (omega arith) in
-    rw (to, step_is) (scaled_fits line.to_level c.args.step c.requires.line.to_level (omega arith))
+    (scaled_as_reckoned c.args.self.to_level c.args.step c.requires.line.to_level (omega arith)).0
+
+-- the level of a line at a step, as it is computed, fits
+sight_is : (line : Sightline) (k : ℕ) → IsSightline line → k ≤ steps_of line →
+    let n = steps_of line in
+    let from = to_z w64 (of_z w64 (to_z w64 (of_z w64 line.from_level) *ℤ to_z w64 (n - k))) in
+    let to = to_z w64 (of_z w64 (to_z w64 (of_z w64 line.to_level) *ℤ to_z w64 k)) in
+    FitsSigned w64 (from +ℤ to)
+    × (to_z w64 (of_z w64 (from +ℤ to)) ≡ sight line.from_level line.to_level n k)
+sight_is line k is within =
+    let n = steps_of line in
+    let from = scaled_as_reckoned line.from_level (n - k) is.from_level (omega (arith, is)) in
+    let to = scaled_as_reckoned line.to_level k is.to_level (omega (arith, is)) in
+    let fit = sight_fits _ line.to_level n k is.from_level is.to_level within (omega (arith, is)) in
+    rw (from.1, to.1) (fit, to_z-of_z w64 (sight line.from_level line.to_level n k) fit)
 
 pub overflow_add-result : goal.overflow_add-result
 overflow_add-result c =
-    let line = c.args.self in
-    let left = steps_of line - c.args.step in
-    let from = to_z-of_z w64 line.from_level (level_fits line.from_level c.requires.line.from_level) in
-    let to = to_z-of_z w64 line.to_level (level_fits line.to_level c.requires.line.to_level) in
-    let left_is = to_z_pos w64 left (omega arith) in
-    let step_is = to_z_pos w64 c.args.step (omega arith) in
-    let one = to_z-of_z w64 (line.from_level *ℤ pos left) (scaled_fits line.from_level left c.requires.line.from_level (omega arith)) in
-    let two = to_z-of_z w64 (line.to_level *ℤ pos c.args.step) (scaled_fits line.to_level c.args.step c.requires.line.to_level (omega arith)) in
-    rw (c.steps-steps.ensures, from, to, left_is, step_is, one, two)
-    (sight_fits line.from_level line.to_level (steps_of line) c.args.step c.requires.line.from_level c.requires.line.to_level c.requires.step (omega arith))
+    let is = sight_is c.args.self c.args.step c.requires.line c.requires.step in
+    rw c.steps-steps.ensures is.0
 
 pub returns : goal.returns
-returns c =
-    let line = c.args.self in
-    let left = steps_of line - c.args.step in
-    let from = to_z-of_z w64 line.from_level (level_fits line.from_level c.requires.line.from_level) in
-    let to = to_z-of_z w64 line.to_level (level_fits line.to_level c.requires.line.to_level) in
-    let left_is = to_z_pos w64 left (omega arith) in
-    let step_is = to_z_pos w64 c.args.step (omega arith) in
-    let one = to_z-of_z w64 (line.from_level *ℤ pos left) (scaled_fits line.from_level left c.requires.line.from_level (omega arith)) in
-    let two = to_z-of_z w64 (line.to_level *ℤ pos c.args.step) (scaled_fits line.to_level c.args.step c.requires.line.to_level (omega arith)) in
-    let all = to_z-of_z w64 (sight line.from_level line.to_level (steps_of line) c.args.step) (sight_fits line.from_level line.to_level (steps_of line) c.args.step c.requires.line.from_level c.requires.line.to_level c.requires.step (omega arith)) in
-    record {
-      whole = rw c.steps-steps.ensures refl;
-      part = rw c.steps-steps.ensures refl;
-      sight = rw (c.steps-steps.ensures, from, to, left_is, step_is, one, two) all;
-    }
+returns c = record {
+  whole = rw c.steps-steps.ensures refl;
+  part = rw c.steps-steps.ensures refl;
+  sight = rw c.steps-steps.ensures
+      (sight_is c.args.self c.args.step c.requires.line c.requires.step).1;
+}

@@ -29,4 +29,4 @@ pub returns-in-Ok-clause-given : goal.returns-in-Ok-clause-given
 returns-in-Ok-clause-given g c =
     let w = c.args.self.now in
     let below = first_row_below _ _ c.args.job w.some_row c.requires in
-    c.in-Ok.ensures ∙ lines_of_part (g.E.Entry.text w.scale w.nodata.now) w.cols w.rows_each w.cells.now c.args.job c.min.result w.some_col below c.min.ensures
+    c.in-Ok.ensures ∙ lines_of_part (g.E.MapCell.text w.scale w.nodata.now) w.cols w.rows_each w.cells.now c.args.job c.min.result w.some_col below c.min.ensures

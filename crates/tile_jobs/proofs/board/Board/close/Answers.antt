@@ -18,29 +18,24 @@ close_one-requires c =
     let S = vec_len c.args.seats in
     let v = c.loop-own.v in
     let inv = c.loop-own.invariant in
-    let all = c.open_all.new.owns.items in
     let own : EndState = c.in-Some.own in
-    let rest : List EndState = into_iter_items c.next.new.self in
-    let init : into_iter_items c.into_iter-own-iterator.result ≡ all = grind (arith, common_steps) in
-    let step : into_iter_items c.loop-own.own-iterator ≡ own ∷ rest = grind (arith, common_steps) in
-    let held : own ∷ rest ≡ drop v all = sym step ∙ inv.rest ∙ ap (drop v) init in
-    let low : v < S = (let k = inv.count in let e = ap length step in omega arith) in
-    let own_is : (d : SeatState) → own ≡ (get_or ss v d).own = λ d. get_drop all v own own rest held ∙ c.open_all.ensures.owns v d own low in
+    let low : v < S = grind (arith, common_steps) in
+    let own_is : (d : SeatState) → own ≡ (get_or ss v d).own = λ d.
+    grind (arith, common_steps, c.open_all.ensures.owns v d own low) in
     let z : SeatState = seat_of 0 own [] [] in
     let J = c.requires.board.0 in
     let D = c.requires.board.2 in
     let each = c.open_all.ensures.seats in
-    let n = own_names J S ss D each v z low in
-    let e = own_is z in
+    let n = own_names J S ss D each v own z low (own_is z) in
     record {
-      own = (omega (arith, inv.size), ap (λ (e : EndState). e.seats) (own_is z) ∙ n.1 ∙ sym inv.size);
+      own = (omega (arith, inv.size), n.1 ∙ sym inv.size);
       ids = λ s d e l far.
           let ls : s < S = omega (arith, inv.size) in
           let row = inv.rows s d z ls in (
             rw row (some_drop (get_or ss s z).others (head s v) (head_low J S ss D each s v z ls low far)),
             rw (row, get_of_drop) (head_id J S ss D each s v z e ls low far ∙ sym (ap (λ (q : EndState). q.id) (own_is z))),
           );
-      room =
+      capacity =
           let left = (inv.left J D).low in
           let f : ℕ → ℕ = λ u. length (deal J S u) in
           let sums = sum_mono (suc v) S f low in
@@ -48,11 +43,11 @@ close_one-requires c =
           let first : c.index.result.now ≡ get_or ss 0 c.index.result.now = grind (arith, common_steps) in
           let jobs : (get_or ss 0 c.index.result.now).own.jobs ≡ J = (D.numbers 0 c.index.result.now c.requires.board.1).1 in
           let jobs' : c.index.result.now.own.jobs ≡ J = ap (λ (q : SeatState). q.own.jobs) first ∙ jobs in
-          let room : c.index.result.now.own.jobs ≤ c.room.result = c.room.ensures in
-          let cap : vec_capacity c.in-Ok.left ≡ c.room.result = c.in-Ok.ensures.exact in
-          let more = inv.room in
+          let capacity : c.index.result.now.own.jobs ≤ c.capacity.result = c.capacity.ensures in
+          let cap : vec_capacity c.in-Ok.left ≡ c.capacity.result = c.in-Ok.ensures.exact in
+          let more = inv.capacity in
           let size : vec_len c.loop-own.left ≡ length c.loop-own.left.items = search rules in
-          let one : length (deal own.jobs own.seats own.deque) ≡ f v = rw (ap (λ (q : EndState). q.jobs) e ∙ n.0, ap (λ (q : EndState). q.seats) e ∙ n.1, ap (λ (q : EndState). q.deque) e ∙ n.2) refl in
+          let one : length (deal own.jobs own.seats own.deque) ≡ f v = rw (n.0, n.1, n.2) refl in
           omega arith;
     }
 
@@ -65,25 +60,22 @@ loop-own-preserved c =
     let all = c.open_all.new.owns.items in
     let own : EndState = c.in-Some.own in
     let rest : List EndState = into_iter_items c.next.new.self in
-    let init : into_iter_items c.into_iter-own-iterator.result ≡ all = grind (arith, common_steps) in
-    let step : into_iter_items c.loop-own.own-iterator ≡ own ∷ rest = grind (arith, common_steps) in
-    let held : own ∷ rest ≡ drop v all = sym step ∙ inv.rest ∙ ap (drop v) init in
-    let low : v < S = (let k = inv.count in let e = ap length step in omega arith) in
+    let held : own ∷ rest ≡ drop v all = grind (arith, common_steps) in
+    let low : v < S = grind (arith, common_steps) in
     let own_is : (d : SeatState) → own ≡ (get_or ss v d).own = λ d. get_drop all v own own rest held ∙ c.open_all.ensures.owns v d own low in
     let z : SeatState = seat_of 0 own [] [] in
     let each = c.open_all.ensures.seats in
     let o = c.close_one.ensures in
     let p : List ℕ = o.left.0 in
     record {
-      rest = rw add-one (cut_drop (into_iter_items c.into_iter-own-iterator.result) v own rest (held ∙ ap (drop v) (sym init)));
-      count = (let k = inv.count in let e = ap length step in omega arith);
+      rest = rw add-one (cut_drop _ v own rest (grind (arith, common_steps)));
+      count = grind (arith, common_steps);
       size = o.len ∙ inv.size;
       rows = λ s d e l. rw (o.rows s d (omega (arith, inv.size)), inv.rows s d e l) (next_row s v (get_or ss s e).others);
-      room = (let a = o.room in let b = inv.room in omega arith);
+      capacity = (let a = o.capacity in let b = inv.capacity in omega arith);
       left = λ J D.
-          let n = own_names J S ss D each v z low in
-          let e = own_is z in
-          let deal_is : deal own.jobs own.seats own.deque ≡ deal J S v = rw (ap (λ (q : EndState). q.jobs) e ∙ n.0, ap (λ (q : EndState). q.seats) e ∙ n.1, ap (λ (q : EndState). q.deque) e ∙ n.2) refl in
+          let n = own_names J S ss D each v own z low (own_is z) in
+          let deal_is : deal own.jobs own.seats own.deque ≡ deal J S v = rw (n.0, n.1, n.2) refl in
           let rows : vec_len c.loop-own.rows ≡ length c.loop-own.rows.items = search rules in
           let x = some_element c.loop-own.rows.items (omega (arith, inv.size, c.requires.board.1)) in
           let empty : (s : ℕ) (d : SeatState) → s < S → HasAllMarks (get_or ss s d) → p ≡ [] = λ s d l m.
@@ -93,7 +85,7 @@ loop-own-preserved c =
           ] in
           let once : (y : ℕ) (d : SeatState) → y % S ≡ v → in_seats y S ss d + times y p ≡ times y (deal J S v) = λ y d rem.
           let f : ℕ → ℕ = λ s. times y (get_or ss s d).taken in
-          let told = o.left.2.once y f
+          let reported = o.left.2.once y f
           (λ s x e l far. let ls : s < S = omega (arith, inv.size) in rw (inv.rows s x d ls, get_of_drop) (ap (times y) (head_took J S ss D each s v d e ls low far) ∙ times_of v S y (get_or ss s d).taken rem))
           (ap (λ (q : EndState). times y q.took) (own_is d) ∙ ap (times y) (own_takes J S ss D each v d low) ∙ times_of v S y (get_or ss v d).taken rem) in
           let sizes = ap (λ n. sum_to n f) inv.size in

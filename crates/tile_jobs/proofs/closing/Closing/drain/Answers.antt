@@ -30,7 +30,7 @@ loop-closing-preserved-in-Some c =
         some = λ m. (let k = inv.same unmarked in let z = t.1 in absurd (omega arith));
         same = λ _. marks ∙ inv.same unmarked;
         ended = λ m. absurd (true≢false (sym m ∙ marked));
-        room = (let a = c.put.ensures.room in let b = inv.room in omega arith);
+        capacity = (let a = c.put.ensures.capacity in let b = inv.capacity in omega arith);
       },
     )
 
@@ -45,5 +45,5 @@ returns-clause-left c =
       inv.left,
       part_ends (deal_of s0) p (place_of s0) (place_of s) s0.marks inv.part (inv.ended marked) inv.some,
       inv.some,
-      (λ y. now_times s0 s p inv.now y (c.settle.ensures y)),
+      (λ y. now_times s0 s p inv.now y (c.finish.ensures y)),
     )

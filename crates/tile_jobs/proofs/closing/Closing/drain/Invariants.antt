@@ -14,5 +14,5 @@ invariant-loop-closing l = (p : List ℕ) × record {
   some : 0 < l.initial.closing.marks → p ≡ [];
   same : l.closing.marked ≡ false → l.closing.marks ≡ l.initial.closing.marks;
   ended : l.closing.marked ≡ true → l.initial.closing.marks ≡ 0 → length (deal_of l.initial.closing) ≤ place_of l.closing;
-  room : vec_capacity l.initial.left ≤ vec_capacity l.left;
+  capacity : vec_capacity l.initial.left ≤ vec_capacity l.left;
 }

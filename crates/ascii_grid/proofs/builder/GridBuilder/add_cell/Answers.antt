@@ -1,0 +1,35 @@
+use Rattle.std.proofs.Common.{◌≡◌, ◌+◌, ◌<◌, ◌≤◌, ◌++◌, ◌∷◌, [], length, arith, rules, ap, refl, sym, ◌∙◌, inr}
+use Rattle.std.proofs.lemmas.Bool.{lt-ltb, le-ltb}
+use Rattle.ascii_grid.specs.GridText.{is_cell, cells_wanted}
+use Rattle.ascii_grid.specs.Reading.{flat}
+use Rattle.ascii_grid.proofs.Cells.{meaning_cell, meaning_nothing}
+use Rattle.std.proofs.lemmas.List.Elements.{All-push}
+use Rattle.ascii_grid.specs.HeightList.{Form, IsHeightWord}
+use Rattle.ascii_grid.proofs.HeightLists.{AreHeights-more}
+use Rattle.ascii_grid.proofs.JudgedWords.{is_short, place_of}
+use Rattle.ascii_grid.proofs.builder.GridBuilder.add_cell.Goals as goal
+
+pub returns-then-place-self-clause-word : goal.returns-then-place-self-clause-word
+returns-then-place-self-clause-word c = λ ps hs word h short e.
+    let over : cells_wanted (flat ps) ≤ length hs = omega (arith, place_of c.args.self.now ps hs h, h.wanted, c.args.self.now.cells.ok.0) in
+    inr (rw (is_short word short, h.whole, le-ltb (length hs) (cells_wanted (flat ps)) over) refl)
+
+pub returns-in_default-clause-word : goal.returns-in_default-clause-word
+returns-in_default-clause-word c = λ ps hs word h short e.
+    let at : c.len-place.result ≡ length hs = omega (arith, place_of c.args.self.now ps hs h, c.args.self.now.cells.ok.0) in
+    let room : c.len-place.result < cells_wanted (flat ps) = omega (arith, h.wanted) in
+    let none = ap (λ n. is_cell c.args.self.now.scale n word) (sym h.nodata) ∙ meaning_nothing _ _ (sym e ∙ c.in_default.is) in
+    inr (rw (← at, is_short word short, h.whole, lt-ltb c.len-place.result (cells_wanted (flat ps)) room, none) refl)
+
+pub returns-clause-word : goal.returns-clause-word
+returns-clause-word c = λ ps hs word h short e.
+    let j = c.args.self.now in
+    let x = c.in-Cell.cell in
+    let is = meaning_cell (is_cell j.scale j.nodata word) _ x (sym e ∙ c.in-Cell.is) in
+    let room : length j.cells.items + 1 ≤ j.wanted = omega (arith, j.cells.ok.0) in
+    let pushed : c.push.new.self.items ≡ j.cells.items ++ x ∷ [] = search rules in
+    let form : Form = record { scale = j.scale; nodata = j.nodata } in
+    let height : IsHeightWord form word = record { short = short; cell = is.0 } in
+    AreHeights-more j _ ps hs (word ∷ []) form (x ∷ []) h refl refl
+    (All-push (IsHeightWord form) [] word (λ k d low. absurd (omega arith)) height)
+    (ap (λ y. y ∷ []) (sym is.1)) room refl refl refl refl pushed

@@ -1,0 +1,243 @@
+//! Checks the words of a text in their order: keys, values, heights.
+//!
+//! `GridBuilder::add_word` fills a slot of the header, adds a cell or returns the word's fault.
+ghost use Rattle.std.specs.Prelude.{◌↔◌, IsTrue, ◌≡◌, ◌≤◌, ◌<◌, ◌⊎◌, ◌++◌, [], ◌∷◌, List, map, length, false, Option, Some, None, Err, IfOk, MatchResult};
+ghost use Rattle.terrain.specs.Words.{Word};
+ghost use Rattle.terrain.specs.Decimal.{scaled_value};
+ghost use Rattle.ascii_grid.specs.Header.{missing_fault};
+ghost use Rattle.ascii_grid.specs.HeightList.{IsHeightWord};
+ghost use Rattle.std.specs.List.{All};
+ghost use Rattle.ascii_grid.specs.GridText.{spelled_cell, height_fault, end_fault, grid_of};
+ghost use Rattle.ascii_grid.specs.Meaning.{meaning_of};
+ghost use Rattle.ascii_grid.specs.Reading.{flat, IsHeaderOf, AreHeights, HasJudged, IsWordFault, IsEndFault};
+
+use crate::cell::{Meaning, cell, value_cell};
+use crate::fault::{GridFault, Key};
+use crate::header::Header;
+use crate::heights::HeightParser;
+use crate::key::{begins_with_letter, names_centre};
+use decimals::scaled_value;
+use std::alloc::Global;
+use terrain::{Cell, Grid, MOST_WORD_BYTES, Word};
+
+/// The kind of word that comes next.
+#[derive(Clone, Copy)]
+pub(crate) enum Stage {
+    /// A key, or the first height.
+    AtKey,
+    /// The value of this slot; `centre` if its key names a cell's centre.
+    AtValue { key: Key, centre: bool },
+    /// A height.
+    AtHeights,
+}
+
+/// The header and the cells that the words so far have given.
+#[derive(Drop)]
+pub(crate) struct GridBuilder {
+    alloc: Global,
+    pub(crate) scale: u8,
+    header: Header,
+    stage: Stage,
+    // The number of cells, the NODATA word and its value are set when the heights begin.
+    wanted: u32,
+    nodata: Word,
+    nodata_value: Option<i64>,
+    cells: Vec<Cell>,
+}
+
+impl GridBuilder {
+    pub(crate) fn new(alloc: Global, scale: u8) -> Self
+        ensures scale { result.scale ≡ scale }
+        ensures none { HasJudged result [] }
+    {
+        GridBuilder {
+            alloc,
+            scale,
+            header: Header::new(),
+            stage: Stage::AtKey,
+            wanted: 0,
+            nodata: Word::from_bytes(b""),
+            nodata_value: None,
+            cells: Vec::new(alloc),
+        }
+    }
+
+    /// Checks the next word: fills a slot, adds a cell or returns its fault.
+    pub(crate) fn add_word(&mut self, word: &[u8]) -> Result<(), GridFault>
+        ensures scale { self.new.scale ≡ self.old.scale }
+        ensures long { MOST_WORD_BYTES < length word.now → result ≡ Err GridFault.TooLong }
+        ensures word { (ws : List Word) → HasJudged self.old ws → MatchResult result
+            (λ _. HasJudged self.new (ws ++ word.now ∷ []))
+            (IsWordFault self.old.scale (ws ++ word.now ∷ [])) }
+    {
+        if word.len() > MOST_WORD_BYTES {
+            return Err(GridFault::TooLong);
+        }
+        match self.stage {
+            Stage::AtHeights => self.add_height(word),
+            Stage::AtValue { key, centre } => {
+                self.header.put(key, centre, word)?;
+                self.stage = Stage::AtKey;
+                Ok(())
+            }
+            Stage::AtKey => {
+                if begins_with_letter(word) {
+                    let key = self.header.slot_for(word)?;
+                    let centre = names_centre(word);
+                    self.stage = Stage::AtValue { key, centre };
+                    return Ok(());
+                }
+                self.begin_heights()?;
+                self.add_height(word)
+            }
+        }
+    }
+
+    /// Returns the grid that the words spell, or the fault at the text's end.
+    pub(crate) fn finish(mut self) -> Result<Grid, GridFault>
+        requires judged { (ws : List Word) × HasJudged self ws }
+        requires scale { self.scale ≤ 6 }
+        ensures { (ws : List Word) → HasJudged self ws → MatchResult result
+            (λ g. (end_fault ws ≡ None) × (g ≡ grid_of self.scale ws)) (IsEndFault ws) }
+    {
+        match self.stage {
+            Stage::AtValue { key, .. } => Err(GridFault::NoValue(key)),
+            Stage::AtKey => {
+                // The text's end ends the header: `MissingKey` and `Memory` come before `TooFew`.
+                self.begin_heights()?;
+                Err(GridFault::TooFew(0))
+            }
+            Stage::AtHeights => {
+                let place = self.cells.len();
+                if place < self.wanted as usize {
+                    return Err(GridFault::TooFew(place as u32));
+                }
+                Ok(
+                    self.header
+                        .into_grid(self.alloc, self.scale, self.nodata, self.cells),
+                )
+            }
+        }
+    }
+
+    /// Ends the header and allocates the cells, or returns `MissingKey` or `Memory`.
+    fn begin_heights(&mut self) -> Result<(), GridFault>
+        ensures kept { self.new ≡ record self.old {
+          stage = self.new.stage;
+          wanted = self.new.wanted;
+          nodata = self.new.nodata;
+          nodata_value =
+              self.new.nodata_value;
+          cells = self.new.cells;
+        } }
+        ensures stage { IfOk result (λ _. self.new.stage ≡ Stage.AtHeights) }
+        ensures none { (ps : List (Word × Word)) → IsHeaderOf self.old.header ps →
+            MatchResult result
+            (λ _. AreHeights self.new ps [])
+            (λ f. (missing_fault (flat ps) ≡ Some f)
+            ⊎ ((f ≡ GridFault.Memory) × (missing_fault (flat ps) ≡ None))) }
+    {
+        self.wanted = self.header.cells_wanted()?;
+        self.nodata = self.header.nodata_word();
+        self.nodata_value = scaled_value(self.scale, self.nodata.as_bytes());
+        let Ok(cells) = Vec::with_capacity(self.alloc, self.wanted as usize) else {
+            return Err(GridFault::Memory);
+        };
+        self.cells = cells;
+        self.stage = Stage::AtHeights;
+        Ok(())
+    }
+
+    #[inline(never)]
+    fn add_height(&mut self, word: &[u8]) -> Result<(), GridFault>
+        requires { length word.now ≤ MOST_WORD_BYTES }
+        ensures kept { self.new ≡ record self.old { cells = self.new.cells } }
+        ensures word { (ps : List (Word × Word)) (hs : List Word) → AreHeights self.old ps hs →
+            MatchResult result (λ _. AreHeights self.new ps (hs ++ word.now ∷ []))
+            (λ f. (f ≡ GridFault.Memory)
+            ⊎ (height_fault self.old.scale (flat ps) (length hs) word.now ≡ Some f)) }
+    {
+        let meaning = cell(self.scale, self.nodata.as_bytes(), self.nodata_value, word);
+        self.add_cell(meaning)
+    }
+
+    /// Checks the next height by its scaled value, and adds its cell.
+    #[inline(always)]
+    pub(crate) fn add_height_value(&mut self, value: i64) -> Result<(), GridFault>
+        ensures kept { self.new ≡ record self.old { cells = self.new.cells } }
+        ensures word { (ps : List (Word × Word)) (hs : List Word) (word : Word) →
+            AreHeights self.old ps hs →
+            length word ≤ MOST_WORD_BYTES → scaled_value self.old.scale word ≡ Some value →
+            MatchResult result (λ _. AreHeights self.new ps (hs ++ word ∷ []))
+            (λ f. (f ≡ GridFault.Memory)
+            ⊎ (height_fault self.old.scale (flat ps) (length hs) word ≡ Some f)) }
+    {
+        let meaning = value_cell(value, self.nodata_value);
+        self.add_cell(meaning)
+    }
+
+    /// Adds the cell of the next height, or returns its fault.
+    #[inline(always)]
+    fn add_cell(&mut self, meaning: Meaning) -> Result<(), GridFault>
+        ensures kept { self.new ≡ record self.old { cells = self.new.cells } }
+        ensures word { (ps : List (Word × Word)) (hs : List Word) (word : Word) →
+            AreHeights self.old ps hs →
+            length word ≤ MOST_WORD_BYTES →
+            meaning ≡ meaning_of self.old.scale self.old.nodata word →
+            MatchResult result (λ _. AreHeights self.new ps (hs ++ word ∷ []))
+            (λ f. (f ≡ GridFault.Memory)
+            ⊎ (height_fault self.old.scale (flat ps) (length hs) word ≡ Some f)) }
+    {
+        let place = self.cells.len();
+        if place >= self.wanted as usize {
+            return Err(GridFault::TooMany);
+        }
+        let Meaning::Cell(cell) = meaning else {
+            return Err(GridFault::BadHeight(place as u32));
+        };
+        // Never fails, since the capacity is at least `wanted`; that is not proved here.
+        if self.cells.push(cell).is_err() {
+            return Err(GridFault::Memory);
+        }
+        Ok(())
+    }
+
+    /// Returns the scale and the NODATA word, for jobs that parse heights.
+    pub(crate) fn height_parser(&self) -> HeightParser
+        requires { self.now.scale ≤ 6 }
+        ensures { result ≡ record { scale = self.now.scale; nodata = self.now.nodata } }
+    {
+        HeightParser::new(self.scale, self.nodata.copy())
+    }
+
+    /// Adds the cells of the next heights. Returns whether it added them.
+    ///
+    /// It adds none if `form` has another scale or NODATA word, or if the cells are too many.
+    pub(crate) fn add_cells(&mut self, form: &HeightParser, cells: &[Cell]) -> bool
+        ensures kept { self.new ≡ record self.old { cells = self.new.cells } }
+        ensures refused { result ≡ false → self.new ≡ self.old }
+        ensures added { (ps : List (Word × Word)) (hs more : List Word) →
+            AreHeights self.old ps hs →
+            All (IsHeightWord form.now) more →
+            cells.now ≡ map (spelled_cell form.now.scale form.now.nodata) more →
+            IsTrue result → AreHeights self.new ps (hs ++ more) }
+    {
+        // The capacity is at least `wanted`; the `min` shows that adding the cells cannot fail.
+        let most = (self.wanted as usize).min(self.cells.capacity());
+        let place = self.cells.len();
+        if place > most || cells.len() > most - place {
+            return false;
+        }
+        if !form.is_of(self.scale, self.nodata.as_bytes()) {
+            return false;
+        }
+        self.cells.extend_from_slice(cells).is_ok()
+    }
+
+    #[inline(always)]
+    pub(crate) fn is_at_heights(&self) -> bool
+        ensures { IsTrue result ↔ (self.now.stage ≡ Stage.AtHeights) }
+    {
+        matches!(self.stage, Stage::AtHeights)
+    }
+}

@@ -1,0 +1,177 @@
+//! Splits a text into words, and passes each to `GridBuilder`.
+//!
+//! A word is judged once a separator ends it, so it does not matter where the text is cut into
+//! pieces.
+ghost use Rattle.std.specs.Prelude.{◌≡◌, ℕ, ◌≤◌, ◌++◌, [], ◌∷◌, ◌<◌, List, length, take, IfOk, IfSome, IsTrue, ◌↔◌, false, MatchResult};
+ghost use Rattle.terrain.specs.Words.{is_separator, words, ended_words};
+ghost use Rattle.ascii_grid.specs.Header.{header_words, nodata_for};
+ghost use Rattle.ascii_grid.specs.HeightList.{AreCells};
+ghost use Rattle.ascii_grid.specs.Reading.{HasJudged, HasWords, IsWordFault};
+
+use crate::builder::{GridBuilder, Stage};
+use crate::fault::GridFault;
+use crate::heights::HeightParser;
+use crate::page::Buffer;
+use decimals::plain_number;
+use std::alloc::Global;
+use terrain::{Cell, MOST_WORD_BYTES};
+
+/// How many bytes of an unfinished word are kept: one more than a word may have.
+const KEPT_BYTES: usize = MOST_WORD_BYTES + 1;
+
+/// The header and cells of the ended words, and the front of the unfinished word.
+#[derive(Drop)]
+pub(crate) struct Tokenizer {
+    pub(crate) builder: GridBuilder,
+    word: Buffer<KEPT_BYTES>,
+}
+
+impl Tokenizer {
+    pub(crate) fn new(alloc: Global, scale: u8) -> Self
+        ensures scale { result.builder.scale ≡ scale }
+        ensures none { HasWords result [] }
+    {
+        Tokenizer {
+            builder: GridBuilder::new(alloc, scale),
+            word: Buffer::new(),
+        }
+    }
+
+    /// Splits the next bytes of the text, and judges each word that ends in them.
+    pub(crate) fn take_all(&mut self, bytes: &[u8]) -> Result<(), GridFault>
+        requires { self.old.builder.scale ≤ 6 }
+        ensures scale { self.new.builder.scale ≡ self.old.builder.scale }
+        ensures words { (text : List ℕ) → HasWords self.old text → MatchResult result
+            (λ _. HasWords self.new (text ++ bytes.now))
+            (λ f. (n : ℕ) × (n ≤ length bytes.now)
+            × IsWordFault self.old.builder.scale (ended_words (text ++ take n bytes.now)) f) }
+    {
+        let mut at = 0;
+        while at < bytes.len() {
+            at += self.take_some(&bytes[at..])?;
+        }
+        Ok(())
+    }
+
+    /// Reads a height by the fast path, else one byte. Returns the length.
+    #[inline(always)]
+    fn take_some(&mut self, rest: &[u8]) -> Result<usize, GridFault>
+        requires some { 0 < length rest.now }
+        requires scale { self.old.builder.scale ≤ 6 }
+        ensures scale { self.new.builder.scale ≡ self.old.builder.scale }
+        ensures taken { IfOk result (λ n. (0 < n) × (n ≤ length rest.now)) }
+        ensures words { (text : List ℕ) → HasWords self.old text → MatchResult result
+            (λ n. HasWords self.new (text ++ take n rest.now))
+            (λ f. (n : ℕ) × (n ≤ length rest.now)
+            × IsWordFault self.old.builder.scale (ended_words (text ++ take n rest.now)) f) }
+    {
+        let taken = self.take_plain(rest)?;
+        if taken != 0 {
+            return Ok(taken);
+        }
+        self.take(rest[0])?;
+        Ok(1)
+    }
+
+    /// Fast path for a height that [`plain_number`] parses, and its separator.
+    ///
+    /// Returns their length, or 0 if anything else comes next.
+    #[inline(always)]
+    fn take_plain(&mut self, rest: &[u8]) -> Result<usize, GridFault>
+        requires { self.old.builder.scale ≤ 6 }
+        ensures scale { self.new.builder.scale ≡ self.old.builder.scale }
+        ensures taken { IfOk result (λ n. n ≤ length rest.now) }
+        ensures words { (text : List ℕ) → HasWords self.old text → MatchResult result
+            (λ n. HasWords self.new (text ++ take n rest.now))
+            (λ f. (n : ℕ) × (n ≤ length rest.now)
+            × IsWordFault self.old.builder.scale (ended_words (text ++ take n rest.now)) f) }
+    {
+        if !self.is_between_heights() {
+            return Ok(0);
+        }
+        let Some((len, value)) = plain_number(self.builder.scale, rest) else {
+            return Ok(0);
+        };
+        if len == rest.len() || !is_separator(rest[len]) {
+            return Ok(0);
+        }
+        self.builder.add_height_value(value)?;
+        Ok(len + 1)
+    }
+
+    #[inline(never)]
+    fn take(&mut self, byte: u8) -> Result<(), GridFault>
+        ensures scale { self.new.builder.scale ≡ self.old.builder.scale }
+        ensures words { (text : List ℕ) → HasWords self.old text → MatchResult result
+            (λ _. HasWords self.new (text ++ byte ∷ []))
+            (IsWordFault self.old.builder.scale (ended_words (text ++ byte ∷ []))) }
+    {
+        if is_separator(byte) {
+            return self.end_word();
+        }
+        if self.word.has_room(1) {
+            self.word.push_byte(byte);
+        }
+        Ok(())
+    }
+
+    /// Between two heights, returns what jobs need to parse the next ones; else `None`.
+    pub(crate) fn height_parser(&self) -> Option<HeightParser>
+        requires { self.now.builder.scale ≤ 6 }
+        ensures scale { IfSome result (λ form. form.scale ≡ self.now.builder.scale) }
+        ensures nodata { (text : List ℕ) → HasWords self.now text →
+            IfSome result (λ form. form.nodata ≡ nodata_for (header_words (ended_words text))) }
+    {
+        if self.is_between_heights() {
+            Some(self.builder.height_parser())
+        } else {
+            None
+        }
+    }
+
+    /// Adds the cells of bytes that a job has parsed. Returns whether it added them.
+    pub(crate) fn take_cells(&mut self, form: &HeightParser, cells: &[Cell]) -> bool
+        ensures scale { self.new.builder.scale ≡ self.old.builder.scale }
+        ensures refused { result ≡ false → self.new ≡ self.old }
+        ensures words { (text piece : List ℕ) → HasWords self.old text →
+            AreCells form.now piece cells.now →
+            IsTrue result → HasWords self.new (text ++ piece) }
+    {
+        if !self.is_between_heights() {
+            return false;
+        }
+        self.builder.add_cells(form, cells)
+    }
+
+    /// Whether the next word is a height, and no byte of it has been read.
+    #[inline(always)]
+    fn is_between_heights(&self) -> bool
+        ensures { IsTrue result
+            ↔ ((self.now.builder.stage ≡ Stage.AtHeights) × (self.now.word ≡ [])) }
+    {
+        self.builder.is_at_heights() && self.word.as_bytes().is_empty()
+    }
+
+    /// Judges the unfinished word, if there is one.
+    pub(crate) fn end_word(&mut self) -> Result<(), GridFault>
+        ensures scale { self.new.builder.scale ≡ self.old.builder.scale }
+        ensures words { (text : List ℕ) → HasWords self.old text → MatchResult result
+            (λ _. (self.new.word ≡ []) × HasJudged self.new.builder (words text))
+            (IsWordFault self.old.builder.scale (words text)) }
+    {
+        if self.word.as_bytes().is_empty() {
+            return Ok(());
+        }
+        self.builder.add_word(self.word.as_bytes())?;
+        self.word.clear();
+        Ok(())
+    }
+}
+
+/// Whether a byte is a separator: space, tab, line feed or carriage return.
+#[inline(always)]
+pub fn is_separator(byte: u8) -> bool
+    ensures { result ≡ is_separator byte }
+{
+    byte == b' ' || byte == b'\t' || byte == b'\n' || byte == b'\r'
+}

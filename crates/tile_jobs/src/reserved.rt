@@ -1,0 +1,15 @@
+//! Pushes to lists that already have the capacity.
+ghost use Rattle.std.specs.Prelude.{◌≡◌, suc, ◌<◌, ◌≤◌, [], ◌∷◌, ◌++◌, vec_len, vec_capacity};
+
+/// Pushes an element to a list with spare capacity. Never allocates.
+pub(crate) fn put<T: Drop>(list: &mut Vec<T>, x: T)
+    requires { vec_len list.old < vec_capacity list.old }
+    ensures items { list.new.items ≡ list.old.items ++ x ∷ [] }
+    ensures len { vec_len list.new ≡ suc (vec_len list.old) }
+    ensures capacity { vec_capacity list.old ≤ vec_capacity list.new }
+{
+    match list.push(x) {
+        Ok(()) => {}
+        Err(_) => unreachable!(),
+    }
+}
