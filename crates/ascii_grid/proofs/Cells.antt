@@ -26,7 +26,7 @@ nodata_by_value d nodata w z e =
       | inr other ↦ rw (other, e) refl
     ]
 
--- a height other than NODATA's value means a cell of this height
+-- a word whose scaled value is a height other than NODATA's value means a cell of that height
 pub meaning_of_height : (d : ℕ) (nodata w : Word) (z : ℤ) → scaled_value d w ≡ Some z → same_value (Some z) (scaled_value d nodata) ≡ false → is_height z ≡ true → Cell (Some z) ≡ meaning_of d nodata w
 meaning_of_height d nodata w z e other high =
     let is : is_nodata d nodata w ≡ false = nodata_by_value d nodata w z e ∙ other in
@@ -34,7 +34,7 @@ meaning_of_height d nodata w z e other high =
     let value : spelled_cell d nodata w ≡ Some z = rw (is, e) refl in
     rw (cell, value) refl
 
--- a word that means a cell spells it
+-- if `cond b` of a cell and nothing is a cell, it is that cell, and `b` is true
 pub meaning_cell : (b : Bool) (c cell : Option ℤ) → cond b (Cell c) Nothing ≡ Cell cell → (b ≡ true) × (c ≡ cell)
 meaning_cell true c cell e = (refl, cc)
 meaning_cell false c cell e = cc

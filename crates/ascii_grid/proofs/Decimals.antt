@@ -27,7 +27,7 @@ last_digits-front (suc k) n =
     ap (λ ds. ds ++ (48 + n % 10) ∷ []) (last_digits-front k (n / 10))
     ∙ ap (λ m. (48 + m % 10) ∷ last_digits (suc k) n) (div_pow n k)
 
--- one more digit before the last k digits
+-- one more digit stored before the last k digits makes the last k + 1
 pub digit_before : (k n left at : ℕ) (buffer : List ℕ) → left ≡ n / 10 ^ k → at < length buffer → drop (at + 1) buffer ≡ last_digits k n → drop at (set buffer at (48 + left % 10)) ≡ last_digits (k + 1) n
 digit_before k n left at buffer e h d =
     drop-set_at buffer at at (48 + left % 10) refl h
@@ -97,7 +97,7 @@ length-last_digits (suc d) n =
     let e = length-last_digits d (n / 10) in
     omega (arith, e, length-append (last_digits d (n / 10)) ((48 + n % 10) ∷ []))
 
--- the whole part and the decimals, read as one number
+-- the whole part and the decimals of a number, read as one number, are that number
 pub scaled_digits : (d n : ℕ) → n < 2 ^ 64 → number_of (decimal (n / 10 ^ d) ++ last_digits d n) ≡ n
 scaled_digits zero n h = ap number_of (append-nil (decimal (n / 10 ^ 0))) ∙ ap (λ m. number_of (decimal m)) (div-one n) ∙ decimal_value n h
 scaled_digits (suc d) n h =

@@ -22,7 +22,7 @@ use Rattle.ascii_grid.proofs.JudgedWords.{at_heights, is_memory, word_fault, lon
 
 -- ---- the bytes kept
 
--- a byte is kept while there is room
+-- a byte that fits, added to the kept front of a word, makes the front of the longer word
 pub kept_more : (w front : Word) (b : ℕ) → front ≡ take 65 w → length front + 1 ≤ 65 → front ++ b ∷ [] ≡ take 65 (w ++ b ∷ [])
 kept_more w front b e h =
     let short : length w ≤ 64 = omega (arith, h, ap length e, length-take 65 w) in
@@ -117,7 +117,7 @@ parted_ended p text h e =
     let last : h.last ≡ [] = nil_from_length h.last (omega (arith, ap length (sym h.front ∙ e), length-take 65 h.last)) in
     subst (λ z. IsParted text h.ended z) last h.parted
 
--- a plain height in a piece, and the separator after it
+-- a plain height in a piece, and the separator after it, are read as one more ended word
 pub plain_word : {T : Type 0} (p : Tokenizer) (j : GridBuilder) (text bytes : List ℕ) (len b : ℕ) (value : ℤ) (r : Result T GridFault) → HasWords p text → p.word ≡ [] → p.builder.stage ≡ AtHeights → IsPlain p.builder.scale bytes len value → len < length bytes → b ≡ get_or bytes len 0 → is_separator b ≡ true → j.header ≡ p.builder.header → j.stage ≡ p.builder.stage
     → ((ps : Pairs) (hs : List Word) (w : Word) → AreHeights p.builder ps hs → length w ≤ 64 → scaled_value p.builder.scale w ≡ Some value → MatchResult r (λ _. AreHeights j ps (hs ++ w ∷ [])) (λ f. (f ≡ Memory) ⊎ (height_fault p.builder.scale (flat ps) (length hs) w ≡ Some f)))
     → MatchResult r (λ _. HasWords (record p { builder = j }) (text ++ take (len + 1) bytes)) (λ f. (n : ℕ) × (n ≤ length bytes) × IsWordFault p.builder.scale (ended_words (text ++ take n bytes)) f)

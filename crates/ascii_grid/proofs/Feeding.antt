@@ -144,7 +144,7 @@ end_refused d text f short h =
     (λ asks. asked text short asks.0)
     (λ g e. few_fault d text short ∙ ap (λ o. option_or o (end_fault (words text))) e) h
 
--- the result at the end, where no word has a fault
+-- where no word has a fault, the result at the end is the grid of the text or a refusal of it
 pub finished : (d : ℕ) (text : List ℕ) (r : Result Raster GridFault) → length text ≤ most_bytes → words_fault d (words text) ≡ None → MatchResult r (λ g. (end_fault (words text) ≡ None) × (g ≡ grid_of d (words text))) (IsEndFault (words text)) → MatchResult r (IsGridText d text) (IsRefusal d text)
 finished d text r short none m =
     let reported = few_fault d text short ∙ ap (λ o. option_or o (end_fault (words text))) none in
@@ -187,7 +187,7 @@ fed_fault r text piece within f cut none h fault =
     subst (λ t. IsRefusalSoFar r.words.builder.scale t f) (sym more)
     (refusal_stays r.words.builder.scale (text ++ take at.0 part) (drop at.0 part ++ drop within piece) f (refused r.words.builder.scale (text ++ take at.0 part) f size at.2))
 
--- a piece that makes the text too long
+-- a piece that makes the text too long has the fault `TooLong`, if no ended word has one
 pub fed_long : (r : Reader) (p : Tokenizer) (text piece : List ℕ) (within : ℕ) → within ≡ min (length piece) (most_bytes - r.count) → r.fault ≡ None → HasTaken r text → within < length piece → ((t : List ℕ) → HasWords r.words t → HasWords p (t ++ take within piece)) → fault_so_far p.builder.scale (text ++ piece) ≡ Some TooLong
 fed_long r p text piece within cut none h over next =
     let k = reading r text none h in
@@ -197,7 +197,7 @@ fed_long r p text piece within cut none h over next =
     many_so_far p.builder.scale (text ++ piece) longer
     ∙ ap (λ o. option_or o (Some TooLong)) (ap (λ z. words_fault p.builder.scale (ended_words z)) in_time ∙ read_none p (text ++ take within piece) (next text k.words_of))
 
--- a piece without a fault
+-- after a piece without a fault, the reader holds the words of the text with the piece
 pub fed_all : (r r' : Reader) (text piece : List ℕ) → r.fault ≡ None → HasTaken r text → length piece ≤ most_bytes - r.count → ((t : List ℕ) → HasWords r.words t → HasWords r'.words (t ++ piece)) → r'.words.builder.scale ≡ r'.scale → r'.count ≡ r.count + length piece → IsReading r' (text ++ piece)
 fed_all r r' text piece none h few next scale count =
     let k = reading r text none h in
@@ -213,13 +213,13 @@ pub fed_whole : (r r' : Reader) (text piece : List ℕ) (within : ℕ) → withi
 fed_whole r r' text piece within cut none h all next scale count =
     fed_all r r' text piece none h (omega (arith, cut, all)) (λ t was. subst (λ z. HasWords r'.words (t ++ z)) (take_all within piece all) (next t was)) scale (omega (arith, cut, all, count))
 
--- what a reader has read has no fault so far
+-- a text whose words a reader holds has no fault so far
 pub faultless : (r : Reader) (text : List ℕ) → IsReading r text → fault_so_far r.scale text ≡ None
 faultless r text h = rw (← h.same_scale) (few_so_far r.words.builder.scale text h.short ∙ read_none r.words text h.words_of)
 
 -- ---- one piece after another
 
--- What a reader has taken says whether its text has a fault so far.
+-- If a result is the reader's fault, then `Ok` means no fault of the text so far, `Err` a refusal.
 has_fault : {T : Type 0} (b : Reader) (text : List ℕ) (r : Result T GridFault)
     → b.fault ≡ result_err r → HasTaken b text
     → OnOk r (fault_so_far b.scale text ≡ None) × IfErr r (λ f. IsRefusalSoFar b.scale text f)
@@ -248,7 +248,7 @@ Feeds-more a b c front piece r h k = Feeds-taken a c (front ++ piece) r (k.scale
     (λ text was. rw (← append_assoc text front piece) (k.taken (text ++ front) (h.taken text was)))
     k.fault (λ f e. absurd (let no = h.again f e in cc))
 
--- after a fault, the rest is not read
+-- a fault in the front of a piece is the result for the whole piece
 pub Feeds-stopped : {T : Type 0} (a b : Reader) (front more : List ℕ) (f : GridFault) → Feeds {T = T} a b front (Err f) → Feeds {T = T} a b (front ++ more) (Err f)
 Feeds-stopped a b front more f h = Feeds-taken a b (front ++ more) (Err f) h.scale (λ text was.
     rw (← append_assoc text front more)

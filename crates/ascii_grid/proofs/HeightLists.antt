@@ -1,4 +1,4 @@
--- Cells parsed apart from the rest of a text: one more word, and how they are added.
+-- Cells parsed without the text before them: one more word, and adding them to a grid.
 use Rattle.std.proofs.Common.{◌≡◌, ℕ, ◌+◌, ◌<◌, ◌≤◌, ℤ, true, false, List, [], ◌∷◌, ◌++◌, length, take, get_or, map, Option, None, Some, Bool, zero, suc, inl, inr, arith, refl, ap, sym, ◌∙◌, subst}
 use Rattle.std.specs.Prelude.{filter}
 use Rattle.std.specs.Option.{option_or}
@@ -11,7 +11,7 @@ use Rattle.std.proofs.lemmas.List.Quantifiers.{position-Some}
 use Rattle.terrain.specs.Words.{Word, is_word, is_separator, words, ended_words}
 use Rattle.ascii_grid.specs.Header.{nodata_for, header_words, missing_fault}
 use Rattle.ascii_grid.specs.GridText.{is_cell, spelled_cell, cells_wanted, heights_fault}
-use Rattle.ascii_grid.specs.HeightList.{Form, IsHeightWord, AreCells, IsEndedWord}
+use Rattle.ascii_grid.specs.HeightList.{ParserSettings, IsHeightWord, AreCells, IsEndedWord}
 use Rattle.ascii_grid.specs.Reading.{flat, IsParted, HasWords, AreHeights}
 use Rattle.ascii_grid.specs.declared.builder.GridBuilder.{GridBuilder}
 use Rattle.ascii_grid.specs.declared.builder.Stage.TheVariants.{AtHeights}
@@ -47,28 +47,28 @@ IsParted-ended bytes e = let at = parted bytes in only_ended bytes bytes [] at.0
 pub words-ended : (bytes : List ℕ) (ws : List Word) → IsParted bytes ws [] → words bytes ≡ ws
 words-ended bytes ws h = words-parted bytes ws [] h ∙ append-nil ws
 
-AreCells-parted : (form : Form) (bytes : List ℕ) (ws : List Word) (cells : List (Option ℤ)) → IsParted bytes ws [] → All (IsHeightWord form) ws → cells ≡ map (spelled_cell form.scale form.nodata) ws → AreCells form bytes cells
-AreCells-parted form bytes ws cells h heights are =
+AreCells-parted : (parser : ParserSettings) (bytes : List ℕ) (ws : List Word) (cells : List (Option ℤ)) → IsParted bytes ws [] → All (IsHeightWord parser) ws → cells ≡ map (spelled_cell parser.scale parser.nodata) ws → AreCells parser bytes cells
+AreCells-parted parser bytes ws cells h heights are =
     let all = words-ended bytes ws h in
     record {
       ended = h.ended ∙ sym all;
-      heights = subst (All (IsHeightWord form)) (sym all) heights;
-      are = are ∙ ap (map (spelled_cell form.scale form.nodata)) (sym all);
+      heights = subst (All (IsHeightWord parser)) (sym all) heights;
+      are = are ∙ ap (map (spelled_cell parser.scale parser.nodata)) (sym all);
     }
 
 -- ---- more bytes
 
-pub AreCells-separator : (form : Form) (bytes : List ℕ) (cells : List (Option ℤ)) (b : ℕ) → is_separator b ≡ true → AreCells form bytes cells → AreCells form (bytes ++ b ∷ []) cells
-AreCells-separator form bytes cells b e h =
-    AreCells-parted form (bytes ++ b ∷ []) (words bytes) cells (IsParted-separator bytes (words bytes) [] b (IsParted-ended bytes h.ended) e) h.heights h.are
+pub AreCells-separator : (parser : ParserSettings) (bytes : List ℕ) (cells : List (Option ℤ)) (b : ℕ) → is_separator b ≡ true → AreCells parser bytes cells → AreCells parser (bytes ++ b ∷ []) cells
+AreCells-separator parser bytes cells b e h =
+    AreCells-parted parser (bytes ++ b ∷ []) (words bytes) cells (IsParted-separator bytes (words bytes) [] b (IsParted-ended bytes h.ended) e) h.heights h.are
 
-pub AreCells-word : (form : Form) (bytes rest : List ℕ) (cells : List (Option ℤ)) (len : ℕ) (cell : Option ℤ) → IsEndedWord rest len → is_cell form.scale form.nodata (take len rest) ≡ true → spelled_cell form.scale form.nodata (take len rest) ≡ cell → AreCells form bytes cells → AreCells form (bytes ++ take (len + 1) rest) (cells ++ cell ∷ [])
-AreCells-word form bytes rest cells len cell word is value h =
+pub AreCells-word : (parser : ParserSettings) (bytes rest : List ℕ) (cells : List (Option ℤ)) (len : ℕ) (cell : Option ℤ) → IsEndedWord rest len → is_cell parser.scale parser.nodata (take len rest) ≡ true → spelled_cell parser.scale parser.nodata (take len rest) ≡ cell → AreCells parser bytes cells → AreCells parser (bytes ++ take (len + 1) rest) (cells ++ cell ∷ [])
+AreCells-word parser bytes rest cells len cell word is value h =
     let w = take len rest in
-    AreCells-parted form (bytes ++ take (len + 1) rest) (words bytes ++ w ∷ []) (cells ++ cell ∷ [])
+    AreCells-parted parser (bytes ++ take (len + 1) rest) (words bytes ++ w ∷ []) (cells ++ cell ∷ [])
     (parted_word bytes rest (words bytes) len (get_or rest len 0) (IsParted-ended bytes h.ended) word.whole word.some word.within refl word.ends)
-    (All-push (IsHeightWord form) (words bytes) w h.heights (record { short = omega (arith, word.short, length-take len rest); cell = is }))
-    (ap (λ z. z ++ cell ∷ []) h.are ∙ ap (λ x. map (spelled_cell form.scale form.nodata) (words bytes) ++ x ∷ []) (sym value) ∙ sym (map_push (spelled_cell form.scale form.nodata) (words bytes) w))
+    (All-push (IsHeightWord parser) (words bytes) w h.heights (record { short = omega (arith, word.short, length-take len rest); cell = is }))
+    (ap (λ z. z ++ cell ∷ []) h.are ∙ ap (λ x. map (spelled_cell parser.scale parser.nodata) (words bytes) ++ x ∷ []) (sym value) ∙ sym (map_push (spelled_cell parser.scale parser.nodata) (words bytes) w))
 
 -- ---- a word in front of the first separator
 
@@ -117,30 +117,30 @@ IsParted-more text piece ws h e =
 
 -- ---- adding the cells
 
-heights_none : (form : Form) (d : ℕ) (header : List Word) (place : ℕ) (more : List Word) → form.scale ≡ d → form.nodata ≡ nodata_for header → missing_fault header ≡ None → place + length more ≤ cells_wanted header → All (IsHeightWord form) more → heights_fault d header place more ≡ None
-heights_none form d header place [] scale nodata whole room h = refl
-heights_none form d header place (w ∷ more) scale nodata whole room h =
-    let first = All-head (IsHeightWord form) w more h in
-    let is : is_cell d (nodata_for header) w ≡ true = subst (λ n. is_cell d n w ≡ true) nodata (subst (λ x. is_cell x form.nodata w ≡ true) scale first.cell) in
+heights_none : (parser : ParserSettings) (d : ℕ) (header : List Word) (place : ℕ) (more : List Word) → parser.scale ≡ d → parser.nodata ≡ nodata_for header → missing_fault header ≡ None → place + length more ≤ cells_wanted header → All (IsHeightWord parser) more → heights_fault d header place more ≡ None
+heights_none parser d header place [] scale nodata whole room h = refl
+heights_none parser d header place (w ∷ more) scale nodata whole room h =
+    let first = All-head (IsHeightWord parser) w more h in
+    let is : is_cell d (nodata_for header) w ≡ true = subst (λ n. is_cell d n w ≡ true) nodata (subst (λ x. is_cell x parser.nodata w ≡ true) scale first.cell) in
     ap (λ o. option_or o (heights_fault d header (place + 1) more)) (height_fault-none d header place w first.short whole (omega (arith, room)) is)
-    ∙ heights_none form d header (place + 1) more scale nodata whole (omega (arith, room)) (All-tail (IsHeightWord form) w more h)
+    ∙ heights_none parser d header (place + 1) more scale nodata whole (omega (arith, room)) (All-tail (IsHeightWord parser) w more h)
 
-pub AreHeights-more : (j j' : GridBuilder) (ps : Pairs) (hs more : List Word) (form : Form) (cells : List (Option ℤ)) → AreHeights j ps hs → form.scale ≡ j.scale → form.nodata ≡ j.nodata → All (IsHeightWord form) more → cells ≡ map (spelled_cell form.scale form.nodata) more → length j.cells.items + length cells ≤ j.wanted → j'.wanted ≡ j.wanted → j'.nodata ≡ j.nodata → j'.nodata_value ≡ j.nodata_value → j'.scale ≡ j.scale → j'.cells.items ≡ j.cells.items ++ cells → AreHeights j' ps (hs ++ more)
-AreHeights-more j j' ps hs more form cells h same_scale same_nodata heights are room wanted nodata value scale all =
-    let size = ap length are ∙ length-map more (spelled_cell form.scale form.nodata) in
-    let known : cells ≡ map (spelled_cell j.scale j.nodata) more = subst (λ n. cells ≡ map (spelled_cell j.scale n) more) same_nodata (subst (λ x. cells ≡ map (spelled_cell x form.nodata) more) same_scale are) in
+pub AreHeights-more : (j j' : GridBuilder) (ps : Pairs) (hs more : List Word) (parser : ParserSettings) (cells : List (Option ℤ)) → AreHeights j ps hs → parser.scale ≡ j.scale → parser.nodata ≡ j.nodata → All (IsHeightWord parser) more → cells ≡ map (spelled_cell parser.scale parser.nodata) more → length j.cells.items + length cells ≤ j.wanted → j'.wanted ≡ j.wanted → j'.nodata ≡ j.nodata → j'.nodata_value ≡ j.nodata_value → j'.scale ≡ j.scale → j'.cells.items ≡ j.cells.items ++ cells → AreHeights j' ps (hs ++ more)
+AreHeights-more j j' ps hs more parser cells h same_scale same_nodata heights are room wanted nodata value scale all =
+    let size = ap length are ∙ length-map more (spelled_cell parser.scale parser.nodata) in
+    let known : cells ≡ map (spelled_cell j.scale j.nodata) more = subst (λ n. cells ≡ map (spelled_cell j.scale n) more) same_nodata (subst (λ x. cells ≡ map (spelled_cell x parser.nodata) more) same_scale are) in
     record {
       whole = h.whole;
       wanted = wanted ∙ h.wanted;
       nodata = nodata ∙ h.nodata;
       value = value ∙ h.value ∙ rw (scale, nodata) refl;
-      faultless = rw scale (heights_fault-append j.scale (flat ps) 0 hs more ∙ ap (λ o. option_or o (heights_fault j.scale (flat ps) (0 + length hs) more)) h.faultless ∙ heights_none form j.scale (flat ps) (0 + length hs) more same_scale (same_nodata ∙ h.nodata) h.whole (omega (arith, place_of j ps hs h, h.wanted, room, size)) heights);
+      faultless = rw scale (heights_fault-append j.scale (flat ps) 0 hs more ∙ ap (λ o. option_or o (heights_fault j.scale (flat ps) (0 + length hs) more)) h.faultless ∙ heights_none parser j.scale (flat ps) (0 + length hs) more same_scale (same_nodata ∙ h.nodata) h.whole (omega (arith, place_of j ps hs h, h.wanted, room, size)) heights);
       cells = all ∙ rw (scale, nodata) (ap (λ z. z ++ cells) h.cells ∙ ap (λ z. map (spelled_cell j.scale j.nodata) hs ++ z) known ∙ sym (map-append (spelled_cell j.scale j.nodata) hs more));
     }
 
--- adding the cells of more bytes, without an unfinished word
-pub HasWords-more : (p p' : Tokenizer) (text piece : List ℕ) (form : Form) (cells : List (Option ℤ)) → HasWords p text → p.word ≡ [] → p.builder.stage ≡ AtHeights → AreCells form piece cells → p'.word ≡ p.word → p'.builder.header ≡ p.builder.header → p'.builder.stage ≡ p.builder.stage → ((ps : Pairs) (hs more : List Word) → AreHeights p.builder ps hs → All (IsHeightWord form) more → cells ≡ map (spelled_cell form.scale form.nodata) more → AreHeights p'.builder ps (hs ++ more)) → HasWords p' (text ++ piece)
-HasWords-more p p' text piece form cells h none stage k word header same judged =
+-- after the cells of a piece are added, the words of the text and the piece have been read
+pub HasWords-more : (p p' : Tokenizer) (text piece : List ℕ) (parser : ParserSettings) (cells : List (Option ℤ)) → HasWords p text → p.word ≡ [] → p.builder.stage ≡ AtHeights → AreCells parser piece cells → p'.word ≡ p.word → p'.builder.header ≡ p.builder.header → p'.builder.stage ≡ p.builder.stage → ((ps : Pairs) (hs more : List Word) → AreHeights p.builder ps hs → All (IsHeightWord parser) more → cells ≡ map (spelled_cell parser.scale parser.nodata) more → AreHeights p'.builder ps (hs ++ more)) → HasWords p' (text ++ piece)
+HasWords-more p p' text piece parser cells h none stage k word header same judged =
     let there = at_heights p.builder h.ended h.judged stage in
     let ps = h.judged.pairs in
     let hs = h.judged.rest in
@@ -152,7 +152,7 @@ HasWords-more p p' text piece form cells h none stage k word header same judged 
       front = word ∙ none;
     }
 
--- the NODATA word in use is the header's
+-- among the heights, the stored NODATA word is the header's
 pub form_nodata : (p : Tokenizer) (text : List ℕ) → HasWords p text → p.builder.stage ≡ AtHeights → p.builder.nodata ≡ nodata_for (header_words (ended_words text))
 form_nodata p text h stage =
     let there = at_heights p.builder h.ended h.judged stage in

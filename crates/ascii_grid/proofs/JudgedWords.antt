@@ -68,7 +68,7 @@ judged-key j j' ws w slot h e short letter s free same stage =
       at = rw stage (w, refl, awaits);
     }
 
--- the fault of a word in a key's place
+-- with one more word in a key's place, the first fault is that of the key
 pub next-key : (j : GridBuilder) (ws : List Word) (w : Word) (h : HasJudged j ws) → j.stage ≡ AtKey → begins_with_letter w ≡ true → words_fault j.scale (ws ++ w ∷ []) ≡ key_fault (keys_before h.pairs []) w
 next-key j ws w h e letter = ap (λ z. words_fault j.scale (z ++ w ∷ [])) (at_key j ws h e) ∙ words_fault-key j.scale h.pairs w h.header.keys h.header.faultless letter
 
@@ -102,7 +102,7 @@ judged-value j j' ws v slot centre h e short ok same stage =
       at = rw stage refl;
     }
 
--- the fault of a word in a value's place
+-- with one more word in a value's place, the first fault is that of the value
 pub next-value : (j : GridBuilder) (ws : List Word) (v : Word) (slot : Key) (centre : Bool) (h : HasJudged j ws) (e : j.stage ≡ AtValue slot centre) → words_fault j.scale (ws ++ v ∷ []) ≡ value_fault (at_value j ws h slot centre e).0 v
 next-value j ws v slot centre h e =
     let there = at_value j ws h slot centre e in
@@ -127,7 +127,7 @@ words-after h ps hs k begun =
 pub paired : (ps : Pairs) → key_left (flat ps) ≡ None
 paired ps = ap key_left (sym (append-nil (flat ps))) ∙ key_left-flat ps []
 
--- once the header is whole, the list of cells is allocated
+-- after a whole header, heights of which the first is not too long ask for the list of cells
 pub asks : (h : Header) (ps : Pairs) (hs : List Word) → IsHeaderOf h ps → HasBegun hs → missing_fault (flat ps) ≡ None → list_any is_long (take 1 hs) ≡ false → AsksForCells (flat ps ++ hs)
 asks h ps hs k begun whole first =
     let are = words-after h ps hs k begun in
@@ -143,7 +143,7 @@ first_short : (d : ℕ) (header hs : List Word) (w : Word) → length w ≤ 64 �
 first_short d header [] w short none = rw (is_short w short) refl
 first_short d header (x ∷ hs) w short none = rw (then_none (is_long x) TooLong _ (or_none (height_fault d header 0 x) _ none).0).0 refl
 
--- more heights after a header
+-- more heights are judged, if all heights have no fault and their cells are stored
 pub judged-heights : (j j' : GridBuilder) (ws : List Word) (ps : Pairs) (hs more : List Word) → IsHeaderOf j.header ps → ws ≡ flat ps ++ hs → HasBegun (hs ++ more) → AreHeights j' ps (hs ++ more) → j'.header ≡ j.header → j'.stage ≡ AtHeights → HasJudged j' (ws ++ more)
 judged-heights j j' ws ps hs more k e begun heights same stage = record {
   pairs = ps;
@@ -161,7 +161,7 @@ next-height d ws ps hs w h k e begun none =
     ∙ ap (λ o. option_or o (height_fault d (flat ps) (0 + length hs) w)) none
     ∙ ap (λ n. height_fault d (flat ps) n w) (omega arith)
 
--- want of memory at a height
+-- a whole header and heights, the last of at most 64 bytes, ask for the list of cells
 pub memory-height : (j : GridBuilder) (ws : List Word) (ps : Pairs) (hs : List Word) (w : Word) (h : Header) → IsHeaderOf h ps → ws ≡ flat ps ++ hs → HasBegun (hs ++ w ∷ []) → missing_fault (flat ps) ≡ None → heights_fault j.scale (flat ps) 0 hs ≡ None → length w ≤ 64 → AsksAtHeight (ws ++ w ∷ [])
 memory-height j ws ps hs w h k e begun whole none short =
     let words : ws ++ w ∷ [] ≡ flat ps ++ (hs ++ w ∷ []) = ap (λ z. z ++ w ∷ []) e ∙ append_assoc (flat ps) hs (w ∷ []) in
@@ -245,7 +245,7 @@ word_fault d ws f other h = reported (AsksAtHeight ws) (words_fault d ws) f (ap 
 pub memory_fault : (d : ℕ) (ws : List Word) (f : GridFault) → f ≡ Memory → AsksAtHeight ws → IsWordFault d ws f
 memory_fault d ws f e h = rw e h
 
--- a word of more than 64 bytes
+-- with one more word, of more than 64 bytes, the first fault is `TooLong`
 pub long_fault : (j : GridBuilder) (ws : List Word) (w : Word) → HasJudged j ws → 64 < length w → words_fault j.scale (ws ++ w ∷ []) ≡ Some TooLong
 long_fault j ws w h far = by_stage j.stage refl
   where
@@ -263,7 +263,7 @@ long_fault j ws w h far = by_stage j.stage refl
         let there = at_heights j ws h e in
         next-height j.scale ws h.pairs h.rest w j.header h.header h.words (HasBegun-more h.rest (w ∷ []) there.0) there.1.faultless ∙ rw long refl
 
--- a height, the first or a later one
+-- one more height is judged: its cell is stored, or its fault or want of memory is returned
 pub height_word : {T : Type 0} (j j' : GridBuilder) (ws : List Word) (ps : Pairs) (hs : List Word) (w : Word) (r : Result T GridFault) → IsHeaderOf j.header ps → ws ≡ flat ps ++ hs → HasBegun (hs ++ w ∷ []) → AreHeights j ps hs → length w ≤ 64 → j'.header ≡ j.header → j'.stage ≡ AtHeights → MatchResult r (λ _. AreHeights j' ps (hs ++ w ∷ [])) (λ f. (f ≡ Memory) ⊎ (height_fault j.scale (flat ps) (length hs) w ≡ Some f)) → MatchResult r (λ _. HasJudged j' (ws ++ w ∷ [])) (IsWordFault j.scale (ws ++ w ∷ []))
 height_word j j' ws ps hs w r k e begun heights short same stage m =
     MatchResult-weaker r m (λ _ more. judged-heights j j' ws ps hs (w ∷ []) k e begun more same stage)
@@ -272,7 +272,7 @@ height_word j j' ws ps hs w r k e begun heights short same stage m =
       | inr fault ↦ word_fault j.scale (ws ++ w ∷ []) f (ap is_memory (sym fault) ∙ not_memory_height j.scale (flat ps) (length hs) w) (next-height j.scale ws ps hs w j.header k e begun heights.faultless ∙ fault)
     ])
 
--- a first height that fails: a header slot is missing, or memory is wanting
+-- at the first height, a missing slot or want of memory is a fault of the words
 pub no_first_height : (j : GridBuilder) (ws : List Word) (w : Word) (f : GridFault) (h : HasJudged j ws) → j.stage ≡ AtKey → begins_with_letter w ≡ false → length w ≤ 64 → (missing_fault (flat h.pairs) ≡ Some f) ⊎ ((f ≡ Memory) × (missing_fault (flat h.pairs) ≡ None)) → IsWordFault j.scale (ws ++ w ∷ []) f
 no_first_height j ws w f h stage begun short why =
     let e = at_key j ws h stage ∙ sym (append-nil (flat h.pairs)) in

@@ -37,7 +37,7 @@ pub is_some-option_map : {X Y : Type 0} (f : X → Y) (o : Option X) → is_some
 is_some-option_map f None = refl
 is_some-option_map f (Some x) = refl
 
--- if the first fault of two is none, both are none
+-- if there is no first fault of two, there is no fault
 pub or_none : {X : Type 0} (o p : Option X) → option_or o p ≡ None → (o ≡ None) × (p ≡ None)
 or_none None p h = (refl, h)
 or_none (Some x) p h = cc
@@ -113,7 +113,7 @@ wanted_of-slots_of ps = rw (pairs-flat ps, number-of_pair (given Ncols ps), numb
 given-push : (s : Key) (ps : Pairs) (k v : Word) → given s (ps ++ (k, v) ∷ []) ≡ option_or (given s ps) (cond (fills s k) (Some (k, v)) None)
 given-push s ps k v = find-append (λ (p : Word × Word). fills s p.0) ps ((k, v) ∷ [])
 
--- two lists of pairs that differ in this slot alone, which the second fills
+-- two lists of pairs that differ in this slot alone, which the second fills with `p`
 abbrev FilledAt : Key → Word × Word → Pairs → Pairs → Type 0
 FilledAt slot p ps qs = (given slot qs ≡ Some p) × ((s : Key) → (s ≡ slot → ⊥) → given s qs ≡ given s ps)
 
@@ -125,7 +125,7 @@ with_value-at Yll p ps qs h = rw (h.0, h.1 Ncols (λ e. cc), h.1 Nrows (λ e. cc
 with_value-at Cellsize p ps qs h = rw (h.0, h.1 Ncols (λ e. cc), h.1 Nrows (λ e. cc), h.1 Xll (λ e. cc), h.1 Yll (λ e. cc), h.1 Nodata (λ e. cc)) refl
 with_value-at Nodata p ps qs h = rw (h.0, h.1 Ncols (λ e. cc), h.1 Nrows (λ e. cc), h.1 Xll (λ e. cc), h.1 Yll (λ e. cc), h.1 Cellsize (λ e. cc)) refl
 
--- one more pair fills its slot
+-- storing a value in its empty slot gives the slots of the pairs with one more
 pub with_value-slots_of : (slot : Key) (ps : Pairs) (k v : Word) → slot_of k ≡ Some slot → is_given (slots_of ps) slot ≡ false → with_value (slots_of ps) slot (is_centre k) v ≡ slots_of (ps ++ (k, v) ∷ [])
 with_value-slots_of slot ps k v h free =
     let none = none_from_is_some (given slot ps) (sym (is_given-slots_of slot ps) ∙ free) in

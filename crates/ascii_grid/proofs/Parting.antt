@@ -57,7 +57,7 @@ before_last-no p xs b h =
 
 -- ---- one more byte
 
--- all words of a text: those that ended, and the last
+-- the words of a text are those that ended, and the last part if it is a word
 pub words-parted : (text : List ℕ) (ws : List Word) (w : Word) → IsParted text ws w → words text ≡ ws ++ filter is_word (w ∷ [])
 words-parted text ws w h =
     ap (filter is_word) h.split ∙ filter-append is_word h.parts (w ∷ []) ∙ ap (λ z. z ++ filter is_word (w ∷ [])) h.kept

@@ -1,4 +1,4 @@
--- One piece after another, from the device to the reader.
+-- Pieces that are read from a device and fed to a reader, one after another.
 use Rattle.std.proofs.Common.{arith, ◌≡◌, ◌≢◌, ◌≤◌, ◌-◌, ◌+◌, ◌++◌, ℕ, List, Option, None, Some, Ok, Err, Result, refl, sym, subst, ◌∙◌}
 use Rattle.std.specs.Prelude.{IfOk}
 use Rattle.std.proofs.lemmas.List.{length-append}
@@ -46,7 +46,7 @@ pub piece_sound : {R : Type 0} (remaining : R → Option (List ℕ)) (old new : 
 piece_sound remaining old new room n r r' step =
     (subst (λ (z : Result (Unit {0}) GridFault). Feeds r r' step.bytes z) step.answered.0 step.feeds).fault
 
--- the bytes read, with those of the last piece
+-- the bytes read before and the bytes of one more piece are at most 2^29 + 1 together
 abbrev takes : {R : Type 0} (remaining : R → Option (List ℕ)) (first old new : Device R) (scale taken room : ℕ) (r r' : Reader) (result : Result (Option ℕ) InputFault) → IsTaking remaining first old scale r taken → ReadsPiece remaining old new r r' room result → room ≤ 536870913 - taken → Takes remaining first new
 takes remaining first old new scale taken room r r' result held step fits = record {
   bytes = held.text ++ step.bytes;
@@ -54,7 +54,7 @@ takes remaining first old new scale taken room r r' result held step fits = reco
   few = omega (arith, length-append held.text step.bytes, held.size, held.room, step.within, fits);
 }
 
--- the end of the text: the result is that of the reader
+-- at the end of the text, a result that is right for the reader's text is right for the device's
 pub pieces_ended : {R : Type 0} (remaining : R → Option (List ℕ)) (first old new : Device R) (scale taken room : ℕ) (r r' : Reader) (result : Result Raster InputFault) → IsTaking remaining first old scale r taken → ReadsPiece remaining old new r r' room (Ok None) → room ≤ 536870913 - taken → ((text : List ℕ) → HasTaken r' text → IfOk result (λ g. IsGridText r'.scale text g)) → ((text : List ℕ) (f : GridFault) → HasTaken r' text → result ≡ Err (Grid f) → IsRefusal r'.scale text f) → result ≢ Err Read → ReadsGrid remaining scale first new result
 pieces_ended remaining first old new scale taken room r r' result held step fits grid fault sound =
     let feeds = subst (λ (z : Result (Unit {0}) GridFault). Feeds r r' step.bytes z) step.answered.0 step.feeds in

@@ -27,7 +27,7 @@ use Rattle.ascii_grid.proofs.Judging.{words-begun}
 use Rattle.ascii_grid.proofs.Feeding.{few_fault}
 use Rattle.ascii_grid.proofs.ReadBackCells.{ReadsAs, reads_cell, no_heights_fault, cells_again}
 
--- the key words of the two positions
+-- the key word of the x position: of a centre or a corner
 abbrev xll_key : Bool → Word
 xll_key x = cond x (codes "xllcenter") (codes "xllcorner")
 
@@ -65,8 +65,8 @@ no_value_faults : (g : Raster) → AreWritten g →
 no_value_faults g h =
     rw (h.cols.short, h.cols.value, h.rows.short, h.rows.value, h.xll.short, h.xll.value, h.yll.short, h.yll.value, h.cellsize.short, h.cellsize.value, h.nodata.short, h.nodata.value) refl
 
--- what is read from a written header
-record Gives (x y : Bool) (g : Raster) (rest : List Word) : Type 0 where
+-- a written header, and then other words, reads back as the header of its grid
+record ReadsBack (x y : Bool) (g : Raster) (rest : List Word) : Type 0 where
   header : header_words rest ≡ [] → header_words (header_and x y g rest) ≡ header_and x y g []
   heights : height_words (header_and x y g rest) ≡ height_words rest
   faultless : AreWritten g → header_fault [] (header_and x y g []) ≡ None
@@ -79,11 +79,11 @@ record Gives (x y : Bool) (g : Raster) (rest : List Word) : Type 0 where
   cellsize : word_for Cellsize (header_and x y g []) ≡ g.cellsize
   nodata : nodata_for (header_and x y g []) ≡ g.nodata
 
-header_gives : (x y : Bool) (g : Raster) (rest : List Word) → Gives x y g rest
-header_gives true true g rest = record { header = λ h. ap (header_and true true g) h; heights = refl; faultless = no_value_faults g; whole = refl; paired = refl; cols = refl; rows = refl; xll = refl; yll = refl; cellsize = refl; nodata = refl }
-header_gives true false g rest = record { header = λ h. ap (header_and true false g) h; heights = refl; faultless = no_value_faults g; whole = refl; paired = refl; cols = refl; rows = refl; xll = refl; yll = refl; cellsize = refl; nodata = refl }
-header_gives false true g rest = record { header = λ h. ap (header_and false true g) h; heights = refl; faultless = no_value_faults g; whole = refl; paired = refl; cols = refl; rows = refl; xll = refl; yll = refl; cellsize = refl; nodata = refl }
-header_gives false false g rest = record { header = λ h. ap (header_and false false g) h; heights = refl; faultless = no_value_faults g; whole = refl; paired = refl; cols = refl; rows = refl; xll = refl; yll = refl; cellsize = refl; nodata = refl }
+header_reads_back : (x y : Bool) (g : Raster) (rest : List Word) → ReadsBack x y g rest
+header_reads_back true true g rest = record { header = λ h. ap (header_and true true g) h; heights = refl; faultless = no_value_faults g; whole = refl; paired = refl; cols = refl; rows = refl; xll = refl; yll = refl; cellsize = refl; nodata = refl }
+header_reads_back true false g rest = record { header = λ h. ap (header_and true false g) h; heights = refl; faultless = no_value_faults g; whole = refl; paired = refl; cols = refl; rows = refl; xll = refl; yll = refl; cellsize = refl; nodata = refl }
+header_reads_back false true g rest = record { header = λ h. ap (header_and false true g) h; heights = refl; faultless = no_value_faults g; whole = refl; paired = refl; cols = refl; rows = refl; xll = refl; yll = refl; cellsize = refl; nodata = refl }
+header_reads_back false false g rest = record { header = λ h. ap (header_and false false g) h; heights = refl; faultless = no_value_faults g; whole = refl; paired = refl; cols = refl; rows = refl; xll = refl; yll = refl; cellsize = refl; nodata = refl }
 
 words-line : (key word value rest : List ℕ) → ((x : List ℕ) → words (key ++ x) ≡ word ∷ words x) → IsClean value → words (line_text key value ++ rest) ≡ word ∷ value ∷ words rest
 words-line key word value rest begins clean =
@@ -100,7 +100,7 @@ words-anchor false corner centre corner_word centre_word value rest begins centr
 regroup_lines : (a b c d e f rest : List ℕ) → (((((a ++ b) ++ c) ++ d) ++ e) ++ f) ++ rest ≡ a ++ (b ++ (c ++ (d ++ (e ++ (f ++ rest)))))
 regroup_lines a b c d e f rest = simp append_assoc
 
--- the words of a grid's header, and then others
+-- the words of a grid's header with its own corners or centres, and then others
 abbrev header_of : Raster → List Word → List Word
 header_of g rest = header_and g.xll.centre g.yll.centre g rest
 
@@ -162,7 +162,7 @@ cells_are_heights d nodata [] reads = (refl, refl)
 cells_are_heights d nodata (c ∷ cells) reads =
     words-begun (map (cell_text (height_text d) nodata) (c ∷ cells)) (All-head (λ x. ReadsAs d nodata x (cell_text (height_text d) nodata x)) c cells reads).begins
 
--- the faults of words, and their grid, by their header and heights
+-- words have no fault if their header and their heights have none
 no_words_fault : (d : ℕ) (ws header heights : List Word) → header_words ws ≡ header → height_words ws ≡ heights → header_fault [] header ≡ None → heights_fault d header 0 heights ≡ None → words_fault d ws ≡ None
 no_words_fault d ws header heights p q none clean = rw (p, q, none) clean
 
@@ -172,13 +172,13 @@ no_end_fault ws header heights p q paired whole enough = rw (p, q, paired, whole
 same_grid : (d : ℕ) (ws header heights : List Word) (g : Raster) → header_words ws ≡ header → height_words ws ≡ heights → size_for Ncols header ≡ g.terrain.cols → size_for Nrows header ≡ g.terrain.rows → map (spelled_cell d (nodata_for header)) heights ≡ g.terrain.cells → anchor_for Xll header ≡ g.xll → anchor_for Yll header ≡ g.yll → word_for Cellsize header ≡ g.cellsize → nodata_for header ≡ g.nodata → d ≡ g.scale → grid_of d ws ≡ raster_with_sinks g []
 same_grid d ws header heights g p q cols rows cells xll yll cellsize nodata scale = rw (p, q, cols, rows, cells, xll, yll, cellsize, nodata, scale) refl
 
--- the text of a lawful grid spells that grid
+-- a lawful grid's text of at most 2^29 bytes spells the grid without its sinks
 pub read_back : (g : Raster) → IsLawful g → length (heights_text g) ≤ most_bytes → IsGridText g.scale (heights_text g) (raster_with_sinks g [])
 read_back g h short =
     let cells = map (cell_text (height_text g.scale) g.nodata) g.terrain.cells in
     let reads = all_read g h in
     let are = cells_are_heights g.scale g.nodata g.terrain.cells reads in
-    let gives = header_gives g.xll.centre g.yll.centre g cells in
+    let gives = header_reads_back g.xll.centre g.yll.centre g cells in
     let header : header_words (words (heights_text g)) ≡ header_of g [] = ap header_words (words_are g h) ∙ gives.header are.0 in
     let heights : height_words (words (heights_text g)) ≡ cells = ap height_words (words_are g h) ∙ gives.heights ∙ are.1 in
     let cols = gives.cols ∙ decimal_value g.terrain.cols (omega (arith, h.terrain.few_cols)) in

@@ -75,7 +75,7 @@ decimal_from_value d w z e = elim (cases_Bool (has_scaled_value d w)) [
   | inr none ↦ let clash : scaled_value d w ≡ None = cond-false _ _ _ none in absurd (cc)
 ]
 
--- the scaled value of a height's text, with or without a sign
+-- a height's digits and point, with or without a sign, have that height as their scaled value
 written_value : (d n : ℕ) (w : Word) → without_sign w ≡ body d n → has_exponent w ≡ false → n ≤ 10 ^ 18 → scaled_value d w ≡ Some (cond (is_negative w) (neg_ℤ (pos n)) (pos n))
 written_value d n w unsigned plain few =
     let small : n < 2 ^ 64 = omega (arith, few) in
@@ -101,7 +101,7 @@ height_value d (pos n) h =
     ∙ ap Some (cond-false (is_negative (body d n)) (neg_ℤ (pos n)) (pos n) bare.1)
 height_value d (negsuc n) h = written_value d (suc n) (45 ∷ body d (suc n)) refl (body_no_mark d (suc n) (omega (arith, h))) (omega (arith, h))
 
--- the digits of the whole part and the decimals are at most 16
+-- the whole part and the decimals of a height have at most 16 digits together
 whole_digits : (d n : ℕ) → d ≤ 6 → n ≤ 10 ^ 15 → length (decimal (n / 10 ^ d)) + d ≤ 16
 whole_digits d n few h =
     let sixteen : 16 - d + d ≡ 16 = omega (arith, few) in
@@ -163,7 +163,7 @@ reads_cell d nodata (Some z) few h height apart =
       value = cond-false (is_nodata d nodata (height_text d z)) None (scaled_value d (height_text d z)) not_nodata ∙ value;
     }
 
--- the words of the cells have no fault, from any place on
+-- the words of the last cells have no fault among the heights
 pub no_heights_fault : (d : ℕ) (header : List Word) (nodata : Word) (place : ℕ) (cells : List (Option ℤ)) → missing_fault header ≡ None → nodata_for header ≡ nodata → place + length cells ≡ cells_wanted header → All (λ c. ReadsAs d nodata c (cell_text (height_text d) nodata c)) cells → heights_fault d header place (map (cell_text (height_text d) nodata) cells) ≡ None
 no_heights_fault d header nodata place [] whole same size reads = refl
 no_heights_fault d header nodata place (c ∷ cells) whole same size reads =

@@ -25,7 +25,7 @@ record PassesNoByte (q : ℕ → Bool) : Type 0 where
   mark : q 101 ≡ false
   capital : q 69 ≡ false
 
--- the position of the first byte that passes
+-- if no byte of xs passes and y does, the first that passes is at the length of xs
 position-at : (p : ℕ → Bool) (xs ys : List ℕ) (y : ℕ) → list_any p xs ≡ false → p y ≡ true → position_or_len p (xs ++ y ∷ ys) ≡ length xs
 position-at p [] ys y h k = rw k refl
 position-at p (x ∷ xs) ys y h k = let parts = or_parts (p x) (list_any p xs) h in rw parts.0 (omega (arith, position-at p xs ys y parts.1 k))
@@ -55,7 +55,7 @@ list_any-around p q w xs h k =
       | inr none ↦ ap (list_any q) (sym (take_all (position_or_len p xs) xs none)) ∙ h
     ]
 
--- a property of either of two bytes
+-- a property that two bytes have holds for a byte that is one of the two
 one_of : (P : ℕ → Type 0) (b m n : ℕ) → (b == m || b == n) ≡ true → P m → P n → P b
 one_of P b m n h x y = elim (or_cases (b == m) (b == n) h) [
   | inl e ↦ subst P (sym (eqb-true b m e)) x
@@ -70,7 +70,7 @@ signed_bytes q none (b ∷ bs) h = elim (cases_Bool (is_sign b)) [
   | inr n ↦ ap (list_any q) (sym (cond-false (is_sign b) bs (b ∷ bs) n)) ∙ h
 ]
 
--- the exponent is the same without the sign
+-- a text without its sign has the exponent of the text
 exponent_of_unsigned : (w : List ℕ) → after_first is_exponent_mark (without_sign w) ≡ after_first is_exponent_mark w
 exponent_of_unsigned [] = refl
 exponent_of_unsigned (b ∷ bs) = elim (cases_Bool (is_sign b)) [
@@ -102,7 +102,7 @@ decimal_bytes q none w h =
     (mantissa_bytes q none w parts.0)
     (ap (list_any q) (exponent_of_unsigned w) ∙ exponent_bytes q none w parts.1))
 
--- a decimal text has no separator, so it is a word
+-- no byte that a decimal text may have is a separator
 no_separators : PassesNoByte is_separator
 no_separators = record { digits = no_separator; plus = refl; minus = refl; point = refl; mark = refl; capital = refl }
 
@@ -113,7 +113,7 @@ decimal_clean (b ∷ bs) h = record { some = refl; plain = decimal_bytes is_sepa
 pub digits_clean : (bs : List ℕ) → is_word bs ≡ true → list_all is_ascii_digit bs ≡ true → IsClean bs
 digits_clean bs h k = record { some = h; plain = any-digits is_separator bs no_separator k }
 
--- a letter that isn't an exponent's mark is no byte of a decimal text
+-- a letter that is no exponent mark; no decimal text has one
 is_other_letter : ℕ → Bool
 is_other_letter b = is_ascii_alphabetic b && not (is_exponent_mark b)
 
@@ -121,7 +121,7 @@ no_other_letters : PassesNoByte is_other_letter
 unfolding is_other_letter
 no_other_letters = record { digits = λ b low high. rw (lt-leb 65 b (omega arith), lt-leb 97 b (omega arith)) refl; plus = refl; minus = refl; point = refl; mark = refl; capital = refl }
 
--- a text that begins with the exponent's mark has no digits before it
+-- a text that begins with an exponent mark has an empty mantissa
 marked_mantissa : (b : ℕ) (bs : List ℕ) → is_exponent_mark b ≡ true → mantissa (b ∷ bs) ≡ []
 marked_mantissa b bs h =
     ap (before_first is_exponent_mark) (cond-false (is_sign b) bs (b ∷ bs) (one_of (λ c. is_sign c ≡ false) b 101 69 h refl refl))

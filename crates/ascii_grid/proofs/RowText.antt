@@ -10,7 +10,7 @@ use Rattle.ascii_grid.specs.Text.{row_text, rows_text}
 abbrev pub spaced : {X : Type 0} → (X → List ℕ) → List X → List ℕ
 spaced f cells = flat_map (λ c. f c ++ 32 ∷ []) cells
 
--- a row splits before any of its cells
+-- a row's text splits before any of its cells
 pub row_split : {X : Type 0} (f : X → List ℕ) (cells : List X) (i : ℕ) → i < length cells → row_text f cells ≡ spaced f (take i cells) ++ row_text f (drop i cells)
 row_split f [] i h = absurd (omega arith)
 row_split f (c ∷ cells) zero h = refl
@@ -25,7 +25,7 @@ row_split f (c ∷ d ∷ cells) (suc i) h =
 pub pieces_more : {X : Type 0} (f : X → List ℕ) (pieces : List X) (x : X) (i : ℕ) → i < length pieces → x ≡ get_or pieces i x → flat_map f (take (i + 1) pieces) ≡ flat_map f (take i pieces) ++ f x
 pieces_more f pieces x i h e = rw (take_more pieces i x h, ← e, flat_map-append, append-nil) refl
 
--- all pieces are those before one, itself and those after it
+-- the joined pieces are those before any one of them, that piece, and those after it
 pub pieces_split : {X : Type 0} (f : X → List ℕ) (pieces : List X) (x : X) (i : ℕ) → i < length pieces → x ≡ get_or pieces i x → flat_map f pieces ≡ (flat_map f (take i pieces) ++ f x) ++ flat_map f (drop (i + 1) pieces)
 pieces_split {X} f pieces x i h e =
     ap (λ (z : List X). flat_map f z) (sym (take-append-drop (i + 1) pieces))
@@ -35,7 +35,7 @@ pieces_split {X} f pieces x i h e =
 pub spaced_more : {X : Type 0} (f : X → List ℕ) (cells : List X) (c : X) (i : ℕ) → i < length cells → c ≡ get_or cells i c → spaced f (take (i + 1) cells) ≡ spaced f (take i cells) ++ (f c ++ 32 ∷ [])
 spaced_more f cells c i h e = pieces_more (λ d. f d ++ 32 ∷ []) cells c i h e
 
--- a row is the cells before the last one, and the last one
+-- a row's text is its cells before the last, each with a space, then the last and a line feed
 pub row_last : {X : Type 0} (f : X → List ℕ) (cells : List X) (c : X) (i : ℕ) → i + 1 ≡ length cells → c ≡ get_or cells i c → row_text f cells ≡ spaced f (take i cells) ++ (f c ++ 10 ∷ [])
 row_last {X} f cells c i h e =
     let last : drop i cells ≡ c ∷ [] = drop_more cells i c (omega (arith, h)) ∙ rw (← e, drop_all (i + 1) cells (omega (arith, h))) refl in
@@ -59,7 +59,7 @@ rows_split f cols rows n cells h =
     ∙ rows_text-add f cols (n + 1) (rows - (n + 1)) cells
     ∙ ap (λ z. z ++ rows_text f cols (rows - (n + 1)) (drop ((n + 1) * cols) cells)) (rows_more f cols n cells)
 
--- how many rows a whole grid has
+-- a list of cols * rows cells has `rows` rows
 pub whole_rows : (n cols rows : ℕ) → n ≡ cols * rows → 1 ≤ cols → n / cols ≡ rows
 whole_rows n cols rows size some = ap (λ m. m / cols) size ∙ mul-div_cancel_left rows (omega (arith, some))
 

@@ -127,7 +127,7 @@ cells_ok d header place (w ∷ hs) h none =
 
 -- ---- the fault at the end
 
--- after a key without its value
+-- where a value comes next, the fault at the end is `NoValue`
 pub end-value : (j : GridBuilder) (ws : List Word) (slot : Key) (centre : Bool) → HasJudged j ws → j.stage ≡ AtValue slot centre → end_fault ws ≡ Some (NoValue slot)
 end-value j ws slot centre h e =
     let there = at_value j ws h slot centre e in
@@ -138,7 +138,7 @@ end-value j ws slot centre h e =
     let left : key_left (flat h.pairs ++ k ∷ []) ≡ Some k = key_left-flat h.pairs (k ∷ []) in
     rw (header, left, there.2.key_is) refl
 
--- in the header, with a required slot missing
+-- where a key comes next and a required slot is missing, that is the fault at the end
 pub end-missing : (j : GridBuilder) (ws : List Word) (f : GridFault) (h : HasJudged j ws) → j.stage ≡ AtKey → missing_fault (flat h.pairs) ≡ Some f → IsEndFault ws f
 end-missing j ws f h e missing =
     let same = at_key j ws h e in
@@ -160,14 +160,14 @@ some_wanted header none missing =
     let given = given_slots header missing in
     one-le-mul (size_between (word_for Ncols header) (value_of header Ncols none given.cols).0).0 (size_between (word_for Nrows header) (value_of header Nrows none given.rows).0).0
 
--- in a whole header: there is no height
+-- where a key comes next and the header is whole, the fault at the end is `TooFew` with 0
 pub end-none : (j j' : GridBuilder) (ws : List Word) (h : HasJudged j ws) → j.stage ≡ AtKey → AreHeights j' h.pairs [] → end_fault ws ≡ Some (TooFew 0)
 end-none j j' ws h e heights =
     let are = words-whole h.pairs h.header.keys in
     let some : nat_lt 0 (cells_wanted (flat h.pairs)) ≡ true = lt-ltb 0 (cells_wanted (flat h.pairs)) (let k = some_wanted (flat h.pairs) h.header.faultless heights.whole in omega (arith, k)) in
     ap end_fault (at_key j ws h e) ∙ rw (are.0, paired h.pairs, heights.whole, are.1, some) refl
 
--- among the heights: too few, or enough
+-- among the heights, the fault at the end is `TooFew`, or none if there are enough
 pub end-heights : (j : GridBuilder) (ws : List Word) (h : HasJudged j ws) → j.stage ≡ AtHeights → end_fault ws ≡ cond (nat_lt (length j.cells.items) j.wanted) (Some (TooFew (length j.cells.items))) None
 end-heights j ws h e =
     let there = at_heights j ws h e in

@@ -6,20 +6,21 @@ use Rattle.terrain.specs.Words.{Word, is_separator, words, ended_words}
 use Rattle.ascii_grid.specs.GridText.{is_cell, spelled_cell}
 
 -- The scale and the NODATA word: all that a job needs to parse heights.
-pub record Form : Type 0 where
+pub record ParserSettings : Type 0 where
   pub scale : ℕ
   pub nodata : Word
 
 -- The word has at most 64 bytes and spells a cell.
-pub record IsHeightWord (form : Form) (w : Word) : Type 0 where
+pub record IsHeightWord (parser : ParserSettings) (w : Word) : Type 0 where
   pub short : length w ≤ 64
-  pub cell : is_cell form.scale form.nodata w ≡ true
+  pub cell : is_cell parser.scale parser.nodata w ≡ true
 
 -- A separator follows each word of these bytes, each word spells a cell, and these are the cells.
-pub record AreCells (form : Form) (bytes : List ℕ) (cells : List (Option ℤ)) : Type 0 where
+pub record AreCells (parser : ParserSettings) (bytes : List ℕ)
+    (cells : List (Option ℤ)) : Type 0 where
   pub ended : ended_words bytes ≡ words bytes
-  pub heights : All (IsHeightWord form) (words bytes)
-  pub are : cells ≡ map (spelled_cell form.scale form.nodata) (words bytes)
+  pub heights : All (IsHeightWord parser) (words bytes)
+  pub are : cells ≡ map (spelled_cell parser.scale parser.nodata) (words bytes)
 
 -- The first `len` bytes are a word of at most 64 bytes, and a separator follows it.
 pub record IsEndedWord (bytes : List ℕ) (len : ℕ) : Type 0 where

@@ -10,7 +10,7 @@ use Rattle.ascii_grid.specs.declared.fault.GridFault.{GridFault}
 use Rattle.ascii_grid.specs.declared.input.InputFault.{InputFault}
 use Rattle.ascii_grid.specs.declared.input.InputFault.TheVariants.{Grid, Read}
 
--- These bytes were read from the device, at most one more than a text may have.
+-- Some bytes were read from the device, at most one more than a text may have.
 pub record Takes {R : Type 0} (remaining : R → Option (List ℕ)) (old new : Device R) : Type 0 where
   pub bytes : List ℕ
   pub read : HasRead remaining old new bytes

@@ -8,4 +8,4 @@ pub mod Reader
 pub mod Reading
 pub mod Slots
 pub mod Text
-pub mod Gathers
+pub mod WritesByPage

@@ -22,7 +22,7 @@ abbrev pub flat : List (Word × Word) → List Word
 flat [] = []
 flat (p ∷ ps) = p.0 ∷ p.1 ∷ flat ps
 
--- The first pair whose key fills a slot.
+-- The first of these pairs whose key fills the slot.
 abbrev pub given : Key → List (Word × Word) → Option (Word × Word)
 given slot ps = find (λ (p : Word × Word). fills slot p.0) ps
 
@@ -71,7 +71,7 @@ pub record AreHeights (j : GridBuilder) (ps : List (Word × Word)) (hs : List Wo
   pub faultless : heights_fault j.scale (flat ps) 0 hs ≡ None
   pub cells : j.cells.items ≡ map (spelled_cell j.scale j.nodata) hs
 
--- The words after the pairs fit the stage: none at a key, the key at its value, else heights.
+-- The words after the pairs: none if a key comes next, its key if a value does, or the heights.
 abbrev pub IsAt : GridBuilder → List (Word × Word) → List Word → Stage → Type 0
 IsAt j ps rest AtKey = rest ≡ []
 IsAt j ps rest (AtValue slot centre) = (k : Word) × (rest ≡ k ∷ []) × AwaitsValue ps k slot centre

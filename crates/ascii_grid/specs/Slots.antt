@@ -41,7 +41,7 @@ anchor_at centre w = record { centre = centre; word = w }
 abbrev pub is_centre : Word → Bool
 is_centre k = is_key (codes "xllcenter") k || is_key (codes "yllcenter") k
 
--- The slots with one more value; a position also has its centre or corner.
+-- The header with this slot filled; a position also stores whether it is a centre.
 abbrev pub with_value : Header → Key → Bool → Word → Header
 with_value h Ncols centre w = record h { cols = Some (number_of w) }
 with_value h Nrows centre w = record h { rows = Some (number_of w) }

@@ -62,7 +62,7 @@ impl GridBuilder {
         }
     }
 
-    /// Checks the next word: fills a slot, adds a cell or returns its fault.
+    /// Checks the next word: fills a slot, adds a cell or returns the word's fault.
     pub(crate) fn add_word(&mut self, word: &[u8]) -> Result<(), GridFault>
         ensures scale { self.new.scale ≡ self.old.scale }
         ensures long { MOST_WORD_BYTES < length word.now → result ≡ Err GridFault.TooLong }
@@ -103,7 +103,7 @@ impl GridBuilder {
         match self.stage {
             Stage::AtValue { key, .. } => Err(GridFault::NoValue(key)),
             Stage::AtKey => {
-                // The text's end ends the header: `MissingKey` and `Memory` come before `TooFew`.
+                // The header ends here too: `MissingKey` and `Memory` come before `TooFew`.
                 self.begin_heights()?;
                 Err(GridFault::TooFew(0))
             }
@@ -212,14 +212,14 @@ impl GridBuilder {
 
     /// Adds the cells of the next heights. Returns whether it added them.
     ///
-    /// It adds none if `form` has another scale or NODATA word, or if the cells are too many.
-    pub(crate) fn add_cells(&mut self, form: &HeightParser, cells: &[Cell]) -> bool
+    /// It adds none if `parser` has another scale or NODATA word, or if the cells are too many.
+    pub(crate) fn add_cells(&mut self, parser: &HeightParser, cells: &[Cell]) -> bool
         ensures kept { self.new ≡ record self.old { cells = self.new.cells } }
         ensures refused { result ≡ false → self.new ≡ self.old }
         ensures added { (ps : List (Word × Word)) (hs more : List Word) →
             AreHeights self.old ps hs →
-            All (IsHeightWord form.now) more →
-            cells.now ≡ map (spelled_cell form.now.scale form.now.nodata) more →
+            All (IsHeightWord parser.now) more →
+            cells.now ≡ map (spelled_cell parser.now.scale parser.now.nodata) more →
             IsTrue result → AreHeights self.new ps (hs ++ more) }
     {
         // The capacity is at least `wanted`; the `min` shows that adding the cells cannot fail.
@@ -228,7 +228,7 @@ impl GridBuilder {
         if place > most || cells.len() > most - place {
             return false;
         }
-        if !form.is_of(self.scale, self.nodata.as_bytes()) {
+        if !parser.is_of(self.scale, self.nodata.as_bytes()) {
             return false;
         }
         self.cells.extend_from_slice(cells).is_ok()

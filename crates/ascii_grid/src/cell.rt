@@ -1,4 +1,4 @@
-//! The cell that a word among the heights spells: a height, NODATA or neither.
+//! The meaning of a word among the heights: a height, NODATA or neither.
 ghost use Rattle.std.specs.Prelude.{◌≡◌, ℕ, List, Option, Some, None};
 ghost use Rattle.terrain.specs.Decimal.{scaled_value};
 ghost use Rattle.ascii_grid.specs.GridText.{same_value};
@@ -28,7 +28,7 @@ pub(crate) fn cell(scale: u8, nodata: &[u8], nodata_value: Option<i64>, word: &[
     }
 }
 
-/// Returns a word's meaning by its scaled value and that of the NODATA word.
+/// Returns a word's meaning, given its scaled value and the NODATA word's.
 #[inline(always)]
 pub(crate) fn value_cell(value: i64, nodata_value: Option<i64>) -> Meaning
     ensures { (d : ℕ) (nodata word : List ℕ) → scaled_value d word ≡ Some value →

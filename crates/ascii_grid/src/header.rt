@@ -65,7 +65,7 @@ impl Header {
         }
     }
 
-    /// Fills a slot with a value word, or returns its fault. `centre` is for positions.
+    /// Fills a slot with a value, or returns its fault. Only positions use `centre`.
     pub(crate) fn put(&mut self, key: Key, centre: bool, word: &[u8]) -> Result<(), GridFault>
         requires { length word.now ≤ MOST_WORD_BYTES }
         ensures ok { IfOk result (λ _. (is_value key word.now ≡ true)

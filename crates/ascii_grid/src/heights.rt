@@ -24,9 +24,9 @@ pub struct HeightParser {
 
 impl Model for HeightParser {
     ghost use Rattle.std.specs.Prelude.{◌≤◌};
-    ghost use Rattle.ascii_grid.specs.HeightList.{Form};
+    ghost use Rattle.ascii_grid.specs.HeightList.{ParserSettings};
 
-    ghost Value = { Form };
+    ghost Value = { ParserSettings };
 
     ghost view = { λ f. record { scale = f.scale; nodata = f.nodata } };
 
@@ -41,7 +41,7 @@ impl HeightParser {
         HeightParser { scale, nodata }
     }
 
-    /// Whether the form has this scale and this NODATA word.
+    /// Whether the parser has this scale and NODATA word.
     pub(crate) fn is_of(&self, scale: u8, nodata: &[u8]) -> bool
         ensures { IsTrue result → (self.now.scale ≡ scale) × (self.now.nodata ≡ nodata.now) }
     {
@@ -50,8 +50,8 @@ impl HeightParser {
 
     /// Returns the cells of bytes in which a separator follows each word.
     ///
-    /// `None` if the last word has no separator after it, if a word has more than 64 bytes or
-    /// spells no cell, or if memory is refused: 4 bytes for each byte of text.
+    /// `None` if a word has no separator after it, has more than 64 bytes or spells no cell.
+    /// `None` too if memory is refused; the list takes 4 bytes for each byte of text.
     pub fn cells(&self, alloc: Global, bytes: &[u8]) -> Option<Vec<Cell>>
         ensures { IfSome result (λ cells. AreCells self.now bytes.now cells.items) }
     {

@@ -6,7 +6,7 @@ ghost use Rattle.ascii_grid.specs.Slots.{is_centre};
 
 use crate::fault::Key;
 
-/// Returns the slot that a key word fills, whatever the case of its letters.
+/// Returns the slot that a key fills, in any letter case; `None` for another word.
 pub(crate) fn slot_of(word: &[u8]) -> Option<Key>
     ensures { result ≡ slot_of word.now }
 {
@@ -38,7 +38,7 @@ pub(crate) fn names_centre(word: &[u8]) -> bool
     is_key(b"xllcenter", word) || is_key(b"yllcenter", word)
 }
 
-/// Whether a word begins with a letter: in a key's place, such a word is a key.
+/// Whether a word begins with a letter: in a key's place it is then read as a key.
 pub(crate) fn begins_with_letter(word: &[u8]) -> bool
     ensures { result ≡ begins_with_letter word.now }
 {

@@ -1,4 +1,4 @@
-//! Reads and writes terrain grids in the Esri ASCII raster form.
+//! Reads and writes terrain grids in the Esri ASCII raster format.
 //!
 //! Begin with [`GridReader`] or [`read_grid`] to read, and with [`write_heights`] to write.
 //! [`Counted`] counts the bytes and failures of a device. `docs/grid-text.md` defines the text.

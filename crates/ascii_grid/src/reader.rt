@@ -98,14 +98,14 @@ impl GridReader {
         Ok(())
     }
 
-    /// Returns what jobs need to parse the next heights.
+    /// Returns the parser with which jobs parse the next heights.
     ///
     /// `None` until the first height has ended, within a word, and after a fault.
     pub fn height_parser(&self) -> Option<HeightParser>
         ensures sound { OnSome result (self.now.fault ≡ None) }
-        ensures scale { IfSome result (λ form. form.scale ≡ self.now.scale) }
+        ensures scale { IfSome result (λ parser. parser.scale ≡ self.now.scale) }
         ensures nodata { (text : List ℕ) → HasTaken self.now text →
-            IfSome result (λ form. form.nodata ≡ nodata_for (header_words (ended_words text))) }
+            IfSome result (λ parser. parser.nodata ≡ nodata_for (header_words (ended_words text))) }
     {
         if let Some(_) = self.fault {
             return None;
@@ -115,37 +115,37 @@ impl GridReader {
 
     /// Reads a piece of the text, which [`HeightParser::cells`] parsed into `cells`.
     ///
-    /// Adds the cells if `form` equals that of [`height_parser`](Self::height_parser) and they fit;
-    /// otherwise parses the piece.
+    /// Adds the cells if they fit and `parser` equals the one of
+    /// [`height_parser`](Self::height_parser); otherwise parses the piece.
     ///
     /// # Errors
     ///
     /// Those of [`feed`](Self::feed).
     pub fn feed_cells(
         &mut self,
-        form: &HeightParser,
+        parser: &HeightParser,
         piece: &[u8],
         cells: &[Cell],
     ) -> Result<(), GridFault>
-        requires { AreCells form.now piece.now cells.now }
+        requires { AreCells parser.now piece.now cells.now }
         ensures { Feeds self.old self.new piece.now result }
     {
-        if self.take_cells(form, piece, cells) {
+        if self.take_cells(parser, piece, cells) {
             return Ok(());
         }
         self.feed(piece)
     }
 
     /// Adds the cells of a piece, or returns false and changes nothing.
-    fn take_cells(&mut self, form: &HeightParser, piece: &[u8], cells: &[Cell]) -> bool
-        requires { AreCells form.now piece.now cells.now }
+    fn take_cells(&mut self, parser: &HeightParser, piece: &[u8], cells: &[Cell]) -> bool
+        requires { AreCells parser.now piece.now cells.now }
         ensures taken { IsTrue result → Feeds self.old self.new piece.now (Ok (tt {0})) }
         ensures refused { result ≡ false → self.new ≡ self.old }
     {
         if let Some(_) = self.fault {
             return false;
         }
-        if piece.len() > MOST_TEXT_BYTES - self.taken || !self.words.take_cells(form, cells) {
+        if piece.len() > MOST_TEXT_BYTES - self.taken || !self.words.take_cells(parser, cells) {
             return false;
         }
         self.taken += piece.len();

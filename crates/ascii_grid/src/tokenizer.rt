@@ -1,7 +1,7 @@
 //! Splits a text into words, and passes each to `GridBuilder`.
 //!
-//! A word is judged once a separator ends it, so it does not matter where the text is cut into
-//! pieces.
+//! A word is judged once a separator ends it. Therefore the result does not depend on where the
+//! text is cut into pieces.
 ghost use Rattle.std.specs.Prelude.{◌≡◌, ℕ, ◌≤◌, ◌++◌, [], ◌∷◌, ◌<◌, List, length, take, IfOk, IfSome, IsTrue, ◌↔◌, false, MatchResult};
 ghost use Rattle.terrain.specs.Words.{is_separator, words, ended_words};
 ghost use Rattle.ascii_grid.specs.Header.{header_words, nodata_for};
@@ -16,7 +16,7 @@ use decimals::plain_number;
 use std::alloc::Global;
 use terrain::{Cell, MOST_WORD_BYTES};
 
-/// How many bytes of an unfinished word are kept: one more than a word may have.
+/// The most bytes kept of an unfinished word: enough to show that it is too long.
 const KEPT_BYTES: usize = MOST_WORD_BYTES + 1;
 
 /// The header and cells of the ended words, and the front of the unfinished word.
@@ -53,7 +53,7 @@ impl Tokenizer {
         Ok(())
     }
 
-    /// Reads a height by the fast path, else one byte. Returns the length.
+    /// Reads a height by the fast path, else one byte. Returns the count of bytes.
     #[inline(always)]
     fn take_some(&mut self, rest: &[u8]) -> Result<usize, GridFault>
         requires some { 0 < length rest.now }
@@ -115,12 +115,12 @@ impl Tokenizer {
         Ok(())
     }
 
-    /// Between two heights, returns what jobs need to parse the next ones; else `None`.
+    /// Between two heights, returns the parser of the next ones for jobs; else `None`.
     pub(crate) fn height_parser(&self) -> Option<HeightParser>
         requires { self.now.builder.scale ≤ 6 }
-        ensures scale { IfSome result (λ form. form.scale ≡ self.now.builder.scale) }
+        ensures scale { IfSome result (λ parser. parser.scale ≡ self.now.builder.scale) }
         ensures nodata { (text : List ℕ) → HasWords self.now text →
-            IfSome result (λ form. form.nodata ≡ nodata_for (header_words (ended_words text))) }
+            IfSome result (λ parser. parser.nodata ≡ nodata_for (header_words (ended_words text))) }
     {
         if self.is_between_heights() {
             Some(self.builder.height_parser())
@@ -130,17 +130,17 @@ impl Tokenizer {
     }
 
     /// Adds the cells of bytes that a job has parsed. Returns whether it added them.
-    pub(crate) fn take_cells(&mut self, form: &HeightParser, cells: &[Cell]) -> bool
+    pub(crate) fn take_cells(&mut self, parser: &HeightParser, cells: &[Cell]) -> bool
         ensures scale { self.new.builder.scale ≡ self.old.builder.scale }
         ensures refused { result ≡ false → self.new ≡ self.old }
         ensures words { (text piece : List ℕ) → HasWords self.old text →
-            AreCells form.now piece cells.now →
+            AreCells parser.now piece cells.now →
             IsTrue result → HasWords self.new (text ++ piece) }
     {
         if !self.is_between_heights() {
             return false;
         }
-        self.builder.add_cells(form, cells)
+        self.builder.add_cells(parser, cells)
     }
 
     /// Whether the next word is a height, and no byte of it has been read.

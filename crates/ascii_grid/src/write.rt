@@ -6,7 +6,7 @@ ghost use Rattle.std.specs.Prelude.{◌≡◌, ◌∷◌, ◌+◌, ◌++◌, ◌
 ghost use Rattle.std.specs.List.{flat_map};
 ghost use Rattle.terrain.specs.Sinks.{raster_with_sinks};
 ghost use Rattle.ascii_grid.specs.Device.{Writes};
-ghost use Rattle.ascii_grid.specs.Gathers.{Gathers};
+ghost use Rattle.ascii_grid.specs.WritesByPage.{WritesByPage};
 ghost use Rattle.ascii_grid.specs.GridText.{IsGridText, most_bytes};
 ghost use Rattle.ascii_grid.specs.Text.{height_text, cell_text, row_text, rows_text, line_text, anchor_text, header_text, heights_text, counts_text};
 
@@ -32,19 +32,19 @@ const USUAL_BYTES: usize = 6;
 fn write_page<W: Write>(page: &mut Page, out: &mut Counted<W>) -> Result<(), WriteFailed>
     requires { out.old.failures < 2 ^ 64 - 1 }
     ensures empty { OnOk result (page.new ≡ []) }
-    ensures text { Gathers W.contents out.old page.old out.new page.new [] result }
+    ensures text { WritesByPage W.contents out.old page.old out.new page.new [] result }
 {
     out.write_all(page.as_bytes())?;
     page.clear();
     Ok(())
 }
 
-/// Writes the page to the device if it has no room for another cell.
+/// Writes the page to the device if another cell does not fit into the page.
 #[inline(always)]
 fn make_room<W: Write>(page: &mut Page, out: &mut Counted<W>) -> Result<(), WriteFailed>
     requires { out.old.failures < 2 ^ 64 - 1 }
     ensures room { OnOk result (length page.new + ENTRY_ROOM ≤ PAGE) }
-    ensures text { Gathers W.contents out.old page.old out.new page.new [] result }
+    ensures text { WritesByPage W.contents out.old page.old out.new page.new [] result }
 {
     if page.has_room(ENTRY_ROOM) {
         return Ok(());
@@ -111,7 +111,7 @@ fn write_cell<E: MapCell, W: Write>(
     requires few { out.old.failures < 2 ^ 64 - 1 }
     requires scale { scale ≤ 6 }
     requires short { length nodata.now ≤ MOST_WORD_BYTES }
-    ensures { Gathers W.contents out.old page.old out.new page.new
+    ensures { WritesByPage W.contents out.old page.old out.new page.new
         (E.text scale nodata.now cell ++ end ∷ []) result }
 {
     make_room(page, out)?;
@@ -131,7 +131,7 @@ fn write_row<E: MapCell, W: Write>(
     requires scale { scale ≤ 6 }
     requires short { length nodata.now ≤ MOST_WORD_BYTES }
     requires some { 0 < length cells.now }
-    ensures { Gathers W.contents out.old page.old out.new page.new
+    ensures { WritesByPage W.contents out.old page.old out.new page.new
         (row_text (E.text scale nodata.now) cells.now) result }
 {
     let last = cells.len() - 1;
@@ -154,7 +154,7 @@ fn write_rows<E: MapCell, W: Write>(
     requires scale { scale ≤ 6 }
     requires short { length nodata.now ≤ MOST_WORD_BYTES }
     requires some { 0 < cols }
-    ensures { Gathers W.contents out.old page.old out.new page.new
+    ensures { WritesByPage W.contents out.old page.old out.new page.new
         (rows_text (E.text scale nodata.now) cols (length cells.now / cols) cells.now) result }
 {
     for row in 0..cells.len() / cols {
@@ -260,7 +260,7 @@ pub fn write_cells<E: MapCell, W: Write>(
     write_page_and_rows(&mut page, cells, cols, frame.scale(), nodata, out)
 }
 
-/// Returns the text of the rows of cells, a line each.
+/// Returns the text of the rows of cells, one line for each row.
 ///
 /// # Errors
 ///

@@ -1,6 +1,6 @@
-//! Boards of jobs: what their seats take in order, by stealing and on threads.
+//! Tests boards of jobs: the jobs that seats take in order, by stealing and on threads.
 //!
-//! Also what a board holds when it is closed, and after a `close` that was refused memory.
+//! Also the jobs taken and left when a board is closed, and a `close` that is refused memory.
 ghost use Rattle.std.specs.Prelude.{◌≡◌, ◌<◌, ◌≤◌, ◌⊎◌, vec_len, IfOk, IfErr, IfSome};
 ghost use Rattle.tile_jobs.specs.Ends.{IsBoard, SameSeat};
 
@@ -22,7 +22,7 @@ fn dealt(alloc: Global, jobs: u32, seats: u32) -> Result<Vec<Seat>, JobFault>
     Board::deal(alloc, jobs, seats)
 }
 
-/// Returns what the seat `s` takes next.
+/// Takes the next job for seat `s`, and returns the outcome.
 fn take_at(seats: &mut Vec<Seat>, s: usize) -> Take
     requires at { s < vec_len seats.old }
     requires board { IsBoard (vec_len seats.old) seats.old.items }
@@ -43,12 +43,12 @@ fn deal_one_seat(alloc: Global, jobs: u32, seats: u32, s: usize) -> Result<Seat,
     Ok(seats.swap_remove(s))
 }
 
-/// Asserts what a seat takes next.
+/// Asserts the outcome of a seat's next take.
 fn gets(rt: &impl Abort, seat: &mut Seat, want: Take, s: usize) {
     assert_eq!(rt; seat.try_take(), want, "seat {s}");
 }
 
-/// Asserts what the seat `s` takes next.
+/// Asserts the outcome of the next take of seat `s`.
 fn gets_at(rt: &impl Abort, seats: &mut Vec<Seat>, s: usize, want: Take)
     requires at { s < vec_len seats.old }
     requires board { IsBoard (vec_len seats.old) seats.old.items }
@@ -68,8 +68,8 @@ fn closed(alloc: Global, seats: Vec<Seat>) -> Result<Closed, Fail>
     Ok(closed)
 }
 
-/// Asserts which jobs each seat took, and which are left.
-fn are_parts(rt: &impl Abort, closed: &Closed, taken: &[&[u32]], left: &[u32]) {
+/// Asserts which jobs each seat took, and which jobs are left.
+fn expect_jobs(rt: &impl Abort, closed: &Closed, taken: &[&[u32]], left: &[u32]) {
     assert_eq!(rt; closed.taken.len(), taken.len());
     for (list, want) in closed.taken.iter().zip(taken.iter()) {
         assert_eq!(rt; list.as_slice(), *want);
@@ -105,7 +105,7 @@ fn own_jobs_then_round_the_seats(rt: HostRuntime) -> Result<(), Fail> {
     Ok(())
 }
 
-/// Lets two seats take five jobs; the second seat steals one of the first.
+/// Takes all five jobs with two seats; the second seat steals one job of the first seat.
 fn take_five(rt: &impl Abort, seats: &mut Vec<Seat>)
     requires len { vec_len seats.old ≡ 2 }
     requires board { IsBoard (vec_len seats.old) seats.old.items }
@@ -123,7 +123,7 @@ fn take_five(rt: &impl Abort, seats: &mut Vec<Seat>)
 fn five_jobs_for_two_seats(rt: HostRuntime) -> Result<(), Fail> {
     let mut seats = dealt(rt.alloc(), 5, 2)?;
     take_five(&rt, &mut seats);
-    are_parts(
+    expect_jobs(
         &rt,
         &closed(rt.alloc(), seats)?,
         &[&[2, 4], &[1, 3, 0]],
@@ -138,7 +138,7 @@ fn jobs_that_no_seat_took_are_left(rt: HostRuntime) -> Result<(), Fail> {
     gets_at(&rt, &mut seats, 1, Take::Job(1));
     gets_at(&rt, &mut seats, 1, Take::Job(3));
     gets_at(&rt, &mut seats, 1, Take::Job(0));
-    are_parts(
+    expect_jobs(
         &rt,
         &closed(rt.alloc(), seats)?,
         &[&[], &[1, 3, 0]],
@@ -161,7 +161,7 @@ fn one_of_three_seats_takes_all(rt: HostRuntime) -> Result<(), Fail> {
     gets_at(&rt, &mut seats, 0, Take::Empty);
     gets_at(&rt, &mut seats, 1, Take::Empty);
     let all = [2, 5, 0, 3, 6, 1, 4];
-    are_parts(&rt, &closed(rt.alloc(), seats)?, &[&[], &[], &all], &[]);
+    expect_jobs(&rt, &closed(rt.alloc(), seats)?, &[&[], &[], &all], &[]);
     Ok(())
 }
 
@@ -211,7 +211,7 @@ fn bad_seats(rt: HostRuntime) {
     refuses_seats(&rt, rt.alloc(), 65);
 }
 
-/// Closes the board, at the first or the second try.
+/// Closes the board, at the second try if the first is refused memory.
 fn close_twice(alloc: Global, seats: Vec<Seat>) -> Result<Closed, Fail>
     requires { IsBoard (vec_len seats) seats.items }
 {
@@ -239,7 +239,7 @@ fn deal_five(rt: &impl Abort, alloc: Global) -> Option<Vec<Seat>>
 }
 
 /// A refused `close` returns the seats, with the jobs that they took.
-/// With `--fail-alloc` no board is dealt, or the second try closes it.
+/// If `rt try --fail-alloc` refuses memory, no board is dealt, or the second try closes it.
 #[test]
 fn refused_close_gives_seats_back(rt: HostRuntime) -> Result<(), Fail> {
     let Some(mut seats) = deal_five(&rt, rt.alloc()) else {
@@ -247,11 +247,11 @@ fn refused_close_gives_seats_back(rt: HostRuntime) -> Result<(), Fail> {
     };
     take_five(&rt, &mut seats);
     let closed = close_twice(rt.alloc(), seats)?;
-    are_parts(&rt, &closed, &[&[2, 4], &[1, 3, 0]], &[]);
+    expect_jobs(&rt, &closed, &[&[2, 4], &[1, 3, 0]], &[]);
     Ok(())
 }
 
-/// A refused `close` keeps the jobs that are left, with `--fail-alloc`.
+/// A `close` that `rt try --fail-alloc` refuses memory keeps the jobs that are left.
 #[test]
 fn refused_close_keeps_what_is_left(rt: HostRuntime) -> Result<(), Fail> {
     let Some(mut seats) = deal_five(&rt, rt.alloc()) else {
@@ -259,7 +259,7 @@ fn refused_close_keeps_what_is_left(rt: HostRuntime) -> Result<(), Fail> {
     };
     gets_at(&rt, &mut seats, 1, Take::Job(1));
     let closed = close_twice(rt.alloc(), seats)?;
-    are_parts(&rt, &closed, &[&[], &[1]], &[0, 2, 4, 3]);
+    expect_jobs(&rt, &closed, &[&[], &[1]], &[0, 2, 4, 3]);
     Ok(())
 }
 
@@ -295,7 +295,7 @@ fn take_with_threads<R: Threads + Wait + Sync>(
     Board::close(alloc, dealt).map_err(|_| JobFault::Memory)
 }
 
-/// Returns whether the jobs of the seat's own deque come first, in rising order.
+/// Returns whether the list begins with the jobs of the seat's own deque, in rising order.
 fn own_come_first(list: &[u32], seat: u32, seats: u32) -> bool {
     let mut stolen = false;
     let mut least = seat;
@@ -311,7 +311,7 @@ fn own_come_first(list: &[u32], seat: u32, seats: u32) -> bool {
     true
 }
 
-/// Asserts that the seats took each job once, and their own jobs first.
+/// Asserts that the seats took each job once, each seat the jobs of its own deque first.
 fn have_each_job_once(
     rt: &impl Abort,
     alloc: Global,

@@ -1,4 +1,4 @@
-//! The header and cells of a grid, grids with other cells, and named sinks.
+//! Tests the header and cells of a grid, grids with other cells, and named sinks.
 ghost use Rattle.std.specs.Prelude.{◌≡◌, ◌*◌, ◌∷◌, [], pos, negsuc, None, Some, Contains};
 
 use crate::texts::{PIT, PIT_CELLS, expect_cells, grid_of};
@@ -7,7 +7,7 @@ use std::alloc::Global;
 use std::process::Abort;
 use std::test::Fail;
 
-/// The middle of 3 by 3 cells; below, other places in or beside them.
+/// The middle of 3 by 3 cells. The next constants are other places in these cells or past them.
 const MIDDLE: Place = Place { row: 1, col: 1 };
 
 const NORTH_EAST: Place = Place { row: 0, col: 2 };
@@ -20,7 +20,7 @@ const PAST_THE_ROWS: Place = Place { row: 3, col: 0 };
 
 const PAST_THE_COLUMNS: Place = Place { row: 0, col: 3 };
 
-/// Returns 3 by 3 cells: heights 5 around a -1, and NODATA in the south-east.
+/// Returns 3 by 3 cells, in tenths: heights 5 around a -1, and NODATA in the south-east.
 fn bowl(rt: &impl Abort, alloc: Global) -> Grid
     ensures cols { result.terrain.cols ≡ 3 }
     ensures rows { result.terrain.rows ≡ 3 }
@@ -129,7 +129,7 @@ fn other_cells(rt: HostRuntime) {
     assert_eq!(rt; grid.at(MIDDLE), Some(-1));
 }
 
-/// With cells of nine only the cells of a grid change.
+/// A grid with other cells, here all 9, keeps its size, header and sinks.
 #[test]
 fn nine_nines(rt: HostRuntime) -> Result<(), NoMemory> {
     let pit = grid_of(&rt, rt.alloc(), 0, PIT, &PIT_CELLS);
@@ -201,7 +201,7 @@ fn bad_sinks(rt: HostRuntime) {
     refuses(&rt, alloc, &grid, &on_nodata, SinkFault::OnNodata(1));
 }
 
-/// Repeats are counted. Too many sinks are reported before one outside the grid.
+/// Repeated sinks count towards the limit. Too many sinks are reported before one outside the grid.
 #[test]
 fn most_sinks(rt: HostRuntime) -> Result<(), Fail> {
     let grid = bowl(&rt, rt.alloc());
@@ -212,7 +212,7 @@ fn most_sinks(rt: HostRuntime) -> Result<(), Fail> {
     Ok(())
 }
 
-/// The first call adds the sink; with `--fail-alloc` the second call does.
+/// The first call adds the sink; if `rt try --fail-alloc` refuses it memory, the second call does.
 #[test]
 fn refused_sinks_are_named_once_more(rt: HostRuntime) {
     let pit = grid_of(&rt, rt.alloc(), 0, PIT, &PIT_CELLS);

@@ -1,4 +1,4 @@
-//! Reads texts whole, in pieces, cut short, and from an interrupted reader: cells and faults.
+//! Tests reading: texts whole, in pieces, cut short, and from an interrupted reader.
 ghost use Rattle.std.specs.Prelude.{◌≤◌, ◌<◌};
 
 use crate::texts::{LENIENT, LENIENT_CELLS, expect_cells, grid_of, have_heights};
@@ -13,7 +13,7 @@ use std::process::Abort;
 /// A header of 2 columns and 1 row, with the lower left corner at 0 0.
 const HEADER: &[u8] = b"ncols 2 nrows 1 xllcorner 0 yllcorner 0 cellsize 1";
 
-/// Reads `text` in pieces of `piece` bytes, an empty one before each and last.
+/// Reads `text` in pieces of `piece` bytes, with an empty piece before each and at the end.
 fn read_in_pieces(alloc: Global, scale: u8, text: &[u8], piece: usize) -> Result<Grid, GridFault>
     requires scale { scale ≤ 6 }
     requires piece { 0 < piece }
@@ -27,7 +27,7 @@ fn read_in_pieces(alloc: Global, scale: u8, text: &[u8], piece: usize) -> Result
     reader.finish()
 }
 
-/// Asserts that `text` spells these cells, read whole and in pieces.
+/// Asserts that `text`, read whole and in pieces, has these cells.
 fn spells(rt: &impl Abort, alloc: Global, scale: u8, text: &[u8], cells: &[Option<Height>])
     requires { scale ≤ 6 }
 {
@@ -42,7 +42,7 @@ fn spells(rt: &impl Abort, alloc: Global, scale: u8, text: &[u8], cells: &[Optio
     }
 }
 
-/// Asserts that `text` is refused with this fault, read whole and in pieces.
+/// Asserts that `text`, read whole and in pieces, is refused with this fault.
 fn refuses(rt: &impl Abort, alloc: Global, text: &[u8], fault: GridFault) {
     assert_eq!(rt; read_text(alloc, 0, text).err(), Some(fault));
     for piece in [1, 2, 3, 7] {
@@ -395,7 +395,7 @@ fn fault_of_a_word_once_it_has_ended(rt: HostRuntime) {
     assert_eq!(rt; reader.finish().err(), Some(fault));
 }
 
-/// Cuts a text after each of its bytes, and checks the fault of each front part.
+/// Cuts a text before each of its bytes, and checks the fault of the part before the cut.
 #[test]
 fn each_front_part(rt: HostRuntime) {
     let text = after_header(&rt, rt.alloc(), b" 3 4");
@@ -447,7 +447,7 @@ impl Read for Interrupted<'_> {
 }
 
 /// Reads a text of two heights, interrupted after `calls_before` calls.
-/// Three calls read bytes, the fourth reads the end of the text.
+/// Three calls read bytes; the fourth finds the end of the text.
 fn read_until(rt: &impl Abort, alloc: Global, text: &[u8], calls_before: u32) {
     let mut reader = Counted::new(Interrupted {
         left: text,

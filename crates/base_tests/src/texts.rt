@@ -1,4 +1,4 @@
-//! Grid texts with their cells, and checks, that several tests share.
+//! Grid texts with their cells, and the checks that several test modules share.
 ghost use Rattle.std.specs.Prelude.{◌≡◌, ◌≤◌, IsTrue};
 
 use ascii_grid::{Cell, Grid, Height, read_text};
@@ -28,7 +28,7 @@ pub const PIT_CELLS: [Option<Height>; 9] = [
     Some(9),
 ];
 
-/// Returns whether the cells have these heights.
+/// Returns whether the cells have these heights, `None` for NODATA.
 pub(crate) fn have_heights(cells: &[Cell], heights: &[Option<Height>]) -> bool
     ensures { IsTrue result → cells.now ≡ heights.now }
 {

@@ -1,4 +1,4 @@
-//! Cuts grids into tiles: counts, bounds, rims, views, and tile lists put back into one list.
+//! Tests tilings: counts of tiles, bounds, rims, views, and tile lists joined into one list.
 ghost use Rattle.std.specs.Prelude.{◌≡◌, IfOk};
 ghost use Rattle.tiles.specs.Cutting.{IsWithin};
 

@@ -1,4 +1,4 @@
-//! Runs jobs on workers: results, faults, refused threads, and the calls of gates.
+//! Tests runs of jobs: results, faults, refused threads, and the calls of gates.
 ghost use Rattle.std.specs.Prelude.{◌≤◌};
 
 use crate::texts::expect_numbers;
@@ -11,7 +11,7 @@ use std::thread;
 use std::thread::Threads;
 use tile_jobs::{Gate, JobFault, NoGate, Work, run_jobs, run_jobs_capped};
 
-/// How often a held job checks for others: enough for any worker to arrive.
+/// How often a held job checks for other jobs: enough for any worker to begin one.
 const MOST_LOOKS: u32 = 10_000_000;
 
 /// Work whose job `j` returns the square of `j`, for `j` below `most`.
@@ -99,7 +99,7 @@ impl Turns {
     }
 
     /// Returns the job's position in the order of entering, from 1; 0 if it did not.
-    fn place_of(&self, job: usize) -> u64 {
+    fn position_of(&self, job: usize) -> u64 {
         self.entries
             .get(job)
             .map_or(0, |entry| entry.load(Ordering::SeqCst))
@@ -127,7 +127,7 @@ impl Gate for Turns {
     }
 }
 
-/// Returns the squares below `jobs`, by work that allows jobs below `most`.
+/// Returns the squares of the numbers below `jobs`, by work that allows jobs below `most`.
 fn run_squares<R: Threads + Wait + Sync>(
     rt: &R,
     alloc: Global,
@@ -141,7 +141,7 @@ fn run_squares<R: Threads + Wait + Sync>(
     run_jobs(rt, alloc, &Squares { most }, jobs, workers, &NoGate)
 }
 
-/// Runs `jobs` jobs that pass the gate `turns`.
+/// Runs `jobs` jobs with the gate `turns`.
 fn run_by_turns<R: Threads + Wait + Sync>(
     rt: &R,
     alloc: Global,
@@ -234,7 +234,7 @@ fn one_worker_takes_jobs_in_turn(rt: HostRuntime) -> Result<(), Fail> {
     let turns = Turns::new([0; 4]);
     run_by_turns(&rt, rt.alloc(), 4, 1, &turns)?;
     for job in 0..4usize {
-        assert_eq!(rt; turns.place_of(job), job as u64 + 1);
+        assert_eq!(rt; turns.position_of(job), job as u64 + 1);
     }
     Ok(())
 }
@@ -247,9 +247,9 @@ fn two_jobs_meet(rt: HostRuntime) -> Result<(), Fail> {
     Ok(())
 }
 
-/// With `--fail-alloc` a run returns a fault or all its results.
+/// If `rt try --fail-alloc` refuses memory, a run returns a fault or all its results.
 #[test]
-fn refused_memory_is_told(rt: HostRuntime) {
+fn refused_memory_is_reported(rt: HostRuntime) {
     for workers in [1, 3] {
         match run_squares(&rt, rt.alloc(), 5, 5, workers) {
             Ok(squares) => expect_numbers(&rt, &squares, &[0, 1, 4, 9, 16]),
@@ -259,7 +259,7 @@ fn refused_memory_is_told(rt: HostRuntime) {
     }
 }
 
-/// Each case holds one job; without stealing, the first would wait in vain.
+/// Each case holds one job. Without stealing, the held job of the first case would wait in vain.
 #[test]
 fn idle_worker_steals(rt: HostRuntime) -> Result<(), Fail> {
     for waits in [[0b110, 0, 0, 0], [0, 0b101, 0, 0], [0, 0, 0b011, 0]] {
@@ -270,21 +270,21 @@ fn idle_worker_steals(rt: HostRuntime) -> Result<(), Fail> {
     Ok(())
 }
 
-/// Jobs 0 and 2 belong to the first worker, 1 and 3 to the second.
+/// Jobs 0 and 2 are in the first worker's deque, jobs 1 and 3 in the second's.
 #[test]
 fn own_jobs_first(rt: HostRuntime) -> Result<(), Fail> {
     let turns = Turns::new([0b1000, 0, 0, 0]);
     run_by_turns(&rt, rt.alloc(), 4, 2, &turns)?;
     assert_eq!(rt; turns.missed(), 0);
-    assert!(rt; turns.place_of(3) < turns.place_of(2));
+    assert!(rt; turns.position_of(3) < turns.position_of(2));
     let turns = Turns::new([0, 0b100, 0, 0]);
     run_by_turns(&rt, rt.alloc(), 4, 2, &turns)?;
     assert_eq!(rt; turns.missed(), 0);
-    assert!(rt; turns.place_of(2) < turns.place_of(3));
+    assert!(rt; turns.position_of(2) < turns.position_of(3));
     Ok(())
 }
 
-/// How often a job entered its gate, was let in, and ran.
+/// How often a job's call of `enter` began and ended, and how often the job ran.
 #[derive(Drop)]
 struct Visit {
     entered: AtomicU64,
@@ -402,7 +402,7 @@ fn have_run_at_most_once(rt: &impl Abort, visits: &Visits) {
     }
 }
 
-/// Asserts that four workers, if some do not start, return `NoThread`.
+/// Asserts that a run of four workers returns `NoThread` if only `starts` of them start.
 fn refuses_starts<R: Abort + Threads + Wait + Sync>(
     rt: &R,
     alloc: Global,
@@ -435,7 +435,7 @@ fn threads_that_cannot_be_started(rt: HostRuntime) -> Result<(), Fail> {
     Ok(())
 }
 
-/// A held job blocks its worker. If all workers are blocked, no other job enters.
+/// A held job blocks its worker. While all workers are blocked, no other job enters.
 #[test]
 fn held_workers_take_no_job(rt: HostRuntime) -> Result<(), Fail> {
     for (workers, waits) in [(1, [0b10, 0, 0, 0]), (2, [0b100, 0b100, 0, 0])] {

@@ -1,4 +1,4 @@
-//! Writes grids and maps: their bytes, and devices that fail or are interrupted.
+//! Tests writing of grids and maps: their bytes, and devices that fail or are interrupted.
 ghost use Rattle.std.specs.Prelude.{◌≡◌, ◌*◌, ◌≤◌};
 
 use crate::texts::{LENIENT, LENIENT_CELLS, PIT, PIT_CELLS, grid_of};
@@ -12,24 +12,24 @@ use std::test::Fail;
 /// More bytes than a test writes.
 const ALL: usize = 20_000;
 
-/// A writer that takes `each` bytes a call, until `room` bytes are used up.
-/// The call `interrupted_at` fails as interrupted; later calls write on.
+/// A writer that takes at most `each` bytes a call, until `capacity` bytes are used up.
+/// The call with number `interrupted_at` fails as interrupted; later calls write on.
 #[derive(Drop)]
 struct Taker {
     taken: Vec<u8>,
     each: usize,
-    room: usize,
+    capacity: usize,
     flushed: usize,
     calls: usize,
     interrupted_at: Option<usize>,
 }
 
 impl Taker {
-    fn new(alloc: Global, each: usize, room: usize) -> Self {
+    fn new(alloc: Global, each: usize, capacity: usize) -> Self {
         Taker {
             taken: Vec::new(alloc),
             each,
-            room,
+            capacity,
             flushed: 0,
             calls: 0,
             interrupted_at: None,
@@ -49,12 +49,12 @@ impl Taker {
 impl Write for Taker {
     fn write(&mut self, bytes: &[u8]) -> io::Result<usize> {
         self.begin_call()?;
-        let count = bytes.len().min(self.each).min(self.room);
+        let count = bytes.len().min(self.each).min(self.capacity);
         if count == 0 && !bytes.is_empty() {
             return Err(io::Error::from(io::ErrorKind::Other));
         }
         self.taken.write(&bytes[..count])?;
-        self.room -= count;
+        self.capacity -= count;
         Ok(count)
     }
 
@@ -92,7 +92,7 @@ const PIT_WRITTEN: &[u8] =
 const WHOLE: &[u8] =
     b"ncols         1\nnrows         4\nxllcorner     0\nyllcenter     0\ncellsize      1\nNODATA_value  -9999\n-1000000000000000\n1000000000000000\n0\n-1\n";
 
-/// Writes the grid's heights, checks the failures, and returns the writer.
+/// Writes the grid's heights, asserts the number of failures, and returns the writer.
 fn written(rt: &impl Abort, grid: &Grid, mut taker: Taker, failures: u64) -> Taker {
     let mut out = Counted::new(&mut taker);
     let result = write_heights(grid, &mut out);
@@ -249,16 +249,16 @@ fn ten_bytes_and_a_failure(rt: HostRuntime) {
     }
 }
 
-/// Returns the bytes that a writer takes of [`empty_cells`].
+/// Returns the bytes of the text of [`empty_cells`] that a writer takes.
 fn taken_of_empty(
     rt: &impl Abort,
     alloc: Global,
     each: usize,
-    room: usize,
+    capacity: usize,
     failures: u64,
 ) -> Result<Vec<u8>, Fail> {
     let grid = empty_cells(rt, alloc)?;
-    Ok(written(rt, &grid, Taker::new(alloc, each, room), failures).taken)
+    Ok(written(rt, &grid, Taker::new(alloc, each, capacity), failures).taken)
 }
 
 /// Returns the byte at `at` in the rows of [`empty_cells`].

@@ -41,7 +41,7 @@ listed_before index label old new at k p other e = elim at.only [
       ]
 ]
 
--- One more cell with its index in the table.
+-- A table is also one for one more cell, if the index of that cell is listed.
 pub cell_listed : (index : ℕ) (label : Option Place) (old new : List (Option Place)) (cells more : List ℕ) → 0 < length old → IsTable old cells → IsListedAt index label old new → more ≡ cells ++ index ∷ [] → IsTable new more
 cell_listed index label old new cells more some table at is =
     let long = listed_length index label old new at in

@@ -1,5 +1,5 @@
 -- A rectangle of cells as a net.
-mod CellWays
+mod CellArcs
 mod Runs
 mod Borders
 pub mod Windows

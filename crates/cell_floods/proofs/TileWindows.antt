@@ -112,7 +112,7 @@ pub record AreTileLevels (t : Terrain) (c : Cutting) (tile : ℕ) (b : Bounds) (
       MatchOption (height_at t p) ((entry_in b levels p ≡ None) × (entry_in b labels p ≡ None))
       (λ _. (level : ℤ) × (label : Place) × (entry_in b levels p ≡ Some level) × (entry_in b labels p ≡ Some label) × IsTileLevel t c p level label)
 
--- A tile is small, and ends within the limits of a grid.
+-- A tile is small, and lies within the limits of a grid.
 pub bounds_limits : (t : Cutting) (b : Bounds) → IsCutting t → AreBounds t b → IsWithinLimits b
 bounds_limits t b h inside = (omega arith, omega arith)
 

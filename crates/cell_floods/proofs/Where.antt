@@ -54,8 +54,8 @@ some_below i m zero low = absurd (omega (arith, low))
 some_below i m (suc n) low = omega arith
 
 -- In a tile a cell has a level exactly if it has a label.
-both_stand : (t : Terrain) (c : Cutting) (tile : ℕ) (b : Bounds) (levels : List (Option ℤ)) (labels : List (Option Place)) → IsCutting c → tile < tile_count c → AreTileLevels t c tile b levels labels → (i : ℕ) → is_some (get_or labels i None) ≡ is_some (get_or levels i None)
-both_stand t c tile b levels labels h l is i = elim (cases_lt i (b.rows * b.cols)) [
+both_or_neither : (t : Terrain) (c : Cutting) (tile : ℕ) (b : Bounds) (levels : List (Option ℤ)) (labels : List (Option Place)) → IsCutting c → tile < tile_count c → AreTileLevels t c tile b levels labels → (i : ℕ) → is_some (get_or labels i None) ≡ is_some (get_or levels i None)
+both_or_neither t c tile b levels labels h l is i = elim (cases_lt i (b.rows * b.cols)) [
   | inr past ↦
       ap is_some (get_or_past labels i None (omega (arith, past, is.labels_size)))
       ∙ sym (ap is_some (get_or_past levels i None (omega (arith, past, is.levels_size))))
@@ -79,9 +79,9 @@ pub levels_where_are : (t : Terrain) (c : Cutting) (tile : ℕ) (b : Bounds) (le
     → AreTileLevels t c tile b levels labels → AreTileLevels t c tile b (levels_where labels heights) labels
 levels_where_are t c tile b levels labels heights h l are is =
     subst (λ (zs : List (Option ℤ)). AreTileLevels t c tile b zs labels)
-    (sym (ap (levels_where labels) are ∙ levels_back labels levels (is.labels_size ∙ sym is.levels_size) (both_stand t c tile b levels labels h l is))) is
+    (sym (ap (levels_where labels) are ∙ levels_back labels levels (is.labels_size ∙ sym is.levels_size) (both_or_neither t c tile b levels labels h l is))) is
 
--- The end of a path in a tile is a data cell.
+-- The last cell of a path in a tile is a data cell.
 label_data : (t : Terrain) (c : Cutting) (p : Place) (rest : List Place) → IsTilePath t c p rest → IsDataCell t (last_of p rest)
 label_data t c p [] path = elim path [ inl rim ↦ rim.0 | inr end ↦ first_is_data t p [] end ]
 label_data t c p (q ∷ rest) path = label_data t c q rest path.2
@@ -114,7 +114,7 @@ labels_inside t c tile b levels labels h l cuts is k label e = elim (cases_lt k 
       ]
 ]
 
--- A property of all labels is one of all places of their table.
+-- A property that all labels have is a property of all places of their table.
 pub table_inside : (P : Place → Type 0) (labels places : List (Option Place)) (cells : List ℕ) → labels ≡ labels_by places cells → IsTable places cells → ((k : ℕ) (p : Place) → get_or labels k None ≡ Some p → P p) → (k : ℕ) (p : Place) → get_or places k None ≡ Some p → P p
 table_inside P labels places cells are table inside k p e =
     let held = Any-from_list_any (λ n. n == k) cells (table.used k p e) in

@@ -24,7 +24,7 @@ use Rattle.floods.specs.Walk.{IsWalk, crest as walk_crest, end_of, IsFlooded}
 use Rattle.cell_floods.specs.Cells.{Cells, cell_at, node_at, IsNetOf, IsAfter, IsBeside, IsCellJoin, cells_around, has_gap_around, is_sink, source_of, last_of}
 use Rattle.terrain.proofs.Options.{some_inside}
 use Rattle.terrain.proofs.Options.{cases_option, none_some, none_done, none_from_is_some}
-use Rattle.cell_floods.proofs.CellWays.{all_beside, beside_around}
+use Rattle.cell_floods.proofs.CellArcs.{all_beside, beside_around}
 use Rattle.cell_floods.proofs.Borders.{above_row}
 use Rattle.std.specs.List.{Contains}
 use Rattle.std.proofs.lemmas.List.{length-set, get_or-set_same, get_or-set_other, get_or_default}

@@ -1,4 +1,4 @@
--- A rectangle of cells as a net: its neighbouring data cells are joined.
+-- A window, a rectangle of a terrain's cells, as a net: neighbouring data cells are joined.
 -- Public.
 use Rattle.std.specs.Prelude.{◌≡◌, ◌≢◌, ◌≤ℤ◌, ℕ, zero, suc, ◌+◌, ◌-◌, ◌*◌, ◌/◌, ◌%◌, ◌<◌, ◌≤◌, ◌⊎◌, ◌↔◌, ◌||◌, ℤ, Bool, true, false, List, [], ◌∷◌, ◌++◌, length, replicate, Option, None, Some, IsSome, is_none, if◌then◌else◌, slice_index_or, slice_range}
 use Rattle.std.specs.List.{list_any, Contains}
@@ -69,9 +69,9 @@ abbrev pub AreAllThere : List (Option ℤ) → ℕ → ℕ → Type 0
 AreAllThere cells first end =
     (index : ℕ) → first ≤ index → index < end → IsSome (slice_index_or cells index None)
 
--- The way from a cell of this height to another cell, if that has data.
-abbrev pub way_to : List (Option ℤ) → ℤ → ℕ → Option Spill
-way_to cells height b = elim (slice_index_or cells b None) [
+-- The arc from a cell of this height to another cell, if that has data.
+abbrev pub arc_to : List (Option ℤ) → ℤ → ℕ → Option Spill
+arc_to cells height b = elim (slice_index_or cells b None) [
   | None ↦ None
   | Some other ↦ Some (record { to = b; height = int_max other height })
 ]

@@ -6,9 +6,9 @@ ghost use Rattle.std.specs.Prelude.{◌≡◌, None, ◌+◌, ◌-◌, ◌*◌, 
 ghost use Rattle.std.specs.List.{list_any, filter_map, cons_option};
 ghost use Rattle.std.specs.Bool.{OnTrue};
 ghost use Rattle.floods.specs.Walk.{HasNoSource};
-ghost use Rattle.floods.specs.Flood.{candidates_in, InOrder, Follows, AreNoted};
+ghost use Rattle.floods.specs.Flood.{candidates_in, InOrder, Relaxes, AreNoted};
 ghost use Rattle.terrain.specs.Sinks.{with_sinks};
-ghost use Rattle.cell_floods.specs.Cells.{Cells, cells_around, way_to, whole, IsNetOf, IsCellJoin, IsPassed, source_of, AreAllThere, bordered_rows, inner_rows, row_of};
+ghost use Rattle.cell_floods.specs.Cells.{Cells, cells_around, arc_to, whole, IsNetOf, IsCellJoin, IsPassed, source_of, AreAllThere, bordered_rows, inner_rows, row_of};
 ghost use Rattle.tiles.specs.Cutting.{bounds_of, row_shown, terrain_of};
 
 use crate::sinks::{is_sink, window_sinks};
@@ -86,11 +86,11 @@ fn any_gap(cells: &[Cell], around: &[u32; 8]) -> bool
     around.iter().any(|&node| is_gap(cells, node))
 }
 
-/// Returns the way from a cell of this height to node `to`; `None` without data.
+/// Returns the arc from a cell of this height to node `to`; `None` without data.
 #[inline(always)]
-fn way_to(cells: &[Cell], height: Height, to: u32) -> Option<Spill>
+fn arc_to(cells: &[Cell], height: Height, to: u32) -> Option<Spill>
     requires { to < length cells.now }
-    ensures { result ≡ way_to cells.now height to }
+    ensures { result ≡ arc_to cells.now height to }
 {
     let other = cells[to as usize].height()?;
     Some(Spill {
@@ -99,36 +99,36 @@ fn way_to(cells: &[Cell], height: Height, to: u32) -> Option<Spill>
     })
 }
 
-/// Returns the ways from a cell of this height to those of `around` with data.
-fn ways_to(alloc: Global, cells: &[Cell], height: Height, around: [u32; 8]) -> SmallVec<Spill, 8>
+/// Returns the arcs from a cell of this height to those of `around` with data.
+fn arcs_to(alloc: Global, cells: &[Cell], height: Height, around: [u32; 8]) -> SmallVec<Spill, 8>
     requires { All (λ b. b < length cells.now) around }
-    ensures { result.items ≡ filter_map (way_to cells.now height) around }
+    ensures { result.items ≡ filter_map (arc_to cells.now height) around }
 {
-    let mut ways = SmallVec::new(alloc);
+    let mut arcs = SmallVec::new(alloc);
     for to in around {
-        if let Some(way) = way_to(cells, height, to) {
-            ways.push_reserved(way);
+        if let Some(arc) = arc_to(cells, height, to) {
+            arcs.push_reserved(arc);
         }
     }
-    ways
+    arcs
 }
 
 /// Out-of-line copy of [`queue_neighbour`], to keep the hot path small.
 #[inline(never)]
 fn queue_neighbour_out_of_line(
     queue: &mut Queue,
-    way: Spill,
+    arc: Spill,
     from: &Candidate,
     labels: &NodeLabels,
     levels: &mut HeightList,
 ) -> Result<(), AllocError>
     requires order { InOrder queue.old }
-    requires inside { way.to < length labels.now }
+    requires inside { arc.to < length labels.now }
     requires noted { AreNoted labels.now levels.old (candidates_in queue.old) }
     ensures { OnOk result
-        (Follows labels.now from.now (way ∷ []) levels.old levels.new queue.old queue.new) }
+        (Relaxes labels.now from.now (arc ∷ []) levels.old levels.new queue.old queue.new) }
 {
-    queue_neighbour(queue, way, from, labels, levels)
+    queue_neighbour(queue, arc, from, labels, levels)
 }
 
 /// Returns whether a neighbour needs no queueing.
@@ -143,8 +143,8 @@ fn is_passed(cell: Cell, top: Height, noted: Height) -> bool
     top < NO_DATA && Cell::of(number) == cell && noted <= number.max(top)
 }
 
-/// Queues the cell `to` unless it has no data, a label or a crest as low.
-/// `height` is the height of the cell `from.node`, at most its level.
+/// Queues the cell `to`, if it has data and no label and its crest gets lower.
+/// `height` is the height of the cell `from.node`, at most that cell's level.
 #[inline(always)]
 fn push_cell(
     queue: &mut Queue,
@@ -159,19 +159,19 @@ fn push_cell(
     requires cell { to < length cells.now }
     requires inside { to < length labels.now }
     requires noted { AreNoted labels.now levels.old (candidates_in queue.old) }
-    ensures { OnOk result (Follows labels.now from.now (cons_option (way_to cells.now height to) [])
+    ensures { OnOk result (Relaxes labels.now from.now (cons_option (arc_to cells.now height to) [])
         levels.old levels.new queue.old queue.new) }
 {
     let Reverse(level) = from.height;
     let noted = levels.heights()[to as usize];
-    // Most neighbours return here.
+    // Most calls return here.
     if is_passed(cells[to as usize], height.max(level), noted) {
         return Ok(());
     }
-    let Some(way) = way_to(cells, height, to) else {
+    let Some(arc) = arc_to(cells, height, to) else {
         return Ok(());
     };
-    queue_neighbour_out_of_line(queue, way, from, labels, levels)
+    queue_neighbour_out_of_line(queue, arc, from, labels, levels)
 }
 
 /// Queues three cells side by side, each as [`push_cell`] does.
@@ -191,8 +191,8 @@ fn push_three(
     requires inside { length labels.now ≡ length cells.now }
     requires few { length cells.now < 2 ^ 32 }
     requires noted { AreNoted labels.now levels.old (candidates_in queue.old) }
-    ensures { OnOk result (Follows labels.now from.now
-        (filter_map (way_to cells.now height) ((middle - 1) ∷ middle ∷ (middle + 1) ∷ []))
+    ensures { OnOk result (Relaxes labels.now from.now
+        (filter_map (arc_to cells.now height) ((middle - 1) ∷ middle ∷ (middle + 1) ∷ []))
         levels.old levels.new queue.old queue.new) }
 {
     push_cell(queue, cells, middle - 1, height, from, labels, levels)?;
@@ -219,8 +219,8 @@ fn push_around(
     requires few { length cells.now < 2 ^ 32 }
     requires inside { length labels.now ≡ length cells.now }
     requires noted { AreNoted labels.now levels.old (candidates_in queue.old) }
-    ensures { OnOk result (Follows labels.now from.now
-        (filter_map (way_to cells.now height) (cells_around stride from.now.node)) levels.old
+    ensures { OnOk result (Relaxes labels.now from.now
+        (filter_map (arc_to cells.now height) (cells_around stride from.now.node)) levels.old
         levels.new queue.old queue.new) }
 {
     let node = from.node;
@@ -303,7 +303,7 @@ impl Net for CellNet {
         let Some(height) = self.cells[node as usize].height() else {
             return Ok(SmallVec::new(alloc));
         };
-        Ok(ways_to(alloc, &self.cells, height, around(self.stride, node)))
+        Ok(arcs_to(alloc, &self.cells, height, around(self.stride, node)))
     }
 
     #[inline]

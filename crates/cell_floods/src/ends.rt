@@ -1,6 +1,6 @@
-//! Which labels of a tile are end cells: edge cells and sinks.
+//! Which labels of a tile are end cells: cells with a gap around them, and sinks.
 //!
-//! A tile's view also shows the cells around its rim, so it suffices to find edge cells.
+//! A gap is a place off the grid or without data. A tile's view shows all cells around its rim.
 ghost use Rattle.std.specs.Prelude.{◌≡◌, ◌↔◌, ◌⊎◌, ◌<◌, IsTrue, IfOk, IfSome, List, None, Some, Contains};
 ghost use Rattle.std.specs.List.{All};
 ghost use Rattle.terrain.specs.Neighbours.{HasGapAround};

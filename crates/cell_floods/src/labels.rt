@@ -31,7 +31,7 @@ impl Model for Labels {
 }
 
 impl Labels {
-    /// The table: `None` for cells without data, then each label of the tile once.
+    /// Returns the table: `None` for cells without data, then each label once.
     #[inline(always)]
     pub fn places(&self) -> &[Option<Place>]
         ensures value { result.now ≡ self.now.places }
@@ -40,7 +40,7 @@ impl Labels {
         &self.places
     }
 
-    /// The index of each cell's label in the table, in the tile's row order.
+    /// Returns the index of each cell's label in the table, in the tile's row order.
     #[inline(always)]
     pub fn indexes(&self) -> &[u32]
         ensures { result.now ≡ self.now.indexes }
@@ -75,7 +75,7 @@ fn place_of(bounds: Bounds, node: u32) -> Place
     ensures { result ≡ place_of_node bounds.top bounds.left bounds.cols node }
 {
     let stride = bounds.cols + 2;
-    // No label is a border node, so nothing saturates; the prover need not know that here.
+    // No label is a border node, so nothing saturates. A plain difference needs a proof of that.
     Place {
         row: (bounds.top + node / stride).saturating_sub(1),
         col: (bounds.left + node % stride).saturating_sub(1),
@@ -83,7 +83,7 @@ fn place_of(bounds: Bounds, node: u32) -> Place
 }
 
 /// Returns the index of a node's place in the table; adds the place if it is new.
-/// `met` has this index for each node met before, and 0 for the others.
+/// `met` has the index for each node met before, and 0 for other nodes.
 #[inline(always)]
 fn index_of_label(
     places: &mut Vec<Option<Place>>,
@@ -113,7 +113,7 @@ fn index_of_label(
     Ok(index)
 }
 
-/// Makes a table of `None` alone, with room for a label at each rim cell.
+/// Makes a table of `None` alone, with capacity for a label at each rim cell.
 fn empty_table(alloc: Global, bounds: Bounds) -> Result<Vec<Option<Place>>, AllocError>
     requires { IsWithinLimits bounds }
     ensures { IfOk result (λ v. v.items ≡ None ∷ []) }

@@ -42,7 +42,7 @@ impl Model for TileFlood {
 }
 
 impl TileFlood {
-    /// The first row and column of the tile, and its size.
+    /// Returns the first row and column of the tile, and its size.
     #[inline(always)]
     pub fn bounds(&self) -> Bounds
         ensures value { result ≡ self.now.bounds }
@@ -108,7 +108,7 @@ impl TileFlood {
         self.labels.at(index)
     }
 
-    /// The levels of the tile's cells, in its row order.
+    /// Returns the levels of the tile's cells, in its row order.
     /// The entry of a cell without a label is not a level.
     #[inline(always)]
     pub fn heights(&self) -> &[Height]
@@ -118,7 +118,7 @@ impl TileFlood {
         &self.heights
     }
 
-    /// The labels of the tile's cells, as a table and each cell's index into it.
+    /// Returns the labels of the tile's cells: a table, and each cell's index into it.
     #[inline(always)]
     pub fn labels(&self) -> &Labels
         ensures value { result.now ≡ self.now.table }
@@ -128,7 +128,7 @@ impl TileFlood {
         &self.labels
     }
 
-    /// The height of each label that is an end cell, in the order of the table.
+    /// Returns the height of each label that is an end cell, in the order of the table.
     /// Any other label has no data here.
     #[inline(always)]
     pub fn ends(&self) -> &[Cell]

@@ -1,6 +1,6 @@
 //! Filled heights of a grid by one flood: [`filled_heights`].
 //!
-//! Tests compare the filling by tiles with it.
+//! Tests compare the filling by tiles with this flood.
 ghost use Rattle.std.specs.Prelude.{IfOk};
 ghost use Rattle.drainage.specs.Filled.{IsFilled};
 

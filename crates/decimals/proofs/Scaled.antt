@@ -14,12 +14,12 @@ use Rattle.std.proofs.Math.Nat.{pow-suc, pow-le-pow_right}
 use Rattle.std.proofs.lemmas.Nat.{mul-le, pow-add}
 use Rattle.decimals.specs.Plain.{IsPlain}
 
--- digits, tested in two parts of which the first is not empty
+-- two joined parts, the first not empty, are digits exactly if both parts are digits alone
 pub are_digits_joined : (a b : List ℕ) → 0 < length a → are_digits (a ++ b) ≡ (list_all is_ascii_digit a && list_all is_ascii_digit b)
 are_digits_joined [] b h = absurd (omega arith)
 are_digits_joined (x ∷ xs) b h = list_all-append is_ascii_digit (x ∷ xs) b
 
--- the first d digits of a fraction, padded with zeros
+-- the first d bytes of a fraction padded with zeros are the fraction's own, and zeros up to d
 take-padded : (d k : ℕ) (xs : List ℕ) → d ≤ k → take d (xs ++ replicate k 48) ≡ take d xs ++ replicate (d - min d (length xs)) 48
 take-padded zero k xs h = ap (λ (n : ℕ). replicate n 48) (let none : 0 ≡ 0 - min 0 (length xs) = omega arith in none)
 take-padded (suc d) k [] h = take-replicate (suc d) k 48 h ∙ ap (λ (n : ℕ). replicate n 48) (let all : suc d ≡ suc d - min (suc d) 0 = omega arith in all)
@@ -27,14 +27,14 @@ take-padded (suc d) k (x ∷ xs) h =
     let left : d - min d (length xs) ≡ suc d - min (suc d) (suc (length xs)) = omega arith in
     ap (λ z. x ∷ z) (take-padded d k xs (omega arith)) ∙ ap (λ n. x ∷ take d xs ++ replicate n 48) left
 
--- the number of a whole part and a padded fraction, as three folds
+-- the number of a whole part and a padded fraction is a fold over the digits, then over the zeros
 pub number_of-padded : (d : ℕ) (a xs : List ℕ) → number_of (a ++ take d (xs ++ replicate d 48)) ≡ fold (λ n b. 10 * n + (b - 48)) (fold (λ n b. 10 * n + (b - 48)) (number_of a) (take d xs)) (replicate (d - min d (length xs)) 48)
 number_of-padded d a xs =
     ap (λ z. number_of (a ++ z)) (take-padded d d xs (omega arith))
     ∙ fold-append (λ n b. 10 * n + (b - 48)) 0 a (take d xs ++ replicate (d - min d (length xs)) 48)
     ∙ fold-append (λ n b. 10 * n + (b - 48)) (number_of a) (take d xs) (replicate (d - min d (length xs)) 48)
 
--- where no element passes, all elements are before the first that does
+-- where no element passes, the position of the first that does is the length
 position-none : (p : ℕ → Bool) (xs : List ℕ) → list_any p xs ≡ false → position_or_len p xs ≡ length xs
 position-none p [] h = refl
 position-none p (x ∷ xs) h = let parts = or_parts (p x) (list_any p xs) h in rw parts.0 (omega (arith, position-none p xs parts.1))
@@ -55,7 +55,7 @@ list_any-without_sign p (b ∷ bs) h =
 mantissa-plain : (w : Word) → has_exponent w ≡ false → mantissa w ≡ without_sign w
 mantissa-plain w h = before_first-none is_exponent_mark (without_sign w) (list_any-without_sign is_exponent_mark w h)
 
--- no scaled value without digits alone in both parts
+-- a word without an exponent whose parts are not digits has no scaled value
 pub scaled_value-not_digits : (d : ℕ) (w a b : Word) → has_exponent w ≡ false → a ≡ before_first is_point (without_sign w) → b ≡ after_first is_point (without_sign w) → are_digits (a ++ b) ≡ false → scaled_value d w ≡ None
 scaled_value-not_digits d w a b h p q e =
     let m = mantissa-plain w h in
@@ -66,14 +66,14 @@ option_map-cond : (t : Bool) (n : ℕ) (g : ℕ → ℤ) → cond t (Some (g n))
 option_map-cond true n g = refl
 option_map-cond false n g = refl
 
--- the scaled value of a word whose parts are digits, by its size
+-- the scaled value of a word without an exponent is its scaled size, with its sign
 pub scaled_value-digits : (d : ℕ) (w a b : Word) (size : Option ℕ) → has_exponent w ≡ false → a ≡ before_first is_point (without_sign w) → b ≡ after_first is_point (without_sign w) → are_digits (a ++ b) ≡ true → size ≡ cond (list_all (λ x. x == 48) (drop d b) && nat_le (number_of (a ++ take d (b ++ replicate d 48))) (10 ^ 18)) (Some (number_of (a ++ take d (b ++ replicate d 48)))) None → scaled_value d w ≡ option_map (λ n. cond (is_negative w) (neg_ℤ (pos n)) (pos n)) size
 scaled_value-digits d w a b size h p q e k =
     let m = mantissa-plain w h in
     let digits : are_digits (whole_part w ++ fraction w) ≡ true = rw (m, ← p, ← q) e in
     rw (k, digits, h, m, ← p, ← q) (option_map-cond _ _ (λ n. cond (is_negative w) (neg_ℤ (pos n)) (pos n)))
 
--- the size, saturated at 10^18 + 1, where only zeros follow the scale
+-- a size saturated at 10^18 + 1 is kept exactly if the size itself is at most 10^18
 pub size-kept : (x : Bool) (n size : ℕ) → x ≡ true → size ≡ min n 1000000000000000001 → then_some (nat_lt size 1000000000000000001) size ≡ cond (x && nat_le n (10 ^ 18)) (Some n) None
 size-kept x n size h e =
     elim (cases_lt n 1000000000000000001) [
@@ -139,7 +139,7 @@ bare_digits (x ∷ xs) rest h k =
     let b = digit_bounds x (and_parts (is_ascii_digit x) (list_all is_ascii_digit xs) k).0 in
     (rw (ne_eqb x 43 (λ e. omega arith), ne_eqb x 45 (λ e. omega arith)) refl, ne_eqb x 45 (λ e. omega arith))
 
--- plain digits at the front, without and with `-`
+-- up to 16 digits at the front are a plain number, if their value at the scale is at most 10^18
 pub IsPlain-positive : (d : ℕ) (bytes : List ℕ) (len : ℕ) → 0 < len → len ≤ 16 → len ≤ length bytes → list_all is_ascii_digit (take len bytes) ≡ true → number_of (take len bytes) * 10 ^ d ≤ 10 ^ 18 → IsPlain d bytes len (pos (number_of (take len bytes) * 10 ^ d))
 IsPlain-positive d bytes len some short within digits small =
     let xs = take len bytes in
@@ -169,7 +169,7 @@ IsPlain-negative d (b ∷ bs) rest len sign e some short within digits small =
       whole = ap (list_any is_separator) at ∙ any-digits is_separator xs no_separator digits;
     }
 
--- bounds of a number by its digits, and of its product with 10^d
+-- a number below 10^k is below each higher power of ten
 pub below_power : (n k m : ℕ) → n < 10 ^ k → k ≤ m → n < 10 ^ m
 below_power n k m h le = omega (arith, h, pow-le-pow_right {n = 10} (omega arith) {i = k} {j = m} le)
 

@@ -9,7 +9,7 @@ ghost use Rattle.decimals.specs.Plain.{IsPlain};
 
 use crate::digits::{OVER, all_digits, are_digits, digits_after};
 
-/// The most digits of a height in units: those of 10^15.
+/// The most digits of a height in units; 10^15 has this many.
 const HEIGHT_DIGITS: usize = 16;
 
 /// Whether a word is a decimal text, as `-12.5` or `3E2`.
@@ -25,7 +25,7 @@ pub fn is_decimal(word: &[u8]) -> bool
         && (!has_exponent(word) || are_digits(without_sign(exponent)))
 }
 
-/// Whether a decimal text has no `-`, and a digit other than 0 before its exponent.
+/// Whether a decimal text is above 0: no `-`, and not all digits before `e` are 0.
 pub fn is_above_zero(word: &[u8]) -> bool
     ensures { result ≡ is_above_zero word.now }
 {
@@ -36,8 +36,8 @@ pub fn is_above_zero(word: &[u8]) -> bool
 
 /// Returns the value of a decimal text in units of 10^-scale.
 ///
-/// `None` if the word is no decimal text or has an exponent, if it has a digit other than 0 past
-/// the scale, or if its scaled value is not from -10^18 to 10^18.
+/// `None` if the word is no decimal text or has an exponent. `None` too if a decimal past the scale
+/// is not 0, or if the result is not from -10^18 to 10^18.
 ///
 /// # Examples
 ///
@@ -78,7 +78,7 @@ pub fn plain_number(scale: u8, bytes: &[u8]) -> Option<(usize, i64)>
     Some((len, signed(false, size)))
 }
 
-/// Returns the length of the digits at the front, and their number times 10^scale.
+/// Returns the length of the digits at the front, and their value times 10^scale.
 #[inline(always)]
 fn plain_size(scale: u8, bytes: &[u8]) -> Option<(usize, u64)>
     requires { scale ≤ 6 }
@@ -95,7 +95,7 @@ fn plain_size(scale: u8, bytes: &[u8]) -> Option<(usize, u64)>
     Some((len, number * power_of_ten(scale)))
 }
 
-/// Returns the length, at most 16, of the digits at the front, and their number.
+/// Returns the length, at most 16, of the digits at the front, and their value.
 #[inline(always)]
 fn digits_in_front(bytes: &[u8]) -> (usize, u64)
     ensures within { (result.0 ≤ HEIGHT_DIGITS) × (result.0 ≤ length bytes.now) }
@@ -203,7 +203,7 @@ fn point_at(word: &[u8]) -> Option<usize>
     word.iter().position(|b| *b == b'.')
 }
 
-/// Whether both parts have digits alone, and at least one between them.
+/// Whether all bytes of the two parts are digits, and there is at least one.
 #[tactic(auto, using(crate::proofs::Scaled::are_digits_joined))]
 fn are_digits_in_all(whole: &[u8], fraction: &[u8]) -> bool
     ensures { result ≡ are_digits (whole.now ++ fraction.now) }

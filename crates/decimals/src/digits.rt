@@ -57,7 +57,7 @@ pub(crate) fn digits_after(number: u64, digits: &[u8]) -> u64
 {
     let mut value = number;
     for b in digits {
-        // Callers pass digits alone; `saturating_sub` spares a premise that says so.
+        // Callers pass digits alone; `saturating_sub` avoids a `requires` that says so.
         value = (10 * value + u64::from(b.saturating_sub(b'0'))).min(OVER);
     }
     value

@@ -20,7 +20,7 @@ use Rattle.drain.specs.Entering.{sinkless_terrain}
 use Rattle.drain.specs.Lowering.{place_at}
 use Rattle.drain.specs.Rounds.{AreWalked, IsSource, IsRound}
 use Rattle.drain.specs.Steps.{DrainsAtOnce}
-use Rattle.drain.specs.Window.{AreCounts, AreWindowCounts, AreShown, IsCopied, IsSettled, IsSpot, Shows, area_of, count_on, known_counts, spot_index}
+use Rattle.drain.specs.Window.{AreCounts, AreWindowCounts, AreShown, IsCopied, IsSearched, IsSpot, Shows, area_of, count_on, known_counts, spot_index}
 use Rattle.drain.proofs.DrainedLemmas.{same_terrain}
 use Rattle.drain.proofs.Few.{drains_data}
 use Rattle.drain.proofs.Nearby.{drains_at_once}
@@ -38,7 +38,7 @@ begun_shown t b s q n there few here = (
   λ off. absurd (shows_none b s q there off),
 )
 
--- two properties that agree at each place give the same initial counts
+-- properties that agree at the place of a spot give it the same initial count
 begun_by : (A B : Place → Type 0) (b : Bounds) (s : Place) (n : ℕ) → ((p : Place) → Shows b s p → A p → B p) → ((p : Place) → Shows b s p → B p → A p) → IsBegunSpot A b s n → IsBegunSpot B b s n
 begun_by A B b s n to from is = (
   is.0,
@@ -49,7 +49,7 @@ begun_by A B b s n to from is = (
 abbrev pub sink_at : List Place → ℕ → Place
 sink_at sinks index = get_or sinks index (make_place 0 0)
 
--- the cell is an edge cell, has a lower neighbour, or is one of the first sinks
+-- the cell is an edge cell, has a lower neighbour, or is a data cell among the first `end` sinks
 abbrev pub DrainsBefore : Terrain → List Place → ℕ → Place → Type 0
 DrainsBefore t sinks end p = IsEdgeOrHasLower t p ⊎ (IsDataCell t p × (k : ℕ) × (k < end) × (k < length sinks) × (get_or sinks k p ≡ p))
 
@@ -136,9 +136,9 @@ one_begun Drains p None None f g = refl
 one_begun Drains p (Some n) y f g = let drains = (f.only n refl).0 in f.zero drains ∙ sym (g.zero drains)
 one_begun Drains p None (Some n) f g = let drains = (g.only n refl).0 in f.zero drains ∙ sym (g.zero drains)
 
-told_back : (counts : List ℕ) → AreCounts counts → counts ≡ known_counts (map known counts)
-told_back [] few = refl
-told_back (n ∷ counts) few = ap (λ (m : ℕ). m ∷ counts) (sym (known_number n (few 0))) ∙ ap (λ (xs : List ℕ). unwrap_or (known n) no_count ∷ xs) (told_back counts (λ k. few (suc k)))
+known_again : (counts : List ℕ) → AreCounts counts → counts ≡ known_counts (map known counts)
+known_again [] few = refl
+known_again (n ∷ counts) few = ap (λ (m : ℕ). m ∷ counts) (sym (known_number n (few 0))) ∙ ap (λ (xs : List ℕ). unwrap_or (known n) no_count ∷ xs) (known_again counts (λ k. few (suc k)))
 
 -- the initial counts at the spots are those of any list of initial counts
 module _ (t : Terrain) (b : Bounds) (counts : List ℕ) (begun : List (Option ℕ)) (are : AreBegunSpots (DrainsAtOnce t) b counts) where
@@ -157,7 +157,7 @@ module _ (t : Terrain) (b : Bounds) (counts : List ℕ) (begun : List (Option �
         let at = are.each s spot below in
         let here = get_or-map known counts (spot_index b s) 0 None (omega (arith, are.size, below)) in
         (λ p shows. here ∙ value p (count_on b counts s) (at.1 p shows), λ off. here ∙ at.2 off);
-    value = told_back counts begun_small;
+    value = known_again counts begun_small;
   }
     where
       value : (p : Place) (n : ℕ) → IsBegun (DrainsAtOnce t) p (known n) → known n ≡ entry_at t.cols t.rows begun p
@@ -194,14 +194,14 @@ some_begun t =
       },
     )
 
--- a search from the initial counts is a round
+-- a search from the initial counts gives the counts of a round
 pub begun_round : (t : Terrain) (v : View (Option ℤ)) (c : Cutting) (tile : ℕ) (b : Bounds) (levels : List (Option ℤ)) (old new : List ℕ) (list begun : List (Option ℕ)) →
     v ≡ record { cutting = c; tile = tile; cells = t.cells } → Cuts c t → IsCutting v.cutting → b ≡ bounds_of v.cutting v.tile → AreShown v.cutting.cols v.cutting.rows v.cells None b levels →
-    AreBegunSpots (DrainsAtOnce t) b old → AreBegun t begun → IsSettled b levels old new → AreMadeBelow b (IsCopied b new) (b.rows * b.cols) list →
+    AreBegunSpots (DrainsAtOnce t) b old → AreBegun t begun → IsSearched b levels old new → AreMadeBelow b (IsCopied b new) (b.rows * b.cols) list →
     IsRound (IsSource (sinkless_terrain c t.cells) begun) (sinkless_terrain c t.cells) c tile begun list
-begun_round t v c tile b levels old new list begun e cuts lawful bounds shown are first settled out =
+begun_round t v c tile b levels old new list begun e cuts lawful bounds shown are first finished out =
     let w : View (Option ℤ) = record { cutting = c; tile = tile; cells = t.cells } in
     let here = subst (λ (z : View (Option ℤ)). IsCutting z.cutting × (b ≡ bounds_of z.cutting z.tile) × AreShown z.cutting.cols z.cutting.rows z.cells None b levels) e (lawful, bounds, shown) in
     let input = subst (λ (n : ℕ). AreWindowCounts n c.rows begun b old) (sym cuts.0) (subst (λ (n : ℕ). AreWindowCounts t.cols n begun b old) (sym cuts.1) (begun_window t b old begun are first)) in
     let walks = subst (λ (x : Terrain). AreWalked (IsSource x begun) x begun) (same_terrain t c.cols c.rows t.cells cuts.0 cuts.1 refl) (begun_counting t begun first).walked in
-    round_from w (record { cutting = c; tile = tile; cells = begun }) b levels old new list here.0 here.1 here.2 input walks settled out
+    round_from w (record { cutting = c; tile = tile; cells = begun }) b levels old new list here.0 here.1 here.2 input walks finished out

@@ -27,7 +27,7 @@ drains_from t p q level (Some h) is touch there lower =
 
 module _ (t : Terrain) (p : Place) (level : ℤ) (cells : List (Option ℤ)) (at : List ℕ) (cells_are : cells ≡ t.cells) (at_is : at ≡ around_index t.cols (index_of t.cols p))
     (inside : IsInside t p) (interior : IsOutermost t p → ⊥) (is : height_at t p ≡ Some level) where
-  -- a gap or a lower cell around it makes a cell an edge cell or gives it a lower neighbour
+  -- a cell with a gap or a lower cell around it is an edge cell or has a lower neighbour
   pub around_drains : (way : ℕ) × (way < 8) × IsGapOrLower level (get_or cells (get_or at way 0) None) → IsEdgeOrHasLower t p
   around_drains (way, below, found) =
       let q = cell_on_way t p cells at cells_are at_is inside interior way below in

@@ -17,7 +17,7 @@ use Rattle.drain.proofs.Nearby.{WalksIn, walks_in}
 pub height_is : (t : Terrain) (p : Place) → IsDataCell t p → height_at t p ≡ Some (height_of t p)
 height_is t p is = known (height_at t p) is
 
--- a path that does not rise begins with a flat walk
+-- if a path never rises above its first cell, a flat walk leads from that cell
 walk_on : (t : Terrain) (rest : List Place) (p : Place) → IsPath t p rest → crest t p rest ≤ℤ height_of t p → (walk : List Place) × IsFlatWalk t p walk
 walk_on t [] p path low = ([], inr path)
 walk_on t (q ∷ rest) p path low =
@@ -41,7 +41,7 @@ some_walk t p filled is =
     let walk = walk_on t own.reached.0 p own.reached.1 (subst (λ z. z ≤ℤ height_of t p) (sym own.reached.2) (omega (arith, ints))) in
     (length walk.0, (walk.0, walk.1, refl))
 
--- a shortest flat walk, or none has fewer than b moves
+-- either there is a shortest flat walk, or no flat walk has fewer than b moves
 shortest_below : (t : Terrain) (p : Place) (b : ℕ) → ((n : ℕ) × WalksIn t p n × ((k : ℕ) → k < n → WalksIn t p k → ⊥)) ⊎ ((k : ℕ) → k < b → WalksIn t p k → ⊥)
 shortest_below t p zero = inr (λ k h _. omega arith)
 shortest_below t p (suc b) = elim (shortest_below t p b) [

@@ -13,7 +13,7 @@ use Rattle.drainage.specs.Drained.{IsDraining}
 use Rattle.drain.proofs.Pointing.{direction_leads}
 use Rattle.terrain.proofs.Options.{cases_option}
 
--- two lists that have entries at the same places inside have them at the same places everywhere
+-- two lists with values at the same places of the grid have values at the same places everywhere
 everywhere : {X Y : Type 0} (cols rows : ℕ) (xs : List (Option X)) (ys : List (Option Y)) → ((p : Place) → p.row < rows → p.col < cols → is_some (entry_at cols rows xs p) ≡ is_some (entry_at cols rows ys p)) →
     (p : Place) → is_some (entry_at cols rows xs p) ≡ is_some (entry_at cols rows ys p)
 everywhere cols rows xs ys same p = elim (cases_lt p.row rows) [
@@ -24,7 +24,7 @@ everywhere cols rows xs ys same p = elim (cases_lt p.row rows) [
   | inr past ↦ ap is_some (entry-below cols rows xs p past) ∙ sym (ap is_some (entry-below cols rows ys p past))
 ]
 
--- a list with a number at each data cell alone has entries where the terrain has data
+-- a list with a number at each data cell alone has values where the terrain has data
 same_where : (t : Terrain) (Is : Place → ℕ → Type 0) (xs : List (Option ℕ)) →
     ((p : Place) → IsInside t p → MatchOption (height_at t p) (entry_at t.cols t.rows xs p ≡ None) (λ _. (n : ℕ) × (entry_at t.cols t.rows xs p ≡ Some n) × Is p n)) →
     (p : Place) → is_some (entry_at t.cols t.rows xs p) ≡ is_some (height_at t p)

@@ -1,4 +1,4 @@
--- Cells of rims, and places inside a tile.
+-- Places on the rim of a tile, and places inside it.
 use Rattle.std.proofs.Common.{◌≡◌, ℕ, suc, ◌<◌, ◌∙◌, inl, inr, true, List, ◌∷◌, sym, subst, refl, arith, ◌+◌}
 use Rattle.std.specs.Prelude.{Contains}
 use Rattle.std.proofs.lemmas.Bool.{cases_eq, eq-eqb, or_left, or_right}
@@ -8,7 +8,7 @@ use Rattle.tiles.specs.Cutting.{Cutting, IsCutting, IsWithin, IsInTile, bounds_o
 use Rattle.drain.specs.Entering.{IsInterior}
 use Rattle.tiles.proofs.Cut.{in_bounds, in_tile, tile_of_place_below}
 
--- a place beside another tile lies on its tile's rim
+-- a place that touches another tile lies on the rim of its own tile
 pub on_rim : (c : Cutting) (p q : Place) → IsCutting c → IsWithin c p → (IsInTile c (tile_of_place c p) q → ⊥) → Touches p q → is_on_rim c p ≡ true
 on_rim c p q lawful within other touch =
     let tile = tile_of_place c p in
@@ -29,7 +29,7 @@ on_rim c p q lawful within other touch =
       ]
     ]
 
--- a place inside a tile, off the rim, touches only places of that tile
+-- a place whose eight places around lie in a tile touches only places of that tile
 pub interior_tile : (c : Cutting) (tile : ℕ) (p q : Place) → IsCutting c → tile < tile_count c → IsInterior (bounds_of c tile) p → Touches p q → tile_of_place c q ≡ tile_of_place c p
 interior_tile c tile p q lawful below interior touch =
     (in_tile c tile q lawful below (omega (arith, interior.0, touch.row_up), omega (arith, interior.1, touch.row_down), omega (arith, interior.2, touch.col_left), omega (arith, interior.3, touch.col_right))).1

@@ -4,14 +4,14 @@ use Rattle.std.proofs.lemmas.Bool.{cases_eq, cases_lt, false≢true, eq-eqb, ne_
 use Rattle.std.specs.List.{position, position_or_len, list_any}
 use Rattle.std.proofs.lemmas.List.Sums.{position_or_len_is, fails_before_first}
 
--- a bound of all numbers bounds their greatest
+-- a bound of all numbers is a bound of the greatest one
 pub fold-max_least : (xs : List ℕ) (a m : ℕ) → a ≤ m → ((k : ℕ) → k < length xs → get_or xs k 0 ≤ m) → fold max a xs ≤ m
 fold-max_least [] a m le all = le
 fold-max_least (x ∷ xs) a m le all =
     let x_le : x ≤ m = all 0 (omega arith) in
     fold-max_least xs (max a x) m (omega arith) (λ k h. all (suc k) (omega arith))
 
--- the first index that passes the test
+-- an index that passes the test, with none before it that does, is the `position`
 pub position_is : {X : Type 0} (p : X → Bool) (xs : List X) (i : ℕ) (d : X) → i < length xs → ((k : ℕ) → k < i → p (get_or xs k d) ≡ false) → p (get_or xs i d) ≡ true → position p xs ≡ Some i
 position_is p xs i d within before here =
     let at : position_or_len p xs ≡ i = position_or_len_is p xs i d (omega arith) before (λ _. here) in

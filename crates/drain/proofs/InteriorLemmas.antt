@@ -12,7 +12,7 @@ use Rattle.terrain.specs.Raster.{Terrain, IsTerrain, IsHeight}
 use Rattle.terrain.specs.Neighbours.{IsInside, height_at, entry_at, index_of, Touches}
 use Rattle.terrain.specs.Ways.{around_index, place_on, entry_on, code_of}
 use Rattle.terrain.specs.declared.place.Place.{Place}
-use Rattle.drain.specs.Interior.{drop_by, drop_on, HasHeights, IsSteepestWay, StandAround}
+use Rattle.drain.specs.Interior.{drop_by, drop_on, HasHeights, IsSteepestWay, HasCells}
 use Rattle.drain.specs.Beginning.{IsOutermost}
 use Rattle.drain.specs.Directions.{IsCodeAt}
 use Rattle.drain.specs.Fitting.{IsLaidAround}
@@ -24,7 +24,7 @@ use Rattle.terrain.proofs.Options.{cases_option}
 use Rattle.drain.proofs.Laid.{with_steps, without_steps, leads as leads_by_steps, is_down, is_outlet, is_onward, code_is}
 use Rattle.drain.proofs.Quiet.{if_some}
 
--- the drop on a way, by its height
+-- the drop on a way, by the heights and by the surroundings
 pub drop_is : (a : Around) (level : ℤ) (heights : List (Option ℤ)) (way : ℕ) → HasHeights a level heights → way < 8 → drop_on level heights way ≡ drop_to a.level (get_or a.ways way None)
 drop_is a level heights way has below =
     ap (λ (o : Option ℤ). drop_by level o) (has.each way below) ∙ without_steps level (get_or a.ways way None) ∙ ap (λ (z : ℤ). drop_to z (get_or a.ways way None)) (sym has.own_level)
@@ -42,7 +42,7 @@ interior_parts t p inside interior = (
   elim (cases_eq p.col (t.cols - 1)) [ inl e ↦ absurd (interior (inr (inr (inr e)))) | inr ne ↦ omega (arith, inside.1) ],
 )
 
--- The place on a way from another lies in the grid and has the index that `around_index` gives.
+-- q is the place on a way from p, in the grid, with the index that `around_index` gives.
 pub record IsOnWay (t : Terrain) (p : Place) (way : ℕ) (q : Place) : Type 0 where
   pub on : place_on way p ≡ Some q
   pub inside : IsInside t q
@@ -66,7 +66,7 @@ on_way_interior t p inside interior way below =
       },
     )
 
--- a whole row precedes an interior cell
+-- more cells than a row has precede an interior cell
 pub row_before : (t : Terrain) (p : Place) → IsInside t p → (IsOutermost t p → ⊥) → t.cols < index_of t.cols p
 row_before t p inside interior =
     let part = interior_parts t p inside interior in
@@ -87,7 +87,7 @@ interior_entry t p xs inside interior way below =
     ∙ entry-inside t.cols t.rows xs q.0 q.1.inside.0 q.1.inside.1
     ∙ ap (λ (n : ℕ). get_or xs n None) q.1.index
 
--- the cell at the index on a way
+-- the height at the index of a way is that of the place on the way
 pub cell_on_way : (t : Terrain) (p : Place) (cells : List (Option ℤ)) (at : List ℕ) → cells ≡ t.cells → at ≡ around_index t.cols (index_of t.cols p) → IsInside t p → (IsOutermost t p → ⊥) →
     (way : ℕ) → way < 8 → (q : Place) × IsOnWay t p way q × (get_or cells (get_or at way 0) None ≡ height_at t q)
 cell_on_way t p cells at cells_are at_is inside interior way below =
@@ -98,7 +98,7 @@ cell_on_way t p cells at cells_are at_is inside interior way below =
           ∙ sym (interior_entry t p t.cells inside interior way below) ∙ ap (λ (o : Option Place). option_and_then (λ r. entry_at t.cols t.rows t.cells r) o) q.1.on,
     )
 
--- each data cell has steps
+-- a pair of height and steps has the height of the cell, since each data cell has steps
 zip_heights : (t : Terrain) (steps : List (Option ℕ)) (q : Place) → AreSteps t steps →
     option_map (λ (w : ℤ × ℕ). w.0) (option_zip (height_at t q) (entry_at t.cols t.rows steps q)) ≡ height_at t q
 zip_heights t steps q are = elim (cases_option (height_at t q)) [
@@ -110,7 +110,7 @@ zip_heights t steps q are = elim (cases_option (height_at t q)) [
       ∙ sym some.1)
 ]
 
--- the surroundings of a cell of this level and these steps, with `edge` unset
+-- the surroundings of a cell of this height and these steps, with `edge` unset
 abbrev pub around_of : Terrain → List (Option ℕ) → Place → ℤ → ℕ → Around
 around_of t steps p level own = around_with t steps p level own false
 
@@ -119,8 +119,8 @@ module _ (t : Terrain) (steps : List (Option ℕ)) (p : Place) (level : ℤ) (ow
   laid : IsLaidAround t steps p (around_of t steps p level own)
   laid = laid_with t steps p level own false high count
 
-  stand_there : StandAround (around_of t steps p level own) t.cells steps (around_index t.cols (index_of t.cols p)) level own
-  stand_there = record {
+  has_cells_there : HasCells (around_of t steps p level own) t.cells steps (around_index t.cols (index_of t.cols p)) level own
+  has_cells_there = record {
     own_level = refl;
     own_steps = refl;
     count = refl;
@@ -129,10 +129,10 @@ module _ (t : Terrain) (steps : List (Option ℕ)) (p : Place) (level : ℤ) (ow
         ∙ ap (λ (o : Option ℕ). option_zip (get_or t.cells (get_or (around_index t.cols (index_of t.cols p)) way 0) None) o) (interior_entry t p steps inside interior way below);
   }
 
-  pub stand : (cells : List (Option ℤ)) (at : List ℕ) → cells ≡ t.cells → at ≡ around_index t.cols (index_of t.cols p) → StandAround (around_of t steps p level own) cells steps at level own
-  stand cells at cells_are at_is =
-      subst (λ (l : List ℕ). StandAround (around_of t steps p level own) cells steps l level own) (sym at_is)
-      (subst (λ (xs : List (Option ℤ)). StandAround (around_of t steps p level own) xs steps (around_index t.cols (index_of t.cols p)) level own) (sym cells_are) stand_there)
+  pub has_cells : (cells : List (Option ℤ)) (at : List ℕ) → cells ≡ t.cells → at ≡ around_index t.cols (index_of t.cols p) → HasCells (around_of t steps p level own) cells steps at level own
+  has_cells cells at cells_are at_is =
+      subst (λ (l : List ℕ). HasCells (around_of t steps p level own) cells steps l level own) (sym at_is)
+      (subst (λ (xs : List (Option ℤ)). HasCells (around_of t steps p level own) xs steps (around_index t.cols (index_of t.cols p)) level own) (sym cells_are) has_cells_there)
 
   pub has_heights : (cells heights : List (Option ℤ)) (at : List ℕ) → cells ≡ t.cells → at ≡ around_index t.cols (index_of t.cols p) →
       ((way : ℕ) → way < 8 → get_or heights way None ≡ get_or cells (get_or at way 0) None) → HasHeights (around_of t steps p level own) level heights

@@ -11,7 +11,7 @@ use Rattle.drain.specs.Lowering.{count_of, counts_in, kept_at, kept_of, place_at
 use Rattle.drain.specs.declared.lowering.Lowered.{Lowered}
 use Rattle.drain.proofs.Unique.{index-place_at, place_at-index_of}
 
--- the kept count of a cell of the tile
+-- the count kept for a cell of the tile, by row and column of the tile
 kept_inside : (c : Cutting) (tile : ℕ) (l : Lowered) (k : ℕ) → is_in_bounds (bounds_of c tile) (place_at c.cols k) ≡ true →
     kept_of c tile l k ≡ kept_at l (k / c.cols - (bounds_of c tile).top) (k % c.cols - (bounds_of c tile).left)
 unfolding kept_of
@@ -77,7 +77,7 @@ pub record IsPut (c : Cutting) (steps : List (Option ℕ)) (old new : Lowered) (
 abbrev in_row : Option (Vec ℕ Global) → ℕ → Option ℕ
 in_row o q = option_and_then (λ (counts : Vec ℕ Global). slice_get counts.items q) o
 
--- another cell of the row has its count as before
+-- any other cell of the row keeps its count
 put_beside : (c : Cutting) (tile : ℕ) (steps : List (Option ℕ)) (old new : Lowered) (p : Place) (n k : ℕ) → IsPut c steps old new p n (bounds_of c tile) →
     is_in_bounds (bounds_of c tile) (place_at c.cols k) ≡ true → k / c.cols ≡ p.row → k ≢ index_of c.cols p → counts_in c tile steps new k ≡ counts_in c tile steps old k
 put_beside c tile steps old new p n k put in_b row other =

@@ -46,7 +46,7 @@ module _ (t : Terrain) (steps : List (Option ℕ)) (p : Place) (a : Around) (are
   pub with_steps : 0 < a.steps → DrainsAtOnce t p → ⊥
   with_steps some drains = let least : a.steps ≤ length {A = Place} [] = own.least [] drains in omega (arith, some)
 
-  -- the surroundings have each neighbour on its way
+  -- the surroundings have height and steps of each neighbour on its way
   shown : (q : Place) (way : ℕ) → way < 8 → place_on way p ≡ Some q → IsDataCell t q → (n : ℕ) × (get_or a.ways way None ≡ Some (height_of t q, n)) × IsSteps t q n
   shown q way below e is =
       let n = steps_at t steps q are is in (
@@ -57,7 +57,7 @@ module _ (t : Terrain) (steps : List (Option ℕ)) (p : Place) (a : Around) (are
         n.2,
       )
 
-  -- the weight of a lower neighbour is that of its way
+  -- the weight of a lower neighbour is that of its way, and above 0
   weighs : (q : Place) (way : ℕ) → way < 8 → place_on way p ≡ Some q → IsLower t p q → (get_or (weights a) way 0 ≡ weight_of t p q) × (0 < get_or (weights a) way 0)
   weighs q way below e (next, less) =
       let there = shown q way below e next.to_data in
@@ -221,7 +221,7 @@ direction_is t steps p a are around = elim (cases_lt 0 (fold max 0 (weights a)))
       ])
 ]
 
--- the code of a data cell
+-- the direction of a data cell is its code
 pub code_is : (t : Terrain) (p : Place) (level : ℤ) (code : ℕ) → height_at t p ≡ Some level → IsDirection t p code → IsCodeAt t p (Some code)
 code_is t p level code e is =
     subst (λ (o : Option ℤ). MatchOption o (Some code ≡ None) (λ _. (n : ℕ) × (Some code ≡ Some n) × IsDirection t p n)) (sym e) (code, refl, is)

@@ -1,4 +1,4 @@
--- The least of the counts in a row, on a level.
+-- The least of the counts in a row, at one height.
 use Rattle.std.proofs.Common.{◌≡◌, ℕ, ◌+◌, ◌<◌, ◌≤◌, ◌⊎◌, inl, inr, List, ℤ, Option, sym, subst, refl, ◌∙◌, arith}
 use Rattle.std.proofs.lemmas.Bool.{cases_eq}
 use Rattle.terrain.proofs.Places.{make_place, same_place}

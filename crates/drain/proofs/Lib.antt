@@ -1,4 +1,4 @@
--- worked rows
+-- worked examples
 mod Rows
 -- steps: one number for each cell, and the counts that no round changes
 pub mod Local

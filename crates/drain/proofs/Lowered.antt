@@ -13,7 +13,7 @@ use Rattle.tiles.specs.declared.bounds.Bounds.{Bounds}
 use Rattle.tiles.specs.Cutting.{Cutting, IsCutting, IsWithin, IsInTile, IsInBounds, bounds_of, tile_of_place}
 use Rattle.tiles.proofs.Cut.{in_bounds, in_tile, tile_of_place_below}
 use Rattle.drain.specs.Rounds.{IsSource, IsWalked, AreCounting}
-use Rattle.drain.specs.Lowering.{count_of, counts_in, total, AreLevel, IsEvenInside, IsChange, IsLowered, IsReported, IsLoweredTo, IsEntered, IsAmong, MayGoOn}
+use Rattle.drain.specs.Lowering.{count_of, counts_in, total, AreLevel, IsEvenInside, IsChange, IsLowered, IsReported, IsLoweredTo, IsEntered, IsAmong, MaySpread}
 use Rattle.drain.specs.declared.changes.Change.{Change}
 use Rattle.drain.specs.declared.changes.Entry.{Entry}
 use Rattle.drain.specs.declared.lowering.Lowered.{Lowered}
@@ -41,7 +41,7 @@ pub record IsEvenButReported (t : Terrain) (c : Cutting) (tile : ℕ) (steps : L
   pub within : (p q : Place) → IsInTile c tile p → IsInTile c tile q → AreLevel t p q →
       (counts_in c tile steps l (index_of c.cols p) ≤ counts_in c tile steps l (index_of c.cols q) + 1) ⊎ IsReported c tile steps l from q
 
--- no count is above the mark for an unknown one
+-- no count is above 2^24, the count of an unknown one
 small_walk : (Ends : Place → Type 0) (t : Terrain) (p : Place) (o : Option ℕ) → IfSome o (IsWalked Ends t p) → unwrap_or o (2 ^ 24) ≤ 2 ^ 24
 small_walk Ends t p None walked = omega arith
 small_walk Ends t p (Some n) walked = omega (arith, walked.0)
@@ -62,9 +62,9 @@ module _ (t : Terrain) (c : Cutting) (tile : ℕ) (steps : List (Option ℕ)) wh
   change_low f g x low is = record { inside = is.inside; walked = is.walked; less = is.less; least = omega (arith, is.least, low (index_of c.cols x.place)) }
 
   -- a reported place stays reported while its count stays
-  told_still : (old new : Lowered) (from : ℕ) (p : Place) → ((k : ℕ) → k < length old.changes.items → slice_get new.changes.items k ≡ slice_get old.changes.items k) →
+  reported_still : (old new : Lowered) (from : ℕ) (p : Place) → ((k : ℕ) → k < length old.changes.items → slice_get new.changes.items k ≡ slice_get old.changes.items k) →
       counts_in c tile steps new (index_of c.cols p) ≡ counts_in c tile steps old (index_of c.cols p) → IsReported c tile steps old from p → IsReported c tile steps new from p
-  told_still old new from p kept same reported = (
+  reported_still old new from p kept same reported = (
     reported.0,
     reported.1,
     kept reported.0 (slice_get_within old.changes.items reported.0 _ reported.2) ∙ reported.2 ∙ ap (λ (n : ℕ). Some (let x : Change = record { place = p; count = n } in x)) (sym same),
@@ -88,7 +88,7 @@ module _ (t : Terrain) (c : Cutting) (tile : ℕ) (steps : List (Option ℕ)) wh
   pub reached_all : (First Done : Place → Type 0) (bound : ℕ) (old new : Lowered) → ((p : Place) → Done p → First p) → IsLoweredTo t c tile steps First bound old new → IsLoweredTo t c tile steps Done bound old new
   reached_all First Done bound old new each f = record { low = f.low; near = λ p done. f.near p (each p done); rows = f.rows; longer = f.longer; kept = f.kept; reported = f.reported; added = f.added; left = f.left }
 
-  -- a search goes on to further places
+  -- a search to `First` and then to `Next` is a search to both
   pub reached_then : (First Next Done : Place → Type 0) (bound : ℕ) (old mid new : Lowered) → ((p : Place) → Done p → First p ⊎ Next p) →
       IsLoweredTo t c tile steps First bound old mid → IsLoweredTo t c tile steps Next bound mid new → IsLoweredTo t c tile steps Done bound old new
   reached_then First Next Done bound old mid new each f g = record {
@@ -104,7 +104,7 @@ module _ (t : Terrain) (c : Cutting) (tile : ℕ) (steps : List (Option ℕ)) wh
       | inr reported ↦ inr (reported.0, omega (arith, reported.1, f.longer), reported.2)
       | inl same ↦ elim (f.reported p within) [
         | inl before ↦ inl (same ∙ before)
-        | inr reported ↦ inr (told_still mid new (length old.changes.items) p g.kept same reported)
+        | inr reported ↦ inr (reported_still mid new (length old.changes.items) p g.kept same reported)
       ]
     ];
     added = λ k x past is. elim (cases_lt k (length mid.changes.items)) [
@@ -114,7 +114,7 @@ module _ (t : Terrain) (c : Cutting) (tile : ℕ) (steps : List (Option ℕ)) wh
     left = omega (arith, f.left, g.left);
   }
 
-  -- a search lowers one cell
+  -- lowering one cell to its change is a part of a search
   pub reached_put : (old new : Lowered) (x : Change) → IsInTile c tile x.place → IsWalked (IsSource t steps) t x.place x.count → x.count < counts_in c tile steps old (index_of c.cols x.place) →
       ((k : ℕ) → counts_in c tile steps old k ≤ count_of steps k) →
       counts_in c tile steps new (index_of c.cols x.place) ≡ x.count → ((k : ℕ) → k ≢ index_of c.cols x.place → counts_in c tile steps new k ≡ counts_in c tile steps old k) →
@@ -165,7 +165,7 @@ module _ (t : Terrain) (c : Cutting) (tile : ℕ) (steps : List (Option ℕ)) wh
       | inr reported ↦ inr (reported.0, reported.2)
       | inl same ↦ elim (f.reported p within) [
         | inl before ↦ inl (same ∙ before)
-        | inr reported ↦ (let now = told_still old new 0 p g.kept same (reported.0, omega arith, reported.1) in inr (now.0, now.2))
+        | inr reported ↦ (let now = reported_still old new 0 p g.kept same (reported.0, omega arith, reported.1) in inr (now.0, now.2))
       ]
     ];
     each = λ x among. elim (cases_lt among.0 (length old.changes.items)) [
@@ -174,7 +174,7 @@ module _ (t : Terrain) (c : Cutting) (tile : ℕ) (steps : List (Option ℕ)) wh
     ];
   }
 
-  -- evenness after an entry
+  -- after an entry is applied, the tile is even but for changes that wait
   pub even_enter : (Done : Place → Type 0) (bound : ℕ) (old new : Lowered) (done : ℕ) → done ≤ length old.changes.items → IsEvenButReported t c tile steps old done → IsLoweredTo t c tile steps Done bound old new →
       IsEvenButReported t c tile steps new done
   even_enter Done bound old new done few even g = record {
@@ -182,12 +182,12 @@ module _ (t : Terrain) (c : Cutting) (tile : ℕ) (steps : List (Option ℕ)) wh
       | inr reported ↦ inr (reported.0, omega (arith, reported.1), reported.2)
       | inl same ↦ elim (even.within p q i j side) [
         | inl le ↦ inl (omega (arith, le, same, g.low (index_of c.cols p)))
-        | inr waits ↦ inr (told_still old new done q g.kept same waits)
+        | inr waits ↦ inr (reported_still old new done q g.kept same waits)
       ]
     ];
   }
 
-  -- evenness after a change has spread
+  -- after a change has spread, the tile is even but for later changes
   pub even_spread : (old new : Lowered) (done : ℕ) (from : Change) → slice_get old.changes.items done ≡ Some from → IsEvenButReported t c tile steps old done →
       IsLoweredTo t c tile steps (λ p. IsInTile c tile p × Touches from.place p × (height_at t p ≡ height_at t from.place)) (from.count + 1) old new → IsEvenButReported t c tile steps new (done + 1)
   even_spread old new done from here even g = record {
@@ -201,13 +201,13 @@ module _ (t : Terrain) (c : Cutting) (tile : ℕ) (steps : List (Option ℕ)) wh
               let count : from.count ≡ counts_in c tile steps old (index_of c.cols q) = ap (λ (x : Change). x.count) one in
               let near = g.near p (i, subst (λ (r : Place). Touches r p) place (touches_back p q side.next.touches), sym side.level ∙ ap (λ (r : Place). height_at t r) place) in
               inl (omega (arith, near, count, same)))
-          | inr ne ↦ inr (told_still old new (done + 1) q g.kept same (waits.0, omega (arith, waits.1), waits.2))
+          | inr ne ↦ inr (reported_still old new (done + 1) q g.kept same (waits.0, omega (arith, waits.1), waits.2))
         ]
       ]
     ];
   }
 
-  -- evenness when no change waits
+  -- if no change waits, the tile is even inside
   pub even_end : (l : Lowered) (done : ℕ) → length l.changes.items ≤ done → IsEvenButReported t c tile steps l done → IsEvenInside t c tile (counts_in c tile steps l)
   even_end l done all even = record {
     within = λ p q i j side. elim (even.within p q i j side) [
@@ -227,7 +227,7 @@ low_own c tile steps l p own low = subst (λ (i : ℕ). (k : ℕ) → counts_in 
 
 -- a search may spread from each of its changes
 pub ready_at : (t : Terrain) (c : Cutting) (tile : ℕ) (steps : List (Option ℕ)) (b : Bounds) (l : Lowered) (x : Change) → AreCounting t steps → b ≡ bounds_of c tile → length l.rows.items ≡ b.rows → IsLowered t c tile steps (counts_in c tile steps l) l.changes.items →
-    IsAmong l.changes.items x → MayGoOn t c steps b l x
+    IsAmong l.changes.items x → MaySpread t c steps b l x
 ready_at t c tile steps b l x counting bounds rows lowered among =
     let change = lowered.each x among in
     record {
@@ -239,7 +239,7 @@ ready_at t c tile steps b l x counting bounds rows lowered among =
     }
 
 -- a search may still spread from a change after spreading further
-pub ready_still : (t : Terrain) (c : Cutting) (steps : List (Option ℕ)) (b : Bounds) (Done : Place → Type 0) (bound : ℕ) (old new : Lowered) (x : Change) → MayGoOn t c steps b old x → IsLoweredTo t c (tile_of_place c x.place) steps Done bound old new → MayGoOn t c steps b new x
+pub ready_still : (t : Terrain) (c : Cutting) (steps : List (Option ℕ)) (b : Bounds) (Done : Place → Type 0) (bound : ℕ) (old new : Lowered) (x : Change) → MaySpread t c steps b old x → IsLoweredTo t c (tile_of_place c x.place) steps Done bound old new → MaySpread t c steps b new x
 ready_still t c steps b Done bound old new x ready reached = record {
   counting = ready.counting;
   change = change_low t c (tile_of_place c x.place) steps _ _ x reached.low ready.change;
@@ -260,7 +260,7 @@ begun t c tile steps l none empty even =
       record { within = λ p q i j side. inl (omega (arith, even.within p q i j side, same (index_of c.cols p), same (index_of c.cols q))) },
     )
 
--- a place in the bounds of a cell's tile is of that tile
+-- a place beside p, in the bounds of the tile of p, is a place of that tile
 pub beside_in_tile : (c : Cutting) (p q : Place) (b : Bounds) → IsCutting c → IsWithin c p → b ≡ bounds_of c (tile_of_place c p) → IsInBounds b q → Touches p q → IsInTile c (tile_of_place c p) q × Touches p q
 beside_in_tile c p q b lawful within e inside touch = (in_tile c (tile_of_place c p) q lawful (tile_of_place_below c p lawful within) (subst (λ (x : Bounds). IsInBounds x q) e inside), touch)
 

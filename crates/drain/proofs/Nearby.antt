@@ -1,4 +1,4 @@
--- Decidable facts around a cell: neighbours, draining at once, and walks of k moves.
+-- Decidable facts around a cell: neighbours, draining at once, and walks of n moves.
 use Rattle.std.proofs.Common.{◌≡◌, ℕ, zero, suc, ◌<ℤ◌, Bool, Decides, ◌&&◌, ◌||◌, ◌⊎◌, inl, inr, List, [], ◌∷◌, length, Option, Some, unwrap_or, ℤ, pos, int_lt, sym, ap, refl, ◌∙◌, arith}
 use Rattle.std.specs.List.{list_any}
 use Rattle.std.specs.Ordering.{int_eq}
@@ -53,7 +53,7 @@ level t p q next =
     Decides-like _ (λ e. known (height_at t q) next.to_data ∙ ap Some e ∙ sym (known (height_at t p) next.from_data))
     (λ e. ap (λ (o : Option ℤ). unwrap_or o (pos 0)) e) (Decides-int_eq (height_of t q) (height_of t p))
 
--- a flat walk of k moves
+-- a flat walk of n moves
 abbrev pub WalksIn : Terrain → Place → ℕ → Type 0
 WalksIn t p n = (rest : List Place) × IsFlatWalk t p rest × (length rest ≡ n)
 

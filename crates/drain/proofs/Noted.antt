@@ -113,7 +113,7 @@ pub reached_all : {b : Bounds} {levels : List (Option ℤ)} {spot : Place} {Firs
     ((r : Place) → Done r → First r) → IsReached b levels spot Done old new xs ys
 reached_all f each = record { spread = f.spread; near = λ r done. f.near r (each r done); own = f.own; noted = f.noted; inner = f.inner; left = f.left }
 
--- evenness before the first spot spreads
+-- before any spot spreads, the tile is even but for the listed spots
 pub even_begin : (b : Bounds) (levels : List (Option ℤ)) (old counts : List ℕ) (reached : List Place) → ((s : Place) → IsInner b s → IsNear b levels old counts s) → AreNoted b old counts [] reached →
     IsEvenBut b levels counts reached 0
 even_begin b levels old counts reached near noted = record {
@@ -123,7 +123,7 @@ even_begin b levels old counts reached near noted = record {
   ];
 }
 
--- evenness after a spot has spread
+-- after a spot has spread, the tile is even but for later spots
 pub even_spread : {b : Bounds} {levels : List (Option ℤ)} {counts new : List ℕ} {waiting after : List Place} {done : ℕ} {spot : Place} → IsEvenBut b levels counts waiting done →
     slice_get waiting done ≡ Some spot → IsReached b levels spot (Touches spot) counts new waiting after → IsEvenBut b levels new after (done + 1)
 even_spread {b} {levels} {counts} {new} {waiting} {after} {done} {spot} even here reached = record {
@@ -145,7 +145,7 @@ even_spread {b} {levels} {counts} {new} {waiting} {after} {done} {spot} even her
         let same : count_on b new s ≡ count_on b counts spot = ap (λ (p : Place). count_on b new p) (sym one) ∙ reached.own in
         omega (arith, from, same)
 
--- evenness when no spot waits
+-- if no spot waits, the tile is even
 pub even_end : (b : Bounds) (levels : List (Option ℤ)) (counts : List ℕ) (waiting : List Place) (done : ℕ) → IsEvenBut b levels counts waiting done → length waiting ≤ done → IsEven b levels counts
 even_end b levels counts waiting done even none = record {
   each = λ s r inner other touch level. elim (even.each s r inner other touch level) [

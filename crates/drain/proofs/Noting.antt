@@ -79,7 +79,7 @@ noted_in_order t c steps Done new ys same noted = (
   λ p q done side. entered_still t c steps new ys p q (λ e among. among_in_order new ys e same among) (noted.done p q done side),
 )
 
--- one step more than a level neighbour is an entry if it lowers the cell's count
+-- 1 more than a level neighbour's count is an entry, if it is below the cell's own count
 pub entry_from : (c : Cutting) (levels : List (Option ℤ)) (steps : List (Option ℕ)) (from : Change) (to : Place) (tile : ℕ) → AreCounting (sinkless_terrain c levels) steps → IsWithin c from.place →
     from.count ≡ count_of steps (index_of c.cols from.place) → IsWithin c to → Touches to from.place → height_at (sinkless_terrain c levels) to ≡ height_at (sinkless_terrain c levels) from.place →
     from.count + 1 < count_of steps (index_of c.cols to) → tile ≡ tile_of_place c to → IsEntry (sinkless_terrain c levels) c steps (record { tile = tile; change = record { place = to; count = from.count + 1 } })

@@ -11,7 +11,7 @@ use Rattle.terrain.specs.declared.place.Place.{Place}
 use Rattle.tiles.specs.Cutting.{Cutting, Cuts, IsCutting, tile_of_place, IsInTile, tile_entry}
 use Rattle.drain.specs.Beginning.{HasZeros, AreBegun, IsQuiet}
 use Rattle.drain.specs.Steps.{DrainsAtOnce, IsLevelWalk, IsFlatWalk, IsSteps, AreSteps}
-use Rattle.drain.specs.Rounds.{IsSource, IsWalked, AreWalked, IsOneAbove, IsRound, AreCounting, AreSettled}
+use Rattle.drain.specs.Rounds.{IsSource, IsWalked, AreWalked, IsOneAbove, IsRound, AreCounting, AreFinal}
 use Rattle.drain.proofs.Counted.{has_steps}
 use Rattle.drainage.proofs.Reach.{data_inside}
 use Rattle.terrain.proofs.Options.{cases_option}
@@ -26,7 +26,7 @@ pub match_from : {X : Type 0} {P : Type 0} {Q : X → Type 0} (o : Option X) →
 match_from None p q = p refl
 match_from (Some x) p q = q x refl
 
--- a walk of no moves ends where it begins
+-- a walk of no moves begins at its end
 pub ended : (Ends : Place → Type 0) (t : Terrain) (p : Place) (rest : List Place) → IsLevelWalk Ends t p rest → length rest ≡ 0 → Ends p
 ended Ends t p [] walk none = walk
 ended Ends t p (q ∷ rest) walk none = absurd (omega (arith, none))
@@ -39,7 +39,7 @@ walk_to : (A B : Place → Type 0) (t : Terrain) (sinks : List Place) → ((p : 
 walk_to A B t sinks to p [] walk = to p walk
 walk_to A B t sinks to p (q ∷ rest) walk = (next_with t sinks p q walk.0, walk.1, walk_to A B t sinks to q rest walk.2)
 
--- a walk to an end of one kind is a walk to an end of a wider kind, with any sinks
+-- a walk to a place of A is a walk to a place of B, if A implies B, with any sinks
 pub walked_to : (A B : Place → Type 0) (t : Terrain) (sinks : List Place) → ((p : Place) → A p → B p) → (p : Place) (n : ℕ) → IsWalked A t p n → IsWalked B (with_sinks t sinks) p n
 walked_to A B t sinks to p n w = (w.0, w.1, walk_to A B t sinks to p w.1 w.2, w.3)
 
@@ -87,7 +87,7 @@ module _ (t : Terrain) (steps : List (Option ℕ)) (zeros : HasZeros t steps) (a
 pub in_own_tile : (t : Terrain) (c : Cutting) (p : Place) → Cuts c t → (p.row < t.rows) × (p.col < t.cols) → IsInTile c (tile_of_place c p) p
 in_own_tile t c p cuts inside = ((omega (arith, inside.0, cuts.1), omega (arith, inside.1, cuts.0)), refl)
 
--- the sources of the initial counts are the cells that drain at once
+-- each cell that drains at once is a source of the initial counts
 pub begun_input : (t : Terrain) (counts : List (Option ℕ)) → AreBegun t counts → (p : Place) → DrainsAtOnce t p → IsSource t counts p
 begun_input t counts begun p drains = let is = drains_data t p drains in (is, (begun.each p (data_inside t p is)).zero drains)
 
@@ -100,14 +100,14 @@ begun_walked Ends t counts begun to p = if_some (entry_at t.cols t.rows counts p
     let at = (begun.each p (inside_from_entry t.cols t.rows counts p n e)).only n e in
     (omega (arith, at.1), [], to p at.0, sym at.1))
 
--- the initial counts, over the terrain without sinks
+-- the initial counts are lengths of walks to sources, in the terrain without sinks
 pub begun_counting : (t : Terrain) (counts : List (Option ℕ)) → AreBegun t counts → AreCounting (with_sinks t []) counts
 begun_counting t counts begun = record {
   size = begun.size;
   walked = are_walked_to (IsSource t counts) (IsSource t counts) t [] counts (λ p input. input) (begun_walked (IsSource t counts) t counts begun (begun_input t counts begun));
 }
 
--- a round to ends of one kind is a round to ends of a wider kind, with any sinks
+-- a round of walks to A is a round of walks to B, if A implies B, with any sinks
 pub round_to : (A B : Place → Type 0) (t : Terrain) (sinks : List Place) (c : Cutting) (tile : ℕ) (old new : List (Option ℕ)) → ((p : Place) → A p → B p) →
     IsRound A t c tile old new → IsRound B (with_sinks t sinks) c tile old new
 round_to A B t sinks c tile old new to round = record {
@@ -132,12 +132,12 @@ counts_are_steps t c steps lists cuts cutting zeros quiet lawful filled size =
     lawful filled size
 
 -- the final counts after the initial ones are the steps
-pub settled_is_steps : (c : Cutting) (t : Terrain) (begun steps : List (Option ℕ)) → Cuts c t → IsTerrain t → IsFilled t t.cells → AreBegun t begun → AreSettled c (with_sinks t []) begun steps → AreSteps t steps
-settled_is_steps c t begun steps cuts lawful filled first settled =
+pub final_is_steps : (c : Cutting) (t : Terrain) (begun steps : List (Option ℕ)) → Cuts c t → IsTerrain t → IsFilled t t.cells → AreBegun t begun → AreFinal c (with_sinks t []) begun steps → AreSteps t steps
+final_is_steps c t begun steps cuts lawful filled first finished =
     still_is_steps t steps
-    (λ p drains. ((settled.same_sources p).0 (begun_input t begun first p drains)).1)
-    (are_walked_to (IsSource t steps) (DrainsAtOnce t) (with_sinks t []) t.sinks steps (λ p input. input_drains t begun first p ((settled.same_sources p).1 input)) settled.counting.walked)
+    (λ p drains. ((finished.same_sources p).0 (begun_input t begun first p drains)).1)
+    (are_walked_to (IsSource t steps) (DrainsAtOnce t) (with_sinks t []) t.sinks steps (λ p input. input_drains t begun first p ((finished.same_sources p).1 input)) finished.counting.walked)
     (λ p q next level.
     let inside = in_own_tile t c p cuts (data_inside t p next.from_data) in
-    (settled.still (tile_of_place c p) (tile_of_place_below c p settled.cutting inside.0)).near p q inside (next_with t [] p q next) level)
-    lawful filled settled.counting.size
+    (finished.still (tile_of_place c p) (tile_of_place_below c p finished.cutting inside.0)).near p q inside (next_with t [] p q next) level)
+    lawful filled finished.counting.size

@@ -11,7 +11,7 @@ use Rattle.tiles.specs.Cutting.{Cutting, IsCutting, IsWithin, AreTileLists, IsPu
 use Rattle.tiles.proofs.Cut.{tile_of_place_below}
 use Rattle.tiles.proofs.PutBack.{entry_at-put_back}
 use Rattle.drainage.proofs.Reach.{data_inside}
-use Rattle.drain.specs.Rounds.{IsSource, HaveSameSources, IsWalked, IsOneAbove, IsRound, AreCounting, AreSettled}
+use Rattle.drain.specs.Rounds.{IsSource, HaveSameSources, IsWalked, IsOneAbove, IsRound, AreCounting, AreFinal}
 use Rattle.drain.specs.Lowering.{AreLevel, IsAmong, IsEvenInside, IsTileAnswer, count_of, total}
 use Rattle.drain.specs.Entering.{sinkless_terrain, AreEntered}
 use Rattle.drain.specs.Rounding.{Rounding, IsRounding, levels_of, AreAnswered, IsRunAnswer, IsGiven, ArePut, IsNext}
@@ -56,8 +56,8 @@ above_one m (Some n) few small above = elim (cases_lt n (2 ^ 24 - 1)) [
 ]
 
 -- without entries the counts are final
-pub settled_from : (r : Rounding) (input : List (Option ℕ)) → IsRounding r → length r.entries ≡ 0 → HaveSameSources (levels_of r) input r.steps → AreSettled r.cutting (levels_of r) input r.steps
-settled_from r input rounding none same =
+pub final_from : (r : Rounding) (input : List (Option ℕ)) → IsRounding r → length r.entries ≡ 0 → HaveSameSources (levels_of r) input r.steps → AreFinal r.cutting (levels_of r) input r.steps
+final_from r input rounding none same =
     let c = r.cutting in
     record {
       cutting = rounding.cutting;
@@ -98,7 +98,7 @@ module _ (r : Rounding) (outs : List (Vec Change Global)) (answered : AreAnswere
   pub given_within : (x : Change) → IsGiven outs x → IsWithin r.cutting x.place
   given_within x given = ((answer_of given.0 given.1 given.2).1.lowered.each x given.3).inside.0
 
-  -- an entry leads to a change
+  -- if there is an entry, the results have a change
   pub entry_given : (k : ℕ) (e : Entry) → IsRounding r → slice_get r.entries k ≡ Some e → (x : Change) × IsGiven outs x
   entry_given k e rounding at =
       let reported = answered.covered k (slice_get_within r.entries k e at) in
@@ -315,9 +315,9 @@ first_rounding r noted lawful size counting even same sorted notes =
       entered = λ p q side differ. all.1 p q (data_inside (levels_of r) q side.next.to_data, differ) side;
     }
 
-pub settled_at : (r : Rounding) (c : Cutting) (levels : List (Option ℤ)) (input : List (Option ℕ)) → r.cutting ≡ c → r.levels ≡ levels → IsRounding r → length r.entries ≡ 0 →
-    HaveSameSources (sinkless_terrain c levels) input r.steps → AreSettled c (sinkless_terrain c levels) input r.steps
-settled_at r c levels input e f rounding none same =
-    subst (λ (x : Cutting). HaveSameSources (sinkless_terrain x levels) input r.steps → AreSettled x (sinkless_terrain x levels) input r.steps) e
-    (subst (λ (xs : List (Option ℤ)). HaveSameSources (sinkless_terrain r.cutting xs) input r.steps → AreSettled r.cutting (sinkless_terrain r.cutting xs) input r.steps) f
-    (λ own. settled_from r input rounding none own)) same
+pub final_at : (r : Rounding) (c : Cutting) (levels : List (Option ℤ)) (input : List (Option ℕ)) → r.cutting ≡ c → r.levels ≡ levels → IsRounding r → length r.entries ≡ 0 →
+    HaveSameSources (sinkless_terrain c levels) input r.steps → AreFinal c (sinkless_terrain c levels) input r.steps
+final_at r c levels input e f rounding none same =
+    subst (λ (x : Cutting). HaveSameSources (sinkless_terrain x levels) input r.steps → AreFinal x (sinkless_terrain x levels) input r.steps) e
+    (subst (λ (xs : List (Option ℤ)). HaveSameSources (sinkless_terrain r.cutting xs) input r.steps → AreFinal r.cutting (sinkless_terrain r.cutting xs) input r.steps) f
+    (λ own. final_from r input rounding none own)) same

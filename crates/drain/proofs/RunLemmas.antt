@@ -11,7 +11,7 @@ use Rattle.drain.specs.declared.changes.Change.{Change}
 use Rattle.drain.specs.declared.changes.Run.{Run}
 
 module _ {X : Type 0} (xs ys : List X) (y : X) (pushed : ys ≡ xs ++ y ∷ []) where
-  -- an element is an old one or the last
+  -- an element of the longer list is an old one or the last
   pub at_push : (k : ℕ) (x : X) → slice_get ys k ≡ Some x → (slice_get xs k ≡ Some x) ⊎ ((k ≡ length xs) × (y ≡ x))
   at_push k x at =
       let size : length ys ≡ length xs + 1 = ap (λ (zs : List X). length zs) pushed ∙ length_push xs y in
@@ -36,7 +36,7 @@ module _ {X : Type 0} (xs ys : List X) (y : X) (pushed : ys ≡ xs ++ y ∷ []) 
   pub among_new : IsAmong ys y
   among_new = (length xs, ap (λ (zs : List X). slice_get zs (length xs)) pushed ∙ slice_get-append_right xs (y ∷ []) (length xs) 0 (omega arith))
 
--- each entry is in a run, after one more run
+-- after one more run, each entry before its end is in a run
 pub covered_more : (old new : List Run) (run : Run) → new ≡ old ++ run ∷ [] → ((k : ℕ) → k < run.from → (r : Run) × IsAmong old r × (r.from ≤ k) × (k < r.end)) →
     (k : ℕ) → k < run.end → (r : Run) × IsAmong new r × (r.from ≤ k) × (k < r.end)
 covered_more old new run pushed before k below = elim (cases_lt k run.from) [
@@ -44,7 +44,7 @@ covered_more old new run pushed before k below = elim (cases_lt k run.from) [
   | inr past ↦ (run, among_new old new run pushed, past, below)
 ]
 
--- each entry is in a run with a result, after one more result
+-- after one more result, each entry before its run's end is in a run with a result
 pub answered_more : (r : Rounding) (old new : List (Vec Change Global)) (list : Vec Change Global) (run : Run) → new ≡ old ++ list ∷ [] → IsRunAnswer r run list.items →
     ((k : ℕ) → k < run.from → IsAnsweredAt r old k) → (k : ℕ) → k < run.end → IsAnsweredAt r new k
 answered_more r old new list run pushed answer before k below = elim (cases_lt k run.from) [

@@ -76,7 +76,7 @@ pub shown_push : {X : Type 0} (cols rows : ℕ) (entries : List X) (none : X) (b
     AreShownBelow cols rows entries none b (spot_index b s) shown → IsShown cols rows entries none b s x → AreShownBelow cols rows entries none b (spot_index b s + 1) (shown ++ x ∷ [])
 shown_push cols rows entries none b s shown x spot before here = made_push (IsShown cols rows entries none b) b s none shown x spot before here
 
--- the row of an index
+-- a spot whose index lies in a row is in that row
 row_is : (width row : ℕ) (s : Place) → s.col < width → row * width ≤ index_of width s → index_of width s < row * width + width → s.row ≡ row
 row_is width row s inside low high = elim (cases_lt s.row row) [
   | inl less ↦ (let up : (s.row + 1) * width ≤ row * width = mul-le-mul_right width (omega arith) in absurd (omega (arith, up)))
@@ -86,7 +86,7 @@ row_is width row s inside low high = elim (cases_lt s.row row) [
   ]
 ]
 
--- the value at a spot, by the tile's row
+-- the value at a spot of the tile is that in the tile's row
 row_spot : {X : Type 0} (v : View X) (none : X) (b : Bounds) (s : Place) → b ≡ bounds_of v.cutting v.tile → AreBounds v.cutting b → IsInner b s →
     IsShown v.cutting.cols v.cutting.rows v.cells none b s (get_or (row_shown v (s.row - 1)) (s.col - 1) none)
 row_spot v none b s e fits inner = (
@@ -125,7 +125,7 @@ pub shown_all : {X : Type 0} (cols rows : ℕ) (entries : List X) (none : X) (b 
     AreShownBelow cols rows entries none b end shown → AreShown cols rows entries none b shown
 shown_all cols rows entries none b end shown whole f = λ s spot. f.each s spot (omega (arith, spot_below b s spot))
 
--- the list of all spots, under equal bounds
+-- a list up to the last spot has the values of all spots, under equal bounds
 pub shown_whole : {X : Type 0} (cols rows : ℕ) (entries : List X) (none : X) (b c : Bounds) (end : ℕ) (shown : List X) → b ≡ c → end ≡ (b.rows + 2) * (b.cols + 2) →
     AreShownBelow cols rows entries none b end shown → (length shown ≡ area_of c) × AreShown cols rows entries none c shown
 shown_whole {X = X} cols rows entries none b c end shown same whole f = (
@@ -133,9 +133,9 @@ shown_whole {X = X} cols rows entries none b c end shown same whole f = (
   subst (λ (z : Bounds). AreShown {X = X} cols rows entries none z shown) same (shown_all cols rows entries none b end shown (omega (arith, whole)) f),
 )
 
-pub handed_next : (b : Bounds) (counts : List ℕ) (row col : ℕ) (list : List (Option ℕ)) (x : Option ℕ) → row < b.rows → col < b.cols →
+pub copied_next : (b : Bounds) (counts : List ℕ) (row col : ℕ) (list : List (Option ℕ)) (x : Option ℕ) → row < b.rows → col < b.cols →
     AreMadeBelow b (IsCopied b counts) (row * b.cols + col) list → x ≡ known (count_on b counts (make_place (row + 1) (col + 1))) →
     AreMadeBelow b (IsCopied b counts) (row * b.cols + (col + 1)) (list ++ x ∷ [])
-handed_next b counts row col list x below beside before is =
+copied_next b counts row col list x below beside before is =
     made_next b (IsCopied b counts) row col list x below beside before
     (λ s shows. is ∙ ap (λ (r : Place). known (count_on b counts r)) (sym (same_place s (make_place (row + 1) (col + 1)) (omega (arith, shows.0)) (omega (arith, shows.1)))))

@@ -62,7 +62,7 @@ lowest_next level heights parity turn lowest before = record {
       (λ more. let same : int_min lowest (height_on level heights parity turn) ≡ height_on level heights parity turn = omega (arith, ints, clamps) in inr (turn, omega arith, sym same));
 }
 
--- a way of a parity, by its turn
+-- a way is twice its turn plus its parity
 turn_of : (parity other : ℕ) → parity < 2 → other % 2 ≡ parity → other ≡ 2 * (other / 2) + parity
 turn_of parity other two e = omega arith
 
@@ -117,7 +117,7 @@ module _ (level : ℤ) (heights : List (Option ℤ)) (parity : ℕ) (lowest : �
         ]
       ]
 
--- Of the ways seen, `turns` come before the first lowest one.
+-- Of the ways seen, of one parity, `turns` come before the first lowest one.
 pub record ArePast (level : ℤ) (heights : List (Option ℤ)) (parity : ℕ) (lowest : ℤ) (turns turn : ℕ) (is_past : Bool) : Type 0 where
   pub past : (other : ℕ) → other < turns → lowest <ℤ height_on level heights parity other
   pub all : is_past ≡ true → turns ≡ turn
@@ -266,7 +266,7 @@ module _ (a : Around) (level : ℤ) (heights : List (Option ℤ)) (has : HasHeig
               );
         }
 
-    -- weights are equal only if no way leads down
+    -- if the greatest drop across is above 0, the two greatest weights are not equal
     across_heavier : 2 * (o * o) ≤ d * d → 0 < d → 2 * (o * o) < d * d
     across_heavier much some =
         elim (cases_eq (2 * (o * o)) (d * d)) [

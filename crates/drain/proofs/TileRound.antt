@@ -15,7 +15,7 @@ use Rattle.tile_maps.specs.Maps.{AreMadeBelow, IsMadeTile}
 use Rattle.tile_maps.proofs.TileLists.{made_tile, entry_of_tile}
 use Rattle.drainage.specs.StepCounts.{known, no_count}
 use Rattle.drainage.proofs.ToldCounts.{known-some, known-none}
-use Rattle.drain.specs.Window.{AreCounts, spot_index, area_of, IsSpot, IsInner, Shows, IsShown, AreShown, level_on, count_on, IsSpread, same, moved, IsSettled, known_counts, IsCopied, AreWindowCounts}
+use Rattle.drain.specs.Window.{AreCounts, spot_index, area_of, IsSpot, IsInner, Shows, IsShown, AreShown, level_on, count_on, IsSpread, same, moved, IsSearched, known_counts, IsCopied, AreWindowCounts}
 use Rattle.drain.proofs.Spreading.{spot_below, spread_not_above, spread_counts, spread-length, spot_from_inner}
 use Rattle.drain.proofs.Counted.{height_is}
 use Rattle.drain.proofs.Spots.{shows_same}
@@ -36,7 +36,7 @@ is_on {X = X} cols rows entries b s o x shown is =
       ]
     ]
 
--- Each known count is the length of a walk to a source, from the place of its spot.
+-- Each known count is the length of a walk from the place of its spot to a source.
 IsSound : Terrain → List (Option ℕ) → Bounds → List ℕ → Type 0
 IsSound t steps b counts = (s : Place) → IsSpot b s → count_on b counts s < no_count → (p : Place) × Shows b s p × IsWalked (IsSource t steps) t p (count_on b counts s)
 
@@ -128,7 +128,7 @@ spot_beside b p q s i f t = (
   record { row_down = omega (arith, f.0, t.row_down); row_up = omega (arith, f.0, t.row_up, i.first_row); col_right = omega (arith, f.1, t.col_right); col_left = omega (arith, f.1, t.col_left, i.first_col) },
 )
 
--- the spots of places that touch
+-- the spots of places that touch also touch
 touching_spots : (b : Bounds) (p q s r : Place) → Shows b s p → Shows b r q → Touches p q → Touches r s
 touching_spots b p q s r f g t = record {
   row_down = omega (arith, f.0, g.0, t.row_up);
@@ -155,7 +155,7 @@ count_small t b s steps (Some n) on walks =
     let place = is_on t.cols t.rows steps b s (Some n) n on refl in
     let real = MatchOption-at_some _ _ n place.2 (walks place.0) in omega (arith, real.0)
 
--- known counts are below the mark for an unknown one
+-- no count in the window is above `no_count`
 pub counts_small : (t : Terrain) (b : Bounds) (steps shown : List (Option ℕ)) → length shown ≡ area_of b → AreShown t.cols t.rows steps None b shown → AreWalked (IsSource t steps) t steps → AreCounts (known_counts shown)
 counts_small t b steps shown size seen walks k = elim (cases_lt k (area_of b)) [
   | inl less ↦ at_place (λ i. get_or (known_counts shown) i 0 ≤ no_count) (b.cols + 2) (b.rows + 2)
@@ -165,7 +165,7 @@ counts_small t b steps shown size seen walks k = elim (cases_lt k (area_of b)) [
 
 module _ (t : Terrain) (c : Cutting) (tile : ℕ) (b : Bounds) (steps shown : List (Option ℕ)) (levels : List (Option ℤ)) (new : List ℕ) (list : List (Option ℕ))
     (cutting : IsCutting c) (bounds : b ≡ bounds_of c tile) (on : AreShown t.cols t.rows t.cells None b levels) (size : length shown ≡ area_of b)
-    (seen : AreShown t.cols t.rows steps None b shown) (walks : AreWalked (IsSource t steps) t steps) (settled : IsSettled b levels (known_counts shown) new)
+    (seen : AreShown t.cols t.rows steps None b shown) (walks : AreWalked (IsSource t steps) t steps) (finished : IsSearched b levels (known_counts shown) new)
     (out : AreMadeBelow b (IsCopied b new) (b.rows * b.cols) list) where
   in_bounds_of : (p : Place) → IsInTile c tile p → IsInBounds b p
   in_bounds_of p i = subst (λ (z : Bounds). IsInBounds z p) (sym bounds) (in_bounds c tile p cutting i)
@@ -189,7 +189,7 @@ module _ (t : Terrain) (c : Cutting) (tile : ℕ) (b : Bounds) (steps shown : Li
   unfolding IsSound
   walked_here p i =
       let inner = spot_inner b p (in_bounds_of p i) in
-      let sound = sound_after t steps b levels (known_counts shown) new on (length-map shown (λ (o : Option ℕ). unwrap_or o no_count) ∙ size) small (sound_begin t b steps shown size seen walks) settled.spread in
+      let sound = sound_after t steps b levels (known_counts shown) new on (length-map shown (λ (o : Option ℕ). unwrap_or o no_count) ∙ size) small (sound_begin t b steps shown size seen walks) finished.spread in
       subst (λ (o : Option ℕ). IfSome o (IsWalked (IsSource t steps) t p)) (sym (entry_is p i))
       (known-if (count_on b new (spot_of b p)) (IsWalked (IsSource t steps) t p) (λ less. place_one p inner.1 (sound (spot_of b p) (spot_from_inner b (spot_of b p) inner.0) less)))
     where
@@ -203,7 +203,7 @@ module _ (t : Terrain) (c : Cutting) (tile : ℕ) (b : Bounds) (steps shown : Li
       let r = spot_beside b p q s inner.0 inner.1 next.touches in
       let levels_are : level_on b levels r.0 ≡ level_on b levels s =
       (on r.0 r.1).0 q r.2 ∙ level ∙ sym ((on s (spot_from_inner b s inner.0)).0 p inner.1) in
-      let near : count_on b new s ≤ count_on b (known_counts shown) r.0 + 1 = (settled.near s inner.0).each r.0 r.3 levels_are in
+      let near : count_on b new s ≤ count_on b (known_counts shown) r.0 + 1 = (finished.near s inner.0).each r.0 r.3 levels_are in
       let was = input_is r.0 q m r.1 r.2 e in
       let few : count_on b new s < no_count = omega (arith, near, was) in
       (count_on b new s, entry_is p i ∙ known-some (count_on b new s) few, omega (arith, near, was))
@@ -215,7 +215,7 @@ module _ (t : Terrain) (c : Cutting) (tile : ℕ) (b : Bounds) (steps shown : Li
       let touch = touching_spots b p q (spot_of b p) (spot_of b q) to.1 from.1 next.touches in
       let levels_are : level_on b levels (spot_of b p) ≡ level_on b levels (spot_of b q) =
       (on (spot_of b p) (spot_from_inner b (spot_of b p) to.0)).0 p to.1 ∙ sym level ∙ sym ((on (spot_of b q) (spot_from_inner b (spot_of b q) from.0)).0 q from.1) in
-      let near : count_on b new (spot_of b p) ≤ count_on b new (spot_of b q) + 1 = settled.even.each (spot_of b q) (spot_of b p) from.0 to.0 touch levels_are in
+      let near : count_on b new (spot_of b p) ≤ count_on b new (spot_of b q) + 1 = finished.even.each (spot_of b q) (spot_of b p) from.0 to.0 touch levels_are in
       let was : count_on b new (spot_of b q) ≡ m = known_is (count_on b new (spot_of b q)) m (sym (entry_is q j) ∙ e) in
       let few : count_on b new (spot_of b p) < no_count = omega (arith, near, was) in
       (count_on b new (spot_of b p), entry_is p i ∙ known-some (count_on b new (spot_of b p)) few, omega (arith, near, was))
@@ -226,7 +226,7 @@ module _ (t : Terrain) (c : Cutting) (tile : ℕ) (b : Bounds) (steps shown : Li
       let s = spot_of b p in
       let was = input_is s p m (spot_from_inner b s inner.0) inner.1 e in
       let real = MatchOption-at_some _ _ m e (walks p) in
-      let fewer = (spread_not_above b levels (known_counts shown) new settled.spread).each (spot_index b s) in
+      let fewer = (spread_not_above b levels (known_counts shown) new finished.spread).each (spot_index b s) in
       let few : count_on b new s < no_count = omega (arith, fewer, was, real.0) in
       (count_on b new s, entry_is p i ∙ known-some (count_on b new s) few, omega (arith, fewer, was))
 
@@ -239,7 +239,7 @@ module _ (t : Terrain) (c : Cutting) (tile : ℕ) (b : Bounds) (steps shown : Li
     kept = kept_here;
   }
 
--- the counts of the window, by its bounds
+-- two views of one tile have one window of counts
 pub input_to : (v : View (Option ℤ)) (w : View (Option ℕ)) (b : Bounds) (old : List ℕ) → w.cutting ≡ v.cutting → w.tile ≡ v.tile → b ≡ bounds_of v.cutting v.tile →
     AreWindowCounts w.cutting.cols w.cutting.rows w.cells (bounds_of w.cutting w.tile) old → AreWindowCounts v.cutting.cols v.cutting.rows w.cells b old
 input_to v w b old cutting tile bounds input =
@@ -252,8 +252,8 @@ input_small t b steps old input walks = subst (λ (xs : List ℕ). AreCounts xs)
 
 pub round_from : (v : View (Option ℤ)) (w : View (Option ℕ)) (b : Bounds) (levels : List (Option ℤ)) (old new : List ℕ) (list : List (Option ℕ)) →
     IsCutting v.cutting → b ≡ bounds_of v.cutting v.tile → AreShown v.cutting.cols v.cutting.rows v.cells None b levels → AreWindowCounts v.cutting.cols v.cutting.rows w.cells b old →
-    AreWalked (IsSource (terrain_of v) w.cells) (terrain_of v) w.cells → IsSettled b levels old new → AreMadeBelow b (IsCopied b new) (b.rows * b.cols) list →
+    AreWalked (IsSource (terrain_of v) w.cells) (terrain_of v) w.cells → IsSearched b levels old new → AreMadeBelow b (IsCopied b new) (b.rows * b.cols) list →
     IsRound (IsSource (terrain_of v) w.cells) (terrain_of v) v.cutting v.tile w.cells list
-round_from v w b levels old new list cutting bounds on input walks settled out =
+round_from v w b levels old new list cutting bounds on input walks finished out =
     is_round (terrain_of v) v.cutting v.tile b w.cells input.shown levels new list cutting bounds on input.size input.seen walks
-    (subst (λ (xs : List ℕ). IsSettled b levels xs new) input.value settled) out
+    (subst (λ (xs : List ℕ). IsSearched b levels xs new) input.value finished) out

@@ -11,16 +11,16 @@ use Rattle.drain.specs.Rounds.{IsRound}
 use Rattle.drain.specs.Window.{AreMadeSpots, IsOff, Shows, area_of}
 use Rattle.drainage.specs.StepCounts.{known, no_count}
 
--- The cell has no data or lies below this level.
+-- The cell has no data or lies below this height.
 abbrev pub IsGapOrLower : ℤ → Option ℤ → Type 0
 IsGapOrLower level None = Unit {0}
 IsGapOrLower level (Some height) = height <ℤ level
 
--- The cell has a lower neighbour or is an edge cell; named sinks are left out.
+-- The cell has a lower neighbour or is an edge cell. Being a named sink does not suffice.
 abbrev pub IsEdgeOrHasLower : Terrain → Place → Type 0
 IsEdgeOrHasLower t p = HasLower t p ⊎ IsEdge t p
 
--- The count is 0 where `Drains` holds, and `None` elsewhere.
+-- The count of p is 0 if `Drains` holds for p, and `None` otherwise.
 pub record IsBegun (Drains : Place → Type 0) (p : Place) (count : Option ℕ) : Type 0 where
   pub zero : Drains p → count ≡ Some 0
   pub only : (n : ℕ) → count ≡ Some n → Drains p × (n ≡ 0)
@@ -31,13 +31,13 @@ pub record AreBegun (t : Terrain) (counts : List (Option ℕ)) : Type 0 where
   pub each : (p : Place) → IsInside t p →
       IsBegun (DrainsAtOnce t) p (entry_at t.cols t.rows counts p)
 
--- The initial count at a spot of a window: that of its place, and none off the grid.
+-- The initial count at a spot of a window: that of its place, and unknown off the grid.
 abbrev pub IsBegunSpot : (Place → Type 0) → Bounds → Place → ℕ → Type 0
 IsBegunSpot Drains b s count = (count ≤ no_count)
     × ((p : Place) → Shows b s p → IsBegun Drains p (known count))
     × (IsOff b s → known count ≡ None)
 
--- The initial counts of a tile and the places around it.
+-- The initial counts of a tile and the places around it: 0 where `Drains` holds.
 abbrev pub AreBegunSpots : (Place → Type 0) → Bounds → List ℕ → Type 0
 AreBegunSpots Drains b counts = AreMadeSpots (IsBegunSpot Drains b) b (area_of b) 0 counts
 

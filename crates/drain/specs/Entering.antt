@@ -30,14 +30,14 @@ pub record IsEntry (t : Terrain) (c : Cutting) (steps : List (Option ℕ)) (e : 
 abbrev pub AreEntries : Terrain → Cutting → List (Option ℕ) → List Entry → Type 0
 AreEntries t c steps entries = (e : Entry) → IsAmong entries e → IsEntry t c steps e
 
--- The count of p is at most one above that of q, or an entry for p lowers it so far.
+-- The count of p is at most one above that of q, or an entry for p lowers it that far.
 abbrev pub IsEvenOrEntered : Cutting → List (Option ℕ) → List Entry → Place → Place → Type 0
 IsEvenOrEntered c steps entries p q =
     (count_of steps (index_of c.cols p) ≤ count_of steps (index_of c.cols q) + 1)
     ⊎ ((e : Entry) × IsAmong entries e × (e.change.place ≡ p)
     × (e.change.count ≤ count_of steps (index_of c.cols q) + 1))
 
--- The new list has the old entries and more: it covers all level pairs in `Done`.
+-- The new list keeps the old entries, and covers each pair of level neighbours in `Done`.
 pub record AreEntered (t : Terrain) (c : Cutting) (steps : List (Option ℕ))
     (Done : Place → Place → Type 0) (old new : List Entry) : Type 0 where
   pub kept : (e : Entry) → IsAmong old e → IsAmong new e

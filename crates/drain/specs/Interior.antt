@@ -1,33 +1,33 @@
--- Ways down by the eight heights around a cell; the surroundings of an interior cell.
+-- The steepest way down, by the eight heights around a cell; surroundings of an interior cell.
 -- Private.
 use Rattle.std.specs.Prelude.{◌≡◌, ℕ, ◌+◌, ◌%◌, ◌<◌, ◌≤◌, ◌*◌, ◌⊎◌, ◌==◌, max, ℤ, ◌-ℤ◌, ◌≤ℤ◌, List, length, fold, Option, None, Some, option_map, unwrap_or, position, slice_index_or}
 use Rattle.std.specs.Option.{option_zip}
 use Rattle.drain.specs.Steepness.{positive_part, weights}
 use Rattle.drain.specs.declared.around.Around.{Around}
 
--- The drop from this level to a height; 0 if it is not lower or there is none.
+-- The drop from height `level` to another; 0 if that one is not lower or there is none.
 abbrev pub drop_by : ℤ → Option ℤ → ℕ
 drop_by level None = 0
 drop_by level (Some height) = positive_part (level -ℤ height)
 
--- The surroundings have this level and, on the eight ways, these heights.
+-- The surroundings have the cell's height `level` and, on the eight ways, these heights.
 pub record HasHeights (a : Around) (level : ℤ) (heights : List (Option ℤ)) : Type 0 where
   pub own_level : a.level ≡ level
   pub count : length a.ways ≡ 8
   pub each : (way : ℕ) → way < 8 →
       slice_index_or heights way None ≡ option_map (λ w. w.0) (slice_index_or a.ways way None)
 
--- The drop from this level on a way.
+-- The drop from height `level` on a way.
 abbrev pub drop_on : ℤ → List (Option ℤ) → ℕ → ℕ
 drop_on level heights way = drop_by level (slice_index_or heights way None)
 
--- The height on way `2 * turn + parity`, or this level if there is none. Even ways lead along a row
+-- The height on way `2 * turn + parity`, or `level` if there is none. Even ways lead along a row
 -- or column, odd ones across a diagonal.
 abbrev pub height_on : ℤ → List (Option ℤ) → ℕ → ℕ → ℤ
 height_on level heights parity turn =
     unwrap_or (slice_index_or heights (2 * turn + parity) None) level
 
--- The lowest of this level and one parity's heights on the turns before `end`.
+-- The lowest of `level` and the heights on the ways of one parity, for turns before `end`.
 pub record IsLowestBefore (level : ℤ) (heights : List (Option ℤ)) (parity end : ℕ)
     (lowest : ℤ) : Type 0 where
   pub low : lowest ≤ℤ level
@@ -51,8 +51,8 @@ pub record IsSteepestWay (a : Around) (found : Option ℕ) : Type 0 where
       let most = fold max 0 (weights a) in
       (way < 8) × (0 < most) × (position (λ w. w == most) (weights a) ≡ Some way)
 
--- The surroundings have this level, `own` steps, and the cells at these eight indexes.
-pub record StandAround (a : Around) (cells : List (Option ℤ)) (steps : List (Option ℕ))
+-- The surroundings have height `level`, `own` steps, and the cells at these eight indexes.
+pub record HasCells (a : Around) (cells : List (Option ℤ)) (steps : List (Option ℕ))
     (at : List ℕ) (level : ℤ) (own : ℕ) : Type 0 where
   pub own_level : a.level ≡ level
   pub own_steps : a.steps ≡ own

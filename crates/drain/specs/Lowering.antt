@@ -45,7 +45,7 @@ kept_of c tile l k =
 abbrev pub counts_in : Cutting → ℕ → List (Option ℕ) → Lowered → ℕ → ℕ
 counts_in c tile steps l k = unwrap_or (kept_of c tile l k) (count_of steps k)
 
--- The sum of the counts below an index.
+-- The sum of the counts at the first n indexes.
 unfoldable pub total : ℕ → (ℕ → ℕ) → ℕ
 total zero counts = 0
 total (suc n) counts = counts n + total n counts
@@ -65,8 +65,8 @@ pub record IsChange (t : Terrain) (c : Cutting) (tile : ℕ) (steps : List (Opti
   pub least : counts (index_of c.cols x.place) ≤ x.count
 
 -- A search may spread from this change in the bounds of its tile; no count is above the input's.
-pub record MayGoOn (t : Terrain) (c : Cutting) (steps : List (Option ℕ)) (b : Bounds) (l : Lowered)
-    (x : Change) : Type 0 where
+pub record MaySpread (t : Terrain) (c : Cutting) (steps : List (Option ℕ)) (b : Bounds)
+    (l : Lowered) (x : Change) : Type 0 where
   pub counting : AreCounting t steps
   pub change : IsChange t c (tile_of_place c x.place) steps
       (counts_in c (tile_of_place c x.place) steps l) x
@@ -89,8 +89,8 @@ IsReported c tile steps l from p =
     (k : ℕ) × (from ≤ k) × (slice_get l.changes.items k
     ≡ Some (record { place = p; count = counts_in c tile steps l (index_of c.cols p) }))
 
--- A search went on from old to new: places in `Done` have at most `bound`, and the added changes
--- have each lowered count.
+-- A search went on from old to new. Counts at places in `Done` are at most `bound`, and the added
+-- changes have each count that fell.
 pub record IsLoweredTo (t : Terrain) (c : Cutting) (tile : ℕ) (steps : List (Option ℕ))
     (Done : Place → Type 0) (bound : ℕ) (old new : Lowered) : Type 0 where
   pub low : (k : ℕ) → counts_in c tile steps new k ≤ counts_in c tile steps old k
@@ -116,7 +116,7 @@ pub record IsEntered (c : Cutting) (entries : List Entry) (from end : ℕ)
   pub each : (k : ℕ) (e : Entry) → from ≤ k → k < end → slice_get entries k ≡ Some e →
       counts (index_of c.cols e.change.place) ≤ e.change.count
 
--- The result of a tile's job: changes that apply its entries and make it even inside.
+-- The result of a tile's job: changes that apply its entries and leave the tile even inside.
 pub record IsTileAnswer (t : Terrain) (c : Cutting) (tile : ℕ) (steps : List (Option ℕ))
     (entries : List Entry) (from end : ℕ) (changes : List Change) : Type 0 where
   pub counts : ℕ → ℕ

@@ -59,7 +59,7 @@ pub record AreCounting (t : Terrain) (steps : List (Option ℕ)) : Type 0 where
   pub walked : AreWalked (IsSource t steps) t steps
 
 -- The final counts: lengths of level walks to the sources of `input`. No round would change them.
-pub record AreSettled (c : Cutting) (t : Terrain) (input steps : List (Option ℕ)) : Type 0 where
+pub record AreFinal (c : Cutting) (t : Terrain) (input steps : List (Option ℕ)) : Type 0 where
   pub cutting : IsCutting c
   pub counting : AreCounting t steps
   pub same_sources : HaveSameSources t input steps

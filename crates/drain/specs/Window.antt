@@ -27,7 +27,7 @@ pub record IsInner (b : Bounds) (s : Place) : Type 0 where
   pub first_col : 1 ≤ s.col
   pub last_col : s.col ≤ b.cols
 
--- The spot of the window is the place p of the grid.
+-- The spot of the window shows the place p of the grid.
 abbrev pub Shows : Bounds → Place → Place → Type 0
 Shows b s p = (b.top + s.row ≡ p.row + 1) × (b.left + s.col ≡ p.col + 1)
 
@@ -35,7 +35,7 @@ Shows b s p = (b.top + s.row ≡ p.row + 1) × (b.left + s.col ≡ p.col + 1)
 abbrev pub IsOff : Bounds → Place → Type 0
 IsOff b s = (b.top + s.row ≡ 0) ⊎ (b.left + s.col ≡ 0)
 
--- The value at a spot: the list's entry at its place, and `none` off the grid.
+-- The value at a spot: the list's value at its place, and `none` off the grid.
 abbrev pub IsShown : {X : Type 0} → ℕ → ℕ → List X → X → Bounds → Place → X → Type 0
 IsShown cols rows entries none b s x =
     ((p : Place) → Shows b s p → x ≡ entry_or cols rows entries none p) × (IsOff b s → x ≡ none)
@@ -52,7 +52,7 @@ count_on b counts s = slice_index_or counts (spot_index b s) 0
 abbrev pub AreCounts : List ℕ → Type 0
 AreCounts counts = (k : ℕ) → slice_index_or counts k 0 ≤ no_count
 
--- The counts come from the old ones by moves between spots on one level. A move lowers a spot to
+-- The counts come from the old ones by moves between spots of one height. A move lowers a spot to
 -- one more than the count that an adjacent spot has after some moves.
 pub data IsSpread (b : Bounds) (levels : List (Option ℤ)) (old : List ℕ) : List ℕ → Type 0 where
   same : IsSpread b levels old old
@@ -62,7 +62,7 @@ pub data IsSpread (b : Bounds) (levels : List (Option ℤ)) (old : List ℕ) : L
       n ≡ count_on b some s + 1
       → n < count_on b counts r → IsSpread b levels old (slice_set counts (spot_index b r) n)
 
--- The least count on a level in columns `from.col..end` of a row, plus 1; at most the bound.
+-- 1 plus the least count at height `level` in columns `from.col..end` of a row; at most the bound.
 pub record IsLeastAlong (b : Bounds) (levels : List (Option ℤ)) (counts : List ℕ) (from : Place)
     (end : ℕ) (level : Option ℤ) (bound least : ℕ) : Type 0 where
   pub low : least ≤ bound
@@ -75,7 +75,7 @@ pub record IsLeastAlong (b : Bounds) (levels : List (Option ℤ)) (counts : List
 pub record IsNotAbove (new old : List ℕ) : Type 0 where
   pub each : (k : ℕ) → slice_index_or new k 0 ≤ slice_index_or old k 0
 
--- The spot's new count is at most one above the old counts of adjacent spots on its level.
+-- The spot's new count is at most one above the old counts of adjacent spots of its height.
 pub record IsNear (b : Bounds) (levels : List (Option ℤ)) (old new : List ℕ)
     (s : Place) : Type 0 where
   pub each : (r : Place) → Touches s r → level_on b levels r ≡ level_on b levels s →
@@ -88,8 +88,8 @@ pub record AreNoted (b : Bounds) (old new : List ℕ) (before after : List Place
   pub each : (s : Place) → IsInner b s → (count_on b new s ≡ count_on b old s)
       ⊎ ((k : ℕ) × (length before ≤ k) × (slice_get after k ≡ Some s))
 
--- A search has spread from a spot to the places in `Done`: those on its level have at most one more
--- than its count, which is unchanged.
+-- A search has spread from a spot to the places in `Done`: those of its height have at most one
+-- more than its count, which is unchanged.
 pub record IsReached (b : Bounds) (levels : List (Option ℤ)) (spot : Place) (Done : Place → Type 0)
     (old new : List ℕ) (before after : List Place) : Type 0 where
   pub spread : IsSpread b levels old new
@@ -101,8 +101,8 @@ pub record IsReached (b : Bounds) (levels : List (Option ℤ)) (spot : Place) (D
   -- each added spot lowered the sum of the counts
   pub left : length after + sum new ≤ length before + sum old
 
--- Each count of the tile is at most one above those of adjacent spots on its level, except spots
--- that wait in the list from index `from` on.
+-- Each count of the tile is at most one above that of an adjacent spot of its height, unless the
+-- adjacent spot waits in the list from index `from` on.
 pub record IsEvenBut (b : Bounds) (levels : List (Option ℤ)) (counts : List ℕ)
     (waiting : List Place) (from : ℕ) : Type 0 where
   pub each : (s r : Place) → IsInner b s → IsInner b r → Touches s r →
@@ -110,7 +110,7 @@ pub record IsEvenBut (b : Bounds) (levels : List (Option ℤ)) (counts : List �
       (count_on b counts r ≤ count_on b counts s + 1)
       ⊎ ((k : ℕ) × (from ≤ k) × (slice_get waiting k ≡ Some s))
 
--- Each count of the tile is at most one above those of adjacent spots of the tile on its level.
+-- Each count of the tile is at most one above those of the tile's adjacent spots of its height.
 pub record IsEven (b : Bounds) (levels : List (Option ℤ)) (counts : List ℕ) : Type 0 where
   pub each : (s r : Place) → IsInner b s → IsInner b r → Touches s r →
       level_on b levels r ≡ level_on b levels s →
@@ -143,14 +143,14 @@ IsCopied b counts p x = (s : Place) → Shows b s p → x ≡ known (count_on b 
 
 -- A search has ended: moves lead from the old counts to the new, each spot of the tile is near the
 -- old counts around it, and no move is left inside the tile.
-pub record IsSettled (b : Bounds) (levels : List (Option ℤ)) (old new : List ℕ) : Type 0 where
+pub record IsSearched (b : Bounds) (levels : List (Option ℤ)) (old new : List ℕ) : Type 0 where
   pub spread : IsSpread b levels old new
   pub near : (s : Place) → IsInner b s → IsNear b levels old new s
   pub even : IsEven b levels new
 
 -- The counts of a tile after a round from the old counts of its window.
 abbrev pub IsRoundOf : Bounds → List (Option ℤ) → List ℕ → List (Option ℕ) → Type 0
-IsRoundOf b levels old list = (new : List ℕ) × IsSettled b levels old new
+IsRoundOf b levels old list = (new : List ℕ) × IsSearched b levels old new
     × AreMadeBelow b (IsCopied b new) (b.rows * b.cols) list
 
 -- The counts of the window are the values of its spots, as numbers.

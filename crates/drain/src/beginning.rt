@@ -10,7 +10,7 @@ ghost use Rattle.drain.specs.Steps.{DrainsAtOnce};
 ghost use Rattle.drain.specs.Window.{AreMadeSpots, IsSpot};
 
 use crate::interior::cells_around;
-use crate::looking::{place_shown, spot_of};
+use crate::loading::{place_shown, spot_of};
 use crate::window::Window;
 use drainage::NO_COUNT;
 use std::alloc::{AllocError, Global};
@@ -86,7 +86,7 @@ fn begin_at(grid: &Grid, place: Place) -> u32
     }
 }
 
-/// Returns the initial count at a spot, sinks left out; `NO_COUNT` off the grid.
+/// Returns a spot's initial count without regard to sinks, `NO_COUNT` off the grid.
 #[inline(always)]
 fn begin_spot(grid: &Grid, bounds: Bounds, spot: Place) -> u32
     requires inside { IsPartOf grid.now.terrain bounds }
@@ -99,7 +99,7 @@ fn begin_spot(grid: &Grid, bounds: Bounds, spot: Place) -> u32
     }
 }
 
-/// Appends the initial counts of one row of the window, sinks left out.
+/// Appends the initial counts of one window row, without regard to sinks.
 fn begin_along(
     grid: &Grid,
     bounds: Bounds,

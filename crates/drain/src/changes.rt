@@ -1,4 +1,4 @@
-//! Lower counts: a cell's new one, and one that an adjacent tile offers.
+//! Types of lower counts: a cell's new one, and one offered by an adjacent tile.
 
 use terrain::Place;
 

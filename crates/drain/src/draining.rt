@@ -15,7 +15,7 @@ use crate::first::first_round;
 use crate::rounds::run_rounds;
 use crate::stages::Codes;
 use crate::window::Window;
-use crate::{looking, window};
+use crate::{loading, window};
 use drainage::{Directions, Filled, StepCount};
 use std::alloc::{AllocError, Global};
 use std::snapshot::Snapshot;
@@ -38,15 +38,15 @@ pub(crate) fn round(
         (λ v. IsRoundOf window.now.bounds window.now.levels.items old.now v.items) }
 {
     let counts = window::searched_counts(alloc, window, old)?;
-    let list = looking::copy_counts(alloc, window, &counts)?;
+    let list = loading::copy_counts(alloc, window, &counts)?;
     Ok(list)
 }
 
 /// Returns a tile's step counts after one round of counting, in row order.
 ///
-/// Searches from all counts in `steps`, in the tile and around it, until none in the tile falls.
-/// No count rises or is lost. `steps` must be 0 at each cell that drains at once, named sinks
-/// included; any other count must be a number of moves over the flat to such a cell.
+/// Searches from all counts in `steps`, in the tile and around it, until no count in the tile
+/// falls. No count rises or is lost. `steps` must be 0 at each cell that drains at once, named
+/// sinks included. Any other count must be the length of a walk over the flat to such a cell.
 ///
 /// # Errors
 ///
@@ -65,13 +65,13 @@ pub fn flat_steps(
     ensures { IfOk result (λ v. IsRound (DrainsAtOnce terrain) terrain levels.now.cutting
         levels.now.tile steps.now.cells v.items) }
 {
-    let window = looking::window(alloc, levels)?;
-    let old = looking::counts(alloc, steps)?;
+    let window = loading::window(alloc, levels)?;
+    let old = loading::counts(alloc, steps)?;
     let counts = round(alloc, &window, &old)?;
-    Ok(looking::step_numbers(alloc, &counts)?)
+    Ok(loading::step_numbers(alloc, &counts)?)
 }
 
-/// Counts the steps of each cell: a first round, then more until none changes.
+/// Counts the steps of each cell: runs rounds until one changes no count.
 fn count_steps<R: Threads + Wait + Sync, G: Gate + Sync>(
     runner: &Runner<'_, R, G>,
     filled: &Filled,
@@ -90,7 +90,7 @@ fn count_steps<R: Threads + Wait + Sync, G: Gate + Sync>(
 
 /// Returns the D8 direction of each cell of a filled grid.
 ///
-/// Jobs count the steps of each tile in rounds, then find its codes.
+/// Rounds over all tiles count the steps; then a job for each tile finds its codes.
 ///
 /// # Errors
 ///

@@ -57,7 +57,7 @@ impl<'a> RoundInput<'a> {
         self.steps[index].number()
     }
 
-    /// Queues an entry for `to` if it is level with `from` and its count would fall.
+    /// Appends an entry for `to`, if `from` is level with it and would lower its count.
     #[inline(always)]
     fn note(&self, from: Change, to: Place, entries: &mut Vec<Entry>) -> Result<(), AllocError>
         requires counting { AreCounting (sinkless_terrain self.now.tiling.now self.now.levels.now)
@@ -84,7 +84,7 @@ impl<'a> RoundInput<'a> {
         Ok(())
     }
 
-    /// Queues entries for the cells of one row that the count of `from` would lower.
+    /// Appends entries for cells of one row around `from` that its count would lower.
     #[inline(always)]
     fn note_along(&self, from: Change, row: u32, entries: &mut Vec<Entry>) -> Result<(), AllocError>
         requires counting { AreCounting (sinkless_terrain self.now.tiling.now self.now.levels.now)
@@ -106,7 +106,7 @@ impl<'a> RoundInput<'a> {
         Ok(())
     }
 
-    /// Queues entries for the cells around `place` that its count would lower.
+    /// Appends entries for the cells around `place` that its count would lower.
     pub(crate) fn note_around(
         &self,
         place: Place,
@@ -131,8 +131,8 @@ impl<'a> RoundInput<'a> {
         Ok(())
     }
 
-    /// Queues entries for the cells around a tile that its rim's counts would lower.
-    /// In the tile itself none is left to lower.
+    /// Appends entries for the cells around a tile that its rim's counts would lower.
+    /// Cells of the tile get none: its own search has left no count there to lower.
     pub(crate) fn note_rim(&self, tile: u32, entries: &mut Vec<Entry>) -> Result<(), AllocError>
         requires counting { AreCounting (sinkless_terrain self.now.tiling.now self.now.levels.now)
             self.now.steps.now }
@@ -161,8 +161,8 @@ impl<'a> RoundInput<'a> {
             && place.col + 1 < bounds.left + bounds.cols
     }
 
-    /// Queues entries for the cells whose counts these changed cells would lower.
-    /// The changes of a job lie in one tile; those off its rim reach no other tile.
+    /// Appends entries for the cells whose counts these changed cells would lower.
+    /// A job's changes lie in one tile, and only those on its rim can lower other tiles.
     pub(crate) fn note_changes(
         &self,
         changes: &[Change],

@@ -1,7 +1,6 @@
 //! The first round: each tile counts steps on its own.
 //!
-//! The search starts at the cells that drain at once, in the tile and around it (`beginning`), and
-//! runs in `window`.
+//! `window` searches from cells, in the tile and around it, that drain at once (`beginning`).
 ghost use Rattle.std.specs.Prelude.{ℕ, List, Option, IfOk};
 ghost use Rattle.tile_jobs.specs.Fault.{RefusesWorkers};
 ghost use Rattle.tiles.specs.Cutting.{Cuts, IsCutting};
@@ -12,7 +11,7 @@ ghost use Rattle.drain.specs.Entering.{sinkless_terrain};
 
 use crate::beginning::begun_counts;
 use crate::draining::round;
-use crate::looking;
+use crate::loading;
 use drainage::StepCount;
 use std::alloc::Global;
 use std::sync::Wait;
@@ -47,7 +46,7 @@ impl<'a> Work for FirstRound<'a> {
 
     fn run(&self, alloc: Global, job: u32) -> Result<Vec<StepCount>, JobFault> {
         let levels = self.tiling.view(self.grid.cells(), job);
-        let window = looking::window(alloc, &levels)?;
+        let window = loading::window(alloc, &levels)?;
         let begun = begun_counts(alloc, self.grid, &window)?;
         let list = round(alloc, &window, &begun)?;
         Ok(list)

@@ -4,7 +4,7 @@ ghost use Rattle.std.specs.List.{list_any};
 ghost use Rattle.std.specs.Option.{option_zip};
 ghost use Rattle.terrain.specs.Raster.{IsTerrain};
 ghost use Rattle.terrain.specs.Neighbours.{IsInside, height_at, entry_at, index_of};
-ghost use Rattle.drain.specs.Interior.{StandAround};
+ghost use Rattle.drain.specs.Interior.{HasCells};
 ghost use Rattle.terrain.specs.Ways.{around_index};
 ghost use Rattle.drain.specs.Beginning.{IsOutermost};
 ghost use Rattle.drain.specs.Directions.{IsCodeAt};
@@ -16,7 +16,7 @@ use crate::steepness::steepest;
 use drainage::{Code, StepCount};
 use terrain::{Cell, Grid, Height, Place, around_index};
 
-/// Returns the row-order indexes of the eight cells around one, in code order.
+/// Returns the row-order indexes of the eight cells around `place`, in code order.
 #[inline(always)]
 pub(crate) fn cells_around(grid: &Grid, place: Place) -> [usize; 8]
     requires inside { IsInside grid.now.terrain place }
@@ -62,15 +62,15 @@ fn leads_on(level: Height, own: u32, height: Option<Height>, steps: Option<u32>)
     }
 }
 
-/// Returns the first way to a neighbour on the flat with one step fewer.
+/// Returns the first direction to a neighbour on the flat with one step fewer.
 #[inline(always)]
 fn onward(cells: &[Cell], steps: &[StepCount], at: &[usize; 8], level: Height, own: u32) -> usize
     requires cells { (way : ℕ) → way < 8 → slice_index_or at.now way 0 < length cells.now }
     requires steps { (way : ℕ) → way < 8 → slice_index_or at.now way 0 < length steps.now }
-    requires some { (a : Around) × StandAround a cells.now steps.now at.now level own
+    requires some { (a : Around) × HasCells a cells.now steps.now at.now level own
         × IsTrue (list_any (leads_on a) a.ways) }
     ensures below { result < 8 }
-    ensures first { (a : Around) → StandAround a cells.now steps.now at.now level own →
+    ensures first { (a : Around) → HasCells a cells.now steps.now at.now level own →
         position (leads_on a) a.ways ≡ Some result }
 {
     for way in 0..8 {
@@ -83,7 +83,7 @@ fn onward(cells: &[Cell], steps: &[StepCount], at: &[usize; 8], level: Height, o
 }
 
 /// Returns the code of an interior data cell that has `own` steps.
-/// If `own` is above 0, the cell has no lower neighbour; if 0, it drains at once.
+/// A cell with steps above 0 has no lower neighbour; one with 0 steps drains at once.
 #[inline(always)]
 #[tactic(auto, using(terrain::proofs::Heights::height_in, crate::proofs::InteriorLemmas::heights_fit))]
 pub(crate) fn interior_code(

@@ -37,7 +37,7 @@ pub fn each_has_direction()
         (code : ℕ) × IsDirection t p code × ((other : ℕ) → IsDirection t p other → other ≡ code) }
 {}
 
-/// `direction_of` a cell's surroundings is the direction of the cell.
+/// The direction of a cell is `direction_of` its surroundings.
 #[tactic(auto, using(crate::proofs::Laid::direction_is))]
 pub fn direction_is_of_cell()
     ensures { (t : Terrain) (steps : List (Option ℕ)) (p : Place) (a : Around) → AreSteps t steps →

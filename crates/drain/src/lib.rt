@@ -9,9 +9,9 @@
 //! - `first`: the first round
 //! - `beginning`: finds the cells that drain at once
 //! - `window`: searches one tile for steps
-//! - `looking`: copies a tile and the places around it
+//! - `loading`: copies a tile and the places around it to a window
 //! - `rounds`: later rounds
-//! - `entering`: lower counts from adjacent tiles
+//! - `entering`: finds entries, lower counts from adjacent tiles
 //! - `lowering`: the search of a later round
 //! - `changes`: types of lower counts
 //! - `runs`: sorts entries by tile
@@ -31,7 +31,7 @@ mod entering;
 mod first;
 mod interior;
 pub mod laws;
-mod looking;
+mod loading;
 mod lowering;
 mod rounds;
 mod runs;

@@ -1,6 +1,6 @@
 //! The search of a later round, over counts that all jobs share.
 //!
-//! It starts at the entries into the tile and returns only the changed counts.
+//! The search starts at the entries into the tile and returns only the changed counts.
 ghost use Rattle.std.specs.Prelude.{◌≡◌, ℕ, ◌+◌, ◌*◌, ◌<◌, ◌≤◌, ◌≢◌, true, [], Vec, length, OnOk, IfOk, Some, slice_get, unwrap_or};
 ghost use Rattle.std.specs.Bool.{OnFalse};
 ghost use Rattle.std.specs.declared.alloc.Global.{Global};
@@ -10,7 +10,7 @@ ghost use Rattle.tiles.specs.Cutting.{IsWithin, IsInTile, bounds_of, tile_count,
 ghost use Rattle.drain.specs.declared.changes.Entry.{Entry};
 ghost use Rattle.drain.specs.Rounds.{IsSource, IsWalked, AreCounting};
 ghost use Rattle.drain.specs.Entering.{sinkless_terrain, AreEntries, IsRun};
-ghost use Rattle.drain.specs.Lowering.{IsEvenInside, IsLoweredTo, IsTileAnswer, MayGoOn, count_of, counts_in};
+ghost use Rattle.drain.specs.Lowering.{IsEvenInside, IsLoweredTo, IsTileAnswer, MaySpread, count_of, counts_in};
 
 use crate::changes::{Change, Entry, Run};
 use crate::entering::RoundInput;
@@ -19,7 +19,7 @@ use terrain::Place;
 use tiles::Bounds;
 
 /// The counts that a search has lowered, and each change in order.
-/// `rows` has each tile row's counts from its first cell to the last that was lowered.
+/// `rows` has the counts of each tile row, from its first cell to its last lowered one.
 #[derive(Drop)]
 struct Lowered {
     rows: Vec<Vec<u32>>,
@@ -81,7 +81,7 @@ fn put_in_row(
     Ok(())
 }
 
-/// Lowers a cell to `change.count` and records the change, if its count is greater.
+/// Lowers a cell's count to `change.count` if that is less, and records the change.
 #[inline(always)]
 fn lower(
     input: &RoundInput<'_>,
@@ -127,7 +127,7 @@ fn lower(
     Ok(())
 }
 
-/// Lowers `to` to the count of `from` plus 1, if both are on one level.
+/// Lowers `to` to the count of `from` plus 1, if both have one filled height.
 #[inline(always)]
 fn reach(
     input: &RoundInput<'_>,
@@ -137,7 +137,7 @@ fn reach(
     to: Place,
 ) -> Result<(), AllocError>
     requires ready { let c = input.now.tiling.now in
-        MayGoOn (sinkless_terrain c input.now.levels.now) c input.now.steps.now bounds lowered.old
+        MaySpread (sinkless_terrain c input.now.levels.now) c input.now.steps.now bounds lowered.old
         from }
     requires to { IsInTile input.now.tiling.now (tile_of_place input.now.tiling.now from.place) to
         × Touches from.place to }
@@ -153,7 +153,7 @@ fn reach(
     Ok(())
 }
 
-/// Lowers the level cells of one row around `from` to its count plus 1.
+/// Lowers cells of one row around `from`, and level with it, to its count plus 1.
 #[inline(always)]
 fn reach_along(
     input: &RoundInput<'_>,
@@ -163,7 +163,7 @@ fn reach_along(
     row: u32,
 ) -> Result<(), AllocError>
     requires ready { let c = input.now.tiling.now in
-        MayGoOn (sinkless_terrain c input.now.levels.now) c input.now.steps.now bounds lowered.old
+        MaySpread (sinkless_terrain c input.now.levels.now) c input.now.steps.now bounds lowered.old
         from }
     requires row { (bounds.top ≤ row) × (row < bounds.top + bounds.rows)
         × (row ≤ from.place.row + 1) × (from.place.row ≤ row + 1) }
@@ -181,7 +181,7 @@ fn reach_along(
     Ok(())
 }
 
-/// Lowers the level cells around `from` in its tile to its count plus 1.
+/// Lowers the tile's cells around `from`, and level with it, to its count plus 1.
 fn spread(
     input: &RoundInput<'_>,
     bounds: Bounds,
@@ -189,7 +189,7 @@ fn spread(
     from: Change,
 ) -> Result<(), AllocError>
     requires { let c = input.now.tiling.now in
-        MayGoOn (sinkless_terrain c input.now.levels.now) c input.now.steps.now bounds lowered.old
+        MaySpread (sinkless_terrain c input.now.levels.now) c input.now.steps.now bounds lowered.old
         from }
     ensures { let c = input.now.tiling.now in let t = sinkless_terrain c input.now.levels.now in
         OnOk result (IsLoweredTo t c (tile_of_place c from.place) input.now.steps.now

@@ -1,12 +1,12 @@
-//! Rounds after the first: they carry steps over rims until one changes nothing.
+//! Later rounds: they carry steps over rims until a round changes nothing.
 //!
-//! A round runs a job for each tile, or on the caller's thread if it has few entries.
+//! A round runs a job for each tile, or with few entries (lower counts) on the caller's thread.
 ghost use Rattle.std.specs.Prelude.{◌≡◌, ◌≢◌, ℕ, ◌*◌, ◌<◌, ◌≤◌, ◌↔◌, [], true, false, IsTrue, Vec, length, vec_len, OnOk, IfOk};
 ghost use Rattle.tile_jobs.specs.Fault.{RefusesWorkers};
 ghost use Rattle.tiles.specs.Cutting.{IsCutting, IsWithin, tile_of_place};
 ghost use Rattle.std.specs.declared.alloc.Global.{Global};
 ghost use Rattle.drain.specs.declared.changes.Change.{Change};
-ghost use Rattle.drain.specs.Rounds.{AreCounting, AreSettled};
+ghost use Rattle.drain.specs.Rounds.{AreCounting, AreFinal};
 ghost use Rattle.drain.specs.Lowering.{IsAmong, IsEvenInside, count_of};
 ghost use Rattle.drain.specs.Entering.{sinkless_terrain, AreEntered};
 ghost use Rattle.drain.specs.Rounding.{AreAnswered, ArePut, IsGiven, IsRounding, IsNext, IsAnswer, count_sum};
@@ -25,10 +25,10 @@ use tile_jobs::{Gate, JobFault, Work};
 use tile_maps::Runner;
 use tiles::Tiling;
 
-/// How many rounds after the first run as jobs, however few entries there are.
+/// The number of later rounds that run as jobs even if they have few entries.
 const FULL_ROUNDS: u32 = 4;
 
-/// With fewer entries than this, starting threads takes longer than the round.
+/// The number of entries below which starting threads takes longer than a round.
 const FEW_ENTRIES: usize = 256;
 
 /// Input of a round's jobs: heights, counts so far, and the entries of each tile.
@@ -93,7 +93,7 @@ impl<'a> Work for Round<'a> {
     }
 }
 
-/// Lowers a cell of the grid to `change.count`, if its count is greater.
+/// Lowers the count of a cell of the grid to `change.count` if that is less.
 #[inline(always)]
 fn put(tiling: &Tiling, steps: &mut [StepCount], change: Change)
     requires steps { length steps.old ≡ tiling.now.cols * tiling.now.rows }
@@ -128,7 +128,7 @@ fn put_all(tiling: &Tiling, steps: &mut [StepCount], outs: &[Vec<Change>])
     }
 }
 
-/// Returns the entries from the rims of all tiles.
+/// Returns the entries into adjacent tiles, from the rims of all tiles.
 fn entries_of_all(alloc: Global, input: &RoundInput<'_>) -> Result<Vec<Entry>, AllocError>
     requires { AreCounting (sinkless_terrain input.now.tiling.now input.now.levels.now)
         input.now.steps.now }
@@ -146,7 +146,7 @@ fn entries_of_all(alloc: Global, input: &RoundInput<'_>) -> Result<Vec<Entry>, A
     Ok(entries)
 }
 
-/// Returns the entries from the cells that a round changed.
+/// Returns the entries into adjacent tiles, from the cells that a round changed.
 fn entries_of_changed(
     alloc: Global,
     input: &RoundInput<'_>,
@@ -262,7 +262,7 @@ struct Counting<'a> {
 impl<'a> Counting<'a> {
     ghost use Rattle.drain.specs.Rounding.{rounding_of};
 
-    /// Lowers the counts by a round's changes and finds the entries for the next.
+    /// Lowers the counts by a round's changes and finds the next round's entries.
     fn put_round(&mut self, alloc: Global, outs: &[Vec<Change>]) -> Result<(), AllocError>
         requires rounding { IsRounding (rounding_of self.old) }
         requires answered { AreAnswered (rounding_of self.old) outs.now }
@@ -332,7 +332,7 @@ impl<'a> Counting<'a> {
     }
 
     /// Runs rounds on the caller's thread while 1 to `many - 1` entries remain.
-    fn settle_few(&mut self, alloc: Global, many: usize) -> Result<(), AllocError>
+    fn run_small_rounds(&mut self, alloc: Global, many: usize) -> Result<(), AllocError>
         requires { IsRounding (rounding_of self.old) }
         ensures { OnOk result (IsNext (rounding_of self.old) (rounding_of self.new)) }
     {
@@ -352,7 +352,7 @@ fn enough_entries(tiling: &Tiling, rounds: u32) -> usize {
     FEW_ENTRIES.max(tiling.tiles() as usize)
 }
 
-/// Runs rounds after the first until one changes nothing, and returns the counts.
+/// Runs later rounds until one changes nothing, and returns the counts.
 /// After [`FULL_ROUNDS`] rounds of jobs, rounds with few entries run on the caller's thread.
 pub(crate) fn run_rounds<R: Threads + Wait + Sync, G: Gate + Sync>(
     runner: &Runner<'_, R, G>,
@@ -366,8 +366,8 @@ pub(crate) fn run_rounds<R: Threads + Wait + Sync, G: Gate + Sync>(
     requires even { (tile : ℕ) → IsEvenInside (sinkless_terrain tiling.now levels.now) tiling.now
         tile (count_of steps.items) }
     requires workers { (1 ≤ runner.now.workers) × (runner.now.workers ≤ 64) }
-    ensures settled { IfOk result (λ s.
-        AreSettled tiling.now (sinkless_terrain tiling.now levels.now) steps.items s.items) }
+    ensures finished { IfOk result (λ s.
+        AreFinal tiling.now (sinkless_terrain tiling.now levels.now) steps.items s.items) }
     ensures workers { RefusesWorkers runner.now.workers result }
 {
     let mut entries = entries_of_all(
@@ -388,7 +388,7 @@ pub(crate) fn run_rounds<R: Threads + Wait + Sync, G: Gate + Sync>(
     let mut rounds = 0u32;
     while counting.full_round(runner)? {
         rounds = rounds.saturating_add(1);
-        counting.settle_few(runner.alloc, enough_entries(tiling, rounds))?;
+        counting.run_small_rounds(runner.alloc, enough_entries(tiling, rounds))?;
     }
     Ok(counting.steps)
 }

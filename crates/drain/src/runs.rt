@@ -1,4 +1,4 @@
-//! Sorts entries by tile and finds the run of each tile.
+//! Sorts entries by tile and finds the run of each tile: the range of its entries.
 ghost use Rattle.std.specs.Prelude.{◌≡◌, ◌≢◌, ℕ, ◌<◌, ◌≤◌, length, OnOk, IfOk, Some, slice_get};
 ghost use Rattle.std.specs.List.Sorted.{IsNonDecreasingBy, IsPermutation};
 ghost use Rattle.drain.specs.declared.changes.Entry.{Entry};
@@ -19,7 +19,7 @@ pub(crate) fn sort(entries: &mut Vec<Entry>) -> Result<(), AllocError>
     Ok(())
 }
 
-/// Returns where the entries of a tile end that begin at index `from`.
+/// Returns the index after the entries of `tile` that begin at index `from`.
 pub(crate) fn run_end(entries: &[Entry], tile: u32, from: usize) -> usize
     requires { from ≤ length entries.now }
     ensures ordered { (from ≤ result) × (result ≤ length entries.now) }

@@ -7,7 +7,7 @@ use terrain::{Grid, NoMemory};
 use tile_maps::TileMap;
 use tiles::Tiling;
 
-/// The map of codes: a filled grid, its tiling, and its steps, freed with the map.
+/// Input of the jobs that find codes: a filled grid, its steps and its tiling.
 #[derive(Drop)]
 pub(crate) struct Codes<'a> {
     pub(crate) grid: &'a Grid,

@@ -1,7 +1,7 @@
 //! The D8 direction of one cell: [`direction`].
 //!
-//! `steepest` finds the steepest way down, and compares drops exactly, by their squares. `onward`
-//! finds a way over the flat. Of equal ways both return the first, whose code is the smallest.
+//! Ways are the eight directions, from 0 to 7 in code order. `steepest` finds the steepest way down
+//! by exact squares of drops, and `onward` a way over the flat: the first of equally good ways.
 ghost use Rattle.std.specs.Prelude.{◌≡◌, ◌*◌, ◌<◌, ◌≤◌, ◌<ℤ◌, ◌≤ℤ◌, ℕ, IfSome, IsTrue, Some, None, option_map, slice_index_or, position};
 ghost use Rattle.std.specs.Bool.{MatchBool};
 ghost use Rattle.std.specs.List.{list_any};
@@ -15,7 +15,7 @@ use crate::around::Around;
 use drainage::Code;
 use terrain::Height;
 
-/// The greatest drop of some ways, and its way. The drop is 0 if none leads down.
+/// The greatest drop on some ways, and the way with it; 0 if no way leads down.
 #[derive(Clone, Copy)]
 struct Fall {
     drop: u64,
@@ -116,7 +116,7 @@ pub(crate) fn steepest(level: Height, heights: &[Option<Height>; 8]) -> Option<u
 {
     let straight = furthest(level, heights, 0);
     let across = furthest(level, heights, 1);
-    // No fraction is the root of two, so the two are equal only where no way leads down.
+    // The root of two is no fraction, so both sides are equal only if no way leads down.
     let fall = if 2 * square(straight.drop) > square(across.drop) {
         straight
     } else {
@@ -153,7 +153,7 @@ fn heights_around(around: &Around) -> [Option<Height>; 8]
     ]
 }
 
-/// Returns whether the neighbour on `way` is level, with one step fewer.
+/// Returns whether the neighbour on `way` has the cell's height and one step fewer.
 #[inline(always)]
 fn leads_onward(around: &Around, way: usize) -> bool
     requires { way < 8 }
@@ -186,7 +186,7 @@ fn onward(around: &Around) -> usize
 /// Returns the D8 direction of a cell by its surroundings.
 ///
 /// Water takes the steepest way down. Without one, an end cell is an outlet, and any other cell
-/// drains to a neighbour on the flat with one step fewer. Of equal ways the smallest code is taken.
+/// drains to a neighbour on the flat with one step fewer. Of equals the smallest code is taken.
 ///
 /// # Examples
 ///

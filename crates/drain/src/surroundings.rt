@@ -1,7 +1,7 @@
 //! The codes of a tile's cells.
 //!
-//! Cells in the grid's outermost rows and columns go through [`Around`](crate::Around), others
-//! through `interior`.
+//! Cells in the grid's outermost rows and columns get codes by [`Around`](crate::Around), others by
+//! `interior`.
 ghost use Rattle.std.specs.Prelude.{◌≡◌, ◌+◌, ◌*◌, ◌<◌, Some, None, length, OnOk, IfOk};
 ghost use Rattle.std.specs.Option.{option_zip};
 ghost use Rattle.terrain.specs.Raster.{IsTerrain};
@@ -22,7 +22,7 @@ use std::alloc::{AllocError, Global};
 use terrain::{Grid, Height, Place, place_on};
 use tiles::Bounds;
 
-/// Returns height and steps of the data cell on `way`, `None` if there is none.
+/// Returns height and steps of the neighbour on `way`, `None` if there is none.
 #[inline(always)]
 fn entry_on(grid: &Grid, steps: &[StepCount], way: usize, place: Place) -> Option<(Height, u32)>
     requires size { length steps.now ≡ grid.now.terrain.cols * grid.now.terrain.rows }

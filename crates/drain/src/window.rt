@@ -2,14 +2,14 @@
 ghost use Rattle.std.specs.Prelude.{◌≡◌, ◌+◌, ◌<◌, ◌≤◌, ◌⊎◌, ◌↔◌, IsTrue, [], All, length, OnOk, IfOk};
 ghost use Rattle.terrain.specs.Neighbours.{Touches};
 ghost use Rattle.terrain.specs.declared.place.Place.{Place};
-ghost use Rattle.drain.specs.Window.{AreCounts, area_of, spot_index, IsSpot, IsInner, level_on, count_on, IsLeastAlong, IsSpread, IsNotAbove, IsNear, AreNoted, IsReached, IsEvenBut, IsEven, IsSettled};
+ghost use Rattle.drain.specs.Window.{AreCounts, area_of, spot_index, IsSpot, IsInner, level_on, count_on, IsLeastAlong, IsSpread, IsNotAbove, IsNear, AreNoted, IsReached, IsEvenBut, IsEven, IsSearched};
 
 use std::alloc::{AllocError, Global};
 use terrain::{Cell, Place};
 use tiles::Bounds;
 
 /// Filled heights of a tile and the places around it, in row order.
-/// The window has one row and one column more than the tile on each side; its places are spots.
+/// The window has one row and one column more than the tile on each side. Its places are spots.
 /// Spots with one filled height are level.
 #[derive(Drop)]
 pub(crate) struct Window {
@@ -54,8 +54,8 @@ impl Window {
     }
 }
 
-/// Returns a spot's count plus 1, at most `bound`, if the spot is on `level`.
-/// Returns `bound` for a spot of another level.
+/// Returns a spot's count plus 1, at most `bound`, if the spot has height `level`.
+/// Returns `bound` for a spot of another height.
 #[inline(always)]
 fn lesser(window: &Window, counts: &[u32], spot: Place, level: Cell, bound: u32) -> u32
     requires size { length counts.now ≡ area_of window.now.bounds }
@@ -80,7 +80,8 @@ fn lesser(window: &Window, counts: &[u32], spot: Place, level: Cell, bound: u32)
     }
 }
 
-/// Returns the least [`lesser`] result for three spots in a row from `from` on.
+/// Returns 1 plus the least count on three spots of one row, at most `bound`.
+/// Only spots of height `level` count.
 #[inline(always)]
 #[tactic(auto, using(crate::proofs::Least::least_of_none))]
 fn least_of_three(window: &Window, counts: &[u32], from: Place, level: Cell, bound: u32) -> u32
@@ -98,7 +99,7 @@ fn least_of_three(window: &Window, counts: &[u32], from: Place, level: Cell, bou
     least
 }
 
-/// Returns the least count around a spot on its level plus 1, at most `bound`.
+/// Returns 1 plus the least count of level spots around one, at most `bound`.
 #[inline(always)]
 fn least_around(window: &Window, counts: &[u32], spot: Place, bound: u32) -> u32
     requires size { length counts.now ≡ area_of window.now.bounds }
@@ -122,8 +123,8 @@ fn least_around(window: &Window, counts: &[u32], spot: Place, bound: u32) -> u32
     least_of_three(window, counts, Place { row: row + 1, col }, level, here)
 }
 
-/// Lowers `to` to the count of `from` plus 1, if both are on one level.
-/// Queues `to` if that lowers it and it lies in the tile.
+/// Lowers `to` to the count of `from` plus 1, if the two spots are level.
+/// Queues `to`, if it falls and lies in the tile.
 #[inline(always)]
 fn reach(
     window: &Window,
@@ -194,7 +195,7 @@ fn spread(
     Ok(())
 }
 
-/// Spreads from each queued spot in order, those queued on the way included.
+/// Spreads from each queued spot in order, also from spots queued meanwhile.
 #[tactic(auto, using(crate::proofs::Spreading::spread_none, crate::proofs::Spreading::spread_on, crate::proofs::Spreading::spread_counts, crate::proofs::Spreading::sum_spread, crate::proofs::Noted::even_end))]
 fn search(window: &Window, counts: &mut [u32], mut reached: Vec<Place>) -> Result<(), AllocError>
     requires size { length counts.old ≡ area_of window.now.bounds }
@@ -214,8 +215,8 @@ fn search(window: &Window, counts: &mut [u32], mut reached: Vec<Place>) -> Resul
     Ok(())
 }
 
-/// Lowers a spot to the least old count around it on its level, plus 1.
-/// Queues the spot if that lowers it.
+/// Lowers a spot to 1 plus the least old count of level spots around it.
+/// Queues the spot, if it falls.
 #[inline(always)]
 #[tactic(auto, using(crate::proofs::Spreading::pulled, crate::proofs::Spreading::spot_from_inner))]
 fn pull_at(
@@ -309,7 +310,7 @@ fn pull(
     Ok(reached)
 }
 
-/// Searches from all known counts until none in the tile falls.
+/// Searches from all known counts until no count in the tile falls.
 #[tactic(auto, using(crate::proofs::Spreading::spread_counts))]
 fn search_window(
     alloc: Global,
@@ -320,7 +321,8 @@ fn search_window(
     requires size { length old.now ≡ area_of window.now.bounds }
     requires counts { AreCounts old.now }
     requires same { counts.old ≡ old.now }
-    ensures { OnOk result (IsSettled window.now.bounds window.now.levels.items old.now counts.new) }
+    ensures { OnOk result
+        (IsSearched window.now.bounds window.now.levels.items old.now counts.new) }
 {
     let reached = pull(alloc, window, old, counts)?;
     search(window, counts, reached)?;
@@ -335,8 +337,8 @@ pub(crate) fn searched_counts(
 ) -> Result<Vec<u32>, AllocError>
     requires size { length old.now ≡ area_of window.now.bounds }
     requires counts { AreCounts old.now }
-    ensures settled { IfOk result
-        (λ new. IsSettled window.now.bounds window.now.levels.items old.now new.items) }
+    ensures finished { IfOk result
+        (λ new. IsSearched window.now.bounds window.now.levels.items old.now new.items) }
     ensures size { IfOk result (λ new. length new.items ≡ length old.now) }
 {
     let mut counts = Vec::from_slice(alloc, old)?;

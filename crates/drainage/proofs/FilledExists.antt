@@ -14,7 +14,7 @@ use Rattle.terrain.proofs.Places.{make_place}
 use Rattle.drainage.proofs.Heights.{first_is_data, height_below_crest}
 use Rattle.drainage.proofs.Reach.{field, any_place, data_inside, is_data, reaches, IsStable, HasLowPath, reaches_true, reaches_more, true_reaches}
 
--- a second test that the first implies, split by the first
+-- where a implies b: 1 for b is 1 for a, or else 1 for b without a
 one_more : (a b : Bool) → (a ≡ true → b ≡ true) → cond b 1 0 ≡ cond a 1 0 + cond (b && not a) 1 0
 one_more true true h = refl
 one_more true false h = let e = h refl in absurd (cc)
@@ -24,7 +24,7 @@ one_more false false h = refl
 count_by_cons : (P : Place → Bool) (x : Place) (xs : List Place) → count_by P (x ∷ xs) ≡ cond (P x) 1 0 + count_by P xs
 count_by_cons P x xs = sum_by-cons (λ y. cond (P y) 1 0) x xs
 
--- the places that pass Q are those that pass P and those that pass Q alone, where P implies Q
+-- where P implies Q, the count of Q is the count of P and that of Q without P
 count_split : (P Q : Place → Bool) → ((q : Place) → P q ≡ true → Q q ≡ true) → (xs : List Place) → count_by Q xs ≡ count_by P xs + count_by (λ q. Q q && not (P q)) xs
 count_split P Q w [] = refl
 count_split P Q w (x ∷ xs) = omega (arith, count_by_cons P x xs, count_by_cons Q x xs, count_by_cons (λ q. Q q && not (P q)) x xs, one_more (P x) (Q x) (w x), count_split P Q w xs)
@@ -36,7 +36,7 @@ some_counted P (x ∷ xs) any = elim (or_cases (P x) (list_any P xs) any) [
   | inr later ↦ omega (arith, count_by_cons P x xs, some_counted P xs later)
 ]
 
--- if one more step reaches no more cells, the reached cells are stable
+-- if one more step reaches no greater number of cells, it reaches no other cell
 stable_at : (t : Terrain) (c : ℤ) (k : ℕ) → count_by (reaches t c (suc k)) (field t) ≤ count_by (reaches t c k) (field t) → IsStable t c k
 stable_at t c k h p more = elim (cases_Bool (reaches t c k p)) [
   | inl reached ↦ reached
@@ -94,7 +94,7 @@ not_less t p c none rest path = elim (less (crest t p rest) c) [
   | inr e ↦ e
 ]
 
--- the least crest, searched down from a crest at most n above the cell
+-- a path with a crest at most n above the cell gives its filled height, by trying lower crests
 least_crest : (t : Terrain) (p : Place) (n : ℕ) (rest : List Place) → IsPath t p rest → crest t p rest ≤ℤ (height_of t p +ℤ pos n) → (level : ℤ) × IsFilledHeight t p level
 least_crest t p zero rest path low = (
   crest t p rest,

@@ -52,8 +52,8 @@ contains_crest t p (q ∷ rest) path = elim (max_cases (height_of t p) (crest t 
   | inr e ↦ subst (λ h. Contains t.cells (Some h)) (sym e) (contains_crest t q rest path.1)
 ]
 
-pub filled_height_stands : (t : Terrain) (p : Place) (level : ℤ) → IsFilledHeight t p level → Contains t.cells (Some level)
-filled_height_stands t p level h = subst (λ l. Contains t.cells (Some l)) h.reached.2 (contains_crest t p h.reached.0 h.reached.1)
+pub filled_height_occurs : (t : Terrain) (p : Place) (level : ℤ) → IsFilledHeight t p level → Contains t.cells (Some level)
+filled_height_occurs t p level h = subst (λ l. Contains t.cells (Some l)) h.reached.2 (contains_crest t p h.reached.0 h.reached.1)
 
 pub height_below_crest : (t : Terrain) (p : Place) (rest : List Place) → height_of t p ≤ℤ crest t p rest
 height_below_crest t p [] = omega (arith, ints)

@@ -16,7 +16,7 @@ use Rattle.terrain.proofs.Places.{make_place, same_place, index_below, inside_fr
 use Rattle.terrain.proofs.Listed.{place_is, is_place_from, listed_from_any, any_from_listed}
 use Rattle.drainage.proofs.Heights.{known, first_is_data}
 
--- the places of the grid, and of one more row and column: the field
+-- the field: the places of the grid, and of one more row and column
 abbrev pub place_at : ℕ → ℕ → Place
 place_at cols n = make_place (n / cols) (n % cols)
 
@@ -26,7 +26,7 @@ all_places cols rows = map (place_at cols) (range_with_len 0 (cols * rows))
 abbrev pub field : Terrain → List Place
 field t = all_places (t.cols + 1) (t.rows + 1)
 
--- a search of all places finds one that passes the test
+-- a search of all places succeeds if one of them passes the test
 pub any_place : (P : Place → Bool) (cols rows : ℕ) (q : Place) → q.row < rows → q.col < cols → P q ≡ true → list_any P (all_places cols rows) ≡ true
 any_place P cols rows q a b k =
     let below = index_below cols rows q a b in
@@ -43,7 +43,7 @@ any_weaker P Q w xs h = let any = Any-from_list_any P xs h in list_any-from_Any 
 pub data_inside : (t : Terrain) (p : Place) → IsDataCell t p → (p.row < t.rows) × (p.col < t.cols)
 data_inside t p h = inside_from_entry t.cols t.rows t.cells p (height_of t p) (known (height_at t p) h)
 
--- a search of the field finds each place that touches a data cell
+-- a search of the field succeeds if a place that touches a data cell passes the test
 pub any_touching : (t : Terrain) (P : Place → Bool) (p q : Place) → IsDataCell t p → Touches p q → P q ≡ true → list_any P (field t) ≡ true
 any_touching t P p q h touch k =
     let inside = data_inside t p h in

@@ -1,5 +1,5 @@
 -- Paths to an edge cell or a named sink, and the filled height: the least crest of a cell's paths.
--- Source: textbook minimax filling; Jenson and Domingue (1988) raise depressions to that level.
+-- Source: textbook minimax filling; Jenson and Domingue (1988) raise depressions to that height.
 -- Trust base.
 use Rattle.std.specs.Prelude.{◌≡◌, ◌*◌, ℤ, ◌≤ℤ◌, List, [], ◌∷◌, length, Option, None, Some, MatchOption}
 use Rattle.std.specs.Int.{int_max}

@@ -20,7 +20,7 @@ code_at d p = entry_at d.cols d.rows d.codes p
 abbrev pub next : Directed → Place → Place
 next d p = unwrap_or (option_and_then (λ code. place_toward code p) (code_at d p)) p
 
--- The cell reached from p after so many moves.
+-- The cell reached from p after this number of moves.
 abbrev pub follow : Directed → Place → ℕ → Place
 follow d p zero = p
 follow d p (suc k) = next d (follow d p k)

@@ -24,7 +24,7 @@ impl Model for Code {
     ghost inverse = { λ n. record { number = n } };
 }
 
-/// The codes of the eight directions, in the order of their numbers.
+/// The codes of the eight directions, from E clockwise to NE.
 const WAY_CODES: [u8; 8] = [1, 2, 4, 8, 16, 32, 64, 128];
 
 impl Code {
@@ -36,7 +36,7 @@ impl Code {
         Code { number: 0 }
     }
 
-    /// Returns the code of direction `way`, from 0 for E to 7 for NE.
+    /// Returns the code of direction `way`, from 0 for E clockwise to 7 for NE.
     #[inline(always)]
     pub fn of_way(way: usize) -> Code
         requires { way < 8 }
@@ -47,7 +47,7 @@ impl Code {
         }
     }
 
-    /// Returns the direction, from 0 for E to 7 for NE, or `None` for an outlet.
+    /// Returns the direction, 0 for E clockwise to 7 for NE; `None` for an outlet.
     #[inline(always)]
     pub fn way(&self) -> Option<usize>
         ensures value { result ≡ way_of self.now }

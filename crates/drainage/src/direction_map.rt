@@ -10,8 +10,8 @@ use std::marker::Model;
 use std::snapshot::Snapshot;
 use terrain::{Grid, Place};
 
-/// The code of each cell of a grid, with its filled heights and steps as ghosts.
-/// Along each code but 0 the height falls, or it stays and the steps fall.
+/// The code of each cell of a grid; ghosts hold its filled heights and steps.
+/// Each code but 0 leads to a lower cell, or to one as high with fewer steps.
 #[derive(Drop)]
 pub struct Directions {
     cols: u32,
@@ -41,8 +41,8 @@ impl Model for Directions {
 }
 
 impl Directions {
-    /// Makes a map of the codes of a filled grid, in row order.
-    /// `steps` is a ghost copy: the list itself may be freed before.
+    /// Makes a map from the codes of a filled grid, which are in row order.
+    /// `steps` is a ghost copy, so the caller may free the real list first.
     pub fn new(grid: &Grid, steps: Snapshot<Vec<StepCount>>, codes: Vec<Option<Code>>) -> Self
         requires { IsDraining (record {
           terrain = grid.now.terrain;

@@ -20,7 +20,7 @@ pub fn filled_heights_are_one()
 {}
 
 /// A filled height is the height of some cell of the terrain.
-pub fn filled_heights_stand()
+pub fn filled_heights_occur()
     ensures { (t : Terrain) (p : Place) (level : ℤ) → IsFilledHeight t p level →
         Contains t.cells (Some level) }
 {}
@@ -32,7 +32,7 @@ pub fn filled_twice_is_filled()
         IsFilled (record t { cells = levels }) levels }
 {}
 
-/// Every flow path ends at an outlet, if height or steps fall along each code.
+/// In a map for which `IsDraining` holds, every flow path ends at an outlet.
 /// It ends within as many moves as the grid has cells.
 #[tactic(auto, using(crate::proofs::Ends::falling_ends))]
 pub fn falling_ends()

@@ -1,15 +1,15 @@
 //! The results that drainage stages pass on: filled grids and maps of directions.
 //!
-//! In a [`Filled`] grid, each cell has its filled height. In [`Directions`], each flow path ends.
-//! `fill` makes filled grids, which `drain` and `relief` read. `drain` makes directions, which
-//! `flow` and `relief` read.
+//! In a [`Filled`] grid, each cell has its filled height. In [`Directions`], each flow path ends at
+//! an outlet. `fill` makes filled grids, which `drain` and `relief` read. `drain` makes directions,
+//! which `flow` and `relief` read.
 //!
 //! Modules, callers first:
 //!
 //! - `filled_grid`: a grid of filled heights
 //! - `direction_map`: the code of each cell
-//! - `code`: a direction or an outlet
-//! - `step_count`: a number of steps, or unknown
+//! - `code`: the code of a direction or an outlet
+//! - `step_count`: a cell's steps in its flat, or unknown
 //! - `laws`: laws of the definitions
 #![tactic(auto)]
 

@@ -4,8 +4,8 @@ ghost use Rattle.drainage.specs.StepCounts.{known, no_count};
 
 use std::marker::Model;
 
-/// The stored number of unknown steps, above every number of steps.
-/// A grid has at most 2^24 cells, and a cell's steps are fewer than the cells.
+/// The number stored for unknown steps, above every cell's steps.
+/// A grid has at most 2^24 cells, and a cell has fewer steps than the grid has cells.
 pub const NO_COUNT: u32 = 1 << 24;
 
 /// The steps from a cell to one that drains at once, or unknown.
@@ -40,7 +40,7 @@ impl Model for StepCount {
 }
 
 impl StepCount {
-    /// Returns a count of `number` steps, unknown from [`NO_COUNT`] on.
+    /// Makes a count of `number` steps; unknown if that is [`NO_COUNT`] or more.
     #[inline(always)]
     pub fn of(number: u32) -> StepCount
         ensures { result ≡ known number }

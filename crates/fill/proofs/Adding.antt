@@ -22,7 +22,7 @@ use Rattle.floods.proofs.Heaps.{cons_head, cons_cases, one_held}
 abbrev join_between : CellLabel → CellLabel → Join
 join_between from to = record { from = from.node; to = to.node; height = int_max from.level to.level }
 
--- The joins of two marks.
+-- Two marks with different labels, not both sources, have one join.
 pub joins_of_apart : (sources : List (Option ℤ)) (from to : CellLabel) → from.node ≢ to.node → are_both_sources sources from.node to.node ≡ false → joins_of sources from (Some to) ≡ join_between from to ∷ []
 joins_of_apart sources from to differ apart = elim (cases_Bool (from.node == to.node)) [
   | inl same ↦ absurd (differ (eqb-true _ _ same))
@@ -73,7 +73,7 @@ adds_nothing now none is = subst (λ (z : List Join). AddsCovered now z now) (sy
   every = λ j h. absurd (no_join j h);
 })
 
--- Lowering a join to one of the same labels adds that one.
+-- Lowering a join to one of the same labels adds the lower join.
 pub adds_lower : (old : List Join) (at : ℕ) (met j : Join) → at < length old → met ≡ get_or old at met → met.from ≡ j.from → met.to ≡ j.to → j.height ≤ℤ met.height → AddsCovered old (j ∷ []) (set old at j)
 adds_lower old at met j inside is from to low = record {
   kept = λ k h. elim (cases_eq h.0 at) [
@@ -121,7 +121,7 @@ pub west_of : (row n : ℕ) (q : Place) → row ≡ q.row → q.col + 1 ≡ n �
 west_of row zero q at next = absurd (omega (arith, next))
 west_of row (suc n) q at next = ap Some (same_place (record { row = row; col = n }) q at (omega (arith, next)))
 
--- A later neighbour lies on one of the first four ways.
+-- A later neighbour lies in one of the first four directions.
 after_way : (p q : Place) → Touches p q → IsAfter p q → ((place_on 0 p ≡ Some q) ⊎ (place_on 1 p ≡ Some q)) ⊎ ((place_on 2 p ≡ Some q) ⊎ (place_on 3 p ≡ Some q))
 after_way p q t (inr beside) = inl (inl (ap Some (same_place (record { row = p.row; col = p.col + 1 }) q beside.0 (omega (arith, t.col_right, beside.1)))))
 after_way p q t (inl down) =
@@ -134,7 +134,7 @@ after_way p q t (inl down) =
       ]
     ]
 
--- A place on one of the first four ways is in the same row or in the next.
+-- A place in one of the first four directions is in the same row or in the next.
 west_row : (row n : ℕ) (q : Place) → place_if_both (Some row) (before n) ≡ Some q → row ≡ q.row
 west_row row zero q on = none_some (place_if_both (Some row) None) q refl on
 west_row row (suc n) q on = ap (λ (z : Place). z.row) (same_Some _ q on)
@@ -146,7 +146,7 @@ next_row p q (suc (suc zero)) few on differ = sym (ap (λ (z : Place). z.row) (s
 next_row p q (suc (suc (suc zero))) few on differ = sym (west_row (p.row + 1) p.col q on)
 next_row p q (suc (suc (suc (suc way)))) few on differ = absurd (omega (arith, few))
 
--- A place on one of the first four ways and in the same column is the one below.
+-- A place in one of the first four directions, if in the same column, is the place below.
 west_col : (row n : ℕ) (q : Place) → place_if_both (Some row) (before n) ≡ Some q → q.col ≢ n
 west_col row zero q on same = none_some (place_if_both (Some row) None) q refl on
 west_col row (suc n) q on same = omega (arith, ap (λ (z : Place). z.col) (same_Some _ q on), same)
@@ -158,7 +158,7 @@ same_col p q (suc (suc zero)) few on same = sym (same_Some _ q on)
 same_col p q (suc (suc (suc zero))) few on same = absurd (west_col (p.row + 1) p.col q on same)
 same_col p q (suc (suc (suc (suc way)))) few on same = absurd (omega (arith, few))
 
--- The cell on a way has no mark, or the join with it has been added.
+-- The cell in a direction has no mark, or the join with it has been added.
 pub adds_on_way : (marks : Marks) (out : LeftOutJoins) (p q : Place) (way : ℕ) (wanted : Place → Bool) (from : CellLabel) (o : Option CellLabel) (old new : List Join) → marks p ≡ Some from → marks q ≡ o → way < 8 → place_on way p ≡ Some q → wanted q ≡ true → AddsCovered old (joins_of out.sources from o) new → Adds marks out (IsPairOn way p wanted) old new
 adds_on_way marks out p q way wanted from o old new here there few on want s = record {
   kept = s.kept;
@@ -194,7 +194,7 @@ adds_on_way marks out p q way wanted from o old new here there few on want s = r
       (subst (λ (h : ℤ). Contains (record { from = j.from; to = j.to; height = h } ∷ []) j) (sym m.greater) (cons_head j []))))));
 }
 
--- The join with the cell on a way is left out.
+-- The join with the cell in a direction is left out.
 pub adds_left_out : (marks : Marks) (out : LeftOutJoins) (p q : Place) (way : ℕ) (wanted : Place → Bool) (old : List Join) → place_on way p ≡ Some q → IsLeftOut marks out p q → Adds marks out (IsPairOn way p wanted) old old
 adds_left_out marks out p q way wanted old on spared = record {
   kept = λ j h. covered_itself old j h;
@@ -237,7 +237,7 @@ adds_as marks out first both old new wider narrower a = record {
   every = λ p q j at after m. a.every p q j (narrower p q m.touches after _ m.from_is _ m.to_is at) after m;
 }
 
--- The joins of a cell are those on its first four ways.
+-- The joins of a cell are those in its first four directions.
 pub adds_four : (marks : Marks) (out : LeftOutJoins) (p : Place) (wanted : Place → Bool) (old first second third new : List Join)
     → Adds marks out (IsPairOn 0 p wanted) old first → Adds marks out (IsPairOn 1 p wanted) first second
     → Adds marks out (IsPairOn 2 p wanted) second third → Adds marks out (IsPairOn 3 p wanted) third new

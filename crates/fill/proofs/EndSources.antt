@@ -98,7 +98,7 @@ put_length cols (Some p) (Some h) heights = length-set heights (index_of cols p)
 abbrev IsEndNode : Terrain → Cutting → ℕ → ℤ → Type 0
 IsEndNode t c a h = (p : Place) × (index_of c.cols p ≡ a) × IsEnd t p × (height_at t p ≡ Some h)
 
--- The heights are those of end cells, with all of the first tiles.
+-- The heights are those of end cells, among them all labels of the first tiles that are end cells.
 pub record HaveEnds (t : Terrain) (c : Cutting) (floods : List Flood) (count : ℕ) (heights : List (Option ℤ)) : Type 0 where
   pub size : length heights ≡ c.cols * c.rows
   pub only : (a : ℕ) (h : ℤ) → get_or heights a None ≡ Some h → IsEndNode t c a h

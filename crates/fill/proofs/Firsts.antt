@@ -24,7 +24,7 @@ flat_more g floods i f low is =
     ap (flat_map g) (take_more floods i f low) ∙ flat_map-append g (take i floods) (get_or floods i f ∷ [])
     ∙ ap (λ z. flat_map g (take i floods) ++ z) (append-nil (g (get_or floods i f)) ∙ ap g (sym is))
 
--- The numbers of the first tiles, and that of the next one.
+-- The first numbers of `count` tiles, and that of the next tile.
 pub record AreFirstNumbers (floods : List Flood) (count : ℕ) (firsts : List ℕ) (next : ℕ) : Type 0 where
   pub size : length firsts ≡ count
   pub next_is : next ≡ first_of floods count

@@ -20,7 +20,7 @@ use Rattle.floods.proofs.Heaps.{all_by_contains}
 use Rattle.floods.specs.declared.net.Spill.{Spill}
 use Rattle.drainage.proofs.Uniqueness.{between}
 use Rattle.fill.specs.Gathering.{Fit, LabelsInside, LeftOutJoins, IsBypassed, mark_among, Meets, Covered, IsAfter, IsBefore, AreRising, AreLowest, AreGathered, are_both_sources, turned}
-use Rattle.fill.specs.LabelNet.{HasWaysOf, IsJoinOf, IsNumberPass, IsNumberGraph}
+use Rattle.fill.specs.LabelNet.{HasArcsOf, IsJoinOf, IsNumberPass, IsNumberGraph}
 use Rattle.fill.specs.Numbers.{places_of, ends_of, nodes_of, node_of_label}
 use Rattle.fill.specs.Parts.{IsGraph, graph_with}
 use Rattle.fill.specs.Placing.{AddsPlaced, join_at}
@@ -86,7 +86,7 @@ meets_differ c floods out p q j m e =
     let same = same_Some (record { level = m.from_level; node = j.from }) (record { level = m.to_level; node = j.to }) (sym m.from_is ∙ ap (mark_among c floods) e ∙ m.to_is) in
     m.different (ap (λ (z : CellLabel). z.node) same)
 
--- The floods of tiles fit.
+-- The labels of a tile's flood lie in the tile.
 fit_labels : (t : Terrain) (c : Cutting) (tile : ℕ) (f : Flood) → IsCutting c → tile < tile_count c → Cuts c t → IsTileFlood t c tile f → (k : ℕ) (label : Place) → get_or f.labels k None ≡ Some label → IsInTile c tile label
 fit_labels t c tile f h below cuts flood = labels_inside t c tile f.bounds f.levels f.labels h below cuts (record {
   bounds = flood.bounds;
@@ -145,7 +145,7 @@ module _ (t : Terrain) (c : Cutting) (floods : List Flood) (are : AreFloods t c 
     greater = x.greater;
   }
 
-  -- Labels that meet are joined as low, in one order or the other.
+  -- Labels that meet are joined as low, in one order or the other, or a third cell bypasses them.
   number_cover : (out : LeftOutJoins) (joins : List Join) → AreGathered c floods out joins → (a b : ℕ) (h : ℤ) → a ≢ b → are_both_sources out.sources a b ≡ false → (x : IsNumberPass t c floods a b h) → ((out.bypassed ≡ true) × (IsBypassed (mark_among c floods) x.from x.to ⊎ IsBypassed (mark_among c floods) x.to x.from)) ⊎ ((low : ℤ) × IsJoinOf joins a b low × (low ≤ℤ h))
   number_cover out joins s a b h differ apart x =
       let m = number_meets out a b h differ apart x in
@@ -184,18 +184,18 @@ module _ (t : Terrain) (c : Cutting) (floods : List Flood) (are : AreFloods t c 
       (number_below c floods x.from _ lawful x.from_is, number_below c floods x.to _ lawful x.to_is))
 
   -- The spill graph by number.
-  pub is_number_graph : (out : LeftOutJoins) (sources : List (Option ℤ)) (joins : List Join) (ways : List (List Spill)) → AreGathered c floods out joins → out.sources ≡ sources → sources ≡ ends_of floods → length ways ≡ length sources → HasWaysOf joins ways → IsNumberGraph t c floods ways sources
-  is_number_graph out sources joins ways s out_is is size has = record {
+  pub is_number_graph : (out : LeftOutJoins) (sources : List (Option ℤ)) (joins : List Join) (arcs : List (List Spill)) → AreGathered c floods out joins → out.sources ≡ sources → sources ≡ ends_of floods → length arcs ≡ length sources → HasArcsOf joins arcs → IsNumberGraph t c floods arcs sources
+  is_number_graph out sources joins arcs s out_is is size has = record {
     count = size ∙ ap length is ∙ ends_length t c floods are;
     ends = is;
     joined = λ a b h differ pass. elim (cases_Bool (are_both_sources sources a b)) [
       | inl settled ↦ inl (inl (and_parts (is_some (get_or sources a None)) (is_some (get_or sources b None)) settled))
       | inr apart ↦ elim (number_cover out joins s a b h differ (ap (λ z. are_both_sources z a b) out_is ∙ apart) pass) [
         | inl bypass ↦ inr bypass.1
-        | inr low ↦ inl (inr (low.0, leads_back joins ways has a b low.0 ((has a b low.0).1 low.1), low.2))
+        | inr low ↦ inl (inr (low.0, leads_back joins arcs has a b low.0 ((has a b low.0).1 low.1), low.2))
       ]
     ];
-    joined_only = λ a b h way. elim ((has a b h).0 way.there) [
+    joined_only = λ a b h arc. elim ((has a b h).0 arc.there) [
       | inl there ↦ joins_pass out joins s _ there
       | inr back ↦ number_turned b a h (joins_pass out joins s _ back)
     ];

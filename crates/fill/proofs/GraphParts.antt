@@ -9,10 +9,10 @@ use Rattle.std.proofs.lemmas.List.Elements.{All-contains, Contains-get_or}
 use Rattle.floods.specs.declared.net.Spill.{Spill}
 use Rattle.floods.specs.Walk.{HasJust}
 use Rattle.fill.specs.Spills.{Graph, HasJoin}
-use Rattle.fill.specs.Gathering.{AreRising, IsBefore, way_of}
+use Rattle.fill.specs.Gathering.{AreRising, IsBefore, arc_of}
 use Rattle.floods.proofs.Heaps.{all_by_contains}
 
--- The first labels of joins in order.
+-- Along joins in order, the first labels never get lower.
 up : (joins : List Join) → AreRising joins → (m n : ℕ) (d : Join) → m ≤ n → n < length joins → (get_or joins m d).from ≤ (get_or joins n d).from
 up joins rise m n d low below = elim (cases_eq m n) [
   | inl same ↦ let e = ap (λ k. (get_or joins k d).from) same in omega (arith, e)
@@ -39,23 +39,23 @@ past_node joins node end e rise inside low differ k d above below =
     let far = above_more joins (node + 1) end e rise inside (omega (arith, low, differ)) k d above below in
     omega (arith, far)
 
--- The ways between the two indexes are those of the node.
+-- The arcs of the joins between the two indexes are those of the node.
 pub just_node : (g : Graph) (joins : List Join) (node start end : ℕ) → IsGraph g → joins ≡ g.joins → start ≤ end → end ≤ length joins
     → ((k : ℕ) (d : Join) → k < start → (get_or joins k d).from < node) → ((k : ℕ) (d : Join) → start ≤ k → k < length joins → node ≤ (get_or joins k d).from)
     → ((k : ℕ) (d : Join) → k < end → (get_or joins k d).from ≤ node) → ((k : ℕ) (d : Join) → end ≤ k → k < length joins → node < (get_or joins k d).from)
-    → HasJust (HasJoin g node) (map way_of (take (end - start) (drop start joins)))
+    → HasJust (HasJoin g node) (map arc_of (take (end - start) (drop start joins)))
 just_node g joins node start end is same order inside before from upto after = record {
-  only = all_by_contains (λ way. HasJoin g node way.to way.height) ways (λ way h.
+  only = all_by_contains (λ arc. HasJoin g node arc.to arc.height) arcs (λ arc h.
       let k = h.0 in
       let low : k < end - start = omega (arith, h.1, count) in
-      let d : Join = record { from = node; to = way.to; height = way.height } in
+      let d : Join = record { from = node; to = arc.to; height = arc.height } in
       let j : Join = get_or joins (start + k) d in
       let there : Contains g.joins j = subst (λ (z : List Join). Contains z j) same (Contains-get_or joins (start + k) d (omega (arith, low, order, inside))) in
       let low_end = upto (start + k) d (omega (arith, low, order)) in
       let high_end = from (start + k) d (omega arith) (omega (arith, low, order, inside)) in
       let node_is : j.from ≡ node = omega (arith, low_end, high_end) in
-      let way_is : way_of j ≡ way = sym (get_or-map way_of part k d way (omega (arith, h.1, length-map part way_of)) ∙ ap way_of (get_or-take (end - start) (drop start joins) k d low ∙ get_or-drop start joins k d)) ∙ h.2 in
-      let join_is : j ≡ d = ap (λ n. record { from = n; to = j.to; height = j.height }) node_is ∙ ap (λ (s : Spill). record { from = node; to = s.to; height = s.height }) way_is in
+      let arc_is : arc_of j ≡ arc = sym (get_or-map arc_of part k d arc (omega (arith, h.1, length-map part arc_of)) ∙ ap arc_of (get_or-take (end - start) (drop start joins) k d low ∙ get_or-drop start joins k d)) ∙ h.2 in
+      let join_is : j ≡ d = ap (λ n. record { from = n; to = j.to; height = j.height }) node_is ∙ ap (λ (s : Spill). record { from = node; to = s.to; height = s.height }) arc_is in
       let ends = All-contains (λ (x : Join). (x.from < g.nodes) × (x.to < g.nodes)) g.joins j is.ends there in
       let both = subst (λ (x : Join). (x.from < g.nodes) × (x.to < g.nodes)) join_is ends in
       let at = subst (Contains g.joins) join_is there in
@@ -70,21 +70,21 @@ just_node g joins node start end is same order inside before from upto after = r
       let below : k < end = elim (cases_lt k end) [ inl fine ↦ fine | inr past ↦ let a = after k d past held.1 in absurd (omega (arith, a, node_is)) ] in (
         k - start,
         omega (arith, count, above, below),
-        get_or-map way_of part (k - start) d (way_of d) (omega (arith, part_length, above, below))
-            ∙ ap way_of (get_or-take (end - start) (drop start joins) (k - start) d (omega (arith, above, below)) ∙ get_or-drop start joins (k - start) d ∙ ap (λ n. get_or joins n d) (forth start k above) ∙ here),
+        get_or-map arc_of part (k - start) d (arc_of d) (omega (arith, part_length, above, below))
+            ∙ ap arc_of (get_or-take (end - start) (drop start joins) (k - start) d (omega (arith, above, below)) ∙ get_or-drop start joins (k - start) d ∙ ap (λ n. get_or joins n d) (forth start k above) ∙ here),
       );
 } where
   part : List Join
   part = take (end - start) (drop start joins)
 
-  ways : List Spill
-  ways = map way_of part
+  arcs : List Spill
+  arcs = map arc_of part
 
   part_length : length part ≡ end - start
   part_length = length-take-le (end - start) (drop start joins) (omega (arith, length-drop start joins, inside, order))
 
-  count : length ways ≡ end - start
-  count = length-map part way_of ∙ part_length
+  count : length arcs ≡ end - start
+  count = length-map part arc_of ∙ part_length
 
   forth : (a b : ℕ) → a ≤ b → a + (b - a) ≡ b
   forth a b h = omega arith

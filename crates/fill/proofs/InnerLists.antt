@@ -10,7 +10,7 @@ use Rattle.tiles.specs.Cutting.{Cutting, IsCutting, Cuts, tile_count}
 use Rattle.cell_floods.specs.TileFlood.{Flood, IsTileFlood}
 use Rattle.fill.specs.Gathering.{AreInner, IsInnerOf}
 use Rattle.fill.specs.Spills.{AreFloods}
-use Rattle.fill.specs.declared.filling.FloodedTile.{FloodedTile}
+use Rattle.fill.specs.declared.filling.FloodWithJoins.{FloodWithJoins}
 use Rattle.fill.specs.declared.spills.Join.{Join}
 
 -- The item from which `map` makes an item.
@@ -22,30 +22,30 @@ image_at {Y = Y} g xs ys i y is there =
       | inr past ↦ absurd (omega (arith, low, past.0))
     ]
 
-module _ (t : Terrain) (c : Cutting) (tiles : List FloodedTile) (n : ℕ) (size : length tiles ≡ n) (given : AllGiven (λ job (x : FloodedTile). IsTileFlood t c job x.flood × IsInnerOf true x.flood x.joins.items) n tiles)
-    (floods : List Flood) (floods_are : floods ≡ map (λ (x : FloodedTile). x.flood) tiles) where
-  here : (tile : ℕ) (x : FloodedTile) → slice_get tiles tile ≡ Some x → IsTileFlood t c tile x.flood × IsInnerOf true x.flood x.joins.items
-  here tile x e = subst (λ (y : FloodedTile). IsTileFlood t c tile y.flood × IsInnerOf true y.flood y.joins.items) (get_or_from_slice_get tiles tile x x e) (given tile x (omega (arith, size, slice_get_within tiles tile x e)))
+module _ (t : Terrain) (c : Cutting) (tiles : List FloodWithJoins) (n : ℕ) (size : length tiles ≡ n) (given : AllGiven (λ job (x : FloodWithJoins). IsTileFlood t c job x.flood × IsInnerOf true x.flood x.joins.items) n tiles)
+    (floods : List Flood) (floods_are : floods ≡ map (λ (x : FloodWithJoins). x.flood) tiles) where
+  here : (tile : ℕ) (x : FloodWithJoins) → slice_get tiles tile ≡ Some x → IsTileFlood t c tile x.flood × IsInnerOf true x.flood x.joins.items
+  here tile x e = subst (λ (y : FloodWithJoins). IsTileFlood t c tile y.flood × IsInnerOf true y.flood y.joins.items) (get_or_from_slice_get tiles tile x x e) (given tile x (omega (arith, size, slice_get_within tiles tile x e)))
 
   -- The floods that the jobs return.
   pub floods_given : IsCutting c → Cuts c t → n ≡ tile_count c → AreFloods t c floods
   floods_given h cuts same = record {
     lawful = h;
     cuts = cuts;
-    count = omega (arith, ap length floods_are, length-map tiles (λ (x : FloodedTile). x.flood), size, same);
-    each = λ tile f e. let x = image_at (λ (x : FloodedTile). x.flood) tiles floods tile f floods_are e in subst (IsTileFlood t c tile) x.2 (here tile x.0 x.1).0;
+    count = omega (arith, ap length floods_are, length-map tiles (λ (x : FloodWithJoins). x.flood), size, same);
+    each = λ tile f e. let x = image_at (λ (x : FloodWithJoins). x.flood) tiles floods tile f floods_are e in subst (IsTileFlood t c tile) x.2 (here tile x.0 x.1).0;
   }
 
   -- The joins inside tiles that the jobs return.
-  pub inner_given : (inner : List (Vec Join Global)) → inner ≡ map (λ (x : FloodedTile). x.joins) tiles → AreInner floods true inner
+  pub inner_given : (inner : List (Vec Join Global)) → inner ≡ map (λ (x : FloodWithJoins). x.joins) tiles → AreInner floods true inner
   inner_given inner inner_are = record {
-    count = omega (arith, ap length floods_are, ap length inner_are, length-map tiles (λ (x : FloodedTile). x.flood), length-map tiles (λ (x : FloodedTile). x.joins));
+    count = omega (arith, ap length floods_are, ap length inner_are, length-map tiles (λ (x : FloodWithJoins). x.flood), length-map tiles (λ (x : FloodWithJoins). x.joins));
     each = λ tile f joins e h.
-        let x = image_at (λ (x : FloodedTile). x.flood) tiles floods tile f floods_are e in
-        let y = image_at (λ (x : FloodedTile). x.joins) tiles inner tile joins inner_are h in
+        let x = image_at (λ (x : FloodWithJoins). x.flood) tiles floods tile f floods_are e in
+        let y = image_at (λ (x : FloodWithJoins). x.joins) tiles inner tile joins inner_are h in
         let same : x.0 ≡ y.0 = same_Some x.0 y.0 (sym x.1 ∙ y.1) in
         subst (λ (g : Flood). IsInnerOf true g joins.items) x.2
-        (subst (λ (z : Vec Join Global). IsInnerOf true x.0.flood z.items) (ap (λ (z : FloodedTile). z.joins) same ∙ y.2) (here tile x.0 x.1).1);
+        (subst (λ (z : Vec Join Global). IsInnerOf true x.0.flood z.items) (ap (λ (z : FloodWithJoins). z.joins) same ∙ y.2) (here tile x.0 x.1).1);
   }
 
 -- The joins inside the first tiles, with none left out.

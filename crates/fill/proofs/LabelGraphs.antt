@@ -1,4 +1,4 @@
--- The spill graph by numbers: the ways of its joins, and the levels of its flood.
+-- The spill graph by numbers: the arcs of its joins, and the levels of its flood.
 use Rattle.std.proofs.Common.{◌≡◌, ℕ, zero, suc, ◌+◌, ◌<◌, ◌⊎◌, ◌↔◌, inl, inr, true, false, ℤ, pos, ◌≤ℤ◌, List, [], ◌∷◌, ◌++◌, length, get_or, replicate, Option, None, Some, is_some, unwrap_or, ◌∙◌, sym, ap, subst, refl, arith}
 use Rattle.std.specs.Prelude.{IsSome, MatchOption}
 use Rattle.std.specs.Int.{int_max}
@@ -12,24 +12,24 @@ use Rattle.terrain.proofs.Options.{cases_option, none_done, match_of}
 use Rattle.floods.specs.declared.net.Spill.{Spill}
 use Rattle.floods.specs.Walk.{IsWalk, crest, IsLevel, HasNoWalk, IsFlooded, HasJust}
 use Rattle.floods.proofs.Heaps.{all_by_contains}
-use Rattle.fill.specs.LabelNet.{HasWay, IsJoinOf, NumberNet, IsNumberNet, AddsWays, HasWaysOf, source_number, joined_source, AreNumberLevels, levels_or}
-use Rattle.fill.specs.Ways.{has_ways, is_some_way}
+use Rattle.fill.specs.LabelNet.{HasArc, IsJoinOf, NumberNet, IsNumberNet, AddsArcs, HasArcsOf, source_number, joined_source, AreNumberLevels, levels_or}
+use Rattle.fill.specs.Arcs.{has_arcs, is_some_arc}
 use Rattle.fill.specs.declared.spills.Join.{Join}
 use Rattle.fill.proofs.Adding.{no_join}
 
-no_way : (w : Spill) → Contains [] w → ⊥
-no_way w h = omega (arith, h.1)
+no_arc : (w : Spill) → Contains [] w → ⊥
+no_arc w h = omega (arith, h.1)
 
--- A label with a way is one of the list.
-pub way_inside : (ways : List (List Spill)) (a : ℕ) (w : Spill) → Contains (get_or ways a []) w → a < length ways
-way_inside ways a w h = elim (cases_lt a (length ways)) [
+-- A label with an arc is one of the list.
+pub arc_inside : (arcs : List (List Spill)) (a : ℕ) (w : Spill) → Contains (get_or arcs a []) w → a < length arcs
+arc_inside arcs a w h = elim (cases_lt a (length arcs)) [
   | inl low ↦ low
-  | inr past ↦ absurd (no_way w (subst (λ (z : List Spill). Contains z w) (get_or_past ways a [] past) h))
+  | inr past ↦ absurd (no_arc w (subst (λ (z : List Spill). Contains z w) (get_or_past arcs a [] past) h))
 ]
 
 -- Adding no joins, and one more join.
-pub no_ways_added : (ways : List (List Spill)) → AddsWays [] ways ways
-no_ways_added ways = record {
+pub no_arcs_added : (arcs : List (List Spill)) → AddsArcs [] arcs arcs
+no_arcs_added arcs = record {
   size = refl;
   each = λ a b h. (λ held. inl held, λ held. elim held [ inl old ↦ old | inr join ↦ elim join [ inl j ↦ absurd (no_join _ j) | inr j ↦ absurd (no_join _ j) ] ]);
 }
@@ -47,8 +47,8 @@ join_of_both first second a b h = (
   ],
 )
 
-pub ways_then : (first second : List Join) (old now new : List (List Spill)) → AddsWays first old now → AddsWays second now new → AddsWays (first ++ second) old new
-ways_then first second old now new s t = record {
+pub arcs_then : (first second : List Join) (old now new : List (List Spill)) → AddsArcs first old now → AddsArcs second now new → AddsArcs (first ++ second) old new
+arcs_then first second old now new s t = record {
   size = t.size ∙ s.size;
   each = λ a b h. (
     λ held. elim ((t.each a b h).0 held) [
@@ -62,29 +62,29 @@ ways_then first second old now new s t = record {
   );
 }
 
--- The ways of all joins.
-pub ways_of_all : (joins : List Join) (labels : ℕ) (old ways : List (List Spill)) → old ≡ replicate labels [] → AddsWays joins old ways → HasWaysOf joins ways
-ways_of_all joins labels old ways none s a b h = (
+-- The arcs of all joins.
+pub arcs_of_all : (joins : List Join) (labels : ℕ) (old arcs : List (List Spill)) → old ≡ replicate labels [] → AddsArcs joins old arcs → HasArcsOf joins arcs
+arcs_of_all joins labels old arcs none s a b h = (
   λ held. elim ((s.each a b h).0 held) [ inl was ↦ absurd (nothing was) | inr join ↦ join ],
   λ join. (s.each a b h).1 (inr join),
 ) where
   nothing : Contains (get_or old a []) (record { to = b; height = h }) → ⊥
   nothing held = elim (cases_lt a labels) [
-    | inl low ↦ no_way _ (subst (λ (z : List Spill). Contains z (record { to = b; height = h })) (ap (λ (z : List (List Spill)). get_or z a []) none ∙ get_or-replicate labels a [] [] low) held)
-    | inr past ↦ no_way _ (subst (λ (z : List Spill). Contains z (record { to = b; height = h })) (ap (λ (z : List (List Spill)). get_or z a []) none ∙ get_or_past (replicate labels []) a [] (omega (arith, past, length-replicate {A = List Spill} labels []))) held)
+    | inl low ↦ no_arc _ (subst (λ (z : List Spill). Contains z (record { to = b; height = h })) (ap (λ (z : List (List Spill)). get_or z a []) none ∙ get_or-replicate labels a [] [] low) held)
+    | inr past ↦ no_arc _ (subst (λ (z : List Spill). Contains z (record { to = b; height = h })) (ap (λ (z : List (List Spill)). get_or z a []) none ∙ get_or_past (replicate labels []) a [] (omega (arith, past, length-replicate {A = List Spill} labels []))) held)
   ]
 
--- Each way leads back.
-pub leads_back : (joins : List Join) (ways : List (List Spill)) → HasWaysOf joins ways → (a b : ℕ) (h : ℤ) → Contains (get_or ways a []) (record { to = b; height = h }) → HasWay ways a b h
-leads_back joins ways has a b h there =
-    let back : Contains (get_or ways b []) (record { to = a; height = h }) = (has b a h).1 (elim ((has a b h).0 there) [ inl j ↦ inr j | inr j ↦ inl j ]) in
-    record { from_node = way_inside ways a _ there; to_node = way_inside ways b _ back; there = there; back = back }
+-- For each arc there is one back.
+pub leads_back : (joins : List Join) (arcs : List (List Spill)) → HasArcsOf joins arcs → (a b : ℕ) (h : ℤ) → Contains (get_or arcs a []) (record { to = b; height = h }) → HasArc arcs a b h
+leads_back joins arcs has a b h there =
+    let back : Contains (get_or arcs b []) (record { to = a; height = h }) = (has b a h).1 (elim ((has a b h).0 there) [ inl j ↦ inr j | inr j ↦ inl j ]) in
+    record { from_node = arc_inside arcs a _ there; to_node = arc_inside arcs b _ back; there = there; back = back }
 
--- The ways from a label are its joins in the net.
-pub just_ways : (g : NumberNet) (a : ℕ) → IsNumberNet g → HasJust (HasWay g.ways a) (get_or g.ways a [])
-just_ways g a net = record {
-  only = all_by_contains (λ (w : Spill). HasWay g.ways a w.to w.height) (get_or g.ways a []) (λ w there. net.back a w.to w.height there);
-  every = λ b h way. way.there;
+-- The arcs from a label are its joins in the net.
+pub just_arcs : (g : NumberNet) (a : ℕ) → IsNumberNet g → HasJust (HasArc g.arcs a) (get_or g.arcs a [])
+just_arcs g a net = record {
+  only = all_by_contains (λ (w : Spill). HasArc g.arcs a w.to w.height) (get_or g.arcs a []) (λ w there. net.back a w.to w.height there);
+  every = λ b h arc. arc.there;
 }
 
 pub levels_or-length : (heights sources : List (Option ℤ)) → length sources ≡ length heights → length (levels_or heights sources) ≡ length heights
@@ -99,41 +99,41 @@ levels_or-at (x ∷ xs) (y ∷ ys) zero low same = refl
 levels_or-at (x ∷ xs) (y ∷ ys) (suc a) low same = levels_or-at xs ys a (omega (arith, low)) (omega (arith, same))
 
 -- The level of a label is the same by joined sources as by all sources.
-module _ (ways : List (List Spill)) (sources : List (Option ℤ)) where
-  some_has : (a b : ℕ) (h : ℤ) → HasWay ways a b h → has_ways ways a ≡ true
-  some_has a b h way = by (get_or ways a []) way.there where
-    by : (z : List Spill) → Contains z (record { to = b; height = h }) → is_some_way z ≡ true
-    by [] held = absurd (no_way _ held)
+module _ (arcs : List (List Spill)) (sources : List (Option ℤ)) where
+  some_has : (a b : ℕ) (h : ℤ) → HasArc arcs a b h → has_arcs arcs a ≡ true
+  some_has a b h arc = by (get_or arcs a []) arc.there where
+    by : (z : List Spill) → Contains z (record { to = b; height = h }) → is_some_arc z ≡ true
+    by [] held = absurd (no_arc _ held)
     by (w ∷ rest) held = refl
 
-  source_is : (a : ℕ) → has_ways ways a ≡ true → joined_source ways sources a ≡ source_number sources a
+  source_is : (a : ℕ) → has_arcs arcs a ≡ true → joined_source arcs sources a ≡ source_number sources a
   source_is a has = cond-true _ _ _ has
 
-  -- Walks from a label with a way.
-  walk_forth : (walk : List Spill) (a : ℕ) → has_ways ways a ≡ true → IsWalk (HasWay ways) (source_number sources) a walk
-      → IsWalk (HasWay ways) (joined_source ways sources) a walk × (crest (joined_source ways sources) a walk ≡ crest (source_number sources) a walk)
+  -- Walks from a label with an arc.
+  walk_forth : (walk : List Spill) (a : ℕ) → has_arcs arcs a ≡ true → IsWalk (HasArc arcs) (source_number sources) a walk
+      → IsWalk (HasArc arcs) (joined_source arcs sources) a walk × (crest (joined_source arcs sources) a walk ≡ crest (source_number sources) a walk)
   walk_forth [] a has walk = (subst (λ (o : Option ℤ). IsSome o) (sym (source_is a has)) walk, ap (λ (o : Option ℤ). unwrap_or o (pos 0)) (source_is a has))
   walk_forth (step ∷ rest) a has walk =
-      let back : HasWay ways step.to a step.height = record { from_node = walk.0.to_node; to_node = walk.0.from_node; there = walk.0.back; back = walk.0.there } in
+      let back : HasArc arcs step.to a step.height = record { from_node = walk.0.to_node; to_node = walk.0.from_node; there = walk.0.back; back = walk.0.there } in
       let further = walk_forth rest step.to (some_has step.to a step.height back) walk.1 in
       ((walk.0, further.0), ap (int_max step.height) further.1)
 
-  walk_back : (walk : List Spill) (a : ℕ) → has_ways ways a ≡ true → IsWalk (HasWay ways) (joined_source ways sources) a walk
-      → IsWalk (HasWay ways) (source_number sources) a walk × (crest (source_number sources) a walk ≡ crest (joined_source ways sources) a walk)
+  walk_back : (walk : List Spill) (a : ℕ) → has_arcs arcs a ≡ true → IsWalk (HasArc arcs) (joined_source arcs sources) a walk
+      → IsWalk (HasArc arcs) (source_number sources) a walk × (crest (source_number sources) a walk ≡ crest (joined_source arcs sources) a walk)
   walk_back [] a has walk = (subst (λ (o : Option ℤ). IsSome o) (source_is a has) walk, sym (ap (λ (o : Option ℤ). unwrap_or o (pos 0)) (source_is a has)))
   walk_back (step ∷ rest) a has walk =
-      let back : HasWay ways step.to a step.height = record { from_node = walk.0.to_node; to_node = walk.0.from_node; there = walk.0.back; back = walk.0.there } in
+      let back : HasArc arcs step.to a step.height = record { from_node = walk.0.to_node; to_node = walk.0.from_node; there = walk.0.back; back = walk.0.there } in
       let further = walk_back rest step.to (some_has step.to a step.height back) walk.1 in
       ((walk.0, further.0), ap (int_max step.height) further.1)
 
-  -- A label has this level and this end, or neither.
+  -- A label has this level and this label in the flood of all sources, or neither.
   abbrev IsNodeLevel : ℕ → Option ℤ → Option ℕ → Type 0
-  IsNodeLevel a level label = MatchOption level (HasNoWalk (HasWay ways) (source_number sources) a × (label ≡ None)) (λ h. (end : ℕ) × (label ≡ Some end) × IsLevel (HasWay ways) (source_number sources) a h end)
+  IsNodeLevel a level label = MatchOption level (HasNoWalk (HasArc arcs) (source_number sources) a × (label ≡ None)) (λ h. (end : ℕ) × (label ≡ Some end) × IsLevel (HasArc arcs) (source_number sources) a h end)
 
-  alone : (a : ℕ) → has_ways ways a ≡ false → (b : ℕ) (h : ℤ) → HasWay ways a b h → ⊥
-  alone a none b h way = absurd (cc (none, some_has a b h way))
+  alone : (a : ℕ) → has_arcs arcs a ≡ false → (b : ℕ) (h : ℤ) → HasArc arcs a b h → ⊥
+  alone a none b h arc = absurd (cc (none, some_has a b h arc))
 
-  alone_level : (a : ℕ) → has_ways ways a ≡ false → IsNodeLevel a (source_number sources a) (option_map (λ _. a) (source_number sources a))
+  alone_level : (a : ℕ) → has_arcs arcs a ≡ false → IsNodeLevel a (source_number sources a) (option_map (λ _. a) (source_number sources a))
   alone_level a none = match_of (source_number sources a) _ _
       (λ lacks. ((λ walk is. no_walk lacks walk is), ap (option_map (λ _. a)) lacks))
       (λ h some. (
@@ -145,17 +145,17 @@ module _ (ways : List (List Spill)) (sources : List (Option ℤ)) where
           own = λ own. refl;
         },
       )) where
-        no_walk : source_number sources a ≡ None → (walk : List Spill) → IsWalk (HasWay ways) (source_number sources) a walk → ⊥
+        no_walk : source_number sources a ≡ None → (walk : List Spill) → IsWalk (HasArc arcs) (source_number sources) a walk → ⊥
         no_walk lacks [] is = none_done (source_number sources a) lacks is
         no_walk lacks (step ∷ rest) is = alone a none step.to step.height is.0
 
-        low : (h : ℤ) → source_number sources a ≡ Some h → (walk : List Spill) → IsWalk (HasWay ways) (source_number sources) a walk → h ≤ℤ crest (source_number sources) a walk
+        low : (h : ℤ) → source_number sources a ≡ Some h → (walk : List Spill) → IsWalk (HasArc arcs) (source_number sources) a walk → h ≤ℤ crest (source_number sources) a walk
         low h some [] is = le_of_same _ _ (sym (ap (λ (o : Option ℤ). unwrap_or o (pos 0)) some))
         low h some (step ∷ rest) is = absurd (alone a none step.to step.height is.0)
 
-  -- The level and the end of a label with a way.
-  linked_level : (a : ℕ) (level : Option ℤ) (label : Option ℕ) → has_ways ways a ≡ true
-      → MatchOption level (HasNoWalk (HasWay ways) (joined_source ways sources) a × (label ≡ None)) (λ h. (end : ℕ) × (label ≡ Some end) × IsLevel (HasWay ways) (joined_source ways sources) a h end)
+  -- `IsNodeLevel` of a label with an arc, by the flood of joined sources.
+  linked_level : (a : ℕ) (level : Option ℤ) (label : Option ℕ) → has_arcs arcs a ≡ true
+      → MatchOption level (HasNoWalk (HasArc arcs) (joined_source arcs sources) a × (label ≡ None)) (λ h. (end : ℕ) × (label ≡ Some end) × IsLevel (HasArc arcs) (joined_source arcs sources) a h end)
       → IsNodeLevel a level label
   linked_level a None label has s = ((λ walk is. s.0 walk (walk_forth walk a has is).0), s.1)
   linked_level a (Some h) label has s =
@@ -170,12 +170,12 @@ module _ (ways : List (List Spill)) (sources : List (Option ℤ)) where
         },
       )
 
-  no_walk_alone : (a : ℕ) → has_ways ways a ≡ false → (walk : List Spill) → IsWalk (HasWay ways) (joined_source ways sources) a walk → ⊥
-  no_walk_alone a none [] is = none_done (joined_source ways sources a) (cond-false _ _ _ none) is
+  no_walk_alone : (a : ℕ) → has_arcs arcs a ≡ false → (walk : List Spill) → IsWalk (HasArc arcs) (joined_source arcs sources) a walk → ⊥
+  no_walk_alone a none [] is = none_done (joined_source arcs sources a) (cond-false _ _ _ none) is
   no_walk_alone a none (step ∷ rest) is = alone a none step.to step.height is.0
 
-  -- A label that has a way and no level is no source.
-  no_source : (a : ℕ) → has_ways ways a ≡ true → HasNoWalk (HasWay ways) (joined_source ways sources) a → source_number sources a ≡ None
+  -- A label that has an arc and no level is no source.
+  no_source : (a : ℕ) → has_arcs arcs a ≡ true → HasNoWalk (HasArc arcs) (joined_source arcs sources) a → source_number sources a ≡ None
   no_source a has none = elim (cases_option (source_number sources a)) [
     | inl lacks ↦ lacks
     | inr some ↦ absurd (none [] (subst (λ (o : Option ℤ). IsSome o) (sym (source_is a has)) (ap is_some some.1)))
@@ -199,18 +199,18 @@ module _ (ways : List (List Spill)) (sources : List (Option ℤ)) where
   labels_or-at k n (x ∷ xs) (y ∷ ys) (suc a) e low same = labels_or-at (k + 1) n xs ys a (omega (arith, e)) (omega (arith, low)) (omega (arith, same))
 
   each_level : (a : ℕ) (level : Option ℤ) (label : Option ℕ)
-      → MatchOption level (HasNoWalk (HasWay ways) (joined_source ways sources) a × (label ≡ None)) (λ h. (end : ℕ) × (label ≡ Some end) × IsLevel (HasWay ways) (joined_source ways sources) a h end)
+      → MatchOption level (HasNoWalk (HasArc arcs) (joined_source arcs sources) a × (label ≡ None)) (λ h. (end : ℕ) × (label ≡ Some end) × IsLevel (HasArc arcs) (joined_source arcs sources) a h end)
       → IsNodeLevel a (option_or level (source_number sources a)) (option_or label (option_map (λ _. a) (source_number sources a)))
-  each_level a None label s = elim (cases_Bool (has_ways ways a)) [
+  each_level a None label s = elim (cases_Bool (has_arcs arcs a)) [
     | inr none ↦ rw s.1 (alone_level a none)
     | inl has ↦ rw (s.1, no_source a has s.0) (linked_level a None None has (s.0, refl))
   ]
-  each_level a (Some h) label s = elim (cases_Bool (has_ways ways a)) [
+  each_level a (Some h) label s = elim (cases_Bool (has_arcs arcs a)) [
     | inl has ↦ rw s.1 (linked_level a (Some h) (Some s.0) has (s.0, refl, s.2))
     | inr none ↦ absurd (no_walk_alone a none s.2.reached.0 s.2.reached.1)
   ]
 
-  pub number_levels : (heights : List (Option ℤ)) (labels : List (Option ℕ)) → length sources ≡ length ways → IsFlooded (HasWay ways) (joined_source ways sources) (length ways) heights labels → AreNumberLevels ways sources (levels_or heights sources)
+  pub number_levels : (heights : List (Option ℤ)) (labels : List (Option ℕ)) → length sources ≡ length arcs → IsFlooded (HasArc arcs) (joined_source arcs sources) (length arcs) heights labels → AreNumberLevels arcs sources (levels_or heights sources)
   number_levels heights labels size s =
       let heights_size : length sources ≡ length heights = size ∙ sym s.levels_size in
       let labels_size : length sources ≡ length labels = size ∙ sym s.labels_size in (

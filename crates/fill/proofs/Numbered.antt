@@ -21,7 +21,7 @@ use Rattle.std.specs.Int.{int_max}
 use Rattle.tiles.specs.declared.bounds.Bounds.{Bounds}
 use Rattle.terrain.proofs.Orders.{max_comm}
 use Rattle.fill.specs.LabelNet.{source_number, IsNumberGraph}
-use Rattle.fill.specs.LabelNet.{HasWay}
+use Rattle.fill.specs.LabelNet.{HasArc}
 use Rattle.fill.specs.Numbers.{places_of, ends_of, first_of}
 use Rattle.fill.specs.Spills.{AreFloods, level_among, label_among}
 use Rattle.fill.specs.declared.marks.CellLabel.{CellLabel}
@@ -147,13 +147,13 @@ number_mark None a e = absurd (cc)
 number_mark (Some m) a e = (m.level, ap (λ n. Some (record { level = m.level; node = n })) (same_Some m.node a e))
 
 -- The spill graph by numbers is a net of labels, as raising needs.
-module _ (t : Terrain) (c : Cutting) (floods : List Flood) (are : AreFloods t c floods) (lawful : AreLawful floods) (ways : List (List Spill)) (sources : List (Option ℤ)) (graph : IsNumberGraph t c floods ways sources) where
+module _ (t : Terrain) (c : Cutting) (floods : List Flood) (are : AreFloods t c floods) (lawful : AreLawful floods) (arcs : List (List Spill)) (sources : List (Option ℤ)) (graph : IsNumberGraph t c floods arcs sources) where
   source_is : (p : Place) (m : CellLabel) (x : IsNumbered c floods p m) → source_number sources m.node ≡ get_or x.flood.ends x.entry None
   source_is p m x =
       ap (λ (z : List (Option ℤ)). get_or z m.node None) graph.ends ∙ ap (λ n. get_or (ends_of floods) n None) (sym x.node)
       ∙ end_at t c floods (tile_of_place c p) x.entry x.flood are x.there x.inside
 
-  pub number_net : IsLabelNet t c floods (number_among c floods) (HasWay ways) (source_number sources)
+  pub number_net : IsLabelNet t c floods (number_among c floods) (HasArc arcs) (source_number sources)
   number_net = record {
     some = λ p has.
         let l = has_tile_level t c floods are.lawful are p has in
@@ -196,8 +196,8 @@ module _ (t : Terrain) (c : Cutting) (floods : List Flood) (are : AreFloods t c 
             })
       ]
     ];
-    joined_only = λ a b z way.
-        let pass = graph.joined_only a b z way in
+    joined_only = λ a b z arc.
+        let pass = graph.joined_only a b z arc in
         record {
           from = pass.from;
           to = pass.to;

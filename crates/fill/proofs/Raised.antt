@@ -16,7 +16,7 @@ use Rattle.terrain.specs.Neighbours.{height_at, index_of, entry_at, IsDataCell, 
 use Rattle.drainage.specs.Filled.{IsFilledHeight, IsFilled, IsFilledGrid, IsOwnFilled}
 use Rattle.terrain.specs.declared.place.Place.{Place}
 use Rattle.terrain.proofs.Places.{entry-inside, index_injective, index_below}
-use Rattle.drainage.proofs.Heights.{filled_height_stands}
+use Rattle.drainage.proofs.Heights.{filled_height_occurs}
 use Rattle.tiles.specs.declared.bounds.Bounds.{Bounds}
 use Rattle.tiles.specs.Cutting.{Cutting, IsCutting, IsInBounds, IsInTile, IsWithin, bounds_of, cell_count, tile_count, tile_entry, tile_of_place, Cuts, View, terrain_of, index_in}
 use Rattle.tiles.proofs.Cut.{in_bounds, tile_of_place_below}
@@ -24,7 +24,7 @@ use Rattle.tiles.proofs.TileOrder.{tile_entry-in, entry_in-inside, index_in_belo
 use Rattle.cell_floods.specs.TileFlood.{Flood, level_in, label_in, IsTileFlood, levels_where}
 use Rattle.fill.specs.Spills.{AreEntries, AreFloods, level_among, label_among, AreSpillLevels, spill_of, greater_of, raised_by, AreGreater, IsRaised, IsFilledTile, IsGraphOf, IsPass, Graph, HasJoin, source_in}
 use Rattle.fill.specs.RaisedTiles.{IsRaisedTile, AreRaisedCells, raised_among, spill_with, spill_at}
-use Rattle.fill.specs.LabelNet.{HasWay, source_number, IsNumberGraph, AreNumberLevels}
+use Rattle.fill.specs.LabelNet.{HasArc, source_number, IsNumberGraph, AreNumberLevels}
 use Rattle.fill.specs.Numbers.{first_of}
 use Rattle.fill.specs.declared.marks.CellLabel.{CellLabel}
 use Rattle.floods.specs.declared.net.Spill.{Spill}
@@ -46,7 +46,7 @@ use Rattle.tile_maps.specs.Maps.{IsMadeMap, IsMadeTile}
 use Rattle.tile_maps.proofs.Whole.{map_of_size, tile_of_entries}
 use Rattle.drainage.proofs.FilledTwice.{filled_twice}
 
--- No entry yet, and one more.
+-- `AreEntries` of no entries, and of one more.
 pub no_entries : (entry : ℕ → Option ℤ) (list : List (Option ℤ)) → list ≡ [] → AreEntries entry 0 list
 no_entries entry list none = record {
   size = ap length none;
@@ -320,32 +320,32 @@ filled_tile t c floods tile f levels raised are there spill is =
     }
 
 -- A filled height is a height of the grid, so a cell can store it.
-stands_in_cell : (t : Terrain) (p : Place) (level : ℤ) → IsTerrain t → IsFilledHeight t p level → cell_of (Some level) ≡ Some level
-stands_in_cell t p level lawful filled = stored_some level (All-contains (λ c. IfSome c IsHeight) t.cells (Some level) lawful.heights (filled_height_stands t p level filled)).1
+fits_in_cell : (t : Terrain) (p : Place) (level : ℤ) → IsTerrain t → IsFilledHeight t p level → cell_of (Some level) ≡ Some level
+fits_in_cell t p level lawful filled = stored_some level (All-contains (λ c. IfSome c IsHeight) t.cells (Some level) lawful.heights (filled_height_occurs t p level filled)).1
 
 -- A cell is raised to its filled height, by the levels of labels by number.
-filled_cell : (t : Terrain) (c : Cutting) (floods : List Flood) (ways : List (List Spill)) (sources levels : List (Option ℤ)) → IsTerrain t → AreFloods t c floods → AreLawful floods → IsNumberGraph t c floods ways sources → AreNumberLevels ways sources levels → (p : Place) → IsWithin c p →
+filled_cell : (t : Terrain) (c : Cutting) (floods : List Flood) (arcs : List (List Spill)) (sources levels : List (Option ℤ)) → IsTerrain t → AreFloods t c floods → AreLawful floods → IsNumberGraph t c floods arcs sources → AreNumberLevels arcs sources levels → (p : Place) → IsWithin c p →
     (entry : Option ℤ) → entry ≡ cell_of (raised_among c floods levels p) → MatchOption (height_at t p) (entry ≡ None) (λ _. (level : ℤ) × (entry ≡ Some level) × IsFilledHeight t p level)
-filled_cell t c floods ways sources levels heights are lawful graph spill p within entry e =
+filled_cell t c floods arcs sources levels heights are lawful graph spill p within entry e =
     let raised = raised_filled t c floods p are within (spill_with levels (mark_among c floods p)) (λ l data_is.
     let f = list_there floods (tile_of_place c p) (omega (arith, are.count, tile_of_place_below c p are.lawful within)) in
     let m = has_mark c floods p l.level l.label f.0 f.1 l.level_is l.label_is in
     let below = number_below c floods p _ lawful m.1 in
-    let filled = rims t c floods are.lawful are (number_among c floods) (HasWay ways) (source_number sources) (number_net t c floods are lawful ways sources graph)
-    (length ways) levels spill.0 spill.1 p m.0 l data_is (ap (option_map (λ (x : CellLabel). x.node)) m.1) (omega (arith, below, graph.count)) in
+    let filled = rims t c floods are.lawful are (number_among c floods) (HasArc arcs) (source_number sources) (number_net t c floods are lawful arcs sources graph)
+    (length arcs) levels spill.0 spill.1 p m.0 l data_is (ap (option_map (λ (x : CellLabel). x.node)) m.1) (omega (arith, below, graph.count)) in
     (filled.0, ap (spill_with levels) m.1 ∙ filled.1, filled.2)) in
     match_of (height_at t p) _ _
     (λ none. e ∙ ap cell_of (MatchOption-at_none _ _ none raised))
-    (λ h some. let filled = MatchOption-at_some _ _ h some raised in (filled.0, e ∙ ap cell_of filled.1 ∙ stands_in_cell t p filled.0 heights filled.2, filled.2))
+    (λ h some. let filled = MatchOption-at_some _ _ h some raised in (filled.0, e ∙ ap cell_of filled.1 ∙ fits_in_cell t p filled.0 heights filled.2, filled.2))
 
 -- The whole grid is raised to its filled heights.
-pub filled_map : (t : Terrain) (c : Cutting) (floods : List Flood) (ways : List (List Spill)) (sources levels whole : List (Option ℤ)) → IsTerrain t → AreFloods t c floods → AreLawful floods → IsNumberGraph t c floods ways sources → AreNumberLevels ways sources levels →
+pub filled_map : (t : Terrain) (c : Cutting) (floods : List Flood) (arcs : List (List Spill)) (sources levels whole : List (Option ℤ)) → IsTerrain t → AreFloods t c floods → AreLawful floods → IsNumberGraph t c floods arcs sources → AreNumberLevels arcs sources levels →
     IsMadeMap c (λ p cell. cell ≡ cell_of (raised_among c floods levels p)) whole → IsFilled t whole
-filled_map t c floods ways sources levels whole heights are lawful graph spill made =
+filled_map t c floods arcs sources levels whole heights are lawful graph spill made =
     let all = map_of_size c t.cols t.rows (λ p cell. cell ≡ cell_of (raised_among c floods levels p)) whole are.cuts.0 are.cuts.1 made in
     record {
       size = all.0;
-      each = λ p inside. filled_cell t c floods ways sources levels heights are lawful graph spill p (omega (arith, inside, are.cuts), omega (arith, inside, are.cuts)) (entry_at t.cols t.rows whole p) (all.1 p inside);
+      each = λ p inside. filled_cell t c floods arcs sources levels heights are lawful graph spill p (omega (arith, inside, are.cuts), omega (arith, inside, are.cuts)) (entry_at t.cols t.rows whole p) (all.1 p inside);
     }
 
 pub flood_of_view : (t : Terrain) (c : Cutting) (job : ℕ) (v : View (Option ℤ)) (cells : List (Option ℤ)) (sinks : List Place) (f : Flood) → Cuts c t → v ≡ record { cutting = c; tile = job; cells = cells } → cells ≡ t.cells → sinks ≡ t.sinks → IsTileFlood (with_sinks (terrain_of v) sinks) v.cutting v.tile f → IsTileFlood t c job f
@@ -376,7 +376,7 @@ filled_stand t levels filled = All-from_get_or (λ c. IfSome c (λ h. Contains t
         | inr height ↦
             let level = MatchOption-at_some _ _ height.0 height.1 (filled.each p inside) in
             let same = same_Some level.0 found.0 (sym level.1 ∙ entry) in
-            subst (λ z. Contains t.cells (Some z)) same (filled_height_stands t p level.0 level.2)
+            subst (λ z. Contains t.cells (Some z)) same (filled_height_occurs t p level.0 level.2)
       ])
 
 pub filled_grid : (g f : Raster) (cells : List (Option ℤ)) → f ≡ record g { terrain = record g.terrain { cells = cells } } → IsFilled g.terrain cells → IsOwnFilled f × IsFilledGrid g f

@@ -84,7 +84,7 @@ neighbour_back t p q n = record {
   to_data = n.from_data;
 }
 
--- If a path in a tile is below the bound, both of its ends have a low path or neither has.
+-- The first and last cell of a tile path below the bound both have a low path, or neither has.
 low_at_last : (t : Terrain) (c : Cutting) (m : ℤ) (p : Place) (rest : List Place) → IsTilePath t c p rest → crest t p rest ≤ℤ m → HasLowPath t m p → HasLowPath t m (last_of p rest)
 low_at_last t c m p [] path low way = way
 low_at_last t c m p (q ∷ rest) path low way =
@@ -109,7 +109,7 @@ low_from_label t c p label level m l le way =
 pub level_high : (t : Terrain) (c : Cutting) (p label : Place) (level : ℤ) → IsTileLevel t c p level label → height_of t p ≤ℤ level
 level_high t c p label level l = subst (λ z. height_of t p ≤ℤ z) l.reached.2 (height_below_crest t p l.reached.0)
 
--- A level is at most the crest of each path.
+-- A cell's level is at most the crest of each of its paths.
 level_low : (t : Terrain) (c : Cutting) (floods : List Flood) → IsCutting c → AreFloods t c floods → (p : Place) (l : HasTileLevel t c floods p) (rest : List Place) → IsPath t p rest → l.level ≤ℤ crest t p rest
 level_low t c floods h are p l rest path =
     let within = data_within t c p are.cuts (first_is_data t p rest path) in
@@ -238,7 +238,7 @@ module _ (t : Terrain) (c : Cutting) (floods : List Flood) (h : IsCutting c) (ar
       let up = max_right (height_of t p) (crest t q rest) in
       walk_any p q a b.0 (crest t p (q ∷ rest)) l k path.0 is b.1 (level_low t c floods h are p l (q ∷ rest) path) (trans _ _ _ (level_low t c floods h are q k rest path.1) up) (further.0, further.1, trans _ _ _ further.2 up)
 
-  -- A walk from a cell's number gives a path from its label at no greater crest.
+  -- A walk from a label's number gives a path from the label at no greater crest.
   walk_path : (walk : List Spill) (p label : Place) (a : ℕ) → IsDataCell t p → number p ≡ Some a → label_among c floods p ≡ Some label → IsWalk joins source a walk → HasLowPath t (walk_crest source a walk) label
   walk_path [] p label a has is at walk =
       let height = data_is (source a) walk in

@@ -119,7 +119,7 @@ module _ (t : Terrain) (c : Cutting) (floods : List Flood) (are : AreFloods t c 
     },
   )
 
-  -- The numbers of their labels have 32 bits.
+  -- The shifted labels of the joins inside the tile fit in 32 bits.
   pub inner_few : (inner : List Join) → first_of floods tile + length f.table.places ≤ 4294967295 → IsInnerOf spare f inner → All (λ j. (first + j.from ≤ 4294967295) × (first + j.to ≤ 4294967295)) inner
   inner_few inner few s = all_by_contains (λ (j : Join). (first + j.from ≤ 4294967295) × (first + j.to ≤ 4294967295)) inner (λ j h. elim (s.only j h) [
     | inl none ↦ absurd (no_join j none)

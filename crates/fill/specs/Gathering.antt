@@ -1,4 +1,4 @@
--- The joins of a spill graph, as gathered from the floods of the tiles.
+-- The joins of a spill graph, as collected from the floods of the tiles.
 -- Public.
 use Rattle.std.specs.Prelude.{◌≡◌, ◌≢◌, ℕ, ◌+◌, ◌-◌, ◌*◌, ◌/◌, ◌%◌, ◌<◌, ◌≤◌, ◌⊎◌, ◌==◌, ◌&&◌, true, false, if◌then◌else◌, is_some, Bool, ℤ, ◌≤ℤ◌, List, [], ◌∷◌, length, Option, None, Some, slice_get, slice_index_or, option_and_then, Vec}
 use Rattle.std.specs.declared.alloc.Global.{Global}
@@ -29,13 +29,13 @@ pub record Fit (c : Cutting) (floods : List Flood) : Type 0 where
   pub levels : (tile : ℕ) (f : Flood) → slice_get floods tile ≡ Some f →
       length f.levels ≡ f.bounds.rows * f.bounds.cols
 
--- A cell's level with its label's number.
+-- A cell's mark: its level, and the number of its label.
 abbrev pub mark_of : ℕ → Option ℤ → Option Place → Option CellLabel
 mark_of node (Some level) (Some label) = Some (record { level = level; node = node })
 mark_of node (Some level) None = None
 mark_of node None label = None
 
--- The mark of the cell at an index of its tile. The first entry of its table has number `first`.
+-- The mark of the cell at an index of a tile. The tile's table begins at number `first`.
 abbrev pub mark_with : ℕ → Flood → ℕ → Option CellLabel
 mark_with first f index = mark_of (first + slice_index_or f.table.indexes index 0)
     (slice_index_or f.levels index None) (slice_index_or f.labels index None)
@@ -63,8 +63,8 @@ pub record LeftOutJoins : Type 0 where
 abbrev pub IsBetween : Place → Place → Place → Type 0
 IsBetween p q r = ((r.row ≡ q.row) × (r.col ≡ p.col)) ⊎ ((r.row ≡ p.row) × (r.col ≡ q.col))
 
--- The second cell touches the first from below at a corner, and a cell between them is no higher
--- than one of them. The joins of that cell with both are as low.
+-- The second cell touches the first from below at a corner. The level of a cell between is at most
+-- that of one of the two, so its joins with both are as low.
 pub record IsBypassed (marks : Marks) (p q : Place) : Type 0 where
   pub middle : Place
   pub from : CellLabel
@@ -78,7 +78,7 @@ pub record IsBypassed (marks : Marks) (p q : Place) : Type 0 where
   pub aside : p.col ≢ q.col
   pub low : between.level ≤ℤ int_max from.level to.level
 
--- Both labels are in this list of sources.
+-- Both labels have heights in this list of sources.
 abbrev pub are_both_sources : List (Option ℤ) → ℕ → ℕ → Bool
 are_both_sources sources a b =
     is_some (slice_index_or sources a None) && is_some (slice_index_or sources b None)
@@ -95,7 +95,7 @@ pub record Meets (marks : Marks) (out : LeftOutJoins) (p q : Place) (j : Join) :
   pub apart : are_both_sources out.sources j.from j.to ≡ false
   pub greater : int_max from_level to_level ≡ j.height
 
--- A pair of these places gives the join.
+-- The cells of one of these pairs of places give the join.
 abbrev pub IsMeetingAt : Marks → LeftOutJoins → (Place → Place → Type 0) → Join → Type 0
 IsMeetingAt marks out pairs j = (p q : Place) × pairs p q × Meets marks out p q j
 
@@ -140,13 +140,13 @@ abbrev pub AreEqualAfter : List ℕ → ℕ → ℕ → Type 0
 AreEqualAfter xs i width =
     All (λ k. slice_index_or xs k 0 ≡ slice_index_or xs i 0) (cells_after width i)
 
--- Bypassed joins are left out, and the middle mark is no higher than one of the other two.
+-- Bypassed joins are left out, and the middle mark's level is at most the greater of the others.
 abbrev pub IsLowBetween : LeftOutJoins → CellLabel → Option CellLabel → Option CellLabel → Type 0
 IsLowBetween out from between to =
     (out.bypassed ≡ true) × (third end : CellLabel) × (between ≡ Some third) × (to ≡ Some end)
     × (third.level ≤ℤ int_max from.level end.level)
 
--- The join of a cell with the one at an index has been added, if there is one.
+-- The join of a cell with the cell at an index has been added, if the two have a join.
 abbrev pub AddsNear : Flood → LeftOutJoins → CellLabel → ℕ → List Join → List Join → Type 0
 AddsNear f out from near old new =
     AddsCovered old (joins_of out.sources from (mark_with 0 f near)) new
@@ -205,7 +205,7 @@ pub record Adds (marks : Marks) (out : LeftOutJoins) (pairs : Place → Place �
   pub every : (p q : Place) (j : Join) → pairs p q → IsAfter p q → Meets marks out p q j →
       IsLeftOut marks out p q ⊎ Covered new j
 
--- The join from its other label.
+-- The join with its labels exchanged.
 abbrev pub turned : Join → Join
 turned j = record { from = j.to; to = j.from; height = j.height }
 
@@ -233,12 +233,12 @@ pub record AreGathered (c : Cutting) (floods : List Flood) (out : LeftOutJoins)
       Meets (mark_among c floods) out p q j →
       IsLeftOut (mark_among c floods) out p q ⊎ Covered joins j
 
--- The joins to leave out over all tiles: none, or those that lower no level.
+-- The joins to leave out over all tiles: if `spare`, those that lower no level, else none.
 abbrev pub left_out_of : Bool → List Flood → LeftOutJoins
 left_out_of spare floods =
     record { sources = if spare then ends_of floods else []; bypassed = spare }
 
--- The joins to leave out inside a tile: none, or those that lower no level.
+-- The joins to leave out inside a tile: if `spare`, those that lower no level, else none.
 abbrev pub left_out_in : Bool → Flood → LeftOutJoins
 left_out_in spare f = record { sources = if spare then f.ends else []; bypassed = spare }
 
@@ -258,12 +258,12 @@ pub record AreInner (floods : List Flood) (spare : Bool)
 abbrev pub shifted : ℕ → Join → Join
 shifted first j = record { from = first + j.from; to = first + j.to; height = j.height }
 
--- The join before this one has the same labels.
+-- The join at an index has the labels of the join before it.
 abbrev pub IsRepeat : List Join → ℕ → Type 0
 IsRepeat joins i = (0 < i) × ((d : Join) →
     ((slice_index_or joins (i - 1) d).from ≡ (slice_index_or joins i d).from)
     × ((slice_index_or joins (i - 1) d).to ≡ (slice_index_or joins i d).to))
 
--- The way from the first label of a join.
-abbrev pub way_of : Join → Spill
-way_of j = record { to = j.to; height = j.height }
+-- The arc from the first label of a join.
+abbrev pub arc_of : Join → Spill
+arc_of j = record { to = j.to; height = j.height }

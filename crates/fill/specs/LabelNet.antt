@@ -13,56 +13,56 @@ use Rattle.floods.specs.Walk.{IsFlooded}
 use Rattle.cell_floods.specs.TileFlood.{Flood}
 use Rattle.fill.specs.Gathering.{IsBypassed, mark_among}
 use Rattle.fill.specs.Numbers.{places_of, ends_of}
-use Rattle.fill.specs.Ways.{has_ways}
+use Rattle.fill.specs.Arcs.{has_arcs}
 use Rattle.fill.specs.declared.spills.Join.{Join}
 
--- A way leads from one label to another at this height, and one leads back.
-pub record HasWay (ways : List (List Spill)) (a b : ℕ) (height : ℤ) : Type 0 where
-  pub from_node : a < length ways
-  pub to_node : b < length ways
-  pub there : Contains (slice_index_or ways a []) (record { to = b; height = height })
-  pub back : Contains (slice_index_or ways b []) (record { to = a; height = height })
+-- An arc leads from one label to another at this height, and one leads back.
+pub record HasArc (arcs : List (List Spill)) (a b : ℕ) (height : ℤ) : Type 0 where
+  pub from_node : a < length arcs
+  pub to_node : b < length arcs
+  pub there : Contains (slice_index_or arcs a []) (record { to = b; height = height })
+  pub back : Contains (slice_index_or arcs b []) (record { to = a; height = height })
 
--- The ways from each label, and the heights of the labels that are end cells.
+-- The arcs from each label, and the heights of the labels that are end cells.
 pub record NumberNet : Type 0 where
-  pub ways : List (List Spill)
+  pub arcs : List (List Spill)
   pub sources : List (Option ℤ)
 
--- Every way leads back too.
+-- For each arc there is one back.
 pub record IsNumberNet (g : NumberNet) : Type 0 where
-  pub size : length g.sources ≡ length g.ways
-  pub few : length g.ways ≤ 4294967295
-  pub back : (a b : ℕ) (h : ℤ) → Contains (slice_index_or g.ways a [])
-      (record { to = b; height = h }) → HasWay g.ways a b h
+  pub size : length g.sources ≡ length g.arcs
+  pub few : length g.arcs ≤ 4294967295
+  pub back : (a b : ℕ) (h : ℤ) → Contains (slice_index_or g.arcs a [])
+      (record { to = b; height = h }) → HasArc g.arcs a b h
 
 -- A join of this height has these labels, in either order.
 abbrev pub IsJoinOf : List Join → ℕ → ℕ → ℤ → Type 0
 IsJoinOf joins a b h = Contains joins (record { from = a; to = b; height = h })
     ⊎ Contains joins (record { from = b; to = a; height = h })
 
--- These joins have been added, each as two ways.
-pub record AddsWays (joins : List Join) (old new : List (List Spill)) : Type 0 where
+-- These joins have been added, each as two arcs.
+pub record AddsArcs (joins : List Join) (old new : List (List Spill)) : Type 0 where
   pub size : length new ≡ length old
   pub each : (a b : ℕ) (h : ℤ) → Contains (slice_index_or new a []) (record { to = b; height = h })
       ↔ (Contains (slice_index_or old a []) (record { to = b; height = h }) ⊎ IsJoinOf joins a b h)
 
--- The ways are those of the joins.
-abbrev pub HasWaysOf : List Join → List (List Spill) → Type 0
-HasWaysOf joins ways = (a b : ℕ) (h : ℤ) →
-    Contains (slice_index_or ways a []) (record { to = b; height = h }) ↔ IsJoinOf joins a b h
+-- The arcs are those of the joins.
+abbrev pub HasArcsOf : List Join → List (List Spill) → Type 0
+HasArcsOf joins arcs = (a b : ℕ) (h : ℤ) →
+    Contains (slice_index_or arcs a []) (record { to = b; height = h }) ↔ IsJoinOf joins a b h
 
 -- The height of a source, by its number.
 abbrev pub source_number : List (Option ℤ) → ℕ → Option ℤ
 source_number sources a = slice_index_or sources a None
 
--- The height of a source that has a way.
+-- The height of a source that has an arc.
 abbrev pub joined_source : List (List Spill) → List (Option ℤ) → ℕ → Option ℤ
-joined_source ways sources a = if has_ways ways a then source_number sources a else None
+joined_source arcs sources a = if has_arcs arcs a then source_number sources a else None
 
 -- The least crest from each label to a source.
 abbrev pub AreNumberLevels : List (List Spill) → List (Option ℤ) → List (Option ℤ) → Type 0
-AreNumberLevels ways sources levels = (labels : List (Option ℕ))
-    × IsFlooded (HasWay ways) (source_number sources) (length ways) levels labels
+AreNumberLevels arcs sources levels = (labels : List (Option ℕ))
+    × IsFlooded (HasArc arcs) (source_number sources) (length arcs) levels labels
 
 -- The levels of a flood, or else the heights of sources.
 abbrev pub levels_or : List (Option ℤ) → List (Option ℤ) → List (Option ℤ)
@@ -83,24 +83,24 @@ pub record IsNumberPass (t : Terrain) (c : Cutting) (floods : List Flood) (a b :
   pub to_is : mark_among c floods to ≡ Some (record { level = to_level; node = b })
   pub greater : int_max from_level to_level ≡ height
 
--- The spill graph of these floods. It may lack ways between two end cells, and between labels that
--- a third cell bypasses at a corner.
+-- The spill graph of these floods. It may lack arcs between two end cells, and between labels whose
+-- cells a third cell bypasses at a corner.
 pub record IsNumberGraph (t : Terrain) (c : Cutting) (floods : List Flood)
-    (ways : List (List Spill)) (sources : List (Option ℤ)) : Type 0 where
-  pub count : length ways ≡ length (places_of floods)
+    (arcs : List (List Spill)) (sources : List (Option ℤ)) : Type 0 where
+  pub count : length arcs ≡ length (places_of floods)
   pub ends : sources ≡ ends_of floods
   pub joined : (a b : ℕ) (h : ℤ) → a ≢ b → (x : IsNumberPass t c floods a b h)
       → ((IsSome (source_number sources a) × IsSome (source_number sources b))
-      ⊎ ((low : ℤ) × HasWay ways a b low × (low ≤ℤ h)))
+      ⊎ ((low : ℤ) × HasArc arcs a b low × (low ≤ℤ h)))
       ⊎ (IsBypassed (mark_among c floods) x.from x.to
       ⊎ IsBypassed (mark_among c floods) x.to x.from)
-  pub joined_only : (a b : ℕ) (h : ℤ) → HasWay ways a b h → IsNumberPass t c floods a b h
+  pub joined_only : (a b : ℕ) (h : ℤ) → HasArc arcs a b h → IsNumberPass t c floods a b h
 
 -- The levels are those of a spill graph of these floods.
 pub record AreLabelLevels (t : Terrain) (c : Cutting) (floods : List Flood)
     (levels : List (Option ℤ))
     : Type 0 where
-  pub ways : List (List Spill)
+  pub arcs : List (List Spill)
   pub sources : List (Option ℤ)
-  pub graph : IsNumberGraph t c floods ways sources
-  pub least : AreNumberLevels ways sources levels
+  pub graph : IsNumberGraph t c floods arcs sources
+  pub least : AreNumberLevels arcs sources levels

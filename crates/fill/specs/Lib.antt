@@ -4,6 +4,6 @@ pub mod Gathering
 pub mod Ends
 pub mod Parts
 pub mod Placing
-pub mod Ways
+pub mod Arcs
 pub mod LabelNet
 pub mod RaisedTiles

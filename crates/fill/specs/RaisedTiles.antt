@@ -10,7 +10,7 @@ use Rattle.fill.specs.Spills.{AreEntries, greater_of, level_among}
 use Rattle.fill.specs.declared.marks.CellLabel.{CellLabel}
 use Rattle.fill.specs.declared.raised_tiles.RaisedTile.{RaisedTile}
 
--- The level of a mark's label, by the levels of labels by number.
+-- The level of a mark's label, by the list of all labels' levels.
 abbrev pub spill_with : List (Option ℤ) → Option CellLabel → Option ℤ
 spill_with levels mark = option_and_then (λ m. slice_index_or levels m.node None) mark
 

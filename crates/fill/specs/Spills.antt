@@ -117,7 +117,7 @@ greater_of None spill = None
 abbrev pub raised_by : Cutting → List (Option ℤ) → Option ℤ → Option Place → Option ℤ
 raised_by c levels level label = greater_of level (spill_of c levels label)
 
--- The list has `count` entries, each by this rule.
+-- The list has `count` entries, which `entry` gives.
 pub record AreEntries (entry : ℕ → Option ℤ) (count : ℕ) (list : List (Option ℤ)) : Type 0 where
   pub size : length list ≡ count
   pub each : (k : ℕ) → k < count → slice_index_or list k None ≡ entry k

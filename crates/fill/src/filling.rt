@@ -33,22 +33,22 @@ use tiles::Tiling;
 
 /// A tile's flood, and the joins inside the tile.
 #[derive(Drop)]
-struct FloodedTile {
+struct FloodWithJoins {
     flood: TileFlood,
     joins: Vec<Join>,
 }
 
 /// The jobs of the first stage: each floods a tile and finds the joins inside it.
 #[derive(Drop)]
-struct FloodTiles<'a> {
+struct FloodJobs<'a> {
     grid: &'a Grid,
     tiling: &'a Tiling,
     ghost cuts: { Cuts tiling.now grid.now.terrain },
     ghost lawful: { IsCutting tiling.now } by { Prim.hlevel props },
 }
 
-impl<'a> Work for FloodTiles<'a> {
-    type Out = FloodedTile;
+impl<'a> Work for FloodJobs<'a> {
+    type Out = FloodWithJoins;
 
     ghost use Rattle.std.specs.Prelude.{true};
     ghost use Rattle.tiles.specs.Cutting.{tile_count};
@@ -60,7 +60,7 @@ impl<'a> Work for FloodTiles<'a> {
     ghost gives = { λ w job out. IsTileFlood w.grid.now.terrain w.tiling.now job out.flood
         × IsInnerOf true out.flood out.joins.items };
 
-    fn run(&self, alloc: Global, job: u32) -> Result<FloodedTile, JobFault> {
+    fn run(&self, alloc: Global, job: u32) -> Result<FloodWithJoins, JobFault> {
         let view = self.tiling.view(self.grid.cells(), job);
         let Ok(flood) = tile_flood(alloc, &view, self.grid.sinks()) else {
             return Err(JobFault::Memory);
@@ -71,14 +71,14 @@ impl<'a> Work for FloodTiles<'a> {
         };
         let joins = inner_joins(alloc, &flood, &left_out)?;
         drop(left_out);
-        Ok(FloodedTile { flood, joins })
+        Ok(FloodWithJoins { flood, joins })
     }
 }
 
 /// Splits the results into the floods and the lists of joins.
 fn into_lists(
     alloc: Global,
-    tiles: Vec<FloodedTile>,
+    tiles: Vec<FloodWithJoins>,
 ) -> Result<(Vec<TileFlood>, Vec<Vec<Join>>), AllocError>
     ensures floods { IfOk result (λ r. r.0.items ≡ map (λ x. x.flood) tiles.items) }
     ensures joins { IfOk result (λ r. r.1.items ≡ map (λ x. x.joins) tiles.items) }
@@ -86,7 +86,7 @@ fn into_lists(
     let mut floods = Vec::with_capacity(alloc, tiles.len())?;
     let mut inner = Vec::with_capacity(alloc, tiles.len())?;
     for tile in tiles {
-        let FloodedTile { flood, joins } = tile;
+        let FloodWithJoins { flood, joins } = tile;
         floods.push(flood)?;
         inner.push(joins)?;
     }
@@ -105,7 +105,7 @@ fn tile_floods<R: Threads + Wait + Sync, G: Gate + Sync>(
     ensures workers { RefusesWorkers runner.now.workers result }
 {
     let jobs = tiling.tiles();
-    let tiles = runner.run(&FloodTiles { grid, tiling }, jobs)?;
+    let tiles = runner.run(&FloodJobs { grid, tiling }, jobs)?;
     let (floods, inner) = into_lists(runner.alloc, tiles)?;
     Ok((floods, inner))
 }
@@ -120,7 +120,7 @@ fn spill_graph(
     requires inner { AreInner tiles.now.floods.now true inner.now }
     ensures { IfOk result (λ g. (t : Terrain)
         → AreFloods t tiles.now.tiling.now tiles.now.floods.now
-        → IsNumberGraph t tiles.now.tiling.now tiles.now.floods.now g.ways g.sources) }
+        → IsNumberGraph t tiles.now.tiling.now tiles.now.floods.now g.arcs g.sources) }
 {
     let sources = label_ends(alloc, tiles.floods)?;
     let left_out = LeftOut {

@@ -1,6 +1,6 @@
 //! The joins inside a tile, by the indexes of its labels: [`inner_joins`].
 //!
-//! Looks at each pair of neighbouring cells once, from the first in row order.
+//! Looks at each pair of neighbouring cells once, from its first cell in row order.
 ghost use Rattle.std.specs.Prelude.{◌≡◌, ◌+◌, ◌<◌, ◌≤◌, [], Some, slice_index_or, MatchOption, IfOk, OnOk, length};
 ghost use Rattle.std.specs.Bool.{OnTrue};
 ghost use Rattle.tiles.specs.Cutting.{IsInBounds};
@@ -9,14 +9,14 @@ ghost use Rattle.fill.specs.Gathering.{IsInner, AreEqualAfter, Adds, AddsAfter, 
 use crate::join_table::JoinTable;
 use crate::left_out::{LeftOut, is_left_out, join_of};
 use crate::marks::{CellLabel, mark_in, mark_of_entry};
-use crate::rim_cells::{JoinList, KnownCells, push_join, push_rim_cells};
+use crate::rim_cells::{JoinList, MarkedCells, push_join, push_rim_cells};
 use crate::spills::Join;
 use cell_floods::TileFlood;
 use std::alloc::{AllocError, Global};
 use terrain::Place;
 use tiles::Bounds;
 
-impl KnownCells for TileFlood {
+impl MarkedCells for TileFlood {
     ghost use Rattle.std.specs.Prelude.{true};
     ghost use Rattle.fill.specs.Gathering.{mark_in};
 
@@ -48,7 +48,7 @@ fn has_same_label(flood: &TileFlood, first: usize, second: usize) -> bool
 }
 
 /// Adds the join of the cells at `index` and `near`, if there is one.
-/// Compares the labels first: that is cheaper than making a mark.
+/// Compares the labels first, since that is cheaper than reading the marks.
 #[inline(always)]
 fn push_near(
     table: &mut JoinTable,
@@ -70,7 +70,7 @@ fn push_near(
 }
 
 /// Adds the join of two cells that touch at a corner, if there is one.
-/// Leaves it out if a path by one of the two cells between them is as low.
+/// Leaves the join out if a path by one of the two cells between is as low.
 #[inline(always)]
 fn push_corner(
     table: &mut JoinTable,

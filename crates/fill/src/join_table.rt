@@ -10,7 +10,7 @@ use std::marker::Model;
 
 /// The first number of slots, for each row and column of a tile.
 ///
-/// Enough for most tiles, and no more, since each tile clears them all.
+/// Enough for most tiles, and no more, since the job of each tile clears all slots.
 const SLOTS_A_LINE: usize = 16;
 
 /// The first capacity for joins, for each row and column, so that few lists grow.
@@ -41,7 +41,7 @@ impl Model for JoinTable {
 }
 
 /// Returns the slot of two labels at a probe: first their own, then those after.
-/// Mixes all bits, since labels along a side often differ by a multiple of a power of two.
+/// Fibonacci hashing mixes all bits: labels along a side often differ by multiples of 2^k.
 #[inline(always)]
 fn slot_of(from: u32, to: u32, probe: usize, slots: usize) -> usize
     requires { 0 < slots }
@@ -75,7 +75,7 @@ fn slot_for(joins: &[Join], slots: &[usize], join: Join) -> usize
     slot_of(join.from, join.to, 0, slots.len())
 }
 
-/// Enters all joins into the slots.
+/// Writes the index of each join into its slot.
 fn fill_slots(joins: &[Join], slots: &mut [usize])
     requires { 0 < length slots.old }
     ensures { length slots.new ≡ length slots.old }
@@ -86,8 +86,8 @@ fn fill_slots(joins: &[Join], slots: &mut [usize])
     }
 }
 
-/// Lowers the join at an index to `join`, if it has the same labels.
-/// Returns whether it has.
+/// Lowers the join at an index to `join`, if both have the same labels.
+/// Returns whether they have.
 #[inline(always)]
 fn lowers(joins: &mut Vec<Join>, at: usize, join: Join) -> bool
     ensures lowered { OnTrue result (AddsCovered joins.old.items (join ∷ []) joins.new.items) }

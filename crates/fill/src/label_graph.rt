@@ -1,10 +1,10 @@
 //! The spill graph by the numbers of labels: [`LabelGraph`], which `filled` uses.
 ghost use Rattle.std.specs.Prelude.{◌≡◌, ◌<◌, ◌≤◌, IfOk, length, slice_index_or, None};
 ghost use Rattle.std.specs.List.{All};
-ghost use Rattle.fill.specs.LabelNet.{AreNumberLevels, HasWaysOf};
+ghost use Rattle.fill.specs.LabelNet.{AreNumberLevels, HasArcsOf};
 
+use crate::arcs::ArcLists;
 use crate::spills::Join;
-use crate::ways::WayLists;
 use floods::{Candidate, FloodedNet, HeightList, Net, NodeLabels, Queue, Spill, flood_net};
 use smallvec::SmallVec;
 use std::alloc::{AllocError, Global};
@@ -16,7 +16,7 @@ use terrain::{Cell, Height, NoMemory};
 #[derive(Drop)]
 pub(crate) struct LabelGraph {
     sources: Vec<Cell>,
-    ways: WayLists,
+    arcs: ArcLists,
 }
 
 impl Model for LabelGraph {
@@ -24,20 +24,20 @@ impl Model for LabelGraph {
 
     ghost Value = { NumberNet };
 
-    ghost view = { λ g. record { ways = g.ways; sources = g.sources.items } };
+    ghost view = { λ g. record { arcs = g.arcs; sources = g.sources.items } };
 
-    ghost invariant = { λ g. IsNumberNet (record { ways = g.ways; sources = g.sources.items }) };
+    ghost invariant = { λ g. IsNumberNet (record { arcs = g.arcs; sources = g.sources.items }) };
 }
 
 impl Net for LabelGraph {
     ghost use Rattle.std.specs.Prelude.{length};
-    ghost use Rattle.fill.specs.LabelNet.{HasWay, joined_source};
+    ghost use Rattle.fill.specs.LabelNet.{HasArc, joined_source};
 
-    ghost node_count = { λ g. length g.ways };
+    ghost node_count = { λ g. length g.arcs };
 
-    ghost joins = { λ g. HasWay g.ways };
+    ghost joins = { λ g. HasArc g.arcs };
 
-    ghost source_height = { λ g. joined_source g.ways g.sources };
+    ghost source_height = { λ g. joined_source g.arcs g.sources };
 
     ghost joined_inside = { λ g a b h j. j.to_node };
 
@@ -46,11 +46,11 @@ impl Net for LabelGraph {
 
     #[inline]
     fn nodes(&self) -> u32 {
-        self.ways.len() as u32
+        self.arcs.len() as u32
     }
 
     fn neighbours(&self, alloc: Global, node: u32) -> Result<SmallVec<Spill, 8>, NoMemory> {
-        Ok(self.ways.ways(alloc, node)?)
+        Ok(self.arcs.arcs(alloc, node)?)
     }
 
     #[inline]
@@ -62,13 +62,13 @@ impl Net for LabelGraph {
         labels: &NodeLabels,
         levels: &mut HeightList,
     ) -> Result<(), NoMemory> {
-        self.ways.spread(queue, from, labels, levels)?;
+        self.arcs.spread(queue, from, labels, levels)?;
         Ok(())
     }
 
     #[inline]
     fn source(&self, node: u32) -> Option<Height> {
-        if self.ways.has(node) {
+        if self.arcs.has(node) {
             self.sources[node as usize].height()
         } else {
             None
@@ -119,17 +119,17 @@ impl LabelGraph {
         requires inside { All (λ j. (j.from < length sources.items) × (j.to < length sources.items))
             joins.items }
         ensures sources { IfOk result (λ g. g.sources ≡ sources.items) }
-        ensures size { IfOk result (λ g. length g.ways ≡ length sources.items) }
-        ensures ways { IfOk result (λ g. HasWaysOf joins.items g.ways) }
+        ensures size { IfOk result (λ g. length g.arcs ≡ length sources.items) }
+        ensures arcs { IfOk result (λ g. HasArcsOf joins.items g.arcs) }
     {
-        let ways = WayLists::of_joins(alloc, sources.len(), joins)?;
-        Ok(LabelGraph { sources, ways })
+        let arcs = ArcLists::of_joins(alloc, sources.len(), joins)?;
+        Ok(LabelGraph { sources, arcs })
     }
 
     /// Returns the least crest from each label to an end cell.
-    /// `None` for a label that reaches none.
+    /// A label from which no walk leads to an end cell has `None`.
     pub(crate) fn levels(self, alloc: Global) -> Result<LabelLevels, NoMemory>
-        ensures { IfOk result (λ levels. AreNumberLevels self.ways self.sources levels) }
+        ensures { IfOk result (λ levels. AreNumberLevels self.arcs self.sources levels) }
     {
         let FloodedNet { levels, .. } = flood_net(alloc, &self)?;
         let LabelGraph { sources, .. } = self;

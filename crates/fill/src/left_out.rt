@@ -10,8 +10,8 @@ use std::marker::Model;
 use terrain::Cell;
 
 /// The joins to leave out, since they lower no level.
-/// These are the joins of two labels in `sources`. If `bypassed`, they include joins of cells that
-/// touch at a corner, where a path by a third cell is as low.
+/// These are the joins of two labels that have heights in `sources`. If `bypassed`, they include
+/// joins of cells that touch at a corner, where a path by a third cell is as low.
 #[derive(Drop)]
 pub(crate) struct LeftOut<'a> {
     /// The heights of end cells by label number. Other labels have no data or no entry.
@@ -39,7 +39,7 @@ impl<'a> LeftOut<'a> {
     }
 }
 
-/// Returns whether a label is in `sources`; `false` past the end of the list.
+/// Returns whether `sources` has a height for a label; `false` past its end.
 #[inline(always)]
 fn is_source(sources: &[Cell], node: u32) -> bool
     ensures { result ≡ is_some (slice_index_or sources.now node None) }
@@ -50,7 +50,7 @@ fn is_source(sources: &[Cell], node: u32) -> bool
     }
 }
 
-/// Returns whether both labels are in `sources`.
+/// Returns whether both labels have heights in `sources`.
 #[inline(always)]
 fn are_both_sources(sources: &[Cell], from: u32, to: u32) -> bool
     ensures { result ≡ are_both_sources sources.now from to }
@@ -78,8 +78,8 @@ pub(crate) fn join_of(sources: &[Cell], from: CellLabel, to: Option<CellLabel>) 
 }
 
 /// Returns whether to leave out the join of two cells that touch at a corner.
-/// With `bypassed`, true if the cell between is no higher than one of them: its joins with both are
-/// as low.
+/// With `bypassed`, true if the level of the cell between is at most that of one of the two. Then
+/// its joins with both are as low.
 #[inline(always)]
 pub(crate) fn is_left_out(
     left_out: &LeftOut<'_>,

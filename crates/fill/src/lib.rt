@@ -15,7 +15,7 @@
 //! - `inner_joins`: the joins inside a tile
 //! - `rim_joins`: the joins over a tile's rim
 //! - `gathering`: the joins of all tiles
-//! - `ways`: the ways from each label, as linked lists over one list of joins
+//! - `arcs`: the arcs from each label, as linked lists over one list of joins
 //! - `label_graph`: the spill graph by numbers of labels, and its levels
 //! - `raised_tiles`: the filled heights of each tile, by that graph
 //! - `placing`: joins by the places of their labels
@@ -24,6 +24,7 @@
 //! - `raising`: the filled heights of one tile, by that graph
 #![tactic(auto)]
 
+mod arcs;
 mod filling;
 mod gathering;
 mod inner_joins;
@@ -39,7 +40,6 @@ mod rim_cells;
 mod rim_joins;
 mod sources;
 mod spills;
-mod ways;
 
 pub use cell_floods::{CellNet, TileFlood, filled_heights, tile_flood};
 pub use drainage::Filled;

@@ -37,7 +37,7 @@ pub(crate) struct NumberedFloods<'a> {
 }
 
 /// Returns the mark of the cell at an index; `None` without data.
-/// The number of its label is the index in the tile's table.
+/// The label's number is here its index in the tile's table.
 #[inline(always)]
 pub(crate) fn mark_of_entry(flood: &TileFlood, index: usize) -> Option<CellLabel>
     requires { index < length flood.now.labels }
@@ -51,7 +51,7 @@ pub(crate) fn mark_of_entry(flood: &TileFlood, index: usize) -> Option<CellLabel
 }
 
 /// Returns the mark of a place; `None` outside the tile and without data.
-/// The number of its label is the index in the tile's table.
+/// The label's number is here its index in the tile's table.
 #[inline(always)]
 pub(crate) fn mark_in(flood: &TileFlood, place: Place) -> Option<CellLabel>
     ensures { result ≡ mark_in 0 flood.now place }

@@ -72,7 +72,7 @@ fn place_join(join: Join, nodes: &[u32]) -> Option<Join>
         to: nodes[join.to as usize],
         height: join.height,
     };
-    // Never so for labels of floods, but the contract does not require that.
+    // Labels of floods have different places, but the contract does not require that.
     if placed.from == placed.to {
         return None;
     }
@@ -98,7 +98,7 @@ pub(crate) fn placed_joins(
     Ok(placed)
 }
 
-/// Returns whether the join before this one has the same labels.
+/// Returns whether the join at an index has the labels of the join before it.
 #[inline(always)]
 fn is_repeat(joins: &[Join], index: usize) -> bool
     requires { index < length joins.now }

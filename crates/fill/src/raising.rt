@@ -44,7 +44,7 @@ fn spills_of(
     Ok(spills)
 }
 
-/// Returns the greater of a cell's level and its label's, `None` without a label.
+/// Returns the greater of a cell's level and its label's level, if it has one.
 #[inline(always)]
 fn greater(height: Height, spill: Option<Height>) -> Option<Height>
     ensures { result ≡ greater_of (Some height) spill }
@@ -56,7 +56,7 @@ fn greater(height: Height, spill: Option<Height>) -> Option<Height>
 }
 
 /// Returns the greater of each cell's level and its label's level.
-/// An entry of `labels` is the index in `spills` of its label's level.
+/// `labels` has, for each cell, the index in `spills` of its label's level.
 fn greater_levels(
     alloc: Global,
     heights: &[Height],
@@ -76,7 +76,7 @@ fn greater_levels(
 }
 
 /// Returns the raised heights of a tile, in its row order.
-/// [`raise`] calls this alone, since its longer contract is proved from this one.
+/// [`raise`] does nothing else: its own, longer contract follows from the one here.
 fn raised_by(
     alloc: Global,
     tiling: &Tiling,
@@ -94,8 +94,8 @@ fn raised_by(
 
 /// Returns the filled heights of a tile, in its row order.
 ///
-/// `levels` are those of the [`SpillGraph`](crate::SpillGraph) that was gathered from all floods,
-/// `flood` among them.
+/// `levels` are those of the [`SpillGraph`](crate::SpillGraph) made from all floods, `flood` among
+/// them.
 ///
 /// # Errors
 ///

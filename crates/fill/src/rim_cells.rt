@@ -1,6 +1,6 @@
 //! The joins of rim cells with later cells in row order: [`push_rim_cells`].
 //!
-//! A [`KnownCells`] has the marks of cells, and selects the cells to join with.
+//! A [`MarkedCells`] has the marks of cells, and selects the cells to join with.
 ghost use Rattle.std.specs.Prelude.{◌≡◌, ◌+◌, ◌<◌, ◌≤◌, ◌∷◌, [], List, Bool, Some, true, OnOk};
 ghost use Rattle.terrain.specs.declared.place.Place.{Place};
 ghost use Rattle.tiles.specs.Cutting.{IsInBounds, IsWithinLimits};
@@ -14,8 +14,8 @@ use std::alloc::AllocError;
 use terrain::{Cell, Place, place_on};
 use tiles::Bounds;
 
-/// The marks of cells, and which cells to join with.
-pub(crate) trait KnownCells {
+/// Cells with their marks, and the choice of cells to join with.
+pub(crate) trait MarkedCells {
     ghost marks: { Self → Marks };
 
     ghost wanted: { Self → Place → Bool };
@@ -56,11 +56,11 @@ pub(crate) fn push_join<J: JoinList>(
     Ok(())
 }
 
-/// Adds the join of a cell with its neighbour in direction `way`, if it is wanted.
+/// Adds the join of a cell with its neighbour in direction `way`, if wanted.
 /// `way` is 0 for E, 1 for SE, 2 for S or 3 for SW; `below` is the mark to the south.
 /// Leaves out the join at a corner if a path by a cell between is as low.
 #[inline(always)]
-fn push_on_way<C: KnownCells, J: JoinList>(
+fn push_on_way<C: MarkedCells, J: JoinList>(
     joins: &mut J,
     cells: &C,
     left_out: &LeftOut<'_>,
@@ -105,7 +105,7 @@ fn push_on_way<C: KnownCells, J: JoinList>(
 }
 
 /// Adds the wanted joins of a cell with its four neighbours after it in row order.
-fn push_cell<C: KnownCells, J: JoinList>(
+fn push_cell<C: MarkedCells, J: JoinList>(
     joins: &mut J,
     cells: &C,
     left_out: &LeftOut<'_>,
@@ -130,7 +130,7 @@ fn push_cell<C: KnownCells, J: JoinList>(
 }
 
 /// Adds the wanted joins of all cells of a row with their later neighbours.
-fn push_row<C: KnownCells, J: JoinList>(
+fn push_row<C: MarkedCells, J: JoinList>(
     joins: &mut J,
     cells: &C,
     left_out: &LeftOut<'_>,
@@ -149,9 +149,9 @@ fn push_row<C: KnownCells, J: JoinList>(
     Ok(())
 }
 
-/// Adds the wanted joins of each cell that has a later neighbour off the tile.
+/// Adds the wanted joins of a row's cells that have a later neighbour off the tile.
 /// These are all cells of the tile's last row, and the first and last cell of any other row.
-pub(crate) fn push_rim_cells<C: KnownCells, J: JoinList>(
+pub(crate) fn push_rim_cells<C: MarkedCells, J: JoinList>(
     joins: &mut J,
     cells: &C,
     left_out: &LeftOut<'_>,

@@ -1,6 +1,6 @@
 //! The joins over the rim of a tile, by the numbers of labels: [`push_rim_joins`].
 //!
-//! Looks at each pair of neighbouring cells of two tiles once, from the first in row order.
+//! Looks at each pair of neighbouring cells of two tiles once, from its first cell in row order.
 ghost use Rattle.std.proofs.Props.{props};
 ghost use Rattle.std.specs.Bool.{OnTrue};
 ghost use Rattle.std.specs.Prelude.{◌≡◌, ◌+◌, ◌<◌, ◌≤◌, OnOk};
@@ -9,20 +9,20 @@ ghost use Rattle.fill.specs.Gathering.{Adds, IsOutside, IsTileBelow, IsTileWithR
 
 use crate::left_out::LeftOut;
 use crate::marks::{CellLabel, NumberedFloods};
-use crate::rim_cells::{JoinList, KnownCells, push_rim_cells};
+use crate::rim_cells::{JoinList, MarkedCells, push_rim_cells};
 use crate::spills::Join;
 use std::alloc::AllocError;
 use terrain::Place;
 use tiles::Bounds;
 
-/// The cells of all tiles, read from one tile.
+/// The cells of all tiles, as seen from one tile.
 /// Joins are wanted with cells of other tiles alone.
 #[derive(Drop)]
 struct CellsAround<'a> {
     tiles: &'a NumberedFloods<'a>,
     tile: u32,
     bounds: Bounds,
-    /// The tile below this one, or this one if there is none.
+    /// The tile below this tile, or this tile if there is none below.
     below: u32,
     ghost is_tile: { tile < tile_count tiles.now.tiling.now },
     ghost lawful: { IsCutting tiles.now.tiling.now } by { Prim.hlevel props },
@@ -81,7 +81,7 @@ impl<'a> CellsAround<'a> {
         }
     }
 
-    /// Returns the tile with this row of the grid: this one, or the one below.
+    /// Returns the tile with this row of the grid: this tile, or the tile below.
     #[inline(always)]
     fn tile_with_row(&self, row: u32) -> u32
         requires top { self.now.bounds.top ≤ row }
@@ -97,7 +97,7 @@ impl<'a> CellsAround<'a> {
     }
 
     /// Returns the tile of a place of the grid.
-    /// It needs no division near this tile, where all neighbours of its rim lie.
+    /// Near this tile, where all neighbours of its rim lie, it does not divide.
     #[inline(always)]
     fn tile_of(&self, place: Place) -> u32
         requires { IsWithin self.now.tiles.now.tiling.now place }
@@ -117,7 +117,7 @@ impl<'a> CellsAround<'a> {
     }
 }
 
-impl<'a> KnownCells for CellsAround<'a> {
+impl<'a> MarkedCells for CellsAround<'a> {
     ghost use Rattle.std.specs.Prelude.{not};
     ghost use Rattle.tiles.specs.Cutting.{is_in_bounds};
     ghost use Rattle.fill.specs.Gathering.{mark_among};

@@ -1,12 +1,12 @@
 //! The spill graph by places: the labels of all tiles as a net.
 //!
-//! [`SpillGraph::gather`] makes it of all floods, and [`SpillGraph::levels`] floods it.
+//! [`SpillGraph::gather`] makes it from all floods, and [`SpillGraph::levels`] floods it.
 ghost use Rattle.std.specs.Prelude.{◌≡◌, false, ◌<◌, ◌≤◌, ◌*◌, ℕ, length, map, IfOk, slice_index_or};
 ghost use Rattle.terrain.specs.Raster.{Terrain};
 ghost use Rattle.tiles.specs.Cutting.{Cutting};
 ghost use Rattle.fill.specs.Parts.{BeginAt};
 ghost use Rattle.fill.specs.Spills.{AreFloods, IsGraphOf, AreLevelsOf};
-ghost use Rattle.fill.specs.Gathering.{AreInner, AreRising, turned, way_of};
+ghost use Rattle.fill.specs.Gathering.{AreInner, AreRising, turned, arc_of};
 
 use crate::gathering::graph_joins;
 use crate::inner_joins::inner_joins;
@@ -32,7 +32,7 @@ pub struct Join {
 }
 
 impl Join {
-    /// Returns the join from its other label.
+    /// Returns the join with its labels exchanged.
     #[inline(always)]
     pub(crate) fn turned(self) -> Join
         ensures { result ≡ turned self }
@@ -44,10 +44,10 @@ impl Join {
         }
     }
 
-    /// Returns the way from its first label to the other.
+    /// Returns the arc from its first label to the other.
     #[inline(always)]
-    pub(crate) fn way(self) -> Spill
-        ensures { result ≡ way_of self }
+    pub(crate) fn arc(self) -> Spill
+        ensures { result ≡ arc_of self }
     {
         Spill {
             to: self.to,
@@ -117,15 +117,15 @@ fn end_of(joins: &[Join], start: usize, node: u32) -> usize
     end
 }
 
-/// Returns the ways of these joins.
-fn ways_of(alloc: Global, joins: &[Join]) -> Result<SmallVec<Spill, 8>, AllocError>
-    ensures { IfOk result (λ v. v.items ≡ map way_of joins.now) }
+/// Returns the arcs of these joins.
+fn arcs_of(alloc: Global, joins: &[Join]) -> Result<SmallVec<Spill, 8>, AllocError>
+    ensures { IfOk result (λ v. v.items ≡ map arc_of joins.now) }
 {
-    let mut ways = SmallVec::new(alloc);
+    let mut arcs = SmallVec::new(alloc);
     for join in joins {
-        ways.push(join.way())?;
+        arcs.push(join.arc())?;
     }
-    Ok(ways)
+    Ok(arcs)
 }
 
 impl Net for SpillGraph {
@@ -150,7 +150,7 @@ impl Net for SpillGraph {
     fn neighbours(&self, alloc: Global, node: u32) -> Result<SmallVec<Spill, 8>, NoMemory> {
         let start = first_from(&self.joins, node);
         let end = end_of(&self.joins, start, node);
-        Ok(ways_of(alloc, &self.joins[start..end])?)
+        Ok(arcs_of(alloc, &self.joins[start..end])?)
     }
 
     #[inline]

@@ -56,7 +56,7 @@ replicated x zero k = refl
 replicated x (suc n) zero = refl
 replicated x (suc n) (suc k) = replicated x n k
 
--- The entries after one more is added.
+-- After entry x is added, the entries are x and the old ones.
 pub held_in : {x : Candidate} {old new : List Candidate} → PutsIn x old new → (y : Candidate) → Contains (x ∷ old) y → Contains new y
 held_in {x} {old} {new} perm y h = Contains-permutation (x ∷ old) new y perm h
 
@@ -146,7 +146,7 @@ source_more source n h now new w s is node label height perm = record {
   ];
 }
 
--- The levels as sources are noted one by one.
+-- The heights of sources are noted as levels one by one.
 pub none_noted : (source : Sources) (nodes : ℕ) → HasSourcesNoted 0 source (replicate nodes None)
 none_noted source nodes = record {
   each = λ a below. absurd (omega (arith, below));

@@ -55,17 +55,17 @@ where-lacking zero = refl
 where-lacking (suc n) = ap (λ z. None ∷ z) (where-lacking n)
 
 -- Facts from comparisons of stored numbers.
-tells : (b : Bool) → T b → b ≡ true
-tells true h = refl
-tells false h = absurd h
+true_from : (b : Bool) → T b → b ≡ true
+true_from true h = refl
+true_from false h = absurd h
 
 pub is_low : (a b : ℤ) → le_z a b ≡ true → a ≤ℤ b
 is_low a b e = record { le = T_from_true _ e }
 
 pub low_is : (a b : ℤ) → a ≤ℤ b → le_z a b ≡ true
-low_is a b h = tells _ h.le
+low_is a b h = true_from _ h.le
 
--- A stored number at most h is an entry at most h.
+-- A stored number that is a height at most h is an entry at most h.
 pub no_higher : (marks : List Bool) (heights : List ℤ) (seen : List (Option ℤ)) (i : ℕ) (h : ℤ) → length marks ≡ length heights → heights_where marks heights ≡ seen → noted (get_or marks i false) (get_or heights i lack) ≡ Some (get_or heights i lack) → get_or heights i lack ≤ℤ h
     → (x : ℤ) × (get_or seen i None ≡ Some x) × (x ≤ℤ h)
 no_higher marks heights seen i h size view is low = (get_or heights i lack, ap (λ (l : List (Option ℤ)). get_or l i None) (sym view) ∙ where-at marks heights i size ∙ is, low)
@@ -84,15 +84,15 @@ no_higher_is marks heights seen i h size view s =
     (ap is_some here, subst (λ z. z ≤ℤ h) (sym (from_noted _ _ s.0 here)) s.2)
 
 -- The stored numbers of all entries.
-stands : (m : Bool) (h : ℤ) → h ≡ height_or_lack (noted m h)
-stands true h = refl
-stands false h = elim (cases_Bool (int_eq h lack)) [
+stored_number : (m : Bool) (h : ℤ) → h ≡ height_or_lack (noted m h)
+stored_number true h = refl
+stored_number false h = elim (cases_Bool (int_eq h lack)) [
   | inl lacks ↦ (Decides-int_eq h lack).0 lacks ∙ sym (ap height_or_lack (cond-true _ _ _ lacks))
   | inr other ↦ sym (ap height_or_lack (cond-false _ _ _ other))
 ]
 
-pub stand : (marks : List Bool) (heights : List ℤ) → length marks ≡ length heights → heights ≡ map height_or_lack (heights_where marks heights)
-stand [] [] e = refl
-stand [] (h ∷ heights) e = absurd (omega (arith, e))
-stand (m ∷ marks) [] e = absurd (omega (arith, e))
-stand (m ∷ marks) (h ∷ heights) e = ap (λ z. z ∷ heights) (stands m h) ∙ ap (λ zs. height_or_lack (noted m h) ∷ zs) (stand marks heights (omega (arith, e)))
+pub stored_numbers : (marks : List Bool) (heights : List ℤ) → length marks ≡ length heights → heights ≡ map height_or_lack (heights_where marks heights)
+stored_numbers [] [] e = refl
+stored_numbers [] (h ∷ heights) e = absurd (omega (arith, e))
+stored_numbers (m ∷ marks) [] e = absurd (omega (arith, e))
+stored_numbers (m ∷ marks) (h ∷ heights) e = ap (λ z. z ∷ heights) (stored_number m h) ∙ ap (λ zs. height_or_lack (noted m h) ∷ zs) (stored_numbers marks heights (omega (arith, e)))

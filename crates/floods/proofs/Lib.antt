@@ -4,5 +4,5 @@ pub mod LabelNumbers
 -- The flood of a net.
 pub mod Steps
 pub mod Heaps
-pub mod WaitLists
+pub mod QueueOrder
 pub mod Noting

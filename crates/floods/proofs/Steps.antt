@@ -39,7 +39,7 @@ open_walk joins source nodes levels labels waiting inside s (step ∷ rest) a be
           (w.0, w.1, ap (λ n. entry_of labels n) w.2 ∙ none, trans _ _ _ w.3 (max_below step.height level.0 (crest source step.to rest) (level.2.least rest walk.1)))
     ]
 
--- The lowest entry without a label is at its node's level.
+-- The lowest entry without a label is no higher than the crest of any walk from its node.
 pub lowest_is_least : (joins : Joins) (source : Sources) (nodes : ℕ) (levels : List (Option ℤ)) (labels : List (Option ℕ)) (old new : List Candidate) (w : Candidate) → ((a b : ℕ) (h : ℤ) → joins a b h → b < nodes) → IsFlooding joins source nodes levels labels old → TakesLowest labels old w new → (walk : List Spill) → IsWalk joins source w.node walk → w.height.0 ≤ℤ crest source w.node walk
 lowest_is_least joins source nodes levels labels old new w inside s t walk is_walk =
     let here = All-contains (λ x. (x.node < nodes) × HasWalk joins source x) old w s.queue t.was in
@@ -104,7 +104,7 @@ sources_own source nodes levels waiting s noted = record {
 level_of_lowest : (joins : Joins) (source : Sources) (w : Candidate) → HasWalk joins source w → ((walk : List Spill) → IsWalk joins source w.node walk → w.height.0 ≤ℤ crest source w.node walk) → (source w.node ≡ Some w.height.0 → w.label ≡ w.node) → IsLevel joins source w.node w.height.0 w.label
 level_of_lowest joins source w walk least own = record { reached = walk; least = least; own = own }
 
--- A node other than the one taken keeps an entry.
+-- A node without a label, other than the node taken, keeps an entry as low.
 still_waits : (labels : List (Option ℕ)) (old new : List Candidate) (w : Candidate) (a : ℕ) (h : ℤ) → TakesLowest labels old w new → a ≢ w.node → entry_of labels a ≡ None → HasCandidate old a h → HasCandidate new a h
 still_waits labels old new w a h t n none x =
     elim (All-contains (λ y. IsDone labels y ⊎ (y ≡ w) ⊎ Contains new y) old x.0 t.kept x.1) [
@@ -115,13 +115,13 @@ still_waits labels old new w a h t n none x =
       ]
     ]
 
--- A node without a label is not the one that got one.
+-- A node still without a label is not the node that got its label now.
 other_open : (labels : List (Option ℕ)) (n label a : ℕ) → n < length labels → entry_of (set labels n (Some label)) a ≡ None → a ≢ n
 other_open labels n label a below none e = none_some (entry_of (set labels n (Some label)) n) label (subst (λ (k : ℕ). entry_of (set labels n (Some label)) k ≡ None) e none) (get_or-set_same labels n (Some label) None below)
 
 -- One step: the lowest node gets its level and label, and its neighbours are queued.
-pub settle : (joins : Joins) (source : Sources) (nodes : ℕ) (levels after : List (Option ℤ)) (labels : List (Option ℕ)) (old new more : List Candidate) (w : Candidate) (ways : List Spill) → ((a b : ℕ) (h : ℤ) → joins a b h → b < nodes) → ((a b : ℕ) (h : ℤ) → joins a b h → joins b a h) → IsFlooding joins source nodes levels labels old → TakesLowest labels old w new → HasJust (joins w.node) ways → Queues (set labels w.node (Some w.label)) w ways new more → length after ≡ length levels → KeepsDone (set labels w.node (Some w.label)) (set levels w.node (Some w.height.0)) after → (source w.node ≡ Some w.height.0 → w.label ≡ w.node) → IsFlooding joins source nodes after (set labels w.node (Some w.label)) more
-settle joins source nodes levels after labels old new more w ways inside back s t just spread size keeps labelled =
+pub settle : (joins : Joins) (source : Sources) (nodes : ℕ) (levels after : List (Option ℤ)) (labels : List (Option ℕ)) (old new more : List Candidate) (w : Candidate) (arcs : List Spill) → ((a b : ℕ) (h : ℤ) → joins a b h → b < nodes) → ((a b : ℕ) (h : ℤ) → joins a b h → joins b a h) → IsFlooding joins source nodes levels labels old → TakesLowest labels old w new → HasJust (joins w.node) arcs → Queues (set labels w.node (Some w.label)) w arcs new more → length after ≡ length levels → KeepsDone (set labels w.node (Some w.label)) (set levels w.node (Some w.height.0)) after → (source w.node ≡ Some w.height.0 → w.label ≡ w.node) → IsFlooding joins source nodes after (set labels w.node (Some w.label)) more
+settle joins source nodes levels after labels old new more w arcs inside back s t just spread size keeps labelled =
     let here = All-contains (λ x. (x.node < nodes) × HasWalk joins source x) old w s.queue t.was in
     let least = lowest_is_least joins source nodes levels labels old new w inside s t in
     let inside_labels : w.node < length labels = omega (arith, here.0, s.labels_size) in
@@ -145,14 +145,14 @@ settle joins source nodes levels after labels old new more w ways inside back s 
             (was.0, level_there a n (ap is_some e) ∙ was.1, was.2)
       ];
       queue = all_by_contains (λ x. (x.node < nodes) × HasWalk joins source x) more (λ x h.
-          elim (All-contains (λ y. Contains new y ⊎ IsCandidateBy w ways y) more x spread.made h) [
+          elim (All-contains (λ y. Contains new y ⊎ IsCandidateBy w arcs y) more x spread.made h) [
             | inl held ↦ All-contains (λ y. (y.node < nodes) × HasWalk joins source y) old x s.queue (All-contains (Contains old) new x t.left held)
             | inr made ↦
-                let way = made.0 in
-                let joined = All-contains (λ z. joins w.node z.to z.height) ways way just.only made.1 in
-                let walk : HasWalk joins source (candidate_by w way) =
-                (record { to = w.node; height = way.height } ∷ here.1.0, (back w.node way.to way.height joined, here.1.1), ap (λ z. int_max way.height z) here.1.2, here.1.3) in
-                subst (λ (y : Candidate). (y.node < nodes) × HasWalk joins source y) (sym made.2) (inside w.node way.to way.height joined, walk)
+                let arc = made.0 in
+                let joined = All-contains (λ z. joins w.node z.to z.height) arcs arc just.only made.1 in
+                let walk : HasWalk joins source (candidate_by w arc) =
+                (record { to = w.node; height = arc.height } ∷ here.1.0, (back w.node arc.to arc.height joined, here.1.1), ap (λ z. int_max arc.height z) here.1.2, here.1.3) in
+                subst (λ (y : Candidate). (y.node < nodes) × HasWalk joins source y) (sym made.2) (inside w.node arc.to arc.height joined, walk)
           ]);
       sources = λ a h below e none.
           let n = other_open labels w.node w.label a inside_labels none in
@@ -165,7 +165,7 @@ settle joins source nodes levels after labels old new more w ways inside back s 
             | inl same ↦
                 let back_here : joins w.node a h = subst (λ (k : ℕ). joins k a h) same (back a b h joined) in
                 let level_is : w.height.0 ≡ l = same_Some _ _ (sym level_here ∙ subst (λ (k : ℕ). entry_of after k ≡ Some l) same e) in
-                let x = All-contains (λ way. entry_of (set labels w.node (Some w.label)) way.to ≡ None → HasCandidate more way.to (int_max way.height w.height.0)) ways (record { to = a; height = h }) spread.reached (just.every a h back_here) none in
+                let x = All-contains (λ arc. entry_of (set labels w.node (Some w.label)) arc.to ≡ None → HasCandidate more arc.to (int_max arc.height w.height.0)) arcs (record { to = a; height = h }) spread.reached (just.every a h back_here) none in
                 (x.0, x.1, x.2, trans _ _ _ x.3 (max_below h w.height.0 l (le_of_same _ _ level_is)))
             | inr m ↦ still a (int_max h l) n was (s.frontier a b l h below joined (subst (λ (o : Option ℕ). IsSome o) (label_there b m) done) (sym (level_there b m done) ∙ e) was)
           ];

@@ -1,4 +1,4 @@
--- The queue of a flood, and what each step of a flood does to queue, levels and labels.
+-- The queue of a flood, and how each step changes queue, levels and labels.
 -- Public.
 use Rattle.std.specs.Prelude.{◌≡◌, ℕ, ◌<◌, ◌≤◌, ◌⊎◌, ℤ, pos, ◌+ℤ◌, ◌≤ℤ◌, List, [], ◌∷◌, ◌++◌, map, length, Option, None, Some, IsSome, slice_index_or}
 use Rattle.std.specs.Ordering.{int_cmp}
@@ -58,11 +58,11 @@ HasNone waiting = (w : Candidate) → Contains waiting w → ⊥
 abbrev pub entry_of : {X : Type 0} → List (Option X) → ℕ → Option X
 entry_of xs a = slice_index_or xs a None
 
--- The entry's node has a label, so its level is final. Until then it is the least crest found.
+-- The entry's node has a label, so its level is final. Before, its level is the least crest found.
 abbrev pub IsDone : List (Option ℕ) → Candidate → Type 0
 IsDone labels w = IsSome (entry_of labels w.node)
 
--- Entry w, a lowest one without a label, left the queue, and perhaps some with labels.
+-- Entry w, a lowest one without a label, left the queue. Entries with labels may have left too.
 pub record TakesLowest (labels : List (Option ℕ)) (old : List Candidate) (w : Candidate)
     (new : List Candidate) : Type 0 where
   pub was_open : entry_of labels w.node ≡ None
@@ -73,9 +73,9 @@ pub record TakesLowest (labels : List (Option ℕ)) (old : List Candidate) (w : 
 
 -- A neighbour's entry: at the greater of the join's spill height and the height of `from`.
 abbrev pub candidate_by : Candidate → Spill → Candidate
-candidate_by from way = record {
-  height = record { 0 = int_max way.height from.height.0 };
-  node = way.to;
+candidate_by from arc = record {
+  height = record { 0 = int_max arc.height from.height.0 };
+  node = arc.to;
   label = from.label;
 }
 
@@ -91,7 +91,7 @@ pub record HasSourcesNoted (count : ℕ) (source : Sources) (levels : List (Opti
   pub each : (a : ℕ) → a < count → entry_of levels a ≡ source a
   pub rest : (a : ℕ) → count ≤ a → entry_of levels a ≡ None
 
--- An entry of a source at its own height is labelled by the source, and each source without a
+-- An entry at the height of its node, a source, has that node as label. Each source without a
 -- label has a level, at most its height.
 pub record AreOwn (source : Sources) (labels : List (Option ℕ)) (levels : List (Option ℤ))
     (waiting : List Candidate) : Type 0 where
@@ -103,18 +103,18 @@ pub record AreOwn (source : Sources) (labels : List (Option ℕ)) (levels : List
 abbrev pub HasCandidate : List Candidate → ℕ → ℤ → Type 0
 HasCandidate waiting a h = (w : Candidate) × Contains waiting w × (w.node ≡ a) × (w.height.0 ≤ℤ h)
 
--- The entry is that of one of these neighbours of `from`.
+-- The entry is that of the neighbour at one of these arcs of `from`.
 abbrev pub IsCandidateBy : Candidate → List Spill → Candidate → Type 0
-IsCandidateBy from ways w = (way : Spill) × Contains ways way × (w ≡ candidate_by from way)
+IsCandidateBy from arcs w = (arc : Spill) × Contains arcs arc × (w ≡ candidate_by from arc)
 
--- These neighbours of `from` were queued: each new entry is of one of them, and each of them
--- without a label has an entry at most at its crest by this join.
-pub record Queues (labels : List (Option ℕ)) (from : Candidate) (ways : List Spill)
+-- These arcs of `from` were followed: each new entry is of one of their neighbours. Each of these
+-- without a label has an entry at most at its crest by that arc.
+pub record Queues (labels : List (Option ℕ)) (from : Candidate) (arcs : List Spill)
     (old : List Candidate) (new : List Candidate) : Type 0 where
   pub kept : All (Contains new) old
-  pub made : All (λ w. Contains old w ⊎ IsCandidateBy from ways w) new
-  pub reached : All (λ way. entry_of labels way.to ≡ None →
-      HasCandidate new way.to (int_max way.height from.height.0)) ways
+  pub made : All (λ w. Contains old w ⊎ IsCandidateBy from arcs w) new
+  pub reached : All (λ arc. entry_of labels arc.to ≡ None →
+      HasCandidate new arc.to (int_max arc.height from.height.0)) arcs
 
 -- Each node with a level and without a label has an entry at most at that level.
 pub record AreNoted (labels : List (Option ℕ)) (levels : List (Option ℤ))
@@ -127,19 +127,19 @@ pub record AreNoted (labels : List (Option ℕ)) (levels : List (Option ℤ))
 abbrev pub KeepsDone : List (Option ℕ) → List (Option ℤ) → List (Option ℤ) → Type 0
 KeepsDone labels old new = (a : ℕ) → IsSome (entry_of labels a) → entry_of new a ≡ entry_of old a
 
--- These neighbours of `from` were queued, with their crests as levels; all invariants hold.
-pub record Follows (labels : List (Option ℕ)) (from : Candidate) (ways : List Spill)
+-- These arcs of `from` were relaxed, as in Dijkstra's algorithm, and all invariants hold.
+pub record Relaxes (labels : List (Option ℕ)) (from : Candidate) (arcs : List Spill)
     (levels after : List (Option ℤ)) (old new : Queue) : Type 0 where
   pub order : InOrder new
   pub noted : AreNoted labels after (candidates_in new)
   pub kept : KeepsDone labels levels after
   pub own : (source : Sources) → AreOwn source labels levels (candidates_in old) →
       AreOwn source labels after (candidates_in new)
-  pub queue : Queues labels from ways (candidates_in old) (candidates_in new)
+  pub queue : Queues labels from arcs (candidates_in old) (candidates_in new)
 
--- All neighbours of `from` were queued, unless they have labels or crests as low.
+-- All arcs of `from` were relaxed.
 abbrev pub Spreads : Joins → List (Option ℕ) → Candidate → List (Option ℤ) → List (Option ℤ) →
     Queue → Queue → Type 0
 Spreads joins labels from levels after old new =
-    (ways : List Spill) × HasJust (joins from.node) ways
-    × Follows labels from ways levels after old new
+    (arcs : List Spill) × HasJust (joins from.node) arcs
+    × Relaxes labels from arcs levels after old new

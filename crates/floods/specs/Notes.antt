@@ -3,7 +3,7 @@
 use Rattle.std.specs.Prelude.{ℕ, ℤ, pos, Bool, ◌==◌, List, [], ◌∷◌, map, Option, None, Some, if◌then◌else◌, unwrap_or}
 use Rattle.std.specs.Ordering.{int_eq}
 
--- The greatest number of 64 bits, stored for a missing height.
+-- The greatest signed number of 64 bits, stored for a missing height.
 abbrev pub lack : ℤ
 lack = pos 9223372036854775807
 

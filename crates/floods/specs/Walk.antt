@@ -57,7 +57,7 @@ pub record IsFlooded (joins : Joins) (source : Sources) (nodes : ℕ) (levels : 
       (λ level. (label : ℕ) × (slice_index_or labels a None ≡ Some label)
       × IsLevel joins source a level label)
 
--- The list has exactly the joined nodes, each with the join's spill height.
-pub record HasJust (joins : ℕ → ℤ → Type 0) (ways : List Spill) : Type 0 where
-  pub only : All (λ way. joins way.to way.height) ways
-  pub every : (b : ℕ) (h : ℤ) → joins b h → Contains ways (record { to = b; height = h })
+-- The arcs are exactly those of these joins: each joined node, with the join's spill height.
+pub record HasJust (joins : ℕ → ℤ → Type 0) (arcs : List Spill) : Type 0 where
+  pub only : All (λ arc. joins arc.to arc.height) arcs
+  pub every : (b : ℕ) (h : ℤ) → joins b h → Contains arcs (record { to = b; height = h })

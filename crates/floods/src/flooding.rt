@@ -14,8 +14,8 @@ use std::cmp::Reverse;
 use terrain::{Height, NoMemory};
 
 /// The level and the label of each node; `None` where no walk leads to a source.
-/// The level, in units, is the least crest of its walks. The label is the source where a walk of
-/// that crest ends.
+/// A node's level, in units, is the least crest of its walks. Its label is the source where a walk
+/// of that crest ends.
 #[derive(Drop)]
 pub struct Flooded {
     pub level: Vec<Option<Height>>,
@@ -77,7 +77,7 @@ pub fn flood_net<N: Net>(alloc: Global, net: &N) -> Result<FloodedNet, NoMemory>
     let mut queue = queue_sources(alloc, net, &mut levels)?;
     while let Some(waiting) = next_unlabelled(&mut queue, &labels) {
         let Reverse(height) = waiting.height;
-        // Noted already when queued, but the contract of `Net::spread` does not promise that.
+        // Noted when the node was queued, but the contract of `Net::spread` does not promise that.
         levels.put(waiting.node, height);
         labels.put(waiting.node, waiting.label);
         net.spread(alloc, &mut queue, &waiting, &labels, &mut levels)?;
@@ -110,7 +110,7 @@ fn list_of_labels(alloc: Global, labels: &NodeLabels) -> Result<Vec<Option<u32>>
 
 /// Returns the level and the label of each node.
 ///
-/// [`flood_net`] returns them in lists that take less memory.
+/// [`flood_net`] returns both in lists that take less memory.
 ///
 /// # Errors
 ///
@@ -119,7 +119,7 @@ fn list_of_labels(alloc: Global, labels: &NodeLabels) -> Result<Vec<Option<u32>>
 /// # Examples
 ///
 /// ```ignore
-/// // `level[node]` is the least crest of the node's walks, `label[node]` where such a walk ends
+/// // `level[node]` is the least crest of the node's walks; one of that crest ends at `label[node]`
 /// let Flooded { level, label } = flood(alloc, &net)?;
 /// ```
 pub fn flood<N: Net>(alloc: Global, net: &N) -> Result<Flooded, NoMemory>

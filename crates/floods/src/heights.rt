@@ -8,7 +8,7 @@ use std::marker::Model;
 use terrain::Height;
 
 /// The number stored for a missing height.
-/// No number is greater, so [`HeightList::is_no_higher`] seldom reads `greatest`.
+/// No number is greater, so [`HeightList::is_no_higher`] seldom has to read `greatest` for it.
 const LACK: Height = Height::MAX;
 
 /// A list of optional heights, in 9 bytes an entry. An `Option<Height>` takes 16.
@@ -92,7 +92,7 @@ impl HeightList {
         }
     }
 
-    /// The heights as stored: a missing one is `i64::MAX`.
+    /// Returns the stored numbers: a missing height is `i64::MAX`.
     pub fn heights(&self) -> &[Height]
         ensures { result.now ≡ map height_or_lack self.now }
     {

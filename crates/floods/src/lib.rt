@@ -2,7 +2,7 @@
 //!
 //! A walk follows joins from a node to a source. Its crest is the greatest of the joins' spill
 //! heights and the source's height. A node's level is the least crest of its walks, and its label
-//! the source where a walk of that crest ends.
+//! the source where a walk of that crest ends. An arc is a join seen from one of its nodes.
 //!
 //! Begin with [`flood`] over any [`Net`]. [`flood_net`] returns the levels and labels in lists
 //! that take less memory.

@@ -13,7 +13,7 @@ use smallvec::SmallVec;
 use std::alloc::Global;
 use terrain::{Height, NoMemory};
 
-/// A neighbour of a node, and the spill height, in units, of the join between them.
+/// An arc: a neighbour of a node, and the spill height, in units, of their join.
 #[derive(Clone, Copy, Debug, Default, PartialEq, Eq)]
 pub struct Spill {
     pub to: u32,
@@ -30,7 +30,7 @@ pub trait Net {
     // The height of a source; `None` for any other node.
     ghost source_height: { Self → ℕ → Option ℤ };
 
-    /// The number of nodes.
+    /// Returns the number of nodes.
     fn nodes(&self) -> u32
         ensures { result ≡ node_count self.now };
 
@@ -48,7 +48,7 @@ pub trait Net {
         requires { node < node_count self.now }
         ensures { result ≡ source_height self.now node };
 
-    /// The first node from `from` on that may be a source, or the number of nodes.
+    /// Returns the first node from `from` on that may be a source, or the node count.
     /// A net that can exclude many nodes at once skips them here.
     #[inline]
     fn next_candidate(&self, from: u32) -> u32
@@ -60,7 +60,7 @@ pub trait Net {
         from
     }
 
-    /// Queues each neighbour of `from` unless it has a label or a crest as low.
+    /// Queues each neighbour of `from` that has no label and whose crest gets lower.
     ///
     /// # Errors
     ///
@@ -81,14 +81,14 @@ pub trait Net {
         ensures { OnOk result (Spreads (joins self.now) labels.now from.now levels.old levels.new
             queue.old queue.new) }
     {
-        let ways = self.neighbours(alloc, from.node)?;
-        queue_neighbours(queue, ways.as_slice(), from, labels, levels)?;
+        let arcs = self.neighbours(alloc, from.node)?;
+        queue_neighbours(queue, arcs.as_slice(), from, labels, levels)?;
         Ok(())
     }
 
-    // Each joined node is one of the net.
+    // Only nodes of the net are joined.
     ghost joined_inside: { (net : Self) (a b : ℕ) (h : ℤ) → joins net a b h → b < node_count net };
 
-    // Joins are symmetric: a join has one height in both directions.
+    // A join has the same height from both of its nodes.
     ghost joined_back: { (net : Self) (a b : ℕ) (h : ℤ) → joins net a b h → joins net b a h };
 }

@@ -5,7 +5,7 @@ ghost use Rattle.floods.specs.Notes.{label_of, numbered_labels};
 use std::alloc::{AllocError, Global};
 use std::marker::Model;
 
-/// Marks a node without a label. No node has this number.
+/// The number stored for a node without a label. No node has this number.
 const NO_LABEL: u32 = u32::MAX;
 
 /// The label of each node, or none, in 4 bytes a node.
@@ -23,7 +23,7 @@ impl Model for NodeLabels {
     ghost view = { λ l. numbered_labels l.numbers.items };
 }
 
-/// Decodes a number of [`NodeLabels::numbers`]: its label, or none.
+/// Decodes a number of [`NodeLabels::numbers`]: returns its label, or `None`.
 #[inline(always)]
 pub fn label_of(number: u32) -> Option<u32>
     ensures { result ≡ label_of number }
@@ -63,7 +63,7 @@ impl NodeLabels {
         self.numbers[node as usize] = label;
     }
 
-    /// The labels as numbers, which [`label_of`] decodes.
+    /// Returns the labels as numbers, which [`label_of`] decodes.
     pub fn numbers(&self) -> &[u32]
         ensures { self.now ≡ numbered_labels result.now }
     {

@@ -1,10 +1,10 @@
 //! The priority queue of a flood: the lowest node first.
 //!
-//! A window of consecutive heights has a list for each height; all other nodes are in a heap.
+//! Nodes at some consecutive heights are in lists, one for each height. A heap has all others.
 //! [`queue_neighbour`] queues a node again only at a lower crest.
 ghost use Rattle.std.specs.Prelude.{◌≡◌, ◌<◌, ◌≤◌, pos, ◌+ℤ◌, ◌≤ℤ◌, ◌∷◌, [], ℕ, ℤ, IfOk, OnOk, IfSome, IfNone, length, All, replicate, slice_index_or};
 ghost use Rattle.std.specs.BinaryHeap.{heap_items, heap_len};
-ghost use Rattle.floods.specs.Flood.{entries_of, candidates_in, InOrder, PutsIn, HasNone, IsDone, TakesLowest, Follows, AreNoted};
+ghost use Rattle.floods.specs.Flood.{entries_of, candidates_in, InOrder, PutsIn, HasNone, IsDone, TakesLowest, Relaxes, AreNoted};
 
 use crate::heights::HeightList;
 use crate::net::Spill;
@@ -26,23 +26,23 @@ pub struct Candidate {
     pub label: u32,
 }
 
-/// The greatest number of heights in the window, and so of empty lists to skip.
+/// The greatest number of lists, and so of empty lists to skip.
 /// A tile of 256 by 256 cells mostly spans fewer heights.
-const MOST_WINDOW: usize = 512;
+const MOST_LISTS: usize = 512;
 
-/// The least number of heights in a window. For smaller nets the heap is as fast.
-const LEAST_WINDOW: usize = 16;
+/// The least number of lists. A smaller net has none: there the heap is as fast.
+const LEAST_LISTS: usize = 16;
 
 /// The least number of nodes for each list, so that making the lists is cheap.
 const NODES_A_LIST: usize = 16;
 
 /// The first capacity of each list and of the heap, in nodes, so that few grow.
-/// At 16 bytes an entry this is above 1 KiB: an allocator may keep smaller freed blocks, which hold
-/// back memory below them.
-const FIRST_ROOM: usize = 80;
+/// At 16 bytes an entry this is above 1 KiB. An allocator may keep smaller blocks when they are
+/// freed, and then it cannot return the memory below them to the system.
+const FIRST_CAPACITY: usize = 80;
 
 /// The priority queue of a flood. List `k` has nodes at height `base + k` alone.
-/// All other nodes are in the heap, some of them perhaps at heights of the window.
+/// All other nodes are in the heap, some of them perhaps at heights that have a list.
 #[derive(Drop)]
 pub struct Queue {
     base: Height,
@@ -54,31 +54,31 @@ pub struct Queue {
     others: BinaryHeap<Candidate>,
 }
 
-/// Returns the number of heights in the window, for a net of `nodes` nodes.
-fn window_length(nodes: usize) -> usize
-    ensures { result ≤ MOST_WINDOW }
+/// Returns the number of lists, for a net of `nodes` nodes.
+fn list_count(nodes: usize) -> usize
+    ensures { result ≤ MOST_LISTS }
 {
     let levels = nodes / NODES_A_LIST;
-    if levels < LEAST_WINDOW {
+    if levels < LEAST_LISTS {
         0
     } else {
-        levels.min(MOST_WINDOW)
+        levels.min(MOST_LISTS)
     }
 }
 
-/// Makes `count` empty lists, each with capacity [`FIRST_ROOM`].
+/// Makes `count` empty lists, each with capacity [`FIRST_CAPACITY`].
 fn empty_lists(alloc: Global, count: usize) -> Result<Vec<Vec<Candidate>>, AllocError>
     ensures { IfOk result (λ v. entries_of v.items ≡ replicate count []) }
 {
     let mut lists = Vec::with_capacity(alloc, count)?;
     for _ in 0..count {
-        lists.push(Vec::with_capacity(alloc, FIRST_ROOM)?)?;
+        lists.push(Vec::with_capacity(alloc, FIRST_CAPACITY)?)?;
     }
     Ok(lists)
 }
 
-/// The index of the first nonempty list from `first` on and before `stop`.
-/// If there is none, an index not below `stop`.
+/// Returns the index of the first nonempty list from `first` on and before `stop`.
+/// If there is none, returns an index of at least `stop`.
 #[inline(always)]
 fn first_nonempty(lists: &[Vec<Candidate>], first: usize, stop: usize) -> usize
     requires { stop ≤ length lists.now }
@@ -95,14 +95,14 @@ fn first_nonempty(lists: &[Vec<Candidate>], first: usize, stop: usize) -> usize
 }
 
 impl Queue {
-    /// Makes an empty queue for `nodes` nodes. The first entry taken begins the window.
+    /// Makes an empty queue for `nodes` nodes. The first entry taken sets `base`.
     /// Until then `first` is past all lists, so each entry goes to the heap.
     pub(crate) fn new(alloc: Global, nodes: usize) -> Result<Self, AllocError>
         ensures order { IfOk result (λ w. InOrder w) }
         ensures none { IfOk result (λ w. HasNone (candidates_in w)) }
     {
-        let lists = empty_lists(alloc, window_length(nodes))?;
-        let others = BinaryHeap::with_capacity(alloc, FIRST_ROOM)?;
+        let lists = empty_lists(alloc, list_count(nodes))?;
+        let others = BinaryHeap::with_capacity(alloc, FIRST_CAPACITY)?;
         Ok(Queue {
             base: 0,
             first: lists.len(),
@@ -112,7 +112,7 @@ impl Queue {
         })
     }
 
-    /// The index of a height's list; `None` outside the window or before `first`.
+    /// Returns the index of a height's list; `None` if it has none from `first` on.
     #[inline(always)]
     fn list_of(&self, height: Height) -> Option<usize>
         ensures from { IfSome result (λ k. self.now.first ≤ k) }
@@ -145,7 +145,7 @@ impl Queue {
         }
     }
 
-    /// The number of lists, before `end`, below the lowest node of the heap.
+    /// Returns the number of lists, before `end`, below the heap's lowest node.
     #[inline(always)]
     fn lists_below_heap(&self) -> usize
         requires { InOrder self.now }
@@ -163,7 +163,7 @@ impl Queue {
         self.lists_below(height)
     }
 
-    /// Takes the heap's lowest entry. If all lists are empty, the window moves to it.
+    /// Takes the heap's lowest entry. Its height becomes `base` if all lists are empty.
     #[inline]
     fn pop_heap(&mut self) -> Option<Candidate>
         requires order { InOrder self.old }
@@ -226,7 +226,7 @@ impl Queue {
     }
 }
 
-/// Takes the lowest node without a label, and drops labelled ones on the way.
+/// Takes the lowest node without a label; drops nodes with labels before it.
 #[inline(always)]
 pub(crate) fn next_unlabelled(queue: &mut Queue, labels: &NodeLabels) -> Option<Candidate>
     requires order { InOrder queue.old }
@@ -244,8 +244,8 @@ pub(crate) fn next_unlabelled(queue: &mut Queue, labels: &NodeLabels) -> Option<
     None
 }
 
-/// Queues a neighbour of `from` unless it has a label or a crest as low.
-/// Its crest by `from` is the greater of `way.height` and the level of `from`; `levels` notes it.
+/// Queues the neighbour `arc.to` if it has no label and its crest gets lower.
+/// Its crest by `from` is the greater of `arc.height` and the level of `from`. `levels` notes it.
 ///
 /// # Errors
 ///
@@ -253,54 +253,54 @@ pub(crate) fn next_unlabelled(queue: &mut Queue, labels: &NodeLabels) -> Option<
 #[inline(always)]
 pub fn queue_neighbour(
     queue: &mut Queue,
-    way: Spill,
+    arc: Spill,
     from: &Candidate,
     labels: &NodeLabels,
     levels: &mut HeightList,
 ) -> Result<(), AllocError>
     requires order { InOrder queue.old }
-    requires inside { way.to < length labels.now }
+    requires inside { arc.to < length labels.now }
     requires noted { AreNoted labels.now levels.old (candidates_in queue.old) }
     ensures { OnOk result
-        (Follows labels.now from.now (way ∷ []) levels.old levels.new queue.old queue.new) }
+        (Relaxes labels.now from.now (arc ∷ []) levels.old levels.new queue.old queue.new) }
 {
     let Reverse(level) = from.height;
-    let crest = way.height.max(level);
-    if levels.is_no_higher(way.to, crest) {
+    let crest = arc.height.max(level);
+    if levels.is_no_higher(arc.to, crest) {
         return Ok(());
     }
-    // Never so in a flood: nodes get labels in the order of their levels, so labelled ones returned
-    // above. The contract does not assume that order.
-    if labels.has(way.to) {
+    // Never true in a flood: nodes get labels in the order of their levels, so for a labelled node
+    // the test above returned. The contract does not assume that order.
+    if labels.has(arc.to) {
         return Ok(());
     }
     let waiting = Candidate {
         height: Reverse(crest),
-        node: way.to,
+        node: arc.to,
         label: from.label,
     };
     queue.put(waiting)?;
-    levels.put(way.to, crest);
+    levels.put(arc.to, crest);
     Ok(())
 }
 
-/// Queues each neighbour of `from` unless it has a label or a crest as low.
+/// Queues each neighbour of `from` that has no label and whose crest gets lower.
 #[inline]
 pub(crate) fn queue_neighbours(
     queue: &mut Queue,
-    ways: &[Spill],
+    arcs: &[Spill],
     from: &Candidate,
     labels: &NodeLabels,
     levels: &mut HeightList,
 ) -> Result<(), AllocError>
     requires order { InOrder queue.old }
-    requires inside { All (λ way. way.to < length labels.now) ways.now }
+    requires inside { All (λ arc. arc.to < length labels.now) arcs.now }
     requires noted { AreNoted labels.now levels.old (candidates_in queue.old) }
     ensures { OnOk result
-        (Follows labels.now from.now ways.now levels.old levels.new queue.old queue.new) }
+        (Relaxes labels.now from.now arcs.now levels.old levels.new queue.old queue.new) }
 {
-    for way in ways {
-        queue_neighbour(queue, *way, from, labels, levels)?;
+    for arc in arcs {
+        queue_neighbour(queue, *arc, from, labels, levels)?;
     }
     Ok(())
 }

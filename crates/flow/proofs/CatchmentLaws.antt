@@ -15,7 +15,7 @@ use Rattle.flow.specs.Counts.{accumulation, drains_through}
 use Rattle.flow.specs.Catchments.{gauge_number, catchment}
 use Rattle.flow.proofs.CutPaths.{cases_first, found_next, position_push}
 use Rattle.flow.proofs.Coded.{IsCoded, cases_coded, coded_along, follow_more}
-use Rattle.flow.proofs.Gathering.{one_more, counted_on, drains_itself, other_test}
+use Rattle.flow.proofs.DrainedCells.{one_more, counted_on, drains_itself, other_test}
 use Rattle.flow.proofs.Reaching.{IsEnding, reached_early, drains_at, drains_from}
 use Rattle.flow.proofs.Sending.{and_on}
 use Rattle.flow.proofs.Windows.{any_in_range, sum_of_cells}
@@ -109,7 +109,7 @@ module _ (d : Directed) (s : IsEnding d) (gauges : List Place) (g : Place) (is :
       (counted_on d g _ is (caught_same g is ∙ drains_itself d s g))
       (cond-false {A = ℕ} _ 1 0 (and_left _ _ (and_right _ _ (not_from_true _ (is_place_from g g refl)))))
 
--- One gauge more, which the flow path of p does not meet.
+-- One gauge more, which is not on the flow path of p.
 module _ (d : Directed) (gauges : List Place) (g p : Place) (past : drains_through d g p ≡ false) where
   abbrev is_old : Place → Bool
   is_old q = list_any (is_place q) gauges

@@ -38,7 +38,7 @@ follow_more d p a (suc b) = let z : suc (a + b) ≡ a + suc b = omega arith in a
 pub follow_first : (d : Directed) (p : Place) (k : ℕ) → follow d (next d p) k ≡ follow d p (suc k)
 follow_first d p k = let z : 1 + k ≡ suc k = omega arith in follow_more d p 1 k ∙ ap (follow d p) z
 
--- The path of p stays where it is after k moves.
+-- After k moves the path of p moves no further.
 abbrev pub StopsAt : Directed → Place → ℕ → Type 0
 StopsAt d p k = next d (follow d p k) ≡ follow d p k
 

@@ -23,7 +23,7 @@ use Rattle.flow.proofs.Coded.{IsCoded}
 use Rattle.flow.proofs.InTile.{weight_in, IsPiece, tile_streams, in_place}
 use Rattle.flow.proofs.Piece.{codes_from, AreLists, piece, few, weights_from, match_data}
 use Rattle.flow.proofs.Reaching.{IsEnding, ending_of}
-use Rattle.flow.proofs.Gathering.{all_drained, drained_few, entered_few, inflow_sum, accumulation_is}
+use Rattle.flow.proofs.DrainedCells.{all_drained, drained_few, entered_few, inflow_sum, accumulation_is}
 use Rattle.flow.proofs.TileTotals.{AreWeights, all_totals}
 use Rattle.flow.proofs.Totals.{total_is}
 
@@ -152,7 +152,7 @@ module _ (t : Cutting) (codes : List (Option ℕ)) (flows : List Flow) (inflows 
           few = omega (arith, few _ _ _ _ _ (lists (links_by f.bounds f.codes) made), same_sizes (links_by f.bounds f.codes) made);
           streams = streams_of (links_by f.bounds f.codes) made;
           few_enter = λ p h. omega (arith, inflow_few p (subst (λ (x : Cutting). IsInBounds (bounds_of x tile) p) s.are_inflows.cutting h));
-          few_come = λ weights weighed i h. omega (
+          totals_fit = λ weights weighed i h. omega (
             arith,
             total_drained (links_by f.bounds f.codes) made weights (subst (λ (x : Cutting). AreRimWeights inflows (bounds_of x tile) f.codes weights) s.are_inflows.cutting weighed) i
                 (omega (arith, h, same_sizes (links_by f.bounds f.codes) made)),

@@ -57,7 +57,7 @@ cut_next cols rows codes gauges k cut new d size below inside made was =
           ∙ was.elsewhere p parts.0;
     }
 
--- A gauge with a code is in the grid.
+-- A place with a code is in the grid.
 some_inside : (cols rows : ℕ) (codes : List (Option ℕ)) (p : Place) (o : Option ℕ) → entry_at cols rows codes p ≡ o → is_some o ≡ true → (p.row < rows) × (p.col < cols)
 some_inside cols rows codes p None e some = absurd (false≢true some)
 some_inside cols rows codes p (Some code) e some = inside_from_entry cols rows codes p code e
@@ -68,12 +68,12 @@ gauge_inside cols rows codes gauges k d below coded =
     let g = get_or gauges k d in
     some_inside cols rows codes g (entry_at cols rows codes g) refl (coded g (list_any_at (is_place g) gauges k d below (is_place_from g g refl)))
 
--- The index of the gauge that the loop reads.
+-- The index of gauge k, by the width of the grid.
 pub index_at : (cols n : ℕ) (gauges : List Place) (k i : ℕ) (d e : Place) → k < length gauges → n ≡ cols → i ≡ index_of n (get_or gauges k d) → i ≡ index_of cols (get_or gauges k e)
 index_at cols n gauges k i d e below same read =
     read ∙ ap (λ m. index_of m (get_or gauges k d)) same ∙ ap (λ (q : Place). index_of cols q) (get_or_default gauges k d e below)
 
--- The numbers with one gauge more.
+-- The numbers of gauges, with one gauge more.
 pub number_next : (cols : ℕ) (gauges : List Place) (k i : ℕ) (d : Place) → k < length gauges →
     number_of_index cols (take (k + 1) gauges) i ≡ option_or (number_of_index cols (take k gauges) i) (cond (index_of cols (get_or gauges k d) == i) (Some (k + 1)) None)
 number_next cols gauges k i d below =

@@ -69,7 +69,7 @@ module _ {X : Type 0} (test : X → Bool) (f : ℕ → X) where
     ]
   ]
 
--- The first position: with one more entry, without a match, for equal tests, and its bound.
+-- The position of the first match: with one more entry, without a match, and for equal tests.
 pub position_push : {X : Type 0} (p : X → Bool) (i : ℕ) (xs : List X) (y : X) → position_from p i (xs ++ y ∷ []) ≡ option_or (position_from p i xs) (cond (p y) (Some (i + length xs)) None)
 position_push p i [] y = let z : i ≡ i + 0 = omega arith in ap (λ (k : ℕ). cond (p y) (Some k) None) z
 position_push p i (x ∷ xs) y = elim (cases_Bool (p x)) [
@@ -123,7 +123,7 @@ module _ (d : Directed) (s : IsEnding d) (gauges : List Place) (codes : List (Op
   follows p zero clear = refl
   follows p (suc k) clear = ap (next cut_d) (follows p k (λ j below. clear j (omega (arith, below)))) ∙ goes_on (follow d p k) (clear k (omega arith))
 
-  -- The path ends at its first gauge.
+  -- The path in the cut map ends at the first gauge of the path of p.
   last_first : (p : Place) → (w : IsFirst is_gauge (follow d p) (moves d)) → last_of cut_d p ≡ follow d p w.at
   last_first p w =
       let here = follows p w.at w.before in

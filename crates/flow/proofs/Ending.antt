@@ -24,7 +24,7 @@ module _ (x : ℕ → ℕ) (step : (a b : ℕ) → x a ≡ x b → x (suc a) ≡
       let p : a + suc t ≡ suc (a + t) = omega arith in let q : b + suc t ≡ suc (b + t) = omega arith in
       ap x p ∙ step (a + t) (b + t) (again a b same t) ∙ sym (ap x q)
 
-  -- A sequence that repeats before it stops never stops.
+  -- A sequence that repeats a value before it stops never stops.
   never : (n a b : ℕ) → a < b → b ≤ n → x a ≡ x b → ((k : ℕ) → k < n → x (suc k) ≡ x k → ⊥) → (fuel m : ℕ) → m ≤ fuel → x (suc m) ≡ x m → ⊥
   never n a b lt le same none zero m few stop = none m (omega arith) stop
   never n a b lt le same none (suc fuel) m few stop = elim (cases_lt m n) [
@@ -115,7 +115,7 @@ sum_of_next : (f : ℕ → ℕ) (n : ℕ) → sum_below (λ k. f (suc k)) n + f 
 sum_of_next f zero = refl
 sum_of_next f (suc n) = omega (arith, sum_of_next f n)
 
--- Each move leaves one less.
+-- A move leaves one move less.
 pub moves_fall : (links : List ℕ) → AreStreams links → (i : ℕ) → i < length links → onward links i ≢ i → moves_left links (onward links i) + 1 ≡ moves_left links i
 moves_fall links s i h on =
     let left : ℕ → ℕ = λ k. cond {A = ℕ} (eqb (node_after links i k) (end_of links i)) 0 1 in
@@ -126,7 +126,7 @@ moves_fall links s i h on =
     ap (λ a. cond {A = ℕ} (eqb a (end_of links (onward links i))) 0 1) (node_after-first links i k) ∙ ap (λ b. cond {A = ℕ} (eqb (node_after links i (suc k)) b) 0 1) (end-onward links s i h)) in
     omega (arith, next, sum_of_next left (length links), here, last)
 
--- The moves left, plus 1 while the node's end is unknown: falls with each node noted.
+-- The moves left, plus 1 while the node's end is unknown. It falls as ends are noted along a path.
 abbrev pub marks_left : List ℕ → List ℕ → ℕ → ℕ
 marks_left links ends i = moves_left links i + cond {A = ℕ} (eqb (get_or ends i 0) unknown_mark) 1 0
 

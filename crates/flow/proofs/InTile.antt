@@ -78,7 +78,7 @@ module _ (d : Directed) (c : Cutting) (tile : ℕ) (b : Bounds) (links : List �
   pub link_place : (i : ℕ) → i < length links → IsInBounds b (next d (place_in b i)) → place_in b (onward links i) ≡ next d (place_in b i)
   link_place i h y = ap (place_in b) (link_is i h ∙ link-in d b i y) ∙ place_in-index_in b (next d (place_in b i)) y
 
-  -- The path along links after j moves is the flow path after at most k moves.
+  -- k moves from node j along links lead where at most k moves of the flow path lead.
   pub record Tracks (j k : ℕ) : Type 0 where
     pub met : ℕ
     pub few : met ≤ k

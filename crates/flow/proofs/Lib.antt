@@ -11,7 +11,7 @@ pub mod Sending
 -- flow paths
 pub mod Coded
 pub mod Reaching
-pub mod Gathering
+pub mod DrainedCells
 -- inside a tile
 pub mod InTile
 pub mod Piece

@@ -1,4 +1,4 @@
--- The entries of a tile's lists: its codes by rows, its flow by indexes, and labels of exits.
+-- The entries of a tile's lists: its codes by rows, its flow by indexes, and numbers of exits.
 use Rattle.std.proofs.Common.{◌≡◌, ℕ, ◌<◌, ◌≤◌, List, length, get_or, map, Option, None, Some, IfSome, sym, ap, subst, refl, ◌∙◌, arith, ◌+◌, ◌-◌, ◌*◌, inl, inr, ◌++◌}
 use Rattle.std.specs.List.{range_with_len}
 use Rattle.std.specs.Option.{option_map}
@@ -12,7 +12,7 @@ use Rattle.tiles.proofs.TileOrder.{index_in-place_in, place_in-index_in}
 use Rattle.flow.specs.TileFlow.{Flow, directed_by}
 use Rattle.flow.specs.TileLinks.{where_data, through_list, exits_by}
 use Rattle.flow.specs.RimGraph.{Outlets, listed_outlet}
-use Rattle.flow.specs.Numbering.{EndNumbers, IsExitOfTile, number_at, label_by}
+use Rattle.flow.specs.Numbering.{EndNumbers, IsExitOfTile, number_at, exit_number_by}
 use Rattle.std.proofs.Math.Nat.{suc-mul}
 use Rattle.std.proofs.lemmas.Nat.{div-mul-add, mod-mul-add}
 use Rattle.terrain.proofs.Places.{make_place, same_place, entry-inside}
@@ -53,21 +53,21 @@ module _ (o : Outlets) (flows : List Flow) (n : EndNumbers) (b : Bounds) where
   exit_placed exit (Some e) q at some is =
       subst (λ (p : Place). IsExitOfTile o flows n b p) (sym (place_in-index_in b e is.inside) ∙ ap (place_in b) (sym (same_Some exit (index_in b e) some)) ∙ sym at) is
 
-  pub label_own : (i exit : ℕ) (x : Option Place) → Some exit ≡ option_map (index_in b) x → exit ≡ i → IfSome x (IsExitOfTile o flows n b) →
-      number_at o.cutting.cols n (listed_outlet o flows (place_in b exit)) ≡ label_by o flows n b i x
-  label_own i exit None some own is = absurd (none-some exit (sym some))
-  label_own i exit (Some e) some own is =
+  pub exit_number_own : (i exit : ℕ) (x : Option Place) → Some exit ≡ option_map (index_in b) x → exit ≡ i → IfSome x (IsExitOfTile o flows n b) →
+      number_at o.cutting.cols n (listed_outlet o flows (place_in b exit)) ≡ exit_number_by o flows n b i x
+  exit_number_own i exit None some own is = absurd (none-some exit (sym some))
+  exit_number_own i exit (Some e) some own is =
       let at : exit ≡ index_in b e = same_Some exit (index_in b e) some in
       ap (λ (p : Place). number_at o.cutting.cols n (listed_outlet o flows p)) (ap (place_in b) at ∙ place_in-index_in b e is.inside)
       ∙ sym (cond-true {A = ℕ} _ (number_at o.cutting.cols n (listed_outlet o flows e)) 0 (eq-eqb (index_in b e) i (sym at ∙ own)))
 
-  pub label_none : (i : ℕ) (x : Option Place) → None ≡ option_map (index_in b) x → 0 ≡ label_by o flows n b i x
-  label_none i None none = refl
-  label_none i (Some e) none = absurd (none-some (index_in b e) none)
+  pub exit_number_none : (i : ℕ) (x : Option Place) → None ≡ option_map (index_in b) x → 0 ≡ exit_number_by o flows n b i x
+  exit_number_none i None none = refl
+  exit_number_none i (Some e) none = absurd (none-some (index_in b e) none)
 
-  pub label_other : (i exit : ℕ) (x : Option Place) → Some exit ≡ option_map (index_in b) x → (exit ≡ i → ⊥) → 0 ≡ label_by o flows n b i x
-  label_other i exit None some other = refl
-  label_other i exit (Some e) some other =
+  pub exit_number_other : (i exit : ℕ) (x : Option Place) → Some exit ≡ option_map (index_in b) x → (exit ≡ i → ⊥) → 0 ≡ exit_number_by o flows n b i x
+  exit_number_other i exit None some other = refl
+  exit_number_other i exit (Some e) some other =
       sym (cond-false {A = ℕ} _ (number_at o.cutting.cols n (listed_outlet o flows e)) 0 (ne_eqb (index_in b e) i (λ own. other (same_Some exit (index_in b e) some ∙ own))))
 
 -- The place at an index, by its row and column.

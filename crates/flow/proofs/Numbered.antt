@@ -19,12 +19,12 @@ use Rattle.flow.specs.Counts.{IsValueAt}
 use Rattle.flow.specs.TileFlow.{Flow, exit_in, IsTileExits, IsExitOf, IsExitCell}
 use Rattle.flow.specs.Whole.{is_outlet_code, make_directed}
 use Rattle.flow.specs.RimGraph.{AreFlowsOf, AreOutlets, Outlets, listed_outlet}
-use Rattle.flow.specs.Numbering.{EndNumbers, end_number, outlet_numbers, IsNumbering, IsReady, AreReady, IsExitOfTile, number_at, label_by, labels_by, label_at, cell_numbers_by}
+use Rattle.flow.specs.Numbering.{EndNumbers, end_number, outlet_numbers, IsNumbering, IsReady, AreReady, IsExitOfTile, number_at, exit_number_by, exit_numbers_by, cell_number, cell_numbers_by}
 use Rattle.flow.proofs.Coded.{IsCoded, cases_coded, coded_along, coded_inside}
 use Rattle.flow.proofs.Piece.{match_none, match_some}
 use Rattle.flow.proofs.RimFlows.{within_of, last_same, exit_in_tile, exit_of_exit}
 
--- An outlet's number is below the mark of NODATA.
+-- An outlet's number is below `uncounted`, the stored count of NODATA.
 pub outlet_number_few : (codes : List (Option ℕ)) → length codes ≤ 4096 * 4096 → (i : ℕ) → (outlet_numbers codes).number i < uncounted
 outlet_number_few codes few i =
     let before = take i codes in
@@ -61,7 +61,7 @@ module _ (d : Directed) (t : Cutting) (flows : List Flow) (o : Outlets) (n : End
       omega (arith, last_below e is, ap (λ cols. index_of cols (last_of d e)) same_cols) in
       subst (λ (x : Option Place). IfSome x (λ q. index_of o.cutting.cols q < n.cells)) (sym (s.are_outlets.outlets e cell)) below
 
-  -- The number of each data cell is below the mark of NODATA.
+  -- The number of each data cell is below `uncounted`, the stored count of NODATA.
   number_few : (p : Place) → IsCoded d p → end_number d n p < uncounted
   number_few p is = s.few (index_of d.cols (last_of d p)) (last_below p is)
 
@@ -123,32 +123,32 @@ module _ (d : Directed) (t : Cutting) (flows : List Flow) (o : Outlets) (n : End
       ];
     }
 
-    -- The label at a cell's exit is the number of the end of the cell's flow path.
-    label_is : (p : Place) → IsCoded d p → (h : Has p) → get_or (labels_by o flows n f) (index_in f.bounds h.exit) 0 ≡ end_number d n p
-    label_is p is h =
+    -- The exit number at a cell's exit is the number of the end of the cell's flow path.
+    exit_number_is : (p : Place) → IsCoded d p → (h : Has p) → get_or (exit_numbers_by o flows n f) (index_in f.bounds h.exit) 0 ≡ end_number d n p
+    exit_number_is p is h =
         let own = has_exit h.exit h.inside h.coded in
         let listed : get_or f.exits (index_in f.bounds h.exit) None ≡ Some h.exit = own.listed ∙ ap Some (exit_of_exit d t flows s.are_flows h.exit own.exit (h.leads).4 own.leads) in
-        get_or-map-range_with_len (λ i. label_by o flows n f.bounds i (get_or f.exits i None)) 0 (length f.exits) (index_in f.bounds h.exit) (index_in f.bounds h.exit) 0 (index_few h.exit h.inside) (omega arith)
-        ∙ ap (label_by o flows n f.bounds (index_in f.bounds h.exit)) listed
+        get_or-map-range_with_len (λ i. exit_number_by o flows n f.bounds i (get_or f.exits i None)) 0 (length f.exits) (index_in f.bounds h.exit) (index_in f.bounds h.exit) 0 (index_few h.exit h.inside) (omega arith)
+        ∙ ap (exit_number_by o flows n f.bounds (index_in f.bounds h.exit)) listed
         ∙ cond-true {A = ℕ} _ (number_at o.cutting.cols n (listed_outlet o flows h.exit)) 0 (eq-eqb _ _ refl)
         ∙ ap (number_at o.cutting.cols n) (s.are_outlets.outlets h.exit (h.leads).4)
         ∙ number_of_last h.exit
         ∙ ap (λ (q : Place). n.number (index_of d.cols q)) (last_same d t flows s.are_flows p h.exit (h.leads).0 is (h.leads).3)
 
-    -- The number at each place is that of the end of its flow path.
-    pub entry_numbered : (values : List (Option ℕ)) → values ≡ cell_numbers_by f.bounds (labels_by o flows n f) f.exits → (p : Place) → IsInTile t tile p → IsValueAt d (end_number d n) p (tile_entry t tile values p)
+    -- The value at each place is the number of the end of its flow path.
+    pub entry_numbered : (values : List (Option ℕ)) → values ≡ cell_numbers_by f.bounds (exit_numbers_by o flows n f) f.exits → (p : Place) → IsInTile t tile p → IsValueAt d (end_number d n) p (tile_entry t tile values p)
     entry_numbered values made p i =
-        let entry : tile_entry t tile values p ≡ label_at f.bounds (labels_by o flows n f) (get_or f.exits (index_in f.bounds p) None) =
+        let entry : tile_entry t tile values p ≡ cell_number f.bounds (exit_numbers_by o flows n f) (get_or f.exits (index_in f.bounds p) None) =
         tile_entry-in t tile values p i
         ∙ ap (λ (b : Bounds). get_or values (index_in b p) None) (sym right.bounds)
         ∙ ap (λ (l : List (Option ℕ)). get_or l (index_in f.bounds p) None) made
-        ∙ get_or-map-range_with_len (λ i. label_at f.bounds (labels_by o flows n f) (get_or f.exits i None)) 0 (length f.exits) (index_in f.bounds p) (index_in f.bounds p) None (index_few p i) (omega arith) in
+        ∙ get_or-map-range_with_len (λ i. cell_number f.bounds (exit_numbers_by o flows n f) (get_or f.exits i None)) 0 (length f.exits) (index_in f.bounds p) (index_in f.bounds p) None (index_few p i) (omega arith) in
         elim (cases_coded d p) [
-          | inl none ↦ match_none (code_at d p) _ _ none (entry ∙ ap (label_at f.bounds (labels_by o flows n f)) (no_exit p i none))
+          | inl none ↦ match_none (code_at d p) _ _ none (entry ∙ ap (cell_number f.bounds (exit_numbers_by o flows n f)) (no_exit p i none))
           | inr is ↦
               let h = has_exit p i is in
-              match_some (code_at d p) _ _ is.code is.is (entry ∙ ap (label_at f.bounds (labels_by o flows n f)) h.listed
-              ∙ ap stored_count (label_is p is h) ∙ stored_count_some (end_number d n p) (number_few p is))
+              match_some (code_at d p) _ _ is.code is.is (entry ∙ ap (cell_number f.bounds (exit_numbers_by o flows n f)) h.listed
+              ∙ ap stored_count (exit_number_is p is h) ∙ stored_count_some (end_number d n p) (number_few p is))
         ]
 
   pub ready : AreReady t flows o n

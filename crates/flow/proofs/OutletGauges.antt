@@ -20,12 +20,12 @@ use Rattle.flow.specs.Streams.{sum_below}
 use Rattle.flow.specs.Whole.{is_outlet_code}
 use Rattle.flow.proofs.CutPaths.{cases_first, position_none}
 use Rattle.flow.proofs.Coded.{IsCoded, outlet_stays, follow_stays}
-use Rattle.flow.proofs.Gathering.{cell}
+use Rattle.flow.proofs.DrainedCells.{cell}
 use Rattle.flow.proofs.Reaching.{IsEnding, cell_back, cell_below, reached_early}
 use Rattle.flow.proofs.Sums.{sum_more}
 use Rattle.flow.proofs.Windows.{whole_bounds}
 
--- The places of a grid, by row-order index.
+-- The list of a grid's places, from lists of its rows.
 map_ranges : {X : Type 0} (f : ℕ → X) (a n m : ℕ) → map f (range_with_len a n) ++ map f (range_with_len (a + n) m) ≡ map f (range_with_len a (n + m))
 map_ranges f a zero m =
     let z : a + 0 ≡ a = omega arith in

@@ -17,7 +17,7 @@ use Rattle.flow.specs.TileFlow.{Flow, directed_by, through_in, through_of, IsExi
 use Rattle.flow.specs.TileLinks.{link_by, AreTileCodes, IsSmall, links_by, weights_by, where_data, through_list, ends_by, rim_ends_by, exits_by, flow_by, AreFlowLists}
 use Rattle.flow.proofs.Totals.{total_is}
 use Rattle.flow.proofs.Reaching.{IsEnding, ending_of}
-use Rattle.flow.proofs.Gathering.{all_gathered, gathered_few, through_is as gathered_through}
+use Rattle.flow.proofs.DrainedCells.{all_drained_inside, drained_inside_few, through_is as drained_inside_through}
 use Rattle.flow.proofs.Coded.{IsCoded, cases_coded}
 use Rattle.flow.proofs.InTile.{AreTileLinks, AreTileWeights, IsPiece, tile_streams, exit_is}
 use Rattle.flow.proofs.TileTotals.{own_totals}
@@ -59,7 +59,7 @@ module _ (b : Bounds) (cells : List (Option ℕ)) (links upstream rim_ends : Lis
   pub end_listed : (i : ℕ) → i < length cells → end_of links i ≡ get_or (ends_by links) i 0
   end_listed i h = sym ((ends_are links).each i (omega (arith, h, as_many_links)))
 
-  -- The ends by a flow's codes are the ends by its links.
+  -- Ends of paths along the links of a flow's codes are ends of paths along its list of links.
   pub ends_seen : (f : Flow) → flow_by b cells upstream (ends_by links) ≡ f → (ends : List ℕ) → AreEnds (links_by f.bounds f.codes) ends → AreEnds links ends
   ends_seen f seen ends are =
       subst (λ (l : List ℕ). AreEnds l ends) (sym s.linked) (subst (λ (z : Flow). AreEnds (links_by z.bounds z.codes) ends) (sym seen) are)
@@ -92,7 +92,7 @@ match_none {X} o P Q e p = subst (λ (z : Option X). MatchOption z P Q) (sym e) 
 pub match_some : {X : Type 0} (o : Option X) (P : Type 0) (Q : X → Type 0) (x : X) → o ≡ Some x → Q x → MatchOption o P Q
 match_some {X} o P Q x e q = subst (λ (z : Option X). MatchOption z P Q) (sym e) q
 
--- An entry made by `where_data` has its value at data cells only.
+-- An entry made by `where_data` has its value at a data cell, and is `None` at NODATA.
 pub match_data : {X : Type 0} (o : Option ℕ) (x y : X) (entry : Option X) → entry ≡ where_data o x → ((code : ℕ) → o ≡ Some code → x ≡ y) → MatchOption o (entry ≡ None) (λ _. entry ≡ Some y)
 match_data None x y entry e same = e
 match_data (Some code) x y entry e same = e ∙ ap Some (same code refl)
@@ -121,11 +121,11 @@ module _ (v : View (Option ℕ)) (b : Bounds) (cells : List (Option ℕ)) (links
   ending : IsEnding (directed_by v)
   ending = ending_of (directed_by v) v.cutting s.ends s.lawful.cutting (refl, refl)
 
-  total_gathered : (i : ℕ) → i < length links → total links weights i ≡ all_gathered (directed_by v) v.cutting (place_in b i)
-  total_gathered = total_is links weights _ streams (own_totals (directed_by v) ending v.cutting v.tile b links piece weights weighs)
+  total_drained_inside : (i : ℕ) → i < length links → total links weights i ≡ all_drained_inside (directed_by v) v.cutting (place_in b i)
+  total_drained_inside = total_is links weights _ streams (own_totals (directed_by v) ending v.cutting v.tile b links piece weights weighs)
 
   pub fits : (i : ℕ) → i < length links → total links weights i < 2 ^ 32
-  fits i h = omega (arith, total_gathered i h, gathered_few (directed_by v) ending v.cutting (place_in b i))
+  fits i h = omega (arith, total_drained_inside i h, drained_inside_few (directed_by v) ending v.cutting (place_in b i))
 
   pub sizes : length links ≡ length cells
   sizes = piece.made.size ∙ sym s.codes.size
@@ -156,8 +156,8 @@ module _ (v : View (Option ℕ)) (b : Bounds) (cells : List (Option ℕ)) (links
           weighs.each (index_in b p) (index_in_below b p h),
           cond-true {A = ℕ} _ 1 0 (ap (λ (o : Option ℕ). is_some o) there.is),
           up.each (index_in b p) i,
-          total_gathered (index_in b p) i,
-          gathered_through (directed_by v) ending v.cutting (place_in b (index_in b p)) there,
+          total_drained_inside (index_in b p) i,
+          drained_inside_through (directed_by v) ending v.cutting (place_in b (index_in b p)) there,
         )
         ∙ ap (through_of (directed_by v) v.cutting) at
 

@@ -16,7 +16,7 @@ use Rattle.flow.proofs.Windows.{whole_bounds, some_in_range, any_in_range, every
 use Rattle.flow.proofs.Ending.{early_stop}
 use Rattle.flow.proofs.Coded.{IsCoded, coded_along, coded_inside, outlet_stays, follow_stays, follow_more, StopsAt, cycle_stops}
 
--- If the first k moves stay in the tile, so does each place on the way.
+-- If the first k moves from q stay in its tile, each of these moves leads to a place of the tile.
 pub still_at : (d : Directed) (t : Cutting) (q : Place) (k : ℕ) → stays d t q k ≡ true → (l : ℕ) → l ≤ k → tile_of_place t (follow d q l) ≡ tile_of_place t q
 still_at d t q k still l le = eqb-true _ _ (every_in_range (λ j. eqb (tile_of_place t (follow d q j)) (tile_of_place t q)) (k + 1) still l (omega arith))
 
@@ -91,24 +91,24 @@ module _ (d : Directed) (s : IsEnding d) where
   pub drains_from : (c p : Place) → drains_through d p c ≡ true → (k : ℕ) × (follow d c k ≡ p)
   drains_from c p y = let r = some_in_range (λ k. is_place p (follow d c k)) (moves d) y in (r.0, sym (place_is p (follow d c r.0) r.2))
 
-  -- The end of a path of k moves lies in a region, which it enters from outside.
-  pub record Comes (In : Place → Type 0) (q : Place) (k : ℕ) : Type 0 where
+  -- A path of k moves ends in a region, which it entered from outside and has not left since.
+  pub record EntersRegion (In : Place → Type 0) (q : Place) (k : ℕ) : Type 0 where
     pub from : ℕ
     pub before : from < k
     pub outside : In (follow d q from) → ⊥
     pub inside : (l : ℕ) → from < l → l ≤ k → In (follow d q l)
 
   module _ (In : Place → Type 0) where
-    pub cases_comes : ((p : Place) → In p ⊎ (In p → ⊥)) → (q : Place) (k : ℕ) → In (follow d q k) → ((l : ℕ) → l ≤ k → In (follow d q l)) ⊎ Comes In q k
-    cases_comes cases q zero here = inl (λ l le. (let z : 0 ≡ l = omega arith in subst (λ (n : ℕ). In (follow d q n)) z here))
-    cases_comes cases q (suc k) here = elim (cases (follow d q k)) [
+    pub stays_or_enters : ((p : Place) → In p ⊎ (In p → ⊥)) → (q : Place) (k : ℕ) → In (follow d q k) → ((l : ℕ) → l ≤ k → In (follow d q l)) ⊎ EntersRegion In q k
+    stays_or_enters cases q zero here = inl (λ l le. (let z : 0 ≡ l = omega arith in subst (λ (n : ℕ). In (follow d q n)) z here))
+    stays_or_enters cases q (suc k) here = elim (cases (follow d q k)) [
       | inr out ↦ inr (record {
         from = k;
         before = omega arith;
         outside = out;
         inside = λ l lt le. (let z : suc k ≡ l = omega arith in subst (λ (n : ℕ). In (follow d q n)) z here);
       })
-      | inl y ↦ elim (cases_comes cases q k y) [
+      | inl y ↦ elim (stays_or_enters cases q k y) [
         | inl way ↦ inl (λ l le. last l le (λ less. way l less))
         | inr c ↦ inr (record { from = c.from; before = omega (arith, c.before); outside = c.outside; inside = λ l lt le. last l le (λ less. c.inside l lt less) })
       ]
@@ -128,11 +128,11 @@ module _ (d : Directed) (s : IsEnding d) where
         | inl far ↦ out (subst In (sym (follow_stays d q k a (omega arith) (again_stops q is k m (omega arith) same))) (way k some (omega arith)))
       ]
 
-      pub comes_never : (k m : ℕ) → follow d q k ≡ follow d q m → ((l : ℕ) → l ≤ k → In (follow d q l)) → Comes In q m → ⊥
-      comes_never k m same way c = no_return 0 k c.from m (λ l _ le. way l le) (omega arith) (omega arith) c.outside c.before same
+      pub never_enters : (k m : ℕ) → follow d q k ≡ follow d q m → ((l : ℕ) → l ≤ k → In (follow d q l)) → EntersRegion In q m → ⊥
+      never_enters k m same way c = no_return 0 k c.from m (λ l _ le. way l le) (omega arith) (omega arith) c.outside c.before same
 
-      pub comes_once : (k m : ℕ) → follow d q k ≡ follow d q m → (a : Comes In q k) (b : Comes In q m) → a.from ≡ b.from
-      comes_once k m same a b = elim (cases_order a.from b.from) [
+      pub enters_from_one : (k m : ℕ) → follow d q k ≡ follow d q m → (a : EntersRegion In q k) (b : EntersRegion In q m) → a.from ≡ b.from
+      enters_from_one k m same a b = elim (cases_order a.from b.from) [
         | inl e ↦ e
         | inr r ↦ elim r [
           | inl l ↦ absurd (no_return (suc a.from) k b.from m a.inside (omega (arith, a.before)) l b.outside b.before same)
@@ -141,7 +141,7 @@ module _ (d : Directed) (s : IsEnding d) where
       ]
 
   -- A path that reaches p by its last move.
-  abbrev pub one_move : (q p : Place) (a : ℕ) → follow d q (suc a) ≡ p → follow d q a ≢ p → Comes (λ z. z ≡ p) q (suc a)
+  abbrev pub one_move : (q p : Place) (a : ℕ) → follow d q (suc a) ≡ p → follow d q a ≢ p → EntersRegion (λ z. z ≡ p) q (suc a)
   one_move q p a leads apart = record {
     from = a;
     before = omega arith;

@@ -31,7 +31,7 @@ pub outlet_from_code : (o : Option ℕ) → is_outlet_code o ≡ true → o ≡ 
 outlet_from_code None h = cc
 outlet_from_code (Some n) h = ap Some (eqb-true _ _ h)
 
--- A value read from the flow of a place's tile.
+-- A value read from the flow of a place's tile is the value read for the place.
 pub read_of_tile : {X : Type 0} (read : Flow → Option X) (t : Cutting) (flows : List Flow) (p : Place) (tile : ℕ) (flow : Flow) (x : Option X) →
     length flows ≡ tile_count t → tile ≡ tile_of_place t p → tile < tile_count t → flow ≡ get_or flows tile flow → x ≡ read flow → x ≡ option_and_then read (slice_get flows (tile_of_place t p))
 read_of_tile read t flows p tile flow x count at below is value =

@@ -19,8 +19,8 @@ use Rattle.terrain.proofs.Options.{cases_option}
 use Rattle.flow.proofs.Coded.{IsCoded, coded_along, coded_from_some}
 use Rattle.tiles.proofs.RimNumbered.{IsSide, number_below, number_back}
 use Rattle.flow.proofs.RimFlows.{Crosses, within_of, touching, back, target_on, target_from, to_below, links_size, target_listed}
-use Rattle.flow.proofs.Reaching.{drains_at, drains_from, comes_once, one_move, enters, enters_from, enters_at}
-use Rattle.flow.proofs.Gathering.{cell, drained, all_drained, entered, entered_few, inflow_sum, counted_on, counted_off, counted_none}
+use Rattle.flow.proofs.Reaching.{drains_at, drains_from, enters_from_one, one_move, enters, enters_from, enters_at}
+use Rattle.flow.proofs.DrainedCells.{cell, drained, all_drained, entered, entered_few, inflow_sum, counted_on, counted_off, counted_none}
 use Rattle.flow.proofs.RimTotals.{ending, total_drained}
 
 pub sent-none : (t : Cutting) (k : ℕ) (o : Option Place) → sent_to t k o 0 ≡ 0
@@ -65,7 +65,7 @@ module _ (d : Directed) (t : Cutting) (flows : List Flow) (s : AreFlowsOf d t fl
       follow d q a ≡ follow d q b
   enters_once p q is a b c first x second =
       let e = ending d t flows s counts in
-      ap (follow d q) (comes_once d e (λ z. z ≡ p) q is (suc a) (suc b) (first ∙ sym second)
+      ap (follow d q) (enters_from_one d e (λ z. z ≡ p) q is (suc a) (suc b) (first ∙ sym second)
       (one_move d e q p a first (λ z. c.apart (ap (tile_of_place t) (first ∙ sym z)))) (one_move d e q p b second (λ z. x.apart (ap (tile_of_place t) (second ∙ sym z)))))
 
   -- 1 if the water of cell c passes exit i and enters p there, else 0.
@@ -128,7 +128,7 @@ module _ (d : Directed) (t : Cutting) (flows : List Flow) (s : AreFlowsOf d t fl
         ]
   ]
 
-  -- A place not on the rim has inflow 0.
+  -- A place off the rim has inflow 0.
   inflow_none : (p : Place) → rim_place t (rim_number t p) ≢ p → inflow_of d t p ≡ 0
   inflow_none p off = inflow_sum d t p ∙ sum_below-none (λ c. entered d t p (cell d c)) (d.rows * d.cols) (λ c h. elim (cases_Bool (is_some (code_at d (cell d c)))) [
     | inr f ↦ cond-false {A = ℕ} _ 1 0 (and_left _ _ f)

@@ -21,14 +21,14 @@ use Rattle.flow.proofs.Totals.{each_downstream, totals_are, sums_same, leads_par
 use Rattle.terrain.proofs.Options.{cases_option}
 use Rattle.flow.proofs.Coded.{IsCoded, coded_along, coded_from_some, outlet_stays, follow_stays, follow_more, follow_first}
 use Rattle.flow.proofs.RimFlows.{Crosses, Goes, flow_of, within_of, back, target_on, target_from, exit_here, not_outlet, to_below, targets_on, untargeted, links_size, link_at, rim_streams}
-use Rattle.flow.proofs.Reaching.{IsEnding, ending_of, still_at, still_from, reached_early, drains_at, drains_from, Comes, cases_comes, comes_never, comes_once}
-use Rattle.flow.proofs.Gathering.{cell, drained, all_drained, drained_few, gathered, all_gathered, gathered_few, through_is, counted_on, counted_off, counted_none}
+use Rattle.flow.proofs.Reaching.{IsEnding, ending_of, still_at, still_from, reached_early, drains_at, drains_from, EntersRegion, stays_or_enters, never_enters, enters_from_one}
+use Rattle.flow.proofs.DrainedCells.{cell, drained, all_drained, drained_few, drained_inside, all_drained_inside, drained_inside_few, through_is, counted_on, counted_off, counted_none}
 
 module _ (d : Directed) (t : Cutting) (flows : List Flow) (s : AreFlowsOf d t flows) (counts : AreTileCounts d t flows) where
   pub ending : IsEnding d
   ending = ending_of d t s.ends s.cutting s.of_tiles.size
 
-  -- A place where the path of q enters another tile next is its exit e, or is after e.
+  -- If the path of q leaves a tile at place c, then c is the exit e of q or is after e.
   crossing_at : (q e c : Place) → IsExitOf d t q e → (m : ℕ) → follow d q m ≡ c → Crosses d t flows s c →
       (c ≡ e) ⊎ ((k : ℕ) × (k < m) × (follow d q k ≡ e) × (tile_of_place t (next d e) ≢ tile_of_place t e))
   crossing_at q e c x m way cr = elim (cases_lt m x.0) [
@@ -45,7 +45,7 @@ module _ (d : Directed) (t : Cutting) (flows : List Flow) (s : AreFlowsOf d t fl
   ]
 
   -- The weight of an exit is the number of cells of its own tile that it drains.
-  pub weight_targeted : (j : ℕ) (q : Place) → target_by t flows j ≡ Some q → rim_weight t flows j ≡ all_gathered d t (rim_place t j)
+  pub weight_targeted : (j : ℕ) (q : Place) → target_by t flows j ≡ Some q → rim_weight t flows j ≡ all_drained_inside d t (rim_place t j)
   weight_targeted j q e =
       let x = (target_from d t flows s j q e).crosses in
       let w = within_of d t flows s (rim_place t j) x.coded in
@@ -62,7 +62,7 @@ module _ (d : Directed) (t : Cutting) (flows : List Flow) (s : AreFlowsOf d t fl
   pub weight_few : (j : ℕ) → rim_weight t flows j ≤ 16777216
   weight_few j = elim (cases_option (target_by t flows j)) [
     | inl none ↦ omega (arith, weight_untargeted j none)
-    | inr q ↦ omega (arith, weight_targeted j q.0 q.1, gathered_few d ending t (rim_place t j))
+    | inr q ↦ omega (arith, weight_targeted j q.0 q.1, drained_inside_few d ending t (rim_place t j))
   ]
 
   module _ (links : List ℕ) (made : links ≡ rim_links_by t flows) where
@@ -97,18 +97,18 @@ module _ (d : Directed) (t : Cutting) (flows : List Flow) (s : AreFlowsOf d t fl
       term j = cond {A = ℕ} (leads_to links j i) (drained d (rim_place t j) c) 0
 
       term_off : (j : ℕ) → j < number_count t →
-          ((k : ℕ) → follow d c k ≡ rim_place t i → (x : Comes d ending In c k) → follow d c x.from ≡ rim_place t j → rim_number t (rim_place t j) ≡ j → ⊥) → term j ≡ 0
+          ((k : ℕ) → follow d c k ≡ rim_place t i → (x : EntersRegion d ending In c k) → follow d c x.from ≡ rim_place t j → rim_number t (rim_place t j) ≡ j → ⊥) → term j ≡ 0
       term_off j h none = elim (cases_Bool (leads_to links j i)) [
         | inr n ↦ cond-false {A = ℕ} _ _ 0 n
         | inl y ↦ cond-true {A = ℕ} _ _ 0 y ∙ counted_off d c _ (false_from_ne_true _ (λ z. (let m = drains_from d ending c (rim_place t j) z in
             let o = leads_out i j h y in
             let x = target_from d t flows s j o.2 o.3 in
-            comes_over j m.0 m.1 o.0 (sym (back d t flows s o.0.to o.0.crosses) ∙ ap (rim_place t) o.1) x.crosses.apart (λ k at comes from. none k at comes from x.number))))
+            crosses_over j m.0 m.1 o.0 (sym (back d t flows s o.0.to o.0.crosses) ∙ ap (rim_place t) o.1) x.crosses.apart (λ k at comes from. none k at comes from x.number))))
       ]
         where
-          comes_over : (j m : ℕ) → follow d c m ≡ rim_place t j → (g : Goes d t flows s j) → g.to ≡ rim_place t i → tile_of_place t (next d (rim_place t j)) ≢ tile_of_place t (rim_place t j) →
-              ((k : ℕ) → follow d c k ≡ rim_place t i → (x : Comes d ending In c k) → follow d c x.from ≡ rim_place t j → ⊥) → ⊥
-          comes_over j m at g same apart none =
+          crosses_over : (j m : ℕ) → follow d c m ≡ rim_place t j → (g : Goes d t flows s j) → g.to ≡ rim_place t i → tile_of_place t (next d (rim_place t j)) ≢ tile_of_place t (rim_place t j) →
+              ((k : ℕ) → follow d c k ≡ rim_place t i → (x : EntersRegion d ending In c k) → follow d c x.from ≡ rim_place t j → ⊥) → ⊥
+          crosses_over j m at g same apart none =
               let on : (l : ℕ) → follow d c (m + suc l) ≡ follow d (next d (rim_place t j)) l =
               λ l. sym (follow_more d c m (suc l)) ∙ ap (λ (p : Place). follow d p (suc l)) at ∙ sym (follow_first d (rim_place t j) l) in
               let last : follow d (next d (rim_place t j)) g.steps ≡ rim_place t i = follow_first d (rim_place t j) g.steps ∙ g.way ∙ same in
@@ -129,7 +129,7 @@ module _ (d : Directed) (t : Cutting) (flows : List Flow) (s : AreFlowsOf d t fl
           let at : follow d c r.0 ≡ rim_place t i = sym (place_is (rim_place t i) (follow d c r.0) w.0) in
           (r.0, at, λ l le. still_at d t c r.0 w.1 l le ∙ sym (still_at d t c r.0 w.1 r.0 (omega arith)) ∙ ap (tile_of_place t) at)
 
-      parts : drained d (rim_place t i) c ≡ gathered d t (rim_place t i) c + sum_below term (length links)
+      parts : drained d (rim_place t i) c ≡ drained_inside d t (rim_place t i) c + sum_below term (length links)
       parts = elim (cases_Bool (drains_through d (rim_place t i) c)) [
         | inr n ↦ omega (
           arith,
@@ -138,7 +138,7 @@ module _ (d : Directed) (t : Cutting) (flows : List Flow) (s : AreFlowsOf d t fl
           sum_below-none term (length links) (λ j l. term_off j (omega (arith, l, links_size d t flows s links made)) (λ k way _ _ _. false≢true (sym n ∙ drains_at d ending c (rim_place t i) is k way))),
         )
         | inl y ↦ (let m = drains_from d ending c (rim_place t i) y in
-            elim (cases_comes d ending In (λ p. cases_eq (tile_of_place t p) (tile_of_place t (rim_place t i))) c m.0 (ap (tile_of_place t) m.1)) [
+            elim (stays_or_enters d ending In (λ p. cases_eq (tile_of_place t p) (tile_of_place t (rim_place t i))) c m.0 (ap (tile_of_place t) m.1)) [
               | inl way ↦
                   let r = reached_early d ending c (rim_place t i) is m.0 m.1 in
                   omega (
@@ -146,14 +146,14 @@ module _ (d : Directed) (t : Cutting) (flows : List Flow) (s : AreFlowsOf d t fl
                     counted_on d c _ is y,
                     counted_on d c (reaches_inside d t (rim_place t i) c) is (any_in_range (λ k. is_place (rim_place t i) (follow d c k) && stays d t c k) (moves d) r.0 r.1
                         (and_from _ _ (is_place_from (rim_place t i) (follow d c r.0) (sym r.3)) (still_from d t c r.0 (λ l le. way l (omega (arith, le, r.2)) ∙ sym (way 0 (omega arith)))))),
-                    sum_below-none term (length links) (λ j l. term_off j (omega (arith, l, links_size d t flows s links made)) (λ k at x _ _. comes_never d ending In c is m.0 k (m.1 ∙ sym at) way x)),
+                    sum_below-none term (length links) (λ j l. term_off j (omega (arith, l, links_size d t flows s links made)) (λ k at x _ _. never_enters d ending In c is m.0 k (m.1 ∙ sym at) way x)),
                   )
-              | inr x ↦ comes_on y m.0 m.1 x
+              | inr x ↦ from_outside y m.0 m.1 x
             ])
       ]
         where
           -- The exit by which the water enters the tile is linked to i.
-          linked : (k : ℕ) → follow d c k ≡ rim_place t i → (x : Comes d ending In c k) → (cr : Crosses d t flows s (follow d c x.from)) → onward links (rim_number t (follow d c x.from)) ≡ i
+          linked : (k : ℕ) → follow d c k ≡ rim_place t i → (x : EntersRegion d ending In c k) → (cr : Crosses d t flows s (follow d c x.from)) → onward links (rim_number t (follow d c x.from)) ≡ i
           linked k at x cr =
               let coded = coded_along d s.ends c is (suc x.from) in
               let e = exit_here d t flows s (next d (follow d c x.from)) coded in
@@ -167,9 +167,9 @@ module _ (d : Directed) (t : Cutting) (flows : List Flow) (s : AreFlowsOf d t fl
               ] in
               link_on (follow d c x.from) cr coded (subst (λ (p : Place). Crosses d t flows s p) same here.crosses) ∙ ap (rim_number t) (sym same) ∙ here.number
 
-          comes_on : drains_through d (rim_place t i) c ≡ true → (k : ℕ) → follow d c k ≡ rim_place t i → (x : Comes d ending In c k) →
-              drained d (rim_place t i) c ≡ gathered d t (rim_place t i) c + sum_below term (length links)
-          comes_on y k at x =
+          from_outside : drains_through d (rim_place t i) c ≡ true → (k : ℕ) → follow d c k ≡ rim_place t i → (x : EntersRegion d ending In c k) →
+              drained d (rim_place t i) c ≡ drained_inside d t (rim_place t i) c + sum_below term (length links)
+          from_outside y k at x =
               let entry : In (next d (follow d c x.from)) = x.inside (suc x.from) (omega arith) (omega (arith, x.before)) in
               let cr : Crosses d t flows s (follow d c x.from) = record { coded = coded_along d s.ends c is x.from; apart = λ z. x.outside (sym z ∙ entry) } in
               let place : rim_place t (rim_number t (follow d c x.from)) ≡ follow d c x.from = back d t flows s (follow d c x.from) cr in
@@ -177,10 +177,10 @@ module _ (d : Directed) (t : Cutting) (flows : List Flow) (s : AreFlowsOf d t fl
               omega (
                 arith,
                 counted_on d c _ is y,
-                counted_off d c (reaches_inside d t (rim_place t i) c) (false_from_ne_true _ (λ z. (let r = reached z in comes_never d ending In c is r.0 k (r.1 ∙ sym at) r.2 x))),
+                counted_off d c (reaches_inside d t (rim_place t i) c) (false_from_ne_true _ (λ z. (let r = reached z in never_enters d ending In c is r.0 k (r.1 ∙ sym at) r.2 x))),
                 one_term term (length links) (rim_number t (follow d c x.from)) (omega (arith, to_below d t flows s (follow d c x.from) cr, links_size d t flows s links made))
                     (λ j l ne. term_off j (omega (arith, l, links_size d t flows s links made)) (λ m there z at_j number.
-                    ne (sym number ∙ ap (rim_number t) (sym at_j ∙ ap (follow d c) (comes_once d ending In c is m k (there ∙ sym at) z x))))),
+                    ne (sym number ∙ ap (rim_number t) (sym at_j ∙ ap (follow d c) (enters_from_one d ending In c is m k (there ∙ sym at) z x))))),
                 cond-true {A = ℕ} _ (drained d (rim_place t (rim_number t (follow d c x.from))) c) 0 leads,
                 counted_on d c (drains_through d (rim_place t (rim_number t (follow d c x.from))) c) is (drains_at d ending c _ is x.from (sym place)),
               )
@@ -195,17 +195,17 @@ module _ (d : Directed) (t : Cutting) (flows : List Flow) (s : AreFlowsOf d t fl
     over i c j = cond {A = ℕ} (leads_to links j i) (drained d (rim_place t j) (cell d c)) 0
 
     -- All cells that drain through exit i: those of its tile, and those by exits linked to it.
-    tallied : (i : ℕ) (q : Place) → target_by t flows i ≡ Some q → all_drained d (rim_place t i) ≡ all_gathered d t (rim_place t i) + upstream_sum links (λ j. all_drained d (rim_place t j)) i
+    tallied : (i : ℕ) (q : Place) → target_by t flows i ≡ Some q → all_drained d (rim_place t i) ≡ all_drained_inside d t (rim_place t i) + upstream_sum links (λ j. all_drained d (rim_place t j)) i
     tallied i q e = omega (
       arith,
-      sum_below-same (λ c. drained d (rim_place t i) (cell d c)) (λ c. gathered d t (rim_place t i) (cell d c) + sum_below (over i c) (length links)) (d.rows * d.cols) (λ c _. of_cell c),
-      sum_below-add (λ c. gathered d t (rim_place t i) (cell d c)) (λ c. sum_below (over i c) (length links)) (d.rows * d.cols),
+      sum_below-same (λ c. drained d (rim_place t i) (cell d c)) (λ c. drained_inside d t (rim_place t i) (cell d c) + sum_below (over i c) (length links)) (d.rows * d.cols) (λ c _. of_cell c),
+      sum_below-add (λ c. drained_inside d t (rim_place t i) (cell d c)) (λ c. sum_below (over i c) (length links)) (d.rows * d.cols),
       exchange (over i) (d.rows * d.cols) (length links),
       sum_below-same (λ j. sum_below (λ c. over i c j) (d.rows * d.cols)) (λ j. cond {A = ℕ} (leads_to links j i) (all_drained d (rim_place t j)) 0) (length links)
           (λ j _. sym (cond-sum (leads_to links j i) (λ c. drained d (rim_place t j) (cell d c)) (d.rows * d.cols))),
     )
       where
-        of_cell : (c : ℕ) → drained d (rim_place t i) (cell d c) ≡ gathered d t (rim_place t i) (cell d c) + sum_below (over i c) (length links)
+        of_cell : (c : ℕ) → drained d (rim_place t i) (cell d c) ≡ drained_inside d t (rim_place t i) (cell d c) + sum_below (over i c) (length links)
         of_cell c = elim (cases_Bool (is_some (code_at d (cell d c)))) [
           | inl y ↦ parts i q e (cell d c) (coded_from_some d (cell d c) y)
           | inr n ↦ omega (

@@ -41,7 +41,7 @@ leads_test links node i ne = elim (cases_Bool (eqb (onward links node) i)) [
   | inr n ↦ and_left _ _ n ∙ sym n
 ]
 
--- A list after entry k is raised by v.
+-- The entries of a list after entry k was raised by v.
 pub added_at : (xs : List ℕ) (k v i : ℕ) → k < length xs → get_or (set xs k (get_or xs k 0 + v)) i 0 ≡ get_or xs i 0 + cond {A = ℕ} (eqb k i) v 0
 added_at xs k v i h = elim (cases_eq k i) [
   | inl e ↦ omega (
@@ -54,14 +54,14 @@ added_at xs k v i h = elim (cases_eq k i) [
   | inr ne ↦ omega (arith, get_or-set_other xs k i (get_or xs k 0 + v) 0 (λ e. ne (sym e)), cond-false {A = ℕ} _ v 0 (ne_eqb k i ne))
 ]
 
--- Before any node has sent, and after all have.
+-- The state before any node has sent, and the state after all have.
 
 part_le : (a b : Bool) (n : ℕ) → cond {A = ℕ} (a && b) n 0 ≤ cond {A = ℕ} a n 0
 part_le true true n = omega arith
 part_le true false n = omega arith
 part_le false b n = omega arith
 
--- A node's sum so far and its own weight are at most its total.
+-- A node's sum so far, plus its own weight, is at most its total.
 pub upstream_le : (links weights waits upstream : List ℕ) → AreStreams links → IsSending links weights waits upstream →
     (i : ℕ) → i < length links → get_or upstream i 0 + get_or weights i 0 ≤ total links weights i
 upstream_le links weights waits upstream streams s =
@@ -97,7 +97,7 @@ upstream_from links weights waits upstream streams s some = record {
   }) i h);
 }
 
--- 1 if node i has not sent.
+-- 1 if node i has not sent, else 0.
 abbrev pub unsent_one : List ℕ → ℕ → ℕ
 unsent_one waits i = cond {A = ℕ} (has_sent waits i) 0 1
 
@@ -239,7 +239,7 @@ module _ (links weights waits upstream : List ℕ) (few : length links ≤ 2 ^ 3
       closed = new_closed;
     }
 
--- the step of the loop that sends downstream
+-- The step of the loop that sends downstream.
 
 abbrev pub next_waits_list : List ℕ → ℕ → ℕ → List ℕ
 next_waits_list waits node next = set (set waits node sent_mark) next (get_or (set waits node sent_mark) next 0 - 1)

@@ -62,7 +62,7 @@ some_term f (suc n) h = elim (cases_lt 0 (f n)) [
 pub sum_more : (f : ℕ → ℕ) (n : ℕ) → sum_below f (n + 1) ≡ sum_below f n + f n
 sum_more f n = rw add-one refl
 
--- A sum over a + n numbers, in two parts.
+-- A sum over a + n numbers is the sum of its two parts.
 pub sum_below-split : (f : ℕ → ℕ) (a n : ℕ) → sum_below f (a + n) ≡ sum_below f a + sum_below (λ i. f (a + i)) n
 sum_below-split f a zero = ap (sum_below f) (add-zero a) ∙ omega arith
 sum_below-split f a (suc n) =
@@ -76,12 +76,12 @@ sum_below-part f k n le =
     let whole : k + (n - k) ≡ n = omega arith in
     omega (arith, sum_below-split f k (n - k), ap (sum_below f) whole)
 
--- A double sum, in either order.
+-- A double sum is the same in either order.
 pub exchange : (f : ℕ → ℕ → ℕ) (n m : ℕ) → sum_below (λ i. sum_below (f i) m) n ≡ sum_below (λ j. sum_below (λ i. f i j) n) m
 exchange f zero m = sym (sum_below-none (λ j. 0) m (λ j h. refl))
 exchange f (suc n) m = ap (λ k. k + sum_below (f n) m) (exchange f n m) ∙ sym (sum_below-add (λ j. sum_below (λ i. f i j) n) (f n) m)
 
--- A sum with at most one term above 0.
+-- A sum with at most one term above 0 is that term.
 pub one_term : (f : ℕ → ℕ) (n i : ℕ) → i < n → ((j : ℕ) → j < n → j ≢ i → f j ≡ 0) → sum_below f n ≡ f i
 one_term f n i h none = omega (arith, sum_below-except f (λ _. 0) n i h none, sum_below-none (λ _. 0) n (λ j l. refl))
 

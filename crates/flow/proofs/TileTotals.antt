@@ -18,8 +18,8 @@ use Rattle.flow.proofs.Totals.{AreTotals, leads_parts, leads_from}
 use Rattle.flow.proofs.Sending.{and_on}
 use Rattle.flow.proofs.Coded.{IsCoded, coded_from_some, coded_along}
 use Rattle.flow.proofs.InTile.{weight_in, AreTileWeights, IsPiece, cases_bounds, in_place, link_is, link-in, link-out, link_place, coded_within, tile_is}
-use Rattle.flow.proofs.Reaching.{IsEnding, still_at, still_from, reached_early, drains_at, drains_from, Comes, cases_comes, comes_never, comes_once, one_move, enters_from, enters_at}
-use Rattle.flow.proofs.Gathering.{cell, all_drained, all_gathered, entered, inflow_sum, counted_on, counted_off, counted_none}
+use Rattle.flow.proofs.Reaching.{IsEnding, still_at, still_from, reached_early, drains_at, drains_from, EntersRegion, stays_or_enters, never_enters, enters_from_one, one_move, enters_from, enters_at}
+use Rattle.flow.proofs.DrainedCells.{cell, all_drained, all_drained_inside, entered, inflow_sum, counted_on, counted_off, counted_none}
 
 module _ (d : Directed) (e : IsEnding d) (t : Cutting) (tile : ℕ) (b : Bounds) (links : List ℕ) (s : IsPiece d t tile b links) where
   -- A link to another cell is one move of the flow path.
@@ -38,7 +38,7 @@ module _ (d : Directed) (e : IsEnding d) (t : Cutting) (tile : ℕ) (b : Bounds)
   own p q = cond {A = ℕ} (is_some (code_at d q) && is_place p q) 1 0
 
   -- The water of one cell q. T says which moves of its path count, and R which places they reach.
-  -- `over` is what reaches a place from another tile.
+  -- `over` is 1 if a move that counts enters place i from outside the bounds, else 0.
   module _ (q : Place) (is : IsCoded d q) (i : ℕ) (h : i < length links) (R : Place → Bool) (T : ℕ → Type 0) (start : T 0)
       (from : (p : Place) → R p ≡ true → (k : ℕ) × (follow d q k ≡ p) × T k) (at : (p : Place) (k : ℕ) → follow d q k ≡ p → T k → R p ≡ true)
       (less : (k m : ℕ) → m ≤ k → T k → T m) (more : (k : ℕ) → T k → IsInBounds b (follow d q k) → IsInBounds b (follow d q (suc k)) → T (suc k))
@@ -68,9 +68,9 @@ module _ (d : Directed) (e : IsEnding d) (t : Cutting) (tile : ℕ) (b : Bounds)
         sum_below-none term (length links) (λ j l. term_off j l (λ a goes _ far _. false≢true (sym n ∙ at (place_in b i) (suc a) goes far))),
       )
       | inl y ↦ (let r = from (place_in b i) y in
-          elim (cases_comes d e (λ z. z ≡ place_in b i) (λ z. cases_place z (place_in b i)) q r.0 r.1) [
+          elim (stays_or_enters d e (λ z. z ≡ place_in b i) (λ z. cases_place z (place_in b i)) q r.0 r.1) [
             | inl way ↦ (let here : (a : ℕ) → follow d q (suc a) ≡ place_in b i → follow d q a ≢ place_in b i → ⊥ =
-                λ a goes apart. comes_never d e (λ z. z ≡ place_in b i) q is r.0 (suc a) (r.1 ∙ sym goes) way (one_move d e q (place_in b i) a goes apart) in
+                λ a goes apart. never_enters d e (λ z. z ≡ place_in b i) q is r.0 (suc a) (r.1 ∙ sym goes) way (one_move d e q (place_in b i) a goes apart) in
                 omega (
                   arith,
                   counted_on d q (R (place_in b i)) is y,
@@ -82,15 +82,15 @@ module _ (d : Directed) (e : IsEnding d) (t : Cutting) (tile : ℕ) (b : Bounds)
           ])
     ]
       where
-        arrives : R (place_in b i) ≡ true → (k : ℕ) → follow d q k ≡ place_in b i → T k → Comes d e (λ z. z ≡ place_in b i) q k →
+        arrives : R (place_in b i) ≡ true → (k : ℕ) → follow d q k ≡ place_in b i → T k → EntersRegion d e (λ z. z ≡ place_in b i) q k →
             cond {A = ℕ} (is_some (code_at d q) && R (place_in b i)) 1 0 ≡ own (place_in b i) q + over + sum_below term (length links)
         arrives y k way far c =
             let goes : follow d q (suc c.from) ≡ place_in b i = c.inside (suc c.from) (omega arith) (omega (arith, c.before)) in
             let there : T (suc c.from) = less k (suc c.from) (omega (arith, c.before)) far in
             let same : (a : ℕ) → follow d q (suc a) ≡ place_in b i → follow d q a ≢ place_in b i → a ≡ c.from =
-            λ a moves apart. comes_once d e (λ z. z ≡ place_in b i) q is (suc a) k (moves ∙ sym way) (one_move d e q (place_in b i) a moves apart) c in
+            λ a moves apart. enters_from_one d e (λ z. z ≡ place_in b i) q is (suc a) k (moves ∙ sym way) (one_move d e q (place_in b i) a moves apart) c in
             let not_own : is_place (place_in b i) q ≡ false =
-            false_from_ne_true _ (λ z. comes_never d e (λ z. z ≡ place_in b i) q is 0 k (sym (place_is (place_in b i) q z) ∙ sym way)
+            false_from_ne_true _ (λ z. never_enters d e (λ z. z ≡ place_in b i) q is 0 k (sym (place_is (place_in b i) q z) ∙ sym way)
             (λ l le. (let w : l ≡ 0 = omega arith in ap (follow d q) w ∙ sym (place_is (place_in b i) q z))) c) in
             elim (cases_bounds b (follow d q c.from)) [
               | inr out ↦ omega (
@@ -122,7 +122,7 @@ module _ (d : Directed) (e : IsEnding d) (t : Cutting) (tile : ℕ) (b : Bounds)
                   )
             ]
 
-  -- The sum over all cells q of the step for one cell.
+  -- Over all cells: the water at i is its own weight, what enters, and what its donors pass on.
   tallied : (R : Place → Place → Bool) (over : Place → Place → ℕ) (i : ℕ) → i < length links →
       ((q : Place) → IsCoded d q → cond {A = ℕ} (is_some (code_at d q) && R (place_in b i) q) 1 0
       ≡ own (place_in b i) q + over (place_in b i) q + sum_below (λ j. cond {A = ℕ} (leads_to links j i) (cond {A = ℕ} (is_some (code_at d q) && R (place_in b j) q) 1 0) 0) (length links)) →
@@ -195,7 +195,7 @@ module _ (d : Directed) (e : IsEnding d) (t : Cutting) (tile : ℕ) (b : Bounds)
   }
 
   -- Without the inflows, totals count the cells upstream in the tile.
-  pub own_totals : (weights : List ℕ) → AreTileWeights d b weights → AreTotals links weights (λ i. all_gathered d t (place_in b i))
+  pub own_totals : (weights : List ℕ) → AreTileWeights d b weights → AreTotals links weights (λ i. all_drained_inside d t (place_in b i))
   own_totals weights weighed = record {
     each = λ i h. omega (
       arith,

@@ -38,7 +38,7 @@ drained_ending d terrain draining = record {
 pub drained_coded : (d : Drained) → IsDraining d → (p : Place) → IsDataCell d.terrain p → IsCoded (directed_of d) p
 drained_coded d draining p is = coded_from_some (directed_of d) p (draining.same_data p ∙ is)
 
--- The results of the jobs, one for each job in order.
+-- A property of all lists with a result for each job holds of the list that the jobs return.
 pub jobs_gave : {X E : Type 0} (P : ℕ → X → Type 0) (r : Result (Vec X Global) E) (n m : ℕ) (Q : List X → Type 0) → n ≡ m →
     ((outs : List X) → length outs ≡ m → ((k : ℕ) (x : X) → slice_get outs k ≡ Some x → P k x) → Q outs) →
     IfOk r (λ v. vec_len v ≡ n) → IfOk r (λ v. AllGiven P n v.items) → IfOk r (λ v. Q v.items)

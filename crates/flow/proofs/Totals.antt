@@ -59,7 +59,7 @@ sums_le links i f g le =
 pub sums_same : (links : List ℕ) (i : ℕ) (f g : ℕ → ℕ) → ((j : ℕ) → j < length links → leads_to links j i ≡ true → f j ≡ g j) → upstream_sum links f i ≡ upstream_sum links g i
 sums_same links i f g same = omega (arith, sums_le links i f g (λ j l on. omega (arith, same j l on)), sums_le links i g f (λ j l on. omega (arith, same j l on)))
 
--- If f is at most its weight and donors' sum, and g at least, f is at most g.
+-- If f is at most the weight plus the donors' sum of f, and g at least that of g, f is at most g.
 pub totals_le : (links : List ℕ) → AreStreams links → (w f g : ℕ → ℕ) → ((i : ℕ) → i < length links → f i ≤ w i + upstream_sum links f i) →
     ((i : ℕ) → i < length links → w i + upstream_sum links g i ≤ g i) → (i : ℕ) → i < length links → f i ≤ g i
 totals_le links streams w f g low high = each_downstream links streams (λ _ i. f i ≤ g i)

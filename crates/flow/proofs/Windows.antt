@@ -70,7 +70,7 @@ pub all_in_range : (f : ℕ → Bool) (n : ℕ) → ((k : ℕ) → k < n → f k
 all_in_range f n h = list_all-from_AllPass f (range_with_len 0 n)
     (λ k d below. (let l : k < n = omega (arith, below, length-range_with_len 0 n) in ap f (number_at n k d l) ∙ h k l))
 
--- The list of f over a range, with one more entry.
+-- The list of f over a range one longer is the list with one more entry.
 pub mapped_next : {X : Type 0} (f : ℕ → X) (n : ℕ) → map f (range_with_len 0 (n + 1)) ≡ map f (range_with_len 0 n) ++ f n ∷ []
 mapped_next f n = map-range_with_len_more f 0 n n (omega arith)
 
@@ -80,7 +80,7 @@ mapped_pushed f n xs ys x made here pushed = pushed ∙ ap (λ l. l ++ x ∷ [])
 pub mapped_all : {X : Type 0} (f : ℕ → X) (n m : ℕ) (xs : List X) → xs ≡ map f (range_with_len 0 n) → n ≡ m → xs ≡ map f (range_with_len 0 m)
 mapped_all f n m xs made all = made ∙ ap (λ k. map f (range_with_len 0 k)) all
 
--- Entries of f pushed one by one.
+-- A list of the first values of f remains one, when the next value is appended.
 pub each_pushed : (f : ℕ → ℕ) (n : ℕ) (xs ys : List ℕ) (x : ℕ) → length xs ≡ n → ((k : ℕ) → k < length xs → get_or xs k 0 ≡ f k) → x ≡ f n → ys ≡ xs ++ x ∷ [] → (k : ℕ) → k < length ys → get_or ys k 0 ≡ f k
 each_pushed f n xs ys x size each here pushed k h =
     below_more (λ i. get_or ys i 0 ≡ f i) n

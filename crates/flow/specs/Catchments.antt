@@ -38,7 +38,7 @@ AreCatchments d gauges values = IsMapOf d (catchment d gauges) values
 abbrev pub outlets : Directed → List Place
 outlets d = filter (λ p. option_map_or (λ c. c == 0) (code_at d p) false) (places d.cols d.rows)
 
--- The fault of a gauge, by that of a sink at its place.
+-- The fault of a gauge, from the fault of a sink at its place.
 abbrev pub fault_of_gauge : SinkFault → GaugeFault
 fault_of_gauge (sink.Outside i) = Outside i
 fault_of_gauge (sink.OnNodata i) = OnNodata i

@@ -43,7 +43,7 @@ pub record IsCountable (inflows : Inflows) (tile : ℕ) (f : Flow) : Type 0 wher
   pub streams : AreStreams (links_by f.bounds f.codes)
   pub few_enter : (p : Place) → IsInBounds (bounds_of inflows.cutting tile) p →
       listed_inflow inflows p < 2 ^ 31
-  pub few_come : (weights : List ℕ) →
+  pub totals_fit : (weights : List ℕ) →
       AreRimWeights inflows (bounds_of inflows.cutting tile) f.codes weights →
       (i : ℕ) → i < length f.codes → total (links_by f.bounds f.codes) weights i < 2 ^ 32
 

@@ -13,7 +13,7 @@ abbrev pub HaveCodes : ℕ → ℕ → List (Option ℕ) → List Place → Type
 HaveCodes cols rows codes gauges =
     (p : Place) → list_any (is_place p) gauges ≡ true → IsSome (entry_at cols rows codes p)
 
--- In `cut` each gauge is an outlet, and any other place has its code.
+-- In `cut` each gauge is an outlet, and any other place has its code of `codes`.
 pub record AreCutCodes (cols rows : ℕ) (codes : List (Option ℕ)) (gauges : List Place)
     (cut : List (Option ℕ)) : Type 0 where
   pub size : length cut ≡ length codes

@@ -1,4 +1,4 @@
--- Numbers of the cells where flow paths end, and the numbers they give to a tile's cells.
+-- Numbers of the cells where flow paths end, and the numbers that a tile's cells get from them.
 -- Private.
 use Rattle.std.specs.Prelude.{◌≡◌, ℕ, ◌+◌, ◌*◌, ◌<◌, ◌==◌, if◌then◌else◌, List, map, length, take, count_by, Option, None, Some, IfSome, slice_get, slice_index, slice_index_or}
 use Rattle.std.specs.List.{range_with_len}
@@ -69,23 +69,23 @@ abbrev pub number_at : ℕ → EndNumbers → Option Place → ℕ
 number_at cols n None = 0
 number_at cols n (Some outlet) = n.number (index_of cols outlet)
 
--- The label at index i: the number of an exit's outlet if the exit has index i, 0 otherwise.
-abbrev pub label_by : Outlets → List Flow → EndNumbers → Bounds → ℕ → Option Place → ℕ
-label_by outlets flows n b i None = 0
-label_by outlets flows n b i (Some e) =
+-- The exit number at index i: the number of an exit's outlet if the exit has index i, else 0.
+abbrev pub exit_number_by : Outlets → List Flow → EndNumbers → Bounds → ℕ → Option Place → ℕ
+exit_number_by outlets flows n b i None = 0
+exit_number_by outlets flows n b i (Some e) =
     if index_in b e == i then number_at outlets.cutting.cols n (listed_outlet outlets flows e)
     else 0
 
-abbrev pub labels_by : Outlets → List Flow → EndNumbers → Flow → List ℕ
-labels_by outlets flows n f =
-    map (λ i. label_by outlets flows n f.bounds i (slice_index_or f.exits i None))
+abbrev pub exit_numbers_by : Outlets → List Flow → EndNumbers → Flow → List ℕ
+exit_numbers_by outlets flows n f =
+    map (λ i. exit_number_by outlets flows n f.bounds i (slice_index_or f.exits i None))
     (range_with_len 0 (length f.exits))
 
--- The number of a cell: the label at the index of its exit.
-abbrev pub label_at : Bounds → List ℕ → Option Place → Option ℕ
-label_at b labels None = None
-label_at b labels (Some e) = stored_count (slice_index labels (index_in b e))
+-- The number of a cell: the exit number at the index of its exit.
+abbrev pub cell_number : Bounds → List ℕ → Option Place → Option ℕ
+cell_number b by_exit None = None
+cell_number b by_exit (Some e) = stored_count (slice_index by_exit (index_in b e))
 
 abbrev pub cell_numbers_by : Bounds → List ℕ → List (Option Place) → List (Option ℕ)
-cell_numbers_by b labels exits =
-    map (λ i. label_at b labels (slice_index_or exits i None)) (range_with_len 0 (length exits))
+cell_numbers_by b by_exit exits =
+    map (λ i. cell_number b by_exit (slice_index_or exits i None)) (range_with_len 0 (length exits))

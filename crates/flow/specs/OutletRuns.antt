@@ -17,7 +17,7 @@ pub record AreCodeRuns (r : CodeRuns) : Type 0 where
   pub some : 0 < r.run_length
   pub short : r.run_length ≤ 2 ^ 32
 
--- The length of a run where runs share all blocks of 16 codes evenly: at least one block.
+-- The length of a run, if runs share all groups of 16 codes evenly: at least one group.
 abbrev pub run_share : ℕ → ℕ → ℕ
 run_share codes runs = max 1 (div_ceil (div_ceil codes 16) runs) * 16
 
@@ -28,7 +28,7 @@ run_start r k = min (k * r.run_length) (length r.codes)
 abbrev pub run_codes : CodeRuns → ℕ → List (Option ℕ)
 run_codes r k = slice_range r.codes (run_start r k) (run_start r (k + 1))
 
--- The counts are the outlets before each block of 16 codes of the run, and in the whole run.
+-- The counts are the outlets before each group of 16 codes of the run, and in the whole run.
 pub record IsRunCounted (run : List (Option ℕ)) (counts : RunCounts) : Type 0 where
   pub enough : length run ≤ length counts.before.items * 16
   pub each : (k : ℕ) → k < length counts.before.items →

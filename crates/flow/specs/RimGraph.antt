@@ -82,7 +82,7 @@ rim_link t flows i =
 abbrev pub rim_links_by : Cutting → List Flow → List ℕ
 rim_links_by t flows = map (rim_link t flows) (range_with_len 0 (number_count t))
 
--- The outlet of an exit into another tile: in the tile that the last such exit downstream enters.
+-- The outlet of the water at a rim number: in the tile that the last exit on its path leads into.
 abbrev pub rim_outlet : Cutting → List Flow → List ℕ → ℕ → Option Place
 rim_outlet t flows ends i = option_and_then
     (λ _. option_and_then (λ q. exit_by t flows q) (target_by t flows (slice_index ends i)))

@@ -1,16 +1,16 @@
--- Sums on their way along links: a node sends its sum once all its donors have sent theirs.
+-- Sums sent along links: a node sends its sum once all its donors have sent theirs.
 -- Private.
 use Rattle.std.specs.Prelude.{◌≡◌, ℕ, ◌+◌, ◌<◌, Bool, true, false, not, ◌&&◌, ◌==◌, if◌then◌else◌, List, length, slice_index}
 use Rattle.flow.specs.Streams.{leads_to, sum_below}
 
--- The count of a node that has sent.
+-- The entry in `waits` of a node that has sent.
 abbrev pub sent_mark : ℕ
 sent_mark = 4294967295
 
 abbrev pub has_sent : List ℕ → ℕ → Bool
 has_sent waits i = slice_index waits i == sent_mark
 
--- 1 if node j is a donor of node i, another node linked to it; 0 otherwise.
+-- 1 if node j is a donor of node i, that is another node linked to i; 0 otherwise.
 abbrev pub donor : List ℕ → ℕ → ℕ → ℕ
 donor links i j = if leads_to links j i then 1 else 0
 
@@ -24,7 +24,7 @@ sent_on links weights waits upstream i j =
     if leads_to links j i && has_sent waits j then slice_index upstream j + slice_index weights j
     else 0
 
--- A node's sum is what its donors have sent; until it sends, its count is the donors yet to send.
+-- A node's sum is what its donors have sent. Until it sends, `waits` has its donors yet to send.
 pub record IsSending (links weights waits upstream : List ℕ) : Type 0 where
   pub waits_size : length waits ≡ length links
   pub upstream_size : length upstream ≡ length links

@@ -40,11 +40,11 @@ total_within links weights zero i = 0
 total_within links weights (suc k) i =
     slice_index weights i + upstream_sum links (total_within links weights k) i
 
--- The sum of the weights of all nodes whose paths hold node i, itself included.
+-- The sum of the weights of all nodes whose paths contain node i, node i included.
 abbrev pub total : List ℕ → List ℕ → ℕ → ℕ
 total links weights i = total_within links weights (length links) i
 
--- The sums upstream of nodes: each with the node's own weight is the node's total.
+-- The sums upstream of nodes. Each, plus the node's own weight, is the node's total.
 pub record AreUpstream (links weights upstream : List ℕ) : Type 0 where
   pub size : length upstream ≡ length links
   pub each : (i : ℕ) → i < length links →

@@ -9,11 +9,11 @@ use Rattle.tiles.specs.Cutting.{Cutting, View, longest_axis, tile_of_place, tile
 use Rattle.drainage.specs.Following.{Directed, code_at, next, follow, moves, IsOutlet}
 use Rattle.terrain.specs.Neighbours.{is_place}
 
--- The map of directions that a view shows one tile of.
+-- The map of directions of which a view shows one tile.
 abbrev pub directed_by : View (Option ℕ) → Directed
 directed_by v = record { cols = v.cutting.cols; rows = v.cutting.rows; codes = v.cells }
 
--- The first k moves from p stay in its tile.
+-- The first k moves from p stay in the tile of p.
 abbrev pub stays : Directed → Cutting → Place → ℕ → Bool
 stays d c p k = list_all (λ j. tile_of_place c (follow d p j) == tile_of_place c p)
     (range_with_len 0 (k + 1))

@@ -40,7 +40,7 @@ fn cut_codes(
 
 /// Returns each cell's catchment: the number of the first gauge on its flow path.
 ///
-/// The flow path includes the cell itself; without a gauge on it the value is 0. A gauge's number
+/// The flow path includes the cell itself. A path without a gauge gives 0. A gauge's number
 /// is its position in the list, from 1. Of entries that name one cell the first counts.
 ///
 /// Cells are numbered by the ends of flow paths in a copy of the codes, where gauges are outlets.
@@ -50,8 +50,8 @@ fn cut_codes(
 ///
 /// The first of these: [`GaugeFault::TooManyGauges`] for more than 1,024 entries, repeats counted;
 /// [`GaugeFault::Outside`] or [`GaugeFault::OnNodata`] for the first gauge outside the grid or
-/// without data; [`GaugeFault::Jobs`] for workers not from 1 to 64, or a want of memory or of a
-/// thread.
+/// without data; [`GaugeFault::Jobs`] if `workers` is 0 or above 64, memory runs out, or a thread
+/// cannot be started.
 ///
 /// # Examples
 ///

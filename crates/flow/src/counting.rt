@@ -56,7 +56,7 @@ impl<'a> TileMap for Counting<'a> {
     }
 }
 
-/// Returns each cell's accumulation: how many other cells' flow paths hold it.
+/// Returns each cell's accumulation: how many other cells' flow paths contain it.
 /// Each tile has two jobs: one finds its flow, and a later one its accumulations.
 ///
 /// # Errors
@@ -111,13 +111,13 @@ fn tile_counts(
     ensures { IfOk result (λ v. AreCounts inflows.now tile flow.now v.items) }
 {
     let codes = flow.codes();
-    let weights = rim_weights(alloc, inflows, tile, codes)?;
+    let weights = weights_with_inflows(alloc, inflows, tile, codes)?;
     let upstream = upstream_weights(alloc, flow.links(), &weights)?;
     counts(alloc, codes, &weights, &upstream)
 }
 
 /// Returns each cell's weight: its inflow, plus 1 for a data cell.
-fn rim_weights(
+fn weights_with_inflows(
     alloc: Global,
     inflows: &Inflows,
     tile: u32,
@@ -135,7 +135,7 @@ fn rim_weights(
     Ok(weights)
 }
 
-/// Returns each data cell's weight plus the weights upstream, less 1 for the cell.
+/// Returns each data cell's weight plus the weights upstream, less 1 for itself.
 #[tactic(auto, using(crate::proofs::Windows::mapped_next))]
 fn counts(
     alloc: Global,

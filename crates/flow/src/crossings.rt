@@ -16,7 +16,7 @@ use std::alloc::{AllocError, Global};
 use terrain::Place;
 use tiles::{Bounds, Tiling};
 
-/// For each rim number, the place its water enters and the number of the next exit.
+/// For each rim number, the place that its water enters and the next exit's number.
 /// A number without a next exit is linked to itself.
 #[derive(Drop)]
 pub(crate) struct Crossings {
@@ -117,7 +117,7 @@ fn rim_targets(
     Ok(targets)
 }
 
-/// Returns the number of the next exit downstream, or `number` without one.
+/// Returns the rim number of the next exit downstream, or `number` without one.
 fn link_of(tiling: &Tiling, flows: &[TileFlow], targets: &[Option<Place>], number: u32) -> u32
     requires flows { (d : Directed) × AreFlowsOf d tiling.now flows.now }
     requires targets { targets.now ≡ targets_by tiling.now flows.now }

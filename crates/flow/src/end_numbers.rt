@@ -2,7 +2,7 @@
 ghost use Rattle.std.specs.Prelude.{◌≡◌, ◌<◌};
 ghost use Rattle.flow.specs.Numbering.{EndNumbers};
 
-/// Numbers for the cells of a grid where flow paths end. Threads share them.
+/// Gives a number to each cell of a grid where flow paths end. Threads share it.
 pub(crate) trait EndNumbering {
     // The number of each cell.
     ghost numbers: { Self → EndNumbers };

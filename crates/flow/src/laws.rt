@@ -28,7 +28,7 @@ pub fn catchments_of_outlets_are_basins()
         → catchment (directed_of d) (outlets (directed_of d)) p ≡ basin (directed_of d) p }
 {}
 
-/// A gauge appended to the list changes only cells whose flow path meets it.
+/// An appended gauge changes only the catchments of cells that drain through it.
 pub fn gauges_change_cells_upstream_alone()
     ensures { (d : Drained) (gauges : List Place) (g p : Place) →
         drains_through (directed_of d) g p ≡ false

@@ -1,6 +1,6 @@
 //! Flow accumulation and catchments over a map of directions.
 //!
-//! Begin with [`accumulation`], [`basins`] and [`catchments`]. Callers that run their own tiles use
+//! Begin with [`accumulation`], [`basins`] and [`catchments`]. Callers with jobs of their own use
 //! [`tile_flow`] inside tiles and [`RimLinks`] between them. Depends on `drainage` and `tile_maps`.
 //!
 //! Modules, callers first:
@@ -10,7 +10,7 @@
 //! - `catchment`: `catchments`
 //! - `gauges`: faults and numbers of gauges
 //! - `numbering`: numbers cells by the ends of their flow paths
-//! - `end_numbers`: the trait for numbers of these ends
+//! - `end_numbers`: the trait for numbers of cells where paths end
 //! - `flowing`: the flows of all tiles
 //! - `tile`: the flow of one tile
 //! - `cells`: codes, links and weights of a tile

@@ -10,7 +10,7 @@ ghost use Rattle.flow.specs.Streams.{AreEnds};
 ghost use Rattle.flow.specs.Whole.{IsGridFlow, make_directed};
 ghost use Rattle.flow.specs.TileLinks.{links_by};
 ghost use Rattle.flow.specs.RimGraph.{listed_outlet};
-ghost use Rattle.flow.specs.Numbering.{AreReady, IsExitOfTile, end_number, number_at, label_by, labels_by, label_at, cell_numbers_by};
+ghost use Rattle.flow.specs.Numbering.{AreReady, IsExitOfTile, end_number, number_at, exit_number_by, exit_numbers_by, cell_number, cell_numbers_by};
 
 use crate::crossings::Crossings;
 use crate::end_numbers::EndNumbering;
@@ -26,7 +26,7 @@ use tile_jobs::{Gate, JobFault};
 use tile_maps::{Runner, TileMap};
 use tiles::Tiling;
 
-/// Input of the jobs that number cells: flows, outlets of exits, numbers of ends.
+/// Input of the jobs that number cells: flows, outlets of exits, outlet numbers.
 #[derive(Drop)]
 struct Numbering<'a, N: EndNumbering> {
     tiling: &'a Tiling,
@@ -53,8 +53,8 @@ impl<'a, N: EndNumbering> TileMap for Numbering<'a, N> {
     fn tile(&self, alloc: Global, tile: u32) -> Result<Vec<Count>, NoMemory> {
         let flow = &self.flows[tile as usize];
         let ends = flow.ends(alloc)?;
-        let labels = self.exit_labels(alloc, flow, &ends)?;
-        let values = cell_numbers(alloc, flow, &ends, &labels)?;
+        let by_exit = self.exit_numbers(alloc, flow, &ends)?;
+        let values = cell_numbers(alloc, flow, &ends, &by_exit)?;
         Ok(values)
     }
 }
@@ -62,7 +62,7 @@ impl<'a, N: EndNumbering> TileMap for Numbering<'a, N> {
 impl<'a, N: EndNumbering> Numbering<'a, N> {
     /// Returns the number of each exit's outlet at the exit's index, 0 elsewhere.
     #[tactic(auto, using(crate::proofs::Windows::mapped_next))]
-    fn exit_labels(
+    fn exit_numbers(
         &self,
         alloc: Global,
         flow: &TileFlow,
@@ -73,24 +73,24 @@ impl<'a, N: EndNumbering> Numbering<'a, N> {
             (IsExitOfTile self.now.outlets self.now.flows.items (N.numbers self.now.numbers)
             flow.now.bounds) }
         ensures { IfOk result (λ v. v.items
-            ≡ labels_by self.now.outlets self.now.flows.items (N.numbers self.now.numbers)
+            ≡ exit_numbers_by self.now.outlets self.now.flows.items (N.numbers self.now.numbers)
             flow.now) }
     {
-        let mut labels = Vec::with_capacity(alloc, flow.cell_count())?;
+        let mut by_exit = Vec::with_capacity(alloc, flow.cell_count())?;
         for index in 0..flow.cell_count() {
-            labels.push(self.label_of(flow, ends, index))?;
+            by_exit.push(self.exit_number(flow, ends, index))?;
         }
-        Ok(labels)
+        Ok(by_exit)
     }
 
     #[inline(always)]
-    fn label_of(&self, flow: &TileFlow, ends: &[u32], index: usize) -> u32
+    fn exit_number(&self, flow: &TileFlow, ends: &[u32], index: usize) -> u32
         requires ends { AreEnds (links_by flow.now.bounds flow.now.codes) ends.now }
         requires index { index < length flow.now.exits }
         requires exit { IfSome (slice_index_or flow.now.exits index None)
             (IsExitOfTile self.now.outlets self.now.flows.items (N.numbers self.now.numbers)
             flow.now.bounds) }
-        ensures { result ≡ label_by self.now.outlets self.now.flows.items
+        ensures { result ≡ exit_number_by self.now.outlets self.now.flows.items
             (N.numbers self.now.numbers) flow.now.bounds index
             (slice_index_or flow.now.exits index None) }
     {
@@ -147,36 +147,36 @@ pub(crate) fn number_cells<R: Threads + Wait + Sync, G: Gate + Sync, N: EndNumbe
     })
 }
 
-/// Returns each cell's number, which `labels` has at the index of its exit.
+/// Returns each cell's number, which `by_exit` has at the index of its exit.
 #[tactic(auto, using(crate::proofs::Windows::mapped_next))]
 fn cell_numbers(
     alloc: Global,
     flow: &TileFlow,
     ends: &[u32],
-    labels: &[u32],
+    by_exit: &[u32],
 ) -> Result<Vec<Count>, AllocError>
     requires ends { AreEnds (links_by flow.now.bounds flow.now.codes) ends.now }
-    requires size { length labels.now ≡ length flow.now.exits }
+    requires size { length by_exit.now ≡ length flow.now.exits }
     ensures { IfOk result
-        (λ v. v.items ≡ cell_numbers_by flow.now.bounds labels.now flow.now.exits) }
+        (λ v. v.items ≡ cell_numbers_by flow.now.bounds by_exit.now flow.now.exits) }
 {
-    let mut values = Vec::with_capacity(alloc, labels.len())?;
-    for index in 0..labels.len() {
-        values.push(label_at(flow, ends, labels, index))?;
+    let mut values = Vec::with_capacity(alloc, by_exit.len())?;
+    for index in 0..by_exit.len() {
+        values.push(cell_number(flow, ends, by_exit, index))?;
     }
     Ok(values)
 }
 
 #[inline(always)]
-fn label_at(flow: &TileFlow, ends: &[u32], labels: &[u32], index: usize) -> Count
+fn cell_number(flow: &TileFlow, ends: &[u32], by_exit: &[u32], index: usize) -> Count
     requires ends { AreEnds (links_by flow.now.bounds flow.now.codes) ends.now }
-    requires size { length labels.now ≡ length flow.now.exits }
-    requires index { index < length labels.now }
+    requires size { length by_exit.now ≡ length flow.now.exits }
+    requires index { index < length by_exit.now }
     ensures { result
-        ≡ label_at flow.now.bounds labels.now (slice_index_or flow.now.exits index None) }
+        ≡ cell_number flow.now.bounds by_exit.now (slice_index_or flow.now.exits index None) }
 {
     match flow.exit_index(ends, index) {
-        Some(exit) => Count::of(labels[exit as usize]),
+        Some(exit) => Count::of(by_exit[exit as usize]),
         None => Count::no_data(),
     }
 }

@@ -1,6 +1,6 @@
 //! The numbers of outlets, from 1 in row order.
 //!
-//! An outlet's number is 1 plus the number of outlets before it, in earlier runs and in its own.
+//! An outlet's number is 1 plus the outlets in earlier runs of codes and before it in its own run.
 ghost use Rattle.std.specs.Prelude.{◌≡◌, ℕ, ◌+◌, ◌-◌, ◌^◌, ◌<◌, ◌≤◌, length, take, count_by, IfOk};
 ghost use Rattle.std.specs.List.{sum_by};
 ghost use Rattle.tile_jobs.specs.Fault.{RefusesWorkers};

@@ -1,4 +1,4 @@
-//! Counts the outlets of a list of codes, in runs and in blocks of 16 codes.
+//! Counts the outlets of a list of codes, in runs and in groups of 16 codes.
 ghost use Rattle.std.specs.Prelude.{◌≡◌, ◌-◌, ◌*◌, ◌^◌, ◌<◌, ◌≤◌, length, take, count_by, IfOk, if◌then◌else◌};
 ghost use Rattle.flow.specs.Whole.{is_outlet_code};
 ghost use Rattle.flow.specs.OutletRuns.{AreCodeRuns, IsRunCounted, run_share, run_start, run_codes};
@@ -9,8 +9,8 @@ use std::alloc::{AllocError, Global};
 use std::marker::Model;
 use tile_jobs::{JobFault, Work};
 
-/// Codes in a block. A count for each code would take 4 bytes a cell.
-const BLOCK: usize = 16;
+/// The number of codes in a group. A count for each code would take 4 bytes a cell.
+const GROUP: usize = 16;
 
 /// A list of codes, cut into runs of equal length.
 /// The run with the last code may be shorter, and the runs after it are empty.
@@ -31,7 +31,7 @@ impl<'a> Model for Runs<'a> {
 }
 
 impl<'a> Runs<'a> {
-    /// Cuts a list into `count` runs, each of equally many blocks, at least one.
+    /// Cuts a list into `count` runs, each of equally many groups, at least one.
     pub(crate) fn cut(codes: &'a [Option<Code>], count: u32) -> Runs<'a>
         requires few { length codes.now < 2 ^ 32 - 1 }
         requires some { 1 ≤ count }
@@ -40,10 +40,10 @@ impl<'a> Runs<'a> {
         ensures enough { length codes.now ≤ count * result.run_length }
         ensures lawful { AreCodeRuns result }
     {
-        let blocks = codes.len().div_ceil(BLOCK).div_ceil(count as usize).max(1);
+        let groups = codes.len().div_ceil(GROUP).div_ceil(count as usize).max(1);
         Runs {
             codes,
-            length: blocks * BLOCK,
+            length: groups * GROUP,
         }
     }
 
@@ -78,7 +78,7 @@ impl<'a> Runs<'a> {
 /// The counts of outlets in one run of codes.
 #[derive(Drop)]
 pub struct RunCounts {
-    /// For each block of the run, the number of the run's outlets before it.
+    /// For each group of the run, the number of the run's outlets before it.
     pub before: Vec<u32>,
     /// The number of outlets in the run.
     pub total: u32,
@@ -90,13 +90,13 @@ impl RunCounts {
         requires { length run.now < 2 ^ 32 - 1 }
         ensures { IfOk result (IsRunCounted run.now) }
     {
-        let blocks = run.len().div_ceil(BLOCK);
-        let mut before = Vec::with_capacity(alloc, blocks)?;
+        let groups = run.len().div_ceil(GROUP);
+        let mut before = Vec::with_capacity(alloc, groups)?;
         let mut total = 0;
-        for block in 0..blocks {
+        for group in 0..groups {
             before.push(total)?;
-            let from = block * BLOCK;
-            total = count_on(run, from, run.len().min(from + BLOCK), total);
+            let from = group * GROUP;
+            total = count_on(run, from, run.len().min(from + GROUP), total);
         }
         Ok(RunCounts { before, total })
     }
@@ -108,8 +108,8 @@ impl RunCounts {
         requires index { index < length run.now }
         ensures { result ≡ count_by is_outlet_code (take index run.now) }
     {
-        let block = index / BLOCK;
-        count_on(run, block * BLOCK, index, self.before[block])
+        let group = index / GROUP;
+        count_on(run, group * GROUP, index, self.before[group])
     }
 }
 

@@ -17,7 +17,7 @@ use terrain::Place;
 use tiles::Bounds;
 
 /// Returns the cell of a tile with this side number, if there is one.
-/// A cell on two sides has only the first of its numbers; a smaller tile does not use all numbers.
+/// A cell on two sides has only the first number; a tile below the largest does not use all.
 #[inline(always)]
 pub(crate) fn side_cell(largest: Bounds, bounds: Bounds, side: u32) -> Option<Place>
     requires largest { IsWithinLimits largest }

@@ -1,14 +1,14 @@
 //! Sums along links: each node adds its weight to every node downstream.
 //!
-//! A node linked to itself is an end. A node's donors are the other nodes linked to it. Proofs name
-//! the loop of `send_from` by its label.
+//! A node linked to itself is an end. A node's donors are the other nodes linked to it. The loop of
+//! `send_from` has a label, by which proofs name it.
 ghost use Rattle.std.specs.Prelude.{◌≡◌, ◌≢◌, ◌+◌, ◌^◌, ◌<◌, ◌≤◌, ℕ, length, slice_index, IfOk};
 ghost use Rattle.flow.specs.Streams.{AreStreams, AreUpstream, total};
 ghost use Rattle.flow.specs.Sending.{IsSending, AreDonorCounts, AreZeros};
 
 use std::alloc::{AllocError, Global};
 
-/// The count of a node that has sent its sum downstream.
+/// The entry in `waits` of a node that has sent its sum downstream.
 const SENT: u32 = u32::MAX;
 
 /// Returns a list of `len` zeros.

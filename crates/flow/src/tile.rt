@@ -31,8 +31,8 @@ pub struct TileFlow {
     links: Vec<u32>,
     // How many cells of the tile are upstream of each cell; empty in a flow without counts.
     upstream: Vec<u32>,
-    // The index where each rim cell's path ends, by side number. Paths of other cells follow the
-    // links. A cell without data is its own end, for which `where_data` returns `None`.
+    // The index where each rim cell's path ends, by side number. For other cells `end_in` follows
+    // the links. The path of a cell without data ends at once, and `where_data` returns `None`.
     rim_ends: Vec<u32>,
 }
 
@@ -50,7 +50,7 @@ impl Model for TileFlow {
 
 impl TileFlow {
     /// Returns how many other cells' flow paths reach `place` inside the tile.
-    /// `None` outside the tile or without data.
+    /// `None` outside the tile, without data, or in a flow without counts.
     pub fn through(&self, place: Place) -> Option<u32>
         ensures { result ≡ through_in self.now place }
     {
@@ -244,7 +244,7 @@ pub(crate) fn where_data<X: Drop>(code: Option<Code>, value: X) -> Option<X>
     }
 }
 
-/// Returns `number` as the count of a data cell, or the entry of NODATA.
+/// Returns `number` as the count of a data cell, or the `Count` of NODATA.
 #[inline(always)]
 pub(crate) fn count_where_data(code: Option<Code>, number: u32) -> Count
     ensures { number < uncounted → result ≡ where_data code number }

@@ -23,7 +23,7 @@ hides_more r s t x some more h e =
     let is = passed_on (up x) (down x) (up (value_at r t)) (down (value_at r t)) (up (value_at s t)) (down (value_at s t)) r.lines s.lines some more (omega (arith, ints, e)) (omega (arith, ints, h)) in
     sym (true_is_lt (x *ℤ pos s.lines) (value_at s t) (omega (arith, ints, is)))
 
--- A ramp that is not above another hides nothing more.
+-- If ramp r is not above ramp s at a target and hides it, s hides it too.
 pub hides_if_not_above : (r s : Ramp) (t : Target) (x : ℤ) → IsRampAt r t → IsRampAt s t → is_above r s t ≡ false → hides_by r t x ≡ true → hides_by s t x ≡ true
 hides_if_not_above r s t x is_r is_s not = hides_more r s t x is_r.lines.0 is_s.lines.0 (omega (arith, ints, not))
 

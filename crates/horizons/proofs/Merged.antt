@@ -1,4 +1,4 @@
--- A comparison that two targets share holds at all targets between them.
+-- Two ramps that compare alike at two targets do so at all targets between these.
 use Rattle.std.proofs.Common.{◌≡◌, ℕ, ◌+◌, ◌<◌, ◌≤◌, Bool, List, length, get_or, Some, sym, ap, ◌∙◌, arith}
 use Rattle.std.specs.Prelude.{slice_get}
 use Rattle.std.proofs.lemmas.Option.{slice_get-get_or}

@@ -38,7 +38,7 @@ extent_up_to (q ∷ ps) zero i few before = absurd (omega (arith, few))
 extent_up_to (q ∷ ps) (suc k) i few before =
     omega (arith, before 0 q (omega arith) refl, extent_up_to ps k i (omega arith) (λ m z less is. before (suc m) z (omega arith) is))
 
--- A search from a cursor finds the piece of an index below the extent, and later ones after it.
+-- If no piece before piece k ends above an index below the extent, piece k exists.
 pub inside : (ps : List Piece) (k i : ℕ) → AreUpTo ps k i → i < extent ps → k < length ps
 inside ps k i before h = elim (cases_lt k (length ps)) [
   | inl is ↦ is
@@ -69,7 +69,7 @@ reached (p ∷ ps) i h = elim (cases_lt i p.end) [
   | inr later ↦ let rest = reached ps i (omega arith) in (rest.0, ramp_at-later p ps i later ∙ rest.1)
 ]
 
--- One more piece at the end.
+-- After one more piece, the extent is the greater of the old extent and the piece's end.
 added_extent : (ps : List Piece) (p : Piece) → extent (ps ++ p ∷ []) ≡ max (extent ps) p.end
 unfolding extent
 added_extent [] p = omega arith
@@ -95,7 +95,7 @@ pushed ps p = record {
   added = added_new ps p;
 }
 
--- The last piece extended.
+-- If piece p replaces a last piece that ends no later, the extent is max (old extent) p.end.
 longer_extent : (ps : List Piece) (k : ℕ) (p q : Piece) → k + 1 ≡ length ps → slice_get ps k ≡ Some q → q.end ≤ p.end → extent (set ps k p) ≡ max (extent ps) p.end
 unfolding extent
 longer_extent [] k p q last e h = absurd (omega arith)

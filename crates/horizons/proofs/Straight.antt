@@ -10,7 +10,7 @@ use Rattle.horizons.specs.Horizons.{value_at, is_above, IsTarget, IsSlopeUpTo, A
 use Rattle.horizons.specs.declared.target.Target.{Target}
 use Rattle.horizons.specs.declared.ramp.Ramp.{Ramp}
 
--- The positive part of a ramp of gain q - p and level c at a target.
+-- The positive part of a ramp's value at a target: q - p is the gain, c the level's positive part.
 abbrev lead : ℕ → ℕ → ℕ → Target → ℕ
 lead q p c t = q * up t.offset + p * down t.offset + c * t.line
 
@@ -42,7 +42,7 @@ above_if_over r s t h = sym (true_is_lt (value_at s t *ℤ pos r.lines) (value_a
 not_if_not_over : (r s : Ramp) (t : Target) → over r s t ≤ over s r t → is_above r s t ≡ false
 not_if_not_over r s t h = sym (false_is_lt (value_at s t *ℤ pos r.lines) (value_at r t *ℤ pos s.lines) (omega (arith, ints, h, difference r s t)))
 
--- With a gain of at least 0, the difference grows with the slope.
+-- The ramp of gain q - p and level c - e is no higher at target t than at target u.
 abbrev Grows : ℕ → ℕ → ℕ → ℕ → Target → Target → Type 0
 Grows p q c e t u = lead q p c t * u.line + lead p q e u * t.line ≤ lead q p c u * t.line + lead p q e t * u.line
 

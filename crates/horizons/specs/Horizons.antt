@@ -23,11 +23,11 @@ pub record AreTargets (targets : List Target) : Type 0 where
   pub sorted : (i j : ℕ) (s t : Target) → i < j → slice_get targets i ≡ Some s →
       slice_get targets j ≡ Some t → IsSlopeUpTo s t
 
--- The ramp at a target's slope, times the target's line and the ramp's lines.
+-- The ramp's value at a target's slope, times the target's line and the ramp's lines.
 abbrev pub value_at : Ramp → Target → ℤ
 value_at r t = (r.gain *ℤ t.offset) +ℤ (r.level *ℤ pos t.line)
 
--- A ramp hides a target of this rise: at its slope it is above rise / line.
+-- A ramp hides a target of this rise: its value at the target's slope is above rise / line.
 abbrev pub hides_by : Ramp → Target → ℤ → Bool
 hides_by r t rise = int_lt (rise *ℤ pos r.lines) (value_at r t)
 
@@ -66,7 +66,7 @@ pub record IsPushed (old : List Piece) (end : ℕ) (ramp : Ramp) (new : List Pie
   pub kept : (i : ℕ) → i < extent old → ramp_at new i ≡ ramp_at old i
   pub added : (i : ℕ) → extent old ≤ i → i < end → ramp_at new i ≡ Some ramp
 
--- No piece before the k-th ends above the index.
+-- No piece before piece k ends above the index.
 abbrev pub AreUpTo : List Piece → ℕ → ℕ → Type 0
 AreUpTo ps k index = (m : ℕ) (p : Piece) → m < k → slice_get ps m ≡ Some p → p.end ≤ index
 

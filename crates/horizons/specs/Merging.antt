@@ -11,7 +11,7 @@ abbrev pub IsRampOn : List Target → Ramp → ℕ → ℕ → Type 0
 IsRampOn targets r from end =
     (i : ℕ) (t : Target) → from ≤ i → i < end → slice_get targets i ≡ Some t → IsRampAt r t
 
--- Ramp r is above ramp s at all targets from `from` up to `end` if b is true, at none if false.
+-- If b is true, ramp r is above ramp s at all targets from `from` up to `end`; else at none.
 abbrev pub IsAboveOn : List Target → Ramp → Ramp → Bool → ℕ → ℕ → Type 0
 IsAboveOn targets r s b from end = (i : ℕ) (t : Target) → from ≤ i → i < end →
     slice_get targets i ≡ Some t → is_above r s t ≡ b

@@ -37,7 +37,7 @@ impl Model for Horizon {
     ghost invariant = { λ h. h.end ≡ extent h.pieces.items };
 }
 
-/// Where lookups in a horizon at rising indexes continue: the index of a piece.
+/// The piece of a horizon at which the next lookup begins, if indexes rise.
 #[derive(Clone, Copy)]
 pub struct Cursor {
     pub piece: usize,
@@ -60,7 +60,7 @@ fn push_or_extend(pieces: &mut Vec<Piece>, piece: Piece) -> Result<(), AllocErro
 }
 
 /// Returns the position of the first piece that ends above `index`.
-/// No piece before position `first` may end above it.
+/// No piece before position `first` may end above `index`.
 #[inline(always)]
 fn first_above(pieces: &[Piece], first: usize, index: usize) -> usize
     requires index { index < extent pieces.now }
@@ -120,7 +120,7 @@ impl Horizon {
         self.pieces.len()
     }
 
-    /// Extends the horizon up to `end` by a ramp, unless it already reaches there.
+    /// Extends the horizon by a ramp up to `end`, unless its extent is at least `end`.
     ///
     /// # Errors
     ///
@@ -151,7 +151,7 @@ impl Horizon {
         self.pieces[cursor.piece]
     }
 
-    /// Returns whether the horizon hides target `index`, `rise` above the eye.
+    /// Returns whether the horizon hides target `index`, which is `rise` above the eye.
     /// The cursor must not have been used at a later index.
     #[inline(always)]
     pub fn hides(&self, cursor: &mut Cursor, index: usize, target: Target, rise: Value) -> bool

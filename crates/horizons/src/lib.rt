@@ -1,4 +1,4 @@
-//! Horizons: how high the ground rises before each of many targets.
+//! Horizons: how high ground rises between an observer and each of many targets.
 //!
 //! Targets are sorted by the slopes of the lines of sight to them. A [`Horizon`] is a function of
 //! a target's index, made of pieces that are straight over the slope. [`push_greater`] adds the

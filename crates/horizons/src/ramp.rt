@@ -21,7 +21,7 @@ pub struct Ramp {
 }
 
 impl Ramp {
-    /// Returns the ramp of no ground. It hides no target of a rise within ±2^51.
+    /// Returns the ramp of no ground. It hides no target whose rise is within ±2^51.
     pub fn nothing() -> Self
         ensures below { (t : Target) (rise : ℤ) → IsTarget t → unsigned_abs rise ≤ 2 ^ 51 →
             hides_by result t rise ≡ false }
@@ -34,7 +34,7 @@ impl Ramp {
         }
     }
 
-    /// The ramp at a target's slope, times the target's `line` and the ramp's `lines`.
+    /// The value at a target's slope, times the target's `line` and the ramp's `lines`.
     #[inline(always)]
     pub(crate) fn value_at(self, target: Target) -> Value
         requires target { IsTarget target }

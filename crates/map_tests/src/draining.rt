@@ -27,7 +27,7 @@ fn number(level: Height, steps: u32, edge: bool, ways: [Option<(Height, u32)>; 8
 
 const NONE: Option<(Height, u32)> = None;
 
-/// An edge cell drains to the steeper of two lower cells; without one it has 0.
+/// An edge cell drains to the steeper of two lower cells; without any it has 0.
 #[test]
 fn code_of_one_cell(rt: HostRuntime) {
     let (side, corner, n) = (Some((15, 0)), Some((13, 0)), NONE);

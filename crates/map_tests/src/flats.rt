@@ -182,7 +182,7 @@ fn pits_filled(rt: HostRuntime) {
     let filled = land(&rt, alloc, 4, 4, "9 9 9 9\n9 3 9 9\n9 9 3 9\n9 9 9 3");
     let wanted = land(&rt, alloc, 4, 4, "0 0 0 0\n0 2 0 0\n0 0 1 0\n0 0 0 0");
     assert!(rt; agree(&first_round(&rt, alloc, &filled, 4, 0), &wanted));
-    // The first tile has no count for its pit until the last tile has one for its own.
+    // The first tile has no count for its pit until the last tile has one for the pit there.
     let first = land(&rt, alloc, 2, 2, "0 0\n0 -9999");
     assert!(rt; agree(&first_round(&rt, alloc, &filled, 2, 0), &first));
     let last = land(&rt, alloc, 2, 2, "1 0\n0 0");

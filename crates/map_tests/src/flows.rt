@@ -72,7 +72,7 @@ fn expect_tile_flows(rt: &impl Abort, flows: &[TileFlow]) {
     assert_eq!(rt; flows[1].exit(exit), None);
 }
 
-/// Returns the inflow at a place, and the outlet of the flow path from an exit.
+/// Returns the inflow at a place, and the outlet of its flow path if it is an exit.
 fn link_at(
     rt: &impl Abort,
     tiling: &Tiling,
@@ -87,7 +87,7 @@ fn link_at(
 }
 
 /// Asserts the inflow and the outlet at two places.
-/// If memory is refused, joins the links once more.
+/// If memory is refused, joins the flows once more.
 pub(crate) fn expect_links(
     rt: &impl Abort,
     alloc: Global,

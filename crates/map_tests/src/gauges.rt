@@ -117,7 +117,7 @@ fn no_gauge(rt: HostRuntime) {
     );
 }
 
-/// One gauge inside the flat; then three, the first at the outlet.
+/// One gauge inside the flat; then three gauges, the first at the outlet.
 #[test]
 fn gauges_on_a_flat_through_ten_tiles(rt: HostRuntime) {
     let winding = land(&rt, rt.alloc(), 7, 7, WINDING);

@@ -3,12 +3,12 @@
 //! Modules:
 //!
 //! - `streams`: filled heights, codes, accumulations and basins of small terrains
-//! - `maps`: compares a terrain's drainage maps, without catchments, with expected ones
-//! - `stages`: filling and directions, without a gate
+//! - `maps`: compares a terrain's drainage maps, without catchments, with expected maps
+//! - `stages`: calls filling and directions without a gate
 //! - `ground`: builds, cuts and compares small grids
-//! - `nodes`: floods of a net of four nodes
-//! - `filling`: floods of tiles and their spill graph
-//! - `lowering`: filled heights against plain lowering
+//! - `nodes`: floods a net of four nodes
+//! - `filling`: floods tiles and their spill graph
+//! - `lowering`: compares filled heights with those of a plain algorithm
 //! - `flats`: the steps of flats after one round over a tile
 //! - `draining`: the direction of one cell, and refused workers
 //! - `flows`: flow in tiles and over their rims

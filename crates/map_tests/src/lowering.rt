@@ -1,4 +1,4 @@
-//! Compares filled heights of rough ground with plain lowering, cell by cell.
+//! Compares filled heights of rough ground with those by lowering, cell by cell.
 use crate::ground::heights_of;
 use ascii_grid::read_text;
 use fill::filled_heights;
@@ -85,7 +85,7 @@ fn lowest_of_nine(levels: &[Option<Height>], cols: u8, row: u8, col: u8) -> Opti
     Some(lowest)
 }
 
-/// Lowers each inner level to the least level nearby, but not below its height.
+/// Lowers each inner cell's level to the least nearby, but not below its height.
 fn sweep(heights: &[Option<Height>], levels: &mut [Option<Height>], cols: u8, rows: u8) {
     for row in 1..=rows {
         for col in 1..=cols {

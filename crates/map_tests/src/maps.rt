@@ -1,4 +1,4 @@
-//! Compares a terrain's drainage maps, without catchments, with expected ones.
+//! Compares a terrain's drainage maps, without catchments, with expected maps.
 //!
 //! Each comparison takes many tile sides and numbers of workers.
 use crate::ground::{cut, expect_cells, expect_heights, land};
@@ -95,9 +95,9 @@ impl Maps {
         let ways = directions_of(rt, alloc, &level, &tiling, workers).expect(rt, "ways");
         let codes = numbers(alloc, ways.codes()).expect(rt, "codes");
         let counts = accumulation(rt, alloc, &ways, &tiling, workers, &NoGate).expect(rt, "counts");
-        let counts = values_of(alloc, &counts).expect(rt, "counts values_of");
+        let counts = values_of(alloc, &counts).expect(rt, "values of counts");
         let numbers = basins(rt, alloc, &ways, &tiling, workers, &NoGate).expect(rt, "basins");
-        let numbers = values_of(alloc, &numbers).expect(rt, "basins values_of");
+        let numbers = values_of(alloc, &numbers).expect(rt, "values of basins");
         let agreed = [
             self.agrees(rt, alloc, &codes, self.codes),
             self.agrees(rt, alloc, &counts, self.accumulation),

@@ -1,4 +1,4 @@
-//! Calls that allocate, on a grid with a pit. A call that is refused memory is repeated.
+//! Calls that allocate, on a grid with a pit, repeated if memory is refused.
 ghost use Rattle.std.specs.Prelude.{◌≡◌, ◌<◌, ◌*◌, length};
 ghost use Rattle.fill.specs.Spills.{AreFloods};
 

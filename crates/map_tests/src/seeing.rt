@@ -1,4 +1,4 @@
-//! Lines of sight and viewsheds: small cases, refusals, and viewsheds against `sees`.
+//! Lines of sight and viewsheds: small cases, refusals, comparisons with `sees`.
 ghost use Rattle.std.specs.Prelude.{◌≡◌};
 
 use crate::ground::{cut, land};
@@ -10,7 +10,7 @@ use std::thread::Threads;
 use terrain::{Count, Grid, Place};
 use tile_jobs::{JobFault, NoGate};
 
-const FARTHEST: u32 = 8_192;
+const LONGEST_RADIUS: u32 = 8_192;
 
 const CORNER: Observer = Observer {
     row: 0,
@@ -24,7 +24,7 @@ fn observer(row: u32, col: u32, eye: u32) -> Observer
     Observer { row, col, eye }
 }
 
-/// Writes values below 10 as digits and NODATA as a point, a space between rows.
+/// Draws values as digits, from 10 on as `+`, NODATA as `.`, a space between rows.
 fn draw_values(alloc: Global, values: &[Count], cols: u32) -> Result<String, AllocError> {
     let mut text = String::new(alloc);
     let mut in_row = 0;
@@ -87,7 +87,7 @@ fn expect_far<R: Abort + Threads + Wait + Sync>(
         land,
         observers,
         target_height,
-        FARTHEST,
+        LONGEST_RADIUS,
         expected,
     );
 }
@@ -100,11 +100,11 @@ fn one_line(rt: HostRuntime) {
     assert!(rt; land.rows() == 1);
     let ridge = Place { row: 0, col: 1 };
     let beyond = Place { row: 0, col: 2 };
-    assert!(rt; sees(&land, &CORNER, ridge, 0, FARTHEST));
-    assert!(rt; !sees(&land, &CORNER, beyond, 0, FARTHEST));
-    assert!(rt; sees(&land, &observer(0, 0, 2), beyond, 0, FARTHEST));
-    assert!(rt; sees(&land, &CORNER, beyond, 2, FARTHEST));
-    assert!(rt; !sees(&land, &CORNER, beyond, 1, FARTHEST));
+    assert!(rt; sees(&land, &CORNER, ridge, 0, LONGEST_RADIUS));
+    assert!(rt; !sees(&land, &CORNER, beyond, 0, LONGEST_RADIUS));
+    assert!(rt; sees(&land, &observer(0, 0, 2), beyond, 0, LONGEST_RADIUS));
+    assert!(rt; sees(&land, &CORNER, beyond, 2, LONGEST_RADIUS));
+    assert!(rt; !sees(&land, &CORNER, beyond, 1, LONGEST_RADIUS));
     assert!(rt; !sees(&land, &CORNER, beyond, 2, 1));
 }
 
@@ -155,7 +155,7 @@ fn eye_and_target_heights(rt: HostRuntime) {
 }
 
 #[test]
-fn nobody_looks(rt: HostRuntime) {
+fn no_observers(rt: HostRuntime) {
     let gap = land(&rt, rt.alloc(), 3, 1, "0 -9999 10");
     expect_far(&rt, rt.alloc(), &gap, &[], 0, "0.0");
 }
@@ -241,7 +241,7 @@ fn push_plain_row(
         let value = if land.at(place).is_none() {
             Count::no_data()
         } else {
-            Count::of(sees(land, observer, place, target_height, FARTHEST) as u32)
+            Count::of(sees(land, observer, place, target_height, LONGEST_RADIUS) as u32)
         };
         values.push(value).expect(rt, "a value");
     }
@@ -266,7 +266,7 @@ fn expect_plain<R: Abort + Threads + Wait + Sync>(
         land,
         &[observer],
         target_height,
-        FARTHEST,
+        LONGEST_RADIUS,
         &tiling,
         2,
         &NoGate,
@@ -331,12 +331,12 @@ fn refused_observers(rt: HostRuntime) {
         (observer(0, 0, 1_000_001), SightFault::BadEye(Some(1))),
         (observer(9, 9, 1_000_001), SightFault::BadEye(Some(1))),
     ] {
-        let values_of = refusal(&rt, rt.alloc(), &[CORNER, second], 0, FARTHEST, 1);
-        assert_eq!(rt; values_of, Some(fault), "{second:?}");
+        let refused = refusal(&rt, rt.alloc(), &[CORNER, second], 0, LONGEST_RADIUS, 1);
+        assert_eq!(rt; refused, Some(fault), "{second:?}");
     }
     let first = [observer(1, 1, 0), observer(9, 9, 0)];
-    let values_of = refusal(&rt, rt.alloc(), &first, 0, FARTHEST, 1);
-    assert_eq!(rt; values_of, Some(SightFault::OnNodata(0)));
+    let refused = refusal(&rt, rt.alloc(), &first, 0, LONGEST_RADIUS, 1);
+    assert_eq!(rt; refused, Some(SightFault::OnNodata(0)));
 }
 
 /// A target height above the limit is refused for any number of observers.
@@ -352,7 +352,7 @@ fn target_too_high_for_any_number(rt: HostRuntime) {
             &bowl,
             &observers[..count],
             1_000_001,
-            FARTHEST,
+            LONGEST_RADIUS,
             &tiling,
             1,
             &NoGate,
@@ -371,22 +371,22 @@ fn refusals_in_order(rt: HostRuntime) {
     let outside = observer(9, 9, 0);
     let many = [bad; 1025];
     let most = [bad; 1024];
-    let values_of = refusal(&rt, rt.alloc(), &many, 1_000_001, 0, 0);
-    assert_eq!(rt; values_of, Some(SightFault::TooManyObservers));
-    let values_of = refusal(&rt, rt.alloc(), &most, 1_000_001, 0, 0);
-    assert_eq!(rt; values_of, Some(SightFault::BadEye(None)));
-    let values_of = refusal(&rt, rt.alloc(), &most, 1_000_000, 0, 0);
-    assert_eq!(rt; values_of, Some(SightFault::BadEye(Some(0))));
+    let refused = refusal(&rt, rt.alloc(), &many, 1_000_001, 0, 0);
+    assert_eq!(rt; refused, Some(SightFault::TooManyObservers));
+    let refused = refusal(&rt, rt.alloc(), &most, 1_000_001, 0, 0);
+    assert_eq!(rt; refused, Some(SightFault::BadEye(None)));
+    let refused = refusal(&rt, rt.alloc(), &most, 1_000_000, 0, 0);
+    assert_eq!(rt; refused, Some(SightFault::BadEye(Some(0))));
     for radius in [0, 8_193] {
-        let values_of = refusal(&rt, rt.alloc(), &[outside], 0, radius, 0);
-        assert_eq!(rt; values_of, Some(SightFault::BadRadius), "{radius}");
+        let refused = refusal(&rt, rt.alloc(), &[outside], 0, radius, 0);
+        assert_eq!(rt; refused, Some(SightFault::BadRadius), "{radius}");
     }
-    let values_of = refusal(&rt, rt.alloc(), &[outside], 0, 1, 0);
-    assert_eq!(rt; values_of, Some(SightFault::Outside(0)));
+    let refused = refusal(&rt, rt.alloc(), &[outside], 0, 1, 0);
+    assert_eq!(rt; refused, Some(SightFault::Outside(0)));
     for workers in [0, 65] {
-        let values_of = refusal(&rt, rt.alloc(), &[CORNER], 0, 1, workers);
+        let refused = refusal(&rt, rt.alloc(), &[CORNER], 0, 1, workers);
         assert_eq!(rt;
-            values_of,
+            refused,
             Some(SightFault::Jobs(JobFault::BadWorkers)),
             "{workers}"
         );

@@ -120,7 +120,7 @@ fn slope(rt: HostRuntime) {
     maps.expect(&rt, rt.alloc());
 }
 
-/// With tiles of side 3, 4 or 7, it leaves the first tile and returns in row 2.
+/// With tile sides 3, 4 and 7, the river leaves the first tile and returns to it.
 #[test]
 fn river_that_comes_back(rt: HostRuntime) {
     let river = "24 23 22 21 20 19 18 17\n30 30 30 30 30 30 30 16\n8 9 10 11 12 13 14 15";
@@ -152,7 +152,7 @@ fn greatest_drops(rt: HostRuntime) {
     maps.expect(&rt, rt.alloc());
 }
 
-/// The weights of a drop along a row and one across a diagonal are as 98 to 100.
+/// Squared, the slopes of the drops of 7 east and 10 south-east are as 98 to 100.
 #[test]
 fn great_drops_compared(rt: HostRuntime) {
     let slope =
@@ -183,7 +183,7 @@ fn level_ground(rt: HostRuntime) {
     maps.expect(&rt, rt.alloc());
 }
 
-/// More outlets than the 16 codes of a block; then no outlet in the first block:
+/// The first block of 16 codes is all outlets; then, on other ground, it has none:
 /// a river along row 0 to its end, a ridge, and pairs of cells whose second is an outlet.
 #[test]
 fn outlets_of_several_runs(rt: HostRuntime) {

@@ -1,4 +1,4 @@
--- Faults of tiles, sinks and gauges, and that added sinks change none of them.
+-- Faults of tiles, sinks and gauges; added sinks change none of these faults.
 use Rattle.std.proofs.Common.{◌≡◌, ℕ, ◌<◌, ◌≤◌, true, false, eqb, length, List, [], ◌∷◌, Option, None, Some, Err, sym, ap, subst, refl, ◌∙◌}
 use Rattle.std.specs.Option.{option_map, option_or}
 use Rattle.std.proofs.lemmas.Bool.{le-ltb, lt-ltb, cond-false, cond-true}

@@ -17,8 +17,8 @@ abbrev pub WritesLine : {D : Type 0} → (D → Option (List ℕ)) → Device D 
 WritesLine contents old new text =
     (written : Result ⊤ WriteFailed) × Writes contents old new text written
 
--- A complete run writes nothing on the errors and has status 0. A fault writes its line and has its
--- own status.
+-- A complete run leaves the error device unchanged and has status 0. A fault has its line written
+-- and has its own status.
 abbrev pub EndsAs : {E : Type 0} → (E → Option (List ℕ)) → Device E → Device E → Result ⊤ RunFault →
     ℕ → Type 0
 EndsAs lines errors reported result status = MatchResult result
@@ -39,7 +39,7 @@ abbrev pub EndsLine : List ℕ → Type 0
 EndsLine text = (front : List ℕ) × (text ≡ front ++ codes "\n")
 
 -- A message for refused words, with a line feed last. For a bad observer, gauge or sink word it
--- gives the place of the first. The words of other messages are left open.
+-- gives the place of the first such word. The text of other messages is left open.
 pub record IsRefusalText (words : List Text) (text : List ℕ) : Type 0 where
   pub refused : AreRefused words
   pub line : EndsLine text
@@ -50,8 +50,8 @@ pub record IsRefusalText (words : List Text) (text : List ℕ) : Type 0 where
   pub bad_sink : (place : ℕ) → HasBadSink words place →
       text ≡ codes "relief: bad sink word " ++ decimal place ++ codes "\n"
 
--- Nothing was read. Either the words ask for help or the version, which goes to the writer; or they
--- are refused, with a message on the errors; or memory was refused.
+-- Nothing was read. Either the words ask for help or the version, which goes to the writer. Or they
+-- are refused, with a message on the error device. Or memory was refused.
 pub record EndsUnread {R W E : Type 0} (contents : W → Option (List ℕ))
     (lines : E → Option (List ℕ)) (words : List Text) (reader left : Device R)
     (writer grown : Device W) (errors reported : Device E) (status : ℕ) : Type 0 where

@@ -36,21 +36,21 @@ detail_text (Slot key) = slot_text key
 detail_text (Count n) = decimal n
 
 -- The parts of a fault's line: number, name and, for some faults, a detail.
-pub record Telling : Type 0 where
+pub record FaultParts : Type 0 where
   pub number : ℕ
   pub name : List ℕ
   pub detail : Option (List ℕ)
 
 -- A fault without a detail.
-abbrev pub plain : ℕ → List ℕ → Telling
+abbrev pub plain : ℕ → List ℕ → FaultParts
 plain number name = record { number = number; name = name; detail = None }
 
 -- A fault with a detail.
-abbrev pub detailed : ℕ → List ℕ → List ℕ → Telling
+abbrev pub detailed : ℕ → List ℕ → List ℕ → FaultParts
 detailed number name detail = record { number = number; name = name; detail = Some detail }
 
 -- Faults of the grid text.
-abbrev pub grid_telling : GridFault → Telling
+abbrev pub grid_telling : GridFault → FaultParts
 grid_telling grid.UnknownKey = plain 1 (codes "UnknownKey")
 grid_telling (grid.RepeatedKey slot) = detailed 2 (codes "RepeatedKey") (slot_text slot)
 grid_telling (grid.MissingKey slot) = detailed 3 (codes "MissingKey") (slot_text slot)
@@ -65,18 +65,18 @@ grid_telling grid.TooLong = plain 11 (codes "TooLong")
 grid_telling grid.Memory = plain 12 (codes "Memory")
 
 -- Faults of the tiling.
-abbrev pub tiling_telling : TilingFault → Telling
+abbrev pub tiling_telling : TilingFault → FaultParts
 tiling_telling tiling.BadSide = plain 21 (codes "BadSide")
 tiling_telling tiling.TooManyTiles = plain 22 (codes "TooManyTiles")
 
 -- Faults of memory, workers and threads.
-abbrev pub jobs_telling : JobFault → Telling
+abbrev pub jobs_telling : JobFault → FaultParts
 jobs_telling jobs.Memory = plain 12 (codes "Memory")
 jobs_telling jobs.BadWorkers = plain 31 (codes "BadWorkers")
 jobs_telling jobs.NoThread = plain 32 (codes "NoThread")
 
 -- Faults of a viewshed.
-abbrev pub sight_telling : SightFault → Telling
+abbrev pub sight_telling : SightFault → FaultParts
 sight_telling (sight.Outside i) = detailed 41 (codes "Outside") (decimal i)
 sight_telling (sight.OnNodata i) = detailed 42 (codes "OnNodata") (decimal i)
 sight_telling sight.TooManyObservers = plain 43 (codes "TooManyObservers")
@@ -86,21 +86,21 @@ sight_telling sight.BadRadius = plain 45 (codes "BadRadius")
 sight_telling (sight.Jobs fault) = jobs_telling fault
 
 -- Faults of named sinks.
-abbrev pub sinks_telling : SinkFault → Telling
+abbrev pub sinks_telling : SinkFault → FaultParts
 sinks_telling (sinks.Outside i) = detailed 46 (codes "SinkOutside") (decimal i)
 sinks_telling (sinks.OnNodata i) = detailed 47 (codes "SinkOnNodata") (decimal i)
 sinks_telling sinks.TooManySinks = plain 48 (codes "TooManySinks")
 sinks_telling sinks.Memory = jobs_telling jobs.Memory
 
 -- Faults of gauges.
-abbrev pub gauges_telling : GaugeFault → Telling
+abbrev pub gauges_telling : GaugeFault → FaultParts
 gauges_telling (gauges.Outside i) = detailed 61 (codes "GaugeOutside") (decimal i)
 gauges_telling (gauges.OnNodata i) = detailed 62 (codes "GaugeOnNodata") (decimal i)
 gauges_telling gauges.TooManyGauges = plain 63 (codes "TooManyGauges")
 gauges_telling (gauges.Jobs fault) = jobs_telling fault
 
 -- All faults of a run.
-abbrev pub telling : RunFault → Telling
+abbrev pub telling : RunFault → FaultParts
 telling (Grid fault) = grid_telling fault
 telling (Tiling fault) = tiling_telling fault
 telling (Jobs fault) = jobs_telling fault

@@ -16,7 +16,7 @@ use Rattle.relief.specs.Refusals.{IsRunRefusal}
 pub record Runs {R W T : Type 0} (remaining : R → Option (List ℕ)) (contents : W → Option (List ℕ))
     (w : Request) (reader left : Device R) (writer grown : Device W)
     (result : Result T RunFault) : Type 0 where
-  -- At most 2^29 + 1 bytes are read; so many show that a text is too long.
+  -- At most 2^29 + 1 bytes are read; a text of that many bytes is too long.
   pub taken : Takes remaining reader left
   -- On `Ok` the map of the grid that these bytes spell was written, with the requested sinks, and
   -- nothing else. No byte is left to read.
@@ -30,7 +30,7 @@ pub record Runs {R W T : Type 0} (remaining : R → Option (List ℕ)) (contents
   -- If a write failed, a front part of the map was written.
   pub part : result ≡ Err Write → (map : List ℕ) × IsMapOfText w.scale w.map w.sinks taken.bytes map
       × HasWrittenPart contents writer grown map × IsAtEnd (remaining left.device)
-  -- The result is `Read` exactly if the reader failed, and `Write` exactly if the writer did.
+  -- The result is `Read` exactly if the reader failed, and `Write` exactly if the writer failed.
   pub read : (result ≡ Err Read) ↔ (reader.failures < left.failures)
   pub write : (result ≡ Err Write) ↔ (writer.failures < grown.failures)
   pub sound : OnOk result ((left.failures ≡ reader.failures) × (grown.failures ≡ writer.failures))

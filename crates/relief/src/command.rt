@@ -119,7 +119,7 @@ pub fn run_words<H: Threads + Wait + Sync, R: Read, W: Write, E: Write>(
     run_words_reported(rt, alloc, words, reader, writer, errors, &NoGate)
 }
 
-/// [`run_words`] that calls `progress` if `words` have `--progress`.
+/// Runs as [`run_words`] does, and calls `progress` if `words` have `--progress`.
 pub fn run_words_reported<
     H: Threads + Wait + Sync,
     R: Read,

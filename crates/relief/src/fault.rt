@@ -60,7 +60,7 @@ impl From<JobFault> for RunFault {
     }
 }
 
-// A fault of the jobs is `Jobs`, whichever map they make.
+// A fault of jobs is `Jobs` for a viewshed too, as for every map.
 impl From<SightFault> for RunFault {
     ghost from_gives = { λ fault reported. reported ≡ of_sight fault };
 
@@ -119,9 +119,9 @@ pub(crate) struct Notice {
 
 impl Model for Notice {
     ghost use Rattle.std.specs.Prelude.{◌≤◌, length, option_map};
-    ghost use Rattle.relief.specs.FaultLine.{Telling, detail_text};
+    ghost use Rattle.relief.specs.FaultLine.{FaultParts, detail_text};
 
-    ghost Value = { Telling };
+    ghost Value = { FaultParts };
 
     ghost view = { λ n. record {
       number = n.number;

@@ -6,7 +6,7 @@ ghost use Rattle.request.specs.declared.map.Map.{Map};
 ghost use Rattle.relief.specs.MapText.{IsMapOfText};
 
 /// Proves that grid text, scale, map and sinks determine the text written.
-/// So tile side, number of workers and schedule do not change what a complete run writes.
+/// Tile side, number of workers and schedule therefore do not change a map that is written whole.
 pub fn maps_are_one()
     ensures { (scale : ℕ) (map same : Map) (sinks : List Place) (input text other : List ℕ) →
         AreSame map same →

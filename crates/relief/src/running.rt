@@ -55,7 +55,7 @@ pub fn run<H: Threads + Wait + Sync, R: Read, W: Write>(
     run_gated(rt, alloc, options, reader, writer, &NoGate)
 }
 
-/// [`run`] with a [`Gate`] that is called at each stage and job of the map.
+/// Runs as [`run`] does, and calls a [`Gate`] at each stage and job of the map.
 ///
 /// # Errors
 ///

@@ -17,10 +17,10 @@ const WORDS_REFUSED: u8 = 1;
 const NO_MEMORY: u8 = 3;
 
 /// The length of the list that [`keep_freed_lists`] frees, in bytes.
-/// With the allocator's header it takes one page less than the C library's limit, 32 MiB.
+/// With the allocator's header the list takes one page less than the C library's limit, 32 MiB.
 const LONGEST_KEPT: usize = (1 << 25) - (1 << 13);
 
-/// Returns the status for unreadable words. One that is not UTF-8 gets a line.
+/// Returns the exit status for unreadable words. Writes a line if a word is not UTF-8.
 fn refuse_words(error: &io::Error, errors: &mut impl Write) -> u8 {
     if error.kind() == ErrorKind::OutOfMemory {
         return NO_MEMORY;
@@ -34,7 +34,7 @@ fn read_words(rt: &(impl Env + AllocGlobal)) -> io::Result<Vec<String>> {
     Ok(words)
 }
 
-/// Frees one long list, so that the C library keeps shorter ones freed later.
+/// Frees one long list, after which the C library keeps the memory of freed shorter lists.
 /// A map of millions of cells then touches a third fewer new pages of memory.
 fn keep_freed_lists(alloc: Global) {
     drop(Vec::<u8>::with_capacity(alloc, LONGEST_KEPT));

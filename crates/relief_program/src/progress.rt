@@ -42,7 +42,7 @@ impl Stage {
             .min(100)
     }
 
-    /// Replaces the terminal's line, at most once every [`LEAST_PAUSE_MS`].
+    /// Replaces the terminal's line, at most once in [`LEAST_PAUSE_MS`] milliseconds.
     fn report_in_place(&mut self, alloc: Global, clock: &impl Clock) {
         let Ok(now) = Instant::now(clock) else {
             return;
@@ -86,8 +86,8 @@ impl Stage {
 
 /// A [`Gate`] that reports the progress of each stage of a run.
 ///
-/// On a terminal it replaces one line at most ten times a second, and clears it when the stage
-/// ends, so that the map may follow. Elsewhere it writes a line whenever a further tenth is
+/// On a terminal it replaces one line at most ten times a second, and clears the line when the
+/// stage ends, so that the map may follow. Elsewhere it writes a line whenever a further tenth is
 /// finished. A line that cannot be allocated or written is dropped.
 #[derive(Drop)]
 pub struct ProgressReport<'a, R> {
@@ -98,7 +98,7 @@ pub struct ProgressReport<'a, R> {
 }
 
 impl<'a, R: Clock + Wait> ProgressReport<'a, R> {
-    /// Makes a report on `errors`, before the first stage.
+    /// Makes a report that writes to `errors`, before the first stage.
     pub fn new(rt: &'a R, alloc: Global, errors: Stderr) -> Self {
         ProgressReport {
             rt,

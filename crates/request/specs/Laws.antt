@@ -32,7 +32,7 @@ abbrev pub RequestsAreAccepted : Type 0
 RequestsAreAccepted = (words : List Text) (request : Request) → RequestFor words request →
     ¬ AskForHelp words × ¬ AreRefused words
 
--- `relief fill` requests the defaults.
+-- `relief fill` requests filled heights with the default options.
 abbrev pub FillAlone : Type 0
 FillAlone = RequestFor (codes "relief" ∷ codes "fill" ∷ [])
     (record { map = Fill; tile = 256; workers = 1; scale = 0; sinks = []; progress = false })

@@ -1,6 +1,6 @@
 //! Parses the command line into a map and its options.
 //!
-//! [`parse`] returns the requested [`Options`]; `clap` matches words with options.
+//! [`parse`] returns the requested [`Options`]; `clap` assigns words to options.
 //!
 //! Modules, callers first:
 //!

@@ -23,11 +23,11 @@ static NAME_ALONE: [&str; 1] = ["relief"];
 pub enum WordsFault {
     /// `clap` refuses the words, they ask for help or the version, or memory ran out.
     Clap(Error),
-    /// The first word that is no observer, by its place among them from 0.
+    /// The first word that is no observer, by its place from 0 among observer words.
     BadObserver(usize),
-    /// The first word that is no gauge, by its place among them from 0.
+    /// The first word that is no gauge, by its place from 0 among gauge words.
     BadGauge(usize),
-    /// The first word that is no sink, by its place among them from 0.
+    /// The first word that is no sink, by its place from 0 among sink words.
     BadSink(usize),
     /// The words name no map or exceed a limit. `clap` refuses such words first.
     NoMap,
@@ -57,10 +57,10 @@ fn number_given(found: &ArgMatches<'_>, id: &str) -> Option<u32>
     found.get_one::<u32>(id)
 }
 
-/// Why words were not parsed into a list of observers or places.
+/// Why words were not parsed into a list of observers, gauges or sinks.
 #[derive(Drop)]
 pub(crate) enum BadWord {
-    /// The first bad word, by its place from 0.
+    /// The first bad word, by its place from 0 among the words.
     At(usize),
     NoMemory(AllocError),
 }
@@ -197,7 +197,7 @@ fn progress_given(found: &ArgMatches<'_>) -> bool
     }
 }
 
-/// Adds the given options to a map. `None` if one is outside its limits.
+/// Adds the given options to a map. `None` if one is missing or outside its limits.
 fn with_options(map: Map, found: &ArgMatches<'_>) -> Option<Options>
     ensures some { IfSome result (λ o. (o.map ≡ map) × (o.sinks ≡ [])
         × HasOptions (rows_of (found_of found.now)) o.tile o.workers o.scale) }
@@ -238,9 +238,9 @@ fn requested_options<'a>(alloc: Global, words: &'a [&'a str]) -> Result<Options,
     }
 }
 
-/// Returns the options that `words` request, the program's name first.
+/// Returns the options that `words` request.
 ///
-/// An empty list counts as the program's name alone.
+/// The program's name is the first word. An empty list counts as the program's name alone.
 ///
 /// # Errors
 ///

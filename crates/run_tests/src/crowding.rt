@@ -8,7 +8,7 @@ use std::test::Fail;
 use std::thread;
 use std::thread::Threads;
 
-/// How often a held job checks for another one.
+/// How often a held job checks whether another job has entered.
 const MOST_LOOKS: u32 = 10_000_000;
 
 /// The side of the tiles of a level strip, in cells.
@@ -34,8 +34,8 @@ impl Crowd {
         })
     }
 
-    /// Waits until a job has entered more than `before` times; false if it does not.
-    fn comes_again(&self, job: &AtomicU64, before: u64) -> bool {
+    /// Waits until a job has entered more than `before` times; false on giving up.
+    fn enters_again(&self, job: &AtomicU64, before: u64) -> bool {
         for _ in 0..MOST_LOOKS {
             if job.load(Ordering::SeqCst) > before {
                 return true;
@@ -53,7 +53,7 @@ impl Gate for Crowd {
         };
         let before = own.fetch_add(1, Ordering::SeqCst);
         for other in &self.entered {
-            if !self.comes_again(other, before) {
+            if !self.enters_again(other, before) {
                 self.missed.fetch_add(1, Ordering::SeqCst);
                 return;
             }

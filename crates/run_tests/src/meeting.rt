@@ -38,7 +38,7 @@ const CORRIDORS: &[u8] = b"ncols 10\nnrows 5\nxllcorner 0\nyllcorner 0\ncellsize
 const LEVEL: &[u8] =
     b"ncols 5\nnrows 2\nxllcorner 0\nyllcorner 0\ncellsize 1\n5 5 5 5 5\n5 5 5 5 5\n";
 
-/// How often a held job checks for the other.
+/// How often a held job checks whether the other job has entered.
 const MOST_LOOKS: u32 = 10_000_000;
 
 /// A gate that holds each of a stage's first two jobs until the other has entered.

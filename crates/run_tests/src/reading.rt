@@ -30,7 +30,7 @@ fn long_text(alloc: Global, bad_cell: u32) -> Result<Vec<u8>, AllocError> {
     Ok(text)
 }
 
-/// A reader that fails at the end of a text, and records the bytes given.
+/// A reader that fails at the end of a text, and counts the bytes that it gave.
 #[derive(Drop)]
 struct WatchedReader<'a> {
     left: &'a [u8],
@@ -81,7 +81,7 @@ fn bytes_given(
     Ok(watched.given)
 }
 
-/// A bad word is refused before more than 1 MiB is read, from its first byte on.
+/// A run refuses a bad word before it reads over 1 MiB past the word's first byte.
 /// A run cannot foresee a bad word, so it parses good words as early.
 #[test]
 fn little_is_read_ahead(rt: HostRuntime) -> Result<(), Fail> {

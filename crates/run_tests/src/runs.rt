@@ -92,7 +92,7 @@ impl Write for Short {
     }
 }
 
-/// Numbers of workers: one reads and writes without jobs, several with jobs.
+/// Numbers of workers. One worker reads and writes without jobs, several with jobs.
 const WORKERS: [u32; 3] = [1, 2, 8];
 
 /// Runs `fill` on the bowl, and asserts the bytes written and the failures.
@@ -272,7 +272,7 @@ fn expect_refused(
     Ok(())
 }
 
-/// A word that a separator has ended is checked before the failure, others are not.
+/// Only a word with a separator after it is checked before the failure.
 #[test]
 fn a_reader_that_fails(rt: HostRuntime) -> Result<(), Fail> {
     for (bytes, fault) in [

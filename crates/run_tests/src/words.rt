@@ -252,7 +252,7 @@ struct Tally {
     job_numbers: AtomicU64,
     parts: AtomicU64,
     due_parts: AtomicU64,
-    /// With one worker, the jobs that left before all their parts were finished.
+    /// With one worker, jobs that left before their parts were finished; stage 1 has no parts.
     early: AtomicU64,
     ends: AtomicU64,
 }

@@ -12,7 +12,7 @@ use Rattle.horizons.specs.Horizons.{AreTargets, IsSlopeUpTo, hides_by, value_at}
 use Rattle.horizons.proofs.Straight.{slope_up}
 use Rattle.sightlines.specs.Blocks.{IsTopOf}
 use Rattle.sight.specs.Hiding.{height_at}
-use Rattle.sight.specs.Sweep.{offset_of, level_ramp, line_blocks, ramp_of, IsFamily, Passes, PassesAmong, Shows, StandsAt}
+use Rattle.sight.specs.Sweep.{offset_of, level_ramp, line_blocks, ramp_of, IsFamily, Passes, PassesAmong, Shows, IsAtCell}
 use Rattle.sight.specs.declared.family.Family.{Family}
 use Rattle.sight.proofs.Laid.{grows}
 use Rattle.sight.proofs.Rays.{low_onward, next_inside}
@@ -27,7 +27,7 @@ offsets_rise k a b s t some more slope low high =
     let on = low_onward a s.offset t.offset s.line t.line k some slope low.low in
     smaller a b t.line (omega (arith, ints, on, high.high))
 
--- a ray that passes among the cells of a range passes one of them
+-- a ray that passes among the cells from `offset` to `offset` passes that cell
 pub passes_one : (k : ℕ) (offset : ℤ) (t : Target) → PassesAmong k offset offset t → Passes k offset t
 passes_one k offset t among = record { low = among.low; high = among.high }
 
@@ -70,7 +70,7 @@ record Blocker (cells : List (Option ℤ)) (f : Family) (k : ℕ) (offset rise :
   pub there : height_at cells f k next ≡ Some far
   pub hides : hides_by (ramp_of f k offset near far) t rise ≡ true
 
-blocker : (cells : List (Option ℤ)) (f : Family) (k y : ℕ) (offset rise : ℤ) (t : Target) → IsFamily f → StandsAt f y t → k < t.line → Passes k offset t → line_blocks cells f t.line y rise k ≡ true
+blocker : (cells : List (Option ℤ)) (f : Family) (k y : ℕ) (offset rise : ℤ) (t : Target) → IsFamily f → IsAtCell f y t → k < t.line → Passes k offset t → line_blocks cells f t.line y rise k ≡ true
     → Blocker cells f k offset rise t
 blocker cells f k y offset rise t is stands later passes blocks =
     let cell = none_outside f k y offset t is stands later passes in
@@ -133,13 +133,13 @@ level_hides f k offset near far top rise t passes a b hides =
 abbrev pub IsTopNear : List (Option ℤ) → Family → ℕ → ℤ → ℤ → Option ℤ → Type 0
 IsTopNear cells f k low high top = (c : ℕ) (h : ℤ) → c < f.side.cells → low ≤ℤ offset_of f c → offset_of f c ≤ℤ (high +ℤ pos 1) → height_at cells f k c ≡ Some h → IsTopOf top h
 
-pub none_blocks : (cells : List (Option ℤ)) (f : Family) (k y : ℕ) (low high offset rise : ℤ) (t : Target) → IsFamily f → StandsAt f y t → k < t.line → Passes k offset t → low ≤ℤ offset → offset ≤ℤ high
+pub none_blocks : (cells : List (Option ℤ)) (f : Family) (k y : ℕ) (low high offset rise : ℤ) (t : Target) → IsFamily f → IsAtCell f y t → k < t.line → Passes k offset t → low ≤ℤ offset → offset ≤ℤ high
     → IsTopNear cells f k low high None → line_blocks cells f t.line y rise k ≡ true → ⊥
 none_blocks cells f k y low high offset rise t is stands later passes a b none blocks =
     let by = blocker cells f k y offset rise t is stands later passes blocks in
     none by.cell by.near by.inside.0 (omega (arith, ints, by.at, a)) (omega (arith, ints, by.at, b)) by.here
 
-pub top_blocks : (cells : List (Option ℤ)) (f : Family) (k y : ℕ) (low high offset rise top : ℤ) (t : Target) → IsFamily f → StandsAt f y t → k < t.line → Passes k offset t → low ≤ℤ offset → offset ≤ℤ high
+pub top_blocks : (cells : List (Option ℤ)) (f : Family) (k y : ℕ) (low high offset rise top : ℤ) (t : Target) → IsFamily f → IsAtCell f y t → k < t.line → Passes k offset t → low ≤ℤ offset → offset ≤ℤ high
     → IsTopNear cells f k low high (Some top) → line_blocks cells f t.line y rise k ≡ true → hides_by (level_ramp f k top) t rise ≡ true
 top_blocks cells f k y low high offset rise top t is stands later passes a b near blocks =
     let by = blocker cells f k y offset rise t is stands later passes blocks in

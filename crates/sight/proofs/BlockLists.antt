@@ -24,7 +24,7 @@ top_over (Some m) (Some r) h over is = let above : m ≤ℤ r = over m refl in o
 pub run_at : (cells : List (Option ℤ)) (a b i : ℕ) → i < b - a → get_or (slice_range cells a b) i None ≡ get_or cells (a + i) None
 run_at cells a b i below = get_or-take (b - a) (drop a cells) i None below ∙ get_or-drop a cells i None
 
--- a cell of a block is between the block's ends
+-- row r of a block is at or past the block's first row, and before the next block's
 pub in_block : (size r block : ℕ) → 0 < size → r / size ≡ block → (block * size ≤ r) × (r < block * size + size)
 in_block size r block some is =
     let parts = div-add-mod' r size in
@@ -48,7 +48,7 @@ ground_of_tops size t tops some cols rows are = record {
   heights = are.heights;
 }
 
--- the greatest heights of a terrain's cells are those of the terrain
+-- the greatest heights of a terrain without its sinks are those of the terrain
 pub tops_of_ground : (size : ℕ) (t : Terrain) (tops : List (Option ℤ)) → AreTops size (ground_of t.cols t.rows t.cells) tops → AreTops size t tops
 tops_of_ground size t tops are = record { count = are.count; heights = are.heights; above = are.above }
 

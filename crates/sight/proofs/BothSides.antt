@@ -18,7 +18,7 @@ use Rattle.sight.proofs.Families.{walk_is_blocked}
 rises : (e g h : ℤ) → g +ℤ h ≡ e +ℤ ((g +ℤ h) -ℤ e)
 rises e g h = omega (arith, ints)
 
--- the walk to a cell is blocked exactly where a line before it blocks the cell
+-- the walk to a cell of line n is blocked exactly where a line before line n blocks the cell
 lines_block : (cells : List (Option ℤ)) (f : Family) (height n x y : ℕ) → lead_of f n ≡ x → abs_diff f.lines.at x ≡ n
     → walk_blocks cells (sightline_to cells f height x y) ≡ is_blocked_before cells f n y (rise_at cells f height n y) n
 lines_block cells f height n x y at away =

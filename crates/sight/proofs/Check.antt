@@ -9,7 +9,7 @@ use Rattle.std.proofs.lemmas.Nat.{mul-le}
 use Rattle.std.proofs.lemmas.Option.{same_Some, slice_get_within, slice_get-get_or, slice_get_read, get_or_from_slice_get}
 use Rattle.horizons.specs.declared.target.Target.{Target}
 use Rattle.horizons.specs.Horizons.{IsTarget, IsUpTo}
-use Rattle.sight.specs.Sweep.{lead_of, is_blocked_before, HidesBefore, IsFamily, StandsAt}
+use Rattle.sight.specs.Sweep.{lead_of, is_blocked_before, HidesBefore, IsFamily, IsAtCell}
 use Rattle.sight.specs.Ranks.{IsRanked}
 use Rattle.sight.specs.Looking.{LooksFrom}
 use Rattle.sight.specs.Hiding.{mark_in_window, mark_index, mark_left, rise_at, target_at, AreHidden, AreRays, Crosses, IsApart, IsInRun, IsRay, IsWindow}
@@ -48,7 +48,7 @@ same_cell w x y a b is in_x in_y in_a in_b e =
           (omega (arith, same.1, in_x, in_a), omega (arith, same.0, in_y, in_b))
     ]
 
--- different lines have different coordinates, and those within the grid have small numbers
+-- different lines have different coordinates
 line_from : (back : Bool) (at m n : ℕ) → (back ≡ true → m ≤ at) → (back ≡ true → n ≤ at) → (if back then at - m else at + m) ≡ (if back then at - n else at + n) → m ≡ n
 line_from true at m n a b e =
     let p : m ≤ at = a refl in
@@ -81,7 +81,7 @@ rank_at rays targets ranks n rank within are at =
     let has : slice_get ranks n ≡ Some rank = slice_get_read ranks (length ranks) n rank refl (omega (arith, are.size)) at in
     ap (slice_get targets) (sym (get_or_from_slice_get ranks n rank 0 has)) ∙ are.each n t (slice_get-get_or rays n (record { offset = pos 0; line = 0 }) within)
 
--- a look at one line is kept where only its cursor moves
+-- a lookup at line k stays one if only its cursor and its last rank change
 pub looked_on : (cells : List (Option ℤ)) (f : Family) (targets : List Target) (k : ℕ) (old new : SweepLookup) → LooksFrom cells f targets k old → new.line ≡ old.line → new.sweep ≡ old.sweep
     → IsUpTo new.sweep.highest new.cursor new.last → LooksFrom cells f targets new.line new
 looked_on cells f targets k old new were line sweep cursor = record {
@@ -112,7 +112,7 @@ left_open : (cells : List (Option ℤ)) (f : Family) (w : Window) (height : ℕ)
 left_open cells f w height old n y is = and_true (mark_in_window w (lead_of f n) y old) _ (ap not is)
 
 -- a target of the family is at one line and cell
-same_target : (f : Family) (t : Target) (m z y : ℕ) → StandsAt f y t → t ≡ target_at f m z → (m ≡ t.line) × (z ≡ y)
+same_target : (f : Family) (t : Target) (m z y : ℕ) → IsAtCell f y t → t ≡ target_at f m z → (m ≡ t.line) × (z ≡ y)
 same_target f t m z y stands e = (ap (λ q. q.line) (sym e), omega (arith, ints, stands.offset, ap (λ q. q.offset) e))
 
 -- the marks after a check of the cells of the rays below index `end`
@@ -133,7 +133,7 @@ none_asked cells f w height rays marks = record {
 }
 
 pub blocked_asked : (cells : List (Option ℤ)) (f : Family) (w : Window) (height : ℕ) (rays : List Target) (n : ℕ) (old marks : List Bool) (t : Target) (y : ℕ) → IsApart w → IsWindow f w marks
-    → slice_get rays n ≡ Some t → StandsAt f y t → IsInRun w.side y → Crosses f w t.line → is_blocked_before cells f t.line y (rise_at cells f height t.line y) t.line ≡ true
+    → slice_get rays n ≡ Some t → IsAtCell f y t → IsInRun w.side y → Crosses f w t.line → is_blocked_before cells f t.line y (rise_at cells f height t.line y) t.line ≡ true
     → AreHiddenBelow cells f w height rays n old marks → AreHiddenBelow cells f w height rays (n + 1) old (set marks (mark_index w (lead_of f t.line) y) false)
 blocked_asked cells f w height rays n old marks t y apart is_w at_t stands in_y crosses blocked were =
     let i = mark_index w (lead_of f t.line) y in
@@ -169,7 +169,7 @@ blocked_asked cells f w height rays n old marks t y apart is_w at_t stands in_y 
       kept = λ x z in_x in_z not_crossed. there x z (λ same. not_crossed t.line crosses (sym (same_cell w x z (lead_of f t.line) y apart in_x in_z crosses.within in_y same).0)) ∙ were.kept x z in_x in_z not_crossed;
     }
 
-pub open_asked : (cells : List (Option ℤ)) (f : Family) (w : Window) (height : ℕ) (rays : List Target) (n : ℕ) (old marks : List Bool) (t : Target) (y : ℕ) → slice_get rays n ≡ Some t → StandsAt f y t
+pub open_asked : (cells : List (Option ℤ)) (f : Family) (w : Window) (height : ℕ) (rays : List Target) (n : ℕ) (old marks : List Bool) (t : Target) (y : ℕ) → slice_get rays n ≡ Some t → IsAtCell f y t
     → is_blocked_before cells f t.line y (rise_at cells f height t.line y) t.line ≡ false → AreHiddenBelow cells f w height rays n old marks → AreHiddenBelow cells f w height rays (n + 1) old marks
 open_asked cells f w height rays n old marks t y at_t stands not_blocked were =
     let here : (m z : ℕ) → m ≡ t.line → z ≡ y → mark_left cells f w height old m z ≡ mark_in_window w (lead_of f m) z old = λ m z m_is z_is.
@@ -207,7 +207,7 @@ all_asked cells f w height rays old new are asked = record {
 }
 
 -- the cell of a ray, as the code computes it
-pub cell_back : (f : Family) (y : ℕ) (ray : Target) → IsFamily f → StandsAt f y ray → unsigned_abs (to_z w32 (of_z w32 (to_z w32 f.side.at +ℤ to_z w32 (of_z w32 ray.offset)))) ≡ y
+pub cell_back : (f : Family) (y : ℕ) (ray : Target) → IsFamily f → IsAtCell f y ray → unsigned_abs (to_z w32 (of_z w32 (to_z w32 f.side.at +ℤ to_z w32 (of_z w32 ray.offset)))) ≡ y
 cell_back f y ray is stands =
     let sum : pos f.side.at +ℤ ray.offset ≡ pos y = omega (arith, ints, stands.offset) in
     let offset = back_short ray.offset (omega (arith, ints, stands.offset, stands.side, is)) in

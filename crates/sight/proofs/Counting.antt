@@ -15,7 +15,7 @@ use Rattle.tile_maps.specs.Maps.{AreMadeBelow}
 use Rattle.sightlines.specs.Sight.{is_seen}
 use Rattle.sight.specs.Viewshed.{viewshed_value}
 use Rattle.sight.specs.Viewed.{value_at, HasValue, counted, AreAtMost}
-use Rattle.sight.specs.Marks.{AreMarked, TellsSeen}
+use Rattle.sight.specs.Marks.{AreMarked, MarksSeen}
 use Rattle.terrain.specs.declared.observer.Observer.{Observer}
 
 counted_yes : (h : Option ℤ) (n m : ℕ) → m ≡ n + 1 → counted (option_map (λ _. n) h) true ≡ option_map (λ _. m) h
@@ -32,7 +32,7 @@ value_counted t os target radius i d p false less e =
 
 -- the values after an observer whose view was marked
 pub looked : (t : Terrain) (os : List Observer) (target radius i : ℕ) (d : Observer) (b : Bounds) (old new : List (Option ℕ)) (seen : List Bool) → i < length os
-    → AreMadeBelow b (HasValue t (take i os) target radius) (b.rows * b.cols) old → AreMarked b (TellsSeen t (get_or os i d) target radius) seen
+    → AreMadeBelow b (HasValue t (take i os) target radius) (b.rows * b.cols) old → AreMarked b (MarksSeen t (get_or os i d) target radius) seen
     → length new ≡ length old → ((k : ℕ) → get_or new k None ≡ counted (get_or old k None) (get_or seen k false))
     → AreMadeBelow b (HasValue t (take (i + 1) os) target radius) (b.rows * b.cols) new
 looked t os target radius i d b old new seen less before marks size each = record {
@@ -53,7 +53,7 @@ passed t os target radius i d b values less before none = record {
   each = λ p inside below entry is. before.each p inside below entry is ∙ value_counted t os target radius i d p false less (none p inside);
 }
 
--- no value is above the number of observers
+-- if a cell with data has the value m, and its value is n, then n is m
 value_few : (h : Option ℤ) (n m : ℕ) → option_map (λ _. m) h ≡ Some n → n ≡ m
 value_few None n m e = absurd (cc)
 value_few (Some x) n m e = cc

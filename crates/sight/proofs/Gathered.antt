@@ -1,17 +1,17 @@
--- Rays gathered line by line and cell by cell.
+-- Rays collected line by line and cell by cell.
 use Rattle.std.proofs.Common.{arith, refl, sym, ap, subst, ◌∙◌, ◌≡◌, ℕ, ◌+◌, ◌*◌, ◌<◌, ◌≤◌, ◌++◌, ◌⊎◌, Bool, false, List, [], ◌∷◌, length, Some, inl, inr}
 use Rattle.std.specs.Prelude.{slice_get}
 use Rattle.std.proofs.lemmas.Bool.{cases_lt}
 use Rattle.std.proofs.lemmas.List.{length-append}
 use Rattle.std.proofs.lemmas.Option.{same_Some, slice_get_within}
 use Rattle.horizons.specs.declared.target.Target.{Target}
-use Rattle.sight.specs.Sweep.{lead_of, StandsAt, IsFamily}
+use Rattle.sight.specs.Sweep.{lead_of, IsAtCell, IsFamily}
 use Rattle.sight.specs.Hiding.{target_at, mark_in_window, AreRays, Crosses, IsInRun, IsRay, IsWindow}
 use Rattle.sight.specs.declared.family.Family.{Family}
 use Rattle.sight.specs.declared.window.Window.{Window}
 use Rattle.sight.proofs.Ranking.{slice_get-front, slice_get-last}
 
--- rays up to a place are all rays before a later line, if none of those stands between
+-- rays up to cell c of line n are all before line k, if no cell of the window is between
 lines_passed : (f : Family) (w : Window) (marks : List Bool) (n c k : ℕ) (rays : List Target)
     → n < k → length rays ≤ k * 4096 → ((m y : ℕ) → m < k → Crosses f w m → IsInRun w.side y →
     (m < n) ⊎ ((m ≡ n) × (y < c))) → AreRays f w marks n c rays → AreRays f w marks k 0 rays
@@ -62,7 +62,7 @@ cell_passed f w marks n c rays unmarked are = record {
 pub cell_taken : (f : Family) (w : Window) (marks : List Bool) (n c : ℕ) (rays : List Target) → IsFamily f → IsWindow f w marks → Crosses f w n → IsInRun w.side c → AreRays f w marks n c rays → AreRays f w marks n (c + 1) (rays ++ target_at f n c ∷ [])
 cell_taken f w marks n c rays is_f is_w crosses in_run are =
     let t = target_at f n c in
-    let stands : StandsAt f c t = record { offset = refl; first = omega (arith, is_w.first, in_run); side = omega (arith, is_w.side, in_run); line = crosses.line } in
+    let stands : IsAtCell f c t = record { offset = refl; first = omega (arith, is_w.first, in_run); side = omega (arith, is_w.side, in_run); line = crosses.line } in
     let old : (u : ℕ) (s : Target) → u < length rays → slice_get (rays ++ t ∷ []) u ≡ Some s → slice_get rays u ≡ Some s = λ u s less at. sym (slice_get-front rays t u less) ∙ at in
     let new : (u : ℕ) (s : Target) → length rays ≤ u → slice_get (rays ++ t ∷ []) u ≡ Some s → t ≡ s = λ u s not at.
     let u_is : u ≡ length rays = omega (arith, slice_get_within (rays ++ t ∷ []) u s at, length-append rays (t ∷ [])) in

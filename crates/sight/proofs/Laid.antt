@@ -11,7 +11,7 @@ use Rattle.horizons.specs.Horizons.{AreTargets, IsTarget, IsSlopeUpTo, IsPushed,
 use Rattle.horizons.specs.Merging.{IsGreaterPushed, greater_at}
 use Rattle.horizons.proofs.Hiding.{greater_hides, greater_is_ramp, either_hides}
 use Rattle.horizons.proofs.Straight.{slope_up}
-use Rattle.sight.specs.Sweep.{IsBefore, AreBefore, Passes, PassesAmong, Shows, IsHiddenOn, Raises, RaisesBelow, IsFamily, StandsAt, line_blocks}
+use Rattle.sight.specs.Sweep.{IsBefore, AreBefore, Passes, PassesAmong, Shows, IsHiddenOn, Raises, RaisesBelow, IsFamily, IsAtCell, line_blocks}
 use Rattle.sight.specs.declared.family.Family.{Family}
 use Rattle.sight.specs.declared.family.Span.{Span}
 use Rattle.sight.proofs.Products.{rest_times}
@@ -24,7 +24,7 @@ grows a b n h = by (b -ℤ a) refl
     by (pos m) e = omega (arith, ints, rest_times b a (pos n), ap (λ z. z *ℤ pos n) e)
     by (negsuc m) e = absurd (omega (arith, ints, e, h))
 
--- if a ray passes before a cell, so do all rays of smaller slopes
+-- if the ray to target m passes before a cell, so do the rays to all targets before m
 pub before_to : (targets : List Target) (k m : ℕ) (offset : ℤ) (u : Target) → AreTargets targets → slice_get targets m ≡ Some u → IsBefore k offset u → AreBefore targets k offset (m + 1)
 before_to targets k m offset u are at_m before i t below at_i =
     high_back offset t.offset u.offset t.line u.line k (are.each i t at_i).line.0 (slope_up targets i m t u are (omega arith) at_i at_m) before
@@ -105,8 +105,8 @@ low_side first at y k r a b less = omega (arith, less, mul-le first k y k b (ome
 high_side : (cells at y k r : ℕ) → 0 < k → at < cells → y < cells → cells * (r + k) + at * k ≤ y * k + at * (r + k) → ⊥
 high_side cells at y k r some a b more = omega (arith, more, mul-le (y + 1) k cells k (omega arith) (omega arith), mul-le (at + 1) r cells r (omega arith) (omega arith))
 
--- a ray that crosses line k outside the side is of a target not beyond line k
-pub passed_low : (f : Family) (k y : ℕ) (t : Target) → IsFamily f → StandsAt f y t → k < t.line → IsBefore k (pos f.side.first -ℤ pos f.side.at) t → ⊥
+-- a ray that crosses line k before the side leads to a target not beyond line k
+pub passed_low : (f : Family) (k y : ℕ) (t : Target) → IsFamily f → IsAtCell f y t → k < t.line → IsBefore k (pos f.side.first -ℤ pos f.side.at) t → ⊥
 passed_low f k y t is stands later before =
     let r = t.line - k in
     let n_is : t.line ≡ r + k = omega arith in
@@ -115,7 +115,7 @@ passed_low f k y t is stands later before =
     low_side f.side.first f.side.at y k r is.first stands.first
     (omega (arith, ints, left, rest_times (pos y) (pos f.side.at) (pos k), rest_times (pos f.side.first) (pos f.side.at) (pos (r + k))))
 
-pub passed_high : (f : Family) (k y : ℕ) (t : Target) → IsFamily f → StandsAt f y t → 0 < k → k < t.line → ((pos f.side.cells -ℤ pos f.side.at) *ℤ pos t.line) ≤ℤ (t.offset *ℤ pos k) → ⊥
+pub passed_high : (f : Family) (k y : ℕ) (t : Target) → IsFamily f → IsAtCell f y t → 0 < k → k < t.line → ((pos f.side.cells -ℤ pos f.side.at) *ℤ pos t.line) ≤ℤ (t.offset *ℤ pos k) → ⊥
 passed_high f k y t is stands some later past =
     let r = t.line - k in
     let n_is : t.line ≡ r + k = omega arith in

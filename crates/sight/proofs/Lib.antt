@@ -13,9 +13,9 @@ pub mod Passed
 -- rays in the order of their slopes, and of their lines
 pub mod Ranking
 pub mod Gathered
--- the marks that a family removes
+-- the marks that a family of crossings removes
 pub mod Check
--- what a family blocks, against the walk
+-- a family blocks as the walk does
 pub mod Families
 -- the marks that a tile keeps on all sides of an observer
 pub mod BothSides

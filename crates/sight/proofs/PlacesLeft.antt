@@ -1,4 +1,4 @@
--- Which marks are kept after the tests at columns and at rows.
+-- Which marks are kept after the sweeps over columns and over rows.
 use Rattle.std.proofs.Common.{arith, sym, ap, ◌∙◌, ◌≡◌, ◌+◌, ◌-◌, ◌*◌, ◌<◌, ◌≤◌, ℕ, ℤ, pos, ◌+ℤ◌, Bool, true, false, not, ◌&&◌, List, Option, get_or, unwrap_or}
 use Rattle.std.proofs.lemmas.Nat.{mul-add-lt}
 use Rattle.terrain.specs.Raster.{Terrain}
@@ -27,7 +27,7 @@ column_marks b x y n size in_x in_y = omega (arith, size, mul-add-lt y b.cols x 
 pub row_marks : (b : Bounds) (x y n : ℕ) → n ≡ b.rows * b.cols → x < b.rows → y < b.cols → x * b.cols + y * 1 < n
 row_marks b x y n size in_x in_y = omega (arith, size, mul-add-lt x b.cols y b.rows in_x in_y)
 
--- the new mark at an equal index, by an equal test
+-- the new mark stays right if its index and its test are replaced by equal ones
 reported : (new old : List Bool) (i j : ℕ) (walked blocked : Bool) → i ≡ j → walked ≡ blocked → get_or new i false ≡ (get_or old i false && not walked) → get_or new j false ≡ (get_or old j false && not blocked)
 reported new old i j walked blocked at same is =
     ap (λ k. get_or new k false) (sym at) ∙ is ∙ ap (λ k. get_or old k false && not walked) at ∙ ap (λ b. get_or old j false && not b) same

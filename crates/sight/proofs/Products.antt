@@ -25,7 +25,7 @@ times_between a b c = omega (arith, ints, ap (λ z. z * up c) (product_is a b).0
 pub times_short : (a : ℤ) (n : ℕ) → unsigned_abs a ≤ 4096 → n ≤ 4096 → FitsSigned w32 (a *ℤ pos n) × (to_z w32 (of_z w32 a) *ℤ to_z w32 n ≡ a *ℤ pos n)
 times_short a n small few = (fits_signed_mul w32 a (pos n) 4096 4096 small few (omega arith), rw (back_short a (omega arith), to_z_pos w32 n (omega arith)) refl)
 
--- numbers are equal where their bits are
+-- signed numbers of 32 bits are equal exactly if their bits are
 pub same_short : (a b : ℤ) → FitsSigned w32 a → FitsSigned w32 b → IsTrue (eqb (of_z w32 a) (of_z w32 b)) ↔ (a ≡ b)
 same_short a b p q = (
   λ yes. sym (to_z-of_z w32 a p) ∙ ap (to_z w32) (eqb-true (of_z w32 a) (of_z w32 b) yes) ∙ to_z-of_z w32 b q,

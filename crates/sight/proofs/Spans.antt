@@ -10,7 +10,7 @@ use Rattle.horizons.specs.declared.target.Target.{Target}
 use Rattle.horizons.specs.Horizons.{IsTarget, IsRampAt, hides_by, value_at}
 use Rattle.sightlines.specs.Sight.{sight}
 use Rattle.sightlines.specs.Walk.{is_above, whole_at, IsLevel}
-use Rattle.sight.specs.Sweep.{lead_of, lead_axis, line_blocks, ramp_of, IsFamily, IsLine, Passes, StandsAt}
+use Rattle.sight.specs.Sweep.{lead_of, lead_axis, line_blocks, ramp_of, IsFamily, IsLine, Passes, IsAtCell}
 use Rattle.sight.specs.declared.family.Family.{Family}
 use Rattle.sight.proofs.Products.{sum_times, rest_times}
 use Rattle.sightlines.proofs.Levels.{times_small, between_small}
@@ -30,7 +30,7 @@ pub floor_small : (z : ℤ) (n : ℕ) → 0 < n → unsigned_abs z ≤ 2 ^ 24 �
 floor_small (pos a) n some h = omega (arith, ints, mul-le (a / n) 1 (a / n) n (omega arith) (omega arith), div-add-mod' a n)
 floor_small (negsuc a) n some h = omega (arith, ints, mul-le (a / n) 1 (a / n) n (omega arith) (omega arith), div-add-mod' a n)
 
--- the n-ths of a cell by which the ray to a target on line n is past a cell
+-- on line k, the ray to a target on line n is m n-ths of a cell past the cell at `offset`
 pub past : (k : ℕ) (offset : ℤ) (t : Target) → Passes k offset t → (m : ℕ) × (m < t.line) × ((t.offset *ℤ pos k) ≡ (offset *ℤ pos t.line) +ℤ pos m)
 past k offset t p =
     let x = t.offset *ℤ pos k in
@@ -53,10 +53,10 @@ lead_is f n k is few =
 abbrev pub near_index : Family → ℕ → ℕ → ℕ
 near_index f k c = lead_of f k * f.lines.stride + c * f.side.stride
 
-pub stands_past : (f : Family) (k m y : ℕ) (offset : ℤ) (t : Target) → StandsAt f y t → (t.offset *ℤ pos k) ≡ (offset *ℤ pos t.line) +ℤ pos m → (pos y -ℤ pos f.side.at) *ℤ pos k ≡ (offset *ℤ pos t.line) +ℤ pos m
+pub stands_past : (f : Family) (k m y : ℕ) (offset : ℤ) (t : Target) → IsAtCell f y t → (t.offset *ℤ pos k) ≡ (offset *ℤ pos t.line) +ℤ pos m → (pos y -ℤ pos f.side.at) *ℤ pos k ≡ (offset *ℤ pos t.line) +ℤ pos m
 stands_past f k m y offset t stands is = ap (λ z. z *ℤ pos k) (sym stands.offset) ∙ is
 
-pub crossing_is : (cells : List (Option ℤ)) (f : Family) (k c m y : ℕ) (offset rise : ℤ) (t : Target) → StandsAt f y t → k < t.line → m < t.line
+pub crossing_is : (cells : List (Option ℤ)) (f : Family) (k c m y : ℕ) (offset rise : ℤ) (t : Target) → IsAtCell f y t → k < t.line → m < t.line
     → (t.offset *ℤ pos k) ≡ (offset *ℤ pos t.line) +ℤ pos m → pos c ≡ pos f.side.at +ℤ offset
     → line_blocks cells f t.line y rise k
     ≡ is_above (get_or cells (near_index f k c) None) (t.line - m) (get_or cells (near_index f k c + f.side.stride) None) m (sight f.eye (f.eye +ℤ rise) t.line k)
@@ -66,7 +66,7 @@ crossing_is cells f k c m y offset rise t stands later below is at =
     rw (cell.0, cell.1, lead) refl
 
 -- a ray passes no cell outside the side before it is at its target's line
-pub none_outside : (f : Family) (k y : ℕ) (offset : ℤ) (t : Target) → IsFamily f → StandsAt f y t → k < t.line → Passes k offset t → (c : ℕ) × (pos c ≡ pos f.side.at +ℤ offset) × (c < f.side.cells)
+pub none_outside : (f : Family) (k y : ℕ) (offset : ℤ) (t : Target) → IsFamily f → IsAtCell f y t → k < t.line → Passes k offset t → (c : ℕ) × (pos c ≡ pos f.side.at +ℤ offset) × (c < f.side.cells)
 none_outside f k y offset t is stands later passes =
     let m = past k offset t passes in
     let in_side = stays_inside f.side.at y f.side.cells t.line k m.0 offset is.side stands.side (omega arith) m.1 (stands_past f k m.0 y offset t stands m.2) in
@@ -77,14 +77,14 @@ none_outside f k y offset t is stands later passes =
     natural (pos m) n low high = (refl, omega (arith, ints, high))
     natural (negsuc m) n low high = absurd (omega (arith, ints, low))
 
-pub nothing_near : (cells : List (Option ℤ)) (f : Family) (k c y : ℕ) (offset rise : ℤ) (t : Target) → StandsAt f y t → k < t.line → Passes k offset t → pos c ≡ pos f.side.at +ℤ offset
+pub nothing_near : (cells : List (Option ℤ)) (f : Family) (k c y : ℕ) (offset rise : ℤ) (t : Target) → IsAtCell f y t → k < t.line → Passes k offset t → pos c ≡ pos f.side.at +ℤ offset
     → get_or cells (near_index f k c) None ≡ None → line_blocks cells f t.line y rise k ≡ false
 nothing_near cells f k c y offset rise t stands later passes at none =
     let m = past k offset t passes in
     crossing_is cells f k c m.0 y offset rise t stands later m.1 m.2 at
     ∙ (rw none (not_shown_near (get_or cells (near_index f k c + f.side.stride) None) t.line m.0 (sight f.eye (f.eye +ℤ rise) t.line k) m.1))
 
-pub nothing_far : (cells : List (Option ℤ)) (f : Family) (k c y : ℕ) (offset rise near : ℤ) (t : Target) → StandsAt f y t → k < t.line → Passes k offset t → pos c ≡ pos f.side.at +ℤ offset
+pub nothing_far : (cells : List (Option ℤ)) (f : Family) (k c y : ℕ) (offset rise near : ℤ) (t : Target) → IsAtCell f y t → k < t.line → Passes k offset t → pos c ≡ pos f.side.at +ℤ offset
     → get_or cells (near_index f k c) None ≡ Some near → get_or cells (near_index f k c + f.side.stride) None ≡ None → (offset *ℤ pos t.line) <ℤ (t.offset *ℤ pos k)
     → line_blocks cells f t.line y rise k ≡ false
 nothing_far cells f k c y offset rise near t stands later passes at some none beyond =
@@ -137,7 +137,7 @@ ramp_is f k offset near far t is line a b is_t passes =
     }
 
 -- the ramp of the ground between two cells hides what the line blocks
-pub shows_ramp : (cells : List (Option ℤ)) (f : Family) (k c y : ℕ) (offset near far rise : ℤ) (t : Target) → StandsAt f y t → k < t.line → Passes k offset t → pos c ≡ pos f.side.at +ℤ offset
+pub shows_ramp : (cells : List (Option ℤ)) (f : Family) (k c y : ℕ) (offset near far rise : ℤ) (t : Target) → IsAtCell f y t → k < t.line → Passes k offset t → pos c ≡ pos f.side.at +ℤ offset
     → get_or cells (near_index f k c) None ≡ Some near → get_or cells (near_index f k c + f.side.stride) None ≡ Some far
     → hides_by (ramp_of f k offset near far) t rise ≡ line_blocks cells f t.line y rise k
 shows_ramp cells f k c y offset near far rise t stands later passes at some also =
@@ -146,7 +146,7 @@ shows_ramp cells f k c y offset near far rise t stands later passes at some also
     shown_between near far f.eye rise offset t.offset t.line k m.0 m.1 (omega arith) m.2 ∙ sym (here ∙ rw (some, also) refl)
 
 -- at the centre of a cell, the cell's height alone hides what the line blocks
-pub shows_centre : (cells : List (Option ℤ)) (f : Family) (k c y : ℕ) (offset near rise : ℤ) (t : Target) → StandsAt f y t → k < t.line → (t.offset *ℤ pos k) ≡ offset *ℤ pos t.line → pos c ≡ pos f.side.at +ℤ offset
+pub shows_centre : (cells : List (Option ℤ)) (f : Family) (k c y : ℕ) (offset near rise : ℤ) (t : Target) → IsAtCell f y t → k < t.line → (t.offset *ℤ pos k) ≡ offset *ℤ pos t.line → pos c ≡ pos f.side.at +ℤ offset
     → get_or cells (near_index f k c) None ≡ Some near → hides_by (ramp_of f k offset near near) t rise ≡ line_blocks cells f t.line y rise k
 shows_centre cells f k c y offset near rise t stands later centre at some =
     let is : (t.offset *ℤ pos k) ≡ (offset *ℤ pos t.line) +ℤ pos 0 = omega (arith, ints, centre) in

@@ -18,7 +18,7 @@ pub record IsGround (cols rows : ℕ) (cells : List (Option ℤ)) : Type 0 where
   pub size : length cells ≡ cols * rows
   pub heights : AreHeights cells
 
--- The place is that of a block among the blocks.
+-- The place is a block's row and column among the blocks.
 abbrev pub IsBlock : ℕ → Terrain → Place → Type 0
 IsBlock size t block = (block.row < blocks_in size t.rows) × (block.col < blocks_in size t.cols)
 
@@ -41,7 +41,7 @@ pub record AreTopsBetween (size : ℕ) (t : Terrain) (from to : ℕ)
   pub above : (p : Place) (h : ℤ) → from ≤ block_of size t p → block_of size t p < to
       → height_at t p ≡ Some h → IsTopOf (slice_index_or tops (block_of size t p - from) None) h
 
--- The first block of a job, if each job has `share` blocks.
+-- The first block of a job, if each job has `share` blocks; at most `count`.
 abbrev pub share_start : ℕ → ℕ → ℕ → ℕ
 share_start count share job = min count (job * share)
 

@@ -2,7 +2,7 @@
 -- Private.
 use Rattle.std.specs.Prelude.{◌≡◌, ℕ, ◌+◌, ◌-◌, ◌*◌, ◌<◌, ◌≤◌, Bool, true, false, not, ◌&&◌, ◌⊎◌, ℤ, pos, ◌+ℤ◌, ◌-ℤ◌, List, length, Option, None, Some, unwrap_or, slice_get, slice_index_or}
 use Rattle.horizons.specs.declared.target.Target.{Target}
-use Rattle.sight.specs.Sweep.{lead_of, offset_of, IsLine, StandsAt, is_blocked_before}
+use Rattle.sight.specs.Sweep.{lead_of, offset_of, IsLine, IsAtCell, is_blocked_before}
 use Rattle.sight.specs.declared.family.Family.{Family}
 use Rattle.sight.specs.declared.window.CellRun.{CellRun}
 use Rattle.sight.specs.declared.window.Window.{Window}
@@ -20,8 +20,8 @@ pub record IsWindow (f : Family) (w : Window) (marks : List Bool) : Type 0 where
   pub inside : (x y : ℕ) → x < w.lines.cells → y < w.side.cells →
       x * w.lines.stride + y * w.side.stride < length marks
 
--- Different cells have different marks: marks are neighbours along one coordinate, and along the
--- other at least as far apart as the window is long on the first.
+-- Different cells have different marks. Along one coordinate marks are neighbours; along the other
+-- they are at least as far apart as the first coordinate's run has cells.
 pub record IsApart (w : Window) : Type 0 where
   pub apart : ((w.side.stride ≡ 1) × (w.side.cells ≤ w.lines.stride))
       ⊎ ((w.lines.stride ≡ 1) × (w.lines.cells ≤ w.side.stride))
@@ -43,7 +43,7 @@ mark_in_window w x y marks = slice_index_or marks (mark_index w x y) false
 -- The target is a cell of the window, on a line that crosses it.
 pub record IsRay (f : Family) (w : Window) (t : Target) : Type 0 where
   pub cell : ℕ
-  pub stands : StandsAt f cell t
+  pub stands : IsAtCell f cell t
   pub within : IsInRun w.side cell
   pub crosses : Crosses f w t.line
 

@@ -7,7 +7,7 @@ use Rattle.sight.specs.Sweep.{HidesBefore}
 use Rattle.sight.specs.declared.family.Family.{Family}
 use Rattle.sight.specs.declared.looking.SweepLookup.{SweepLookup}
 
--- The look is at line k: its horizon hides what the lines before line k block.
+-- At line k, the lookup's horizon hides a target exactly where a line before line k blocks it.
 pub record LooksFrom (cells : List (Option ℤ)) (f : Family) (targets : List Target) (k : ℕ)
     (l : SweepLookup) : Type 0 where
   pub line : l.line ≡ k

@@ -1,4 +1,4 @@
--- Marks of the places of some bounds, one for each place in row order.
+-- Marks of the places within some bounds, one for each place in row order.
 -- Private.
 use Rattle.std.specs.Prelude.{◌≡◌, ℕ, ◌*◌, ◌<◌, Bool, false, ◌&&◌, List, length, slice_index_or}
 use Rattle.terrain.specs.Raster.{Terrain}
@@ -14,29 +14,29 @@ use Rattle.sight.specs.declared.marking.Check.TheVariants.{Whole, FirstCrossings
 abbrev pub mark_at : Bounds → List Bool → Place → Bool
 mark_at b marks p = slice_index_or marks (index_in b p) false
 
--- There is a mark for each place of the bounds. `Says` holds for the places of index below `end`.
-pub record AreMarkedBelow (b : Bounds) (Says : Place → Bool → Type 0) (end : ℕ)
+-- There is a mark for each place of the bounds. `Holds` is true of places of index below `end`.
+pub record AreMarkedBelow (b : Bounds) (Holds : Place → Bool → Type 0) (end : ℕ)
     (marks : List Bool) : Type 0 where
   pub size : length marks ≡ b.rows * b.cols
-  pub each : (p : Place) → IsInBounds b p → index_in b p < end → Says p (mark_at b marks p)
+  pub each : (p : Place) → IsInBounds b p → index_in b p < end → Holds p (mark_at b marks p)
 
--- There is a mark for each place of the bounds, and `Says` holds for each place.
+-- There is a mark for each place of the bounds, and `Holds` is true of each place and mark.
 abbrev pub AreMarked : Bounds → (Place → Bool → Type 0) → List Bool → Type 0
-AreMarked b Says marks = AreMarkedBelow b Says (b.rows * b.cols) marks
+AreMarked b Holds marks = AreMarkedBelow b Holds (b.rows * b.cols) marks
 
 -- The place is marked exactly where the observer sees it.
-abbrev pub TellsSeen : Terrain → Observer → ℕ → ℕ → Place → Bool → Type 0
-TellsSeen t o target radius p mark = mark ≡ is_seen t o p target radius
+abbrev pub MarksSeen : Terrain → Observer → ℕ → ℕ → Place → Bool → Type 0
+MarksSeen t o target radius p mark = mark ≡ is_seen t o p target radius
 
 -- The place is seen exactly where it is marked and no crossing blocks its line of sight.
-abbrev pub TellsSeenIfOpen : Terrain → Observer → ℕ → ℕ → Place → Bool → Type 0
-TellsSeenIfOpen t o target radius p mark =
+abbrev pub MarksSeenIfOpen : Terrain → Observer → ℕ → ℕ → Place → Bool → Type 0
+MarksSeenIfOpen t o target radius p mark =
     (mark && is_open t o p target) ≡ is_seen t o p target radius
 
--- The mark is what a check promises: of the whole line of sight, or of its first crossings.
+-- The mark is right for a check of the whole line of sight, or of its first crossings.
 abbrev pub IsMarkOf : Check → Terrain → Observer → ℕ → ℕ → Place → Bool → Type 0
-IsMarkOf Whole = TellsSeen
-IsMarkOf FirstCrossings = TellsSeenIfOpen
+IsMarkOf Whole = MarksSeen
+IsMarkOf FirstCrossings = MarksSeenIfOpen
 
 -- Exactly the marks whose places pass a test are kept.
 pub record AreLeft (b : Bounds) (test : Place → Bool) (old new : List Bool) : Type 0 where

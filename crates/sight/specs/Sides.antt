@@ -15,7 +15,7 @@ pub record IsCoordinate (c : Coordinate) : Type 0 where
   pub tile : c.tile.first + c.tile.cells ≤ 4096
   pub strides : (c.stride ≤ 4096) × (c.tile.stride ≤ 4096)
 
--- The family of crossings across one coordinate, away from coordinate 0.
+-- The family whose lines cross coordinate `lines`, run along `side` and count away from 0.
 abbrev pub family_of : Coordinate → Coordinate → ℤ → Family
 family_of lines side eye = record {
   lines = record { at = lines.at; stride = lines.stride; back = false };
@@ -51,7 +51,7 @@ sightline_to cells f height x y = record {
       +ℤ pos height;
 }
 
--- Exactly the marks are kept whose cells' lines of sight no crossing of the lines blocks.
+-- A mark is kept exactly if no crossing with the lines blocks its cell's line of sight.
 pub record AreOpen (cells : List (Option ℤ)) (f : Family) (w : Window) (height : ℕ)
     (old new : List Bool) : Type 0 where
   pub size : length new ≡ length old

@@ -19,11 +19,11 @@ lead_of f k = if f.lines.back then f.lines.at - k else f.lines.at + k
 abbrev pub offset_of : Family → ℕ → ℤ
 offset_of f y = pos y -ℤ pos f.side.at
 
--- The line of sight to line n, across the lines.
+-- The line of sight to line n, on the coordinate across the lines.
 abbrev pub lead_axis : Family → ℕ → Axis
 lead_axis f n = record { from = f.lines.at; to = lead_of f n; stride = f.lines.stride }
 
--- The line of sight to cell y, along the lines.
+-- The line of sight to cell y, on the coordinate along the lines.
 abbrev pub side_axis : Family → ℕ → Axis
 side_axis f y = record { from = f.side.at; to = y; stride = f.side.stride }
 
@@ -76,7 +76,7 @@ AreBefore targets k offset end =
     (i : ℕ) (t : Target) → i < end → slice_get targets i ≡ Some t → IsBefore k offset t
 
 -- The target is cell y of a line of the family.
-pub record StandsAt (f : Family) (y : ℕ) (t : Target) : Type 0 where
+pub record IsAtCell (f : Family) (y : ℕ) (t : Target) : Type 0 where
   pub offset : t.offset ≡ offset_of f y
   pub first : f.side.first ≤ y
   pub side : y < f.side.cells
@@ -100,21 +100,21 @@ IsRise rise = unsigned_abs rise ≤ 2 ^ 51
 pub record Shows (cells : List (Option ℤ)) (f : Family) (k : ℕ) (t : Target)
     (r : Ramp) : Type 0 where
   pub at : IsRampAt r t
-  pub hides : (y : ℕ) (rise : ℤ) → StandsAt f y t → k < t.line → IsRise rise →
+  pub hides : (y : ℕ) (rise : ℤ) → IsAtCell f y t → k < t.line → IsRise rise →
       hides_by r t rise ≡ line_blocks cells f t.line y rise k
 
 -- The ramp hides each target from index `from` to below `end` that line k blocks.
 abbrev pub IsHiddenOn : List (Option ℤ) → Family → List Target → ℕ → Ramp → ℕ → ℕ → Type 0
 IsHiddenOn cells f targets k r from end =
     (i : ℕ) (t : Target) → from ≤ i → i < end → slice_get targets i ≡ Some t
-    → (y : ℕ) (rise : ℤ) → StandsAt f y t → k < t.line →
+    → (y : ℕ) (rise : ℤ) → IsAtCell f y t → k < t.line →
     line_blocks cells f t.line y rise k ≡ true → hides_by r t rise ≡ true
 
 -- The ramp hides target t exactly where the old horizon does or line k blocks it.
 pub record Raises (cells : List (Option ℤ)) (f : Family) (k : ℕ) (old : List Piece) (i : ℕ)
     (t : Target) (r : Ramp) : Type 0 where
   pub at : IsRampAt r t
-  pub hides : (y : ℕ) (rise : ℤ) → StandsAt f y t → k < t.line → IsRise rise →
+  pub hides : (y : ℕ) (rise : ℤ) → IsAtCell f y t → k < t.line → IsRise rise →
       hides_by r t rise ≡ (hides old i t rise || line_blocks cells f t.line y rise k)
 
 -- The new horizon hides each target below index `end` exactly where the old one does or line k
@@ -130,5 +130,5 @@ pub record HidesBefore (cells : List (Option ℤ)) (f : Family) (targets : List 
     (h : List Piece) : Type 0 where
   pub over : IsOver targets h
   pub hides : (i : ℕ) (t : Target) (y : ℕ) (rise : ℤ) → slice_get targets i ≡ Some t →
-      StandsAt f y t → k ≤ t.line → IsRise rise
+      IsAtCell f y t → k ≤ t.line → IsRise rise
       → hides h i t rise ≡ is_blocked_before cells f t.line y rise k

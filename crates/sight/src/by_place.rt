@@ -1,4 +1,4 @@
-//! Builds lists with one entry for each place of some bounds, in row order.
+//! Builds lists with one entry for each place of a tile, in row order.
 ghost use Rattle.std.specs.Prelude.{◌+◌, ◌-◌, ◌*◌, ◌<◌, ◌≤◌, IfOk, OnOk};
 ghost use Rattle.terrain.specs.declared.place.Place.{Place};
 ghost use Rattle.tiles.specs.Cutting.{IsInBounds};
@@ -8,7 +8,7 @@ use std::alloc::{AllocError, Global};
 use terrain::Place;
 use tiles::Bounds;
 
-/// A map with an entry at each of its places.
+/// A map that computes the entry of each of its places.
 pub(crate) trait PlaceMap {
     type Entry;
 
@@ -23,7 +23,7 @@ pub(crate) trait PlaceMap {
         ensures { has self.now place result };
 }
 
-/// Appends the entries of one row of the bounds.
+/// Appends the entries of one row of a tile with these bounds.
 #[inline(always)]
 fn push_row<M: PlaceMap>(
     map: &M,
@@ -47,7 +47,7 @@ where
     Ok(())
 }
 
-/// Returns the entries of all places of the bounds, in row order.
+/// Returns the entries of all places within the bounds, in row order.
 pub(crate) fn entries<M: PlaceMap>(
     map: &M,
     alloc: Global,

@@ -1,6 +1,6 @@
-//! A family of crossings: the lines on one side of an observer, counted outward from 1.
+//! A family of crossings: all those with the lines on one side of an observer.
 //!
-//! `Family::span` returns the ground that a ray meets on a line.
+//! Lines count outward from 1. `Family::span` returns the ground that a ray meets on a line.
 ghost use Rattle.std.specs.Prelude.{◌≡◌, ◌↔◌, ℕ, ◌^◌, ◌≤◌, IsTrue, true, pos, ◌+ℤ◌, ◌-ℤ◌, ◌*ℤ◌, ◌≤ℤ◌, ◌<ℤ◌, ◌<◌, ℤ, None, Some, MatchOption, unsigned_abs};
 ghost use Rattle.std.specs.Bool.{OnTrue};
 ghost use Rattle.horizons.specs.declared.target.Target.{Target};
@@ -16,8 +16,8 @@ use horizons::{Ramp, Target};
 use terrain::{Cell, Height};
 
 /// The coordinate across a family's lines.
-/// The observer is at `at`; neighbours are `stride` apart in the list of cells. With `back` the
-/// lines count toward coordinate 0.
+/// The observer is at `at`; neighbouring cells are `stride` apart in the list of cells. With `back`
+/// the lines count toward coordinate 0.
 #[derive(Clone, Copy)]
 pub struct Lines {
     pub at: u32,
@@ -26,7 +26,7 @@ pub struct Lines {
 }
 
 /// The coordinate along a family's lines.
-/// The observer is at `at`. Cells `first` to below `cells` include it and all targets.
+/// The observer is at `at`. Cells `first` to below `cells` include that cell and all targets.
 #[derive(Clone, Copy)]
 pub struct Side {
     pub at: u32,
@@ -35,7 +35,7 @@ pub struct Side {
     pub cells: u32,
 }
 
-/// The crossings with the columns, or the rows, on one side of an observer.
+/// The crossings with the columns, or rows, on one side of an eye at level `eye`.
 #[derive(Clone, Copy)]
 pub struct Family {
     pub lines: Lines,
@@ -44,8 +44,8 @@ pub struct Family {
 }
 
 /// The ground that a ray meets on a line, as a ramp.
-/// The ray passes over or beside the cell at offset `offset`. The ramp holds for all rays from this
-/// one to the cell after `last`, or with `alone` for this ray only.
+/// The ray passes over the cell at `offset`, or between it and the next. The ramp holds for this
+/// and later rays, to before the cell after `last`; with `alone` for this ray only.
 #[derive(Clone, Copy)]
 pub struct Span {
     pub offset: i32,
@@ -65,7 +65,7 @@ pub(crate) fn offset_at(target: Target, line: u32) -> i32
     (target.offset * line as i32).div_euclid(target.line as i32)
 }
 
-/// Returns whether the ray to a target crosses a line at a cell's centre.
+/// Returns whether the ray to a target crosses a line at cell `offset`'s centre.
 #[inline(always)]
 fn is_at_centre(target: Target, line: u32, offset: i32) -> bool
     requires target { IsTarget target }
@@ -142,7 +142,7 @@ impl Family {
         }
     }
 
-    /// Returns the list index of a line's cell at `offset`, or `None` past its ends.
+    /// Returns the list index of a line's cell at `offset`, if there is such a cell.
     #[inline(always)]
     pub(crate) fn index_at(self, line: u32, offset: i32) -> Option<usize>
         requires family { IsFamily self }
@@ -231,7 +231,7 @@ impl Family {
         self.ramp(line, offset, near, far) == ramp
     }
 
-    /// Returns the last offset, counted on from `first`, of ground with this ramp.
+    /// Returns the last offset up to which the ground from `first` on has this ramp.
     #[inline(always)]
     fn last_of(self, cells: &[Cell], line: u32, first: i32, ramp: Ramp) -> i32
         requires heights { AreHeights cells.now }

@@ -24,7 +24,7 @@ impl Family {
         first.max(2)
     }
 
-    /// Returns the end of the lines that may cross the window; all before it exist.
+    /// Returns the end of existing lines, beyond all lines that cross the window.
     fn end_line(self, window: Window) -> u32
         requires family { IsFamily self }
         requires lines { window.lines.first + window.lines.cells ≤ 4096 }

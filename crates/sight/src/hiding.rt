@@ -1,7 +1,7 @@
 //! Removes the marks of cells that one family of crossings hides (`hide`).
 ghost use Rattle.std.specs.Prelude.{◌≡◌, ℕ, ◌≤◌, false, OnOk, slice_set};
 ghost use Rattle.sightlines.specs.Walk.{AreHeights};
-ghost use Rattle.sight.specs.Sweep.{IsFamily, StandsAt, lead_of};
+ghost use Rattle.sight.specs.Sweep.{IsFamily, IsAtCell, lead_of};
 ghost use Rattle.sight.specs.Hiding.{mark_index, AreHidden, IsApart, IsRay, IsWindow};
 
 use crate::family::Family;
@@ -19,7 +19,7 @@ impl Family {
         requires family { IsFamily self }
         requires window { IsWindow self window marks.old }
         requires ray { IsRay self window ray }
-        ensures { (y : ℕ) → StandsAt self y ray
+        ensures { (y : ℕ) → IsAtCell self y ray
             → marks.new ≡ slice_set marks.old (mark_index window (lead_of self ray.line) y) false }
     {
         let row = (self.lead_of(ray.line) - window.lines.first) as usize * window.lines.stride;

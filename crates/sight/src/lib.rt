@@ -1,7 +1,7 @@
 //! Viewsheds: how many observers see each cell of a terrain grid.
 //!
-//! Begin with [`viewshed`]; [`sees`] tests one line of sight. Each tile is marked for one observer
-//! after another, by walks along lines of sight or by one sweep over the tile. Depends on
+//! Begin with [`viewshed`]; [`sees`] tests one line of sight. The cells of each tile that one
+//! observer sees are marked by walks along lines of sight or by one sweep over the tile. Depends on
 //! `sightlines`, `horizons` and `tile_maps`.
 //!
 //! Modules, callers first:
@@ -24,7 +24,7 @@
 //! - `rising`: how far a target rises above the eye
 //! - `window`: parts of the grid whose cells have marks
 //! - `heights`: heights of cells in a list
-//! - `by_place`: lists with one entry for each place of some bounds
+//! - `by_place`: builds lists with one entry for each place of a tile
 //! - `laws`: theorems about the definitions
 #![tactic(auto)]
 

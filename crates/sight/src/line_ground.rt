@@ -50,7 +50,7 @@ fn bisect(targets: &[Target], low: usize, high: usize, line: u32, offset: i32) -
 }
 
 /// Returns the end of the targets whose rays cross before the cell at `offset`.
-/// Target `from` is one of them; the result is at most `end`.
+/// Target `from` is one of them; the result is at most `end`. Doubles its leaps, then bisects.
 #[inline]
 fn count_before(targets: &[Target], from: usize, end: usize, line: u32, offset: i32) -> usize
     requires targets { AreTargets targets.now }
@@ -94,8 +94,8 @@ fn end_of(span: Span, targets: &[Target], from: usize, end: usize, line: u32) ->
     count_before(targets, from, end, line, span.last + 1)
 }
 
-/// Returns how many targets have rays before the first cell of the side.
-/// The sweep has passed them, since the side holds every target's own cell.
+/// Returns how many targets have rays that cross a line before its first cell.
+/// The sweep has passed these targets, since the side has the cell of each target.
 fn count_before_side(family: Family, line: u32, targets: &[Target]) -> usize
     requires family { IsFamily family }
     requires line { line ≤ 4096 }
@@ -111,8 +111,8 @@ fn count_before_side(family: Family, line: u32, targets: &[Target]) -> usize
     count_before(targets, 0, targets.len(), line, first)
 }
 
-/// Whether a piece has the number of the line before, as that line's ground has.
-/// This line mostly rises above that ground too, so `raise` does not call `is_too_low`.
+/// Whether a piece's ramp may be ground of the line just before `line`.
+/// A line mostly rises above the ground just before it, so `raise` omits the test `is_too_low`.
 #[inline(always)]
 fn is_of_last_line(piece: Piece, line: u32) -> bool
     requires line { 0 < line }
@@ -120,7 +120,7 @@ fn is_of_last_line(piece: Piece, line: u32) -> bool
     piece.ramp.lines == line - 1
 }
 
-/// Returns true only if a line is nowhere above a horizon's piece from `from` on.
+/// Returns true only if a line is nowhere above a piece from target `from` on.
 #[inline(always)]
 fn is_too_low(
     cells: &[Cell],
@@ -153,7 +153,7 @@ fn is_too_low(
     )
 }
 
-/// Raises a piece of `highest` to the ground of a line, from `raised`'s extent on.
+/// Raises a piece of `highest` to a line's ground, and extends `raised` by that.
 fn raise_piece(
     cells: &[Cell],
     family: Family,

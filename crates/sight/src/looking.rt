@@ -14,7 +14,7 @@ use horizons::{Cursor, Target};
 use std::alloc::{AllocError, Global};
 use terrain::Cell;
 
-/// Returns `cursor`, or a fresh one if it may be past `rank`.
+/// Returns `cursor`, or a cursor at the first piece if `cursor` may be past `rank`.
 #[inline(always)]
 fn cursor_at(cursor: Cursor, last: usize, rank: usize) -> Cursor
     ensures { (pieces : List Piece) → IsUpTo pieces cursor last → IsUpTo pieces result rank }
@@ -33,7 +33,7 @@ pub struct SweepLookup {
 }
 
 impl SweepLookup {
-    /// Returns a look at the first line.
+    /// Returns a lookup for line 1, before which there is no line.
     pub(crate) fn new(alloc: Global, targets: &[Target]) -> Result<Self, AllocError>
         requires { AreTargets targets.now }
         ensures { IfOk result

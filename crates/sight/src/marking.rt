@@ -6,7 +6,7 @@ ghost use Rattle.std.specs.Prelude.{◌≡◌, ◌+◌, ◌-◌, ◌*◌, ◌<�
 ghost use Rattle.terrain.specs.Neighbours.{IsInside};
 ghost use Rattle.tiles.specs.Cutting.{AreBounds, IsCutting};
 ghost use Rattle.sightlines.specs.Sight.{highest_eye, place_of};
-ghost use Rattle.sight.specs.Marks.{AreMarkedBelow, AreMarked, TellsSeen, IsMarkOf};
+ghost use Rattle.sight.specs.Marks.{AreMarkedBelow, AreMarked, MarksSeen, IsMarkOf};
 
 use crate::tile::Viewing;
 use sightlines::{WalkCache, may_see, sees_past_blocks};
@@ -17,13 +17,13 @@ use tiles::Bounds;
 /// The number of sampled walks that decide between walks and a sweep.
 const SAMPLES: u32 = 64;
 
-/// The side of a usual tile, in cells.
+/// The default side of a tile, in cells.
 const USUAL_SIDE: u32 = 256;
 
-/// The least average of crossings per sampled walk at which a usual tile is swept.
+/// From this average of crossings per sampled walk on, a default tile is swept.
 const SWEPT_CROSSINGS: u32 = 128;
 
-/// The least side, in cells, that the choice takes a tile to have.
+/// Tiles with shorter sides count as having this side, in cells, in the choice.
 const SWEPT_SIDE: u32 = 64;
 
 /// Which crossings of a line of sight are tested: all, or those beside the target.
@@ -48,7 +48,7 @@ impl<'a> Viewing<'a> {
         requires eye { observer.now.eye ≤ highest_eye }
         requires size { length seen.old ≡ bounds.rows * bounds.cols }
         ensures { OnOk result (AreMarked bounds
-            (TellsSeen self.now.grid.now.terrain observer.now self.now.target_height
+            (MarksSeen self.now.grid.now.terrain observer.now self.now.target_height
             self.now.radius) seen.new) }
     {
         if !self.walks_are_long(observer, bounds) {
@@ -60,7 +60,7 @@ impl<'a> Viewing<'a> {
     }
 
     /// Whether walks to a tile's cells cost more than a sweep, judged by a sample.
-    /// The smaller the tile, the higher the limit, since fewer cells share the sweep.
+    /// The smaller the tile, the higher the limit, since fewer cells share a sweep's cost.
     fn walks_are_long(&self, observer: &Observer, bounds: Bounds) -> bool
         requires lawful { IsCutting self.now.tiling.now }
         requires inside { AreBounds self.now.tiling.now bounds }

@@ -52,7 +52,7 @@ fn number_by_slope(alloc: Global, rays: &[Target]) -> Result<Vec<RaySlope>, Allo
     Ok(order)
 }
 
-/// Sorts the targets of rays by rising slope, and returns each ray's rank.
+/// Returns the targets of rays by rising slope, and the rank of each ray's target.
 pub(crate) fn rank(alloc: Global, rays: &[Target]) -> Result<RankedRays, AllocError>
     requires each { (i : ℕ) (t : Target) → slice_get rays.now i ≡ Some t → IsTarget t }
     requires few { length rays.now ≤ 2 ^ 24 }

@@ -4,7 +4,7 @@ ghost use Rattle.horizons.specs.Horizons.{IsTarget};
 ghost use Rattle.horizons.specs.declared.target.Target.{Target};
 ghost use Rattle.terrain.specs.Raster.{IsHeight};
 ghost use Rattle.sightlines.specs.Walk.{AreHeights};
-ghost use Rattle.sight.specs.Sweep.{IsFamily, IsLine, IsRise, StandsAt};
+ghost use Rattle.sight.specs.Sweep.{IsFamily, IsLine, IsRise, IsAtCell};
 ghost use Rattle.sight.specs.Hiding.{height_at, rise_at};
 
 use crate::family::Family;
@@ -20,7 +20,7 @@ impl Family {
         requires family { IsFamily self }
         requires line { IsLine self target.line }
         requires target { IsTarget target }
-        ensures value { (y : ℕ) → StandsAt self y target →
+        ensures value { (y : ℕ) → IsAtCell self y target →
             result ≡ height_at cells.now self target.line y }
         ensures height { (h : ℤ) → result ≡ Some h → IsHeight h }
     {
@@ -39,7 +39,7 @@ impl Family {
         requires line { IsLine self target.line }
         requires target { IsTarget target }
         requires height { height ≤ 1000000 }
-        ensures value { (y : ℕ) → StandsAt self y target →
+        ensures value { (y : ℕ) → IsAtCell self y target →
             result ≡ rise_at cells.now self height target.line y }
         ensures small { IsRise result }
     {

@@ -1,6 +1,6 @@
 //! Sweeps a tile: removes the marks of cells that a crossing hides.
 //!
-//! It takes four families of crossings in turn, one for each side of the observer.
+//! The sweep takes four families of crossings in turn, one for each side of the observer.
 ghost use Rattle.std.specs.Prelude.{◌≡◌, ℕ, ◌+◌, ◌*◌, ◌<◌, ◌≤◌, true, length, OnOk};
 ghost use Rattle.terrain.specs.Neighbours.{IsInside};
 ghost use Rattle.terrain.specs.declared.place.Place.{Place};
@@ -38,8 +38,8 @@ impl Family {
     }
 }
 
-/// A coordinate of the grid, with the observer's place and the tile's run on it.
-/// Neighbours along it are `stride` apart in the list of cells.
+/// A coordinate of the grid: the observer's cell `at`, and the tile's run of cells.
+/// Neighbouring cells along it are `stride` apart in the list of cells.
 #[derive(Clone, Copy)]
 pub struct Coordinate {
     pub at: u32,
@@ -116,7 +116,7 @@ impl<'a> Viewing<'a> {
             row: observer.row,
             col: observer.col,
         };
-        // an observer's cell has data; elsewhere the definition takes 0 too
+        // an observer's cell has data; for a cell without data the definition takes 0 too
         let ground = height_at(cells, stands.index_in(cols));
         let eye = level(ground.unwrap_or(0), observer.eye);
         let columns = Coordinate {

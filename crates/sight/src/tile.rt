@@ -76,7 +76,7 @@ impl<'a> Viewing<'a> {
         is_any_in_reach(eye, bounds, self.radius)
     }
 
-    /// Adds each observer to the values of the tile's cells that it sees.
+    /// Adds each observer to the values of the tile's cells that the observer sees.
     /// `seen` is overwritten. Each observer is one part of the tile's job for the gate.
     fn count_observers<G: Gate>(
         &self,

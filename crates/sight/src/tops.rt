@@ -41,7 +41,7 @@ fn top_cell(top: Option<Height>) -> Cell
     }
 }
 
-/// Cells cut into blocks of `size` by `size`, smaller at the east and south ends.
+/// Cells cut into blocks of `size` by `size`, smaller at the east and south edges.
 #[derive(Drop)]
 struct Blocks<'a> {
     cells: &'a [Cell],
@@ -154,7 +154,7 @@ fn shared_tops<R: Threads + Wait + Sync, G: Gate + Sync>(
 }
 
 /// Returns the greatest heights of a grid's near and far blocks, and its peak.
-/// `jobs` jobs find those of the near blocks.
+/// `jobs` jobs find the heights of the near blocks.
 pub(crate) fn tops_of<R: Threads + Wait + Sync, G: Gate + Sync>(
     runner: &Runner<R, G>,
     grid: &Grid,

@@ -2,8 +2,8 @@
 ghost use Rattle.std.specs.Prelude.{◌↔◌, ◌+◌, ◌<◌, ◌^◌, IsTrue};
 ghost use Rattle.sight.specs.Hiding.{IsInRun};
 
-/// A run of cells along a coordinate: `cells` of them, from `first` on.
-/// Their marks are `stride` apart in the list of marks.
+/// A run of `cells` cells along a coordinate, from cell `first` on.
+/// The marks of neighbouring cells are `stride` apart in the list of marks.
 #[derive(Clone, Copy)]
 pub struct CellRun {
     pub first: u32,

@@ -17,7 +17,7 @@ use Rattle.std.proofs.lemmas.Int.{ints}
 use Rattle.sightlines.specs.declared.walk.Axis.{Axis}
 use Rattle.sightlines.specs.declared.walk.Sightline.{Sightline}
 
--- a cell of weight 0 changes nothing
+-- the far cell changes nothing if its weight is 0
 above_same : (near near' far far' : Option ℤ) (v w : ℕ) (z : ℤ) → near ≡ near' → (0 < w → far ≡ far') → is_above near v far w z ≡ is_above near' v far' w z
 above_same near near' far far' v w z e same =
     elim (cases_lt 0 w) [

@@ -22,7 +22,7 @@ ground_is_height (Some h) are = are h refl
 pub height_fits : (h : ℤ) → IsHeight h → FitsSigned w64 h
 height_fits h is = omega (arith, ints, is)
 
--- a height is within the limits after a conversion to a word
+-- a height is within the limits after a conversion to 64 bits and back
 pub kept : (h : ℤ) → IsHeight h → IsHeight (to_z w64 (of_z w64 h))
 kept h is = rw (to_z-of_z w64 h (height_fits h is)) is
 
@@ -30,7 +30,7 @@ pub has_height : (cells : List (Option ℤ)) (index : ℕ) {cell height : Option
     get_or cells index None ≡ Some h
 has_height cells index {cell = cell} read same is below = sym (read ∙ get_or_default cells index cell None below) ∙ sym same ∙ is
 
--- the product of a height and a weight fits
+-- the product of a height and a weight, as the code computes it, fits and is exact
 pub weighed_is : (h : ℤ) (n : ℕ) → n ≤ 4096 → IsHeight h → let z = to_z w64 n *ℤ to_z w64 (of_z w64 h) in FitsSigned w64 z × (to_z w64 (of_z w64 z) ≡ pos n *ℤ h)
 weighed_is h n few is =
     let fits = fits_signed_mul w64 (pos n) h 4096 (10 ^ 15) few (omega (arith, ints, is)) (omega arith) in

@@ -24,7 +24,7 @@ sight_more e f n k h = omega (arith, ints, sight_on e f n k 1 (omega arith))
 pub times_small : (a b : ℤ) (m n : ℕ) → unsigned_abs a ≤ m → unsigned_abs b ≤ n → unsigned_abs (a *ℤ b) ≤ m * n
 times_small a b m n p q = omega (arith, unsigned_abs-mul a b, mul-le (unsigned_abs a) (unsigned_abs b) m n p q)
 
--- a weighted sum of two levels is small
+-- a sum of two levels of at most m, with weights of at most n together, is at most m * n
 pub between_small : (e f : ℤ) (m r k n : ℕ) → unsigned_abs e ≤ m → unsigned_abs f ≤ m → r + k ≤ n → unsigned_abs ((e *ℤ pos r) +ℤ (f *ℤ pos k)) ≤ m * n
 between_small e f m r k n p q few =
     let a = times_small e (pos r) m r p (omega arith) in
@@ -61,7 +61,7 @@ rise_fits e f p q = omega (arith, ints)
 pub more_fits : (e f : ℤ) (n k : ℕ) → IsLevel e → IsLevel f → k < n → n ≤ 4096 → FitsSigned w64 (sight e f n k +ℤ (f -ℤ e))
 more_fits e f n k p q h l = let is = sight_bounded e f n (k + 1) p q (omega arith) l in fits (sight e f n k +ℤ (f -ℤ e)) (rw (sight_more e f n k h) at is)
 
--- the next level, as the walk computes it
+-- the sight at the next step, as the walk computes it
 pub next_level : (e f : ℤ) (n k bits : ℕ) → IsLevel e → IsLevel f → k < n → n ≤ 4096 → to_z w64 bits ≡ sight e f n k
     → let sum = to_z w64 bits +ℤ to_z w64 (of_z w64 (to_z w64 (of_z w64 f) -ℤ to_z w64 (of_z w64 e))) in FitsSigned w64 sum × (to_z w64 (of_z w64 sum) ≡ sight e f n (k + 1))
 next_level e f n k bits p q h l was =
@@ -87,7 +87,7 @@ rise_is e f m p q h =
     let fit = leap_fits e f m p q h in
     rw (from.1, to.1) (fit, to_z-of_z w64 ((f *ℤ pos m) -ℤ (e *ℤ pos m)) fit)
 
--- the level after a leap, as the code computes it
+-- the sight after a leap of m steps, as the code computes it
 pub leapt_level : (e f z rise : ℤ) (n k m : ℕ) → IsLevel e → IsLevel f → k + m ≤ n → n < 4096 → z ≡ sight e f n k → rise ≡ (f *ℤ pos m) -ℤ (e *ℤ pos m)
     → let sum = to_z w64 (of_z w64 z) +ℤ to_z w64 (of_z w64 rise) in FitsSigned w64 sum × (to_z w64 (of_z w64 sum) ≡ sight e f n (k + m))
 leapt_level e f z rise n k m p q h few z_is rise_is =

@@ -19,7 +19,7 @@ use Rattle.terrain.specs.Neighbours.{IsInside}
 use Rattle.terrain.specs.declared.place.Place.{Place}
 use Rattle.sightlines.proofs.Crossings.{height_is}
 
--- a weighted sum of two ends grows as weight moves to the greater one
+-- a weighted sum of two numbers grows as weight moves to the greater number
 rising : (a b i p q r : ℕ) → a ≤ b → (a * (p + (q + r)) + b * i ≤ a * (q + r) + b * (i + p)) × (a * (q + r) + b * (i + p) ≤ a * r + b * (i + p + q))
 rising a b i p q r h = (omega (arith, mul-le a p b p h (omega arith)), omega (arith, mul-le a q b q h (omega arith)))
 
@@ -33,7 +33,7 @@ between_parts a b i p q r =
       | inr high ↦ let is = falling a b i p q r high in (omega (arith, is), omega (arith, is))
     ]
 
--- at a step between two others, a line is between its places at these
+-- at a step between two other steps, a line is between its places at those two
 pub toward_between : (a b n i j k : ℕ) → i ≤ k → k ≤ j → j ≤ n → (min (toward a b n i) (toward a b n j) ≤ toward a b n k) × (toward a b n k ≤ max (toward a b n i) (toward a b n j))
 toward_between a b n i j k low high few =
     let k_is : k ≡ i + (k - i) = omega arith in
@@ -95,7 +95,7 @@ sight_between e f z n i j k low high few one two =
     let at_j : sight e f n j ≡ ((e *ℤ pos (n - j)) +ℤ (f *ℤ pos (i + (k - i) + (j - k)))) = ap (λ x. (e *ℤ pos (n - j)) +ℤ (f *ℤ pos x)) j_is in
     rw at_k (sight_parts e f z i (k - i) (j - k) (n - j) (rw at_i at one) (rw at_j at two))
 
--- a weighted sum of two heights is not above a bound of both
+-- a weighted sum of two heights is at most z, if v + w times each height is
 mixed : (g h z : ℤ) (v w : ℕ) → (pos (v + w) *ℤ g) ≤ℤ z → (pos (v + w) *ℤ h) ≤ℤ z → (pos v *ℤ g +ℤ pos w *ℤ h) ≤ℤ z
 mixed g h z v w one two =
     elim (cases_lt (up g + down h) (up h + down g)) [
@@ -205,7 +205,7 @@ step_above size cells tops line s peak i k start some low high at_start is_top i
     below_peak None p h is all = absurd is
     below_peak (Some x) p h is all = omega (arith, ints, is, all x refl)
 
--- a number below an end is in one of the blocks before that end
+-- row r of `rows` rows is in one of the blocks of these rows
 pub block_before : (size r rows : ℕ) → 0 < size → r < rows → r / size < blocks_in size rows
 block_before size r rows some below =
     let next : (size + r) / size ≡ r / size + 1 = add-div_left r some in
@@ -216,7 +216,7 @@ pub block_below : (size cols rows r c : ℕ) → 0 < size → r < rows → c < c
 block_below size cols rows r c some a b =
     omega (arith, mul-add-lt (r / size) (blocks_in size cols) (c / size) (blocks_in size rows) (block_before size r rows some a) (block_before size c cols some b))
 
--- the entry for the block of a place, by their indices i and j
+-- a block's entry, at index j, is no less than the height of its place at index i
 top_at : (size : ℕ) (t : Terrain) (tops : List (Option ℤ)) (r c i j : ℕ) (h : ℤ) → AreTops size t tops → r < t.rows → c < t.cols → i ≡ r * t.cols + c → j ≡ r / size * blocks_in size t.cols + c / size
     → get_or t.cells i None ≡ Some h → IsTopOf (get_or tops j None) h
 top_at size t tops r c i j h are a b i_is j_is is =

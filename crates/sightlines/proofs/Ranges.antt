@@ -28,7 +28,7 @@ none_joined p a m b n e one two =
       | inr after ↦ none_at p b n k two after (omega arith)
     ])
 
--- none passes in a range that grows by one that does not
+-- if none passes and the next number does not, none passes in the range longer by one
 pub any_more : (p : ℕ → Bool) (a n : ℕ) → list_any p (range_with_len a n) ≡ false → p (a + n) ≡ false → list_any p (range_with_len a (n + 1)) ≡ false
 any_more p a n none next = none_joined p a n (a + n) 1 refl none (or_from _ _ next refl)
 
@@ -38,7 +38,7 @@ any_within p a m b n low high any = elim (list_any p (range_with_len a m)) as (�
   | false ↦ λ e. let none = none_from p b n (λ k above below. none_at p a m k e (omega arith) (omega arith)) in absurd (cc)
 ] refl
 
--- a test counted from the other end of the range
+-- whether some number passes does not change if the range is counted from its other end
 pub any_back : (p q : ℕ → Bool) (n : ℕ) → ((k : ℕ) → 1 ≤ k → k < n → p k ≡ q (n - k)) → list_any p (range_with_len 1 (n - 1)) ≡ list_any q (range_with_len 1 (n - 1))
 any_back p q n same = elim (list_any q (range_with_len 1 (n - 1))) as (λ v. list_any q (range_with_len 1 (n - 1)) ≡ v → list_any p (range_with_len 1 (n - 1)) ≡ v) [
   | false ↦ λ e. none_from p 1 (n - 1) (λ k low high. same k low (omega arith) ∙ none_at q 1 (n - 1) (n - k) e (omega arith) (omega arith))

@@ -8,7 +8,7 @@ use Rattle.sightlines.specs.Walk.{walk_blocks, over_columns, over_rows, IsLevel,
 use Rattle.terrain.specs.declared.observer.Observer.{Observer}
 use Rattle.sightlines.proofs.Crossings.{column_blocks-walk, row_blocks-walk, columns_in_list, rows_in_list, walk_back}
 
--- with data at both ends and a target within the radius, the crossings decide
+-- with data in both cells and the target within the radius, the crossings decide
 seen_is : (t : Terrain) (o : Observer) (q : Place) (target radius : ℕ) (from to : ℤ) → IsInside t (place_of o) → IsInside t q
     → height_at t (place_of o) ≡ Some from → height_at t q ≡ Some to → is_near (place_of o) q radius ≡ true
     → let p = place_of o in let e = from +ℤ pos o.eye in let f = to +ℤ pos target in
@@ -79,7 +79,7 @@ pub hidden_by_rows : (seen a b : Bool) → seen ≡ (not a && not b) → b ≡ t
 hidden_by_rows seen true b is blocked = sym is
 hidden_by_rows seen false b is blocked = sym (is ∙ ap not blocked)
 
--- a first crossing with a row may hide the target; else `is_open` decides
+-- a row crossing that blocks hides the target; where none was found, `is_open` decides
 pub seen_if_open : (seen is_open a b rows : Bool) → seen ≡ (not a && not b) → seen ≡ is_open → (rows ≡ true → b ≡ true) → (not rows && is_open) ≡ seen
 seen_if_open seen is_open a b true is same reported = hidden_by_rows seen a b is (reported refl)
 seen_if_open seen is_open a b false is same reported = sym same

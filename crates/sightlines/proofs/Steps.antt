@@ -36,7 +36,7 @@ index_passes lead side n k pace e h p passed =
     let both = moved (whole_at lead n k) (whole_at side n k) lead.stride side.stride p.lead_ahead p.lead_behind p.side_ahead p.side_behind (whole_at lead n (k + 1)) (whole_at side n (k + 1)) 1 one two.0 in
     (omega (arith, both, p.ahead, p.behind, p.beside), two.1)
 
--- a coordinate is at most its greater end
+-- the whole cell is at most the greater end of its axis
 pub whole_le : (a : Axis) (n k : ℕ) → 0 < n → k ≤ n → whole_at a n k ≤ max a.from a.to
 whole_le a n k some h =
     let t = toward a.from a.to n k in
@@ -45,7 +45,7 @@ whole_le a n k some h =
       | inr low ↦ low
     ]
 
--- if the part is above 0, the next cell is at most the greater end
+-- if the part is above 0, the next cell too is at most the greater end of the axis
 pub whole_lt : (a : Axis) (n k : ℕ) → 0 < n → k ≤ n → 0 < part_at a n k → whole_at a n k + 1 ≤ max a.from a.to
 whole_lt a n k some h parts =
     let t = toward a.from a.to n k in
@@ -71,7 +71,7 @@ room lead side n k pace some h p ends strides =
     let d = mul-le p.side_ahead side.stride 4096 4096 (omega (arith, p.side_gains.few_ahead)) strides.1 in
     omega (arith, a, b, c, d, p.ahead, p.beside)
 
--- `next` returns the index and the part of the next step
+-- the index and the part that `next` returns are those of step k + 1
 pub next_is : (lead side : Axis) (n k : ℕ) (pace : Pace) (index part : ℕ) → n ≡ abs_diff lead.from lead.to → k < n → IsPace lead side n pace
     → (part_at side n k + pace.part < pace.steps → (index + pace.behind ≡ index_at lead side n k + pace.ahead) × (part ≡ part_at side n k + pace.part))
     → (pace.steps ≤ part_at side n k + pace.part → (index + pace.behind ≡ index_at lead side n k + pace.ahead + pace.beside) × (part + pace.steps ≡ part_at side n k + pace.part))

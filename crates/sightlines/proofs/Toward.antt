@@ -6,7 +6,7 @@ use Rattle.std.proofs.lemmas.Bool.{cases_lt, lt-ltb, le-ltb}
 use Rattle.std.proofs.lemmas.Nat.{div-mul-add, mod-mul-add, div-add-mod', mul-le, mod_below}
 use Rattle.sightlines.specs.Sight.{toward, onward}
 
--- a quotient and a remainder, from an equation with `back` added to both sides
+-- quotient and remainder of t by n, where t plus `back` * n is x * n + m
 pub quotient_is : (t x n m back : ℕ) → t + back * n ≡ x * n + m → m < n → (t / n + back ≡ x) × (t % n ≡ m)
 quotient_is t x n m back e below =
     let low : back ≤ x = elim (cases_lt x back) [

@@ -34,7 +34,7 @@ pub record AreTops (size : ℕ) (t : Terrain) (tops : List (Option ℤ)) : Type 
 abbrev pub IsPeak : List (Option ℤ) → ℤ → Type 0
 IsPeak tops peak = (i : ℕ) (h : ℤ) → slice_index_or tops i None ≡ Some h → h ≤ℤ peak
 
--- Entries for the near and the far blocks, and a peak that no far block's entry is above.
+-- `tops` has the entries of near and of far blocks, and a peak which no far block's entry exceeds.
 pub record IsTops (t : Terrain) (tops : MaxHeights) : Type 0 where
   pub near : AreTops 16 t tops.near.items
   pub far : AreTops 128 t tops.far.items
@@ -51,12 +51,12 @@ pub record AreTopsAlong (size : ℕ) (cells tops : List (Option ℤ)) (l : Sight
       → slice_index_or cells (a * l.lead.stride + b * l.side.stride) None ≡ Some h
       → IsTopOf (slice_index_or tops (a / size * s.lead + b / size * s.side) None) h
 
--- The block is NODATA, or n times its entry is not above the sight z.
+-- The block's entry is NODATA, or n times its height is not above the sight z.
 abbrev pub IsLow : Option ℤ → ℕ → ℤ → Type 0
 IsLow top n z = MatchOption top (Unit {0}) (λ m. (pos n *ℤ m) ≤ℤ z)
 
--- All blocks that a line can meet between two steps are low at both. Between the steps the leading
--- coordinate stays in one block.
+-- All blocks that a line can meet between two steps are low at both steps. Between these the
+-- leading coordinate stays in one block.
 abbrev pub AreLowBetween : ℕ → List (Option ℤ) → BlockStrides → Sightline → ℕ → Step → Step → Type 0
 AreLowBetween size tops s l block start end =
     (cell : ℕ) → min start.whole end.whole ≤ cell → cell ≤ max start.whole end.whole + 1 →

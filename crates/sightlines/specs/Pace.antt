@@ -14,7 +14,7 @@ pub record Gains (a : Axis) (n m ahead behind part : ℕ) : Type 0 where
   pub few_ahead : ahead ≤ m * a.to
   pub few_behind : behind ≤ m * a.from
 
--- The leap is the move of a line at its side in m steps, and the change of its sight.
+-- The leap is the move of a line on its side coordinate in m steps, and the change of its sight.
 pub record IsLeap (l : Sightline) (m : ℕ) (leap : Leap) : Type 0 where
   pub gains : Gains l.side (steps_of l) m leap.ahead leap.behind leap.part
   pub rise : leap.rise ≡ (l.to_level *ℤ pos m) -ℤ (l.from_level *ℤ pos m)

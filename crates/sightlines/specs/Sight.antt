@@ -19,7 +19,7 @@ abbrev pub longest_radius : ℕ
 longest_radius = 8192
 
 -- n times the point that is k of n steps from a toward b. Its quotient by n is a whole cell, its
--- remainder the n-ths of a cell past it.
+-- remainder the n-ths of a cell past that cell.
 abbrev pub toward : ℕ → ℕ → ℕ → ℕ → ℕ
 toward a b n k = a * (n - k) + b * k
 
@@ -79,11 +79,11 @@ abbrev pub ground : Terrain → Crossing → Option ℤ
 ground t c = option_and_then (λ x. option_map (λ y. x +ℤ y) (weigh t c.far c.far_weight))
     (weigh t c.near c.near_weight)
 
--- The level of the line at step k of n, times n, from eye level e to target level f.
+-- n times the level at step k of n of the line from eye level e to target level f.
 abbrev pub sight : ℤ → ℤ → ℕ → ℕ → ℤ
 sight e f n k = (e *ℤ pos (n - k)) +ℤ (f *ℤ pos k)
 
--- The crossing blocks: its ground has data and is above the sight.
+-- The crossing blocks: its ground has data and is above the sight z.
 abbrev pub blocks : Terrain → Crossing → ℤ → Bool
 blocks t c z = option_map_or (λ g. int_lt z g) (ground t c) false
 

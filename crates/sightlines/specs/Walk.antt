@@ -1,5 +1,5 @@
--- A walk along a line of sight, over a list of cells. The line is tested at each whole step of its
--- leading coordinate; the other coordinate is at its side. Public clauses cite `IsLevel` and,
+-- A walk along a line of sight, over a list of cells. The line is tested at each cell of its
+-- leading coordinate; the other coordinate is its side. Public clauses cite `IsLevel` and,
 -- through `IsTops` of `Blocks`, `AreHeights`.
 -- Public.
 use Rattle.std.specs.Prelude.{◌≡◌, ℕ, ◌+◌, ◌-◌, ◌*◌, ◌/◌, ◌%◌, ◌^◌, ◌<◌, ◌≤◌, Bool, false, not, ◌&&◌, ◌==◌, if◌then◌else◌, ℤ, pos, unsigned_abs, ◌+ℤ◌, ◌*ℤ◌, int_lt, List, length, Option, None, Some, option_map, option_and_then, slice_index_or, max}
@@ -58,7 +58,7 @@ step_range_blocks cells l first count =
     list_any (λ k. step_blocks cells l.lead l.side l.from_level l.to_level (steps_of l) k)
     (range_with_len first count)
 
--- A step between the two ends blocks.
+-- A step between the line's two ends blocks.
 abbrev pub walk_blocks : List (Option ℤ) → Sightline → Bool
 walk_blocks cells l = step_range_blocks cells l 1 (steps_of l - 1)
 

@@ -14,7 +14,7 @@ use crate::tops::{FAR_BLOCK, MaxHeights, NEAR_BLOCK, blocks_in};
 use crate::walk::{Axis, Pace, Sightline, blocking_step, is_blocked};
 use terrain::{Cell, Grid, Height, Observer, Place};
 
-/// Returns the level of an eye or target `above` units over ground of `height`.
+/// Returns the level of an eye or a target: ground of `height` plus `above` units.
 #[inline(always)]
 pub fn level(height: Height, above: u32) -> i64
     requires height { IsHeight height }
@@ -25,16 +25,16 @@ pub fn level(height: Height, above: u32) -> i64
     height + above as i64
 }
 
-/// The line of sight of a target and an observer, in two forms.
-/// One tests the crossings with columns, the other those with rows.
+/// The line of sight from a target to an observer, in two forms.
+/// `columns` tests the crossings with columns, `rows` those with rows.
 #[derive(Clone, Copy)]
 pub(crate) struct Sightlines {
     pub columns: Sightline,
     pub rows: Sightline,
 }
 
-/// Returns the lines from a target to an observer.
-/// `None` if one of the two is on NODATA or the target is outside the radius.
+/// Returns both forms of the line of sight from a target to an observer.
+/// `None` if either cell is NODATA or the target is outside the radius.
 #[inline(always)]
 fn lines_of_sight(
     grid: &Grid,
@@ -92,9 +92,9 @@ fn lines_of_sight(
 
 /// Returns whether an observer sees a place, at `target_height` above its ground.
 ///
-/// Both must be data cells, and the target at most `radius` cells away. No crossing of the line
-/// with a column or row of cell centres may block. A crossing blocks where the ground, a straight
-/// slope between two centres, is above the line; not where a NODATA cell takes part.
+/// The observer's cell and the target must have data and be at most `radius` cells apart. No
+/// crossing of the line with a column or row of cell centres may block. A crossing blocks where the
+/// ground, a straight slope between two centres, is above the line; not where NODATA takes part.
 ///
 /// # Examples
 ///
@@ -130,13 +130,13 @@ pub fn sees(
     !is_blocked(cells, lines.rows)
 }
 
-/// The number of crossings that `may_see` tests on each of the two lines.
+/// The number of column crossings, and of row crossings, that `may_see` tests.
 const FIRST_CROSSINGS: u32 = 2;
 
-/// The number of crossings tested around the distance of an earlier blocker.
+/// The number of crossings tested about as far from the observer as a blocker was.
 const NEARBY_CROSSINGS: u32 = 4;
 
-/// Whether one of `crossings` crossings of a line blocks, from step `first` on.
+/// Whether one of `crossings` crossings of a line, from step `first` on, blocks.
 #[inline(always)]
 fn is_blocked_from(cells: &[Cell], line: Sightline, first: u32, crossings: u32) -> bool
     requires heights { AreHeights cells.now }
@@ -195,7 +195,7 @@ fn is_blocked_near(cells: &[Cell], line: Sightline, left: u32) -> bool
 }
 
 /// The crossing that hides a target, `left` steps before the observer.
-/// It is on the line over the rows if `over_rows`, else on the one over the columns.
+/// It is a crossing with a row if `over_rows`, else with a column.
 #[derive(Clone, Copy)]
 pub(crate) struct Blocker {
     over_rows: bool,
@@ -203,7 +203,7 @@ pub(crate) struct Blocker {
 }
 
 impl Blocker {
-    /// Whether a crossing around this distance from the observer hides a target.
+    /// Whether a crossing about as far away as the blocker hides the target of `lines`.
     #[inline(always)]
     fn hides(self, cells: &[Cell], lines: Sightlines) -> bool
         requires heights { AreHeights cells.now }
@@ -237,11 +237,11 @@ impl Blocker {
 }
 
 /// The number of entries of `WalkCache::above`.
-/// Columns share an entry if they are a multiple of this apart.
+/// Columns share an entry if they are a multiple of `COLUMNS` apart.
 const COLUMNS: usize = 256;
 
 /// The blockers of earlier targets, and the number of crossings not skipped.
-/// `above` has the blocker of the last target in each column, `None` where it was seen.
+/// `above` has the blocker of the last target in each column, `None` where that was seen.
 #[derive(Clone, Copy)]
 pub struct WalkCache {
     last: Blocker,
@@ -265,13 +265,13 @@ impl WalkCache {
         }
     }
 
-    /// Returns what hid the last target in a column.
+    /// Returns the crossing that hid the last target in a column, if any.
     #[inline(always)]
     fn above(&self, col: u32) -> Option<Blocker> {
         self.above[col as usize % COLUMNS]
     }
 
-    /// Keeps what hides a target in a column, or `None` if it is seen.
+    /// Keeps the crossing that hides a target in a column, or `None` for a seen target.
     #[inline(always)]
     fn keep(&mut self, col: u32, blocker: Option<Blocker>) {
         if let Some(blocker) = blocker {
@@ -281,7 +281,7 @@ impl WalkCache {
     }
 }
 
-/// Returns the strides of the list of blocks, along a line over the columns.
+/// Returns the block list's strides, along a line whose columns lead.
 #[inline(always)]
 fn along_columns(size: u32, cols: u32) -> BlockStrides
     requires size { (0 < size) × (size ≤ 4096) }
@@ -294,7 +294,7 @@ fn along_columns(size: u32, cols: u32) -> BlockStrides
     }
 }
 
-/// Returns the strides of the list of blocks, along a line over the rows.
+/// Returns the block list's strides, along a line whose rows lead.
 #[inline(always)]
 fn along_rows(size: u32, cols: u32) -> BlockStrides
     requires size { (0 < size) × (size ≤ 4096) }
@@ -307,9 +307,9 @@ fn along_rows(size: u32, cols: u32) -> BlockStrides
     }
 }
 
-/// Returns what [`sees`] returns, and skips blocks of cells below the line.
+/// Returns the result of [`sees`], and skips blocks of cells below the line.
 /// `tops` has the blocks' greatest heights. Crossings that hid earlier targets are tested first,
-/// since they often hide the next one too; `walked` keeps them.
+/// since they often hide the next target too; `walked` keeps them.
 ///
 /// # Examples
 ///

@@ -1,4 +1,4 @@
-//! A walk along a line of sight that skips blocks of cells below it.
+//! A walk along a line of sight that skips blocks of cells below the line.
 ghost use Rattle.std.specs.Prelude.{◌≡◌, ℕ, ◌+◌, ◌-◌, ◌*◌, ◌/◌, ◌<◌, ◌≤◌, length, slice_index_or, None, IfSome, is_some, max, pos, ◌*ℤ◌, ◌≤ℤ◌};
 ghost use Rattle.std.specs.Bool.{OnTrue};
 ghost use Rattle.sightlines.specs.Pace.{IsPace, IsLeap};
@@ -10,10 +10,10 @@ use crate::tops::{FAR_BLOCK, MaxHeights, NEAR_BLOCK};
 use crate::walk::{Leap, Pace, Sightline, Step, blocking_step, weigh};
 use terrain::{Cell, Height};
 
-/// A run of steps that meets more blocks than this is not tested against them.
+/// Only a run of steps that meets at most this many blocks can be skipped.
 const MOST_BLOCKS: u32 = 5;
 
-/// The distances in the list of blocks between neighbours along a line.
+/// The distances, in the list of blocks, of neighbouring blocks along a line.
 /// `lead` is along the leading coordinate, `side` along the other.
 #[derive(Clone, Copy)]
 pub struct BlockStrides {
@@ -42,8 +42,8 @@ fn block_end(line: Sightline, size: u32, step: u32, last: u32) -> u32
     last.min(step + left)
 }
 
-/// Whether none of `count` blocks, `stride` apart, is above the sight.
-/// `sight` is a level times `weight`.
+/// Whether none of `count` blocks, `stride` apart in their list, is above a line.
+/// `sight` is the line's level times `weight`.
 #[inline(always)]
 fn are_low(tops: &[Cell], first: usize, stride: usize, count: u32, weight: u32, sight: i64) -> bool
     requires heights { AreHeights tops.now }
@@ -63,8 +63,8 @@ fn are_low(tops: &[Cell], first: usize, stride: usize, count: u32, weight: u32, 
     true
 }
 
-/// Returns true only if no block a line can meet between two steps is above it.
-/// Between them the leading coordinate stays in block `lead_block`.
+/// Returns true only if no block met between two steps is above the line.
+/// Between the steps the leading coordinate stays in block `lead_block`.
 #[inline(always)]
 fn is_above_blocks(
     tops: &[Cell],
@@ -98,8 +98,9 @@ fn is_above_blocks(
     are_low(tops, first, strides.side, count, line.steps(), sight)
 }
 
-/// Returns what [`blocking_step`] returns, and skips near blocks below the line.
-/// `tops` has their greatest heights. Adds the crossings of tested runs to `crossings_tested`.
+/// Returns a step with ground above the line, and skips near blocks below the line.
+/// `tops` has the blocks' greatest heights. Adds the crossings of runs not skipped to
+/// `crossings_tested`.
 #[inline(always)]
 fn blocking_step_past_near_blocks(
     cells: &[Cell],
@@ -143,7 +144,7 @@ fn blocking_step_past_near_blocks(
     None
 }
 
-/// Returns true only if a line is nowhere below `peak` from one of its steps on.
+/// Returns true only if a line is nowhere below `peak` from step `here` on.
 #[inline(always)]
 fn is_clear(peak: Height, line: Sightline, here: Step) -> bool
     requires line { IsSightline line }
@@ -154,11 +155,10 @@ fn is_clear(peak: Height, line: Sightline, here: Step) -> bool
     peak <= line.to_level && weigh(peak, line.steps()) <= here.sight
 }
 
-/// Returns a step between the two ends at which the ground is above the line.
+/// Returns a step between a line's two ends that has ground above the line.
 /// The walk first tests the crossings in the block where it begins, which is seldom below the line.
 /// Then it skips far or near blocks below the line, and ends once the line cannot fall below the
-/// peak. Adds the crossings of tested runs to `crossings_tested`.
-/// Out of line, to keep the hot path small.
+/// peak. Adds the crossings of runs not skipped to `crossings_tested`. Compiled out of line.
 #[inline(never)]
 pub(crate) fn blocking_step_past_blocks(
     cells: &[Cell],

@@ -1,4 +1,4 @@
-//! The greatest heights of blocks of 16 by 16 and of 128 by 128 cells: [`MaxHeights`].
+//! The greatest heights of blocks of 16 by 16 and 128 by 128 cells: [`MaxHeights`].
 ghost use Rattle.std.specs.Prelude.{◌≡◌, ◌<◌, ◌≤◌};
 ghost use Rattle.sightlines.specs.Blocks.{blocks_in};
 
@@ -18,11 +18,11 @@ pub struct MaxHeights {
     pub near: Vec<Cell>,
     /// The greatest heights of blocks of [`FAR_BLOCK`] by [`FAR_BLOCK`] cells.
     pub far: Vec<Cell>,
-    /// A height that no cell of the grid is above.
+    /// A height which no cell of the grid exceeds.
     pub peak: Height,
 }
 
-/// Returns how many blocks of `size` cells, side by side, hold `cells` cells.
+/// Returns into how many blocks of `size` cells a row of `cells` cells is cut.
 #[inline(always)]
 pub fn blocks_in(size: u32, cells: u32) -> usize
     requires size { (0 < size) × (size ≤ 4096) }

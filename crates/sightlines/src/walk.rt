@@ -8,8 +8,8 @@ ghost use Rattle.sightlines.specs.Pace.{IsPace, IsLeap, Gains};
 use crate::tops::NEAR_BLOCK;
 use terrain::{Cell, Height};
 
-/// One coordinate of a line of sight: its two ends.
-/// Neighbours along it are `stride` apart in the list of cells.
+/// One coordinate of a line of sight, where the line runs from `from` to `to`.
+/// Neighbouring cells along it are `stride` apart in the list of cells.
 #[derive(Clone, Copy)]
 pub struct Axis {
     pub from: u32,
@@ -18,7 +18,7 @@ pub struct Axis {
 }
 
 /// A line of sight from one level to another, along two coordinates.
-/// It is tested at each whole step of the leading coordinate, `lead`.
+/// It is tested at each cell of the leading coordinate `lead`, between two cells of `side`.
 #[derive(Clone, Copy)]
 pub struct Sightline {
     pub lead: Axis,
@@ -28,7 +28,7 @@ pub struct Sightline {
 }
 
 /// The place and the level of a line at one of its steps.
-/// At the side it is `part` parts past cell `whole`. A cell has as many parts as there are steps.
+/// On `side` it is `part` parts past cell `whole`. A cell has as many parts as the line has steps.
 /// `sight` is the line's level times the number of steps.
 #[derive(Clone, Copy)]
 pub struct Step {
@@ -38,7 +38,7 @@ pub struct Step {
 }
 
 impl Sightline {
-    /// Returns the number of steps from one end to the other.
+    /// Returns the number of steps from one end of the line to the other.
     #[inline(always)]
     pub(crate) fn steps(self) -> u32
         ensures { result ≡ steps_of self }
@@ -81,7 +81,7 @@ impl Sightline {
 }
 
 /// How far a coordinate moves in one or more of a line's steps.
-/// It is `ahead` less `behind` cells, and `part` parts. As many parts as steps make a cell.
+/// The move is `ahead` less `behind` cells, and `part` parts. As many parts as steps make a cell.
 #[derive(Clone, Copy)]
 struct Gain {
     ahead: u32,
@@ -110,7 +110,7 @@ impl Axis {
         }
     }
 
-    /// Returns the move in `count` of `steps` steps.
+    /// Returns the coordinate's move in `count` of a line's `steps` steps.
     fn gain(self, steps: u32, count: u32) -> Gain
         requires steps { (0 < steps) × (steps ≤ 4096) }
         requires count { count ≤ 4096 }
@@ -143,8 +143,8 @@ impl Axis {
     }
 }
 
-/// The move of a line at its side in the steps of one near block.
-/// It is `ahead` cells less `behind`, and `part` parts; `rise` is the change of the sight.
+/// The move of a line on its `side` coordinate in the steps of one near block.
+/// It is `ahead` cells less `behind`, and `part` parts; `rise` is the change of [`Step::sight`].
 #[derive(Clone, Copy)]
 pub struct Leap {
     ahead: u32,
@@ -204,7 +204,7 @@ impl Leap {
 }
 
 /// Returns a height times a weight.
-/// It is at most 4,096 * 10^15 either way, so two of them can be added.
+/// It is within ±4,096 * 10^15, so the sum of two such products fits.
 #[inline(always)]
 pub(crate) fn weigh(height: Height, weight: u32) -> i64
     requires weight { weight ≤ 4096 }
@@ -215,7 +215,7 @@ pub(crate) fn weigh(height: Height, weight: u32) -> i64
     weight as i64 * height
 }
 
-/// Whether the ground between a near and a far cell is above the sight.
+/// Whether the ground between cells `index` and `index + beside` is above `sight`.
 #[inline(always)]
 fn is_higher(
     cells: &[Cell],

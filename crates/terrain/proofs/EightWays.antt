@@ -27,7 +27,7 @@ place_parts (Some r) None q e = absurd (none-some q e)
 place_parts (Some r) (Some c) q e =
     let s = same_Some (make_place r c) q e in (ap (λ (z : Place). Some z.row) s, ap (λ (z : Place). Some z.col) s)
 
--- a row or column at most one away: the one before, itself, or the one after
+-- two rows, or two columns, that differ by at most 1
 abbrev Near : ℕ → ℕ → Type 0
 Near n m = (m ≤ n + 1) × (n ≤ m + 1)
 
@@ -99,7 +99,7 @@ Contains-ways_from p q h d =
       ]
     ]
 
--- a proof for all eight directions from one for each
+-- a statement that holds for each of the eight directions holds for every number below 8
 pub eight : (P : ℕ → Type 0) → P 0 → P 1 → P 2 → P 3 → P 4 → P 5 → P 6 → P 7 → (n : ℕ) → n < 8 → P n
 eight P a b c d e f g h zero l = a
 eight P a b c d e f g h (suc zero) l = b
@@ -115,11 +115,11 @@ eight P a b c d e f g h (suc (suc (suc (suc (suc (suc (suc (suc n)))))))) l = ab
 pub toward-code : (p : Place) (way : ℕ) → way < 8 → place_toward (code_of (Some way)) p ≡ place_on way p
 toward-code p = eight (λ way. place_toward (code_of (Some way)) p ≡ place_on way p) refl refl refl refl refl refl refl refl
 
--- each place that touches another lies in one of its directions
+-- each other place that touches a place lies in one of the eight directions from it
 pub way_to : (p q : Place) → Touches p q → p ≢ q → (way : ℕ) × (way < 8) × (place_on way p ≡ Some q)
 way_to p q t differ = let at = Contains-ways_from p q t differ in (at.0, at.1, get_or_default (ways_from p) at.0 None (Some q) at.1 ∙ at.2)
 
--- even directions run along a row or column, odd ones across a diagonal
+-- even directions keep the row or the column; odd directions change both
 pub along : (p q : Place) (way : ℕ) → way < 8 → place_on way p ≡ Some q → (eqb p.row q.row || eqb p.col q.col) ≡ eqb (way % 2) 0
 along p q = eight (λ way. place_on way p ≡ Some q → (eqb p.row q.row || eqb p.col q.col) ≡ eqb (way % 2) 0)
     (λ e. let at = place_parts (Some p.row) (Some (p.col + 1)) q e in or_left _ _ (eq-eqb _ _ (same_Some _ _ at.0)))
@@ -134,7 +134,7 @@ along p q = eight (λ way. place_on way p ≡ Some q → (eqb p.row q.row || eqb
     across : (p.row ≢ q.row) → (p.col ≢ q.col) → (eqb p.row q.row || eqb p.col q.col) ≡ false
     across row col = or_from _ _ (ne_eqb _ _ row) (ne_eqb _ _ col)
 
--- two entries in one direction are at one place
+-- if two lookups at an optional place both find an entry, the place exists and has both entries
 pub zip_some : {X Y : Type 0} (f : Place → Option X) (g : Place → Option Y) (o : Option Place) (x : X) (y : Y) → option_zip (option_and_then f o) (option_and_then g o) ≡ Some (x, y) →
     (q : Place) × (o ≡ Some q) × (f q ≡ Some x) × (g q ≡ Some y)
 zip_some {X = X} {Y = Y} f g None x y e = absurd (none-some (x, y) e)
@@ -147,8 +147,8 @@ zip_some {X = X} {Y = Y} f g (Some q) x y e = at (f q) (g q) refl refl e
         let both = some_pair_parts a x b y (sym (ap (λ (z : Option X). option_zip z (g q)) u ∙ ap (λ (z : Option Y). option_zip (Some a) z) v) ∙ e) in
         (q, refl, u ∙ ap Some both.0, v ∙ ap Some both.1)
 
--- `q` is the place in direction `way` from `p`, which lies past row `top` and column `left`.
--- `at` is the index of `p` in the row order of bounds of `cols` columns that begin there.
+-- `q` is the place in direction `way` from `p`. In the row order of bounds of `cols` columns, which
+-- begin at row `top` and column `left`, the index of `q` is the one beside `at` in this direction.
 pub record IsOnWay (top left cols at : ℕ) (p : Place) (way : ℕ) (q : Place) : Type 0 where
   pub on : place_on way p ≡ Some q
   pub index : (q.row - top) * cols + (q.col - left) ≡ get_or (around_index cols at) way 0

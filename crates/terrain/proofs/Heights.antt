@@ -27,7 +27,7 @@ height_fits z low high = fits_signed_from_abs height_width z (omega (arith, heig
 pub height_is : (t : Terrain) (p : Place) (h : ℤ) → height_at t p ≡ Some h → height_of t p ≡ h
 height_is t p h e = ap (λ (o : Option ℤ). unwrap_or o (pos 0)) e
 
--- each height in a list of lawful cells is within its limits
+-- if all heights of a list are within their limits, the height at an index is
 pub listed_height : (cells : List (Option ℤ)) (i : ℕ) (h : ℤ) → All (λ c. IfSome c IsHeight) cells → i < length cells → get_or cells i None ≡ Some h → IsHeight h
 listed_height cells i h heights within e = MatchOption-at_some _ _ h e (All-get_or (λ (c : Option ℤ). IfSome c IsHeight) cells i None within heights)
 

@@ -50,7 +50,7 @@ few_sinks t sinks h = elim (cases_Bool (nat_lt most_sinks (length sinks))) [
   | inr few ↦ few
 ]
 
--- sinks without a fault are sound
+-- sinks without a fault are in the grid and have data
 pub sinks_sound : (t : Terrain) (sinks : List Place) → sinks_fault t sinks ≡ None → All (IsSound t) sinks
 sinks_sound t sinks h = all_sound t 0 sinks (sym (cond-false _ _ _ (few_sinks t sinks h)) ∙ h)
 

@@ -8,7 +8,7 @@ use Rattle.terrain.specs.Raster.{Raster, IsLawful, IsHeight, IsInGrid}
 use Rattle.terrain.specs.Parts.{raster_with_parts}
 use Rattle.terrain.specs.declared.place.Place.{Place}
 
--- a property of all heights of a list holds for cells with heights from it
+-- a property of all heights of a list holds for cells whose heights occur in the list
 heights_kept : (P : ℤ → Type 0) (old cells : List (Option ℤ)) → All (λ c. IfSome c P) old → All (λ c. IfSome c (λ h. Contains old (Some h))) cells → All (λ c. IfSome c P) cells
 heights_kept P old cells all held i d low = at (get_or cells i d) (held i d low) where
   at : (o : Option ℤ) → IfSome o (λ h. Contains old (Some h)) → IfSome o P

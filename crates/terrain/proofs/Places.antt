@@ -20,7 +20,7 @@ cases_place p q =
       | inr n ↦ inr (λ e. n (ap (λ (r : Place). r.row) e))
     ]
 
--- inside the grid, the entry is the list's at the place's index
+-- inside the grid, the entry at a place is the list's entry at the place's index
 pub entry_or-inside : {X : Type 0} (cols rows : ℕ) (xs : List X) (none : X) (p : Place) → p.row < rows → p.col < cols → entry_or cols rows xs none p ≡ get_or xs (index_of cols p) none
 entry_or-inside cols rows xs none p a b = cond-true _ _ _ (and_from _ _ (lt-ltb _ _ a) (lt-ltb _ _ b))
 
@@ -41,7 +41,7 @@ inside_from_entry cols rows xs p x e =
       | inr n ↦ let h = entry-below cols rows xs p n in absurd (cc)
     ]
 
--- places inside with equal indices are equal
+-- places with equal indices are equal, if their columns are in the grid
 pub index_injective : (cols : ℕ) (p q : Place) → p.col < cols → q.col < cols → index_of cols p ≡ index_of cols q → p ≡ q
 index_injective cols p q a b e =
     same_place p q
@@ -59,7 +59,7 @@ IsBefore q row col = (q.row < row) ⊎ ((q.row ≡ row) × (q.col < col))
 abbrev pub HasNoGapBefore : (Place → Type 0) → Place → ℕ → ℕ → Type 0
 HasNoGapBefore is_gap p row col = (q : Place) → Touches p q → IsBefore q row col → is_gap q → ⊥
 
--- places in the first or last row or column have a gap around, if each place outside is a gap
+-- a place at the grid's end has a gap around, if each place south or east of the grid is a gap
 pub gap_at_end : {G : Place → Type 0} (cols rows : ℕ) (p : Place) → ((q : Place) → (rows ≤ q.row) ⊎ (cols ≤ q.col) → G q) →
     (p.row ≡ 0) ⊎ (p.row + 1 ≡ rows) ⊎ (p.col ≡ 0) ⊎ (p.col + 1 ≡ cols) → HasGapWhere G p
 gap_at_end cols rows p outside (inl e) = inl e
@@ -75,7 +75,7 @@ gap_at_end cols rows p outside (inr (inr (inr e))) = inr (inr (
   outside _ (inr (omega (arith, e))),
 ))
 
--- a gap around stays one under a weaker notion of gap
+-- a place with a gap around has one by a second rule too, if each gap around is one by that rule
 pub gap_where : {P Q : Place → Type 0} (p : Place) → ((q : Place) → Touches p q → P q → Q q) → HasGapWhere P p → HasGapWhere Q p
 gap_where p f (inl e) = inl e
 gap_where p f (inr (inl e)) = inr (inl e)

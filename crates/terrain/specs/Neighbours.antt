@@ -5,7 +5,7 @@ use Rattle.std.specs.Prelude.{◌≡◌, ◌≢◌, ℕ, ◌+◌, ◌*◌, ◌�
 use Rattle.terrain.specs.Raster.{Terrain, IsInGrid, is_in_grid}
 use Rattle.terrain.specs.declared.place.Place.{Place}
 
--- Both places are the same.
+-- The two places are equal.
 abbrev pub is_place : Place → Place → Bool
 is_place p q = p.row == q.row && p.col == q.col
 
@@ -52,8 +52,8 @@ pub record IsNeighbour (t : Terrain) (p q : Place) : Type 0 where
   pub from_data : IsDataCell t p
   pub to_data : IsDataCell t q
 
--- The place or one of the eight around it is a gap. In the first row or column one always is:
--- the places to the north or west are outside the grid.
+-- The place or one of the eight around it is a gap. In the first row or column this always holds,
+-- since the places to the north or west are outside the grid.
 abbrev pub HasGapWhere : (Place → Type 0) → Place → Type 0
 HasGapWhere is_gap p = (p.row ≡ 0) ⊎ (p.col ≡ 0) ⊎ ((q : Place) × Touches p q × is_gap q)
 

@@ -1,4 +1,4 @@
--- Named sinks: the fault of a list, and its places each once. Source: this project.
+-- Named sinks: the fault of a list, and the list without repeats. Source: this project.
 -- Trust base.
 use Rattle.std.specs.Prelude.{◌≡◌, ℕ, ◌+◌, not, nat_lt, is_none, if◌then◌else◌, List, [], ◌∷◌, ◌++◌, length, Option, None, Some, Result, Err}
 use Rattle.std.specs.List.{fold, list_any}
@@ -47,7 +47,7 @@ with_sinks t sinks = record t { sinks = sinks }
 abbrev pub raster_with_sinks : Raster → List Place → Raster
 raster_with_sinks g sinks = record g { terrain = with_sinks g.terrain (each_once sinks) }
 
--- A list of sinks with a fault is refused with that fault; one without fails only for memory.
+-- A list of sinks with a fault is refused with it; without a fault, the only error is `Memory`.
 pub record RefusesSinks {T : Type 0} (fault : Option SinkFault)
     (result : Result T SinkFault) : Type 0 where
   pub reported : (f : SinkFault) → fault ≡ Some f → result ≡ Err f

@@ -1,15 +1,15 @@
 //! An entry of a map of whole numbers: a number or no data, in 4 bytes.
 //!
-//! Contracts see it as an option; [`Count::of`] and [`Count::value`] convert.
+//! Contracts see an entry as an option; [`Count::of`] and [`Count::value`] convert.
 ghost use Rattle.std.specs.Prelude.{◌≡◌, ◌<◌, None, Some};
 ghost use Rattle.terrain.specs.StoredCells.{stored_count, uncounted};
 
 use std::marker::Model;
 
-/// The stored number of no data, above every count of cells, basins or observers.
+/// The stored number of an entry without data; above every count that a map has.
 const UNCOUNTED: u32 = u32::MAX;
 
-/// A map's value at a cell or no data, in 4 bytes; an `Option<u32>` takes 8.
+/// A map's whole number or no data, in 4 bytes; an `Option<u32>` takes 8.
 #[derive(Clone, Copy, Debug, PartialEq, Eq)]
 pub struct Count {
     stored: u32,

@@ -1,4 +1,4 @@
-//! Grids, and frames: header, scale and sinks without the cells.
+//! Grids, and their frames: header, scale and sinks without the cells.
 //!
 //! [`Grid::from_parts`] makes a grid, and [`Grid::name_sinks`] replaces its sinks.
 ghost use Rattle.std.specs.Prelude.{◌≡◌, ◌↔◌, ◌+◌, ◌*◌, ◌<◌, [], length, All, Contains, IfSome, IfOk, OnOk, IsTrue, None, Some};
@@ -176,8 +176,8 @@ impl Frame {
         &self.header.nodata
     }
 
-    /// Returns the frame's grid with other cells, whose heights all occur in its cells.
-    /// So each height is within its limits and none equals the NODATA value.
+    /// Returns the frame's grid with `cells` in place of its own cells.
+    /// Their heights must occur in the grid: they are then in range and differ from NODATA.
     ///
     /// # Errors
     ///
@@ -306,7 +306,7 @@ impl Grid {
         self.at(place).is_some() && (self.has_gap_around(place) || is_one_of(self.sinks(), place))
     }
 
-    /// Returns whether `place` or one of the eight around it is outside or has no data.
+    /// Whether `place`, or a place around it, is outside the grid or has no data.
     fn has_gap_around(&self, place: Place) -> bool
         requires { IsInside self.now.terrain place }
         ensures { IsTrue result ↔ HasGapAround self.now.terrain place }
@@ -326,8 +326,8 @@ impl Grid {
         false
     }
 
-    /// Returns the grid with other cells; their heights must occur in the grid.
-    /// So each height is within its limits and none equals the NODATA value.
+    /// Returns the grid with a copy of `cells` in place of its own cells.
+    /// Their heights must occur in the grid: they are then in range and differ from NODATA.
     ///
     /// # Errors
     ///
@@ -376,7 +376,7 @@ impl Grid {
         Ok(self.frame.with_parts(cells, sinks))
     }
 
-    /// Replaces the sinks, each once, without a copy. A fault drops the grid.
+    /// Replaces the sinks, each once, and copies no cells. An error drops the grid.
     ///
     /// # Errors
     ///

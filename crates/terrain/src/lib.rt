@@ -4,10 +4,10 @@
 //!
 //! Modules, callers first:
 //!
-//! - `grid`: grids, and frames: header, scale and sinks without the cells
+//! - `grid`: grids, and their frames: header, scale and sinks without the cells
 //! - `cell`: a height or no data, in 8 bytes
 //! - `count`: a map's whole number or no data, in 4 bytes
-//! - `sinks`: the first fault of a list of sinks, and each of its places once
+//! - `sinks`: the first fault of a list of sinks, and the list without repeats
 //! - `place`: places, and heights with their limits
 //! - `ways`: the eight directions from a place
 //! - `observer`: an observer's cell and eye height

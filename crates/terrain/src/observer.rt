@@ -6,7 +6,7 @@ pub struct Observer {
     pub row: u32,
     /// The column, from 0 at the west.
     pub col: u32,
-    /// The eye's height above ground, in scaled units.
+    /// The eye's height above the ground, in units of 10^-scale.
     /// Viewsheds refuse more than 1,000,000.
     pub eye: u32,
 }

@@ -19,14 +19,14 @@ impl Place {
     }
 }
 
-/// A height in scaled units: 10^-scale of the text's unit of height.
+/// A height in units: a unit is 10^-scale of the text's unit of height.
 /// Heights are from [`LOWEST`] to [`HIGHEST`].
 pub type Height = i64;
 
-/// The least height, in scaled units.
+/// The least height, in units.
 pub const LOWEST: Height = -1_000_000_000_000_000;
 
-/// The greatest height, in scaled units.
+/// The greatest height, in units.
 pub const HIGHEST: Height = 1_000_000_000_000_000;
 
 /// The greatest difference of two heights, [`HIGHEST`] less [`LOWEST`].

@@ -1,4 +1,4 @@
-//! Named sinks: the first fault of a list, and each of its places once.
+//! Named sinks: the first fault of a list, and the list without repeats.
 ghost use Rattle.std.specs.Prelude.{◌≡◌, ◌<◌, ◌≤◌, length, IfOk};
 ghost use Rattle.std.specs.List.{list_any};
 ghost use Rattle.terrain.specs.declared.sinks.SinkFault.TheVariants.{Memory};
@@ -12,7 +12,7 @@ use std::alloc::{AllocError, Global};
 /// The greatest length of a list of sinks, repeats counted.
 pub const MOST_SINKS: usize = 1_024;
 
-/// Why a list of places is refused as sinks. Indices count its entries from 0.
+/// Why a list of places is refused as sinks. Its entries count from 0.
 #[derive(Clone, Copy, Debug, PartialEq, Eq)]
 pub enum SinkFault {
     /// The sink at this index lies outside the grid.
@@ -71,7 +71,7 @@ pub fn sinks_fault(grid: &Grid, sinks: &[Place]) -> Option<SinkFault>
     first_bad_sink(grid, sinks)
 }
 
-/// Returns whether `places` has `place`.
+/// Returns whether `places` contains `place`.
 pub(crate) fn is_one_of(places: &[Place], place: Place) -> bool
     ensures { result ≡ list_any (is_place place) places.now }
 {

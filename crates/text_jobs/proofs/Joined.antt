@@ -14,7 +14,7 @@ joined-push f runs run =
 pub joined-take : {X : Type 0} (f : X → List ℕ) (runs : List X) (job : ℕ) (d : X) → job < length runs → concat (map f (take (job + 1) runs)) ≡ concat (map f (take job runs)) ++ f (get_or runs job d)
 joined-take f runs job d h = ap (λ z. concat (map f z)) (take_more runs job d h) ∙ joined-push f (take job runs) (get_or runs job d)
 
--- the first runs and the later ones are all runs
+-- the text of the first runs, and then that of the later ones, is the text of all runs
 pub joined-rest : {X : Type 0} (f : X → List ℕ) (runs : List X) (job : ℕ) → concat (map f (take job runs)) ++ concat (map f (drop job runs)) ≡ concat (map f runs)
 joined-rest f runs job =
     sym (concat-append (map f (take job runs)) (map f (drop job runs)))
@@ -32,7 +32,7 @@ joined-cut f runs more run len rest back piece pushed front behind all =
     ∙ ap (λ z. concat (map f runs) ++ z) (take-append-drop len rest)
     ∙ all
 
--- with the last run, the runs are the whole text
+-- the runs with a last one appended are the whole text, if the runs and that one together are
 pub joined-last : {X : Type 0} (f : X → List ℕ) (runs more : List X) (run : X) (piece : List ℕ) → more ≡ runs ++ run ∷ [] → concat (map f runs) ++ f run ≡ piece → concat (map f more) ≡ piece
 joined-last f runs more run piece pushed all = ap (λ z. concat (map f z)) pushed ∙ joined-push f runs run ∙ all
 

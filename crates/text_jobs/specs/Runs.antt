@@ -1,8 +1,8 @@
 -- Runs of bytes whose heights are parsed apart from one another. Source: this project.
 -- Private.
 use Rattle.std.specs.Prelude.{ℕ, ℤ, List, [], Option, slice_index_or}
-use Rattle.ascii_grid.specs.HeightList.{Form, AreCells}
+use Rattle.ascii_grid.specs.HeightList.{ParserSettings, AreCells}
 
 -- The cells are those that run number `job` spells.
-abbrev pub HasRun : Form → List (List ℕ) → ℕ → List (Option ℤ) → Type 0
-HasRun form runs job cells = AreCells form (slice_index_or runs job []) cells
+abbrev pub HasRun : ParserSettings → List (List ℕ) → ℕ → List (Option ℤ) → Type 0
+HasRun parser runs job cells = AreCells parser (slice_index_or runs job []) cells

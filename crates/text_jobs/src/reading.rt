@@ -4,7 +4,7 @@ ghost use Rattle.ascii_grid.specs.Input.{ReadsGrid, ReadsPiece, CanRead};
 ghost use Rattle.ascii_grid.specs.Reader.{Feeds};
 
 use crate::batches::{BATCH_BYTES, BatchEnd, read_batch};
-use crate::runs::{RUN_BYTES, RunJobs, behind_separator, feed_runs, runs_of};
+use crate::runs::{RUN_BYTES, RunJobs, after_separator, feed_runs, runs_of};
 use ascii_grid::{Counted, GridFault, GridReader, InputFault, read_grid_by};
 use std::io::Read;
 use std::sync::Wait;
@@ -13,7 +13,7 @@ use terrain::Grid;
 use tile_jobs::{Gate, MOST_JOBS};
 use tile_maps::Runner;
 
-/// A batch's first bytes, a header or a cut word, which the caller's thread parses.
+/// The length of a batch's front, a header or a cut word, which no job parses.
 const FRONT_BYTES: usize = 4096;
 
 /// Reads a grid from a device, by several workers.
@@ -90,7 +90,7 @@ fn feed_next_batch<T: Threads + Wait + Sync, R: Read, G: Gate + Sync>(
     }
 }
 
-/// Feeds a batch to the reader. If it is long, workers parse its heights.
+/// Feeds a batch to the reader. Workers parse the heights of a long batch.
 fn feed_batch<T: Threads + Wait + Sync, G: Gate + Sync>(
     runner: &Runner<T, G>,
     reader: &mut GridReader,
@@ -101,7 +101,7 @@ fn feed_batch<T: Threads + Wait + Sync, G: Gate + Sync>(
     if piece.len() < 2 * RUN_BYTES {
         return reader.feed(piece);
     }
-    let (front, rest) = piece.split_at(behind_separator(piece, FRONT_BYTES));
+    let (front, rest) = piece.split_at(after_separator(piece, FRONT_BYTES));
     reader.feed(front)?;
     feed_heights(runner, reader, rest)
 }
@@ -114,22 +114,22 @@ fn feed_heights<T: Threads + Wait + Sync, G: Gate + Sync>(
 ) -> Result<(), GridFault>
     ensures { Feeds reader.old reader.new piece.now result }
 {
-    let Some(form) = reader.height_parser() else {
+    let Some(parser) = reader.height_parser() else {
         return reader.feed(piece);
     };
     let Ok(runs) = runs_of(runner.alloc, piece) else {
         return reader.feed(piece);
     };
-    // At most 17 runs, of which the prover has no bound: the test brings the premise of `run`.
+    // There are at most 17 runs, which is not proved: the test meets the `requires` of `run`.
     if runs.len() > MOST_JOBS as usize {
         return reader.feed(piece);
     }
     let jobs = RunJobs {
-        form: &form,
+        parser: &parser,
         runs: &runs,
     };
     match runner.run(&jobs, runs.len() as u32) {
-        Ok(lists) => feed_runs(reader, &form, &runs, &lists),
+        Ok(lists) => feed_runs(reader, &parser, &runs, &lists),
         Err(_) => reader.feed(piece),
     }
 }

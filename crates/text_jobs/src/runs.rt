@@ -10,7 +10,7 @@ use std::alloc::{AllocError, Global};
 use terrain::Cell;
 use tile_jobs::{JobFault, Work};
 
-/// Bytes of a run, to which those up to the next separator are added.
+/// The bytes of a run before it is extended to the next separator.
 pub(crate) const RUN_BYTES: usize = 65_536;
 
 /// Cuts a piece into runs of [`RUN_BYTES`] bytes, each extended to a separator.
@@ -22,18 +22,18 @@ pub(crate) fn runs_of(alloc: Global, piece: &[u8]) -> Result<Vec<&[u8]>, AllocEr
     let mut runs = Vec::with_capacity(alloc, piece.len() / RUN_BYTES + 2)?;
     let mut rest = piece;
     while rest.len() > RUN_BYTES {
-        let (run, more) = rest.split_at(behind_separator(rest, RUN_BYTES));
+        let (run, more) = rest.split_at(after_separator(rest, RUN_BYTES));
         runs.push(run)?;
         rest = more;
     }
-    let (run, last) = rest.split_at(behind_last_separator(rest));
+    let (run, last) = rest.split_at(after_last_separator(rest));
     runs.push(run)?;
     runs.push(last)?;
     Ok(runs)
 }
 
-/// Returns the index after the first separator from `from` on, or the length.
-pub(crate) fn behind_separator(bytes: &[u8], from: usize) -> usize
+/// Returns the index after the first separator from `from` on, else the length.
+pub(crate) fn after_separator(bytes: &[u8], from: usize) -> usize
     requires { from < length bytes.now }
     ensures { (from < result) × (result ≤ length bytes.now) }
 {
@@ -43,8 +43,8 @@ pub(crate) fn behind_separator(bytes: &[u8], from: usize) -> usize
     }
 }
 
-/// Returns the index after the last separator, or 0.
-fn behind_last_separator(bytes: &[u8]) -> usize
+/// Returns the index after the last separator, or 0 if there is none.
+fn after_last_separator(bytes: &[u8]) -> usize
     ensures { result ≤ length bytes.now }
 {
     let mut end = bytes.len();
@@ -54,10 +54,10 @@ fn behind_last_separator(bytes: &[u8]) -> usize
     end
 }
 
-/// One job for each run: its cells, or `None` at a fault or for want of memory.
+/// One job for each run: returns its cells, or `None` at a fault or without memory.
 #[derive(Drop)]
 pub(crate) struct RunJobs<'a> {
-    pub form: &'a HeightParser,
+    pub parser: &'a HeightParser,
     pub runs: &'a [&'a [u8]],
 }
 
@@ -70,17 +70,17 @@ impl<'a> Work for RunJobs<'a> {
     ghost most = { λ w. length w.runs.now };
 
     ghost gives = { λ w job out. IfSome out
-        (λ cells. HasRun w.form.now (map (λ run. run.now) w.runs.now) job cells.items) };
+        (λ cells. HasRun w.parser.now (map (λ run. run.now) w.runs.now) job cells.items) };
 
     fn run(&self, alloc: Global, job: u32) -> Result<Option<Vec<Cell>>, JobFault> {
-        Ok(self.form.cells(alloc, self.runs[job as usize]))
+        Ok(self.parser.cells(alloc, self.runs[job as usize]))
     }
 }
 
-/// Feeds runs to a reader in order, by their cells where jobs have parsed them.
+/// Feeds runs to a reader in order, as cells where a job has parsed the run.
 pub(crate) fn feed_runs(
     reader: &mut GridReader,
-    form: &HeightParser,
+    parser: &HeightParser,
     runs: &[&[u8]],
     lists: &[Option<Vec<Cell>>],
 ) -> Result<(), GridFault>
@@ -88,26 +88,26 @@ pub(crate) fn feed_runs(
     requires len { length lists.now ≡ length runs.now }
     requires cells { (job : ℕ) → job < length runs.now →
         IfSome (slice_index_or lists.now job None)
-        (λ cells. HasRun form.now (map (λ run. run.now) runs.now) job cells.items) }
+        (λ cells. HasRun parser.now (map (λ run. run.now) runs.now) job cells.items) }
     ensures { Feeds reader.old reader.new (concat (map (λ run. run.now) runs.now)) result }
 {
     for job in 0..runs.len() {
-        feed_run(reader, form, runs[job], &lists[job])?;
+        feed_run(reader, parser, runs[job], &lists[job])?;
     }
     Ok(())
 }
 
 fn feed_run(
     reader: &mut GridReader,
-    form: &HeightParser,
+    parser: &HeightParser,
     run: &[u8],
     cells: &Option<Vec<Cell>>,
 ) -> Result<(), GridFault>
-    requires { IfSome cells.now (λ cells. AreCells form.now run.now cells.items) }
+    requires { IfSome cells.now (λ cells. AreCells parser.now run.now cells.items) }
     ensures { Feeds reader.old reader.new run.now result }
 {
     match cells {
-        Some(cells) => reader.feed_cells(form, run, cells),
+        Some(cells) => reader.feed_cells(parser, run, cells),
         None => reader.feed(run),
     }
 }

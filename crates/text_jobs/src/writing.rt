@@ -75,7 +75,7 @@ fn make_lines<T: Threads + Wait + Sync, G: Gate + Sync, E: MapCell + Sync>(
 {
     let cols = frame.cols() as usize;
     let rows = frame.rows() as usize;
-    // At least 16, as a row has at most 4,096 cells; the `max` shows that it is not 0.
+    // At least 16, as a row has at most 4,096 cells; the `max` proves that it is not 0.
     let rows_each = (JOB_CELLS / cols).max(1);
     if runner.workers == 1 {
         return None;

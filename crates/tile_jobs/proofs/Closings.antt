@@ -8,7 +8,7 @@ use Rattle.tile_jobs.specs.declared.deque.Entry.{Entry}
 use Rattle.tile_jobs.specs.declared.deque.Entry.TheVariants.{Job, End}
 use Rattle.tile_jobs.specs.Board.{deal, feed, jobs_in, times, sum_to}
 use Rattle.tile_jobs.specs.declared.deque.Log.{Log}
-use Rattle.tile_jobs.specs.Ends.{IsSeated, ClosingState, place_of, deal_of}
+use Rattle.tile_jobs.specs.Ends.{IsSeated, ClosingState, position_of, deal_of}
 use Rattle.tile_jobs.proofs.Entries.{times_append, no_job}
 
 job_at : (d : List ℕ) (n t j : ℕ) (rest : List Entry) → Job j ∷ rest ≡ drop t (jobs_in d ++ replicate n End) → j ∷ drop (suc t) d ≡ drop t d
@@ -57,9 +57,9 @@ module _ (s0 s : ClosingState) (p : List ℕ) (now : s ≡ record s0 { took = s0
       let marked : n.marked ≡ s.marked = ap (λ (x : ClosingState). x.marked) e in
       e ∙ ap (λ (x : ClosingState). record x { took = x.took ++ j ∷ [] }) now ∙ rw (append_assoc s0.took p (j ∷ []), marks, marked) refl
 
-  pub now_place : (n : ClosingState) (j : ℕ) → n ≡ record s { took = s.took ++ j ∷ [] } → place_of n ≡ suc (place_of s)
+  pub now_place : (n : ClosingState) (j : ℕ) → n ≡ record s { took = s.took ++ j ∷ [] } → position_of n ≡ suc (position_of s)
   now_place n j e =
-      let a = ap (λ (x : ClosingState). place_of x) e in
+      let a = ap (λ (x : ClosingState). position_of x) e in
       let b = length-append (s.took ++ j ∷ []) s.gathered in
       let c = length-append s.took (j ∷ []) in
       let d = length-append s.took s.gathered in

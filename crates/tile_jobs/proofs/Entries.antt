@@ -1,4 +1,4 @@
--- The entries pushed to a deque, and counts over lists.
+-- The entries pushed to a deque (`feed`), and counts over lists.
 use Rattle.std.proofs.Common.{◌≡◌, ℕ, zero, suc, ◌+◌, ◌%◌, ◌<◌, ◌≤◌, true, false, cond, ◌==◌, List, [], ◌∷◌, ◌++◌, length, take, drop, get_or, add-one, add-zero, replicate, All, sym, refl, ap, ◌∙◌, subst, arith, eq-eqb, inl, inr}
 use Rattle.std.proofs.lemmas.Bool.Decides.{nat_tests}
 use Rattle.std.proofs.lemmas.Bool.{cases_eq, ne_eqb}
@@ -151,7 +151,7 @@ rising_before (z ∷ xs) ys j x is n =
           rising_before xs ys j x (λ i k d l low. is (suc i) (suc k) d (omega arith) (omega arith)) (let m = rw t at n in omega arith)
     ]
 
--- The jobs before a job of the feed, the job and those after it are the deal.
+-- The jobs of the feed before job j, then j, then the jobs after it, are the deal.
 feed_parts : (jobs seats v t j : ℕ) (rest : List Entry) → Job j ∷ rest ≡ drop t (feed jobs seats v)
     → jobs_of (take t (feed jobs seats v)) ++ (j ∷ jobs_of rest) ≡ deal jobs seats v
 feed_parts jobs seats v t j rest e =

@@ -1,4 +1,4 @@
--- Lists split by remainders.
+-- Lists of jobs split by the remainders of the jobs.
 use Rattle.std.proofs.Common.{◌≡◌, ◌≢◌, ℕ, zero, suc, ◌+◌, ◌%◌, ◌<◌, ◌≤◌, Bool, true, false, cond, ◌==◌, List, [], ◌∷◌, ◌++◌, length, drop, replicate, sym, refl, ap, ◌∙◌, arith, inl, inr}
 use Rattle.std.proofs.lemmas.Bool.Decides.{nat_tests}
 use lib.ListN.{length-append, length-replicate}
@@ -82,7 +82,7 @@ room_left seats jobs xs w low h less =
     let c = sum_lt seats (λ v. length (of v seats xs)) (λ v. length (deal jobs seats v)) w low h less in
     omega arith
 
--- The deal has j right after the jobs below j.
+-- A deal that has j has j right after the deal of the jobs below j.
 deal_on_at : (b : Bool) (m seats v j : ℕ) → (m % seats == v) ≡ b → (rest : List ℕ) → deal m seats v ≡ deal j seats v ++ j ∷ rest → (more : List ℕ) × (deal (suc m) seats v ≡ deal j seats v ++ j ∷ more)
 deal_on_at true m seats v j is rest e = (rest ++ m ∷ [], rw is (ap (λ l. l ++ m ∷ []) e ∙ append_assoc (deal j seats v) (j ∷ rest) (m ∷ [])))
 deal_on_at false m seats v j is rest e = (rest, rw is e)
@@ -101,7 +101,7 @@ drop_here xs y ys n e =
     let b : n ≡ length xs + 0 = omega arith in
     ap (λ k. y ∷ drop k (xs ++ y ∷ ys)) a ∙ ap (λ l. y ∷ l) (drop-append-add xs (y ∷ ys) 1) ∙ sym (drop-append-add xs (y ∷ ys) 0) ∙ ap (λ k. drop k (xs ++ y ∷ ys)) (sym b)
 
--- The next entry of the feed: a job, then an end mark.
+-- The next entry of the feed: a job until the deal ends, an end mark after that.
 pub feed_next_job : (jobs seats v j n : ℕ) → j < jobs → j % seats ≡ v → n ≡ length (deal j seats v) → Job j ∷ drop (suc n) (feed jobs seats v) ≡ drop n (feed jobs seats v)
 unfolding feed
 feed_next_job jobs seats v j n low rem e =

@@ -1,4 +1,4 @@
--- Each step on a deque keeps `Lawful`.
+-- Each push, take, split and join on a deque keeps `Lawful`.
 use Rattle.std.proofs.Common.{◌≡◌, ◌≢◌, ℕ, zero, suc, ◌+◌, ◌-◌, ◌<◌, ◌≤◌, inl, inr, ⊎_elim, true, true≢false, List, [], ◌∷◌, ◌++◌, length, take, drop, set, All, sym, refl, ap, ◌∙◌, subst, arith}
 use Rattle.std.specs.List.{concat}
 use Rattle.std.proofs.lemmas.List.{append_assoc, take_all}
@@ -24,8 +24,8 @@ no_list = All-cons IsRising [] [] (λ i k d l low. absurd (omega arith)) (λ k d
 pub names : (items : List Entry) (views : List Log) (h : Lawful items views) (port : ℕ) (u : Log) → get_elem? views port ≡ some u → CanTake u → (u.jobs ≡ h.jobs) × (u.seats ≡ h.seats) × (u.deque ≡ h.v)
 names items views h port u at can = let n : 0 < u.marks_due = can.0 in (h.views_are port u at).named (inr (omega arith))
 
-pub settled : (items : List Entry) (views : List Log) (h : Lawful items views) (port : ℕ) (u : Log) → get_elem? views port ≡ some u → CanTake u → h.pushed ≡ length (feed h.jobs h.seats h.v)
-settled items views h port u at can =
+pub all_pushed : (items : List Entry) (views : List Log) (h : Lawful items views) (port : ℕ) (u : Log) → get_elem? views port ≡ some u → CanTake u → h.pushed ≡ length (feed h.jobs h.seats h.v)
+all_pushed items views h port u at can =
     let mine = h.views_are port u at in
     let n = names items views h port u at can in
     ⊎_elim (λ (r : u.ready ≡ true). (mine.ready r).0) (λ (o : (u.owns ≡ true) × (u.pushed ≡ length (feed u.jobs u.seats u.deque))). sym (mine.owns o.0).1 ∙ rw (n.0, n.1, n.2) at o.1) can.1
@@ -33,17 +33,17 @@ settled items views h port u at can =
 left_of_feed : (items : List Entry) (views : List Log) (h : Lawful items views) (port : ℕ) (u : Log) → get_elem? views port ≡ some u → CanTake u → items ≡ drop (total taken views) (feed h.jobs h.seats h.v)
 left_of_feed items views h port u at can =
     let all = feed h.jobs h.seats h.v in
-    h.held ∙ ap (drop (total taken views)) (rw (settled items views h port u at can) (take_all (length all) all (omega arith)))
+    h.held ∙ ap (drop (total taken views)) (rw (all_pushed items views h port u at can) (take_all (length all) all (omega arith)))
 
 -- `Lawful` after one entry was taken.
-after : (x : Entry) (items : List Entry) (views : List Log) (h : Lawful (x ∷ items) views) (port : ℕ) (u w : Log) → get_elem? views port ≡ some u → CanTake u
+taken_after : (x : Entry) (items : List Entry) (views : List Log) (h : Lawful (x ∷ items) views) (port : ℕ) (u w : Log) → get_elem? views port ≡ some u → CanTake u
     → taken w ≡ suc (taken u) → share w ≡ share u → ((y : ℕ) → times y (all_taken w) ≡ times y (all_taken u) + times y (jobs_of (x ∷ []))) → w.marks ≡ u.marks + ends_of (x ∷ [])
     → IsOf h.jobs h.seats h.v h.pushed h.owner port w
     → Lawful items (set views port w)
-after x items views h port u w at can more same jobs ends is =
+taken_after x items views h port u w at can more same jobs ends is =
     let all = feed h.jobs h.seats h.v in
     let t = total taken views in
-    let whole = settled (x ∷ items) views h port u at can in
+    let whole = all_pushed (x ∷ items) views h port u at can in
     let held = left_of_feed (x ∷ items) views h port u at can in
     let low = cut_below all t x items held in
     let t' : total taken (set views port w) ≡ suc t = (let s = total_set taken views port u w at in omega arith) in
@@ -86,7 +86,7 @@ takes_job j items views h port u at can =
     (let a = times_append x u.took (concat u.gathered) in let b = total_at (λ (v : Log). times x (all_taken v)) views port u at in let c = h.each x in omega arith)) in
     let rising : All IsRising (w.took ∷ w.gathered) = All-cons IsRising w.took u.gathered
     (all_pairs_push (λ x y. x < y) u.took j (All-head IsRising u.took u.gathered mine.rising) rises) (All-tail IsRising u.took u.gathered mine.rising) in (
-      after (Job j) items views h port u w at can (omega arith) refl
+      taken_after (Job j) items views h port u w at can (omega arith) refl
           (λ y. (let a = times_append y (u.took ++ j ∷ []) (concat u.gathered) in let b = times_append y u.took (j ∷ []) in let c = times_append y u.took (concat u.gathered) in omega arith))
           (omega arith)
           (record { named = mine.named; owns = mine.owns; ready = mine.ready; idle = λ z. absurd (omega arith); rising = rising }),
@@ -99,12 +99,12 @@ takes_mark items views h port u at can =
     let mine = h.views_are port u at in
     let w : Log = record u { marks = suc u.marks; marks_due = u.marks_due - 1 } in
     let some_leave : 0 < u.marks_due = can.0 in (
-      after End items views h port u w at can (omega arith) (omega arith) (λ y. omega arith) (omega arith)
+      taken_after End items views h port u w at can (omega arith) (omega arith) (λ y. omega arith) (omega arith)
           (record { named = λ _. mine.named (inr (omega arith)); owns = mine.owns; ready = λ r. ((mine.ready r).0, omega arith); idle = λ z. absurd (omega arith); rising = mine.rising }),
       refl,
     )
 
--- Any pass that may take keeps `Lawful` when it takes the first entry.
+-- A pass that may take keeps `Lawful` when it takes the first entry, as `Took` says.
 pub takes : (port : ℕ) (u : Log) → CanTake u → Takes Lawful port u 1 (Took u)
 takes port u can [] items views some_x few h at = absurd (omega arith)
 takes port u can (x ∷ y ∷ zs) items views some_x few h at = absurd (omega arith)
@@ -318,7 +318,7 @@ next_is xs items views h port u at can owns whole =
     let only = total_alone taken share views port u weigh at alone in
     (items, rw (n.0, n.1, n.2, ← only) (left_of_feed (xs ++ items) views h port u at can))
 
--- An owner with all passes joined to its own takes the next entry of the feed.
+-- An owner to whose pass all others are joined takes the next entry of the feed.
 pub takes_next : (port : ℕ) (u : Log) → CanTake u → u.owns ≡ true → share u ≡ u.seats → Takes Lawful port u 1 (TookNext u)
 takes_next port u can owns whole xs items views some_x few h at =
     let r = takes port u can xs items views some_x few h at in (r.0, r.1, (r.2, next_is xs items views h port u at can owns whole))

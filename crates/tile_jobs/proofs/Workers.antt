@@ -25,8 +25,8 @@ module _ {O : Type 0} where
   pub whole_more : (j job : ℕ) (taken : List ℕ) (list : List (Answer O)) (a : Answer O) → a.job ≡ job → (0 < times j taken → IsAnswered list j) → 0 < times j (taken ++ job ∷ []) → IsAnswered (list ++ a ∷ []) j
   whole_more j job taken list a e old n = let s = times_append j taken (job ∷ []) in whole_at (job == j) j job taken list a refl e old (omega arith)
 
-  pub back_same : (gives : ℕ → O → Type 0) (s t : SeatState) (result : Result (WorkerResult O) JobFault) → IsOutcome gives s result → IsOkAnd result (λ shift. t ≡ shift.seat) → SameSeat s t × HasAllMarks t
-  back_same gives s t (Ok shift) out e = (subst (SameSeat s) (sym e) out.0.same, subst HasAllMarks (sym e) out.0.empty)
+  pub back_same : (gives : ℕ → O → Type 0) (s t : SeatState) (result : Result (WorkerResult O) JobFault) → IsOutcome gives s result → IsOkAnd result (λ output. t ≡ output.seat) → SameSeat s t × HasAllMarks t
+  back_same gives s t (Ok output) out e = (subst (SameSeat s) (sym e) out.0.same, subst HasAllMarks (sym e) out.0.empty)
   back_same gives s t (Err f) out e = absurd e
 
 pub some_part : (n : ℕ) (f : ℕ → ℕ) → 0 < sum_to n f → (s : ℕ) × (s < n) × (0 < f s)

@@ -1,10 +1,10 @@
--- The jobs and entries that a board deals to each deque, and counts over lists of them.
+-- The jobs and entries that a board deals to each deque, and counts over such lists.
 -- Public.
 use Rattle.std.specs.Prelude.{ℕ, zero, suc, ◌+◌, ◌%◌, ◌<◌, List, [], ◌∷◌, ◌++◌, map, replicate, cond, ◌==◌, AllPairs}
 use Rattle.tile_jobs.specs.declared.deque.Entry.{Entry}
 use Rattle.tile_jobs.specs.declared.deque.Entry.TheVariants.{Job, End}
 
--- The jobs dealt to deque v: the numbers below `jobs` with remainder v by `seats`, rising.
+-- The jobs dealt to deque v, rising: the numbers below `jobs` whose remainder by `seats` is v.
 abbrev pub deal : ℕ → ℕ → ℕ → List ℕ
 deal zero seats v = []
 deal (suc j) seats v = cond (j % seats == v) (deal j seats v ++ j ∷ []) (deal j seats v)
@@ -34,7 +34,7 @@ abbrev pub times : ℕ → List ℕ → ℕ
 times x [] = 0
 times x (y ∷ ys) = cond (y == x) 1 0 + times x ys
 
--- Each number of the list is less than all after it.
+-- Each number of the list is less than all numbers after it.
 abbrev pub IsRising : List ℕ → Type 0
 IsRising xs = AllPairs (λ x y. x < y) xs
 

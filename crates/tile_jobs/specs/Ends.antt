@@ -13,8 +13,8 @@ abbrev pub DequeId : Type 0
 DequeId = RowsId × Global
 
 -- One seat's end of one deque: the deque's numbers, the jobs that the seat took there, and whether
--- it has its end mark. `seen` counts the entries that it saw taken: 0 for the owner and before the
--- first steal.
+-- the seat took its end mark. `seen` counts the entries that the seat saw taken from the deque.
+-- It is 0 for the owner and before the first steal.
 pub record EndState : Type 0 where
   pub id : DequeId
   pub jobs : ℕ
@@ -36,7 +36,7 @@ end_of id marked seen u = record {
   seen = seen;
 }
 
--- A seat's view between two calls: it may take one end mark, or took it and is `marked`.
+-- A seat's view between two calls: the seat may take one end mark, or took it and is `marked`.
 abbrev pub IsSeated : Bool → Log → Type 0
 IsSeated marked u = (u.gathered ≡ []) × (u.marks_due ≡ cond marked 0 1)
     × (u.marks ≡ cond marked 1 0) × (length u.took ≤ length (deal u.jobs u.seats u.deque))
@@ -50,30 +50,29 @@ IsOwn marked u =
 abbrev pub IsOther : Bool → Log → Type 0
 IsOther marked u = IsSeated marked u × (u.ready ≡ true)
 
--- Two states of one end: they name one deque of one board.
+-- Two states of one end: they name the same deque of the same board.
 abbrev pub SameEnd : EndState → EndState → Type 0
 SameEnd e f = (f.id ≡ e.id) × (f.jobs ≡ e.jobs) × (f.seats ≡ e.seats) × (f.deque ≡ e.deque)
 
--- No job was taken at this end, and a mark stays. Without one, `seen` does not fall.
+-- No job was taken at this end, and a mark stays. If there is no mark, `seen` does not fall.
 abbrev pub Kept : EndState → EndState → Type 0
 Kept e f = SameEnd e f × (f.took ≡ e.took) × (e.marked ≡ true → f.marked ≡ true)
     × (f.marked ≡ false → e.seen ≤ f.seen)
 
--- Job j of the deque was taken at this end, and is the last of its list.
+-- Job j of the deque was taken at this end, and is the last of the end's list.
 pub record TookJob (e : EndState) (j : ℕ) (f : EndState) : Type 0 where
   pub same : SameEnd e f
   pub unmarked : e.marked ≡ false
   pub took : f.took ≡ e.took ++ j ∷ []
-  -- It is greater than all before it in the list.
+  -- Job j is greater than all jobs before it in the list.
   pub rises : All (λ x. x < j) e.took
   pub below : j < e.jobs
   pub of_deque : j % e.seats ≡ e.deque
   pub fits : length f.took ≤ length (deal e.jobs e.seats e.deque)
 
--- Another seat was faster: nothing was taken at this end, which has no mark, and more entries
--- of the deque are seen taken than before.
-abbrev pub MetTaker : EndState → EndState → Type 0
-MetTaker e f = (f ≡ record e { seen = f.seen }) × (e.seen < f.seen) × (e.marked ≡ false)
+-- A steal at this end lost a race: the end has no mark and took nothing, but `seen` rose.
+abbrev pub LostSteal : EndState → EndState → Type 0
+LostSteal e f = (f ≡ record e { seen = f.seen }) × (e.seen < f.seen) × (e.marked ≡ false)
 
 -- No job was taken at any of the ends.
 abbrev pub AllKept : List EndState → List EndState → Type 0
@@ -85,13 +84,13 @@ TookAmong es j fs = (k : ℕ) × (k < length es)
     × ((d : EndState) → TookJob (get_or es k d) j (get_or fs k d))
     × ((i : ℕ) (d : EndState) → i ≢ k → i < length es → Kept (get_or es i d) (get_or fs i d))
 
--- No job was taken, and at one of the ends from `from` up to `to` another seat was faster.
-pub record MetAmong (from to : ℕ) (es fs : List EndState) : Type 0 where
+-- No job was taken, and a steal lost a race at one of the ends `from..to`.
+pub record LostAmong (from to : ℕ) (es fs : List EndState) : Type 0 where
   pub kept : AllKept es fs
-  pub met : (k : ℕ) × (from ≤ k) × (k < to)
-      × ((d : EndState) → MetTaker (get_or es k d) (get_or fs k d))
+  pub lost : (k : ℕ) × (from ≤ k) × (k < to)
+      × ((d : EndState) → LostSteal (get_or es k d) (get_or fs k d))
 
--- No job was taken, and the ends from `from` up to `to` have their end marks.
+-- No job was taken, and the ends `from..to` have their end marks.
 pub record MarksAmong (from to : ℕ) (es fs : List EndState) : Type 0 where
   pub kept : AllKept es fs
   pub marks : (k : ℕ) (d : EndState) → from ≤ k → k < to → (get_or fs k d).marked ≡ true
@@ -106,7 +105,7 @@ abbrev pub of : ℕ → ℕ → List ℕ → List ℕ
 of v seats [] = []
 of v seats (x ∷ xs) = cond (x % seats == v) (x ∷ of v seats xs) (of v seats xs)
 
--- The k-th number, from 0, of those other than n.
+-- The number with index k among the numbers other than n.
 abbrev pub skip : ℕ → ℕ → ℕ
 skip n k = cond (nat_lt k n) k (suc k)
 
@@ -143,7 +142,7 @@ SameSeat s t = (t.number ≡ s.number) × SameEnd s.own t.own × (length t.other
     × ((k : ℕ) (d : EndState) → k < length s.others →
     SameEnd (get_or s.others k d) (get_or t.others k d))
 
--- The seat has the end marks of all deques.
+-- The seat has its end marks of all deques.
 abbrev pub HasAllMarks : SeatState → Type 0
 HasAllMarks s = (s.own.marked ≡ true)
     × ((k : ℕ) (d : EndState) → k < length s.others → (get_or s.others k d).marked ≡ true)
@@ -159,7 +158,7 @@ MarksStay s t = (s.own.marked ≡ true → t.own.marked ≡ true)
     × ((k : ℕ) (d : EndState) → k < length s.others → (get_or s.others k d).marked ≡ true →
     (get_or t.others k d).marked ≡ true)
 
--- The dealer of one deque. `marks_due` is one more than the stealing ends still to be made.
+-- The dealer of one deque. `marks_due` is one more than the number of stealing ends still to make.
 pub record DealerState : Type 0 where
   pub id : DequeId
   pub jobs : ℕ
@@ -222,12 +221,12 @@ pub record ClosingState : Type 0 where
   pub deque : ℕ
   pub took : List ℕ
   pub gathered : List ℕ
-  -- how many ends are back, the owner's included, and how many end marks they have
+  -- how many ends were joined, the owner's included, and how many end marks their seats took
   pub back : ℕ
   pub marks : ℕ
   pub marked : Bool
 
--- The closing deque of which the owner has this view.
+-- The deque that is being closed, from the owner's view of it.
 abbrev pub closing_of : DequeId → Bool → Log → ClosingState
 closing_of id marked u = record {
   id = id;
@@ -252,29 +251,29 @@ Begins e s = (s.id ≡ e.id) × (s.jobs ≡ e.jobs) × (s.seats ≡ e.seats) × 
     × (s.took ≡ e.took) × (s.gathered ≡ []) × (s.back ≡ 1) × (e.marked ≡ true → 0 < s.marks)
     × (s.marked ≡ true → 0 < s.marks)
 
--- One more end is back, with its list and its mark.
-abbrev pub CameBack : ClosingState → EndState → ClosingState → Type 0
-CameBack s e t = (t.id ≡ s.id) × (t.jobs ≡ s.jobs) × (t.seats ≡ s.seats) × (t.deque ≡ s.deque)
+-- One more end was joined to the owner's, with its list and its mark.
+abbrev pub AbsorbedEnd : ClosingState → EndState → ClosingState → Type 0
+AbsorbedEnd s e t = (t.id ≡ s.id) × (t.jobs ≡ s.jobs) × (t.seats ≡ s.seats) × (t.deque ≡ s.deque)
     × (t.took ≡ s.took) × (t.gathered ≡ s.gathered ++ e.took) × (t.back ≡ suc s.back)
     × (s.marks ≤ t.marks) × (e.marked ≡ true → 0 < t.marks) × (t.marked ≡ s.marked)
 
--- The index in the deal of the first job that nobody took.
-abbrev pub place_of : ClosingState → ℕ
-place_of s = length (s.took ++ s.gathered)
+-- The number of jobs taken, which is the index in the deal of the first job left.
+abbrev pub position_of : ClosingState → ℕ
+position_of s = length (s.took ++ s.gathered)
 
 -- The jobs dealt to the deque.
 abbrev pub deal_of : ClosingState → List ℕ
 deal_of s = deal s.jobs s.seats s.deque
 
--- The owner popped job j, the next of the deal, and no end mark was taken before.
+-- The owner popped job j, the next of the deal. No end mark was taken before.
 abbrev pub PoppedJob : ClosingState → ℕ → ClosingState → Type 0
 PoppedJob s j t = (t ≡ record s { took = s.took ++ j ∷ [] }) × (s.marks ≡ 0)
-    × (j ∷ drop (suc (place_of s)) (deal_of s) ≡ drop (place_of s) (deal_of s))
+    × (j ∷ drop (suc (position_of s)) (deal_of s) ≡ drop (position_of s) (deal_of s))
 
 -- The owner popped an end mark. If it is the first one taken, all jobs were taken.
 abbrev pub PoppedMark : ClosingState → ClosingState → Type 0
 PoppedMark s t = (t ≡ record s { marks = suc s.marks; marked = true })
-    × (s.marks ≡ 0 → length (deal_of s) ≤ place_of s)
+    × (s.marks ≡ 0 → length (deal_of s) ≤ position_of s)
 
 -- The seats are all those of some deal, in their order.
 abbrev pub IsBoard : ℕ → List SeatState → Type 0

@@ -1,5 +1,5 @@
--- The stealing ends of a board, a row for each seat, while `Board::close` closes the deques in
--- their order and takes each seat's first end.
+-- The stealing ends of a board, a row for each seat, while `Board::close` closes deque by deque.
+-- For each deque, `close` takes the end of that deque from the front of the other seats' rows.
 -- Private.
 use Rattle.std.specs.Prelude.{◌≡◌, ◌≢◌, ℕ, ◌+◌, ◌<◌, ◌==◌, true, cond, List, [], length, drop, slice_index_or}
 use Rattle.std.specs.declared.alloc.Global.{Global}
@@ -30,12 +30,12 @@ WithoutHeads n v rows new = (s : ℕ) (d : Vec EndState Global) → s < n →
 
 -- `left` has the jobs left in the deque of seat v, whose own end is `own`.
 pub record IsLeftOf (own : EndState) (n v : ℕ) (rows : Rows) (left : List ℕ) : Type 0 where
-  -- They are the last jobs of its deal.
+  -- The jobs left are the last jobs of the deque's deal.
   pub part : (k : ℕ) × (left ≡ drop k (deal own.jobs own.seats own.deque))
   -- No job is left if some seat has its end mark of this deque.
   pub own_mark : own.marked ≡ true → left ≡ []
   pub marks : EachHead n v rows (λ s e. e.marked ≡ true → left ≡ [])
-  -- The jobs that seats took of this deque, and those left, are its deal.
+  -- The jobs that seats took of this deque and the jobs left together are the deque's deal.
   pub once : (y : ℕ) (f : ℕ → ℕ) → EachHead n v rows (λ s e. times y e.took ≡ f s) →
       times y own.took ≡ f v
       → sum_to n f + times y left ≡ times y (deal own.jobs own.seats own.deque)

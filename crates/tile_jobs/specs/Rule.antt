@@ -1,9 +1,9 @@
--- The steps on one deque, and the invariant `Lawful` that they keep. The dealer pushes jobs, then
--- end marks. Then the owner pops and the other seats steal, each until it gets an end mark.
--- Each pass has a view (`Log`) of what it did. A step changes only the view of its pass: a push by
--- `dealing`, a pop or a steal by `Took`. Before the first take the dealer splits off a pass for
--- each other seat, which may take one mark (`after_split`, `split_off`). `taken_back` joins
--- it again.
+-- The pushes and takes on one deque, and the invariant `Lawful` that they keep. The dealer pushes
+-- jobs, then end marks. Then the owner pops and the other seats steal, each until it gets a mark.
+-- Each pass has a view (`Log`) of what it did. A push changes the view of its pass as `dealing`
+-- says, a pop or a steal as `Took` says; other views stay. Before the first take the dealer splits
+-- off a pass for each other seat, which may take one mark (`after_split`, `split_off`).
+-- At the end each pass is joined to the owner's again (`taken_back`, `spent`).
 -- Private.
 use Rattle.std.specs.Prelude.{◌≡◌, ℕ, zero, suc, ◌+◌, ◌-◌, ◌%◌, ◌<◌, ◌≤◌, ◌⊎◌, true, false, List, [], ◌∷◌, ◌++◌, length, take, drop, All}
 use Rattle.std.specs.List.{concat}
@@ -46,22 +46,11 @@ blank = record {
   gathered = [];
 }
 
--- The view of a pass that may do nothing.
+-- The view of a pass that may do nothing, as after the pass was joined to the owner's.
 abbrev pub spent : Log
-spent = record {
-  jobs = 0;
-  seats = 0;
-  deque = 0;
-  owns = false;
-  pushed = 0;
-  ready = false;
-  marks_due = 0;
-  marks = 0;
-  took = [];
-  gathered = [];
-}
+spent = record blank { owns = false }
 
--- x after the first push, 0 before.
+-- After n pushes: 0 before the first one, x from the first one on.
 abbrev pub once : ℕ → ℕ → ℕ
 once zero x = 0
 once (suc n) x = x
@@ -78,8 +67,7 @@ dealing jobs seats v n = record {
   marks_due = once n seats;
   marks = 0;
   took = [];
-  gathered =
-      [];
+  gathered = [];
 }
 
 -- The view u of the pass with number `port` is lawful; `owner` is the number of the owner's pass.
@@ -103,7 +91,7 @@ pub record Lawful (items : List Entry) (views : List Log) : Type 0 where
   pub within : total taken views ≤ pushed
   -- The deque holds the entries that were pushed and not taken.
   pub held : items ≡ drop (total taken views) (take pushed (feed jobs seats v))
-  -- Each job taken occurs in the lists of all passes as often as among the entries taken.
+  -- A number occurs in the lists of all passes as often as among the jobs of the entries taken.
   pub each : (x : ℕ) → total (λ u. times x (all_taken u)) views
       ≡ times x (jobs_of (take (total taken views) (feed jobs seats v)))
   pub marks : total (λ u. u.marks) views ≡ ends_of (take (total taken views) (feed jobs seats v))
@@ -123,7 +111,7 @@ pub record AddsJob (u : Log) (j : ℕ) (w : Log) : Type 0 where
   pub view : w ≡ record u { took = u.took ++ j ∷ [] }
   pub below : j < u.jobs
   pub of_deque : j % u.seats ≡ u.deque
-  -- It is greater than all before it in the list.
+  -- Job j is greater than all jobs before it in the list.
   pub rises : All (λ x. x < j) u.took
   pub fits : length w.took ≤ length (deal u.jobs u.seats u.deque)
   pub unmarked : u.marks ≡ 0

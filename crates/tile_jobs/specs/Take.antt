@@ -3,7 +3,7 @@
 use Rattle.std.specs.Prelude.{◌≡◌, ℕ, ◌%◌, ◌<◌, ◌⊎◌, true, [], ◌∷◌, ◌++◌, length, All}
 use Rattle.tile_jobs.specs.declared.seat.Take.{Take}
 use Rattle.tile_jobs.specs.declared.seat.Take.TheVariants.{Job, Again, Empty}
-use Rattle.tile_jobs.specs.Ends.{MetAmong, SeatState, HasAllMarks, of}
+use Rattle.tile_jobs.specs.Ends.{LostAmong, SeatState, HasAllMarks, of}
 
 -- The condition for this outcome: `job`, `again` or `empty`.
 abbrev pub MatchTake : Take → (ℕ → Type 0) → Type 0 → Type 0 → Type 0
@@ -11,7 +11,7 @@ MatchTake (Job j) job again empty = job j
 MatchTake Again job again empty = again
 MatchTake Empty job again empty = empty
 
--- The seat took job j, the last of its list. It steals only after its own deque's end mark.
+-- The seat took job j, the last of its list. It steals only once it has its own deque's end mark.
 pub record TakesJob (s : SeatState) (j : ℕ) (t : SeatState) : Type 0 where
   pub below : j < s.own.jobs
   pub taken : t.taken ≡ s.taken ++ j ∷ []
@@ -19,15 +19,15 @@ pub record TakesJob (s : SeatState) (j : ℕ) (t : SeatState) : Type 0 where
   pub rises : All (λ x. x < j) (of (j % s.own.seats) s.own.seats s.taken)
   pub own_first : (j % s.own.seats ≡ s.number) ⊎ (t.own.marked ≡ true)
 
--- The seat took no job, and at some other deque another seat was faster.
-pub record MeetsTaker (s t : SeatState) : Type 0 where
+-- The seat took no job, since a steal at some other deque lost a race.
+pub record LosesRace (s t : SeatState) : Type 0 where
   pub taken : t.taken ≡ s.taken
   pub own_first : t.own.marked ≡ true
   pub several : 1 < s.own.seats
   -- Some other deque lost an entry to another seat since this seat last looked.
-  pub others : MetAmong 0 (length s.others) s.others t.others
+  pub others : LostAmong 0 (length s.others) s.others t.others
 
--- The seat took no job, and has the end marks of all deques.
+-- The seat took no job, and has its end marks of all deques.
 pub record FindsNone (s t : SeatState) : Type 0 where
   pub taken : t.taken ≡ s.taken
   pub marks : HasAllMarks t

@@ -1,4 +1,4 @@
--- What workers return: their seats, and the results of the jobs that these took.
+-- The outcomes of workers: their seats, and the results of the jobs that the seats took.
 -- Private.
 use Rattle.std.specs.Prelude.{◌≡◌, ℕ, ◌<◌, ◌≤◌, List, Result, IfOk, IfErr, length, slice_index_or}
 use Rattle.tile_jobs.specs.declared.JobFault.{JobFault}
@@ -9,19 +9,19 @@ use Rattle.tile_jobs.specs.Board.{times}
 use Rattle.tile_jobs.specs.Ends.{SeatState, SameSeat, HasAllMarks, IsNew}
 
 module _ {O : Type 0} where
-  -- The worker took jobs until its seat had all end marks, and has the result of each.
+  -- The worker took jobs until its seat had all its end marks, and has the result of each job.
   pub record IsWorked (gives : ℕ → O → Type 0) (seat : SeatState)
-      (shift : WorkerResult O) : Type 0 where
-    pub same : SameSeat seat shift.seat
-    pub empty : HasAllMarks shift.seat
-    pub right : AllAnswer gives seat.own.jobs shift.answers.items
-    pub whole : (j : ℕ) → 0 < times j shift.seat.taken → IsAnswered shift.answers.items j
+      (output : WorkerResult O) : Type 0 where
+    pub same : SameSeat seat output.seat
+    pub empty : HasAllMarks output.seat
+    pub right : AllAnswer gives seat.own.jobs output.answers.items
+    pub whole : (j : ℕ) → 0 < times j output.seat.taken → IsAnswered output.answers.items j
 
   -- A worker's outcome: `Ok` as `IsWorked` says, or else the fault `Memory`.
   abbrev pub IsOutcome : (ℕ → O → Type 0) → SeatState → Result (WorkerResult O) JobFault → Type 0
   IsOutcome gives seat result = IfOk result (IsWorked gives seat) × IfErr result (λ e. e ≡ Memory)
 
-  -- Each seat's worker has its outcome, in the order of the seats.
+  -- Each seat has the outcome of its worker, in the order of the seats.
   pub record AreOutcomes (gives : ℕ → O → Type 0) (seats : List SeatState)
       (results : List (Result (WorkerResult O) JobFault)) : Type 0 where
     pub count : length results ≡ length seats

@@ -1,7 +1,7 @@
-//! The board: deals jobs to the deques of seats, and collects them again.
+//! The board: deals jobs to the deques of seats, and lists the jobs taken and left.
 //!
-//! [`Board::deal`] makes the seats, by module `dealing`. [`Board::close`] takes them apart, deque
-//! by deque, by module `closing`.
+//! [`Board::deal`] makes the seats, by module `dealing`. [`Board::close`] takes the seats apart and
+//! closes each deque, by module `closing`.
 ghost use Rattle.std.specs.Prelude.{◌≡◌, ℕ, ◌+◌, ◌<◌, ◌≤◌, ◌==◌, ◌⊎◌, ◌↔◌, cond, true, List, [], ◌++◌, length, vec_len, vec_capacity, slice_index_or, IfOk, IfErr, OnOk, Err};
 ghost use Rattle.tile_jobs.specs.Board.{deal as deal_list, times, sum_to};
 ghost use Rattle.tile_jobs.specs.Closed.{IsClosed};
@@ -17,8 +17,8 @@ use crate::{JobFault, MOST_JOBS, MOST_WORKERS, check_workers};
 use std::alloc::Global;
 
 /// Joins the ends of deque `v` from all rows to its owner's end.
-/// Each is the first of its row: deques close in order, and the ends of closed ones are gone.
-fn gather(own: OwnEnd, rows: &mut Vec<Vec<OtherEnd>>, v: usize) -> Closing
+/// Each end is the first of its row: deques close in order, and a closed deque's ends are gone.
+fn join_ends(own: OwnEnd, rows: &mut Vec<Vec<OtherEnd>>, v: usize) -> Closing
     requires own { v < vec_len rows.old }
     requires ids { HaveHeads (vec_len rows.old) v rows.old.items own.id }
     ensures len { vec_len rows.new ≡ vec_len rows.old }
@@ -56,12 +56,12 @@ fn close_one(own: OwnEnd, rows: &mut Vec<Vec<OtherEnd>>, v: usize, left: &mut Ve
     ensures left { (more : List ℕ) × (left.new.items ≡ left.old.items ++ more)
         × IsLeftOf own (vec_len rows.old) v rows.old.items more }
 {
-    let closing = gather(own, rows, v);
-    closing.drain(left);
+    let closing = join_ends(own, rows, v);
+    closing.empty_into(left);
 }
 
-/// Splits the seats into own ends, rows of other ends and lists of jobs taken.
-fn open_all(
+/// Splits each seat into its own end, its row of other ends and its list of jobs taken.
+fn split_seats(
     seats: Vec<Seat>,
     owns: &mut Vec<OwnEnd>,
     rows: &mut Vec<Vec<OtherEnd>>,
@@ -98,16 +98,17 @@ pub struct Closed {
     pub left: Vec<u32>,
 }
 
-/// A board of numbered jobs: deals them to seats, and collects them at the end.
+/// A board of numbered jobs: deals them to seats, and lists those taken and left at the end.
 ///
-/// Each seat owns a deque of jobs and may steal from every other deque. After its jobs a deque has
-/// one end mark for each seat. The seats hold all state, and may move to other threads.
+/// Each seat owns a deque and may steal from the others. After its jobs a deque has one end mark
+/// for each seat; once a seat takes one, the deque has no job left. The seats hold all state, and
+/// may move to other threads.
 pub struct Board;
 
 impl Board {
-    /// Deals the jobs below `jobs` to `seats` seats; returns these in their order.
+    /// Deals the jobs below `jobs` to `seats` seats; returns the seats in their order.
     ///
-    /// Job `j` goes to the deque of seat `j % seats`, each deque in rising order.
+    /// Job `j` goes to the deque of seat `j % seats`. Each deque has its jobs in rising order.
     ///
     /// # Errors
     ///
@@ -134,7 +135,7 @@ impl Board {
         Ok(seat_all(alloc, jobs, ends)?)
     }
 
-    /// Returns the jobs that each seat took, and those left in the deques.
+    /// Returns the jobs that each seat took, and the jobs left in the deques.
     ///
     /// `seats` has all seats of one deal, in their order.
     ///
@@ -163,7 +164,7 @@ impl Board {
         let Ok(mut taken) = Vec::with_capacity(alloc, count) else {
             return Err(seats);
         };
-        open_all(seats, &mut owns, &mut rows, &mut taken);
+        split_seats(seats, &mut owns, &mut rows, &mut taken);
         let mut v = 0;
         for own in owns {
             close_one(own, &mut rows, v, &mut left);

@@ -2,14 +2,14 @@
 ghost use Rattle.std.specs.Prelude.{◌≡◌, ℕ, ◌+◌, ◌-◌, ◌<◌, ◌≤◌, true, false, List, [], ◌++◌, length, drop, vec_len, vec_capacity, MatchOption};
 ghost use Rattle.crossbeam_deque.specs.Handles.{worker_deque, worker_view, worker_flavor};
 ghost use Rattle.tile_jobs.specs.Board.{times};
-ghost use Rattle.tile_jobs.specs.Ends.{ClosingState, closing_of, IsClosing, Begins, CameBack, PoppedJob, PoppedMark, deal_of};
+ghost use Rattle.tile_jobs.specs.Ends.{ClosingState, closing_of, IsClosing, Begins, AbsorbedEnd, PoppedJob, PoppedMark, deal_of};
 
 use crate::deque::{Deque, Entry, SplitsEnd, Whole, pop_next};
 use crate::ends::{OtherEnd, OwnEnd};
 use crate::reserved::put;
 use std::marker::Model;
 
-/// A deque that is being closed, and whether its owner's end mark was taken.
+/// A deque that is being closed, and whether its owner took an end mark.
 #[derive(Drop)]
 pub struct Closing {
     worker: Deque,
@@ -36,13 +36,13 @@ impl Closing {
     /// Joins another seat's end, with its list of jobs and its mark.
     pub(crate) fn absorb(&mut self, other: OtherEnd)
         requires { self.old.id ≡ other.id }
-        ensures { CameBack self.old other self.new }
+        ensures { AbsorbedEnd self.old other self.new }
     {
         let pass = other.into_pass();
         self.worker.absorb::<SplitsEnd>(pass);
     }
 
-    /// Pops the next job. Returns `None` on popping the owner's end mark.
+    /// Pops the next job. Returns `None` if it pops an end mark, which no job follows.
     pub(crate) fn next(&mut self) -> Option<u32>
         requires back { self.old.back ≡ self.old.seats }
         requires unmarked { self.old.marked ≡ false }
@@ -72,8 +72,8 @@ impl Closing {
     }
 
     /// Moves the jobs that are left in the deque to the end of `left`.
-    /// No job is left once an end mark was taken, since end marks come after all jobs.
-    pub(crate) fn drain(self, left: &mut Vec<u32>)
+    /// No job is left once an end mark was taken, since the jobs precede all end marks.
+    pub(crate) fn empty_into(self, left: &mut Vec<u32>)
         requires back { self.back ≡ self.seats }
         requires marked { self.marked ≡ true → 0 < self.marks }
         requires capacity { vec_len left.old + length (deal_of self)

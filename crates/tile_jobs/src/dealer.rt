@@ -10,7 +10,7 @@ use crate::ends::{OtherEnd, OwnEnd};
 use std::alloc::{AllocError, Global};
 use std::marker::Model;
 
-/// A full deque, some of whose ends are still to be made.
+/// A deque that has all its jobs and end marks, and of which some ends are still to be made.
 #[derive(Drop)]
 pub struct Dealer {
     worker: Deque,
@@ -24,8 +24,8 @@ impl Model for Dealer {
     ghost invariant = { λ d. IsDealer (worker_view d.worker) × (worker_flavor d.worker ≡ 0) };
 }
 
-/// The number of jobs below `jobs` that deque `v` gets.
-/// It gets one in each whole round over the seats, and one in a last round that reaches `v`.
+/// Returns how many of the jobs below `jobs` deque `v` gets.
+/// The deque gets one in each whole round over the seats, and one in a last round that reaches `v`.
 #[tactic(auto, using(std::proofs::lemmas::Bool::Decides::nat_tests, crate::proofs::Rounds::deal_count))]
 fn count_jobs(jobs: u32, seats: u32, v: u32) -> u32
     requires { v < seats }

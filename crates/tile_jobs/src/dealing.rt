@@ -49,7 +49,7 @@ fn empty_rows(alloc: Global, seats: u32) -> Result<Vec<Vec<OtherEnd>>, AllocErro
     Ok(rows)
 }
 
-/// All ends of all deques: the owners', and for each seat a row of the others.
+/// All ends of all deques: the owners' ends, and for each seat a row of its other ends.
 #[derive(Drop)]
 pub struct Ends {
     pub owns: Vec<OwnEnd>,
@@ -75,7 +75,7 @@ pub(crate) fn deal_all(alloc: Global, jobs: u32, seats: u32) -> Result<Ends, All
     Ok(Ends { owns, rows })
 }
 
-/// Makes the seats, each of its own end and its row of other ends.
+/// Makes each seat from its own end and its row of other ends.
 pub(crate) fn seat_all(alloc: Global, jobs: u32, ends: Ends) -> Result<Vec<Seat>, AllocError>
     requires count { (vec_len ends.owns ≤ MOST_WORKERS) × (vec_len ends.rows ≡ vec_len ends.owns) }
     requires owns { AllFresh jobs (vec_len ends.owns) ends.owns.items }
@@ -90,7 +90,7 @@ pub(crate) fn seat_all(alloc: Global, jobs: u32, ends: Ends) -> Result<Vec<Seat>
     let mut seats = Vec::with_capacity(alloc, owns.len())?;
     let mut number = 0;
     for own in owns {
-        // Cheap: at most 64 rows shift.
+        // Cheap: `remove` moves at most 64 rows forward.
         let others = rows.remove(0);
         seats
             .push(Seat::new(alloc, number, own, others, jobs)?)

@@ -1,4 +1,4 @@
-//! One deque of the board: its protocol, and the steps on it.
+//! One deque of the board: its protocol, and the calls that push, pop and steal.
 //!
 //! A pass is the right to act on a deque, and its view ([`Log`]) records what it did. A push, a
 //! pop or a steal changes the view of one pass only.
@@ -31,7 +31,7 @@ pub struct Log {
     pub pushed: u64,
     // true for a stealing pass: all entries were pushed before it was split off
     pub ready: bool,
-    // the number of end marks that it may still take, and that it took
+    // the number of end marks that the pass may still take, and the number that it took
     pub marks_due: u64,
     pub marks: u64,
     // the jobs taken by this pass
@@ -40,7 +40,7 @@ pub struct Log {
     pub gathered: LinkedList<LinkedList<u32>>,
 }
 
-/// The protocol of a deque: `Lawful` holds after each step.
+/// The protocol of a deque: `Lawful` holds after each push, pop, steal, split and join.
 pub struct DequeRule;
 
 impl Protocol<Entry, Log> for DequeRule {
@@ -59,7 +59,7 @@ pub type Deque = Worker<Entry, Global, Log, DequeRule>;
 /// A stealing seat's handle of a deque.
 pub type Thief = Stealer<Entry, Global, Log, DequeRule>;
 
-/// A type that names a deque: the board's jobs and seats, and the deque's number.
+/// A type that names a deque by the board's numbers of jobs and seats and the deque's number.
 pub trait DequeKey {
     ghost jobs: { ℕ };
 
@@ -130,7 +130,7 @@ impl Join<Log> for SplitsEnd {
     ghost spent = { spent };
 }
 
-/// The fact that the lists of all passes together have each dealt job once.
+/// The fact that the owner's list and all lists joined to it have each dealt job once.
 pub struct Whole;
 
 impl Lesson<Entry, Log> for Whole {
@@ -141,7 +141,7 @@ impl Lesson<Entry, Log> for Whole {
     ghost fact = { λ u _. (y : ℕ) → times y (all_taken u) ≡ times y (deal u.jobs u.seats u.deque) };
 }
 
-/// Pushes the next entry. The dealer calls it, before any entry is taken.
+/// Pushes the next entry. Only the dealer pushes, before any entry is taken.
 pub(crate) fn push<D: DequeKey>(worker: &mut Deque, entry: Entry)
     requires view { worker_view worker.old
         ≡ dealing D.jobs D.seats D.deque (worker_index worker.old) }
@@ -195,7 +195,7 @@ pub(crate) fn steal(thief: &Thief, pass: &mut Pass<Entry, Log>) -> Option<Entry>
     requires can { CanTake (view pass.old) }
     requires fifo { stealer_flavor thief.now ≡ 0 }
     ensures same { SamePass pass.old pass.new }
-    ensures met { IfNone result (taken pass.old < taken pass.new) }
+    ensures lost { IfNone result (taken pass.old < taken pass.new) }
     ensures took { MatchOption result (view pass.new ≡ view pass.old)
         (λ x. Took (view pass.old) (x ∷ []) (view pass.new)) }
 {

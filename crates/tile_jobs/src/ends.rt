@@ -1,7 +1,7 @@
-//! A seat's ends of the deques: it pops at its own end and steals at the others.
+//! A seat's ends, which are its handles of the deques. It pops at its own and steals at the others.
 ghost use Rattle.std.specs.Prelude.{◌≡◌, ◌≤◌, true, false, cond, length, vec_len, MatchOption};
 ghost use Rattle.crossbeam_deque.specs.Handles.{taken, view as pass_view, IsPassOf, worker_deque, stealer_deque, worker_view, worker_flavor, stealer_flavor};
-ghost use Rattle.tile_jobs.specs.Ends.{EndState, end_of, IsOwn, IsOther, TookJob, Kept, MetTaker, SameElsewhere};
+ghost use Rattle.tile_jobs.specs.Ends.{EndState, end_of, IsOwn, IsOther, TookJob, Kept, LostSteal, SameElsewhere};
 ghost use Rattle.tile_jobs.specs.RoundOutcome.{StealsAmong};
 ghost use Rattle.tile_jobs.specs.StealOutcome.{MatchSteal};
 
@@ -9,7 +9,7 @@ use crate::deque::{Deque, Entry, Log, Thief, pop, steal};
 use crossbeam_deque::Pass;
 use std::marker::Model;
 
-/// The owner's end of its deque, and whether it has the end mark.
+/// The owner's end of its deque, and whether the owner took its end mark.
 #[derive(Drop)]
 pub struct OwnEnd {
     worker: Deque,
@@ -48,7 +48,7 @@ impl Model for OtherEnd {
 #[derive(Clone, Copy, PartialEq, Eq, Debug)]
 pub enum StealOutcome {
     Job(u32),
-    // this end has its end mark, from this steal or an earlier one
+    // the end mark, taken by this steal or an earlier one
     Mark,
     // the steal lost a race
     Missed,
@@ -73,7 +73,7 @@ impl OwnEnd {
         (worker, marked)
     }
 
-    /// Takes the first job. Returns `None` once this end has its end mark.
+    /// Takes the first job. Returns `None` once the owner took its end mark.
     pub(crate) fn take(&mut self) -> Option<u32>
         ensures { MatchOption result (Kept self.old self.new × (self.new.marked ≡ true))
             (λ j. TookJob self.old j self.new) }
@@ -119,10 +119,10 @@ impl OtherEnd {
         pass
     }
 
-    /// Tries one steal, unless this end has its end mark.
+    /// Tries one steal, unless the seat took its end mark of this deque.
     pub(crate) fn take(&mut self) -> StealOutcome
         ensures { MatchSteal result (Kept self.old self.new × (self.new.marked ≡ true))
-            (MetTaker self.old self.new) (λ j. TookJob self.old j self.new) }
+            (LostSteal self.old self.new) (λ j. TookJob self.old j self.new) }
     {
         if self.marked {
             return StealOutcome::Mark;
@@ -143,9 +143,9 @@ impl OtherEnd {
 #[derive(Clone, Copy, PartialEq, Eq, Debug)]
 pub enum RoundOutcome {
     Job(u32),
-    // no job, and at least one steal lost a race
-    Met,
-    // each of the ends tried has its end mark
+    // no steal got a job, and at least one lost a race
+    LostRace,
+    // the seat has its end mark of each deque tried
     Nothing,
 }
 
@@ -156,16 +156,16 @@ pub(crate) fn steal_among(others: &mut Vec<OtherEnd>, from: usize, to: usize) ->
     ensures ends { StealsAmong from to others.old.items others.new.items result }
     ensures elsewhere { SameElsewhere from to others.old.items others.new.items }
 {
-    let mut met = false;
+    let mut lost = false;
     for k in from..to {
         match others[k].take() {
             StealOutcome::Job(job) => return RoundOutcome::Job(job),
             StealOutcome::Mark => {}
-            StealOutcome::Missed => met = true,
+            StealOutcome::Missed => lost = true,
         }
     }
-    if met {
-        RoundOutcome::Met
+    if lost {
+        RoundOutcome::LostRace
     } else {
         RoundOutcome::Nothing
     }
@@ -182,9 +182,9 @@ pub(crate) fn steal_round(others: &mut Vec<OtherEnd>, first: usize) -> RoundOutc
     match steal_among(others, first, count) {
         RoundOutcome::Job(job) => RoundOutcome::Job(job),
         RoundOutcome::Nothing => steal_among(others, 0, first),
-        RoundOutcome::Met => match steal_among(others, 0, first) {
+        RoundOutcome::LostRace => match steal_among(others, 0, first) {
             RoundOutcome::Job(job) => RoundOutcome::Job(job),
-            _ => RoundOutcome::Met,
+            _ => RoundOutcome::LostRace,
         },
     }
 }

@@ -3,21 +3,21 @@
 //! [`Work`] defines what a job does and returns; jobs are numbered from 0. [`run_jobs`] returns
 //! the result of each job, whichever worker ran it.
 //!
-//! It uses a [`Board`], which deals the jobs to the deques of its seats. Each [`Seat`] takes the
-//! jobs of its own deque, then steals from the other deques, without locks and without waiting.
+//! [`run_jobs`] uses a [`Board`], which deals the jobs to the deques of its seats. Each [`Seat`]
+//! takes the jobs of its own deque, then steals from the other deques. It never locks or waits.
 //!
 //! Modules, callers first:
 //!
 //! - `running`: runs all jobs on a number of workers
 //! - `threads`: runs the workers on threads of their own or on the caller's
 //! - `worker`: one worker at its seat
-//! - `board`: deals jobs to seats and collects them
+//! - `board`: deals jobs to seats, and lists the jobs taken and left
+//! - `dealing`: fills all deques and makes the seats
+//! - `dealer`: fills one deque with jobs and end marks
+//! - `closing`: empties one deque and lists the jobs left in it
 //! - `seat`: one worker's access to all deques
 //! - `ends`: a seat's access to one deque
 //! - `deque`: the protocol of one deque
-//! - `dealer`: fills one deque with jobs and end marks
-//! - `dealing`: fills all deques
-//! - `closing`: empties one deque and lists the jobs left in it
 //! - `slots`: results in job order
 //! - `reserved`: pushes to lists of sufficient capacity
 //! - `work`: what a job does

@@ -3,7 +3,7 @@
 //! [`Seat::try_take`] takes the next job of the own deque, or tries to steal one.
 ghost use Rattle.std.specs.Prelude.{◌≡◌, ◌≤◌, [], vec_capacity, IfOk};
 ghost use Rattle.tile_jobs.specs.Ends.{SeatState, seat_of, IsSeat, SameSeat, MarksStay, HasAllMarks};
-ghost use Rattle.tile_jobs.specs.Take.{MatchTake, TakesJob, MeetsTaker, FindsNone};
+ghost use Rattle.tile_jobs.specs.Take.{MatchTake, TakesJob, LosesRace, FindsNone};
 
 use crate::ends::{OtherEnd, OwnEnd, RoundOutcome, steal_round};
 use crate::reserved::put;
@@ -13,7 +13,7 @@ use std::marker::Model;
 /// The outcome of [`Seat::try_take`].
 #[derive(Clone, Copy, PartialEq, Eq, Debug)]
 pub enum Take {
-    /// The caller has to run this job; no other seat gets it.
+    /// The job that the caller has to run; no other seat gets it.
     Job(u32),
     /// No job, since a steal lost a race. A later try may get one.
     Again,
@@ -41,7 +41,7 @@ impl Model for Seat {
 }
 
 impl Seat {
-    /// Makes a seat that took no job, with capacity for the numbers of all `jobs`.
+    /// Makes a seat that took no job, with capacity for the numbers of all `jobs` jobs.
     pub(crate) fn new(
         alloc: Global,
         number: u32,
@@ -87,7 +87,7 @@ impl Seat {
     /// Tries at most one steal at each other deque, from the next seat's to the last, then from the
     /// first. A seat gets the jobs of one deque in rising order. Never allocates and never waits.
     ///
-    /// Returns [`Take::Empty`] once this seat has the end mark of every deque, and from then on.
+    /// Returns [`Take::Empty`] once this seat has its end mark of every deque, and from then on.
     /// Returns [`Take::Again`] only if a steal of this call lost a race to another seat.
     ///
     /// # Examples
@@ -104,7 +104,7 @@ impl Seat {
         ensures stay { MarksStay self.old self.new }
         ensures over { HasAllMarks self.old → result ≡ Take.Empty }
         ensures took { MatchTake result (λ j. TakesJob self.old j self.new)
-            (MeetsTaker self.old self.new) (FindsNone self.old self.new) }
+            (LosesRace self.old self.new) (FindsNone self.old self.new) }
     {
         if let Some(job) = self.own.take() {
             put(&mut self.taken, job);
@@ -115,7 +115,7 @@ impl Seat {
                 put(&mut self.taken, job);
                 Take::Job(job)
             }
-            RoundOutcome::Met => Take::Again,
+            RoundOutcome::LostRace => Take::Again,
             RoundOutcome::Nothing => Take::Empty,
         }
     }

@@ -23,7 +23,7 @@ fn join_all<R: Threads, T: Drop, P: Promise<T>>(rt: &R, children: Vec<PromisedHa
 
 /// Runs each seat's worker on a thread of its own, and joins all threads.
 ///
-/// Starts at most `starts` threads: one more fails with [`JobFault::NoThread`]. Every started
+/// Starts at most `starts` threads; more seats fail with [`JobFault::NoThread`]. Every started
 /// thread is joined before the call returns, even on an error.
 pub(crate) fn run_on_threads<'s, E, R: Threads + Wait + Sync, W: Work + Sync, G: Gate + Sync>(
     rt: &'s R,
@@ -47,11 +47,11 @@ where
             join_all(rt, children);
             return Err(JobFault::NoThread);
         }
-        let duty = WorkerPromise {
+        let promise = WorkerPromise {
             work,
             seat: Snapshot::of(&seat),
         };
-        match scope.spawn_with(duty, move || work_seat(rt, alloc, work, gate, seat)) {
+        match scope.spawn_with(promise, move || work_seat(rt, alloc, work, gate, seat)) {
             Ok(child) => put(&mut children, child),
             Err(_) => {
                 join_all(rt, children);

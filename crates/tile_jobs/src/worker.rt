@@ -1,4 +1,4 @@
-//! Runs one worker: takes jobs by its seat until no deque holds one.
+//! Runs one worker, which takes jobs through its seat until no deque holds one.
 ghost use Rattle.std.specs.Prelude.{◌≤◌};
 ghost use Rattle.tile_jobs.specs.Ends.{IsNew};
 ghost use Rattle.tile_jobs.specs.Workers.{IsOutcome};
@@ -36,7 +36,7 @@ where
     ensures { IsOutcome (W.gives work.now) seat result }
 {
     let mut answers = Vec::new(alloc);
-    // A steal may lose any number of races, so the turns have no bound.
+    // Steals may lose any number of races, so the number of turns has no bound.
     for _ in rt.forever() {
         match seat.try_take() {
             Take::Job(job) => {
@@ -52,7 +52,7 @@ where
     Ok(WorkerResult { seat, answers })
 }
 
-/// What a worker's thread promises of its result, for the seat it started with.
+/// The promise of a worker's thread about its result, for the seat that the thread started with.
 #[derive(Drop)]
 pub struct WorkerPromise<'a, W> {
     pub work: &'a W,

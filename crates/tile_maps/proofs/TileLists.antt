@@ -20,7 +20,7 @@ within_injective b p q i j e =
     let col : p.col - b.left ≡ q.col - b.left = ap (λ (r : Place). r.col) one in
     same_place p q (omega (arith, i.0, j.0)) (omega (arith, i.2, j.2))
 
--- one more entry, by its place
+-- the list with one more entry, for place p
 pub made_push : {X : Type 0} (b : Bounds) (Has : Place → X → Type 0) (p : Place) (list : List X) (x : X) → IsInBounds b p →
     AreMadeBelow b Has (index_in b p) list → Has p x → AreMadeBelow b Has (index_in b p + 1) (list ++ x ∷ [])
 made_push {X} b Has p list x inside before here = record {
@@ -34,7 +34,7 @@ made_push {X} b Has p list x inside before here = record {
   ];
 }
 
--- one more entry, by its row and column in the bounds
+-- the list with one more entry, for a row and a column counted from the bounds' first
 pub made_next : {X : Type 0} (b : Bounds) (Has : Place → X → Type 0) (row col : ℕ) (list : List X) (x : X) → row < b.rows → col < b.cols →
     AreMadeBelow b Has (row * b.cols + col) list → Has (make_place (b.top + row) (b.left + col)) x → AreMadeBelow b Has (row * b.cols + (col + 1)) (list ++ x ∷ [])
 made_next {X} b Has row col list x below beside before here =
@@ -46,7 +46,7 @@ made_next {X} b Has row col list x below beside before here =
     subst (λ (n : ℕ). AreMadeBelow b Has n (list ++ x ∷ [])) next
     (made_push b Has p list x (omega arith, omega arith, omega arith, omega arith) (subst (λ (n : ℕ). AreMadeBelow b Has n list) (sym at) before) here)
 
--- a list is a tile's once it has an entry for each place of the tile's bounds
+-- a list is a tile's if it has an entry for each place of the tile's bounds
 pub made_tile : {X : Type 0} (c : Cutting) (tile : ℕ) (b : Bounds) (Has : Place → X → Type 0) (list : List X) → IsCutting c → b ≡ bounds_of c tile →
     AreMadeBelow b Has (b.rows * b.cols) list → IsMadeTile c tile Has list
 made_tile c tile b Has list lawful e made = record {

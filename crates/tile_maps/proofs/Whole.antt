@@ -17,11 +17,11 @@ module _ {X : Type 0} (c : Cutting) (Has : Place → X → Type 0) (n : ℕ) (li
   made_at tile list e = subst (λ (v : Vec X Global). IsMadeTile c tile Has v.items) (get_or_from_slice_get lists.items tile list list e)
       (given tile list (omega (arith, lists.ok.0, count, slice_get_within lists.items tile list e)))
 
-  -- there is one list for each tile, of its length
+  -- there is one list for each tile, with an entry for each of its cells
   pub lists_of_tiles : AreTileLists c lists.items
   lists_of_tiles = record { count = omega (arith, lists.ok.0, count, all); each = λ tile list e. (made_at tile list e).size }
 
-  -- the joined list has an entry for each place of the grid, and `Has` holds of each
+  -- the joined list has an entry for each place of the grid, and `Has` holds of each entry
   pub made_whole : (whole : List X) → IsCutting c → IsPutBack c lists.items whole → IsMadeMap c Has whole
   made_whole whole lawful put = record {
     size = put.size;
@@ -35,7 +35,7 @@ module _ {X : Type 0} (c : Cutting) (Has : Place → X → Type 0) (n : ℕ) (li
         ];
   }
 
--- a list of a tile's length is the tile's if `Has` holds at each of its places
+-- a list as long as a tile is the tile's, if `Has` holds of its entry at each place of the tile
 pub tile_of_entries : {X : Type 0} (c : Cutting) (tile : ℕ) (Has : Place → Option X → Type 0) (list : List (Option X)) → length list ≡ cell_count c tile →
     ((p : Place) → IsInTile c tile p → Has p (tile_entry c tile list p)) → IsMadeTile c tile Has list
 tile_of_entries {X} c tile Has list size each = record {
@@ -45,14 +45,14 @@ tile_of_entries {X} c tile Has list size each = record {
       (each p i);
 }
 
--- `Has` holds of the entry of a map at each place
+-- `Has` holds of a map's entry at each place of the grid
 pub entry_of_map : {X : Type 0} (c : Cutting) (Has : Place → Option X → Type 0) (whole : List (Option X)) → IsMadeMap c Has whole → (p : Place) → IsWithin c p →
     Has p (entry_at c.cols c.rows whole p)
 entry_of_map {X} c Has whole made p within = subst (λ (o : Option X). Has p o) (sym (entry-inside c.cols c.rows whole p within.0 within.1))
     (made.each p within (get_or whole (index_of c.cols p) None)
     (slice_get-get_or whole (index_of c.cols p) None (omega (arith, made.size, index_below c.cols c.rows p within.0 within.1))))
 
--- size and entries of a map, by the numbers of columns and rows
+-- a map of `cols` by `rows` cells: its length, and `Has` of its entry at each place
 pub map_of_size : {X : Type 0} (c : Cutting) (cols rows : ℕ) (Has : Place → Option X → Type 0) (whole : List (Option X)) → c.cols ≡ cols → c.rows ≡ rows → IsMadeMap c Has whole →
     (length whole ≡ cols * rows) × ((p : Place) → (p.row < rows) × (p.col < cols) → Has p (entry_at cols rows whole p))
 map_of_size {X} c cols rows Has whole same_cols same_rows made = (

@@ -1,4 +1,4 @@
--- Lists with one entry for each place: of the start of a tile, a tile, a grid.
+-- Lists with one entry for each place: of a tile's first places, of a tile, of a grid.
 -- Source: this project.
 -- Public.
 use Rattle.std.specs.Prelude.{◌≡◌, ℕ, ◌*◌, ◌<◌, List, length, Some, slice_get}
@@ -7,7 +7,7 @@ use Rattle.terrain.specs.declared.place.Place.{Place}
 use Rattle.tiles.specs.declared.bounds.Bounds.{Bounds}
 use Rattle.tiles.specs.Cutting.{Cutting, index_in, IsInBounds, IsInTile, IsWithin, cell_count, index_in_tile}
 
--- The list has `end` entries, of the first places of the bounds in row order.
+-- The list has `end` entries, for the first places of the bounds in row order.
 -- `Has` holds of each entry at its place.
 pub record AreMadeBelow {X : Type 0} (b : Bounds) (Has : Place → X → Type 0) (end : ℕ)
     (list : List X) : Type 0 where
@@ -15,14 +15,14 @@ pub record AreMadeBelow {X : Type 0} (b : Bounds) (Has : Place → X → Type 0)
   pub each : (p : Place) → IsInBounds b p → index_in b p < end → (entry : X) →
       slice_get list (index_in b p) ≡ Some entry → Has p entry
 
--- The list has one entry for each place of the tile, in its row order; `Has` holds of each.
+-- The list has an entry for each place of the tile, in row order. `Has` holds of each entry.
 pub record IsMadeTile {X : Type 0} (c : Cutting) (tile : ℕ) (Has : Place → X → Type 0)
     (list : List X) : Type 0 where
   pub size : length list ≡ cell_count c tile
   pub each : (p : Place) → IsInTile c tile p → (entry : X) →
       slice_get list (index_in_tile c p) ≡ Some entry → Has p entry
 
--- The list has one entry for each place of the grid, in row order; `Has` holds of each.
+-- The list has an entry for each place of the grid, in row order. `Has` holds of each entry.
 pub record IsMadeMap {X : Type 0} (c : Cutting) (Has : Place → X → Type 0)
     (list : List X) : Type 0 where
   pub size : length list ≡ c.cols * c.rows

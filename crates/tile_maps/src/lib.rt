@@ -1,6 +1,6 @@
 //! Makes maps of a grid tile by tile, by one job for each tile.
 //!
-//! A [`TileMap`] makes the entries of one tile. A [`Runner`] has what a stage needs to run jobs.
+//! A [`TileMap`] returns a tile's entries. A [`Runner`] has what a stage needs to run jobs.
 //! [`Runner::map_tiles`] makes the whole map.
 //!
 //! Modules, callers first:

@@ -70,7 +70,7 @@ impl<'a, R: Threads + Wait + Sync, G: Gate + Sync> Runner<'a, R, G> {
     }
 
     /// Returns the map of the whole grid in row order, made by one job for each tile.
-    /// Frees `map` before it joins the tiles' lists.
+    /// Frees `map` before the tiles' lists are joined.
     ///
     /// # Errors
     ///

@@ -10,7 +10,7 @@ use Rattle.tiles.proofs.Quotients.{piece_begins, piece_of, pieces_some, piece_is
 abbrev pub make_bounds : ℕ → ℕ → ℕ → ℕ → Bounds
 make_bounds top left rows cols = record { top = top; left = left; rows = rows; cols = cols }
 
--- a tile lies in one of the rows and columns of tiles
+-- each tile is in one of the rows of tiles, and in one of the columns of tiles
 pub tile_row : (t : Cutting) (tile : ℕ) → IsCutting t → tile < tile_count t → tile / across t < down t
 tile_row t tile h l =
     div_below tile (across t) (down t) (pieces_some t.cols t.side h.some_side h.some_col) (omega (arith, mul_comm (across t) (down t)))
@@ -25,7 +25,7 @@ tile_top t tile h l = piece_begins t.rows t.side (tile / across t) h.some_side (
 pub tile_left : (t : Cutting) (tile : ℕ) → IsCutting t → tile % across t * t.side < t.cols
 tile_left t tile h = piece_begins t.cols t.side (tile % across t) h.some_side (tile_col t tile h)
 
--- a tile's bounds have a cell and lie in the grid
+-- a tile's bounds have a cell, lie in the grid, and are no longer than the side
 pub bounds_inside : (t : Cutting) (tile : ℕ) → IsCutting t → tile < tile_count t → AreBounds t (bounds_of t tile)
 bounds_inside t tile h l =
     let a = tile_top t tile h l in
@@ -40,7 +40,7 @@ bounds_inside t tile h l =
       cols_inside = omega arith;
     }
 
--- the row and the column of tiles in which a place lies are those of its tile
+-- a place's column of tiles exists; its tile is in the place's row and column of tiles
 pub place_col_piece : (t : Cutting) (p : Place) → IsCutting t → IsWithin t p → p.col / t.side < across t
 place_col_piece t p h w = piece_of t.cols t.side p.col h.some_side w.1
 
@@ -79,7 +79,7 @@ in_tile t tile p h l i =
     let e : tile_of_place t p ≡ tile / across t * across t + tile % across t = ap (λ n. n * across t + p.col / t.side) r ∙ ap (λ n. tile / across t * across t + n) c in
     ((omega arith, omega arith), e ∙ div-add-mod' tile (across t))
 
--- bounds that equal a tile's have a cell, and hold its places
+-- bounds that equal a tile's are `AreBounds`, and hold exactly the tile's places
 pub inside_from_value : (t : Cutting) (tile : ℕ) (b : Bounds) → IsCutting t → tile < tile_count t → b ≡ bounds_of t tile → AreBounds t b
 inside_from_value t tile b h l e = subst (λ (z : Bounds). AreBounds t z) (sym e) (bounds_inside t tile h l)
 

@@ -54,7 +54,7 @@ Contains-from_filter test (y ∷ ys) x h =
           let r = Contains-from_filter test ys x k in (Contains-there y ys x r.0, r.1)
     ]
 
--- a range has exactly the numbers from its first to its end
+-- a range of n numbers from a on has exactly the numbers from a up to, but without, a + n
 Contains-range : (a n k : ℕ) → a ≤ k → k < a + n → Contains (range_with_len a n) k
 Contains-range a zero k h l = absurd (omega (arith, h, l))
 Contains-range a (suc n) k h l =

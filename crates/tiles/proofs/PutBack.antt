@@ -1,4 +1,4 @@
--- A list of the grid, joined row by row, and each row tile by tile.
+-- The list of the grid, joined row by row, and each row tile by tile.
 use Rattle.std.proofs.Common.{◌≡◌, ℕ, ◌+◌, ◌-◌, ◌*◌, ◌/◌, ◌%◌, ◌<◌, ◌≤◌, min, List, ◌++◌, length, drop, Option, Some, None, sym, ap, subst, refl, ◌∙◌, arith, inl, inr, slice_get, slice_range, Vec}
 use Rattle.std.specs.declared.alloc.Global.{Global}
 use Rattle.std.specs.Prelude.{option_and_then}
@@ -23,7 +23,7 @@ use Rattle.tiles.proofs.SliceGet.{slice_get-range, slice_get-append_left, slice_
 pub row_in_list : (b : Bounds) (row n : ℕ) → n ≡ b.rows * b.cols → b.top ≤ row → row < b.top + b.rows → (row - b.top) * b.cols + b.cols ≤ n
 row_in_list b row n e h l = let f = row_fits (row - b.top) b.cols b.rows b.cols (omega arith) (omega arith) in omega (arith, f, e)
 
--- the entry at a place, once its tile's list is known
+-- a place's entry is in its tile's list, at the place's index in the tile
 pub listed_in : {X : Type 0} (t : Cutting) (lists : List (Vec X Global)) (tile : ℕ) (list : Vec X Global) (p : Place) → tile_of_place t p ≡ tile → slice_get lists tile ≡ Some list →
     listed_at t lists p ≡ slice_get list.items ((p.row - (bounds_of t tile).top) * (bounds_of t tile).cols + (p.col - (bounds_of t tile).left))
 listed_in {X} t lists tile list p e s =
@@ -49,11 +49,11 @@ row_is t lists tile row list part from h l a s top bottom e f =
           ∙ sym (listed_in t lists tile list p i.1 s);
     }
 
--- a row and a column of tiles meet in a tile
+-- a row of the grid and a column of tiles meet in a tile
 pub crossed_below : (t : Cutting) (row column : ℕ) → IsCutting t → row < t.rows → column < across t → row / t.side * across t + column < tile_count t
 crossed_below t row column h r c = mul-add-lt (row / t.side) (across t) column (down t) (piece_of t.rows t.side row h.some_side r) c
 
--- the tile where a row meets a column of tiles has that row
+-- the tile where a row meets a column of tiles has that row, and the column's left and width
 pub crossed_at : (t : Cutting) (row column : ℕ) → IsCutting t → row < t.rows → column < across t →
     let b = bounds_of t (row / t.side * across t + column) in (b.top ≤ row) × (row < b.top + b.rows) × (b.left ≡ column * t.side) × (b.cols ≡ min t.side (t.cols - column * t.side))
 crossed_at t row column h r c =
@@ -64,7 +64,7 @@ crossed_at t row column h r c =
     let left : (row / t.side * across t + column) % across t * t.side ≡ column * t.side = ap (λ n. n * t.side) f in
     (omega (arith, top, a.0), omega (arith, top, a.0, a.1), left, ap (λ n. min t.side (t.cols - n)) left)
 
--- the length of the joined list, once a row has crossed some columns of tiles
+-- the length of the joined list, with the row's cells in the first `column` columns of tiles
 abbrev pub crossed_length : Cutting → ℕ → ℕ → ℕ
 crossed_length t row column = row * t.cols + min t.cols (column * t.side)
 
@@ -95,7 +95,7 @@ IsPutBackBelow-more t lists row left width n whole part fits e h size each = rec
       ];
 }
 
--- the joined list, after one more column of tiles
+-- the joined list, with the row's cells in one more column of tiles appended
 pub crosses_more : {X : Type 0} (t : Cutting) (lists : List (Vec X Global)) (row column first : ℕ) (whole part next : List X) → IsCutting t → row < t.rows → column < across t →
     first ≡ row / t.side * across t → next ≡ whole ++ part → IsPutBackBelow t lists (crossed_length t row column) whole → IsRowOf t lists (first + column) row part →
     IsPutBackBelow t lists (crossed_length t row (column + 1)) next
@@ -119,7 +119,7 @@ IsPutBack-from_below t lists whole h = record {
   each = λ p w. h.each p w (omega (arith, mul-add-lt p.row t.cols p.col t.rows w.0 w.1));
 }
 
--- an entry of the whole list is that of its tile's list
+-- the entry of the joined list at a place is that of its tile's list
 pub entry_at-put_back : {X : Type 0} (t : Cutting) (lists : List (Vec (Option X) Global)) (whole : List (Option X)) (tile : ℕ) (list : Vec (Option X) Global) (p : Place) → IsPutBack t lists whole → IsInTile t tile p → slice_get lists tile ≡ Some list →
     entry_at t.cols t.rows whole p ≡ tile_entry t tile list.items p
 entry_at-put_back {X} t lists whole tile list p h i s =

@@ -1,4 +1,4 @@
--- Numbers below n cut into pieces of s: the piece of a number, and how many there are.
+-- Numbers below n cut into pieces of s numbers: the piece of a number, and the count of pieces.
 use Rattle.std.proofs.Common.{◌≡◌, ℕ, ◌+◌, ◌-◌, ◌*◌, ◌/◌, ◌<◌, ◌≤◌, sym, ap, ◌∙◌, arith, inl, inr}
 use Rattle.std.specs.Int.{div_ceil}
 use Rattle.std.proofs.lemmas.Bool.{cases_lt}
@@ -12,7 +12,7 @@ piece_begins n s k p h =
     let b = mul-le (k + 1) s (div_ceil n s) s (omega arith) (omega arith) in
     grind (arith, a.1, b)
 
--- what begins below n is a piece
+-- piece k is among the pieces if it begins below n
 pub piece_counts : (n s k : ℕ) → 0 < s → k * s < n → k < div_ceil n s
 piece_counts n s k p h =
     elim (cases_lt k (div_ceil n s)) [
@@ -29,7 +29,7 @@ piece_of n s x p h = piece_counts n s (x / s) p (omega (arith, div-add-mod' x s)
 pub pieces_some : (n s : ℕ) → 0 < s → 0 < n → 0 < div_ceil n s
 pieces_some n s p h = piece_counts n s 0 p (omega arith)
 
--- a number between a piece's ends lies in that piece
+-- a number from the first of piece k on, and before the next piece, lies in piece k
 pub piece_is : (s k x : ℕ) → k * s ≤ x → x < k * s + s → x / s ≡ k
 piece_is s k x a b =
     let e : k * s + (x - k * s) ≡ x = omega arith in

@@ -1,4 +1,4 @@
--- The steps of a rim, from each of its places to the next.
+-- The order of a rim: from each of its places to the next.
 use Rattle.std.proofs.Common.{◌≡◌, ◌≢◌, ℕ, zero, suc, ◌+◌, ◌-◌, ◌<◌, ◌≤◌, Bool, true, false, List, ◌∷◌, ◌++◌, map, filter, sym, ap, subst, refl, ◌∙◌, arith}
 use Rattle.std.specs.List.{range_with_len, flat_map}
 use Rattle.std.proofs.lemmas.Bool.{cond-true, cond-false}
@@ -38,7 +38,7 @@ filter_skip test r c (suc k) m n d rest e f none =
     ∙ cond-false _ _ _ first
     ∙ filter_skip test r (c + 1) k m (k + m) d rest refl (omega arith) others
 
--- from the first place on, the whole rim is left
+-- from the first place on, `rim_from` is the whole rim
 pub rim_start : (b : Bounds) → 1 ≤ b.rows → rim_from b (make_place b.top b.left) ≡ filter (is_first_or_last b) (places_in b)
 rim_start b h =
     let test = is_first_or_last b in
@@ -49,7 +49,7 @@ rim_start b h =
     ∙ ap (λ i. filter test (row_from b.top b.left b.cols ++ rows_from b (b.top + 1) i)) m
     ∙ ap (λ i. filter test (rows_from b b.top i)) e
 
--- the step from the end of a row to the start of the next
+-- after the last place of a row the rim goes on with the first of the next row
 pub rim_row_end : (b : Bounds) (p : Place) → p.col + 1 ≡ b.left + b.cols → p.row + 1 < b.top + b.rows → is_first_or_last b p ≡ true → rim_from b p ≡ p ∷ rim_from b (make_place (p.row + 1) b.left)
 rim_row_end b p h l e =
     let test = is_first_or_last b in
@@ -65,7 +65,7 @@ rim_row_end b p h l e =
 pub inside_fails : (b : Bounds) (r c : ℕ) → r ≢ b.top → r + 1 ≢ b.top + b.rows → c ≢ b.left → c + 1 ≢ b.left + b.cols → is_first_or_last b (make_place r c) ≡ false
 inside_fails b r c h i j k = grind (arith, nat_tests, h, i, j, k)
 
--- the step across an inner row, from its first place to its last
+-- after the first place of an inner row the rim goes on with the last of that row
 pub rim_across : (b : Bounds) (p : Place) (last : ℕ) → p.col ≡ b.left → last + 1 ≡ b.left + b.cols → p.col < last → p.row ≢ b.top → p.row + 1 ≢ b.top + b.rows → is_first_or_last b p ≡ true → rim_from b p ≡ p ∷ rim_from b (make_place p.row last)
 rim_across b p last left l h top bottom e =
     let test = is_first_or_last b in

@@ -32,7 +32,7 @@ shown_index v p h e =
     let w = shown_within v.cutting v.tile p e in
     let l = mul-add-lt p.row v.cutting.cols p.col v.cutting.rows w.0 w.1 in let s = h.size in omega (arith, l, s)
 
--- the cell in one column of a row of the tile
+-- row i of a view has in column j of the tile the grid's cell at that place
 pub get_or-row_shown : {X : Type 0} (v : View X) (i j : ℕ) (d : X) → j < (bounds_of v.cutting v.tile).cols →
     get_or (row_shown v i) j d ≡ get_or v.cells (index_of v.cutting.cols (make_place ((bounds_of v.cutting v.tile).top + i) ((bounds_of v.cutting v.tile).left + j))) d
 get_or-row_shown v i j d h =

@@ -31,7 +31,7 @@ place_in-index_in b p h =
     (ap (λ n. b.top + n) (div-mul-add (p.row - b.top) b.cols (p.col - b.left) c) ∙ omega arith)
     (ap (λ n. b.left + n) (mod-mul-add (p.row - b.top) b.cols (p.col - b.left) c) ∙ omega arith)
 
--- a list in the row order of bounds has entries exactly at their places
+-- `entry_in` reads the list at places of the bounds, and is `None` at all others
 pub entry_in-inside : {X : Type 0} (b : Bounds) (entries : List (Option X)) (p : Place) → IsInBounds b p → entry_in b entries p ≡ get_or entries (index_in b p) None
 entry_in-inside b entries p h = cond-true _ _ _ (in_bounds_from b p h)
 
@@ -49,7 +49,7 @@ place_in_tile t tile i h l k =
 pub index_in_tile_is : (t : Cutting) (tile : ℕ) (p : Place) → tile_of_place t p ≡ tile → index_in_tile t p ≡ index_in (bounds_of t tile) p
 index_in_tile_is t tile p e = ap (λ n. index_in (bounds_of t n) p) e
 
--- a list in a tile's row order has entries exactly at the tile's places
+-- at a place of the tile, `tile_entry` reads the list at the place's index
 pub tile_entry-in : {X : Type 0} (t : Cutting) (tile : ℕ) (entries : List (Option X)) (p : Place) → IsInTile t tile p → tile_entry t tile entries p ≡ get_or entries (index_in (bounds_of t tile) p) None
 tile_entry-in t tile entries p i =
     let within = and_from _ _ (lt-ltb _ _ i.0.0) (lt-ltb _ _ i.0.1) in

@@ -1,10 +1,10 @@
--- The rows of a tile, and its list in row order.
+-- The rows of a tile's view.
 use Rattle.std.proofs.Common.{◌≡◌, ℕ, ◌+◌, ◌-◌, ◌*◌, ◌<◌, get_or, drop, slice_range, sym, ap, ◌∙◌, arith}
 use Rattle.std.proofs.lemmas.List.{get_or-take, get_or-drop}
 use Rattle.tiles.specs.declared.bounds.Bounds.{Bounds}
 use Rattle.tiles.specs.Cutting.{View, bounds_of, row_shown}
 
--- a row of a view has the grid's cells
+-- row i of a view has in column k of the tile the grid's cell there
 pub row_has : {X : Type 0} (v : View X) (none : X) (b : Bounds) (i k : ℕ) → b ≡ bounds_of v.cutting v.tile → k < b.cols →
     get_or (row_shown v i) k none ≡ get_or v.cells ((b.top + i) * v.cutting.cols + b.left + k) none
 row_has {X = X} v none b i k e below =

@@ -1,6 +1,6 @@
 -- A grid cut into square tiles, numbered in row order, with views and lists of tiles.
 -- Source: the tiles of a TIFF file (TIFF 6.0, section 15), left to right and top to bottom.
--- Unlike there, tiles at the east and south ends are smaller if the side does not divide the grid.
+-- Unlike there, the last row or column of tiles is smaller if the side does not divide the grid.
 -- Trust base.
 use Rattle.std.specs.Prelude.{◌≡◌, ℕ, ℤ, slice_index_or, ◌+◌, ◌-◌, ◌*◌, ◌/◌, ◌%◌, ◌<◌, ◌≤◌, min, Bool, ◌&&◌, ◌||◌, not, ◌==◌, nat_lt, nat_le, if◌then◌else◌, List, [], map, filter, length, Option, None, slice_get, slice_range, Some, Vec, option_and_then}
 use Rattle.std.specs.declared.alloc.Global.{Global}
@@ -88,7 +88,7 @@ abbrev pub is_in_bounds : Bounds → Place → Bool
 is_in_bounds b p = nat_le b.top p.row && nat_lt p.row (b.top + b.rows) && nat_le b.left p.col
     && nat_lt p.col (b.left + b.cols)
 
--- The bounds end within the greatest size of a grid.
+-- The bounds lie within a grid of the greatest size.
 abbrev pub IsWithinLimits : Bounds → Type 0
 IsWithinLimits b = (b.top + b.rows ≤ longest_axis) × (b.left + b.cols ≤ longest_axis)
 
@@ -122,7 +122,7 @@ index_in b p = (p.row - b.top) * b.cols + (p.col - b.left)
 abbrev pub place_in : Bounds → ℕ → Place
 place_in b i = record { row = b.top + i / b.cols; col = b.left + i % b.cols }
 
--- The entry at a place of a list in the row order of bounds; `None` outside them.
+-- A list in the row order of bounds: its entry at a place, `None` outside the bounds.
 abbrev pub entry_in : {X : Type 0} → Bounds → List (Option X) → Place → Option X
 entry_in b entries p = if is_in_bounds b p then slice_index_or entries (index_in b p) None else None
 
@@ -130,11 +130,11 @@ entry_in b entries p = if is_in_bounds b p then slice_index_or entries (index_in
 abbrev pub rim_places : Cutting → ℕ → List Place
 rim_places t tile = filter (is_first_or_last (bounds_of t tile)) (places_in (bounds_of t tile))
 
--- The place is inside the grid, in another tile than this.
+-- The place is inside the grid, but not in this tile.
 abbrev pub is_in_other_tile : Cutting → ℕ → Place → Bool
 is_in_other_tile t tile p = is_within t p && not (tile_of_place t p == tile)
 
--- The places around a place that lie in another tile, in the order of the codes.
+-- The places around p that lie in other tiles than p, in the order of the direction codes.
 abbrev pub outer_places : Cutting → Place → List Place
 outer_places t p = filter (is_in_other_tile t (tile_of_place t p)) (places_around p)
 
@@ -179,13 +179,13 @@ pub record AreTileLists {X : Type 0} (t : Cutting) (lists : List (Vec X Global))
   pub each : (tile : ℕ) (list : Vec X Global) → slice_get lists tile ≡ Some list →
       length list.items ≡ cell_count t tile
 
--- The entry at a place of the list of its tile.
+-- The entry for a place in the list of the place's tile.
 abbrev pub listed_at : {X : Type 0} → Cutting → List (Vec X Global) → Place → Option X
 listed_at {X} t lists p = option_and_then
     (λ (list : Vec X Global). slice_get list.items (index_in_tile t p))
     (slice_get lists (tile_of_place t p))
 
--- The list has one entry for each place, in row order: that of the list of the place's tile.
+-- The list has one entry for each place of the grid, in row order, each from its tile's list.
 pub record IsPutBack {X : Type 0} (t : Cutting) (lists : List (Vec X Global))
     (whole : List X) : Type 0 where
   pub size : length whole ≡ t.cols * t.rows
@@ -199,7 +199,7 @@ Cuts c t = (c.cols ≡ t.cols) × (c.rows ≡ t.rows)
 abbrev pub terrain_of : View (Option ℤ) → Terrain
 terrain_of v = record { cols = v.cutting.cols; rows = v.cutting.rows; cells = v.cells; sinks = [] }
 
--- The entry at a place of a list in a tile's row order; `None` outside the tile.
+-- A list in a tile's row order: its entry at a place, `None` outside the tile.
 abbrev pub tile_entry : {X : Type 0} → Cutting → ℕ → List (Option X) → Place → Option X
 tile_entry c tile entries p =
     if is_within c p && tile_of_place c p == tile

@@ -13,7 +13,7 @@ pub record IsPutBackBelow {X : Type 0} (t : Cutting) (lists : List (Vec X Global
   pub each : (p : Place) → IsWithin t p → index_of t.cols p < n →
       slice_get whole (index_of t.cols p) ≡ listed_at t lists p
 
--- The entries of a tile's list that lie in one row of the grid.
+-- `part` has the entries of a tile's list that lie in one row of the grid.
 pub record IsRowOf {X : Type 0} (t : Cutting) (lists : List (Vec X Global)) (tile row : ℕ)
     (part : List X) : Type 0 where
   pub size : length part ≡ (bounds_of t tile).cols

@@ -6,14 +6,14 @@ use Rattle.terrain.specs.declared.place.Place.{Place}
 use Rattle.tiles.specs.declared.bounds.Bounds.{Bounds}
 use Rattle.tiles.specs.Cutting.{is_first_or_last, longest_axis}
 
--- The places in bounds from one on, in row order.
+-- The places in bounds from place p on, in row order.
 abbrev pub places_from : Bounds → Place → List Place
 places_from b p =
     map (λ c. record { row = p.row; col = c }) (range_with_len p.col (b.left + b.cols - p.col))
     ++ flat_map (λ r. map (λ c. record { row = r; col = c }) (range_with_len b.left b.cols))
     (range_with_len (p.row + 1) (b.top + b.rows - (p.row + 1)))
 
--- The places of the rim from one on, in row order.
+-- The places of the rim from place p on, in row order.
 abbrev pub rim_from : Bounds → Place → List Place
 rim_from b p = filter (is_first_or_last b) (places_from b p)
 

@@ -5,12 +5,12 @@ use Rattle.terrain.specs.declared.place.Place.{Place}
 use Rattle.tiles.specs.declared.bounds.Bounds.{Bounds}
 use Rattle.tiles.specs.Cutting.{Cutting, bounds_of, tile_count, tile_of_place}
 
--- How many numbers each tile has, from the bounds of the largest.
+-- How many numbers each tile has, from the bounds of the largest tile.
 abbrev pub stride : Bounds → ℕ
 stride largest = 2 * largest.cols + 2 * largest.rows
 
--- The number of a rim cell within its tile, along first row, last row, first column, last column;
--- and the cell of a number.
+-- The number of a rim cell within its tile, and the cell of a number.
+-- Numbers run along the first row, the last row, the first column, then the last column.
 abbrev pub side_number : Bounds → Bounds → Place → ℕ
 side_number largest b p =
     if p.row == b.top then p.col - b.left
@@ -27,7 +27,7 @@ side_place largest b i =
     then record { row = b.top + (i - 2 * largest.cols); col = b.left }
     else record { row = b.top + (i - (2 * largest.cols + largest.rows)); col = b.left + b.cols - 1 }
 
--- How many numbers all tiles have. No tile is larger than the first.
+-- How many numbers all tiles have. No tile is larger than tile 0.
 abbrev pub number_count : Cutting → ℕ
 number_count t = tile_count t * stride (bounds_of t 0)
 

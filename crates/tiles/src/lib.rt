@@ -1,15 +1,15 @@
-//! Cuts a grid into square tiles, and joins the tiles' lists into one of the grid.
+//! Cuts a grid into square tiles, and joins the lists of all tiles into one list of the grid.
 //!
 //! Begin with [`Tiling`]: [`Tiling::bounds`], [`Tiling::view`] and [`Tiling::put_back`].
 //! Tiles are numbered in row order.
 //!
 //! Modules, callers first:
 //!
-//! - `tiling`: a grid cut into tiles, and the tiles' lists joined
-//! - `bounds`: the position and size of a tile
-//! - `rim`: a tile's outermost cells
 //! - `rim_numbers`: numbers for the rim cells of all tiles
+//! - `tiling`: a grid cut into tiles, and the tiles' lists joined
 //! - `view`: a borrowed view of a tile and the cells next to it
+//! - `rim`: a tile's outermost cells
+//! - `bounds`: the position and size of a tile
 //! - `slices`: parts and elements of slices
 #![tactic(auto)]
 

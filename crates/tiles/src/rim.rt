@@ -65,7 +65,7 @@ impl Iterator for Rim {
     }
 }
 
-/// Returns the rim's next place; after the last, one column past its row's end.
+/// Returns the rim's place after `place`, or else the place past the last row's end.
 #[inline(always)]
 fn next_on_rim(bounds: Bounds, place: Place) -> Place
     requires state { IsRimState bounds place }

@@ -1,7 +1,7 @@
 //! Numbers for the rim cells of all tiles, computed without a table.
 //!
-//! Each tile has as many numbers as two rows and two columns of the largest tile have cells, so
-//! some numbers have no cell. `flow` links rim cells by them.
+//! Each tile has as many numbers as two rows and two columns of the largest tile have cells.
+//! Rows and columns share corners, so some numbers have no cell. `flow` links rim cells by number.
 ghost use Rattle.std.specs.Prelude.{◌≡◌, ◌+◌, ◌*◌, ◌^◌, ◌<◌, ◌≤◌, true};
 ghost use Rattle.tiles.specs.Cutting.{IsInBounds, IsWithin, IsWithinLimits, bounds_of, is_on_rim, tile_count};
 ghost use Rattle.tiles.specs.RimNumbers.{stride, side_number, side_place, number_count, rim_number, rim_place};
@@ -30,8 +30,8 @@ impl Tiling {
         (tile * count, count)
     }
 
-    /// Returns the number of a rim cell. [`rim_place`](Self::rim_place) inverts it.
-    /// A cell on no rim gets the number of the rim cell at the east end of its row in the tile.
+    /// Returns the number of a rim cell. [`rim_place`](Self::rim_place) returns the cell again.
+    /// A cell on no rim gets the number of the last rim cell in its row of the tile.
     pub fn rim_number(&self, place: Place) -> u32
         requires { IsWithin self.now place }
         ensures value { result ≡ rim_number self.now place }

@@ -1,6 +1,6 @@
 //! A grid cut into tiles: each place has one tile.
 //!
-//! [`Tiling::put_back`] joins the tiles' lists into one of the grid.
+//! [`Tiling::put_back`] joins the lists of all tiles into one list of the grid.
 ghost use Rattle.std.specs.Prelude.{◌≡◌, ◌↔◌, ◌⊎◌, ◌+◌, ◌*◌, ◌/◌, ◌<◌, ◌≤◌, ◌++◌, filter, length, IfOk, OnOk, Err};
 ghost use Rattle.std.specs.Option.{option_to_list};
 ghost use Rattle.smallvec.specs.SmallVec.{HasRoomFor, small_vec_len};
@@ -18,10 +18,10 @@ use std::alloc::{AllocError, Global};
 use std::marker::Model;
 use terrain::{NoMemory, Place, place_on};
 
-/// The greatest side of a tile, in cells: one tile may be the largest grid.
+/// The greatest side of a tile, in cells: one tile may cover the largest grid.
 const LONGEST_SIDE: u32 = 4_096;
 
-/// The greatest number of tiles: each is a job, and `tile_jobs` runs no more jobs.
+/// The greatest number of tiles: each tile is a job, and `tile_jobs` has this limit of jobs.
 const MOST_TILES: u32 = 65_536;
 
 /// Why a tiling is refused.
@@ -34,7 +34,7 @@ pub enum TilingFault {
 }
 
 /// A grid cut into square tiles, numbered in row order.
-/// The tiles at the east and south ends may be smaller.
+/// Tiles in the last row or the last column of tiles may be smaller.
 #[derive(Clone, Copy, Debug, PartialEq, Eq)]
 pub struct Tiling {
     cols: u32,
@@ -198,7 +198,7 @@ impl Tiling {
     }
 
     /// Returns the places of other tiles that touch `place`, at sides and corners.
-    /// Their order is that of the codes: E, SE, S, SW, W, NW, N, NE. Allocates nothing.
+    /// Their order is that of the direction codes: E, SE, S, SW, W, NW, N, NE. Allocates nothing.
     pub fn outer_neighbours(&self, alloc: Global, place: Place) -> SmallVec<Place, 8>
         requires { IsWithin self.now place }
         ensures { result.items ≡ outer_places self.now place }
@@ -233,7 +233,7 @@ impl Tiling {
         place.row < self.rows && place.col < self.cols && self.tile_of(place) != tile
     }
 
-    /// Returns a borrowed view of a tile's cells and the cells next to it.
+    /// Returns a borrowed view of a tile's cells and of the cells next to the tile.
     pub fn view<'a, T>(&self, cells: &'a [T], tile: u32) -> TileView<'a, T>
         requires size { length cells.now ≡ self.now.cols * self.now.rows }
         requires tile { tile < tile_count self.now }
@@ -262,7 +262,7 @@ impl Tiling {
         Ok(whole)
     }
 
-    /// Appends one row of the grid to `whole`, from the lists of the tiles it crosses.
+    /// Appends one row of the grid to `whole`, from the lists of the tiles that the row crosses.
     fn push_row<T: Copy + Drop>(
         &self,
         results: &[Vec<T>],

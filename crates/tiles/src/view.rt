@@ -9,7 +9,7 @@ use crate::tiling::Tiling;
 use std::marker::Model;
 use terrain::Place;
 
-/// A borrowed view of a tile's cells and of the cells of the grid next to them.
+/// A borrowed view of a tile's cells and of the cells next to the tile.
 #[derive(Drop)]
 pub struct TileView<'a, T> {
     tiling: Tiling,
@@ -54,7 +54,7 @@ impl<'a, T> TileView<'a, T> {
         self.bounds
     }
 
-    /// Returns row `index` of the tile, from 0: one cell for each of its columns.
+    /// Returns row `index` of the tile, counted from 0, with one cell for each column.
     #[inline(always)]
     pub fn row(&self, index: u32) -> &'a [T]
         requires { index < (bounds_of self.now.cutting self.now.tile).rows }
@@ -71,7 +71,7 @@ impl<'a, T> TileView<'a, T> {
         part(self.cells, from, cols as usize)
     }
 
-    /// Returns the cell at a place of the tile or next to it, `None` elsewhere.
+    /// Returns the cell at a place of the tile or next to the tile, `None` elsewhere.
     #[inline(always)]
     pub fn at(&self, place: Place) -> Option<&'a T>
         ensures { option_copied result ≡ cell_shown self.now place }
@@ -83,8 +83,8 @@ impl<'a, T> TileView<'a, T> {
         }
     }
 
-    /// Returns the cells west of `place`, at it and east of it, anywhere in the grid.
-    /// Returns `None` where one of them is outside the grid.
+    /// Returns three cells: west of `place`, at `place` and east of it.
+    /// The three need not be in the tile. Returns `None` if one of them is outside the grid.
     #[inline(always)]
     pub fn beside(&self, place: Place) -> Option<&'a [T]>
         requires { place.col < 4294967295 }

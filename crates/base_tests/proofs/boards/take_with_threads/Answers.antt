@@ -1,4 +1,4 @@
--- Taking jobs does not change which seat a seat is, so the seats closed are those dealt.
+-- A take changes neither the number of a seat nor its deques, so the seats stay those of the deal.
 use Rattle.std.proofs.Common.{rules, arith, ◌≡◌, ℕ, ◌<◌, List, ◌++◌, length, take, drop, get_or, sym, ap, ◌∙◌}
 use Rattle.std.proofs.lemmas.Grind.{common_steps}
 use Rattle.tile_jobs.specs.Ends.{SeatState, IsDeal, SameSeat}

@@ -1,6 +1,6 @@
 use Rattle.std.proofs.Common.{ℤ, sym, subst, to_z-of_z}
-use Rattle.drain.specs.Interior.{StandAround}
-use Rattle.drain.proofs.InteriorLemmas.{around_of, stand, has_heights, leads, code_onward, code_down, code_outlet}
+use Rattle.drain.specs.Interior.{HasCells}
+use Rattle.drain.proofs.InteriorLemmas.{around_of, has_cells, has_heights, leads, code_onward, code_down, code_outlet}
 use Rattle.drain.proofs.interior.interior_code.Goals as goal
 
 pub onward-requires-clause-some : goal.onward-requires-clause-some
@@ -8,8 +8,8 @@ onward-requires-clause-some c =
     let t = c.args.grid.now.terrain in
     let a = around_of t c.args.steps.now c.args.place c.args.level c.args.own in (
       a,
-      subst (λ (z : ℤ). StandAround a c.cells-cells.result.now c.args.steps.now c.cells_around-at.result z c.args.own) (sym (to_z-of_z c.ranges.level))
-          (stand t c.args.steps.now c.args.place c.args.level c.args.own c.requires.lawful c.requires.steps c.requires.inside c.requires.interior c.requires.level c.requires.own c.cells-cells.result.now c.cells_around-at.result c.cells-cells.ensures.value c.cells_around-at.ensures.value),
+      subst (λ (z : ℤ). HasCells a c.cells-cells.result.now c.args.steps.now c.cells_around-at.result z c.args.own) (sym (to_z-of_z c.ranges.level))
+          (has_cells t c.args.steps.now c.args.place c.args.level c.args.own c.requires.lawful c.requires.steps c.requires.inside c.requires.interior c.requires.level c.requires.own c.cells-cells.result.now c.cells_around-at.result c.cells-cells.ensures.value c.cells_around-at.ensures.value),
       leads t c.args.steps.now c.args.place c.args.level c.args.own c.requires.lawful c.requires.steps c.requires.inside c.requires.interior c.requires.level c.requires.own c.if-own-gt0.true,
     )
 
@@ -19,7 +19,7 @@ returns-then-own-gt0 c =
     let first = rw (to_z-of_z c.ranges.level) at c.onward.ensures.first in
     code_onward t c.args.steps.now c.args.place c.args.level c.args.own c.requires.lawful c.requires.steps c.requires.inside c.requires.interior c.requires.level c.requires.own c.onward.result c.of_way.result c.if-own-gt0.true
     (first (around_of t c.args.steps.now c.args.place c.args.level c.args.own)
-    (stand t c.args.steps.now c.args.place c.args.level c.args.own c.requires.lawful c.requires.steps c.requires.inside c.requires.interior c.requires.level c.requires.own c.cells-cells.result.now c.cells_around-at.result c.cells-cells.ensures.value c.cells_around-at.ensures.value))
+    (has_cells t c.args.steps.now c.args.place c.args.level c.args.own c.requires.lawful c.requires.steps c.requires.inside c.requires.interior c.requires.level c.requires.own c.cells-cells.result.now c.cells_around-at.result c.cells-cells.ensures.value c.cells_around-at.ensures.value))
     c.of_way.ensures
 
 pub of_way-requires-in-Some : goal.of_way-requires-in-Some

@@ -12,9 +12,9 @@ returns-then-leads_on-clause-first c =
     let height = c.height.ensures ∙ c.index-cells-index.is ∙ get_or_default c.args.cells.now at c.index-cells-index.result None (c.requires.cells c.loop-way.way c.loop-way-test.true) in
     let steps = c.known.ensures ∙ c.index-steps-index.is ∙ get_or_default c.args.steps.now at c.index-steps-index.result None (c.requires.steps c.loop-way.way c.loop-way-test.true) in
     let leads = rw (to_z-of_z c.ranges.level) at c.leads_on.ensures in
-    λ a stand.
-    position_is (leads_on a) a.ways c.loop-way.way None (omega (arith, stand.count, c.loop-way-test.true)) (before a stand)
-    (subst (λ o. leads_on a o ≡ true) (sym (stand.each c.loop-way.way c.loop-way-test.true)) (sym (rw (height, steps) at leads a stand.own_level stand.own_steps) ∙ c.if-leads_on.true))
+    λ a has_cells.
+    position_is (leads_on a) a.ways c.loop-way.way None (omega (arith, has_cells.count, c.loop-way-test.true)) (before a has_cells)
+    (subst (λ o. leads_on a o ≡ true) (sym (has_cells.each c.loop-way.way c.loop-way-test.true)) (sym (rw (height, steps) at leads a has_cells.own_level has_cells.own_steps) ∙ c.if-leads_on.true))
 
 pub unreachable-requires : goal.unreachable-requires
 unreachable-requires c =

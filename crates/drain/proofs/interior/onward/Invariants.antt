@@ -1,5 +1,5 @@
 use Rattle.std.proofs.Common.{◌≡◌, ◌<◌, ℕ, false, None, length, get_or}
-use Rattle.drain.specs.Interior.{StandAround}
+use Rattle.drain.specs.Interior.{HasCells}
 use Rattle.drain.specs.Steepness.{leads_on}
 use Rattle.drain.specs.declared.around.Around.{Around}
 use Rattle.drain.proofs.interior.onward.Given as goal
@@ -7,5 +7,5 @@ use Rattle.drain.proofs.interior.onward.Given as goal
 abbrev pub invariant-loop-way : goal.invariant-loop-way
 invariant-loop-way l = record {
   eight : length l.at ≡ 8;
-  before : (a : Around) → StandAround a l.cells l.steps l.at l.level l.own → (k : ℕ) → k < l.way → leads_on a (get_or a.ways k None) ≡ false;
+  before : (a : Around) → HasCells a l.cells l.steps l.at l.level l.own → (k : ℕ) → k < l.way → leads_on a (get_or a.ways k None) ≡ false;
 }

@@ -1,6 +1,6 @@
 use Rattle.std.proofs.Common.{ℕ, List, Option, length, ap, refl, ◌∙◌, arith}
 use Rattle.drain.specs.Rounding.{rounding_of}
-use Rattle.drain.proofs.RoundLemmas.{first_rounding, next_then, settled_at}
+use Rattle.drain.proofs.RoundLemmas.{first_rounding, next_then, final_at}
 use Rattle.drain.proofs.rounds.run_rounds.Goals as goal
 
 pub invariant_of-entries_of_all : goal.invariant_of-entries_of_all
@@ -21,18 +21,18 @@ loop-counting-init g c =
       same_sources = λ p. (λ input. input, λ input. input);
     }
 
-pub returns-clause-settled : goal.returns-clause-settled
-returns-clause-settled g c =
+pub returns-clause-finished : goal.returns-clause-finished
+returns-clause-finished g c =
     let inv = c.loop-counting.invariant in
     let next = c.in_ok-full_round.ensures.next in
     let same = rw (inv.tiling, inv.levels) at next.same_sources in
-    settled_at (rounding_of c.full_round.new.self) c.args.tiling.now c.args.levels.now c.args.steps.items (next.same_cutting ∙ inv.tiling) (next.same_levels ∙ inv.levels) next.rounding
+    final_at (rounding_of c.full_round.new.self) c.args.tiling.now c.args.levels.now c.args.steps.items (next.same_cutting ∙ inv.tiling) (next.same_levels ∙ inv.levels) next.rounding
     (c.in_ok-full_round.ensures.last c.if-branch.false) (λ p. (λ input. (same p).0 ((inv.same_sources p).0 input), λ input. (inv.same_sources p).1 ((same p).1 input)))
 
 pub loop-counting-preserved : goal.loop-counting-preserved
 loop-counting-preserved g c =
     let inv = c.loop-counting.invariant in
-    let next = next_then _ _ _ c.in_ok-full_round.ensures.next c.in_ok-settle_few.ensures in
+    let next = next_then _ _ _ c.in_ok-full_round.ensures.next c.in_ok-run_small_rounds.ensures in
     let same = rw (inv.tiling, inv.levels) at next.same_sources in
     record {
       tiling = next.same_cutting ∙ inv.tiling;
@@ -42,4 +42,4 @@ loop-counting-preserved g c =
     }
 
 pub loop-counting-smaller : goal.loop-counting-smaller
-loop-counting-smaller g c = (let less = c.in_ok-full_round.ensures.less c.if-branch.true in let low = c.in_ok-settle_few.ensures.low in omega (arith, less, low))
+loop-counting-smaller g c = (let less = c.in_ok-full_round.ensures.less c.if-branch.true in let low = c.in_ok-run_small_rounds.ensures.low in omega (arith, less, low))

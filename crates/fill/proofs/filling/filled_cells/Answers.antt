@@ -25,5 +25,5 @@ returns-clause-filled g c t heights are =
     let floods = c.args.floods.items in
     let numbers = rw c.deref.ensures.value at c.in_ok-firsts.ensures in
     let x = (rw c.deref-2.ensures.value at c.in-Ok.ensures.levels) t are in
-    filled_map t k floods x.ways x.sources c.in-Ok.levels _ heights are numbers.lawful x.graph x.least
+    filled_map t k floods x.arcs x.sources c.in-Ok.levels _ heights are numbers.lawful x.graph x.least
     c.in_ok-cells.ensures.made

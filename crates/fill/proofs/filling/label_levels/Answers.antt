@@ -8,7 +8,7 @@ returns-clause-size c =
 
 pub returns-clause-levels : goal.returns-clause-levels
 returns-clause-levels c t are = record {
-  ways = c.in_ok-graph.graph.ways;
+  arcs = c.in_ok-graph.graph.arcs;
   sources = c.in_ok-graph.graph.sources;
   graph = c.in_ok-graph.ensures t are;
   least = c.in_ok-levels.ensures;

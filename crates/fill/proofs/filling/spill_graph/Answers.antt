@@ -36,4 +36,4 @@ returns c t are =
     rw c.in_ok-graph.ensures.sources
     (is_number_graph t k floods are c.args.tiles.now.numbers.lawful out sources _ _ gathered refl
     c.in_ok-sources.ensures c.in_ok-graph.ensures.size
-    c.in_ok-graph.ensures.ways)
+    c.in_ok-graph.ensures.arcs)

@@ -17,7 +17,7 @@ last_in : (b : Bounds) (row : ℕ) → b.top ≤ row → row < b.top + b.rows �
 last_in b row above below some p same =
     subst (IsOnRimRow b row) (sym same) ((omega (arith, above), omega (arith, below), omega (arith, some), omega (arith, some)), refl, λ inner. omega (arith, inner.3, some))
 
--- Above the last row these are the first and the last cell of the row.
+-- Above the last row, a cell on the rim is the first or the last cell of its row.
 ends : (b : Bounds) (row : ℕ) → row + 1 < b.top + b.rows → (p : Place) → IsOnRimRow b row p → (p ≡ record { row = row; col = b.left }) ⊎ (p ≡ record { row = row; col = b.left + b.cols - 1 })
 ends b row below p at = elim (cases_eq p.col b.left) [
   | inl first ↦ inl (same_place p (record { row = row; col = b.left }) at.1 first)
@@ -30,8 +30,8 @@ ends b row below p at = elim (cases_eq p.col b.left) [
 pub returns-then-row-top : goal.returns-then-row-top
 returns-then-row-top g c =
     let b = c.args.bounds in
-    let wanted = g.C.KnownCells.wanted c.args.cells.now in
-    on_ok_weaker _ (λ added. adds_as (g.C.KnownCells.marks c.args.cells.now) c.args.left_out.now
+    let wanted = g.C.MarkedCells.wanted c.args.cells.now in
+    on_ok_weaker _ (λ added. adds_as (g.C.MarkedCells.marks c.args.cells.now) c.args.left_out.now
     (λ p q. (IsInBounds b p × (p.row ≡ c.args.row)) × (wanted q ≡ true))
     (λ p q. IsOnRimRow b c.args.row p × (wanted q ≡ true)) _ _
     (λ p q at. ((at.0.0, at.0.1, λ inner. omega (arith, inner.1, at.0.1, c.if-row-top.true)), at.1))
@@ -42,8 +42,8 @@ pub returns-in_ok-push_cell-2 : goal.returns-in_ok-push_cell-2
 returns-in_ok-push_cell-2 g c =
     let b = c.args.bounds in
     let row = c.args.row in
-    let marks = g.C.KnownCells.marks c.args.cells.now in
-    let wanted = g.C.KnownCells.wanted c.args.cells.now in
+    let marks = g.C.MarkedCells.marks c.args.cells.now in
+    let wanted = g.C.MarkedCells.wanted c.args.cells.now in
     let first : Place = record { row = row; col = b.left } in
     let last : Place = record { row = row; col = b.left + b.cols - 1 } in
     adds_as marks c.args.left_out.now
@@ -65,9 +65,9 @@ pub returns-else-cols-gt1 : goal.returns-else-cols-gt1
 returns-else-cols-gt1 g c =
     let b = c.args.bounds in
     let row = c.args.row in
-    let wanted = g.C.KnownCells.wanted c.args.cells.now in
+    let wanted = g.C.MarkedCells.wanted c.args.cells.now in
     let first : Place = record { row = row; col = b.left } in
-    adds_as (g.C.KnownCells.marks c.args.cells.now) c.args.left_out.now
+    adds_as (g.C.MarkedCells.marks c.args.cells.now) c.args.left_out.now
     (IsPairFrom first wanted) (λ p q. IsOnRimRow b row p × (wanted q ≡ true)) _ _
     (λ p q at. (first_in b row c.requires.row.0 c.requires.row.1 c.requires.some p at.0, at.1))
     (λ p q touch after m m_is n n_is at. (same_place p first at.0.1 (omega (arith, at.0.0, c.if-cols-gt1.false, c.requires.some)), at.1))

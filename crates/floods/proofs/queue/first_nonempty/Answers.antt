@@ -2,7 +2,7 @@ use Rattle.std.proofs.Common.{rules, ◌≡◌, ◌<◌, ◌∙◌, [], ℕ, len
 use Rattle.std.proofs.lemmas.List.{nil_from_length}
 use Rattle.std.proofs.lemmas.Bool.{cases_lt}
 use Rattle.floods.specs.Flood.{entries_of}
-use Rattle.floods.proofs.WaitLists.{entries_at}
+use Rattle.floods.proofs.QueueOrder.{entries_at}
 use Rattle.floods.proofs.queue.first_nonempty.Goals as goal
 
 pub loop-index-preserved : goal.loop-index-preserved

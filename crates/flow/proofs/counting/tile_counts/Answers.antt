@@ -8,8 +8,8 @@ use Rattle.flow.specs.TileLinks.{links_by}
 use Rattle.flow.specs.Counting.{AreRimWeights, AreCounts, counts_by}
 use Rattle.flow.proofs.counting.tile_counts.Goals as goal
 
-pub rim_weights-requires-clause-size : goal.rim_weights-requires-clause-size
-rim_weights-requires-clause-size c = ap length c.codes-codes.ensures ∙ c.requires.countable.size
+pub weights_with_inflows-requires-clause-size : goal.weights_with_inflows-requires-clause-size
+weights_with_inflows-requires-clause-size c = ap length c.codes-codes.ensures ∙ c.requires.countable.size
 
 pub upstream_weights-requires-clause-streams : goal.upstream_weights-requires-clause-streams
 upstream_weights-requires-clause-streams c = subst (λ (l : List ℕ). AreStreams l) (sym c.links.ensures) c.requires.countable.streams
@@ -28,7 +28,7 @@ weighed_by inflows tile f codes weights e w = subst (λ (l : List (Option ℕ)).
 pub upstream_weights-requires-clause-fits : goal.upstream_weights-requires-clause-fits
 upstream_weights-requires-clause-fits c = λ i h. omega (
   arith,
-  c.requires.countable.few_come c.in_ok-weights.weights.items (weighed_by _ _ c.args.flow.now _ _ c.codes-codes.ensures c.in_ok-weights.ensures) i
+  c.requires.countable.totals_fit c.in_ok-weights.weights.items (weighed_by _ _ c.args.flow.now _ _ c.codes-codes.ensures c.in_ok-weights.ensures) i
       (omega (arith, h, c.requires.countable.linked, ap length c.links.ensures)),
   ap (λ (l : List ℕ). total l c.deref.result.now i) c.links.ensures,
   ap (λ (w : List ℕ). total (links_by c.args.flow.now.bounds c.args.flow.now.codes) w i) c.deref.ensures.value,
@@ -52,7 +52,7 @@ counts-requires-clause-fits c = λ i h.
     omega (
       arith,
       up.each i (omega (arith, below, c.requires.countable.linked)),
-      c.requires.countable.few_come c.in_ok-weights.weights.items (weighed_by _ _ c.args.flow.now _ _ c.codes-codes.ensures c.in_ok-weights.ensures) i below,
+      c.requires.countable.totals_fit c.in_ok-weights.weights.items (weighed_by _ _ c.args.flow.now _ _ c.codes-codes.ensures c.in_ok-weights.ensures) i below,
       ap (λ (l : List ℕ). get_or l i 0) c.deref-3.ensures.value,
       ap (λ (l : List ℕ). get_or l i 0) c.deref-2.ensures.value,
     )

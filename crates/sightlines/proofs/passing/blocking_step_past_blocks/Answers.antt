@@ -13,7 +13,7 @@ use Rattle.sightlines.proofs.Ranges.{none_from, none_joined, any_within}
 use Rattle.sightlines.proofs.LowBlocks.{step_above, step_passed}
 use Rattle.sightlines.proofs.passing.blocking_step_past_blocks.Goals as goal
 
--- if the line stays above the peak, none of the steps left blocks
+-- if the line is nowhere below the peak from step k on, none of the steps left blocks
 none_above : (cells tops : List (Option ℤ)) (line : Sightline) (s : BlockStrides) (peak : ℤ) (k : ℕ) (here : Step) → 0 < steps_of line → k ≤ steps_of line → IsAt line k here → AreTopsAlong 128 cells tops line s → IsPeak tops peak
     → (peak ≤ℤ line.to_level) × ((pos (steps_of line) *ℤ peak) ≤ℤ here.sight) → step_range_blocks cells line k (steps_of line - k) ≡ false
 none_above cells tops line s peak k here some within at are is_peak clear =

@@ -15,7 +15,7 @@ feed_run-requires c =
     let below = c.loop-job-test.true in
     let run = get_or-map (λ run. run.now) c.args.runs.now c.loop-job.job _ [] below in
     let list = get_or_default c.args.lists.now c.loop-job.job None c.index-lists-job.result (rw c.requires.len below) ∙ sym c.index-lists-job.is in
-    subst (λ (bytes : List ℕ). IfSome c.index-lists-job.result (λ cells. AreCells c.args.form.now bytes cells.items)) run
+    subst (λ (bytes : List ℕ). IfSome c.index-lists-job.result (λ cells. AreCells c.args.parser.now bytes cells.items)) run
     (rw list at (c.requires.cells c.loop-job.job below))
 
 pub returns-in_err-feed_run : goal.returns-in_err-feed_run

@@ -7,9 +7,9 @@ use Rattle.tile_jobs.proofs.board.close_one.Goals as goal
 
 pub returns-clause-left : goal.returns-clause-left
 returns-clause-left c =
-    let g = c.gather-closing.ensures in
-    let s : ClosingState = c.gather-closing.result in
-    let d = c.drain.ensures.left in
+    let g = c.join_ends-closing.ensures in
+    let s : ClosingState = c.join_ends-closing.result in
+    let d = c.empty_into.ensures.left in
     let p : List ℕ = d.0 in
     let n = g.names in
     let deal_is : deal_of s ≡ deal c.args.own.jobs c.args.own.seats c.args.own.deque = rw (n.0, n.1, n.2) refl in (

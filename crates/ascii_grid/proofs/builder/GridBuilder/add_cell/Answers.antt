@@ -4,7 +4,7 @@ use Rattle.ascii_grid.specs.GridText.{is_cell, cells_wanted}
 use Rattle.ascii_grid.specs.Reading.{flat}
 use Rattle.ascii_grid.proofs.Cells.{meaning_cell, meaning_nothing}
 use Rattle.std.proofs.lemmas.List.Elements.{All-push}
-use Rattle.ascii_grid.specs.HeightList.{Form, IsHeightWord}
+use Rattle.ascii_grid.specs.HeightList.{ParserSettings, IsHeightWord}
 use Rattle.ascii_grid.proofs.HeightLists.{AreHeights-more}
 use Rattle.ascii_grid.proofs.JudgedWords.{is_short, place_of}
 use Rattle.ascii_grid.proofs.builder.GridBuilder.add_cell.Goals as goal
@@ -28,8 +28,8 @@ returns-clause-word c = λ ps hs word h short e.
     let is = meaning_cell (is_cell j.scale j.nodata word) _ x (sym e ∙ c.in-Cell.is) in
     let room : length j.cells.items + 1 ≤ j.wanted = omega (arith, j.cells.ok.0) in
     let pushed : c.push.new.self.items ≡ j.cells.items ++ x ∷ [] = search rules in
-    let form : Form = record { scale = j.scale; nodata = j.nodata } in
-    let height : IsHeightWord form word = record { short = short; cell = is.0 } in
-    AreHeights-more j _ ps hs (word ∷ []) form (x ∷ []) h refl refl
-    (All-push (IsHeightWord form) [] word (λ k d low. absurd (omega arith)) height)
+    let parser : ParserSettings = record { scale = j.scale; nodata = j.nodata } in
+    let height : IsHeightWord parser word = record { short = short; cell = is.0 } in
+    AreHeights-more j _ ps hs (word ∷ []) parser (x ∷ []) h refl refl
+    (All-push (IsHeightWord parser) [] word (λ k d low. absurd (omega arith)) height)
     (ap (λ y. y ∷ []) (sym is.1)) room refl refl refl refl pushed

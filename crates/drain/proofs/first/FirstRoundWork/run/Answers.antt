@@ -1,7 +1,7 @@
 use Rattle.std.proofs.Common.{[], ℕ, ℤ, List, Option, sym, ap, subst, ◌∙◌}
 use Rattle.tiles.specs.Cutting.{View, IsCutting, bounds_of}
 use Rattle.tiles.proofs.Cut.{inside_from_value}
-use Rattle.drain.specs.Window.{AreCounts, IsSettled}
+use Rattle.drain.specs.Window.{AreCounts, IsSearched}
 use Rattle.drain.proofs.Begun.{begun_round, begun_small}
 use Rattle.drain.proofs.TileLists.{part_of}
 use Rattle.drain.proofs.first.FirstRoundWork.run.Goals as goal
@@ -24,7 +24,7 @@ returns-clause-given c = λ begun first.
     let cut = c.args.self.now.tiling.now in
     let window = c.in_ok-window.window in
     let round = c.in_ok-list.ensures in
-    let settled = subst (λ (xs : List ℕ). IsSettled window.bounds window.levels.items xs round.0) c.deref.ensures.value round.1 in
+    let finished = subst (λ (xs : List ℕ). IsSearched window.bounds window.levels.items xs round.0) c.deref.ensures.value round.1 in
     begun_round t c.view-levels.result cut c.args.job window.bounds window.levels.items c.in_ok-begun.begun.items round.0 c.in_ok-list.list.items begun
     (c.view-levels.ensures ∙ ap (λ (xs : List (Option ℤ)). record { cutting = cut; tile = c.args.job; cells = xs }) c.cells.ensures.value)
-    c.args.self.now.cuts c.in_ok-window.ensures.lawful c.in_ok-window.ensures.bounds c.in_ok-window.ensures.shown c.in_ok-begun.ensures first settled round.2
+    c.args.self.now.cuts c.in_ok-window.ensures.lawful c.in_ok-window.ensures.bounds c.in_ok-window.ensures.shown c.in_ok-begun.ensures first finished round.2

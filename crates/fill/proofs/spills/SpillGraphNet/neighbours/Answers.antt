@@ -17,5 +17,5 @@ returns c =
     let joins = c.self.inside.joins.items in
     let begin = rw c.deref.ensures.value at c.first_from-start.ensures in
     let end = rw c.deref-2.ensures.value at c.end_of-end.ensures in
-    rw (c.in_ok-ways_of.ensures, c.deref-3.ensures.value, ← c.self.view_is)
+    rw (c.in_ok-arcs_of.ensures, c.deref-3.ensures.value, ← c.self.view_is)
     (just_node (graph_with c.self.inside.tiling joins c.self.inside.sources.items) joins c.args.node c.first_from-start.result c.end_of-end.result c.self.invariant.1 refl end.from end.few begin.below begin.above end.below end.above)

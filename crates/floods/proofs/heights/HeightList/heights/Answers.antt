@@ -1,7 +1,7 @@
 use Rattle.std.proofs.Common.{◌∙◌, ap, map}
 use Rattle.floods.specs.Notes.{height_or_lack}
-use Rattle.floods.proofs.HeightLists.{stand}
+use Rattle.floods.proofs.HeightLists.{stored_numbers}
 use Rattle.floods.proofs.heights.HeightList.heights.Goals as goal
 
 pub returns : goal.returns
-returns c = c.deref.ensures.value ∙ stand _ _ c.self.inside.size ∙ ap (map height_or_lack) c.self.view_is
+returns c = c.deref.ensures.value ∙ stored_numbers _ _ c.self.inside.size ∙ ap (map height_or_lack) c.self.view_is

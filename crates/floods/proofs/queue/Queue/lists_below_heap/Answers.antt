@@ -4,7 +4,7 @@ use Rattle.std.proofs.lemmas.Int.{ints, to_z-of_z}
 use Rattle.std.proofs.lemmas.List.Elements.{All-weaker, at_read}
 use Rattle.terrain.proofs.Heights.{height_width}
 use Rattle.floods.specs.declared.queue.Candidate.{Candidate}
-use Rattle.floods.proofs.WaitLists.{above_top}
+use Rattle.floods.proofs.QueueOrder.{above_top}
 use Rattle.floods.proofs.queue.Queue.lists_below_heap.Goals as goal
 
 pub returns-clause-lower : goal.returns-clause-lower

@@ -1,6 +1,6 @@
 use Rattle.std.proofs.Common.{length, heap_items, ap, arith}
 use Rattle.floods.specs.Flood.{entries_of}
-use Rattle.floods.proofs.WaitLists.{made_ordered, all_empty}
+use Rattle.floods.proofs.QueueOrder.{made_ordered, all_empty}
 use Rattle.floods.proofs.queue.Queue.new.Goals as goal
 
 pub returns-clause-order : goal.returns-clause-order

@@ -5,7 +5,7 @@ use Rattle.std.proofs.lemmas.List.{length-map}
 use Rattle.terrain.proofs.Heights.{height_width}
 use Rattle.floods.specs.declared.queue.Candidate.{Candidate}
 use Rattle.floods.specs.Flood.{entries_of}
-use Rattle.floods.proofs.WaitLists.{entries_at, entries_set, put_in_list, put_in_heap, list_put_ordered}
+use Rattle.floods.proofs.QueueOrder.{entries_at, entries_set, put_in_list, put_in_heap, list_put_ordered}
 use Rattle.floods.proofs.queue.Queue.put.Goals as goal
 
 pub returns-in_default-clause-puts : goal.returns-in_default-clause-puts

@@ -2,7 +2,7 @@ use Rattle.std.proofs.Common.{◌≡◌, ◌<◌, ◌∙◌, [], ◌++◌, lengt
 use Rattle.std.specs.Option.{option_to_list}
 use Rattle.std.proofs.lemmas.List.{length-map}
 use Rattle.floods.specs.Flood.{entries_of, AreOrdered}
-use Rattle.floods.proofs.WaitLists.{entries_at, entries_set, passed_ordered, pop_ordered, pop_taken, pop_lowest}
+use Rattle.floods.proofs.QueueOrder.{entries_at, entries_set, passed_ordered, pop_ordered, pop_taken, pop_lowest}
 use Rattle.floods.proofs.queue.Queue.take.Goals as goal
 
 pub pop_heap-requires-clause-order : goal.pop_heap-requires-clause-order

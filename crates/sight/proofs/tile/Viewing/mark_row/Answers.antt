@@ -16,12 +16,12 @@ pub loop-col-preserved : goal.loop-col-preserved
 loop-col-preserved c =
     let self = c.args.self.now in
     let b = c.args.bounds in
-    let Says = IsMarkOf c.args.check self.grid.now.terrain c.args.observer.now self.target_height self.radius in
+    let Holds = IsMarkOf c.args.check self.grid.now.terrain c.args.observer.now self.target_height self.radius in
     let p = make_place c.args.row c.loop-col.col in
     let at : (c.args.row - b.top) * b.cols + (c.loop-col.col - b.left) ≡ index_in b p = omega arith in
     let next : (c.args.row - b.top) * b.cols + (c.loop-col.col - b.left) + 1 ≡ (c.args.row - b.top) * b.cols + (c.loop-col.col + 1 - b.left) = omega arith in
-    let more = marked_more b Says p c.loop-col.marks ((c.args.row - b.top) * b.cols + (c.loop-col.col - b.left)) c.mark_of.result (omega (arith, c.requires.row), omega (arith, c.requires.row), omega arith, omega arith) at c.loop-col.invariant c.mark_of.ensures in
-    subst (λ (n : ℕ). AreMarkedBelow b Says n (set c.loop-col.marks ((c.args.row - b.top) * b.cols + (c.loop-col.col - b.left)) c.mark_of.result)) next more
+    let more = marked_more b Holds p c.loop-col.marks ((c.args.row - b.top) * b.cols + (c.loop-col.col - b.left)) c.mark_of.result (omega (arith, c.requires.row), omega (arith, c.requires.row), omega arith, omega arith) at c.loop-col.invariant c.mark_of.ensures in
+    subst (λ (n : ℕ). AreMarkedBelow b Holds n (set c.loop-col.marks ((c.args.row - b.top) * b.cols + (c.loop-col.col - b.left)) c.mark_of.result)) next more
 
 pub returns : goal.returns
 returns c =

@@ -21,11 +21,11 @@ close_one-requires c =
     let own : EndState = c.in-Some.own in
     let low : v < S = grind (arith, common_steps) in
     let own_is : (d : SeatState) → own ≡ (get_or ss v d).own = λ d.
-    grind (arith, common_steps, c.open_all.ensures.owns v d own low) in
+    grind (arith, common_steps, c.split_seats.ensures.owns v d own low) in
     let z : SeatState = seat_of 0 own [] [] in
     let J = c.requires.board.0 in
     let D = c.requires.board.2 in
-    let each = c.open_all.ensures.seats in
+    let each = c.split_seats.ensures.seats in
     let n = own_names J S ss D each v own z low (own_is z) in
     record {
       own = (omega (arith, inv.size), n.1 ∙ sym inv.size);
@@ -57,14 +57,14 @@ loop-own-preserved c =
     let S = vec_len c.args.seats in
     let v = c.loop-own.v in
     let inv = c.loop-own.invariant in
-    let all = c.open_all.new.owns.items in
+    let all = c.split_seats.new.owns.items in
     let own : EndState = c.in-Some.own in
     let rest : List EndState = into_iter_items c.next.new.self in
     let held : own ∷ rest ≡ drop v all = grind (arith, common_steps) in
     let low : v < S = grind (arith, common_steps) in
-    let own_is : (d : SeatState) → own ≡ (get_or ss v d).own = λ d. get_drop all v own own rest held ∙ c.open_all.ensures.owns v d own low in
+    let own_is : (d : SeatState) → own ≡ (get_or ss v d).own = λ d. get_drop all v own own rest held ∙ c.split_seats.ensures.owns v d own low in
     let z : SeatState = seat_of 0 own [] [] in
-    let each = c.open_all.ensures.seats in
+    let each = c.split_seats.ensures.seats in
     let o = c.close_one.ensures in
     let p : List ℕ = o.left.0 in
     record {

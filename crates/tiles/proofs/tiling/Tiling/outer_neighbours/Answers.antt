@@ -16,7 +16,7 @@ loop-way-preserved c =
     record {
       place = before.place;
       tile = before.tile;
-      room = c.push_if_outer.ensures.capacity ∙ before.room;
+      capacity = c.push_if_outer.ensures.capacity ∙ before.capacity;
       few = omega (arith, few, few');
       found = c.push_if_outer.ensures.items
           ∙ ap (λ xs. xs ++ filter test (option_to_list c.place_on.result)) before.found

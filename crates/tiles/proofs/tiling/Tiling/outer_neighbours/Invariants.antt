@@ -8,7 +8,7 @@ abbrev pub invariant-loop-way : goal.invariant-loop-way
 invariant-loop-way l = record {
   place : (l.place.row < longest_axis) × (l.place.col < longest_axis);
   tile : l.tile ≡ tile_of_place l.self l.place;
-  room : l.found.capacity ≡ 8;
+  capacity : l.found.capacity ≡ 8;
   few : length l.found.items ≤ l.way;
   found : l.found.items ≡ filter (is_in_other_tile l.self l.tile) (filter_map (λ o. o) (take l.way (ways_from l.place)));
 }

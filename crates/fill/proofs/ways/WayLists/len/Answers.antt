@@ -1,8 +1,0 @@
-use Rattle.std.proofs.Common.{length, ap, arith}
-use Rattle.fill.proofs.Chains.{ways_length}
-use Rattle.fill.proofs.ways.WayLists.len.Goals as goal
-
-pub returns : goal.returns
-returns c =
-    let w = c.self.inside in
-    omega (arith, c.len.ensures, ap length c.self.view_is, ways_length w.lasts.items w.joins.items w.previous.items, w.lasts.ok.0)

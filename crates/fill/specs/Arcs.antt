@@ -1,0 +1,51 @@
+-- The arcs of each label, as linked lists over one list of joins. Each join has the joins before it
+-- in the lists of its two labels. Joins are numbered from 1, and 0 is none.
+-- Private.
+use Rattle.std.specs.Prelude.{ℕ, zero, suc, ◌≤◌, ◌<◌, ◌==◌, if◌then◌else◌, Bool, true, false, pos, List, [], ◌∷◌, map, length, slice_index_or}
+use Rattle.std.specs.List.{range_with_len}
+use Rattle.floods.specs.declared.net.Spill.{Spill}
+use Rattle.fill.specs.Gathering.{turned, arc_of}
+use Rattle.fill.specs.declared.spills.Join.{Join}
+use Rattle.fill.specs.declared.arcs.PreviousJoins.{PreviousJoins}
+use Rattle.fill.specs.declared.arcs.Link.{Link}
+
+-- The arc of a join from one of its labels, and the join before it in that label's list.
+abbrev pub link_from : ℕ → Join → PreviousJoins → Link
+link_from label j b =
+    if j.from == label then record { arc = arc_of j; before = b.from }
+    else record { arc = arc_of (turned j); before = b.to }
+
+-- The link of the join at an index.
+abbrev pub link_at : List Join → List PreviousJoins → ℕ → ℕ → Link
+link_at joins previous label i =
+    link_from label (slice_index_or joins i (record { from = 0; to = 0; height = pos 0 }))
+    (slice_index_or previous i (record { from = 0; to = 0 }))
+
+-- The arcs of a label from join `at` on, by the links of its list.
+abbrev pub chain : (ℕ → Link) → ℕ → ℕ → List Spill
+chain link zero at = []
+chain link (suc count) at =
+    if at == suc count then (link count).arc ∷ chain link count (link count).before
+    else chain link count at
+
+-- The arcs from each label.
+abbrev pub arcs_by : List ℕ → List Join → List PreviousJoins → List (List Spill)
+arcs_by lasts joins previous =
+    map (λ label. chain (link_at joins previous label) (length previous)
+    (slice_index_or lasts label 0)) (range_with_len 0 (length lasts))
+
+-- Each join is linked to earlier joins.
+pub record AreLinked (lasts : List ℕ) (joins : List Join)
+    (previous : List PreviousJoins) : Type 0 where
+  pub fit : length previous ≤ length joins
+  pub begin : (label : ℕ) → slice_index_or lasts label 0 ≤ length previous
+  pub before : (label i : ℕ) → i < length previous → (link_at joins previous label i).before ≤ i
+
+-- The list has an arc.
+abbrev pub is_some_arc : List Spill → Bool
+is_some_arc [] = false
+is_some_arc (arc ∷ rest) = true
+
+-- There is an arc from the label.
+abbrev pub has_arcs : List (List Spill) → ℕ → Bool
+has_arcs arcs label = is_some_arc (slice_index_or arcs label [])

@@ -1,0 +1,161 @@
+//! The arcs from each label, as linked lists over one list of joins: [`ArcLists`].
+//!
+//! An arc is a [`Spill`]: the label that a join leads to, and the height of the join.
+ghost use Rattle.std.specs.Prelude.{◌≡◌, ◌<◌, ◌≤◌, ◌-◌, [], All, IfOk, OnOk, length, replicate, slice_index_or};
+ghost use Rattle.floods.specs.Flood.{candidates_in, InOrder, AreNoted, Relaxes};
+ghost use Rattle.fill.specs.LabelNet.{AddsArcs};
+ghost use Rattle.fill.specs.Arcs.{has_arcs, link_at};
+
+use crate::spills::Join;
+use floods::{Candidate, HeightList, NodeLabels, Queue, Spill, queue_neighbour};
+use smallvec::SmallVec;
+use std::alloc::{AllocError, Global};
+use std::marker::Model;
+
+/// The end of a list. Here joins are numbered from 1.
+const NO_JOIN: usize = 0;
+
+/// The joins before a join, in the lists of its two labels.
+#[derive(Clone, Copy)]
+struct PreviousJoins {
+    from: usize,
+    to: usize,
+}
+
+/// A join's arc from one of its labels, and the join before it in the label's list.
+#[derive(Clone, Copy)]
+struct Link {
+    arc: Spill,
+    before: usize,
+}
+
+/// Returns the link of join `at` in the list of `label`, one of the join's labels.
+#[inline(always)]
+fn link_at(joins: &[Join], previous: &[PreviousJoins], label: u32, at: usize) -> Link
+    requires some { 1 ≤ at }
+    requires joins { at ≤ length joins.now }
+    requires previous { at ≤ length previous.now }
+    ensures { result ≡ link_at joins.now previous.now label (at - 1) }
+{
+    let join = joins[at - 1];
+    let before = previous[at - 1];
+    if join.from == label {
+        Link {
+            arc: join.arc(),
+            before: before.from,
+        }
+    } else {
+        Link {
+            arc: join.turned().arc(),
+            before: before.to,
+        }
+    }
+}
+
+/// The arcs from each label, the last join first.
+#[derive(Drop)]
+pub(crate) struct ArcLists {
+    /// The last join of each label.
+    lasts: Vec<usize>,
+    joins: Vec<Join>,
+    previous: Vec<PreviousJoins>,
+}
+
+impl Model for ArcLists {
+    ghost use Rattle.std.specs.Prelude.{List};
+    ghost use Rattle.floods.specs.declared.net.Spill.{Spill};
+    ghost use Rattle.fill.specs.Arcs.{AreLinked, arcs_by};
+
+    ghost Value = { List (List Spill) };
+
+    ghost view = { λ w. arcs_by w.lasts.items w.joins.items w.previous.items };
+
+    ghost invariant = { λ w. AreLinked w.lasts.items w.joins.items w.previous.items };
+}
+
+impl ArcLists {
+    /// Makes lists for `labels` labels; each join is an arc from both of its labels.
+    pub(crate) fn of_joins(
+        alloc: Global,
+        labels: usize,
+        joins: Vec<Join>,
+    ) -> Result<Self, AllocError>
+        requires { All (λ j. (j.from < labels) × (j.to < labels)) joins.items }
+        ensures { IfOk result (AddsArcs joins.items (replicate labels [])) }
+    {
+        let mut lasts = vec![in alloc; NO_JOIN; labels]?;
+        let mut previous = Vec::with_capacity(alloc, joins.len())?;
+        for join in &joins {
+            previous.push(PreviousJoins {
+                from: lasts[join.from as usize],
+                to: lasts[join.to as usize],
+            })?;
+            lasts[join.from as usize] = previous.len();
+            lasts[join.to as usize] = previous.len();
+        }
+        Ok(ArcLists {
+            lasts,
+            joins,
+            previous,
+        })
+    }
+
+    /// Returns the number of labels.
+    #[inline(always)]
+    pub(crate) fn len(&self) -> usize
+        ensures { result ≡ length self.now }
+    {
+        self.lasts.len()
+    }
+
+    /// Returns whether there is an arc from a label.
+    #[inline(always)]
+    pub(crate) fn has(&self, label: u32) -> bool
+        requires { label < length self.now }
+        ensures { result ≡ has_arcs self.now label }
+    {
+        self.lasts[label as usize] != NO_JOIN
+    }
+
+    /// Returns the arcs from a label.
+    pub(crate) fn arcs(&self, alloc: Global, label: u32) -> Result<SmallVec<Spill, 8>, AllocError>
+        requires { label < length self.now }
+        ensures { IfOk result (λ v. v.items ≡ slice_index_or self.now label []) }
+    {
+        let mut arcs = SmallVec::new(alloc);
+        let mut at = self.lasts[label as usize];
+        while at != NO_JOIN {
+            let link = link_at(&self.joins, &self.previous, label, at);
+            arcs.push(link.arc)?;
+            at = link.before;
+        }
+        Ok(arcs)
+    }
+
+    /// Queues each neighbour of `from` that has no label and whose crest gets lower.
+    #[inline]
+    pub(crate) fn spread(
+        &self,
+        queue: &mut Queue,
+        from: &Candidate,
+        labels: &NodeLabels,
+        levels: &mut HeightList,
+    ) -> Result<(), AllocError>
+        requires label { from.now.node < length self.now }
+        requires order { InOrder queue.old }
+        requires inside { All (λ arc. arc.to < length labels.now)
+            (slice_index_or self.now from.now.node []) }
+        requires noted { AreNoted labels.now levels.old (candidates_in queue.old) }
+        ensures { OnOk result
+            (Relaxes labels.now from.now (slice_index_or self.now from.now.node [])
+            levels.old levels.new queue.old queue.new) }
+    {
+        let mut at = self.lasts[from.node as usize];
+        while at != NO_JOIN {
+            let link = link_at(&self.joins, &self.previous, from.node, at);
+            queue_neighbour(queue, link.arc, from, labels, levels)?;
+            at = link.before;
+        }
+        Ok(())
+    }
+}

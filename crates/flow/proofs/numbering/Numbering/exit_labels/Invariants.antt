@@ -1,8 +1,0 @@
-use Rattle.std.proofs.Common.{◌≡◌, get_or, map, None}
-use Rattle.std.specs.List.{range_with_len}
-use Rattle.flow.specs.Numbering.{label_by}
-use Rattle.flow.proofs.numbering.Numbering.exit_labels.Given as goal
-
-abbrev pub invariant-loop-index : goal.invariant-loop-index
-invariant-loop-index g l =
-    l.labels.items ≡ map (λ i. label_by l.self.outlets l.self.flows.items (g.N.EndNumbering.numbers l.self.numbers) l.flow.bounds i (get_or l.flow.exits i None)) (range_with_len 0 l.index)
