@@ -13,7 +13,8 @@ use Rattle.ascii_grid.specs.Meaning.{meaning_of}
 use Rattle.ascii_grid.specs.declared.cell.Meaning.TheVariants.{Cell, Nothing}
 
 -- a word with a scaled value is NODATA by that value alone
-pub nodata_by_value : (d : ℕ) (nodata w : Word) (z : ℤ) → scaled_value d w ≡ Some z → is_nodata d nodata w ≡ same_value (Some z) (scaled_value d nodata)
+pub nodata_by_value : (d : ℕ) (nodata w : Word) (z : ℤ) → scaled_value d w ≡ Some z →
+    is_nodata d nodata w ≡ same_value (Some z) (scaled_value d nodata)
 nodata_by_value d nodata w z e =
     elim (cases_Bool (bytes_eq w nodata)) [
       | inl equal ↦
@@ -27,7 +28,9 @@ nodata_by_value d nodata w z e =
     ]
 
 -- a word whose scaled value is a height other than NODATA's value means a cell of that height
-pub meaning_of_height : (d : ℕ) (nodata w : Word) (z : ℤ) → scaled_value d w ≡ Some z → same_value (Some z) (scaled_value d nodata) ≡ false → is_height z ≡ true → Cell (Some z) ≡ meaning_of d nodata w
+pub meaning_of_height : (d : ℕ) (nodata w : Word) (z : ℤ) → scaled_value d w ≡ Some z →
+    same_value (Some z) (scaled_value d nodata) ≡ false → is_height z ≡ true →
+    Cell (Some z) ≡ meaning_of d nodata w
 meaning_of_height d nodata w z e other high =
     let is : is_nodata d nodata w ≡ false = nodata_by_value d nodata w z e ∙ other in
     let cell : is_cell d nodata w ≡ true = rw (is, e) high in
@@ -35,7 +38,8 @@ meaning_of_height d nodata w z e other high =
     rw (cell, value) refl
 
 -- if `cond b` of a cell and nothing is a cell, it is that cell, and `b` is true
-pub meaning_cell : (b : Bool) (c cell : Option ℤ) → cond b (Cell c) Nothing ≡ Cell cell → (b ≡ true) × (c ≡ cell)
+pub meaning_cell : (b : Bool) (c cell : Option ℤ) → cond b (Cell c) Nothing ≡ Cell cell →
+    (b ≡ true) × (c ≡ cell)
 meaning_cell true c cell e = (refl, cc)
 meaning_cell false c cell e = cc
 

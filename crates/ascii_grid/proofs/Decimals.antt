@@ -18,7 +18,8 @@ pub div_pow : (n k : ℕ) → n / 10 / 10 ^ k ≡ n / 10 ^ (suc k)
 div_pow n k = div-div-eq-div-mul n 10 (10 ^ k) ∙ ap (λ m. n / m) (sym (pow-succ' 10 k))
 
 pub div_pow_last : (n k : ℕ) → n / 10 ^ k / 10 ≡ n / 10 ^ (k + 1)
-div_pow_last n k = div-div-eq-div-mul n (10 ^ k) 10 ∙ ap (λ m. n / m) (let e : 10 ^ k * 10 ≡ 10 ^ (k + 1) = rw (add-one, pow-succ') (omega arith) in e)
+div_pow_last n k = div-div-eq-div-mul n (10 ^ k) 10 ∙ ap (λ m.
+    n / m) (let e : 10 ^ k * 10 ≡ 10 ^ (k + 1) = rw (add-one, pow-succ') (omega arith) in e)
 
 -- the last k + 1 digits are one digit and the last k
 pub last_digits-front : (k n : ℕ) → last_digits (suc k) n ≡ (48 + n / 10 ^ k % 10) ∷ last_digits k n
@@ -28,7 +29,9 @@ last_digits-front (suc k) n =
     ∙ ap (λ m. (48 + m % 10) ∷ last_digits (suc k) n) (div_pow n k)
 
 -- one more digit stored before the last k digits makes the last k + 1
-pub digit_before : (k n left at : ℕ) (buffer : List ℕ) → left ≡ n / 10 ^ k → at < length buffer → drop (at + 1) buffer ≡ last_digits k n → drop at (set buffer at (48 + left % 10)) ≡ last_digits (k + 1) n
+pub digit_before : (k n left at : ℕ) (buffer : List ℕ) →
+    left ≡ n / 10 ^ k → at < length buffer → drop (at + 1) buffer ≡ last_digits k n →
+    drop at (set buffer at (48 + left % 10)) ≡ last_digits (k + 1) n
 digit_before k n left at buffer e h d =
     drop-set_at buffer at at (48 + left % 10) refl h
     ∙ ap (λ ds. (48 + left % 10) ∷ ds) d
@@ -41,9 +44,16 @@ many_digits n h = decimal_by_steps (λ m ds. (k : ℕ) → 10 ^ k ≤ m → k < 
   where
     first : (m : ℕ) → m < 10 → (k : ℕ) → 10 ^ k ≤ m → k < 1
     first m below zero le = omega arith
-    first m below (suc k) le = absurd (omega (arith, below, le, pow-succ' 10 k, pow-le-pow_right {n = 10} (omega arith) {i = 0} {j = k} (omega arith)))
+    first m below (suc k) le = absurd (omega (
+      arith,
+      below,
+      le,
+      pow-succ' 10 k,
+      pow-le-pow_right {n = 10} (omega arith) {i = 0} {j = k} (omega arith),
+    ))
 
-    next : (m : ℕ) (ds : List ℕ) → 10 ≤ m → ((k : ℕ) → 10 ^ k ≤ m / 10 → k < length ds) → (k : ℕ) → 10 ^ k ≤ m → k < length (ds ++ (48 + m % 10) ∷ [])
+    next : (m : ℕ) (ds : List ℕ) → 10 ≤ m → ((k : ℕ) → 10 ^ k ≤ m / 10 → k < length ds) → (k : ℕ) →
+        10 ^ k ≤ m → k < length (ds ++ (48 + m % 10) ∷ [])
     next m ds more longer zero le = omega (arith, length-append ds ((48 + m % 10) ∷ []))
     next m ds more longer (suc k) le =
         let rest : 10 ^ k ≤ m / 10 = omega (arith, le, pow-succ' 10 k) in
@@ -63,12 +73,15 @@ decimal_value n h =
     n h
 
 digit_of : (m : ℕ) → m < 10 → is_ascii_digit (48 + m) ≡ true
-digit_of m h = and_from (leb 48 (48 + m)) (leb (48 + m) 57) (le-leb 48 (48 + m) (omega arith)) (le-leb (48 + m) 57 (omega arith))
+digit_of m h = and_from (leb 48 (48 + m)) (leb (48 + m) 57) (le-leb 48 (48 + m) (omega arith))
+    (le-leb (48 + m) 57 (omega arith))
 
-digits_push : (ds : List ℕ) (m : ℕ) → m < 10 → list_all is_ascii_digit ds ≡ true → list_all is_ascii_digit (ds ++ (48 + m) ∷ []) ≡ true
+digits_push : (ds : List ℕ) (m : ℕ) → m < 10 → list_all is_ascii_digit ds ≡ true →
+    list_all is_ascii_digit (ds ++ (48 + m) ∷ []) ≡ true
 digits_push ds m h k =
     list_all-append is_ascii_digit ds ((48 + m) ∷ [])
-    ∙ and_from (list_all is_ascii_digit ds) (list_all is_ascii_digit ((48 + m) ∷ [])) k (and_from (is_ascii_digit (48 + m)) true (digit_of m h) refl)
+    ∙ and_from (list_all is_ascii_digit ds) (list_all is_ascii_digit ((48 + m) ∷ [])) k
+    (and_from (is_ascii_digit (48 + m)) true (digit_of m h) refl)
 
 pub decimal_digits : (n : ℕ) → n < 2 ^ 64 → list_all is_ascii_digit (decimal n) ≡ true
 decimal_digits n h =
@@ -85,11 +98,13 @@ decimal_word n h = some (decimal n) (decimal_nonempty n h)
     some (d ∷ ds) h = refl
 
 pub decimal_are_digits : (n : ℕ) → n < 2 ^ 64 → are_digits (decimal n) ≡ true
-decimal_are_digits n h = and_from (is_word (decimal n)) (list_all is_ascii_digit (decimal n)) (decimal_word n h) (decimal_digits n h)
+decimal_are_digits n h = and_from (is_word (decimal n)) (list_all is_ascii_digit (decimal n))
+    (decimal_word n h) (decimal_digits n h)
 
 pub last_digits_digits : (d n : ℕ) → list_all is_ascii_digit (last_digits d n) ≡ true
 last_digits_digits zero n = refl
-last_digits_digits (suc d) n = digits_push (last_digits d (n / 10)) (n % 10) (omega arith) (last_digits_digits d (n / 10))
+last_digits_digits (suc d) n =
+    digits_push (last_digits d (n / 10)) (n % 10) (omega arith) (last_digits_digits d (n / 10))
 
 pub length-last_digits : (d n : ℕ) → length (last_digits d n) ≡ d
 length-last_digits zero n = refl
@@ -99,10 +114,14 @@ length-last_digits (suc d) n =
 
 -- the whole part and the decimals of a number, read as one number, are that number
 pub scaled_digits : (d n : ℕ) → n < 2 ^ 64 → number_of (decimal (n / 10 ^ d) ++ last_digits d n) ≡ n
-scaled_digits zero n h = ap number_of (append-nil (decimal (n / 10 ^ 0))) ∙ ap (λ m. number_of (decimal m)) (div-one n) ∙ decimal_value n h
+scaled_digits zero n h = ap number_of (append-nil (decimal (n / 10 ^ 0)))
+    ∙ ap (λ m. number_of (decimal m)) (div-one n) ∙ decimal_value n h
 scaled_digits (suc d) n h =
     let small : n / 10 < 2 ^ 64 = omega arith in
-    ap number_of (sym (append_assoc (decimal (n / 10 ^ suc d)) (last_digits d (n / 10)) ((48 + n % 10) ∷ [])))
+    ap number_of
+    (sym (append_assoc (decimal (n / 10 ^ suc d)) (last_digits d (n / 10)) ((48 + n % 10) ∷ [])))
     ∙ number_of-push (decimal (n / 10 ^ suc d) ++ last_digits d (n / 10)) (48 + n % 10)
-    ∙ ap (λ m. 10 * number_of (decimal m ++ last_digits d (n / 10)) + (48 + n % 10 - 48)) (sym (div_pow n d))
-    ∙ last_value n (number_of (decimal (n / 10 / 10 ^ d) ++ last_digits d (n / 10))) (scaled_digits d (n / 10) small)
+    ∙ ap (λ m. 10 * number_of (decimal m ++ last_digits d (n / 10)) + (48 + n % 10 - 48))
+    (sym (div_pow n d))
+    ∙ last_value n (number_of (decimal (n / 10 / 10 ^ d) ++ last_digits d (n / 10)))
+    (scaled_digits d (n / 10) small)

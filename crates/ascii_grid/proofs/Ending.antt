@@ -23,13 +23,17 @@ use Rattle.ascii_grid.proofs.JudgedWords.{at_heights, is_memory, word_fault, lon
 -- ---- the bytes kept
 
 -- a byte that fits, added to the kept front of a word, makes the front of the longer word
-pub kept_more : (w front : Word) (b : ℕ) → front ≡ take 65 w → length front + 1 ≤ 65 → front ++ b ∷ [] ≡ take 65 (w ++ b ∷ [])
+pub kept_more : (w front : Word) (b : ℕ) → front ≡ take 65 w → length front + 1 ≤ 65 →
+    front ++ b ∷ [] ≡ take 65 (w ++ b ∷ [])
 kept_more w front b e h =
     let short : length w ≤ 64 = omega (arith, h, ap length e, length-take 65 w) in
-    ap (λ z. z ++ b ∷ []) (e ∙ take_all 65 w (omega arith)) ∙ sym (take_all 65 (w ++ b ∷ []) (omega (arith, length-append w (b ∷ []))))
+    ap (λ z. z ++ b ∷ []) (e ∙ take_all 65 w (omega arith))
+    ∙ sym (take_all 65 (w ++ b ∷ []) (omega (arith, length-append w (b ∷ []))))
 
-pub kept_full : (w front : Word) (b : ℕ) → front ≡ take 65 w → 65 < length front + 1 → front ≡ take 65 (w ++ b ∷ [])
-kept_full w front b e h = e ∙ sym (take-append-le 65 w (b ∷ []) (omega (arith, h, ap length e, length-take 65 w)))
+pub kept_full : (w front : Word) (b : ℕ) → front ≡ take 65 w → 65 < length front + 1 →
+    front ≡ take 65 (w ++ b ∷ [])
+kept_full w front b e h = e
+    ∙ sym (take-append-le 65 w (b ∷ []) (omega (arith, h, ap length e, length-take 65 w)))
 
 -- ---- the end of a word
 
@@ -37,34 +41,47 @@ pub filter-word : (w : Word) → 0 < length w → filter is_word (w ∷ []) ≡ 
 filter-word [] h = absurd (omega arith)
 filter-word (b ∷ bs) h = refl
 
-words-last : (p : Tokenizer) (text : List ℕ) (h : HasWords p text) → 0 < length p.word → words text ≡ h.ended ++ h.last ∷ []
+words-last : (p : Tokenizer) (text : List ℕ) (h : HasWords p text) → 0 < length p.word →
+    words text ≡ h.ended ++ h.last ∷ []
 words-last p text h some =
     let size = ap length h.front in
     let more : 0 < length h.last = omega (arith, length-take 65 h.last) in
     words-parted text h.ended h.last h.parted ∙ ap (λ z. h.ended ++ z) (filter-word h.last more)
 
-pub ended_ok : (p : Tokenizer) (j : GridBuilder) (text : List ℕ) (h : HasWords p text) → 0 < length p.word → length p.word ≤ 64 → HasJudged j (h.ended ++ p.word ∷ []) → HasJudged j (words text)
+pub ended_ok : (p : Tokenizer) (j : GridBuilder) (text : List ℕ) (h : HasWords p text) →
+    0 < length p.word → length p.word ≤ 64 → HasJudged j (h.ended ++ p.word ∷ []) →
+    HasJudged j (words text)
 ended_ok p j text h some short k =
     let size = ap length h.front in
-    let same : p.word ≡ h.last = h.front ∙ take_all 65 h.last (omega (arith, length-take 65 h.last)) in
+    let same : p.word ≡ h.last = h.front
+    ∙ take_all 65 h.last (omega (arith, length-take 65 h.last)) in
     subst (HasJudged j) (ap (λ w. h.ended ++ w ∷ []) same ∙ sym (words-last p text h some)) k
 
-pub ended_fault : (p : Tokenizer) (text : List ℕ) (f : GridFault) (h : HasWords p text) → 0 < length p.word → (64 < length p.word → f ≡ TooLong) → IsWordFault p.builder.scale (h.ended ++ p.word ∷ []) f → IsWordFault p.builder.scale (words text) f
+pub ended_fault : (p : Tokenizer) (text : List ℕ) (f : GridFault) (h : HasWords p text) →
+    0 < length p.word → (64 < length p.word → f ≡ TooLong) → IsWordFault p.builder.scale (h.ended
+    ++ p.word ∷ []) f → IsWordFault p.builder.scale (words text) f
 ended_fault p text f h some long k =
     let size = ap length h.front in
     elim (cases_lt 64 (length p.word)) [
       | inl far ↦
           let more : 64 < length h.last = omega (arith, length-take 65 h.last) in
-          let at : words_fault p.builder.scale (words text) ≡ Some TooLong = ap (words_fault p.builder.scale) (words-last p text h some) ∙ long_fault p.builder h.ended h.last h.judged more in
-          word_fault p.builder.scale (words text) f (ap (λ g. is_memory (Some g)) (long far)) (at ∙ ap Some (sym (long far)))
+          let at : words_fault p.builder.scale (words text) ≡ Some TooLong =
+          ap (words_fault p.builder.scale) (words-last p text h some)
+          ∙ long_fault p.builder h.ended h.last h.judged more in
+          word_fault p.builder.scale (words text) f (ap (λ g. is_memory (Some g)) (long far)) (at
+          ∙ ap Some (sym (long far)))
       | inr near ↦
-          let same : p.word ≡ h.last = h.front ∙ take_all 65 h.last (omega (arith, length-take 65 h.last)) in
-          subst (λ ws. IsWordFault p.builder.scale ws f) (ap (λ w. h.ended ++ w ∷ []) same ∙ sym (words-last p text h some)) k
+          let same : p.word ≡ h.last = h.front
+          ∙ take_all 65 h.last (omega (arith, length-take 65 h.last)) in
+          subst (λ ws. IsWordFault p.builder.scale ws f) (ap (λ w. h.ended ++ w ∷ []) same
+          ∙ sym (words-last p text h some)) k
     ]
 
 -- ---- one more byte
 
-pub words_after_byte : (p p' : Tokenizer) (text : List ℕ) (b : ℕ) (h : HasWords p text) → is_separator b ≡ false → p'.builder ≡ p.builder → p'.word ≡ take 65 (h.last ++ b ∷ []) → HasWords p' (text ++ b ∷ [])
+pub words_after_byte : (p p' : Tokenizer) (text : List ℕ) (b : ℕ) (h : HasWords p text) →
+    is_separator b ≡ false → p'.builder ≡ p.builder → p'.word ≡ take 65 (h.last ++ b ∷ []) →
+    HasWords p' (text ++ b ∷ [])
 words_after_byte p p' text b h e builder word = record {
   ended = h.ended;
   last = h.last ++ b ∷ [];
@@ -73,7 +90,9 @@ words_after_byte p p' text b h e builder word = record {
   front = word;
 }
 
-pub words_after_separator : (p p' : Tokenizer) (text : List ℕ) (b : ℕ) → HasWords p text → is_separator b ≡ true → (p'.word ≡ []) × HasJudged p'.builder (words text) → HasWords p' (text ++ b ∷ [])
+pub words_after_separator : (p p' : Tokenizer) (text : List ℕ) (b : ℕ) →
+    HasWords p text → is_separator b ≡ true → (p'.word ≡ []) × HasJudged p'.builder (words text) →
+    HasWords p' (text ++ b ∷ [])
 words_after_separator p p' text b h e k = record {
   ended = words text;
   last = [];
@@ -82,62 +101,102 @@ words_after_separator p p' text b h e k = record {
   front = k.0;
 }
 
-more_bytes : (text bytes : List ℕ) (i b : ℕ) → i < length bytes → b ≡ get_or bytes i 0 → (text ++ take i bytes) ++ b ∷ [] ≡ text ++ take (i + 1) bytes
+more_bytes : (text bytes : List ℕ) (i b : ℕ) → i < length bytes → b ≡ get_or bytes i 0 →
+    (text ++ take i bytes) ++ b ∷ [] ≡ text ++ take (i + 1) bytes
 more_bytes text bytes i b inside at =
     append_assoc text (take i bytes) (b ∷ []) ∙ ap (λ x. text ++ (take i bytes ++ x ∷ [])) at
     ∙ ap (λ z. text ++ z) (sym (take_more bytes i 0 inside))
 
-pub fault_at : (d d' : ℕ) (text bytes : List ℕ) (i b : ℕ) (f : GridFault) → d' ≡ d → i < length bytes → b ≡ get_or bytes i 0 → IsWordFault d' (ended_words ((text ++ take i bytes) ++ b ∷ [])) f → (n : ℕ) × (n ≤ length bytes) × IsWordFault d (ended_words (text ++ take n bytes)) f
-fault_at d d' text bytes i b f same inside at k =
-    (i + 1, omega arith, subst (λ e. IsWordFault e (ended_words (text ++ take (i + 1) bytes)) f) same (subst (λ z. IsWordFault d' (ended_words z) f) (more_bytes text bytes i b inside at) k))
+pub fault_at : (d d' : ℕ) (text bytes : List ℕ) (i b : ℕ) (f : GridFault) → d' ≡ d → i
+    < length bytes → b ≡ get_or bytes i 0 → IsWordFault d' (ended_words ((text ++ take i bytes) ++ b
+    ∷ [])) f → (n : ℕ) × (n ≤ length bytes) × IsWordFault d (ended_words (text ++ take n bytes)) f
+fault_at d d' text bytes i b f same inside at k = (
+  i + 1,
+  omega arith,
+  subst (λ e. IsWordFault e (ended_words (text ++ take (i + 1) bytes)) f) same
+      (subst (λ z. IsWordFault d' (ended_words z) f) (more_bytes text bytes i b inside at) k),
+)
 
 -- ---- a whole word within a piece
 
-IsParted-bytes : (text : List ℕ) (ws : List Word) (w more : List ℕ) → IsParted text ws w → list_any is_separator more ≡ false → IsParted (text ++ more) ws (w ++ more)
+IsParted-bytes : (text : List ℕ) (ws : List Word) (w more : List ℕ) → IsParted text ws w →
+    list_any is_separator more ≡ false → IsParted (text ++ more) ws (w ++ more)
 IsParted-bytes text ws w [] h none =
-    subst (λ t. IsParted t ws (w ++ [])) (sym (append-nil text)) (subst (λ z. IsParted text ws z) (sym (append-nil w)) h)
+    subst (λ t. IsParted t ws (w ++ [])) (sym (append-nil text))
+    (subst (λ z. IsParted text ws z) (sym (append-nil w)) h)
 IsParted-bytes text ws w (b ∷ more) h none =
     let parts = or_parts (is_separator b) (list_any is_separator more) none in
-    let next = IsParted-bytes (text ++ b ∷ []) ws (w ++ b ∷ []) more (IsParted-byte text ws w b h parts.0) parts.1 in
-    subst (λ t. IsParted t ws (w ++ b ∷ more)) (append_assoc text (b ∷ []) more) (subst (λ z. IsParted ((text ++ b ∷ []) ++ more) ws z) (append_assoc w (b ∷ []) more) next)
+    let next = IsParted-bytes (text ++ b ∷ []) ws (w
+    ++ b ∷ []) more (IsParted-byte text ws w b h parts.0) parts.1 in
+    subst (λ t. IsParted t ws (w ++ b ∷ more)) (append_assoc text (b ∷ []) more)
+    (subst (λ z. IsParted ((text ++ b ∷ []) ++ more) ws z) (append_assoc w (b ∷ []) more) next)
 
 -- a whole word in a piece and the separator after it are one more ended word
-pub parted_word : (text bytes : List ℕ) (ws : List Word) (len b : ℕ) → IsParted text ws [] → list_any is_separator (take len bytes) ≡ false → 0 < len → len < length bytes → b ≡ get_or bytes len 0 → is_separator b ≡ true → IsParted (text ++ take (len + 1) bytes) (ws ++ take len bytes ∷ []) []
+pub parted_word : (text bytes : List ℕ) (ws : List Word) (len b : ℕ) →
+    IsParted text ws [] → list_any is_separator (take len bytes) ≡ false →
+    0 < len → len < length bytes → b ≡ get_or bytes len 0 → is_separator b ≡ true →
+    IsParted (text ++ take (len + 1) bytes) (ws ++ take len bytes ∷ []) []
 parted_word text bytes ws len b begun none some inside at ends =
     let w = take len bytes in
     let more : 0 < length w = omega (arith, length-take len bytes) in
     let whole = IsParted-bytes text ws [] w begun none in
-    let all : words (text ++ w) ≡ ws ++ w ∷ [] = words-parted (text ++ w) ws w whole ∙ ap (λ z. ws ++ z) (filter-word w more) in
-    let bytes_are : (text ++ w) ++ b ∷ [] ≡ text ++ take (len + 1) bytes = more_bytes text bytes len b inside at in
-    subst (λ t. IsParted t (ws ++ w ∷ []) []) bytes_are (subst (λ z. IsParted ((text ++ w) ++ b ∷ []) z []) all (IsParted-separator (text ++ w) ws w b whole ends))
+    let all : words (text ++ w) ≡ ws ++ w ∷ [] = words-parted (text ++ w) ws w whole
+    ∙ ap (λ z. ws ++ z) (filter-word w more) in
+    let bytes_are : (text ++ w) ++ b ∷ [] ≡ text ++ take (len + 1) bytes =
+    more_bytes text bytes len b inside at in
+    subst (λ t. IsParted t (ws ++ w ∷ []) []) bytes_are (subst (λ z.
+    IsParted ((text ++ w) ++ b ∷ []) z []) all (IsParted-separator (text ++ w) ws w b whole ends))
 
 -- without an unfinished word, all words have ended
-pub parted_ended : (p : Tokenizer) (text : List ℕ) (h : HasWords p text) → p.word ≡ [] → IsParted text h.ended []
+pub parted_ended : (p : Tokenizer) (text : List ℕ) (h : HasWords p text) → p.word ≡ [] →
+    IsParted text h.ended []
 parted_ended p text h e =
-    let last : h.last ≡ [] = nil_from_length h.last (omega (arith, ap length (sym h.front ∙ e), length-take 65 h.last)) in
+    let last : h.last ≡ [] =
+    nil_from_length h.last (omega (arith, ap length (sym h.front ∙ e), length-take 65 h.last)) in
     subst (λ z. IsParted text h.ended z) last h.parted
 
 -- a plain height in a piece, and the separator after it, are read as one more ended word
-pub plain_word : {T : Type 0} (p : Tokenizer) (j : GridBuilder) (text bytes : List ℕ) (len b : ℕ) (value : ℤ) (r : Result T GridFault) → HasWords p text → p.word ≡ [] → p.builder.stage ≡ AtHeights → IsPlain p.builder.scale bytes len value → len < length bytes → b ≡ get_or bytes len 0 → is_separator b ≡ true → j.header ≡ p.builder.header → j.stage ≡ p.builder.stage
-    → ((ps : Pairs) (hs : List Word) (w : Word) → AreHeights p.builder ps hs → length w ≤ 64 → scaled_value p.builder.scale w ≡ Some value → MatchResult r (λ _. AreHeights j ps (hs ++ w ∷ [])) (λ f. (f ≡ Memory) ⊎ (height_fault p.builder.scale (flat ps) (length hs) w ≡ Some f)))
-    → MatchResult r (λ _. HasWords (record p { builder = j }) (text ++ take (len + 1) bytes)) (λ f. (n : ℕ) × (n ≤ length bytes) × IsWordFault p.builder.scale (ended_words (text ++ take n bytes)) f)
+pub plain_word : {T : Type 0} (p : Tokenizer) (j : GridBuilder) (text bytes : List ℕ)
+    (len b : ℕ) (value : ℤ) (r : Result T GridFault) → HasWords p text → p.word ≡ [] →
+    p.builder.stage ≡ AtHeights → IsPlain p.builder.scale bytes len value → len < length bytes →
+    b ≡ get_or bytes len 0 → is_separator b ≡ true → j.header ≡ p.builder.header →
+    j.stage ≡ p.builder.stage
+    → ((ps : Pairs) (hs : List Word) (w : Word) → AreHeights p.builder ps hs → length w ≤ 64 →
+    scaled_value p.builder.scale w ≡ Some value → MatchResult r (λ _. AreHeights j ps (hs ++ w
+    ∷ [])) (λ f. (f ≡ Memory) ⊎ (height_fault p.builder.scale (flat ps) (length hs) w ≡ Some f)))
+    → MatchResult r (λ _. HasWords (record p { builder = j }) (text ++ take (len + 1) bytes)) (λ f.
+    (n : ℕ) × (n ≤ length bytes)
+    × IsWordFault p.builder.scale (ended_words (text ++ take n bytes)) f)
 plain_word p j text bytes len b value r h none stage plain inside at ends header same judged =
     let w = take len bytes in
     let short : length w ≤ 64 = omega (arith, plain.short, length-take len bytes) in
     let there = at_heights p.builder h.ended h.judged stage in
-    let parted = parted_word text bytes h.ended len b (parted_ended p text h none) plain.whole plain.some inside at ends in
+    let parted = parted_word text bytes h.ended len b
+    (parted_ended p text h none) plain.whole plain.some inside at ends in
     let ps = h.judged.pairs in
     let hs = h.judged.rest in
     MatchResult-weaker r
-    (height_word p.builder j h.ended ps hs w r h.judged.header h.judged.words (HasBegun-more hs (w ∷ []) there.0) there.1 short header (same ∙ stage) (judged ps hs w there.1 short plain.scaled))
-    (λ _ more. record { ended = h.ended ++ w ∷ []; last = []; parted = parted; judged = more; front = none })
-    (λ f fault. (len + 1, omega arith, subst (λ ws. IsWordFault p.builder.scale ws f) (sym parted.ended) fault))
+    (height_word p.builder j h.ended ps hs w r h.judged.header h.judged.words (HasBegun-more hs (w
+    ∷ []) there.0) there.1 short header (same ∙ stage) (judged ps hs w there.1 short plain.scaled))
+    (λ _ more.
+    record { ended = h.ended ++ w ∷ []; last = []; parted = parted; judged = more; front = none })
+    (λ f fault.
+    (len + 1, omega arith, subst (λ ws. IsWordFault p.builder.scale ws f) (sym parted.ended) fault))
 
-pub same_front : (text bytes rest : List ℕ) (at n : ℕ) → rest ≡ drop at bytes → (text ++ take at bytes) ++ take n rest ≡ text ++ take (at + n) bytes
+pub same_front : (text bytes rest : List ℕ) (at n : ℕ) → rest ≡ drop at bytes →
+    (text ++ take at bytes) ++ take n rest ≡ text ++ take (at + n) bytes
 same_front text bytes rest at n e =
-    append_assoc text (take at bytes) (take n rest) ∙ ap (λ z. text ++ z) (ap (λ z. take at bytes ++ take n z) e ∙ sym (take-add at n bytes))
+    append_assoc text (take at bytes) (take n rest)
+    ∙ ap (λ z. text ++ z) (ap (λ z. take at bytes ++ take n z) e ∙ sym (take-add at n bytes))
 
-pub fault_further : (d d' : ℕ) (text bytes rest : List ℕ) (at : ℕ) (f : GridFault) → d' ≡ d → rest ≡ drop at bytes → at ≤ length bytes → (n : ℕ) × (n ≤ length rest) × IsWordFault d' (ended_words ((text ++ take at bytes) ++ take n rest)) f → (n : ℕ) × (n ≤ length bytes) × IsWordFault d (ended_words (text ++ take n bytes)) f
+pub fault_further : (d d' : ℕ) (text bytes rest : List ℕ) (at : ℕ) (f : GridFault) →
+    d' ≡ d → rest ≡ drop at bytes → at ≤ length bytes → (n : ℕ)
+    × (n ≤ length rest) × IsWordFault d' (ended_words ((text ++ take at bytes) ++ take n rest)) f →
+    (n : ℕ) × (n ≤ length bytes) × IsWordFault d (ended_words (text ++ take n bytes)) f
 fault_further d d' text bytes rest at f same e within k =
-    let size = ap length e in
-    (at + k.0, omega (arith, size, k.1, length-drop at bytes), subst (λ x. IsWordFault x (ended_words (text ++ take (at + k.0) bytes)) f) same (subst (λ z. IsWordFault d' (ended_words z) f) (same_front text bytes rest at k.0 e) k.2))
+    let size = ap length e in (
+      at + k.0,
+      omega (arith, size, k.1, length-drop at bytes),
+      subst (λ x. IsWordFault x (ended_words (text ++ take (at + k.0) bytes)) f) same
+          (subst (λ z. IsWordFault d' (ended_words z) f) (same_front text bytes rest at k.0 e) k.2),
+    )

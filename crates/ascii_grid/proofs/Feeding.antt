@@ -23,141 +23,186 @@ use Rattle.ascii_grid.proofs.Spelled.{lawful_words}
 
 -- ---- texts of few and of many bytes
 
-pub few_fault : (d : ℕ) (text : List ℕ) → length text ≤ most_bytes → text_fault d text ≡ option_or (words_fault d (words text)) (end_fault (words text))
+pub few_fault : (d : ℕ) (text : List ℕ) → length text ≤ most_bytes →
+    text_fault d text ≡ option_or (words_fault d (words text)) (end_fault (words text))
 few_fault d text h = rw (le-leb (length text) most_bytes h) refl
 
-few_so_far : (d : ℕ) (text : List ℕ) → length text ≤ most_bytes → fault_so_far d text ≡ words_fault d (ended_words text)
+few_so_far : (d : ℕ) (text : List ℕ) → length text ≤ most_bytes →
+    fault_so_far d text ≡ words_fault d (ended_words text)
 few_so_far d text h = rw (le-leb (length text) most_bytes h) refl
 
-pub many_so_far : (d : ℕ) (text : List ℕ) → most_bytes < length text → fault_so_far d text ≡ option_or (words_fault d (ended_words (take most_bytes text))) (Some TooLong)
+pub many_so_far : (d : ℕ) (text : List ℕ) → most_bytes < length text → fault_so_far d text
+    ≡ option_or (words_fault d (ended_words (take most_bytes text))) (Some TooLong)
 many_so_far d text h = rw (lt-leb (length text) most_bytes h) refl
 
-many_fault : (d : ℕ) (text : List ℕ) → most_bytes < length text → text_fault d text ≡ fault_so_far d text
+many_fault : (d : ℕ) (text : List ℕ) → most_bytes < length text →
+    text_fault d text ≡ fault_so_far d text
 many_fault d text h = rw (lt-leb (length text) most_bytes h) refl
 
 -- the fault so far: that of the words ended within the first 2^29 bytes, or else TooLong
-so_far : (d : ℕ) (text : List ℕ) → fault_so_far d text ≡ option_or (words_fault d (ended_words (take most_bytes text))) (cond (nat_le (length text) most_bytes) None (Some TooLong))
+so_far : (d : ℕ) (text : List ℕ) → fault_so_far d text ≡ option_or (words_fault d (ended_words
+    (take most_bytes text))) (cond (nat_le (length text) most_bytes) None (Some TooLong))
 so_far d text =
     elim (cases_lt most_bytes (length text)) [
       | inl far ↦ rw (lt-leb (length text) most_bytes far) refl
-      | inr near ↦ rw (le-leb (length text) most_bytes near, take_all most_bytes text near) (sym (option_or-none (words_fault d (ended_words text))))
+      | inr near ↦ rw (le-leb (length text) most_bytes near, take_all most_bytes text near)
+          (sym (option_or-none (words_fault d (ended_words text))))
     ]
 
 -- the first 2^29 bytes of a longer text begin with those of the text
-front_of : (front more : List ℕ) → (rest : List ℕ) × (take most_bytes (front ++ more) ≡ take most_bytes front ++ rest)
+front_of : (front more : List ℕ) → (rest : List ℕ)
+    × (take most_bytes (front ++ more) ≡ take most_bytes front ++ rest)
 front_of front more =
     elim (cases_lt most_bytes (length front)) [
-      | inl far ↦ ([], take-append-le most_bytes front more (omega arith) ∙ sym (append-nil (take most_bytes front)))
+      | inl far ↦ (
+        [],
+        take-append-le most_bytes front more (omega arith)
+            ∙ sym (append-nil (take most_bytes front)),
+      )
       | inr near ↦
           let at : length front + (most_bytes - length front) ≡ most_bytes = omega arith in (
             take (most_bytes - length front) more,
-            ap (λ n. take n (front ++ more)) (sym at) ∙ take-append-add front more (most_bytes - length front) ∙ ap (λ z. z ++ take (most_bytes - length front) more) (sym (take_all most_bytes front near)),
+            ap (λ n. take n (front ++ more)) (sym at)
+                ∙ take-append-add front more (most_bytes - length front) ∙ ap (λ z. z
+                ++ take (most_bytes - length front) more) (sym (take_all most_bytes front near)),
           )
     ]
 
 -- words that ended within the first 2^29 bytes are the first such words of a longer text
-in_time-more : (front more : List ℕ) → (others : List Word) × (ended_words (take most_bytes (front ++ more)) ≡ ended_words (take most_bytes front) ++ others)
+in_time-more : (front more : List ℕ) → (others : List Word) × (ended_words
+    (take most_bytes (front ++ more)) ≡ ended_words (take most_bytes front) ++ others)
 in_time-more front more =
     let cut = front_of front more in
     let next = ended-more (take most_bytes front) cut.0 in
     (next.0, ap ended_words cut.1 ∙ next.1)
 
 -- words that ended within the first 2^29 bytes are the first of the judged words
-in_time-judged : (text : List ℕ) → (others : List Word) × (judged_words text ≡ ended_words (take most_bytes text) ++ others)
+in_time-judged : (text : List ℕ) → (others : List Word)
+    × (judged_words text ≡ ended_words (take most_bytes text) ++ others)
 in_time-judged text =
     elim (cases_lt most_bytes (length text)) [
-      | inl far ↦ ([], rw (lt-leb (length text) most_bytes far) (sym (append-nil (ended_words (take most_bytes text)))))
-      | inr near ↦ let last = ended-words text in (last.0, rw (le-leb (length text) most_bytes near, take_all most_bytes text near) last.1)
+      | inl far ↦ (
+        [],
+        rw (lt-leb (length text) most_bytes far)
+            (sym (append-nil (ended_words (take most_bytes text)))),
+      )
+      | inr near ↦ let last = ended-words text in
+          (last.0, rw (le-leb (length text) most_bytes near, take_all most_bytes text near) last.1)
     ]
 
 -- a fault so far stays the fault as the text goes on
-so_far_stays : (d : ℕ) (front more : List ℕ) (f : GridFault) → fault_so_far d front ≡ Some f → fault_so_far d (front ++ more) ≡ Some f
+so_far_stays : (d : ℕ) (front more : List ℕ) (f : GridFault) → fault_so_far d front ≡ Some f →
+    fault_so_far d (front ++ more) ≡ Some f
 so_far_stays d front more f h =
     elim (cases_lt most_bytes (length front)) [
       | inl far ↦
-          let longer : most_bytes < length (front ++ more) = omega (arith, length-append front more) in
+          let longer : most_bytes < length (front ++ more) =
+          omega (arith, length-append front more) in
           many_so_far d (front ++ more) longer
-          ∙ ap (λ z. option_or (words_fault d (ended_words z)) (Some TooLong)) (take-append-le most_bytes front more (omega arith))
+          ∙ ap (λ z. option_or (words_fault d (ended_words z)) (Some TooLong))
+          (take-append-le most_bytes front more (omega arith))
           ∙ sym (many_so_far d front far) ∙ h
       | inr near ↦
           let next = in_time-more front more in
-          let shown = ap (λ z. words_fault d (ended_words z)) (take_all most_bytes front near) ∙ sym (few_so_far d front near) ∙ h in
+          let shown = ap (λ z. words_fault d (ended_words z)) (take_all most_bytes front near)
+          ∙ sym (few_so_far d front near) ∙ h in
           so_far d (front ++ more)
-          ∙ ap (λ o. option_or o (cond (nat_le (length (front ++ more)) most_bytes) None (Some TooLong))) (ap (words_fault d) next.1 ∙ words_fault-more d (ended_words (take most_bytes front)) next.0 f shown)
+          ∙ ap (λ o. option_or o (cond (nat_le (length (front ++ more)) most_bytes) None
+          (Some TooLong))) (ap (words_fault d) next.1
+          ∙ words_fault-more d (ended_words (take most_bytes front)) next.0 f shown)
     ]
 
 -- a fault so far is the fault of the text
-shown : (d : ℕ) (text : List ℕ) (f : GridFault) → fault_so_far d text ≡ Some f → text_fault d text ≡ Some f
+shown : (d : ℕ) (text : List ℕ) (f : GridFault) → fault_so_far d text ≡ Some f →
+    text_fault d text ≡ Some f
 shown d text f h =
     elim (cases_lt most_bytes (length text)) [
       | inl far ↦ many_fault d text far ∙ h
       | inr near ↦
           let last = ended-words text in
           few_fault d text near
-          ∙ ap (λ o. option_or o (end_fault (words text))) (ap (words_fault d) last.1 ∙ words_fault-more d (ended_words text) last.0 f (sym (few_so_far d text near) ∙ h))
+          ∙ ap (λ o. option_or o (end_fault (words text))) (ap (words_fault d) last.1
+          ∙ words_fault-more d (ended_words text) last.0 f (sym (few_so_far d text near) ∙ h))
     ]
 
-pub fault_stays : (d : ℕ) (front more : List ℕ) (f : GridFault) → fault_so_far d front ≡ Some f → text_fault d (front ++ more) ≡ Some f
+pub fault_stays : (d : ℕ) (front more : List ℕ) (f : GridFault) → fault_so_far d front ≡ Some f →
+    text_fault d (front ++ more) ≡ Some f
 fault_stays d front more f h = shown d (front ++ more) f (so_far_stays d front more f h)
 
 -- a refusal of a front is a refusal of the text so far
-pub refusal_stays : (d : ℕ) (front more : List ℕ) (f : GridFault) → IsRefusalSoFar d front f → IsRefusalSoFar d (front ++ more) f
+pub refusal_stays : (d : ℕ) (front more : List ℕ) (f : GridFault) → IsRefusalSoFar d front f →
+    IsRefusalSoFar d (front ++ more) f
 refusal_stays d front more f h =
     let next = in_time-more front more in
     reported_further _ _ (fault_so_far d front) (fault_so_far d (front ++ more)) f
-    (λ asks. subst AsksAtHeight (sym next.1) (asks-more (ended_words (take most_bytes front)) next.0 asks))
+    (λ asks.
+    subst AsksAtHeight (sym next.1) (asks-more (ended_words (take most_bytes front)) next.0 asks))
     (so_far_stays d front more) h
 
 -- a refusal so far is a refusal of the whole text
-pub whole_refusal : (d : ℕ) (text : List ℕ) (f : GridFault) → IsRefusalSoFar d text f → IsRefusal d text f
+pub whole_refusal : (d : ℕ) (text : List ℕ) (f : GridFault) → IsRefusalSoFar d text f →
+    IsRefusal d text f
 whole_refusal d text f h =
     let next = in_time-judged text in
     reported_further _ _ (fault_so_far d text) (text_fault d text) f
     (λ asks.
-    let more : AsksAtHeight (judged_words text) = subst AsksAtHeight (sym next.1) (asks-more (ended_words (take most_bytes text)) next.0 asks) in
+    let more : AsksAtHeight (judged_words text) =
+    subst AsksAtHeight (sym next.1) (asks-more (ended_words (take most_bytes text)) next.0 asks) in
     (more.0, λ far. more.1))
     (shown d text) h
 
-pub stays : (d : ℕ) (front more : List ℕ) (f : GridFault) → IsRefusalSoFar d front f → IsRefusal d (front ++ more) f
+pub stays : (d : ℕ) (front more : List ℕ) (f : GridFault) → IsRefusalSoFar d front f →
+    IsRefusal d (front ++ more) f
 stays d front more f h = whole_refusal d (front ++ more) f (refusal_stays d front more f h)
 
 -- ---- a fault within a piece
 
-refused : (d : ℕ) (front : List ℕ) (f : GridFault) → length front ≤ most_bytes → IsWordFault d (ended_words front) f → IsRefusalSoFar d front f
+refused : (d : ℕ) (front : List ℕ) (f : GridFault) → length front ≤ most_bytes →
+    IsWordFault d (ended_words front) f → IsRefusalSoFar d front f
 refused d front f short h =
     reported_further _ _ (words_fault d (ended_words front)) (fault_so_far d front) f
     (λ asks. subst (λ z. AsksAtHeight (ended_words z)) (sym (take_all most_bytes front short)) asks)
     (λ g e. few_so_far d front short ∙ e) h
 
 -- words that were read have no fault
-read_none : (p : Tokenizer) (text : List ℕ) → HasWords p text → words_fault p.builder.scale (ended_words text) ≡ None
-read_none p text h = ap (words_fault p.builder.scale) h.parted.ended ∙ judged_none p.builder h.ended h.judged
+read_none : (p : Tokenizer) (text : List ℕ) → HasWords p text →
+    words_fault p.builder.scale (ended_words text) ≡ None
+read_none p text h = ap (words_fault p.builder.scale) h.parted.ended
+    ∙ judged_none p.builder h.ended h.judged
 
 -- ---- the end
 
 asked : (text : List ℕ) → length text ≤ most_bytes → AsksForCells (words text) → AsksInText text
-asked text short asks = (rw (le-leb (length text) most_bytes short) asks, λ far. absurd (omega arith))
+asked text short asks =
+    (rw (le-leb (length text) most_bytes short) asks, λ far. absurd (omega arith))
 
-pub end_refused : (d : ℕ) (text : List ℕ) (f : GridFault) → length text ≤ most_bytes → IsWordFault d (words text) f → IsRefusal d text f
+pub end_refused : (d : ℕ) (text : List ℕ) (f : GridFault) → length text ≤ most_bytes →
+    IsWordFault d (words text) f → IsRefusal d text f
 end_refused d text f short h =
     reported_further _ _ (words_fault d (words text)) (text_fault d text) f
     (λ asks. asked text short asks.0)
     (λ g e. few_fault d text short ∙ ap (λ o. option_or o (end_fault (words text))) e) h
 
 -- where no word has a fault, the result at the end is the grid of the text or a refusal of it
-pub finished : (d : ℕ) (text : List ℕ) (r : Result Raster GridFault) → length text ≤ most_bytes → words_fault d (words text) ≡ None → MatchResult r (λ g. (end_fault (words text) ≡ None) × (g ≡ grid_of d (words text))) (IsEndFault (words text)) → MatchResult r (IsGridText d text) (IsRefusal d text)
+pub finished : (d : ℕ) (text : List ℕ) (r : Result Raster GridFault) → length text ≤ most_bytes →
+    words_fault d (words text) ≡ None → MatchResult r (λ g. (end_fault (words text) ≡ None)
+    × (g ≡ grid_of d (words text))) (IsEndFault (words text)) →
+    MatchResult r (IsGridText d text) (IsRefusal d text)
 finished d text r short none m =
     let reported = few_fault d text short ∙ ap (λ o. option_or o (end_fault (words text))) none in
     MatchResult-weaker r m (λ g k. record { faultless = reported ∙ k.0; grid = k.1 })
-    (λ f k. reported_further _ _ (end_fault (words text)) (text_fault d text) f (asked text short) (λ g e. reported ∙ e) k)
+    (λ f k. reported_further _ _ (end_fault (words text)) (text_fault d text) f (asked text short)
+    (λ g e. reported ∙ e) k)
 
 -- a grid that a text spells is lawful
 pub lawful_text : (d : ℕ) (text : List ℕ) (g : Raster) → d ≤ 6 → IsGridText d text g → IsLawful g
 lawful_text d text g few h =
     elim (cases_lt most_bytes (length text)) [
-      | inl far ↦ let long = (or_none _ (Some TooLong) (sym (many_fault d text far ∙ many_so_far d text far) ∙ h.faultless)).1 in absurd (cc)
+      | inl far ↦ let long = (or_none _ (Some TooLong)
+          (sym (many_fault d text far ∙ many_so_far d text far) ∙ h.faultless)).1 in absurd (cc)
       | inr near ↦
-          let none = or_none (words_fault d (words text)) (end_fault (words text)) (sym (few_fault d text near) ∙ h.faultless) in
+          let none = or_none (words_fault d (words text)) (end_fault (words text))
+          (sym (few_fault d text near) ∙ h.faultless) in
           subst IsLawful (sym h.grid) (lawful_words d (words text) few none.0 none.1)
     ]
 
@@ -166,39 +211,69 @@ lawful_text d text g few h =
 pub reading : (r : Reader) (text : List ℕ) → r.fault ≡ None → HasTaken r text → IsReading r text
 reading r text e h = MatchOption-at_none (IsReading r text) (IsRefusalSoFar r.scale text) e h
 
-pub answered : (r : Reader) (text : List ℕ) (f : GridFault) → r.fault ≡ Some f → HasTaken r text → IsRefusalSoFar r.scale text f
+pub answered : (r : Reader) (text : List ℕ) (f : GridFault) → r.fault ≡ Some f → HasTaken r text →
+    IsRefusalSoFar r.scale text f
 answered r text f e h = MatchOption-at_some (IsReading r text) (IsRefusalSoFar r.scale text) f e h
 
 -- after a fault, more of the text changes nothing
-pub answered_more : (r : Reader) (text more : List ℕ) (f : GridFault) → r.fault ≡ Some f → HasTaken r text → HasTaken r (text ++ more)
+pub answered_more : (r : Reader) (text more : List ℕ) (f : GridFault) → r.fault ≡ Some f →
+    HasTaken r text → HasTaken r (text ++ more)
 answered_more r text more f e h =
-    subst (λ o. MatchOption o (IsReading r (text ++ more)) (IsRefusalSoFar r.scale (text ++ more))) (sym e) (refusal_stays r.scale text more f (answered r text f e h))
+    subst (λ o. MatchOption o (IsReading r (text ++ more)) (IsRefusalSoFar r.scale (text ++ more)))
+    (sym e) (refusal_stays r.scale text more f (answered r text f e h))
 
 -- ---- a piece
 
-pub fed_fault : (r : Reader) (text piece : List ℕ) (within : ℕ) (f : GridFault) → within ≡ min (length piece) (most_bytes - r.count) → r.fault ≡ None → HasTaken r text → ((t : List ℕ) → HasWords r.words t → (n : ℕ) × (n ≤ length (take within piece)) × IsWordFault r.words.builder.scale (ended_words (t ++ take n (take within piece))) f) → IsRefusalSoFar r.words.builder.scale (text ++ piece) f
+pub fed_fault : (r : Reader) (text piece : List ℕ) (within : ℕ) (f : GridFault) →
+    within ≡ min (length piece) (most_bytes - r.count) → r.fault ≡ None → HasTaken r text →
+    ((t : List ℕ) → HasWords r.words t → (n : ℕ) × (n ≤ length (take within piece))
+    × IsWordFault r.words.builder.scale (ended_words (t ++ take n (take within piece))) f) →
+    IsRefusalSoFar r.words.builder.scale (text ++ piece) f
 fed_fault r text piece within f cut none h fault =
     let k = reading r text none h in
     let part = take within piece in
     let at = fault text k.words_of in
-    let size : length (text ++ take at.0 part) ≤ most_bytes = omega (arith, cut, k.size, k.short, at.1, length-append text (take at.0 part), length-take at.0 part, length-take within piece) in
-    let whole : piece ≡ take at.0 part ++ (drop at.0 part ++ drop within piece) = sym (take-append-drop within piece) ∙ ap (λ z. z ++ drop within piece) (sym (take-append-drop at.0 part)) ∙ append_assoc (take at.0 part) (drop at.0 part) (drop within piece) in
-    let more = ap (λ z. text ++ z) whole ∙ sym (append_assoc text (take at.0 part) (drop at.0 part ++ drop within piece)) in
+    let size : length (text ++ take at.0 part) ≤ most_bytes = omega (
+      arith,
+      cut,
+      k.size,
+      k.short,
+      at.1,
+      length-append text (take at.0 part),
+      length-take at.0 part,
+      length-take within piece,
+    ) in
+    let whole : piece ≡ take at.0 part ++ (drop at.0 part ++ drop within piece) =
+    sym (take-append-drop within piece)
+    ∙ ap (λ z. z ++ drop within piece) (sym (take-append-drop at.0 part))
+    ∙ append_assoc (take at.0 part) (drop at.0 part) (drop within piece) in
+    let more = ap (λ z. text ++ z) whole
+    ∙ sym (append_assoc text (take at.0 part) (drop at.0 part ++ drop within piece)) in
     subst (λ t. IsRefusalSoFar r.words.builder.scale t f) (sym more)
-    (refusal_stays r.words.builder.scale (text ++ take at.0 part) (drop at.0 part ++ drop within piece) f (refused r.words.builder.scale (text ++ take at.0 part) f size at.2))
+    (refusal_stays r.words.builder.scale (text ++ take at.0 part) (drop at.0 part
+    ++ drop within piece) f (refused r.words.builder.scale (text ++ take at.0 part) f size at.2))
 
 -- a piece that makes the text too long has the fault `TooLong`, if no ended word has one
-pub fed_long : (r : Reader) (p : Tokenizer) (text piece : List ℕ) (within : ℕ) → within ≡ min (length piece) (most_bytes - r.count) → r.fault ≡ None → HasTaken r text → within < length piece → ((t : List ℕ) → HasWords r.words t → HasWords p (t ++ take within piece)) → fault_so_far p.builder.scale (text ++ piece) ≡ Some TooLong
+pub fed_long : (r : Reader) (p : Tokenizer) (text piece : List ℕ) (within : ℕ) →
+    within ≡ min (length piece) (most_bytes - r.count) → r.fault ≡ None → HasTaken r text → within
+    < length piece → ((t : List ℕ) → HasWords r.words t → HasWords p (t ++ take within piece)) →
+    fault_so_far p.builder.scale (text ++ piece) ≡ Some TooLong
 fed_long r p text piece within cut none h over next =
     let k = reading r text none h in
-    let longer : most_bytes < length (text ++ piece) = omega (arith, cut, over, k.size, k.short, length-append text piece) in
+    let longer : most_bytes < length (text ++ piece) =
+    omega (arith, cut, over, k.size, k.short, length-append text piece) in
     let full : most_bytes ≡ length text + within = omega (arith, cut, over, k.size, k.short) in
-    let in_time : take most_bytes (text ++ piece) ≡ text ++ take within piece = ap (λ n. take n (text ++ piece)) full ∙ take-append-add text piece within in
+    let in_time : take most_bytes (text ++ piece) ≡ text ++ take within piece =
+    ap (λ n. take n (text ++ piece)) full ∙ take-append-add text piece within in
     many_so_far p.builder.scale (text ++ piece) longer
-    ∙ ap (λ o. option_or o (Some TooLong)) (ap (λ z. words_fault p.builder.scale (ended_words z)) in_time ∙ read_none p (text ++ take within piece) (next text k.words_of))
+    ∙ ap (λ o. option_or o (Some TooLong)) (ap (λ z. words_fault p.builder.scale (ended_words z))
+    in_time ∙ read_none p (text ++ take within piece) (next text k.words_of))
 
 -- after a piece without a fault, the reader holds the words of the text with the piece
-pub fed_all : (r r' : Reader) (text piece : List ℕ) → r.fault ≡ None → HasTaken r text → length piece ≤ most_bytes - r.count → ((t : List ℕ) → HasWords r.words t → HasWords r'.words (t ++ piece)) → r'.words.builder.scale ≡ r'.scale → r'.count ≡ r.count + length piece → IsReading r' (text ++ piece)
+pub fed_all : (r r' : Reader) (text piece : List ℕ) →
+    r.fault ≡ None → HasTaken r text → length piece ≤ most_bytes - r.count →
+    ((t : List ℕ) → HasWords r.words t → HasWords r'.words (t ++ piece)) → r'.words.builder.scale
+    ≡ r'.scale → r'.count ≡ r.count + length piece → IsReading r' (text ++ piece)
 fed_all r r' text piece none h few next scale count =
     let k = reading r text none h in
     let size : length (text ++ piece) ≡ length text + length piece = length-append text piece in
@@ -209,13 +284,18 @@ fed_all r r' text piece none h few next scale count =
       short = omega (arith, size, k.size, k.short, few);
     }
 
-pub fed_whole : (r r' : Reader) (text piece : List ℕ) (within : ℕ) → within ≡ min (length piece) (most_bytes - r.count) → r.fault ≡ None → HasTaken r text → length piece ≤ within → ((t : List ℕ) → HasWords r.words t → HasWords r'.words (t ++ take within piece)) → r'.words.builder.scale ≡ r'.scale → r'.count ≡ r.count + within → IsReading r' (text ++ piece)
+pub fed_whole : (r r' : Reader) (text piece : List ℕ) (within : ℕ) → within
+    ≡ min (length piece) (most_bytes - r.count) → r.fault ≡ None → HasTaken r text → length piece
+    ≤ within → ((t : List ℕ) → HasWords r.words t → HasWords r'.words (t ++ take within piece)) →
+    r'.words.builder.scale ≡ r'.scale → r'.count ≡ r.count + within → IsReading r' (text ++ piece)
 fed_whole r r' text piece within cut none h all next scale count =
-    fed_all r r' text piece none h (omega (arith, cut, all)) (λ t was. subst (λ z. HasWords r'.words (t ++ z)) (take_all within piece all) (next t was)) scale (omega (arith, cut, all, count))
+    fed_all r r' text piece none h (omega (arith, cut, all)) (λ t was. subst (λ z. HasWords r'.words
+    (t ++ z)) (take_all within piece all) (next t was)) scale (omega (arith, cut, all, count))
 
 -- a text whose words a reader holds has no fault so far
 pub faultless : (r : Reader) (text : List ℕ) → IsReading r text → fault_so_far r.scale text ≡ None
-faultless r text h = rw (← h.same_scale) (few_so_far r.words.builder.scale text h.short ∙ read_none r.words text h.words_of)
+faultless r text h = rw (← h.same_scale) (few_so_far r.words.builder.scale text h.short
+    ∙ read_none r.words text h.words_of)
 
 -- ---- one piece after another
 
@@ -243,13 +323,15 @@ pub Feeds-none : (r : Reader) → r.fault ≡ None → Feeds r r [] (Ok (tt {0})
 Feeds-none r none = Feeds-taken r r [] (Ok tt) refl (λ text h. rw append-nil h) none
     (λ f e. absurd (let no : None ≡ Some f = sym none ∙ e in cc))
 
-pub Feeds-more : {T : Type 0} (a b c : Reader) (front piece : List ℕ) (r : Result T GridFault) → Feeds a b front (Ok (tt {0})) → Feeds b c piece r → Feeds a c (front ++ piece) r
+pub Feeds-more : {T : Type 0} (a b c : Reader) (front piece : List ℕ) (r : Result T GridFault) →
+    Feeds a b front (Ok (tt {0})) → Feeds b c piece r → Feeds a c (front ++ piece) r
 Feeds-more a b c front piece r h k = Feeds-taken a c (front ++ piece) r (k.scale ∙ h.scale)
     (λ text was. rw (← append_assoc text front piece) (k.taken (text ++ front) (h.taken text was)))
     k.fault (λ f e. absurd (let no = h.again f e in cc))
 
 -- a fault in the front of a piece is the result for the whole piece
-pub Feeds-stopped : {T : Type 0} (a b : Reader) (front more : List ℕ) (f : GridFault) → Feeds {T = T} a b front (Err f) → Feeds {T = T} a b (front ++ more) (Err f)
+pub Feeds-stopped : {T : Type 0} (a b : Reader) (front more : List ℕ) (f : GridFault) →
+    Feeds {T = T} a b front (Err f) → Feeds {T = T} a b (front ++ more) (Err f)
 Feeds-stopped a b front more f h = Feeds-taken a b (front ++ more) (Err f) h.scale (λ text was.
     rw (← append_assoc text front more)
     (answered_more b (text ++ front) more f h.fault (h.taken text was))) h.fault h.again

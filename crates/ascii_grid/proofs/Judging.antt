@@ -29,11 +29,13 @@ pub option_or-none : {X : Type 0} (o : Option X) → option_or o None ≡ o
 option_or-none None = refl
 option_or-none (Some x) = refl
 
-pub option_or-assoc : {X : Type 0} (o p q : Option X) → option_or (option_or o p) q ≡ option_or o (option_or p q)
+pub option_or-assoc : {X : Type 0} (o p q : Option X) →
+    option_or (option_or o p) q ≡ option_or o (option_or p q)
 option_or-assoc None p q = refl
 option_or-assoc (Some x) p q = refl
 
-pub is_some-option_map : {X Y : Type 0} (f : X → Y) (o : Option X) → is_some (option_map f o) ≡ is_some o
+pub is_some-option_map : {X Y : Type 0} (f : X → Y) (o : Option X) →
+    is_some (option_map f o) ≡ is_some o
 is_some-option_map f None = refl
 is_some-option_map f (Some x) = refl
 
@@ -42,24 +44,28 @@ pub or_none : {X : Type 0} (o p : Option X) → option_or o p ≡ None → (o �
 or_none None p h = (refl, h)
 or_none (Some x) p h = cc
 
-pub then_none : {X : Type 0} (b : Bool) (x : X) (o : Option X) → cond b (Some x) o ≡ None → (b ≡ false) × (o ≡ None)
+pub then_none : {X : Type 0} (b : Bool) (x : X) (o : Option X) → cond b (Some x) o ≡ None →
+    (b ≡ false) × (o ≡ None)
 then_none true x o h = cc
 then_none false x o h = (refl, h)
 
-pub else_none : {X : Type 0} (b : Bool) (o : Option X) (x : X) → cond b o (Some x) ≡ None → (b ≡ true) × (o ≡ None)
+pub else_none : {X : Type 0} (b : Bool) (o : Option X) (x : X) → cond b o (Some x) ≡ None →
+    (b ≡ true) × (o ≡ None)
 else_none true o x h = (refl, h)
 else_none false o x h = cc
 
 -- ---- pairs and what follows them
 
-pub words-flat : (ps : Pairs) (rest : List Word) → are_keys ps ≡ true → (header_words (flat ps ++ rest) ≡ flat ps ++ header_words rest) × (height_words (flat ps ++ rest) ≡ height_words rest)
+pub words-flat : (ps : Pairs) (rest : List Word) → are_keys ps ≡ true → (header_words (flat ps
+    ++ rest) ≡ flat ps ++ header_words rest) × (height_words (flat ps ++ rest) ≡ height_words rest)
 words-flat [] rest h = (refl, refl)
 words-flat (p ∷ ps) rest h =
     let k = and_parts (begins_with_letter p.0) (are_keys ps) h in
     let more = words-flat ps rest k.1 in
     rw k.0 (ap (λ z. p.0 ∷ p.1 ∷ z) more.0, more.1)
 
-pub words-whole : (ps : Pairs) → are_keys ps ≡ true → (header_words (flat ps) ≡ flat ps) × (height_words (flat ps) ≡ [])
+pub words-whole : (ps : Pairs) → are_keys ps ≡ true → (header_words (flat ps) ≡ flat ps)
+    × (height_words (flat ps) ≡ [])
 words-whole ps h = rw append-nil at (words-flat ps [] h)
 
 pub key_left-flat : (ps : Pairs) (rest : List Word) → key_left (flat ps ++ rest) ≡ key_left rest
@@ -74,20 +80,30 @@ pub flat-push : (ps : Pairs) (k v : Word) → flat (ps ++ (k, v) ∷ []) ≡ fla
 flat-push [] k v = refl
 flat-push (p ∷ ps) k v = ap (λ z. p.0 ∷ p.1 ∷ z) (flat-push ps k v)
 
-pub are_keys-push : (ps : Pairs) (k v : Word) → are_keys ps ≡ true → begins_with_letter k ≡ true → are_keys (ps ++ (k, v) ∷ []) ≡ true
-are_keys-push ps k v h b = list_all-append (λ (p : Word × Word). begins_with_letter p.0) ps ((k, v) ∷ []) ∙ rw (h, b) refl
+pub are_keys-push : (ps : Pairs) (k v : Word) → are_keys ps ≡ true → begins_with_letter k ≡ true →
+    are_keys (ps ++ (k, v) ∷ []) ≡ true
+are_keys-push ps k v h b =
+    list_all-append (λ (p : Word × Word). begins_with_letter p.0) ps ((k, v) ∷ []) ∙ rw (h, b) refl
 
-pub header_fault-flat : (before : List Word) (ps : Pairs) (rest : List Word) → header_fault before (flat ps ++ rest) ≡ option_or (header_fault before (flat ps)) (header_fault (keys_before ps before) rest)
+pub header_fault-flat : (before : List Word) (ps : Pairs) (rest : List Word) →
+    header_fault before (flat ps ++ rest)
+    ≡ option_or (header_fault before (flat ps)) (header_fault (keys_before ps before) rest)
 header_fault-flat before [] rest = refl
 header_fault-flat before (p ∷ ps) rest =
     let more = header_fault-flat (p.0 ∷ before) ps rest in
-    rw more (sym (option_or-assoc (key_fault before p.0) (option_or (value_fault p.0 p.1) (header_fault (p.0 ∷ before) (flat ps))) (header_fault (keys_before ps (p.0 ∷ before)) rest) ∙ ap (option_or (key_fault before p.0)) (option_or-assoc (value_fault p.0 p.1) (header_fault (p.0 ∷ before) (flat ps)) (header_fault (keys_before ps (p.0 ∷ before)) rest))))
+    rw more (sym (option_or-assoc (key_fault before p.0) (option_or (value_fault p.0 p.1)
+    (header_fault (p.0 ∷ before) (flat ps))) (header_fault (keys_before ps (p.0 ∷ before)) rest)
+    ∙ ap (option_or (key_fault before p.0)) (option_or-assoc (value_fault p.0 p.1)
+    (header_fault (p.0 ∷ before) (flat ps)) (header_fault (keys_before ps (p.0 ∷ before)) rest))))
 
-pub list_any-keys_before : (t : Word → Bool) (ps : Pairs) (before : List Word) → list_any t (keys_before ps before) ≡ (is_some (find (λ (p : Word × Word). t p.0) ps) || list_any t before)
+pub list_any-keys_before : (t : Word → Bool) (ps : Pairs) (before : List Word) → list_any t
+    (keys_before ps before) ≡ (is_some (find (λ (p : Word × Word). t p.0) ps) || list_any t before)
 list_any-keys_before t [] before = refl
-list_any-keys_before t (p ∷ ps) before = list_any-keys_before t ps (p.0 ∷ before) ∙ go (t p.0) (find (λ (q : Word × Word). t q.0) ps)
+list_any-keys_before t (p ∷ ps) before = list_any-keys_before t ps (p.0 ∷ before)
+    ∙ go (t p.0) (find (λ (q : Word × Word). t q.0) ps)
   where
-    go : (a : Bool) (o : Option (Word × Word)) → (is_some o || (a || list_any t before)) ≡ (is_some (cond a (Some p) o) || list_any t before)
+    go : (a : Bool) (o : Option (Word × Word)) →
+        (is_some o || (a || list_any t before)) ≡ (is_some (cond a (Some p) o) || list_any t before)
     go true None = refl
     go true (Some q) = refl
     go false None = refl
@@ -95,59 +111,128 @@ list_any-keys_before t (p ∷ ps) before = list_any-keys_before t ps (p.0 ∷ be
 
 -- ---- the slots of pairs
 
-pub is_given-slots_of : (slot : Key) (ps : Pairs) → is_given (slots_of ps) slot ≡ is_some (given slot ps)
+pub is_given-slots_of : (slot : Key) (ps : Pairs) →
+    is_given (slots_of ps) slot ≡ is_some (given slot ps)
 is_given-slots_of Ncols ps = is_some-option_map _ _
 is_given-slots_of slot ps = is_some-option_map _ _
 
 pub missing_of-slots_of : (ps : Pairs) → missing_of (slots_of ps) ≡ missing_fault (flat ps)
 missing_of-slots_of ps =
-    rw (pairs-flat ps, is_given-slots_of Ncols ps, is_given-slots_of Nrows ps, is_given-slots_of Xll ps, is_given-slots_of Yll ps, is_given-slots_of Cellsize ps) refl
+    rw (
+      pairs-flat ps,
+      is_given-slots_of Ncols ps,
+      is_given-slots_of Nrows ps,
+      is_given-slots_of Xll ps,
+      is_given-slots_of Yll ps,
+      is_given-slots_of Cellsize ps,
+    ) refl
 
-pub number-of_pair : (o : Option (Word × Word)) → unwrap_or (option_map (λ (p : Word × Word). number_of p.1) o) 0 ≡ number_of (unwrap_or (option_map (λ (p : Word × Word). p.1) o) [])
+pub number-of_pair : (o : Option (Word × Word)) → unwrap_or (option_map (λ (p : Word × Word).
+    number_of p.1) o) 0 ≡ number_of (unwrap_or (option_map (λ (p : Word × Word). p.1) o) [])
 number-of_pair None = refl
 number-of_pair (Some p) = refl
 
 pub wanted_of-slots_of : (ps : Pairs) → wanted_of (slots_of ps) ≡ cells_wanted (flat ps)
-wanted_of-slots_of ps = rw (pairs-flat ps, number-of_pair (given Ncols ps), number-of_pair (given Nrows ps)) refl
+wanted_of-slots_of ps =
+    rw (pairs-flat ps, number-of_pair (given Ncols ps), number-of_pair (given Nrows ps)) refl
 
-given-push : (s : Key) (ps : Pairs) (k v : Word) → given s (ps ++ (k, v) ∷ []) ≡ option_or (given s ps) (cond (fills s k) (Some (k, v)) None)
+given-push : (s : Key) (ps : Pairs) (k v : Word) →
+    given s (ps ++ (k, v) ∷ []) ≡ option_or (given s ps) (cond (fills s k) (Some (k, v)) None)
 given-push s ps k v = find-append (λ (p : Word × Word). fills s p.0) ps ((k, v) ∷ [])
 
 -- two lists of pairs that differ in this slot alone, which the second fills with `p`
 abbrev FilledAt : Key → Word × Word → Pairs → Pairs → Type 0
-FilledAt slot p ps qs = (given slot qs ≡ Some p) × ((s : Key) → (s ≡ slot → ⊥) → given s qs ≡ given s ps)
+FilledAt slot p ps qs = (given slot qs ≡ Some p)
+    × ((s : Key) → (s ≡ slot → ⊥) → given s qs ≡ given s ps)
 
-with_value-at : (slot : Key) (p : Word × Word) (ps qs : Pairs) → FilledAt slot p ps qs → with_value (slots_of ps) slot (is_centre p.0) p.1 ≡ slots_of qs
-with_value-at Ncols p ps qs h = rw (h.0, h.1 Nrows (λ e. cc), h.1 Xll (λ e. cc), h.1 Yll (λ e. cc), h.1 Cellsize (λ e. cc), h.1 Nodata (λ e. cc)) refl
-with_value-at Nrows p ps qs h = rw (h.0, h.1 Ncols (λ e. cc), h.1 Xll (λ e. cc), h.1 Yll (λ e. cc), h.1 Cellsize (λ e. cc), h.1 Nodata (λ e. cc)) refl
-with_value-at Xll p ps qs h = rw (h.0, h.1 Ncols (λ e. cc), h.1 Nrows (λ e. cc), h.1 Yll (λ e. cc), h.1 Cellsize (λ e. cc), h.1 Nodata (λ e. cc)) refl
-with_value-at Yll p ps qs h = rw (h.0, h.1 Ncols (λ e. cc), h.1 Nrows (λ e. cc), h.1 Xll (λ e. cc), h.1 Cellsize (λ e. cc), h.1 Nodata (λ e. cc)) refl
-with_value-at Cellsize p ps qs h = rw (h.0, h.1 Ncols (λ e. cc), h.1 Nrows (λ e. cc), h.1 Xll (λ e. cc), h.1 Yll (λ e. cc), h.1 Nodata (λ e. cc)) refl
-with_value-at Nodata p ps qs h = rw (h.0, h.1 Ncols (λ e. cc), h.1 Nrows (λ e. cc), h.1 Xll (λ e. cc), h.1 Yll (λ e. cc), h.1 Cellsize (λ e. cc)) refl
+with_value-at : (slot : Key) (p : Word × Word) (ps qs : Pairs) → FilledAt slot p ps qs →
+    with_value (slots_of ps) slot (is_centre p.0) p.1 ≡ slots_of qs
+with_value-at Ncols p ps qs h = rw (
+  h.0,
+  h.1 Nrows (λ e. cc),
+  h.1 Xll (λ e. cc),
+  h.1 Yll (λ e. cc),
+  h.1 Cellsize (λ e. cc),
+  h.1 Nodata (λ e. cc),
+) refl
+with_value-at Nrows p ps qs h = rw (
+  h.0,
+  h.1 Ncols (λ e. cc),
+  h.1 Xll (λ e. cc),
+  h.1 Yll (λ e. cc),
+  h.1 Cellsize (λ e. cc),
+  h.1 Nodata (λ e. cc),
+) refl
+with_value-at Xll p ps qs h = rw (
+  h.0,
+  h.1 Ncols (λ e. cc),
+  h.1 Nrows (λ e. cc),
+  h.1 Yll (λ e. cc),
+  h.1 Cellsize (λ e. cc),
+  h.1 Nodata (λ e. cc),
+) refl
+with_value-at Yll p ps qs h = rw (
+  h.0,
+  h.1 Ncols (λ e. cc),
+  h.1 Nrows (λ e. cc),
+  h.1 Xll (λ e. cc),
+  h.1 Cellsize (λ e. cc),
+  h.1 Nodata (λ e. cc),
+) refl
+with_value-at Cellsize p ps qs h = rw (
+  h.0,
+  h.1 Ncols (λ e. cc),
+  h.1 Nrows (λ e. cc),
+  h.1 Xll (λ e. cc),
+  h.1 Yll (λ e. cc),
+  h.1 Nodata (λ e. cc),
+) refl
+with_value-at Nodata p ps qs h = rw (
+  h.0,
+  h.1 Ncols (λ e. cc),
+  h.1 Nrows (λ e. cc),
+  h.1 Xll (λ e. cc),
+  h.1 Yll (λ e. cc),
+  h.1 Cellsize (λ e. cc),
+) refl
 
 -- storing a value in its empty slot gives the slots of the pairs with one more
-pub with_value-slots_of : (slot : Key) (ps : Pairs) (k v : Word) → slot_of k ≡ Some slot → is_given (slots_of ps) slot ≡ false → with_value (slots_of ps) slot (is_centre k) v ≡ slots_of (ps ++ (k, v) ∷ [])
+pub with_value-slots_of : (slot : Key) (ps : Pairs) (k v : Word) →
+    slot_of k ≡ Some slot → is_given (slots_of ps) slot ≡ false →
+    with_value (slots_of ps) slot (is_centre k) v ≡ slots_of (ps ++ (k, v) ∷ [])
 with_value-slots_of slot ps k v h free =
     let none = none_from_is_some (given slot ps) (sym (is_given-slots_of slot ps) ∙ free) in
     with_value-at slot (k, v) ps (ps ++ (k, v) ∷ []) (
       given-push slot ps k v ∙ rw (none, fills_slot k slot h) refl,
-      λ s other. given-push s ps k v ∙ rw (fills_none_else k slot s h other) (option_or-none (given s ps)),
+      λ s other. given-push s ps k v
+          ∙ rw (fills_none_else k slot s h other) (option_or-none (given s ps)),
     )
 
 -- ---- the first fault of the words after pairs
 
-pub words_fault-flat : (d : ℕ) (ps : Pairs) (rest header heights : List Word) → are_keys ps ≡ true → header_fault [] (flat ps) ≡ None → header_words rest ≡ header → height_words rest ≡ heights → words_fault d (flat ps ++ rest) ≡ option_or (header_fault (keys_before ps []) header) (heights_fault d (flat ps ++ header) 0 heights)
+pub words_fault-flat : (d : ℕ) (ps : Pairs) (rest header heights : List Word) → are_keys ps ≡ true →
+    header_fault [] (flat ps) ≡ None → header_words rest ≡ header → height_words rest ≡ heights →
+    words_fault d (flat ps ++ rest) ≡ option_or (header_fault (keys_before ps []) header)
+    (heights_fault d (flat ps ++ header) 0 heights)
 words_fault-flat d ps rest header heights keys none h k =
-    let front : header_words (flat ps ++ rest) ≡ flat ps ++ header = (words-flat ps rest keys).0 ∙ ap (λ z. flat ps ++ z) h in
+    let front : header_words (flat ps ++ rest) ≡ flat ps ++ header = (words-flat ps rest keys).0
+    ∙ ap (λ z. flat ps ++ z) h in
     let back : height_words (flat ps ++ rest) ≡ heights = (words-flat ps rest keys).1 ∙ k in
-    let first : header_fault [] (flat ps ++ header) ≡ header_fault (keys_before ps []) header = header_fault-flat [] ps header ∙ ap (λ o. option_or o (header_fault (keys_before ps []) header)) none in
+    let first : header_fault [] (flat ps ++ header) ≡ header_fault (keys_before ps []) header =
+    header_fault-flat [] ps header
+    ∙ ap (λ o. option_or o (header_fault (keys_before ps []) header)) none in
     rw (front, back, first) refl
 
-pub words_fault-key : (d : ℕ) (ps : Pairs) (k : Word) → are_keys ps ≡ true → header_fault [] (flat ps) ≡ None → begins_with_letter k ≡ true → words_fault d (flat ps ++ k ∷ []) ≡ key_fault (keys_before ps []) k
+pub words_fault-key : (d : ℕ) (ps : Pairs) (k : Word) →
+    are_keys ps ≡ true → header_fault [] (flat ps) ≡ None → begins_with_letter k ≡ true →
+    words_fault d (flat ps ++ k ∷ []) ≡ key_fault (keys_before ps []) k
 words_fault-key d ps k keys none b =
-    words_fault-flat d ps (k ∷ []) (k ∷ []) [] keys none (rw b refl) (rw b refl) ∙ option_or-none (key_fault (keys_before ps []) k)
+    words_fault-flat d ps (k ∷ []) (k ∷ []) [] keys none (rw b refl) (rw b refl)
+    ∙ option_or-none (key_fault (keys_before ps []) k)
 
-pub words_fault-value : (d : ℕ) (ps : Pairs) (k v : Word) → are_keys ps ≡ true → header_fault [] (flat ps) ≡ None → begins_with_letter k ≡ true → key_fault (keys_before ps []) k ≡ None → words_fault d (flat ps ++ k ∷ v ∷ []) ≡ value_fault k v
+pub words_fault-value : (d : ℕ) (ps : Pairs) (k v : Word) →
+    are_keys ps ≡ true → header_fault [] (flat ps) ≡ None → begins_with_letter k ≡ true →
+    key_fault (keys_before ps []) k ≡ None → words_fault d (flat ps ++ k ∷ v ∷ []) ≡ value_fault k v
 words_fault-value d ps k v keys none b first =
     words_fault-flat d ps (k ∷ v ∷ []) (k ∷ v ∷ []) [] keys none (rw b refl) (rw b refl)
     ∙ option_or-none (header_fault (keys_before ps []) (k ∷ v ∷ []))
@@ -163,19 +248,29 @@ pub HasBegun-more : (hs more : List Word) → HasBegun hs → HasBegun (hs ++ mo
 HasBegun-more [] more h = absurd h
 HasBegun-more (x ∷ hs) more h = h
 
-pub words_fault-heights : (d : ℕ) (ps : Pairs) (hs : List Word) → are_keys ps ≡ true → header_fault [] (flat ps) ≡ None → HasBegun hs → words_fault d (flat ps ++ hs) ≡ heights_fault d (flat ps) 0 hs
+pub words_fault-heights : (d : ℕ) (ps : Pairs) (hs : List Word) →
+    are_keys ps ≡ true → header_fault [] (flat ps) ≡ None → HasBegun hs →
+    words_fault d (flat ps ++ hs) ≡ heights_fault d (flat ps) 0 hs
 words_fault-heights d ps hs keys none h =
     words_fault-flat d ps hs [] hs keys none (words-begun hs h).0 (words-begun hs h).1
     ∙ ap (λ z. heights_fault d z 0 hs) (append-nil (flat ps))
 
-pub heights_fault-append : (d : ℕ) (header : List Word) (place : ℕ) (hs more : List Word) → heights_fault d header place (hs ++ more) ≡ option_or (heights_fault d header place hs) (heights_fault d header (place + length hs) more)
+pub heights_fault-append : (d : ℕ) (header : List Word) (place : ℕ) (hs more : List Word) →
+    heights_fault d header place (hs ++ more)
+    ≡ option_or (heights_fault d header place hs) (heights_fault d header (place + length hs) more)
 heights_fault-append d header place [] more = ap (λ n. heights_fault d header n more) (omega arith)
 heights_fault-append d header place (x ∷ hs) more =
-    ap (option_or (height_fault d header place x)) (heights_fault-append d header (place + 1) hs more)
-    ∙ sym (option_or-assoc (height_fault d header place x) (heights_fault d header (place + 1) hs) (heights_fault d header (place + 1 + length hs) more))
-    ∙ ap (λ n. option_or (option_or (height_fault d header place x) (heights_fault d header (place + 1) hs)) (heights_fault d header n more)) (omega arith)
+    ap (option_or (height_fault d header place x))
+    (heights_fault-append d header (place + 1) hs more)
+    ∙ sym (option_or-assoc (height_fault d header place x) (heights_fault d header (place + 1) hs)
+    (heights_fault d header (place + 1 + length hs) more))
+    ∙ ap (λ n. option_or (option_or (height_fault d header place x)
+    (heights_fault d header (place + 1) hs)) (heights_fault d header n more)) (omega arith)
 
-pub heights_fault-push : (d : ℕ) (header : List Word) (place : ℕ) (hs : List Word) (w : Word) → heights_fault d header place (hs ++ w ∷ []) ≡ option_or (heights_fault d header place hs) (height_fault d header (place + length hs) w)
+pub heights_fault-push : (d : ℕ) (header : List Word) (place : ℕ) (hs : List Word) (w : Word) →
+    heights_fault d header place (hs ++ w ∷ [])
+    ≡ option_or (heights_fault d header place hs) (height_fault d header (place + length hs) w)
 heights_fault-push d header place hs w =
     heights_fault-append d header place hs (w ∷ [])
-    ∙ ap (option_or (heights_fault d header place hs)) (option_or-none (height_fault d header (place + length hs) w))
+    ∙ ap (option_or (heights_fault d header place hs))
+    (option_or-none (height_fault d header (place + length hs) w))

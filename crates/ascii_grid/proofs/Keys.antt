@@ -28,7 +28,8 @@ keys_are Yll = (refl, (refl, tt))
 keys_are Cellsize = (refl, tt)
 keys_are Nodata = (refl, tt)
 
-among : (slot : Key) (keys : List Word) (w : Word) → AreOf slot keys → list_any (λ key. bytes_eq key w) keys ≡ true → slot_at w ≡ Some slot
+among : (slot : Key) (keys : List Word) (w : Word) → AreOf slot keys →
+    list_any (λ key. bytes_eq key w) keys ≡ true → slot_at w ≡ Some slot
 among slot [] w are any = cc
 among slot (key ∷ keys) w are any =
     elim (cases_Bool (bytes_eq key w)) [
@@ -50,7 +51,8 @@ passes t (s ∷ slots) slot h =
 pub fills_slot : (w : Word) (slot : Key) → slot_of w ≡ Some slot → fills slot w ≡ true
 fills_slot w slot h = passes (λ s. fills s w) all_slots slot h
 
-pub fills_none_else : (w : Word) (slot s : Key) → slot_of w ≡ Some slot → (s ≡ slot → ⊥) → fills s w ≡ false
+pub fills_none_else : (w : Word) (slot s : Key) → slot_of w ≡ Some slot → (s ≡ slot → ⊥) →
+    fills s w ≡ false
 fills_none_else w slot s h other =
     elim (cases_Bool (fills s w)) [
       | inl here ↦ absurd (other (same_Some s slot (sym (slot_filled w s here) ∙ h)))

@@ -33,14 +33,17 @@ use Rattle.ascii_grid.proofs.JudgedWords.{at_key, at_value, at_heights, place_of
 abbrev IsShortValue : Key → Word → Type 0
 IsShortValue slot w = (is_value slot w ≡ true) × (length w ≤ 64)
 
-value_ok : (k v : Word) (slot : Key) → fills slot k ≡ true → value_fault k v ≡ None → IsShortValue slot v
+value_ok : (k v : Word) (slot : Key) → fills slot k ≡ true → value_fault k v ≡ None →
+    IsShortValue slot v
 value_ok k v slot h e =
     let short = then_none (is_long v) TooLong _ e in
-    let ok = else_none (is_value slot v) None (bad_value slot) (rw (slot_filled k slot h) at short.1) in
+    let ok =
+    else_none (is_value slot v) None (bad_value slot) (rw (slot_filled k slot h) at short.1) in
     (ok.0, ltb-false 64 (length v) short.0)
 
 -- the word given for a slot is a value of it, of at most 64 bytes
-valid : (before header : List Word) (slot : Key) → header_fault before header ≡ None → IfSome (value_for slot header) (IsShortValue slot)
+valid : (before header : List Word) (slot : Key) → header_fault before header ≡ None →
+    IfSome (value_for slot header) (IsShortValue slot)
 valid before [] slot none = tt
 valid before (k ∷ []) slot none = tt
 valid before (k ∷ v ∷ rest) slot none =
@@ -51,7 +54,8 @@ valid before (k ∷ v ∷ rest) slot none =
       | inr apart ↦ rw apart (valid (k ∷ before) rest slot values.1)
     ]
 
-given_slot : (a : Bool) (s : Key) (o : Option Key) → option_map MissingKey (cond (not a) (Some s) o) ≡ None → (a ≡ true) × (option_map MissingKey o ≡ None)
+given_slot : (a : Bool) (s : Key) (o : Option Key) → option_map MissingKey (cond (not a) (Some s) o)
+    ≡ None → (a ≡ true) × (option_map MissingKey o ≡ None)
 given_slot true s o h = (refl, h)
 given_slot false s o h = cc
 
@@ -69,10 +73,14 @@ whole_slots ps none =
 given_slots : (header : List Word) → missing_fault header ≡ None → IsWhole (slots_of (pairs header))
 given_slots header e = whole_slots (pairs header) (rw (pairs-flat (pairs header)) e)
 
-value_of : (header : List Word) (slot : Key) → header_fault [] header ≡ None → is_given (slots_of (pairs header)) slot ≡ true → IsShortValue slot (word_for slot header)
-value_of header slot none some = go (pair_for slot header) (sym (is_given-slots_of slot (pairs header)) ∙ some) (valid [] header slot none)
+value_of : (header : List Word) (slot : Key) → header_fault [] header ≡ None →
+    is_given (slots_of (pairs header)) slot ≡ true → IsShortValue slot (word_for slot header)
+value_of header slot none some = go (pair_for slot header)
+    (sym (is_given-slots_of slot (pairs header)) ∙ some) (valid [] header slot none)
   where
-    go : (o : Option (Word × Word)) → is_some o ≡ true → IfSome (option_map (λ (p : Word × Word). p.1) o) (IsShortValue slot) → IsShortValue slot (unwrap_or (option_map (λ (p : Word × Word). p.1) o) [])
+    go : (o : Option (Word × Word)) →
+        is_some o ≡ true → IfSome (option_map (λ (p : Word × Word). p.1) o) (IsShortValue slot) →
+        IsShortValue slot (unwrap_or (option_map (λ (p : Word × Word). p.1) o) [])
     go None some ok = cc
     go (Some p) some ok = ok
 
@@ -89,17 +97,26 @@ height_from z h =
     let parts = and_parts (int_le lowest z) (int_le z highest) h in
     (grind (arith, ints, parts.0), grind (arith, ints, parts.1))
 
-some_ok : (d : ℕ) (nodata w : Word) (o : Option ℤ) → scaled_value d w ≡ o → is_nodata d nodata w ≡ false → is_cell d nodata w ≡ true → IfSome (spelled_cell d nodata w) IsHeight × IfSome (spelled_cell d nodata w) (λ h. scaled_value d nodata ≢ Some h)
-some_ok d nodata w None e n h = let clash : is_cell d nodata w ≡ false = rw (n, e) refl in absurd (cc)
+some_ok : (d : ℕ) (nodata w : Word) (o : Option ℤ) → scaled_value d w ≡ o → is_nodata d nodata w
+    ≡ false → is_cell d nodata w ≡ true → IfSome (spelled_cell d nodata w) IsHeight
+    × IfSome (spelled_cell d nodata w) (λ h. scaled_value d nodata ≢ Some h)
+some_ok d nodata w None e n h = let clash : is_cell d nodata w ≡ false = rw (n, e) refl in
+    absurd (cc)
 some_ok d nodata w (Some z) e n h =
     let high : is_cell d nodata w ≡ is_height z = rw (n, e) refl in
-    let apart = (or_parts (bytes_eq w nodata) (same_value (scaled_value d w) (scaled_value d nodata)) n).1 in
+    let apart =
+    (or_parts (bytes_eq w nodata) (same_value (scaled_value d w) (scaled_value d nodata)) n).1 in
     let own : int_eq z z ≡ true = (Decides-int_eq z z).1 refl in
     let cell : spelled_cell d nodata w ≡ Some z = rw (n, e) refl in
-    rw cell (height_from z (sym high ∙ h), λ k. let same : same_value (scaled_value d w) (scaled_value d nodata) ≡ int_eq z z = rw (e, k) refl in cc)
+    rw cell (
+      height_from z (sym high ∙ h),
+      λ k. let same : same_value (scaled_value d w) (scaled_value d nodata) ≡ int_eq z z =
+          rw (e, k) refl in cc,
+    )
 
 -- a word that spells a cell is NODATA or a height other than NODATA's value
-cell_ok : (d : ℕ) (nodata w : Word) → is_cell d nodata w ≡ true → IfSome (spelled_cell d nodata w) IsHeight × IfSome (spelled_cell d nodata w) (λ h. scaled_value d nodata ≢ Some h)
+cell_ok : (d : ℕ) (nodata w : Word) → is_cell d nodata w ≡ true → IfSome (spelled_cell d nodata w)
+    IsHeight × IfSome (spelled_cell d nodata w) (λ h. scaled_value d nodata ≢ Some h)
 cell_ok d nodata w h =
     elim (cases_Bool (is_nodata d nodata w)) [
       | inl none ↦ let cell : spelled_cell d nodata w ≡ None = rw none refl in rw cell (tt, tt)
@@ -107,7 +124,8 @@ cell_ok d nodata w h =
     ]
 
 -- a word among the heights without a fault spells a cell
-height_ok : (d : ℕ) (header : List Word) (place : ℕ) (w : Word) → height_fault d header place w ≡ None → (place < cells_wanted header) × (is_cell d (nodata_for header) w ≡ true)
+height_ok : (d : ℕ) (header : List Word) (place : ℕ) (w : Word) → height_fault d header place w
+    ≡ None → (place < cells_wanted header) × (is_cell d (nodata_for header) w ≡ true)
 height_ok d header place w h =
     let short = then_none (is_long w) TooLong _ h in
     let whole = or_none (missing_fault header) _ short.1 in
@@ -115,101 +133,152 @@ height_ok d header place w h =
     let ok = else_none (is_cell d (nodata_for header) w) None (BadHeight place) room.1 in
     (ltb-true place (cells_wanted header) room.0, ok.0)
 
-cells_ok : (d : ℕ) (header : List Word) (place : ℕ) (hs : List Word) → place ≤ cells_wanted header → heights_fault d header place hs ≡ None → (place + length hs ≤ cells_wanted header) × (All (λ c. IfSome c IsHeight) (map (spelled_cell d (nodata_for header)) hs) × All (λ c. IfSome c (λ h. scaled_value d (nodata_for header) ≢ Some h)) (map (spelled_cell d (nodata_for header)) hs))
-cells_ok d header place [] h none = (omega arith, (λ k x below. absurd (omega arith), λ k x below. absurd (omega arith)))
+cells_ok : (d : ℕ) (header : List Word) (place : ℕ) (hs : List Word) → place ≤ cells_wanted header →
+    heights_fault d header place hs ≡ None → (place + length hs ≤ cells_wanted header) × (All (λ c.
+    IfSome c IsHeight) (map (spelled_cell d (nodata_for header)) hs) × All (λ c. IfSome c (λ h.
+    scaled_value d (nodata_for header) ≢ Some h)) (map (spelled_cell d (nodata_for header)) hs))
+cells_ok d header place [] h none =
+    (omega arith, (λ k x below. absurd (omega arith), λ k x below. absurd (omega arith)))
 cells_ok d header place (w ∷ hs) h none =
-    let parts = or_none (height_fault d header place w) (heights_fault d header (place + 1) hs) none in
+    let parts =
+    or_none (height_fault d header place w) (heights_fault d header (place + 1) hs) none in
     let nodata = nodata_for header in
     let first = height_ok d header place w parts.0 in
     let cell = cell_ok d nodata w first.1 in
-    let rest = cells_ok d header (place + 1) hs (omega (arith, first.0)) parts.1 in
-    (omega (arith, rest.0), (All-cons (λ c. IfSome c IsHeight) (spelled_cell d nodata w) (map (spelled_cell d nodata) hs) cell.0 rest.1.0, All-cons (λ c. IfSome c (λ z. scaled_value d nodata ≢ Some z)) (spelled_cell d nodata w) (map (spelled_cell d nodata) hs) cell.1 rest.1.1))
+    let rest = cells_ok d header (place + 1) hs (omega (arith, first.0)) parts.1 in (
+      omega (arith, rest.0),
+      (
+        All-cons (λ c. IfSome c IsHeight) (spelled_cell d nodata w)
+            (map (spelled_cell d nodata) hs) cell.0 rest.1.0,
+        All-cons (λ c. IfSome c (λ z. scaled_value d nodata ≢ Some z)) (spelled_cell d nodata w)
+            (map (spelled_cell d nodata) hs) cell.1 rest.1.1,
+      ),
+    )
 
 -- ---- the fault at the end
 
 -- where a value comes next, the fault at the end is `NoValue`
-pub end-value : (j : GridBuilder) (ws : List Word) (slot : Key) (centre : Bool) → HasJudged j ws → j.stage ≡ AtValue slot centre → end_fault ws ≡ Some (NoValue slot)
+pub end-value : (j : GridBuilder) (ws : List Word) (slot : Key) (centre : Bool) → HasJudged j ws →
+    j.stage ≡ AtValue slot centre → end_fault ws ≡ Some (NoValue slot)
 end-value j ws slot centre h e =
     let there = at_value j ws h slot centre e in
     let k = there.0 in
     let letter = there.2.letter in
     let one : header_words (k ∷ []) ≡ k ∷ [] = rw letter refl in
-    let header : header_words ws ≡ flat h.pairs ++ k ∷ [] = ap header_words there.1 ∙ (words-flat h.pairs (k ∷ []) h.header.keys).0 ∙ ap (λ z. flat h.pairs ++ z) one in
+    let header : header_words ws ≡ flat h.pairs ++ k ∷ [] = ap header_words there.1
+    ∙ (words-flat h.pairs (k ∷ []) h.header.keys).0 ∙ ap (λ z. flat h.pairs ++ z) one in
     let left : key_left (flat h.pairs ++ k ∷ []) ≡ Some k = key_left-flat h.pairs (k ∷ []) in
     rw (header, left, there.2.key_is) refl
 
 -- where a key comes next and a required slot is missing, that is the fault at the end
-pub end-missing : (j : GridBuilder) (ws : List Word) (f : GridFault) (h : HasJudged j ws) → j.stage ≡ AtKey → missing_fault (flat h.pairs) ≡ Some f → IsEndFault ws f
+pub end-missing : (j : GridBuilder) (ws : List Word) (f : GridFault) (h : HasJudged j ws) →
+    j.stage ≡ AtKey → missing_fault (flat h.pairs) ≡ Some f → IsEndFault ws f
 end-missing j ws f h e missing =
     let same = at_key j ws h e in
-    let at_end : end_fault (flat h.pairs) ≡ Some f = rw ((words-whole h.pairs h.header.keys).0, paired h.pairs, missing) refl in
+    let at_end : end_fault (flat h.pairs) ≡ Some f =
+    rw ((words-whole h.pairs h.header.keys).0, paired h.pairs, missing) refl in
     let there = ap end_fault same ∙ at_end in
-    reported (AsksForCells ws) (end_fault ws) f (ap is_memory (there ∙ sym missing) ∙ not_memory_missing (flat h.pairs)) there
+    reported (AsksForCells ws) (end_fault ws) f (ap is_memory (there ∙ sym missing)
+    ∙ not_memory_missing (flat h.pairs)) there
 
-pub end-memory : (j : GridBuilder) (ws : List Word) (f : GridFault) (h : HasJudged j ws) → j.stage ≡ AtKey → f ≡ Memory → missing_fault (flat h.pairs) ≡ None → IsEndFault ws f
+pub end-memory : (j : GridBuilder) (ws : List Word) (f : GridFault) (h : HasJudged j ws) →
+    j.stage ≡ AtKey → f ≡ Memory → missing_fault (flat h.pairs) ≡ None → IsEndFault ws f
 end-memory j ws f h e m whole =
     let same = at_key j ws h e in
     let are = words-whole h.pairs h.header.keys in
-    let asks : AsksForCells (flat h.pairs) = record { faultless = rw are.0 h.header.faultless; paired = rw are.0 (paired h.pairs); given = rw are.0 whole; first = rw are.1 refl } in
+    let asks : AsksForCells (flat h.pairs) = record {
+      faultless = rw are.0 h.header.faultless;
+      paired = rw are.0 (paired h.pairs);
+      given = rw are.0 whole;
+      first = rw are.1 refl;
+    } in
     rw (m, same) asks
 
 -- ---- the grid
 
-some_wanted : (header : List Word) → header_fault [] header ≡ None → missing_fault header ≡ None → 1 ≤ cells_wanted header
+some_wanted : (header : List Word) → header_fault [] header ≡ None → missing_fault header ≡ None →
+    1 ≤ cells_wanted header
 some_wanted header none missing =
     let given = given_slots header missing in
-    one-le-mul (size_between (word_for Ncols header) (value_of header Ncols none given.cols).0).0 (size_between (word_for Nrows header) (value_of header Nrows none given.rows).0).0
+    one-le-mul (size_between (word_for Ncols header) (value_of header Ncols none given.cols).0).0
+    (size_between (word_for Nrows header) (value_of header Nrows none given.rows).0).0
 
 -- where a key comes next and the header is whole, the fault at the end is `TooFew` with 0
-pub end-none : (j j' : GridBuilder) (ws : List Word) (h : HasJudged j ws) → j.stage ≡ AtKey → AreHeights j' h.pairs [] → end_fault ws ≡ Some (TooFew 0)
+pub end-none : (j j' : GridBuilder) (ws : List Word) (h : HasJudged j ws) → j.stage ≡ AtKey →
+    AreHeights j' h.pairs [] → end_fault ws ≡ Some (TooFew 0)
 end-none j j' ws h e heights =
     let are = words-whole h.pairs h.header.keys in
-    let some : nat_lt 0 (cells_wanted (flat h.pairs)) ≡ true = lt-ltb 0 (cells_wanted (flat h.pairs)) (let k = some_wanted (flat h.pairs) h.header.faultless heights.whole in omega (arith, k)) in
+    let some : nat_lt 0 (cells_wanted (flat h.pairs)) ≡ true =
+    lt-ltb 0 (cells_wanted (flat h.pairs)) (let k =
+    some_wanted (flat h.pairs) h.header.faultless heights.whole in omega (arith, k)) in
     ap end_fault (at_key j ws h e) ∙ rw (are.0, paired h.pairs, heights.whole, are.1, some) refl
 
 -- among the heights, the fault at the end is `TooFew`, or none if there are enough
-pub end-heights : (j : GridBuilder) (ws : List Word) (h : HasJudged j ws) → j.stage ≡ AtHeights → end_fault ws ≡ cond (nat_lt (length j.cells.items) j.wanted) (Some (TooFew (length j.cells.items))) None
+pub end-heights : (j : GridBuilder) (ws : List Word) (h : HasJudged j ws) →
+    j.stage ≡ AtHeights → end_fault ws
+    ≡ cond (nat_lt (length j.cells.items) j.wanted) (Some (TooFew (length j.cells.items))) None
 end-heights j ws h e =
     let there = at_heights j ws h e in
     let are = words-after j.header h.pairs h.rest h.header there.0 in
     let place = place_of j h.pairs h.rest there.1 in
-    ap end_fault h.words ∙ rw (are.0, paired h.pairs, there.1.whole, are.1, place, there.1.wanted) refl
+    ap end_fault h.words
+    ∙ rw (are.0, paired h.pairs, there.1.whole, are.1, place, there.1.wanted) refl
 
-centre_of : (o : Option (Word × Word)) → option_map_or (λ (a : Anchor). a.centre) (option_map (λ (p : Word × Word). anchor_at (is_centre p.0) p.1) o) false ≡ option_map_or (λ (p : Word × Word). is_centre p.0) o false
+centre_of : (o : Option (Word × Word)) → option_map_or (λ (a : Anchor).
+    a.centre) (option_map (λ (p : Word × Word). anchor_at (is_centre p.0) p.1) o) false
+    ≡ option_map_or (λ (p : Word × Word). is_centre p.0) o false
 centre_of None = refl
 centre_of (Some p) = refl
 
-word_of : (o : Option (Word × Word)) → option_map_or (λ (a : Anchor). a.word) (option_map (λ (p : Word × Word). anchor_at (is_centre p.0) p.1) o) [] ≡ unwrap_or (option_map (λ (p : Word × Word). p.1) o) []
+word_of : (o : Option (Word × Word)) → option_map_or (λ (a : Anchor).
+    a.word) (option_map (λ (p : Word × Word). anchor_at (is_centre p.0) p.1) o) []
+    ≡ unwrap_or (option_map (λ (p : Word × Word). p.1) o) []
 word_of None = refl
 word_of (Some p) = refl
 
 -- the grid of the slots is the one that the words spell
-raster_of-grid_of : (d : ℕ) (ps : Pairs) (ws hs : List Word) → header_words ws ≡ flat ps → height_words ws ≡ hs → raster_of (slots_of ps) d (nodata_for (flat ps)) (map (spelled_cell d (nodata_for (flat ps))) hs) ≡ grid_of d ws
+raster_of-grid_of : (d : ℕ) (ps : Pairs) (ws hs : List Word) → header_words ws ≡ flat ps →
+    height_words ws ≡ hs → raster_of (slots_of ps) d (nodata_for (flat ps))
+    (map (spelled_cell d (nodata_for (flat ps))) hs) ≡ grid_of d ws
 raster_of-grid_of d ps ws hs header heights =
-    rw (header, heights, pairs-flat ps, number-of_pair (given Ncols ps), number-of_pair (given Nrows ps), centre_of (given Xll ps), word_of (given Xll ps), centre_of (given Yll ps), word_of (given Yll ps)) refl
+    rw (
+      header,
+      heights,
+      pairs-flat ps,
+      number-of_pair (given Ncols ps),
+      number-of_pair (given Nrows ps),
+      centre_of (given Xll ps),
+      word_of (given Xll ps),
+      centre_of (given Yll ps),
+      word_of (given Yll ps),
+    ) refl
 
 nodata_ok : (header : List Word) → header_fault [] header ≡ None → IsHeaderWord (nodata_for header)
 nodata_ok header none = go (value_for Nodata header) (valid [] header Nodata none)
   where
-    go : (o : Option Word) → IfSome o (IsShortValue Nodata) → IsHeaderWord (unwrap_or o (codes "-9999"))
+    go : (o : Option Word) → IfSome o (IsShortValue Nodata) →
+        IsHeaderWord (unwrap_or o (codes "-9999"))
     go None ok = (lit≤ tt, refl)
     go (Some w) ok = (ok.1, ok.0)
 
 -- words without a fault spell a lawful grid
-pub lawful_words : (d : ℕ) (ws : List Word) → d ≤ 6 → words_fault d ws ≡ None → end_fault ws ≡ None → IsLawful (grid_of d ws)
+pub lawful_words : (d : ℕ) (ws : List Word) → d ≤ 6 → words_fault d ws ≡ None →
+    end_fault ws ≡ None → IsLawful (grid_of d ws)
 lawful_words d ws few faultless end =
     let header = header_words ws in
     let heights = height_words ws in
     let first = or_none (header_fault [] header) _ faultless in
     let whole = or_none (missing_fault header) _ (or_none (no_value_fault header) _ end).1 in
-    let enough = ltb-false (length heights) (cells_wanted header) (then_none _ (TooFew (length heights)) None whole.1).0 in
+    let enough = ltb-false (length heights) (cells_wanted header)
+    (then_none _ (TooFew (length heights)) None whole.1).0 in
     let given = given_slots header whole.0 in
     let cols = size_between (word_for Ncols header) (value_of header Ncols first.0 given.cols).0 in
     let rows = size_between (word_for Nrows header) (value_of header Nrows first.0 given.rows).0 in
     let xll = value_of header Xll first.0 given.xll in
     let yll = value_of header Yll first.0 given.yll in
     let cellsize = value_of header Cellsize first.0 given.cellsize in
-    let above = and_parts (is_decimal (word_for Cellsize header)) (is_above_zero (word_for Cellsize header)) cellsize.0 in
+    let above = and_parts (is_decimal (word_for Cellsize header))
+    (is_above_zero (word_for Cellsize header)) cellsize.0 in
     let cells = cells_ok d header 0 heights (omega arith) first.1 in
     let size : length heights ≡ cells_wanted header = omega (arith, cells.0) in
     record {
@@ -232,19 +301,27 @@ lawful_words d ws few faultless end =
     }
 
 -- among the heights, the header is whole
-pub whole-grid : (j : GridBuilder) (ws : List Word) → HasJudged j ws → j.stage ≡ AtHeights → IsWhole j.header
-whole-grid j ws h e = subst IsWhole (sym h.header.slots) (whole_slots h.pairs (at_heights j ws h e).1.whole)
+pub whole-grid : (j : GridBuilder) (ws : List Word) → HasJudged j ws → j.stage ≡ AtHeights →
+    IsWhole j.header
+whole-grid j ws h e =
+    subst IsWhole (sym h.header.slots) (whole_slots h.pairs (at_heights j ws h e).1.whole)
 
-pub spelled-grid : (j : GridBuilder) (ws : List Word) → HasJudged j ws → j.stage ≡ AtHeights → raster_of j.header j.scale j.nodata j.cells.items ≡ grid_of j.scale ws
+pub spelled-grid : (j : GridBuilder) (ws : List Word) → HasJudged j ws → j.stage ≡ AtHeights →
+    raster_of j.header j.scale j.nodata j.cells.items ≡ grid_of j.scale ws
 spelled-grid j ws h e =
     let there = at_heights j ws h e in
     let are = words-after j.header h.pairs h.rest h.header there.0 in
     ap (λ x. raster_of x j.scale j.nodata j.cells.items) h.header.slots
     ∙ ap (raster_of (slots_of h.pairs) j.scale j.nodata) there.1.cells
-    ∙ ap (λ n. raster_of (slots_of h.pairs) j.scale n (map (spelled_cell j.scale n) h.rest)) there.1.nodata
-    ∙ raster_of-grid_of j.scale h.pairs ws h.rest (ap header_words h.words ∙ are.0) (ap height_words h.words ∙ are.1)
+    ∙ ap (λ n.
+    raster_of (slots_of h.pairs) j.scale n (map (spelled_cell j.scale n) h.rest)) there.1.nodata
+    ∙ raster_of-grid_of j.scale h.pairs ws h.rest (ap header_words h.words
+    ∙ are.0) (ap height_words h.words ∙ are.1)
 
-pub lawful-grid : (j : GridBuilder) (ws : List Word) → HasJudged j ws → j.stage ≡ AtHeights → j.scale ≤ 6 → j.wanted ≤ length j.cells.items → IsLawful (raster_of j.header j.scale j.nodata j.cells.items)
+pub lawful-grid : (j : GridBuilder) (ws : List Word) →
+    HasJudged j ws → j.stage ≡ AtHeights → j.scale ≤ 6 → j.wanted ≤ length j.cells.items →
+    IsLawful (raster_of j.header j.scale j.nodata j.cells.items)
 lawful-grid j ws h e scale enough =
     subst IsLawful (sym (spelled-grid j ws h e))
-    (lawful_words j.scale ws scale (judged_none j ws h) (end-heights j ws h e ∙ cond-false _ _ _ (le-ltb (length j.cells.items) j.wanted enough)))
+    (lawful_words j.scale ws scale (judged_none j ws h) (end-heights j ws h e
+    ∙ cond-false _ _ _ (le-ltb (length j.cells.items) j.wanted enough)))

@@ -18,25 +18,41 @@ use Rattle.ascii_grid.proofs.Parting.{words-parted, IsParted-none, IsParted-byte
 abbrev Further : List ℕ → List Word → Type 0
 Further text ws = (others : List Word) × (w : Word) × IsParted text (ws ++ others) w
 
-further : (text : List ℕ) (ws : List Word) (w : Word) (more : List ℕ) → IsParted text ws w → Further (text ++ more) ws
-further text ws w [] h =
-    ([], w, subst (λ t. IsParted t (ws ++ []) w) (sym (append-nil text)) (subst (λ z. IsParted text z w) (sym (append-nil ws)) h))
+further : (text : List ℕ) (ws : List Word) (w : Word) (more : List ℕ) → IsParted text ws w →
+    Further (text ++ more) ws
+further text ws w [] h = (
+  [],
+  w,
+  subst (λ t. IsParted t (ws ++ []) w) (sym (append-nil text))
+      (subst (λ z. IsParted text z w) (sym (append-nil ws)) h),
+)
 further text ws w (b ∷ more) h =
     elim (cases_Bool (is_separator b)) [
       | inl ends ↦
-          let next = subst (λ z. IsParted (text ++ b ∷ []) z []) (words-parted text ws w h) (IsParted-separator text ws w b h ends) in
-          let rest = further (text ++ b ∷ []) (ws ++ filter is_word (w ∷ [])) [] more next in
-          (filter is_word (w ∷ []) ++ rest.0, rest.1, subst (λ z. IsParted (text ++ b ∷ more) z rest.1) (append_assoc ws (filter is_word (w ∷ [])) rest.0) (subst (λ t. IsParted t ((ws ++ filter is_word (w ∷ [])) ++ rest.0) rest.1) (append_assoc text (b ∷ []) more) rest.2))
+          let next = subst (λ z. IsParted (text ++ b ∷ []) z []) (words-parted text ws w h)
+          (IsParted-separator text ws w b h ends) in
+          let rest = further (text ++ b ∷ []) (ws ++ filter is_word (w ∷ [])) [] more next in (
+            filter is_word (w ∷ []) ++ rest.0,
+            rest.1,
+            subst (λ z. IsParted (text ++ b ∷ more) z rest.1) (append_assoc ws (filter is_word
+                (w ∷ [])) rest.0) (subst (λ t. IsParted t ((ws ++ filter is_word (w ∷ []))
+                ++ rest.0) rest.1) (append_assoc text (b ∷ []) more) rest.2),
+          )
       | inr stays ↦
-          let rest = further (text ++ b ∷ []) ws (w ++ b ∷ []) more (IsParted-byte text ws w b h stays) in
-          (rest.0, rest.1, subst (λ t. IsParted t (ws ++ rest.0) rest.1) (append_assoc text (b ∷ []) more) rest.2)
+          let rest =
+          further (text ++ b ∷ []) ws (w ++ b ∷ []) more (IsParted-byte text ws w b h stays) in (
+            rest.0,
+            rest.1,
+            subst (λ t. IsParted t (ws ++ rest.0) rest.1) (append_assoc text (b ∷ []) more) rest.2,
+          )
     ]
 
 -- each text splits into ended words and a last part
 pub parted : (text : List ℕ) → (ws : List Word) × (w : Word) × IsParted text ws w
 parted text = further [] [] [] text IsParted-none
 
-pub ended-more : (front more : List ℕ) → (others : List Word) × (ended_words (front ++ more) ≡ ended_words front ++ others)
+pub ended-more : (front more : List ℕ) → (others : List Word)
+    × (ended_words (front ++ more) ≡ ended_words front ++ others)
 ended-more front more =
     let at = parted front in
     let next = further front at.0 at.1 more at.2 in
@@ -45,80 +61,107 @@ ended-more front more =
 -- the words of a text begin with the ended ones
 pub ended-words : (text : List ℕ) → (others : List Word) × (words text ≡ ended_words text ++ others)
 ended-words text =
-    let at = parted text in
-    (filter is_word (at.1 ∷ []), words-parted text at.0 at.1 at.2 ∙ ap (λ z. z ++ filter is_word (at.1 ∷ [])) (sym at.2.ended))
+    let at = parted text in (
+      filter is_word (at.1 ∷ []),
+      words-parted text at.0 at.1 at.2 ∙ ap (λ z. z ++ filter is_word (at.1 ∷ [])) (sym at.2.ended),
+    )
 
 -- ---- the fault of more words
 
-or_more : {X : Type 0} (o p q : Option X) (f : X) → option_or o p ≡ Some f → (p ≡ Some f → q ≡ Some f) → option_or o q ≡ Some f
+or_more : {X : Type 0} (o p q : Option X) (f : X) → option_or o p ≡ Some f →
+    (p ≡ Some f → q ≡ Some f) → option_or o q ≡ Some f
 or_more None p q f h k = k h
 or_more (Some x) p q f h k = h
 
-heights_more : (d : ℕ) (header : List Word) (place : ℕ) (hs more : List Word) (f : GridFault) → heights_fault d header place hs ≡ Some f → heights_fault d header place (hs ++ more) ≡ Some f
+heights_more : (d : ℕ) (header : List Word) (place : ℕ) (hs more : List Word) (f : GridFault) →
+    heights_fault d header place hs ≡ Some f → heights_fault d header place (hs ++ more) ≡ Some f
 heights_more d header place [] more f h = cc
 heights_more d header place (w ∷ hs) more f h =
-    or_more (height_fault d header place w) (heights_fault d header (place + 1) hs) (heights_fault d header (place + 1) (hs ++ more)) f h
+    or_more (height_fault d header place w) (heights_fault d header (place + 1) hs)
+    (heights_fault d header (place + 1) (hs ++ more)) f h
     (heights_more d header (place + 1) hs more f)
 
 -- the first fault of words that follow the front of a header
 abbrev after_front : ℕ → List Word → List Word → List Word → Option GridFault
-after_front d before front ws = option_or (header_fault before (header_words ws)) (heights_fault d (front ++ header_words ws) 0 (height_words ws))
+after_front d before front ws = option_or (header_fault before (header_words ws))
+    (heights_fault d (front ++ header_words ws) 0 (height_words ws))
 
-after_front-pair : (d : ℕ) (before front : List Word) (k v : Word) (rest : List Word) → begins_with_letter k ≡ true → after_front d before front (k ∷ v ∷ rest) ≡ option_or (key_fault before k) (option_or (value_fault k v) (after_front d (k ∷ before) (front ++ k ∷ v ∷ []) rest))
+after_front-pair : (d : ℕ) (before front : List Word) (k v : Word) (rest : List Word) →
+    begins_with_letter k ≡ true → after_front d before front (k ∷ v ∷ rest) ≡ option_or (key_fault
+    before k) (option_or (value_fault k v) (after_front d (k ∷ before) (front ++ k ∷ v ∷ []) rest))
 after_front-pair d before front k v rest letter =
     let header : header_words (k ∷ v ∷ rest) ≡ k ∷ v ∷ header_words rest = rw letter refl in
     let heights : height_words (k ∷ v ∷ rest) ≡ height_words rest = rw letter refl in
-    ap (λ z. option_or (header_fault before z) (heights_fault d (front ++ z) 0 (height_words (k ∷ v ∷ rest)))) header
-    ∙ ap (λ z. option_or (header_fault before (k ∷ v ∷ header_words rest)) (heights_fault d (front ++ (k ∷ v ∷ header_words rest)) 0 z)) heights
-    ∙ ap (λ z. option_or (header_fault before (k ∷ v ∷ header_words rest)) (heights_fault d z 0 (height_words rest))) (sym (append_assoc front (k ∷ v ∷ []) (header_words rest)))
-    ∙ option_or-assoc (key_fault before k) (option_or (value_fault k v) (header_fault (k ∷ before) (header_words rest))) _
-    ∙ ap (option_or (key_fault before k)) (option_or-assoc (value_fault k v) (header_fault (k ∷ before) (header_words rest)) _)
+    ap (λ z. option_or (header_fault before z)
+    (heights_fault d (front ++ z) 0 (height_words (k ∷ v ∷ rest)))) header
+    ∙ ap (λ z. option_or (header_fault before (k ∷ v ∷ header_words rest))
+    (heights_fault d (front ++ (k ∷ v ∷ header_words rest)) 0 z)) heights
+    ∙ ap (λ z. option_or (header_fault before (k ∷ v ∷ header_words rest)) (heights_fault d z 0
+    (height_words rest))) (sym (append_assoc front (k ∷ v ∷ []) (header_words rest)))
+    ∙ option_or-assoc (key_fault before k)
+    (option_or (value_fault k v) (header_fault (k ∷ before) (header_words rest))) _
+    ∙ ap (option_or (key_fault before k))
+    (option_or-assoc (value_fault k v) (header_fault (k ∷ before) (header_words rest)) _)
 
 -- a word that begins with no letter ends the header
-after_front-height : (d : ℕ) (before front : List Word) (k : Word) (rest : List Word) → begins_with_letter k ≡ false → after_front d before front (k ∷ rest) ≡ heights_fault d (front ++ []) 0 (k ∷ rest)
+after_front-height : (d : ℕ) (before front : List Word) (k : Word) (rest : List Word) →
+    begins_with_letter k ≡ false →
+    after_front d before front (k ∷ rest) ≡ heights_fault d (front ++ []) 0 (k ∷ rest)
 after_front-height d before front k [] letter = rw letter refl
 after_front-height d before front k (v ∷ rest) letter = rw letter refl
 
-after_front-more : (d : ℕ) (before front ws more : List Word) (f : GridFault) → after_front d before front ws ≡ Some f → after_front d before front (ws ++ more) ≡ Some f
+after_front-more : (d : ℕ) (before front ws more : List Word) (f : GridFault) →
+    after_front d before front ws ≡ Some f → after_front d before front (ws ++ more) ≡ Some f
 after_front-more d before front [] more f h = cc
 after_front-more d before front (k ∷ []) [] f h = h
 after_front-more d before front (k ∷ []) (v ∷ more) f h =
     elim (cases_Bool (begins_with_letter k)) [
       | inl letter ↦
-          let first : after_front d before front (k ∷ []) ≡ option_or (key_fault before k) None = rw letter refl in
+          let first : after_front d before front (k ∷ []) ≡ option_or (key_fault before k) None =
+          rw letter refl in
           after_front-pair d before front k v more letter
-          ∙ or_more (key_fault before k) None (option_or (value_fault k v) (after_front d (k ∷ before) (front ++ k ∷ v ∷ []) more)) f (sym first ∙ h) (λ e. absurd (cc))
+          ∙ or_more (key_fault before k) None (option_or (value_fault k v) (after_front d
+          (k ∷ before) (front ++ k ∷ v ∷ []) more)) f (sym first ∙ h) (λ e. absurd (cc))
       | inr height ↦
           after_front-height d before front k (v ∷ more) height
-          ∙ heights_more d (front ++ []) 0 (k ∷ []) (v ∷ more) f (sym (after_front-height d before front k [] height) ∙ h)
+          ∙ heights_more d (front ++ []) 0 (k ∷ []) (v
+          ∷ more) f (sym (after_front-height d before front k [] height) ∙ h)
     ]
 after_front-more d before front (k ∷ v ∷ rest) more f h =
     elim (cases_Bool (begins_with_letter k)) [
       | inl letter ↦
           after_front-pair d before front k v (rest ++ more) letter
-          ∙ or_more (key_fault before k) (option_or (value_fault k v) (after_front d (k ∷ before) (front ++ k ∷ v ∷ []) rest)) (option_or (value_fault k v) (after_front d (k ∷ before) (front ++ k ∷ v ∷ []) (rest ++ more))) f
+          ∙ or_more (key_fault before k) (option_or (value_fault k v)
+          (after_front d (k ∷ before) (front ++ k ∷ v ∷ []) rest)) (option_or (value_fault k v)
+          (after_front d (k ∷ before) (front ++ k ∷ v ∷ []) (rest ++ more))) f
           (sym (after_front-pair d before front k v rest letter) ∙ h)
-          (λ e. or_more (value_fault k v) (after_front d (k ∷ before) (front ++ k ∷ v ∷ []) rest) (after_front d (k ∷ before) (front ++ k ∷ v ∷ []) (rest ++ more)) f e
+          (λ e. or_more (value_fault k v) (after_front d (k ∷ before) (front ++ k ∷ v ∷ []) rest)
+          (after_front d (k ∷ before) (front ++ k ∷ v ∷ []) (rest ++ more)) f e
           (after_front-more d (k ∷ before) (front ++ k ∷ v ∷ []) rest more f))
       | inr height ↦
           after_front-height d before front k (v ∷ rest ++ more) height
-          ∙ heights_more d (front ++ []) 0 (k ∷ v ∷ rest) more f (sym (after_front-height d before front k (v ∷ rest) height) ∙ h)
+          ∙ heights_more d (front ++ []) 0 (k ∷ v
+          ∷ rest) more f (sym (after_front-height d before front k (v ∷ rest) height) ∙ h)
     ]
 
-pub words_fault-more : (d : ℕ) (ws more : List Word) (f : GridFault) → words_fault d ws ≡ Some f → words_fault d (ws ++ more) ≡ Some f
+pub words_fault-more : (d : ℕ) (ws more : List Word) (f : GridFault) → words_fault d ws ≡ Some f →
+    words_fault d (ws ++ more) ≡ Some f
 words_fault-more d ws more f h = after_front-more d [] [] ws more f h
 
 -- ---- want of memory
 
-same_header : (ws more : List Word) → 0 < length (height_words ws) → (header_words (ws ++ more) ≡ header_words ws) × (height_words (ws ++ more) ≡ height_words ws ++ more)
+same_header : (ws more : List Word) → 0 < length (height_words ws) → (header_words (ws ++ more)
+    ≡ header_words ws) × (height_words (ws ++ more) ≡ height_words ws ++ more)
 same_header [] more h = absurd (omega arith)
 same_header (k ∷ []) more h =
     elim (cases_Bool (begins_with_letter k)) [
-      | inl letter ↦ let none : height_words (k ∷ []) ≡ [] = rw letter refl in absurd (let n = ap length none in omega arith)
+      | inl letter ↦ let none : height_words (k ∷ []) ≡ [] = rw letter refl in
+          absurd (let n = ap length none in omega arith)
       | inr height ↦ one k more height
     ]
   where
-    one : (k : Word) (more : List Word) → begins_with_letter k ≡ false → (header_words (k ∷ more) ≡ header_words (k ∷ [])) × (height_words (k ∷ more) ≡ height_words (k ∷ []) ++ more)
+    one : (k : Word) (more : List Word) → begins_with_letter k ≡ false → (header_words (k ∷ more)
+        ≡ header_words (k ∷ [])) × (height_words (k ∷ more) ≡ height_words (k ∷ []) ++ more)
     one k [] b = (refl, sym (append-nil (height_words (k ∷ []))))
     one k (v ∷ more) b = (rw b refl, rw b refl)
 same_header (k ∷ v ∷ rest) more h =
@@ -137,7 +180,8 @@ asks-more ws more h =
         faultless = ap (header_fault []) same.0 ∙ h.0.faultless;
         paired = ap key_left same.0 ∙ h.0.paired;
         given = ap missing_fault same.0 ∙ h.0.given;
-        first = ap (λ z. list_any is_long (take 1 z)) same.1 ∙ ap (list_any is_long) (take-append-le 1 (height_words ws) more (omega (arith, h.1))) ∙ h.0.first;
+        first = ap (λ z. list_any is_long (take 1 z)) same.1 ∙ ap (list_any is_long)
+            (take-append-le 1 (height_words ws) more (omega (arith, h.1))) ∙ h.0.first;
       },
       omega (arith, h.1, ap length same.1, length-append (height_words ws) more),
     )

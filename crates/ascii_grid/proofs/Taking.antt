@@ -13,7 +13,8 @@ use Rattle.ascii_grid.proofs.Judging.{or_none}
 use Rattle.ascii_grid.proofs.Feeding.{many_so_far}
 
 -- `taken` bytes of the device were fed to the reader, without a fault so far
-pub record IsTaking {R : Type 0} (remaining : R → Option (List ℕ)) (first now : Device R) (scale : ℕ) (r : Reader) (taken : ℕ) : Type 0 where
+pub record IsTaking {R : Type 0} (remaining : R → Option (List ℕ)) (first now : Device R)
+    (scale : ℕ) (r : Reader) (taken : ℕ) : Type 0 where
   pub text : List ℕ
   pub fed : HasTaken r text
   pub faultless : fault_so_far scale text ≡ None
@@ -27,18 +28,21 @@ pub record IsTaking {R : Type 0} (remaining : R → Option (List ℕ)) (first no
 pub not_too_long : (d : ℕ) (text : List ℕ) → fault_so_far d text ≡ None → length text ≤ most_bytes
 not_too_long d text none =
     elim (cases_lt most_bytes (length text)) [
-      | inl far ↦ let long = (or_none (words_fault d (ended_words (take most_bytes text))) (Some TooLong) (sym (many_so_far d text far) ∙ none)).1 in absurd (cc)
+      | inl far ↦ let long = (or_none (words_fault d (ended_words (take most_bytes text)))
+          (Some TooLong) (sym (many_so_far d text far) ∙ none)).1 in absurd (cc)
       | inr near ↦ near
     ]
 
 -- the bytes consumed are a front of the known ones
-pub consumed_front : (a b : Option (List ℕ)) (text front : List ℕ) → a ≡ Some text → Consumes a b front → (rest : List ℕ) × (text ≡ front ++ rest)
+pub consumed_front : (a b : Option (List ℕ)) (text front : List ℕ) → a ≡ Some text →
+    Consumes a b front → (rest : List ℕ) × (text ≡ front ++ rest)
 consumed_front None b text front e h = absurd (cc)
 consumed_front (Some xs) None text front e h = absurd h
 consumed_front (Some xs) (Some ys) text front e h = (ys, sym (same_Some xs text e) ∙ h)
 
 -- at the end, the bytes consumed are all the known ones
-pub consumed_end : (a b : Option (List ℕ)) (text front : List ℕ) → a ≡ Some text → Consumes a b front → IsAtEnd b → front ≡ text
+pub consumed_end : (a b : Option (List ℕ)) (text front : List ℕ) → a ≡ Some text →
+    Consumes a b front → IsAtEnd b → front ≡ text
 consumed_end None b text front e h end = absurd (cc)
 consumed_end (Some xs) None text front e h end = absurd h
 consumed_end (Some xs) (Some ys) text front e h end =

@@ -27,9 +27,12 @@ near_shown v p q inside near = elim (cases_lt q.row v.cutting.rows) [
 ] where
   shown : q.row < v.cutting.rows → q.col < v.cutting.cols → is_shown v.cutting v.tile q ≡ true
   shown row col =
-      and_from _ _ (and_from _ _ (and_from _ _ (and_from _ _ (and_from _ _ (lt-ltb _ _ row) (lt-ltb _ _ col))
-      (le-leb _ _ (omega (arith, inside, near.row_up)))) (le-leb _ _ (omega (arith, inside, near.row_down))))
-      (le-leb _ _ (omega (arith, inside, near.col_left)))) (le-leb _ _ (omega (arith, inside, near.col_right)))
+      and_from _ _
+      (and_from _ _ (and_from _ _ (and_from _ _ (and_from _ _ (lt-ltb _ _ row) (lt-ltb _ _ col))
+      (le-leb _ _ (omega (arith, inside, near.row_up)))) (le-leb _ _
+      (omega (arith, inside, near.row_down))))
+      (le-leb _ _ (omega (arith, inside, near.col_left)))) (le-leb _ _
+      (omega (arith, inside, near.col_right)))
 
   hidden : (IsWithin v.cutting q → ⊥) → None ≡ unwrap_or (cell_shown v q) None
   hidden out = elim (cases_Bool (is_shown v.cutting v.tile q)) [
@@ -38,30 +41,42 @@ near_shown v p q inside near = elim (cases_lt q.row v.cutting.rows) [
   ]
 
 -- As `AreEndHeights`, for the first `count` labels.
-pub record AreFirstEnds (t : Terrain) (places : List (Option Place)) (count : ℕ) (ends : List (Option ℤ)) : Type 0 where
+pub record AreFirstEnds (t : Terrain) (places : List (Option Place)) (count : ℕ)
+    (ends : List (Option ℤ)) : Type 0 where
   pub size : length ends ≡ count
   pub none : (k : ℕ) → k < count → get_or places k None ≡ None → get_or ends k None ≡ None
-  pub each : (k : ℕ) (p : Place) → k < count → get_or places k None ≡ Some p → IsEndHeight t p (get_or ends k None)
+  pub each : (k : ℕ) (p : Place) → k < count → get_or places k None ≡ Some p →
+      IsEndHeight t p (get_or ends k None)
 
 pub no_ends : (t : Terrain) (places : List (Option Place)) (ends : List (Option ℤ)) → ends ≡ []
     → AreFirstEnds t places 0 ends
-no_ends t places ends is = record { size = ap length is; none = λ k low. absurd (omega (arith, low)); each = λ k p low. absurd (omega (arith, low)) }
+no_ends t places ends is = record {
+  size = ap length is;
+  none = λ k low. absurd (omega (arith, low));
+  each = λ k p low. absurd (omega (arith, low));
+}
 
-pub one_end : (t : Terrain) (places : List (Option Place)) (count : ℕ) (ends new : List (Option ℤ)) (x : Option ℤ)
+pub one_end : (t : Terrain) (places : List (Option Place)) (count : ℕ) (ends new : List (Option ℤ))
+    (x : Option ℤ)
     → new ≡ ends ++ x ∷ [] → (get_or places count None ≡ None → x ≡ None) → ((p : Place)
     → get_or places count None ≡ Some p → IsEndHeight t p x)
     → AreFirstEnds t places count ends → AreFirstEnds t places (count + 1) new
-one_end t places count ends new x is lacks has s = subst (AreFirstEnds t places (count + 1)) (sym is) (record {
-  size = length_push ends x ∙ ap (λ n. n + 1) s.size;
-  none = λ k low e. elim (cases_eq k count) [
-    | inl same ↦ get_or_push ends x None k (s.size ∙ sym same) ∙ lacks (ap (λ n. get_or places n None) (sym same) ∙ e)
-    | inr other ↦ get_or_append_left ends (x ∷ []) None k (omega (arith, low, other, s.size)) ∙ s.none k (omega (arith, low, other)) e
-  ];
-  each = λ k p low e. elim (cases_eq k count) [
-    | inl same ↦ subst (IsEndHeight t p) (sym (get_or_push ends x None k (s.size ∙ sym same))) (has p (ap (λ n. get_or places n None) (sym same) ∙ e))
-    | inr other ↦ subst (IsEndHeight t p) (sym (get_or_append_left ends (x ∷ []) None k (omega (arith, low, other, s.size)))) (s.each k p (omega (arith, low, other)) e)
-  ];
-})
+one_end t places count ends new x is lacks has s =
+    subst (AreFirstEnds t places (count + 1)) (sym is) (record {
+      size = length_push ends x ∙ ap (λ n. n + 1) s.size;
+      none = λ k low e. elim (cases_eq k count) [
+        | inl same ↦ get_or_push ends x None k (s.size ∙ sym same)
+            ∙ lacks (ap (λ n. get_or places n None) (sym same) ∙ e)
+        | inr other ↦ get_or_append_left ends (x ∷ []) None k (omega (arith, low, other, s.size))
+            ∙ s.none k (omega (arith, low, other)) e
+      ];
+      each = λ k p low e. elim (cases_eq k count) [
+        | inl same ↦ subst (IsEndHeight t p) (sym (get_or_push ends x None k (s.size ∙ sym same)))
+            (has p (ap (λ n. get_or places n None) (sym same) ∙ e))
+        | inr other ↦ subst (IsEndHeight t p) (sym (get_or_append_left ends (x ∷ []) None k
+            (omega (arith, low, other, s.size)))) (s.each k p (omega (arith, low, other)) e)
+      ];
+    })
 
 pub all_ends : (t : Terrain) (places : List (Option Place)) (count : ℕ) (ends : List (Option ℤ))
     → count ≤ length places → length places ≤ count → AreFirstEnds t places count ends
@@ -81,11 +96,15 @@ all_ends t places count ends below above s = record {
 -- The end height of a cell, by whether it is an end cell.
 pub end_found : (t : Terrain) (p : Place) (end : Bool) (cell : Option ℤ) → height_at t p ≡ cell
     → (IsTrue end → HasGapAround t p ⊎ Contains t.sinks p) → end ≡ true → IsEndHeight t p cell
-end_found t p end None is found holds = λ is_end. none_done (height_at t p) is (has_data is_end) where
-  has_data : IsEnd t p → IsDataCell t p
-  has_data (inl edge) = edge.0
-  has_data (inr sink) = sink.0
-end_found t p end (Some h) is found holds = (elim (found holds) [ inl gap ↦ inl (ap is_some is, gap) | inr sink ↦ inr (ap is_some is, sink) ], is)
+end_found t p end None is found holds =
+    λ is_end. none_done (height_at t p) is (has_data is_end) where
+      has_data : IsEnd t p → IsDataCell t p
+      has_data (inl edge) = edge.0
+      has_data (inr sink) = sink.0
+end_found t p end (Some h) is found holds = (
+  elim (found holds) [ inl gap ↦ inl (ap is_some is, gap) | inr sink ↦ inr (ap is_some is, sink) ],
+  is,
+)
 
 pub end_missed : (t : Terrain) (p : Place) (end : Bool) → (HasGapAround t p ⊎ Contains t.sinks p
     → IsTrue end) → end ≡ false → IsEndHeight t p None
@@ -93,7 +112,12 @@ end_missed t p end missed fails (inl edge) = false≢true (sym fails ∙ missed 
 end_missed t p end missed fails (inr sink) = false≢true (sym fails ∙ missed (inr sink.1))
 
 pub touches_itself : (p : Place) → Touches p p
-touches_itself p = record { row_down = omega arith; row_up = omega arith; col_right = omega arith; col_left = omega arith }
+touches_itself p = record {
+  row_down = omega arith;
+  row_up = omega arith;
+  col_right = omega arith;
+  col_left = omega arith;
+}
 
 -- The three cells are those at a place and on both sides of it in its row.
 abbrev pub AreBeside : View (Option ℤ) → Place → List (Option ℤ) → Type 0
@@ -156,7 +180,8 @@ gap_beside v cell p cells size are col some above below not_all =
           | inr out ↦ none_outside (terrain_of v) q (inr out)
           | inl inside ↦
               let at : q.col + 1 - p.col ≡ gap.0 = omega (arith, col, some) in
-              ap is_some (beside_shown v p q cells (row, inside) refl (omega (arith, col, some)) (omega (arith, gap.1)) are
+              ap is_some (beside_shown v p q cells (row, inside) refl (omega (arith, col, some))
+              (omega (arith, gap.1)) are
               ∙ ap (λ n. get_or cells n None) at) ∙ gap.2
         ]
       ],
@@ -164,14 +189,16 @@ gap_beside v cell p cells size are col some above below not_all =
 
 -- If the three cells of a row around a cell have data, no place of that row around it is a gap.
 pub no_gap_beside : (v : View (Option ℤ)) (cell p q : Place) (cells : List (Option ℤ))
-    → length cells ≡ 3 → AreBeside v p cells → p.col ≡ cell.col → (p.row < v.cutting.rows) × (p.col + 1 < v.cutting.cols)
+    → length cells ≡ 3 → AreBeside v p cells → p.col ≡ cell.col → (p.row < v.cutting.rows)
+    × (p.col + 1 < v.cutting.cols)
     → Touches cell q → q.row ≡ p.row
     → ((k : ℕ) → k < length cells → is_some (get_or cells k None) ≡ true)
     → IsNone (height_at (terrain_of v) q) → ⊥
 no_gap_beside v cell p q cells size are col within touch row all none =
     let left : p.col ≤ q.col + 1 = omega (arith, col, touch.col_left) in
     let right : q.col ≤ p.col + 1 = omega (arith, col, touch.col_right) in
-    let inside : IsWithin v.cutting q = (omega (arith, row, within.0), omega (arith, right, within.1)) in
+    let inside : IsWithin v.cutting q =
+    (omega (arith, row, within.0), omega (arith, right, within.1)) in
     let shown = beside_shown v p q cells inside row left right are in
     let there = all (q.col + 1 - p.col) (omega (arith, size, right, left)) in
     absurd (cc (sym none ∙ ap is_some shown ∙ there))

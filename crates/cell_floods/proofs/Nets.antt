@@ -24,30 +24,43 @@ use Rattle.tiles.proofs.Shown.{row_end, get_or-row_shown}
 use Rattle.cell_floods.proofs.Borders.{AreRows, ShowRows, net_of_rows}
 
 -- A row inside the border lies in the list, and its indexes are small.
-pub inner_row_ends : (rows cols row len : ℕ) → len ≡ (rows + 2) * (cols + 2) → cols ≤ 4096 → rows ≤ 4096 → row < rows → ((row + 1) * (cols + 2) + 1 + cols ≤ len) × (len ≤ 16793604)
+pub inner_row_ends : (rows cols row len : ℕ) → len ≡ (rows + 2) * (cols + 2) → cols ≤ 4096 →
+    rows ≤ 4096 → row < rows → ((row + 1) * (cols + 2) + 1 + cols ≤ len) × (len ≤ 16793604)
 inner_row_ends rows cols row len size few_cols few_rows below = (
-  omega (arith, mul-le (row + 2) (cols + 2) (rows + 2) (cols + 2) (omega arith) (omega arith), size),
+  omega
+      (arith, mul-le (row + 2) (cols + 2) (rows + 2) (cols + 2) (omega arith) (omega arith), size),
   omega (arith, mul-le (rows + 2) (cols + 2) 4098 4098 (omega arith) (omega arith), size),
 )
 
-pub length-inner_rows : {X : Type 0} (list : List X) (cols count : ℕ) → (count + 1) * (cols + 2) ≤ length list → length (inner_rows list cols count) ≡ count * cols
+pub length-inner_rows : {X : Type 0} (list : List X) (cols count : ℕ) →
+    (count + 1) * (cols + 2) ≤ length list → length (inner_rows list cols count) ≡ count * cols
 length-inner_rows list cols zero h = omega arith
 length-inner_rows list cols (suc count) h =
     let from = (count + 1) * (cols + 2) + 1 in
     let was = length-inner_rows list cols count (omega arith) in
-    let row : length (drop from (take (from + cols) list)) ≡ cols = length-drop from (take (from + cols) list) ∙ ap (λ n. n - from) (length-take-le (from + cols) list (omega arith)) ∙ omega arith in
-    length-append (inner_rows list cols count) _ ∙ omega (arith, was, ap length (between_is list from (from + cols)) ∙ row)
+    let row : length (drop from (take (from + cols) list)) ≡ cols =
+    length-drop from (take (from + cols) list)
+    ∙ ap (λ n. n - from) (length-take-le (from + cols) list (omega arith)) ∙ omega arith in
+    length-append (inner_rows list cols count) _
+    ∙ omega (arith, was, ap length (between_is list from (from + cols)) ∙ row)
 
-pub inner_rows-map : {X Y : Type 0} (f : X → Y) (list : List X) (cols count : ℕ) → inner_rows (map f list) cols count ≡ map f (inner_rows list cols count)
+pub inner_rows-map : {X Y : Type 0} (f : X → Y) (list : List X) (cols count : ℕ) →
+    inner_rows (map f list) cols count ≡ map f (inner_rows list cols count)
 inner_rows-map f list cols zero = refl
 inner_rows-map f list cols (suc count) =
     let from = (count + 1) * (cols + 2) + 1 in
-    let row : slice_range (map f list) from (from + cols) ≡ map f (slice_range list from (from + cols)) =
-    between_is (map f list) from (from + cols) ∙ ap (drop from) (take-map f (from + cols) list) ∙ drop-map f from (take (from + cols) list) ∙ ap (map f) (sym (between_is list from (from + cols))) in
-    ap (λ z. z ++ slice_range (map f list) from (from + cols)) (inner_rows-map f list cols count) ∙ ap (λ z. map f (inner_rows list cols count) ++ z) row
+    let row : slice_range (map f list) from (from + cols)
+    ≡ map f (slice_range list from (from + cols)) =
+    between_is (map f list) from (from + cols)
+    ∙ ap (drop from) (take-map f (from + cols) list) ∙ drop-map f from (take (from + cols) list)
+    ∙ ap (map f) (sym (between_is list from (from + cols))) in
+    ap (λ z. z ++ slice_range (map f list) from (from + cols)) (inner_rows-map f list cols count)
+    ∙ ap (λ z. map f (inner_rows list cols count) ++ z) row
     ∙ sym (map-append f (inner_rows list cols count) _)
 
-pub inner_rows_at : {X : Type 0} (list : List (Option X)) (cols count : ℕ) → (count + 1) * (cols + 2) ≤ length list → (r c : ℕ) → r < count → c < cols → get_or (inner_rows list cols count) (r * cols + c) None ≡ get_or list ((r + 1) * (cols + 2) + (c + 1)) None
+pub inner_rows_at : {X : Type 0} (list : List (Option X)) (cols count : ℕ) → (count + 1) * (cols
+    + 2) ≤ length list → (r c : ℕ) → r < count → c < cols → get_or (inner_rows list cols count)
+    (r * cols + c) None ≡ get_or list ((r + 1) * (cols + 2) + (c + 1)) None
 inner_rows_at list cols zero h r c below inside = absurd (omega arith)
 inner_rows_at list cols (suc count) h r c below inside =
     let from = (count + 1) * (cols + 2) + 1 in
@@ -55,8 +68,10 @@ inner_rows_at list cols (suc count) h r c below inside =
     elim (cases_eq r count) [
       | inl same ↦
           ap (λ n. get_or (inner_rows list cols (suc count)) (n * cols + c) None) same
-          ∙ get_or-append_right (inner_rows list cols count) _ (count * cols) (count * cols + c) None len (omega arith)
-          ∙ ap (λ n. get_or (slice_range list from (from + cols)) n None) (add-sub_cancel_left (count * cols) c)
+          ∙ get_or-append_right (inner_rows list cols count) _ (count * cols) (count * cols
+          + c) None len (omega arith)
+          ∙ ap (λ n. get_or (slice_range list from (from + cols)) n None)
+          (add-sub_cancel_left (count * cols) c)
           ∙ ap (λ z. get_or z c None) (between_is list from (from + cols))
           ∙ get_or-drop from (take (from + cols) list) c None
           ∙ get_or-take (from + cols) list (from + c) None (omega arith)
@@ -64,16 +79,21 @@ inner_rows_at list cols (suc count) h r c below inside =
           ∙ ap (λ n. get_or list ((n + 1) * (cols + 2) + (c + 1)) None) (sym same)
       | inr other ↦
           let low : r < count = omega arith in
-          get_or_append_left (inner_rows list cols count) _ None _ (omega (arith, len, mul-add-lt r cols c count low inside))
+          get_or_append_left (inner_rows list cols count) _ None _
+          (omega (arith, len, mul-add-lt r cols c count low inside))
           ∙ inner_rows_at list cols count (omega arith) r c low inside
     ] where
       move : (k c s : ℕ) → (k + 1) * s + 1 + c ≡ (k + 1) * s + (c + 1)
       move k c s = omega arith
 
 -- A source of the window that is the whole terrain is an end cell.
-source_is_end : (t : Terrain) (p : Place) → IsInBounds (whole t) p → IsWindowSource t (whole t) p → IsEnd t p
+source_is_end : (t : Terrain) (p : Place) → IsInBounds (whole t) p → IsWindowSource t (whole t) p →
+    IsEnd t p
 source_is_end t p inside (inr sink) = inr sink
-source_is_end t p inside (inl source) = inl (source.0, elim source.1 [ inl rim ↦ gap_at_end t.cols t.rows p (none_outside t) (at rim) | inr gap ↦ gap ]) where
+source_is_end t p inside (inl source) = inl (
+  source.0,
+  elim source.1 [ inl rim ↦ gap_at_end t.cols t.rows p (none_outside t) (at rim) | inr gap ↦ gap ],
+) where
   at : IsOnRim (whole t) p → (p.row ≡ 0) ⊎ (p.row + 1 ≡ t.rows) ⊎ (p.col ≡ 0) ⊎ (p.col + 1 ≡ t.cols)
   at (inl e) = inl e
   at (inr (inl e)) = inr (inl (omega arith))
@@ -81,62 +101,92 @@ source_is_end t p inside (inl source) = inl (source.0, elim source.1 [ inl rim �
   at (inr (inr (inr e))) = inr (inr (inr (omega arith)))
 
 data_in_window : (t : Terrain) (p : Place) → IsDataCell t p → IsInBounds (whole t) p
-data_in_window t p some = let inside = data_inside t p some in (omega arith, omega (arith, inside), omega arith, omega (arith, inside))
+data_in_window t p some = let inside = data_inside t p some in
+    (omega arith, omega (arith, inside), omega arith, omega (arith, inside))
 
 -- A path of the terrain is a path of the window that is the whole terrain.
-whole_path : (t : Terrain) (p : Place) (rest : List Place) → IsPath t p rest → IsWindowPath t (whole t) p rest
+whole_path : (t : Terrain) (p : Place) (rest : List Place) → IsPath t p rest →
+    IsWindowPath t (whole t) p rest
 whole_path t p [] path = end_is_source t (whole t) p path
-whole_path t p (q ∷ rest) path = (path.0, data_in_window t q path.0.to_data, whole_path t q rest path.1)
+whole_path t p (q ∷ rest) path =
+    (path.0, data_in_window t q path.0.to_data, whole_path t q rest path.1)
 
-back_path : (t : Terrain) (p : Place) (rest : List Place) → IsInBounds (whole t) p → IsWindowPath t (whole t) p rest → IsPath t p rest
+back_path : (t : Terrain) (p : Place) (rest : List Place) → IsInBounds (whole t) p →
+    IsWindowPath t (whole t) p rest → IsPath t p rest
 back_path t p [] inside path = source_is_end t p inside path
 back_path t p (q ∷ rest) inside path = (path.0, back_path t q rest path.1 path.2)
 
-whole_level : (t : Terrain) (p label : Place) (level : ℤ) → IsInBounds (whole t) p → IsWindowLevel t (whole t) p level label → IsFilledHeight t p level
+whole_level : (t : Terrain) (p label : Place) (level : ℤ) → IsInBounds (whole t) p →
+    IsWindowLevel t (whole t) p level label → IsFilledHeight t p level
 whole_level t p label level inside l = record {
   reached = (l.reached.0, back_path t p l.reached.0 inside l.reached.1, l.reached.2);
   least = λ rest path. l.least rest (whole_path t p rest path);
 }
 
 -- The levels of a flood of the whole terrain are its filled heights.
-pub whole_filled : (t : Terrain) (n : Cells) (levels : List (Option ℤ)) (labels : List (Option ℕ)) → IsNetOf t (whole t) n → IsFlooded (IsCellJoin n) (source_of n) (length n.cells) levels labels → IsFilled t (inner_rows levels t.cols t.rows)
+pub whole_filled : (t : Terrain) (n : Cells) (levels : List (Option ℤ)) (labels : List (Option ℕ)) →
+    IsNetOf t (whole t) n → IsFlooded (IsCellJoin n) (source_of n) (length n.cells) levels labels →
+    IsFilled t (inner_rows levels t.cols t.rows)
 whole_filled t n levels labels net flooded =
     let size : length levels ≡ (t.rows + 2) * (t.cols + 2) = flooded.levels_size ∙ net.size in
     let long : (t.rows + 1) * (t.cols + 2) ≤ length levels = omega (arith, size) in
     record {
       size = length-inner_rows levels t.cols t.rows long ∙ omega arith;
       each = λ p inside.
-          let in_window : IsInBounds (whole t) p = (omega arith, omega (arith, inside), omega arith, omega (arith, inside)) in
-          let entry : entry_at t.cols t.rows (inner_rows levels t.cols t.rows) p ≡ get_or levels (node_at (whole t) p) None =
+          let in_window : IsInBounds (whole t) p =
+          (omega arith, omega (arith, inside), omega arith, omega (arith, inside)) in
+          let entry : entry_at t.cols t.rows (inner_rows levels t.cols t.rows) p
+          ≡ get_or levels (node_at (whole t) p) None =
           entry-inside t.cols t.rows (inner_rows levels t.cols t.rows) p inside.0 inside.1
           ∙ inner_rows_at levels t.cols t.rows long p.row p.col inside.0 inside.1
           ∙ ap (λ k. get_or levels k None) (shift p.row p.col (t.cols + 2)) in
           match_of (height_at t p) _ _
-          (λ none. entry ∙ (window_none t (whole t) n levels labels net flooded p in_window none (omega (arith, net.size, mul-add-lt (p.row + 1) (t.cols + 2) (p.col + 1) (t.rows + 2) (omega (arith, inside)) (omega (arith, inside)), sym (shift p.row p.col (t.cols + 2))))).0)
+          (λ none. entry
+          ∙ (window_none t (whole t) n levels labels net flooded p in_window none (omega (
+            arith,
+            net.size,
+            mul-add-lt (p.row + 1) (t.cols + 2) (p.col + 1) (t.rows + 2) (omega (arith, inside))
+                (omega (arith, inside)),
+            sym (shift p.row p.col (t.cols + 2)),
+          ))).0)
           (λ z some.
-          let l = window_level t (whole t) n levels labels net flooded p in_window (ap is_some some) in
+          let l =
+          window_level t (whole t) n levels labels net flooded p in_window (ap is_some some) in
           (l.level, entry ∙ l.level_is, whole_level t p l.label l.level in_window l.right));
     } where
       shift : (r c s : ℕ) → (r + 1) * s + (c + 1) ≡ (r - 0 + 1) * s + (c - 0 + 1)
-      shift r c s = ap (λ n. (n + 1) * s + (c + 1)) (minus r) ∙ ap (λ n. (r - 0 + 1) * s + (n + 1)) (minus c) where
-        minus : (n : ℕ) → n ≡ n - 0
-        minus n = omega arith
+      shift r c s = ap (λ n. (n + 1) * s + (c + 1)) (minus r)
+          ∙ ap (λ n. (r - 0 + 1) * s + (n + 1)) (minus c) where
+            minus : (n : ℕ) → n ≡ n - 0
+            minus n = omega arith
 
 -- A row of a view has the width of its tile.
-row_shown_length : (v : View (Option ℤ)) → IsView v → AreRows (row_shown v) (bounds_of v.cutting v.tile).cols (bounds_of v.cutting v.tile).rows
+row_shown_length : (v : View (Option ℤ)) → IsView v →
+    AreRows (row_shown v) (bounds_of v.cutting v.tile).cols (bounds_of v.cutting v.tile).rows
 row_shown_length v is r below =
     let b = bounds_of v.cutting v.tile in
     let end = row_end v.cutting b r (bounds_inside v.cutting v.tile is.cutting is.tile) below in
     let from = (b.top + r) * v.cutting.cols + b.left in
-    ap length (between_is v.cells from (from + b.cols)) ∙ length-drop from (take (from + b.cols) v.cells)
-    ∙ ap (λ n. n - from) (length-take-le (from + b.cols) v.cells (omega (arith, end, is.size))) ∙ omega arith
+    ap length (between_is v.cells from (from + b.cols))
+    ∙ length-drop from (take (from + b.cols) v.cells)
+    ∙ ap (λ n. n - from) (length-take-le (from + b.cols) v.cells (omega (arith, end, is.size)))
+    ∙ omega arith
 
-row_shown_cells : (v : View (Option ℤ)) → IsView v → ShowRows (terrain_of v) (bounds_of v.cutting v.tile) (row_shown v)
+row_shown_cells : (v : View (Option ℤ)) → IsView v →
+    ShowRows (terrain_of v) (bounds_of v.cutting v.tile) (row_shown v)
 row_shown_cells v is r c below inside =
     let b = bounds_of v.cutting v.tile in
     let all = bounds_inside v.cutting v.tile is.cutting is.tile in
     get_or-row_shown v r c None inside
-    ∙ sym (entry-inside v.cutting.cols v.cutting.rows v.cells (record { row = b.top + r; col = b.left + c }) (omega (arith, below, all.rows_inside)) (omega (arith, inside, all.cols_inside)))
+    ∙ sym (entry-inside v.cutting.cols v.cutting.rows v.cells
+    (record { row = b.top + r; col = b.left + c }) (omega (arith, below, all.rows_inside))
+    (omega (arith, inside, all.cols_inside)))
 
-pub net_of_view : (v : View (Option ℤ)) (b : Bounds) (items : List (Option ℤ)) (places : List Place) (sinks : List Bool) → IsView v → b ≡ bounds_of v.cutting v.tile → items ≡ bordered_rows (row_shown v) ((bounds_of v.cutting v.tile).cols + 2) (bounds_of v.cutting v.tile).rows → HasSinks b places sinks → IsNetOf (with_sinks (terrain_of v) places) (bounds_of v.cutting v.tile) (record { stride = b.cols + 2; cells = items; sinks = sinks })
-net_of_view v b items places sinks is same are has = rw (same, are) (net_of_rows (with_sinks (terrain_of v) places) (bounds_of v.cutting v.tile) (row_shown v) (row_shown_length v is) (row_shown_cells v is) sinks (subst (λ w. HasSinks w places sinks) same has))
+pub net_of_view : (v : View (Option ℤ)) (b : Bounds) (items : List (Option ℤ)) (places : List Place)
+    (sinks : List Bool) → IsView v → b ≡ bounds_of v.cutting v.tile → items ≡ bordered_rows
+    (row_shown v) ((bounds_of v.cutting v.tile).cols + 2) (bounds_of v.cutting v.tile).rows →
+    HasSinks b places sinks → IsNetOf (with_sinks (terrain_of v) places)
+    (bounds_of v.cutting v.tile) (record { stride = b.cols + 2; cells = items; sinks = sinks })
+net_of_view v b items places sinks is same are has = rw (same, are) (net_of_rows (with_sinks
+    (terrain_of v) places) (bounds_of v.cutting v.tile) (row_shown v) (row_shown_length v is)
+    (row_shown_cells v is) sinks (subst (λ w. HasSinks w places sinks) same has))

@@ -23,25 +23,33 @@ use Rattle.std.proofs.lemmas.List.Folds.{Any-from_list_any}
 use Rattle.floods.specs.Notes.{height_or_lack}
 use Rattle.tiles.proofs.TileOrder.{entry_in-inside, place_in_bounds, index_in-place_in}
 
-pub levels_where-length : (labels : List (Option Place)) (heights : List ℤ) → length labels ≡ length heights → length (levels_where labels heights) ≡ length labels
+pub levels_where-length : (labels : List (Option Place)) (heights : List ℤ) →
+    length labels ≡ length heights → length (levels_where labels heights) ≡ length labels
 levels_where-length [] heights e = refl
 levels_where-length (label ∷ labels) [] e = absurd (omega (arith, e))
-levels_where-length (label ∷ labels) (height ∷ heights) e = ap suc (levels_where-length labels heights (omega (arith, e)))
+levels_where-length (label ∷ labels) (height ∷ heights) e =
+    ap suc (levels_where-length labels heights (omega (arith, e)))
 
-pub levels_where-at : (labels : List (Option Place)) (heights : List ℤ) (i : ℕ) → length labels ≡ length heights → get_or (levels_where labels heights) i None ≡ option_map (λ _. get_or heights i (pos 0)) (get_or labels i None)
+pub levels_where-at : (labels : List (Option Place)) (heights : List ℤ) (i : ℕ) →
+    length labels ≡ length heights → get_or (levels_where labels heights) i None
+    ≡ option_map (λ _. get_or heights i (pos 0)) (get_or labels i None)
 levels_where-at [] heights i e = refl
 levels_where-at (label ∷ labels) [] i e = absurd (omega (arith, e))
 levels_where-at (label ∷ labels) (height ∷ heights) zero e = refl
-levels_where-at (label ∷ labels) (height ∷ heights) (suc i) e = levels_where-at labels heights i (omega (arith, e))
+levels_where-at (label ∷ labels) (height ∷ heights) (suc i) e =
+    levels_where-at labels heights i (omega (arith, e))
 
-one_back : (label : Option Place) (level : Option ℤ) → is_some label ≡ is_some level → option_map (λ _. height_or_lack level) label ≡ level
+one_back : (label : Option Place) (level : Option ℤ) → is_some label ≡ is_some level →
+    option_map (λ _. height_or_lack level) label ≡ level
 one_back None None e = refl
 one_back None (Some z) e = absurd (cc)
 one_back (Some p) None e = absurd (cc)
 one_back (Some p) (Some z) e = refl
 
 -- Levels of labelled cells are the `levels_where` of their heights.
-pub levels_back : (labels : List (Option Place)) (levels : List (Option ℤ)) → length labels ≡ length levels → ((i : ℕ) → is_some (get_or labels i None) ≡ is_some (get_or levels i None)) → levels_where labels (map height_or_lack levels) ≡ levels
+pub levels_back : (labels : List (Option Place)) (levels : List (Option ℤ)) → length labels
+    ≡ length levels → ((i : ℕ) → is_some (get_or labels i None) ≡ is_some (get_or levels i None)) →
+    levels_where labels (map height_or_lack levels) ≡ levels
 levels_back [] [] e each = refl
 levels_back [] (level ∷ levels) e each = absurd (omega (arith, e))
 levels_back (label ∷ labels) [] e each = absurd (omega (arith, e))
@@ -54,7 +62,10 @@ some_below i m zero low = absurd (omega (arith, low))
 some_below i m (suc n) low = omega arith
 
 -- In a tile a cell has a level exactly if it has a label.
-both_or_neither : (t : Terrain) (c : Cutting) (tile : ℕ) (b : Bounds) (levels : List (Option ℤ)) (labels : List (Option Place)) → IsCutting c → tile < tile_count c → AreTileLevels t c tile b levels labels → (i : ℕ) → is_some (get_or labels i None) ≡ is_some (get_or levels i None)
+both_or_neither : (t : Terrain) (c : Cutting)
+    (tile : ℕ) (b : Bounds) (levels : List (Option ℤ)) (labels : List (Option Place)) →
+    IsCutting c → tile < tile_count c → AreTileLevels t c tile b levels labels → (i : ℕ) →
+    is_some (get_or labels i None) ≡ is_some (get_or levels i None)
 both_or_neither t c tile b levels labels h l is i = elim (cases_lt i (b.rows * b.cols)) [
   | inr past ↦
       ap is_some (get_or_past labels i None (omega (arith, past, is.labels_size)))
@@ -64,70 +75,100 @@ both_or_neither t c tile b levels labels h l is i = elim (cases_lt i (b.rows * b
       let p = place_in b i in
       let inside = place_in_bounds b i wide low in
       let there = index_in-place_in b i in
-      let label : entry_in b labels p ≡ get_or labels i None = entry_in-inside b labels p inside ∙ ap (λ n. get_or labels n None) there in
-      let level : entry_in b levels p ≡ get_or levels i None = entry_in-inside b levels p inside ∙ ap (λ n. get_or levels n None) there in
-      let each = is.each p (in_tile c tile p h l (subst (λ (x : Bounds). IsInBounds x p) is.bounds inside)) in
-      let both : is_some (entry_in b labels p) ≡ is_some (entry_in b levels p) = elim (cases_option (height_at t p)) [
-        | inl none ↦ let neither = MatchOption-at_none _ _ none each in ap is_some neither.1 ∙ sym (ap is_some neither.0)
-        | inr found ↦ let here = MatchOption-at_some _ _ found.0 found.1 each in ap is_some here.3 ∙ sym (ap is_some here.2)
+      let label : entry_in b labels p ≡ get_or labels i None = entry_in-inside b labels p inside
+      ∙ ap (λ n. get_or labels n None) there in
+      let level : entry_in b levels p ≡ get_or levels i None = entry_in-inside b levels p inside
+      ∙ ap (λ n. get_or levels n None) there in
+      let each =
+      is.each p (in_tile c tile p h l (subst (λ (x : Bounds). IsInBounds x p) is.bounds inside)) in
+      let both : is_some (entry_in b labels p) ≡ is_some (entry_in b levels p) =
+      elim (cases_option (height_at t p)) [
+        | inl none ↦ let neither = MatchOption-at_none _ _ none each in ap is_some neither.1
+            ∙ sym (ap is_some neither.0)
+        | inr found ↦ let here = MatchOption-at_some _ _ found.0 found.1 each in ap is_some here.3
+            ∙ sym (ap is_some here.2)
       ] in
       sym (ap is_some label) ∙ both ∙ ap is_some level
 ]
 
 -- The levels of a tile are those of its heights and labels.
-pub levels_where_are : (t : Terrain) (c : Cutting) (tile : ℕ) (b : Bounds) (levels : List (Option ℤ)) (labels : List (Option Place)) (heights : List ℤ) → IsCutting c → tile < tile_count c → heights ≡ map height_or_lack levels
-    → AreTileLevels t c tile b levels labels → AreTileLevels t c tile b (levels_where labels heights) labels
+pub levels_where_are : (t : Terrain) (c : Cutting) (tile : ℕ) (b : Bounds)
+    (levels : List (Option ℤ)) (labels : List (Option Place)) (heights : List ℤ) → IsCutting c →
+    tile < tile_count c → heights ≡ map height_or_lack levels
+    → AreTileLevels t c tile b levels labels →
+    AreTileLevels t c tile b (levels_where labels heights) labels
 levels_where_are t c tile b levels labels heights h l are is =
     subst (λ (zs : List (Option ℤ)). AreTileLevels t c tile b zs labels)
-    (sym (ap (levels_where labels) are ∙ levels_back labels levels (is.labels_size ∙ sym is.levels_size) (both_or_neither t c tile b levels labels h l is))) is
+    (sym (ap (levels_where labels) are ∙ levels_back labels levels (is.labels_size
+    ∙ sym is.levels_size) (both_or_neither t c tile b levels labels h l is))) is
 
 -- The last cell of a path in a tile is a data cell.
-label_data : (t : Terrain) (c : Cutting) (p : Place) (rest : List Place) → IsTilePath t c p rest → IsDataCell t (last_of p rest)
+label_data : (t : Terrain) (c : Cutting) (p : Place) (rest : List Place) → IsTilePath t c p rest →
+    IsDataCell t (last_of p rest)
 label_data t c p [] path = elim path [ inl rim ↦ rim.0 | inr end ↦ first_is_data t p [] end ]
 label_data t c p (q ∷ rest) path = label_data t c q rest path.2
 
-pub label_has_data : (t : Terrain) (c : Cutting) (p label : Place) (level : ℤ) → IsTileLevel t c p level label → IsDataCell t label
-label_has_data t c p label level l = subst (IsDataCell t) l.reached.3 (label_data t c p l.reached.0 l.reached.1)
+pub label_has_data : (t : Terrain) (c : Cutting) (p label : Place) (level : ℤ) →
+    IsTileLevel t c p level label → IsDataCell t label
+label_has_data t c p label level l =
+    subst (IsDataCell t) l.reached.3 (label_data t c p l.reached.0 l.reached.1)
 
-last_in_tile : (t : Terrain) (c : Cutting) (p : Place) (rest : List Place) → IsTilePath t c p rest → tile_of_place c (last_of p rest) ≡ tile_of_place c p
+last_in_tile : (t : Terrain) (c : Cutting) (p : Place) (rest : List Place) → IsTilePath t c p rest →
+    tile_of_place c (last_of p rest) ≡ tile_of_place c p
 last_in_tile t c p [] path = refl
 last_in_tile t c p (q ∷ rest) path = last_in_tile t c q rest path.2 ∙ path.1
 
-pub label_in_tile : (t : Terrain) (c : Cutting) (p label : Place) (level : ℤ) → IsTileLevel t c p level label → tile_of_place c label ≡ tile_of_place c p
-label_in_tile t c p label level l = subst (λ (q : Place). tile_of_place c q ≡ tile_of_place c p) l.reached.3 (last_in_tile t c p l.reached.0 l.reached.1)
+pub label_in_tile : (t : Terrain) (c : Cutting) (p label : Place) (level : ℤ) →
+    IsTileLevel t c p level label → tile_of_place c label ≡ tile_of_place c p
+label_in_tile t c p label level l = subst (λ (q : Place). tile_of_place c q
+    ≡ tile_of_place c p) l.reached.3 (last_in_tile t c p l.reached.0 l.reached.1)
 
 -- Each label of a tile is one of its cells.
-pub labels_inside : (t : Terrain) (c : Cutting) (tile : ℕ) (b : Bounds) (levels : List (Option ℤ)) (labels : List (Option Place)) → IsCutting c → tile < tile_count c → Cuts c t → AreTileLevels t c tile b levels labels → (k : ℕ) (label : Place) → get_or labels k None ≡ Some label → IsInTile c tile label
+pub labels_inside : (t : Terrain) (c : Cutting) (tile : ℕ) (b : Bounds) (levels : List (Option ℤ))
+    (labels : List (Option Place)) → IsCutting c → tile < tile_count c →
+    Cuts c t → AreTileLevels t c tile b levels labels → (k : ℕ) (label : Place) →
+    get_or labels k None ≡ Some label → IsInTile c tile label
 labels_inside t c tile b levels labels h l cuts is k label e = elim (cases_lt k (b.rows * b.cols)) [
   | inr past ↦ none_some _ label (get_or_past labels k None (omega (arith, past, is.labels_size))) e
   | inl low ↦
       let p = place_in b k in
       let inside = place_in_bounds b k (some_below k b.rows b.cols low) low in
       let i = in_tile c tile p h l (subst (λ (x : Bounds). IsInBounds x p) is.bounds inside) in
-      let at : entry_in b labels p ≡ Some label = entry_in-inside b labels p inside ∙ ap (λ n. get_or labels n None) (index_in-place_in b k) ∙ e in
+      let at : entry_in b labels p ≡ Some label = entry_in-inside b labels p inside
+      ∙ ap (λ n. get_or labels n None) (index_in-place_in b k) ∙ e in
       elim (cases_option (height_at t p)) [
-        | inl none ↦ none_some (entry_in b labels p) label (MatchOption-at_none _ _ none (is.each p i)).1 at
+        | inl none ↦
+            none_some (entry_in b labels p) label (MatchOption-at_none _ _ none (is.each p i)).1 at
         | inr height ↦
             let here = MatchOption-at_some _ _ height.0 height.1 (is.each p i) in
             let same = same_Some here.1 label (sym here.3 ∙ at) in
-            subst (IsInTile c tile) same (data_within t c here.1 cuts (label_has_data t c p here.1 here.0 here.4), label_in_tile t c p here.1 here.0 here.4 ∙ i.1)
+            subst (IsInTile c tile) same (
+              data_within t c here.1 cuts (label_has_data t c p here.1 here.0 here.4),
+              label_in_tile t c p here.1 here.0 here.4 ∙ i.1,
+            )
       ]
 ]
 
 -- A property that all labels have is a property of all places of their table.
-pub table_inside : (P : Place → Type 0) (labels places : List (Option Place)) (cells : List ℕ) → labels ≡ labels_by places cells → IsTable places cells → ((k : ℕ) (p : Place) → get_or labels k None ≡ Some p → P p) → (k : ℕ) (p : Place) → get_or places k None ≡ Some p → P p
+pub table_inside : (P : Place → Type 0) (labels places : List (Option Place)) (cells : List ℕ) →
+    labels ≡ labels_by places cells → IsTable places cells → ((k : ℕ) (p : Place) →
+    get_or labels k None ≡ Some p → P p) → (k : ℕ) (p : Place) → get_or places k None ≡ Some p → P p
 table_inside P labels places cells are table inside k p e =
     let held = Any-from_list_any (λ n. n == k) cells (table.used k p e) in
     inside held.0 p (
     ap (λ (z : List (Option Place)). get_or z held.0 None) are
-    ∙ get_or-map (λ n. get_or places n None) cells held.0 held.1 None held.2 ∙ ap (λ n. get_or places n None) (held.3 ∙ eqb-true _ _ held.4) ∙ e
+    ∙ get_or-map (λ n. get_or places n None) cells held.0 held.1 None held.2
+    ∙ ap (λ n. get_or places n None) (held.3 ∙ eqb-true _ _ held.4) ∙ e
     )
 
-pub all_inside : (P : Place → Type 0) (places : List (Option Place)) → ((k : ℕ) (p : Place) → get_or places k None ≡ Some p → P p) → All (λ (o : Option Place). IfSome o P) places
-all_inside P places inside = All-from_get_or (λ (o : Option Place). IfSome o P) places None (λ k low. elim (cases_option (get_or places k None)) [
-  | inl none ↦ subst (λ (o : Option Place). IfSome o P) (sym none) tt
-  | inr found ↦ subst (λ (o : Option Place). IfSome o P) (sym found.1) (inside k found.0 found.1)
-])
+pub all_inside : (P : Place → Type 0) (places : List (Option Place)) → ((k : ℕ) (p : Place) →
+    get_or places k None ≡ Some p → P p) → All (λ (o : Option Place). IfSome o P) places
+all_inside P places inside = All-from_get_or (λ (o : Option Place).
+    IfSome o P) places None (λ k low. elim (cases_option (get_or places k None)) [
+      | inl none ↦ subst (λ (o : Option Place). IfSome o P) (sym none) tt
+      | inr found ↦
+          subst (λ (o : Option Place). IfSome o P) (sym found.1) (inside k found.0 found.1)
+    ])
 
 -- The level of a cell, by its label and height.
 pub level_shown : (b : Bounds) (heights : List ℤ) (t : LabelTable) (ends : List (Option ℤ))
@@ -142,8 +183,14 @@ level_shown b heights t ends f i is whole =
     )
 
 -- There is a height for each cell.
-pub heights_whole : (b : Bounds) (levels : List (Option ℤ)) (nodes : List (Option ℕ)) (places : List (Option Place)) (cells : List ℕ) (heights : List ℤ) → length levels ≡ (b.rows + 2) * (b.cols + 2) → length nodes ≡ (b.rows + 2) * (b.cols + 2)
-    → heights ≡ map height_or_lack (inner_rows levels b.cols b.rows) → labels_by places cells ≡ map (label_of_node b) (inner_rows nodes b.cols b.rows) → length heights ≡ length cells
+pub heights_whole : (b : Bounds) (levels : List (Option ℤ))
+    (nodes : List (Option ℕ)) (places : List (Option Place)) (cells : List ℕ) (heights : List ℤ) →
+    length levels ≡ (b.rows + 2) * (b.cols + 2) → length nodes ≡ (b.rows + 2) * (b.cols + 2)
+    → heights ≡ map height_or_lack (inner_rows levels b.cols b.rows) → labels_by places cells
+    ≡ map (label_of_node b) (inner_rows nodes b.cols b.rows) → length heights ≡ length cells
 heights_whole b levels nodes places cells heights levels_long nodes_long are labels =
-    ap length are ∙ length-map (inner_rows levels b.cols b.rows) height_or_lack ∙ length-inner_rows levels b.cols b.rows (omega (arith, levels_long))
-    ∙ sym (sym (length-map cells (λ k. get_or places k None)) ∙ ap length labels ∙ length-map (inner_rows nodes b.cols b.rows) (label_of_node b) ∙ length-inner_rows nodes b.cols b.rows (omega (arith, nodes_long)))
+    ap length are ∙ length-map (inner_rows levels b.cols b.rows) height_or_lack
+    ∙ length-inner_rows levels b.cols b.rows (omega (arith, levels_long))
+    ∙ sym (sym (length-map cells (λ k. get_or places k None))
+    ∙ ap length labels ∙ length-map (inner_rows nodes b.cols b.rows) (label_of_node b)
+    ∙ length-inner_rows nodes b.cols b.rows (omega (arith, nodes_long)))

@@ -15,37 +15,51 @@ use Rattle.std.proofs.lemmas.Nat.{mul-le, pow-add}
 use Rattle.decimals.specs.Plain.{IsPlain}
 
 -- two joined parts, the first not empty, are digits exactly if both parts are digits alone
-pub are_digits_joined : (a b : List ℕ) → 0 < length a → are_digits (a ++ b) ≡ (list_all is_ascii_digit a && list_all is_ascii_digit b)
+pub are_digits_joined : (a b : List ℕ) → 0 < length a →
+    are_digits (a ++ b) ≡ (list_all is_ascii_digit a && list_all is_ascii_digit b)
 are_digits_joined [] b h = absurd (omega arith)
 are_digits_joined (x ∷ xs) b h = list_all-append is_ascii_digit (x ∷ xs) b
 
 -- the first d bytes of a fraction padded with zeros are the fraction's own, and zeros up to d
-take-padded : (d k : ℕ) (xs : List ℕ) → d ≤ k → take d (xs ++ replicate k 48) ≡ take d xs ++ replicate (d - min d (length xs)) 48
-take-padded zero k xs h = ap (λ (n : ℕ). replicate n 48) (let none : 0 ≡ 0 - min 0 (length xs) = omega arith in none)
-take-padded (suc d) k [] h = take-replicate (suc d) k 48 h ∙ ap (λ (n : ℕ). replicate n 48) (let all : suc d ≡ suc d - min (suc d) 0 = omega arith in all)
+take-padded : (d k : ℕ) (xs : List ℕ) → d ≤ k →
+    take d (xs ++ replicate k 48) ≡ take d xs ++ replicate (d - min d (length xs)) 48
+take-padded zero k xs h =
+    ap (λ (n : ℕ). replicate n 48) (let none : 0 ≡ 0 - min 0 (length xs) = omega arith in none)
+take-padded (suc d) k [] h = take-replicate (suc d) k 48 h
+    ∙ ap (λ (n : ℕ). replicate n 48) (let all : suc d ≡ suc d - min (suc d) 0 = omega arith in all)
 take-padded (suc d) k (x ∷ xs) h =
     let left : d - min d (length xs) ≡ suc d - min (suc d) (suc (length xs)) = omega arith in
-    ap (λ z. x ∷ z) (take-padded d k xs (omega arith)) ∙ ap (λ n. x ∷ take d xs ++ replicate n 48) left
+    ap (λ z. x ∷ z) (take-padded d k xs (omega arith))
+    ∙ ap (λ n. x ∷ take d xs ++ replicate n 48) left
 
 -- the number of a whole part and a padded fraction is a fold over the digits, then over the zeros
-pub number_of-padded : (d : ℕ) (a xs : List ℕ) → number_of (a ++ take d (xs ++ replicate d 48)) ≡ fold (λ n b. 10 * n + (b - 48)) (fold (λ n b. 10 * n + (b - 48)) (number_of a) (take d xs)) (replicate (d - min d (length xs)) 48)
+pub number_of-padded : (d : ℕ) (a xs : List ℕ) → number_of (a ++ take d (xs ++ replicate d 48))
+    ≡ fold (λ n b. 10 * n + (b - 48)) (fold (λ n b. 10 * n + (b - 48)) (number_of a) (take d xs))
+    (replicate (d - min d (length xs)) 48)
 number_of-padded d a xs =
     ap (λ z. number_of (a ++ z)) (take-padded d d xs (omega arith))
     ∙ fold-append (λ n b. 10 * n + (b - 48)) 0 a (take d xs ++ replicate (d - min d (length xs)) 48)
-    ∙ fold-append (λ n b. 10 * n + (b - 48)) (number_of a) (take d xs) (replicate (d - min d (length xs)) 48)
+    ∙ fold-append (λ n b. 10 * n + (b - 48)) (number_of a) (take d xs)
+    (replicate (d - min d (length xs)) 48)
 
 -- where no element passes, the position of the first that does is the length
-position-none : (p : ℕ → Bool) (xs : List ℕ) → list_any p xs ≡ false → position_or_len p xs ≡ length xs
+position-none : (p : ℕ → Bool) (xs : List ℕ) → list_any p xs ≡ false →
+    position_or_len p xs ≡ length xs
 position-none p [] h = refl
-position-none p (x ∷ xs) h = let parts = or_parts (p x) (list_any p xs) h in rw parts.0 (omega (arith, position-none p xs parts.1))
+position-none p (x ∷ xs) h = let parts = or_parts (p x) (list_any p xs) h in
+    rw parts.0 (omega (arith, position-none p xs parts.1))
 
-pub before_first-none : (p : ℕ → Bool) (xs : List ℕ) → list_any p xs ≡ false → before_first p xs ≡ xs
-before_first-none p xs h = ap (λ n. take n xs) (position-none p xs h) ∙ take_all (length xs) xs (omega arith)
+pub before_first-none : (p : ℕ → Bool) (xs : List ℕ) → list_any p xs ≡ false →
+    before_first p xs ≡ xs
+before_first-none p xs h = ap (λ n. take n xs) (position-none p xs h)
+    ∙ take_all (length xs) xs (omega arith)
 
 pub after_first-none : (p : ℕ → Bool) (xs : List ℕ) → list_any p xs ≡ false → after_first p xs ≡ []
-after_first-none p xs h = ap (λ n. drop (n + 1) xs) (position-none p xs h) ∙ drop_all (length xs + 1) xs (omega arith)
+after_first-none p xs h = ap (λ n. drop (n + 1) xs) (position-none p xs h)
+    ∙ drop_all (length xs + 1) xs (omega arith)
 
-list_any-without_sign : (p : ℕ → Bool) (w : Word) → list_any p w ≡ false → list_any p (without_sign w) ≡ false
+list_any-without_sign : (p : ℕ → Bool) (w : Word) → list_any p w ≡ false →
+    list_any p (without_sign w) ≡ false
 list_any-without_sign p [] h = refl
 list_any-without_sign p (b ∷ bs) h =
     let parts = or_parts (p b) (list_any p bs) h in
@@ -53,28 +67,39 @@ list_any-without_sign p (b ∷ bs) h =
 
 -- without an exponent, the mantissa is the word without its sign
 mantissa-plain : (w : Word) → has_exponent w ≡ false → mantissa w ≡ without_sign w
-mantissa-plain w h = before_first-none is_exponent_mark (without_sign w) (list_any-without_sign is_exponent_mark w h)
+mantissa-plain w h =
+    before_first-none is_exponent_mark (without_sign w) (list_any-without_sign is_exponent_mark w h)
 
 -- a word without an exponent whose parts are not digits has no scaled value
-pub scaled_value-not_digits : (d : ℕ) (w a b : Word) → has_exponent w ≡ false → a ≡ before_first is_point (without_sign w) → b ≡ after_first is_point (without_sign w) → are_digits (a ++ b) ≡ false → scaled_value d w ≡ None
+pub scaled_value-not_digits : (d : ℕ) (w a b : Word) → has_exponent w ≡ false →
+    a ≡ before_first is_point (without_sign w) → b ≡ after_first is_point (without_sign w) →
+    are_digits (a ++ b) ≡ false → scaled_value d w ≡ None
 scaled_value-not_digits d w a b h p q e =
     let m = mantissa-plain w h in
     let digits : are_digits (whole_part w ++ fraction w) ≡ false = rw (m, ← p, ← q) e in
     rw digits refl
 
-option_map-cond : (t : Bool) (n : ℕ) (g : ℕ → ℤ) → cond t (Some (g n)) None ≡ option_map g (cond t (Some n) None)
+option_map-cond : (t : Bool) (n : ℕ) (g : ℕ → ℤ) →
+    cond t (Some (g n)) None ≡ option_map g (cond t (Some n) None)
 option_map-cond true n g = refl
 option_map-cond false n g = refl
 
 -- the scaled value of a word without an exponent is its scaled size, with its sign
-pub scaled_value-digits : (d : ℕ) (w a b : Word) (size : Option ℕ) → has_exponent w ≡ false → a ≡ before_first is_point (without_sign w) → b ≡ after_first is_point (without_sign w) → are_digits (a ++ b) ≡ true → size ≡ cond (list_all (λ x. x == 48) (drop d b) && nat_le (number_of (a ++ take d (b ++ replicate d 48))) (10 ^ 18)) (Some (number_of (a ++ take d (b ++ replicate d 48)))) None → scaled_value d w ≡ option_map (λ n. cond (is_negative w) (neg_ℤ (pos n)) (pos n)) size
+pub scaled_value-digits : (d : ℕ) (w a b : Word) (size : Option ℕ) → has_exponent w ≡ false →
+    a ≡ before_first is_point (without_sign w) → b ≡ after_first is_point (without_sign w) →
+    are_digits (a ++ b) ≡ true → size ≡ cond (list_all (λ x. x == 48) (drop d b)
+    && nat_le (number_of (a ++ take d (b ++ replicate d 48))) (10 ^ 18))
+    (Some (number_of (a ++ take d (b ++ replicate d 48)))) None →
+    scaled_value d w ≡ option_map (λ n. cond (is_negative w) (neg_ℤ (pos n)) (pos n)) size
 scaled_value-digits d w a b size h p q e k =
     let m = mantissa-plain w h in
     let digits : are_digits (whole_part w ++ fraction w) ≡ true = rw (m, ← p, ← q) e in
-    rw (k, digits, h, m, ← p, ← q) (option_map-cond _ _ (λ n. cond (is_negative w) (neg_ℤ (pos n)) (pos n)))
+    rw (k, digits, h, m, ← p, ← q)
+    (option_map-cond _ _ (λ n. cond (is_negative w) (neg_ℤ (pos n)) (pos n)))
 
 -- a size saturated at 10^18 + 1 is kept exactly if the size itself is at most 10^18
-pub size-kept : (x : Bool) (n size : ℕ) → x ≡ true → size ≡ min n 1000000000000000001 → then_some (nat_lt size 1000000000000000001) size ≡ cond (x && nat_le n (10 ^ 18)) (Some n) None
+pub size-kept : (x : Bool) (n size : ℕ) → x ≡ true → size ≡ min n 1000000000000000001 →
+    then_some (nat_lt size 1000000000000000001) size ≡ cond (x && nat_le n (10 ^ 18)) (Some n) None
 size-kept x n size h e =
     elim (cases_lt n 1000000000000000001) [
       | inl k ↦
@@ -92,9 +117,11 @@ abbrev pub PassesNoDigit : (ℕ → Bool) → Type 0
 PassesNoDigit p = (b : ℕ) → 48 ≤ b → b ≤ 57 → p b ≡ false
 
 pub digit_bounds : (b : ℕ) → is_ascii_digit b ≡ true → (48 ≤ b) × (b ≤ 57)
-digit_bounds b h = let k = and_parts (nat_le 48 b) (nat_le b 57) h in (leb-true 48 b k.0, leb-true b 57 k.1)
+digit_bounds b h = let k = and_parts (nat_le 48 b) (nat_le b 57) h in
+    (leb-true 48 b k.0, leb-true b 57 k.1)
 
-pub any-digits : (p : ℕ → Bool) (xs : List ℕ) → PassesNoDigit p → list_all is_ascii_digit xs ≡ true → list_any p xs ≡ false
+pub any-digits : (p : ℕ → Bool) (xs : List ℕ) → PassesNoDigit p →
+    list_all is_ascii_digit xs ≡ true → list_any p xs ≡ false
 any-digits p [] none h = refl
 any-digits p (x ∷ xs) none h =
     let k = and_parts (is_ascii_digit x) (list_all is_ascii_digit xs) h in
@@ -108,7 +135,12 @@ pub no_point : PassesNoDigit is_point
 no_point b low high = ne_eqb b 46 (λ e. omega arith)
 
 pub no_separator : PassesNoDigit is_separator
-no_separator b low high = rw (ne_eqb b 32 (λ e. omega arith), ne_eqb b 9 (λ e. omega arith), ne_eqb b 10 (λ e. omega arith), ne_eqb b 13 (λ e. omega arith)) refl
+no_separator b low high = rw (
+  ne_eqb b 32 (λ e. omega arith),
+  ne_eqb b 9 (λ e. omega arith),
+  ne_eqb b 10 (λ e. omega arith),
+  ne_eqb b 13 (λ e. omega arith),
+) refl
 
 fold-zeros : (n k : ℕ) → fold (λ n b. 10 * n + (b - 48)) n (replicate k 48) ≡ n * 10 ^ k
 fold-zeros n zero = omega arith
@@ -117,30 +149,43 @@ fold-zeros n (suc k) = fold-zeros (10 * n + 0) k ∙ rw (pow-suc 10 k) (omega ar
 drop-none : (d : ℕ) → drop {A = ℕ} d [] ≡ []
 drop-none d = drop_all d [] (omega arith)
 
-scaled_digits : (d : ℕ) (xs : List ℕ) → number_of (xs ++ take d ([] ++ replicate d 48)) ≡ number_of xs * 10 ^ d
+scaled_digits : (d : ℕ) (xs : List ℕ) →
+    number_of (xs ++ take d ([] ++ replicate d 48)) ≡ number_of xs * 10 ^ d
 scaled_digits d xs =
     number_of-padded d xs []
-    ∙ ap (λ z. fold (λ n b. 10 * n + (b - 48)) (fold (λ n b. 10 * n + (b - 48)) (number_of xs) z) (replicate (d - min d 0) 48)) (take_all d [] (omega arith))
+    ∙ ap (λ z. fold (λ n b. 10 * n + (b - 48)) (fold (λ n b. 10 * n + (b - 48)) (number_of xs) z)
+    (replicate (d - min d 0) 48)) (take_all d [] (omega arith))
     ∙ fold-zeros (number_of xs) (d - min d 0)
     ∙ ap (λ k. number_of xs * 10 ^ k) (omega arith)
 
-pub scaled_value-plain : (d : ℕ) (w xs : List ℕ) → without_sign w ≡ xs → has_exponent w ≡ false → 0 < length xs → list_all is_ascii_digit xs ≡ true → number_of xs * 10 ^ d ≤ 10 ^ 18 → scaled_value d w ≡ Some (cond (is_negative w) (neg_ℤ (pos (number_of xs * 10 ^ d))) (pos (number_of xs * 10 ^ d)))
+pub scaled_value-plain : (d : ℕ) (w xs : List ℕ) → without_sign w ≡ xs → has_exponent w ≡ false →
+    0 < length xs → list_all is_ascii_digit xs ≡ true → number_of xs * 10 ^ d ≤ 10 ^ 18 →
+    scaled_value d w ≡ Some (cond (is_negative w) (neg_ℤ (pos (number_of xs * 10 ^ d)))
+    (pos (number_of xs * 10 ^ d)))
 scaled_value-plain d w xs bare plain some digits small =
     let no_marks = any-digits is_point xs no_point digits in
-    let before : xs ≡ before_first is_point (without_sign w) = sym (ap (before_first is_point) bare ∙ before_first-none is_point xs no_marks) in
-    let after : [] ≡ after_first is_point (without_sign w) = sym (ap (after_first is_point) bare ∙ after_first-none is_point xs no_marks) in
-    scaled_value-digits d w xs [] (Some (number_of xs * 10 ^ d)) plain before after (are_digits_joined xs [] some ∙ rw digits refl)
+    let before : xs ≡ before_first is_point (without_sign w) =
+    sym (ap (before_first is_point) bare ∙ before_first-none is_point xs no_marks) in
+    let after : [] ≡ after_first is_point (without_sign w) =
+    sym (ap (after_first is_point) bare ∙ after_first-none is_point xs no_marks) in
+    scaled_value-digits d w xs [] (Some (number_of xs * 10 ^ d)) plain before after
+    (are_digits_joined xs [] some ∙ rw digits refl)
     (rw (drop-none d, scaled_digits d xs, le-leb (number_of xs * 10 ^ d) (10 ^ 18) small) refl)
 
 -- a text that begins with a digit has no sign
-pub bare_digits : (xs rest : List ℕ) → 0 < length xs → list_all is_ascii_digit xs ≡ true → (without_sign (xs ++ rest) ≡ xs ++ rest) × (is_negative (xs ++ rest) ≡ false)
+pub bare_digits : (xs rest : List ℕ) → 0 < length xs → list_all is_ascii_digit xs ≡ true →
+    (without_sign (xs ++ rest) ≡ xs ++ rest) × (is_negative (xs ++ rest) ≡ false)
 bare_digits [] rest h k = absurd (omega arith)
 bare_digits (x ∷ xs) rest h k =
-    let b = digit_bounds x (and_parts (is_ascii_digit x) (list_all is_ascii_digit xs) k).0 in
-    (rw (ne_eqb x 43 (λ e. omega arith), ne_eqb x 45 (λ e. omega arith)) refl, ne_eqb x 45 (λ e. omega arith))
+    let b = digit_bounds x (and_parts (is_ascii_digit x) (list_all is_ascii_digit xs) k).0 in (
+      rw (ne_eqb x 43 (λ e. omega arith), ne_eqb x 45 (λ e. omega arith)) refl,
+      ne_eqb x 45 (λ e. omega arith),
+    )
 
 -- up to 16 digits at the front are a plain number, if their value at the scale is at most 10^18
-pub IsPlain-positive : (d : ℕ) (bytes : List ℕ) (len : ℕ) → 0 < len → len ≤ 16 → len ≤ length bytes → list_all is_ascii_digit (take len bytes) ≡ true → number_of (take len bytes) * 10 ^ d ≤ 10 ^ 18 → IsPlain d bytes len (pos (number_of (take len bytes) * 10 ^ d))
+pub IsPlain-positive : (d : ℕ) (bytes : List ℕ) (len : ℕ) → 0 < len → len ≤ 16 → len
+    ≤ length bytes → list_all is_ascii_digit (take len bytes) ≡ true → number_of (take len bytes)
+    * 10 ^ d ≤ 10 ^ 18 → IsPlain d bytes len (pos (number_of (take len bytes) * 10 ^ d))
 IsPlain-positive d bytes len some short within digits small =
     let xs = take len bytes in
     let more : 0 < length xs = omega (arith, length-take len bytes) in
@@ -149,32 +194,42 @@ IsPlain-positive d bytes len some short within digits small =
       some = some;
       short = omega arith;
       within = within;
-      scaled = scaled_value-plain d xs xs bare.0 (any-digits is_exponent_mark xs no_exponent digits) more digits small ∙ rw bare.1 refl;
+      scaled = scaled_value-plain d xs xs bare.0
+          (any-digits is_exponent_mark xs no_exponent digits) more digits small ∙ rw bare.1 refl;
       whole = any-digits is_separator xs no_separator digits;
     }
 
-pub IsPlain-negative : (d : ℕ) (bytes rest : List ℕ) (len : ℕ) → is_negative bytes ≡ true → rest ≡ drop 1 bytes → 0 < len → len ≤ 16 → len ≤ length rest → list_all is_ascii_digit (take len rest) ≡ true → number_of (take len rest) * 10 ^ d ≤ 10 ^ 18 → IsPlain d bytes (len + 1) (neg_ℤ (pos (number_of (take len rest) * 10 ^ d)))
+pub IsPlain-negative : (d : ℕ) (bytes rest : List ℕ) (len : ℕ) → is_negative bytes ≡ true →
+    rest ≡ drop 1 bytes → 0 < len → len ≤ 16 → len ≤ length rest →
+    list_all is_ascii_digit (take len rest) ≡ true → number_of (take len rest) * 10 ^ d ≤ 10 ^ 18 →
+    IsPlain d bytes (len + 1) (neg_ℤ (pos (number_of (take len rest) * 10 ^ d)))
 IsPlain-negative d [] rest len sign e some short within digits small = cc
 IsPlain-negative d (b ∷ bs) rest len sign e some short within digits small =
     let xs = take len rest in
     let size = ap length e in
     let more : 0 < length xs = omega (arith, length-take len rest) in
-    let marks : has_exponent (45 ∷ xs) ≡ false = any-digits is_exponent_mark xs no_exponent digits in
-    let at : take (len + 1) (b ∷ bs) ≡ 45 ∷ xs = rw (add-one) (ap (λ x. x ∷ take len bs) (eqb-true b 45 sign) ∙ ap (λ z. 45 ∷ take len z) (sym e)) in
+    let marks : has_exponent (45 ∷ xs) ≡ false =
+    any-digits is_exponent_mark xs no_exponent digits in
+    let at : take (len + 1) (b ∷ bs) ≡ 45 ∷ xs = rw (add-one)
+    (ap (λ x. x ∷ take len bs) (eqb-true b 45 sign) ∙ ap (λ z. 45 ∷ take len z) (sym e)) in
     record {
       some = omega arith;
       short = omega arith;
       within = omega (arith, size);
-      scaled = ap (scaled_value d) at ∙ scaled_value-plain d (45 ∷ xs) xs refl marks more digits small;
+      scaled = ap (scaled_value d) at
+          ∙ scaled_value-plain d (45 ∷ xs) xs refl marks more digits small;
       whole = ap (list_any is_separator) at ∙ any-digits is_separator xs no_separator digits;
     }
 
 -- a number below 10^k is below each higher power of ten
 pub below_power : (n k m : ℕ) → n < 10 ^ k → k ≤ m → n < 10 ^ m
-below_power n k m h le = omega (arith, h, pow-le-pow_right {n = 10} (omega arith) {i = k} {j = m} le)
+below_power n k m h le =
+    omega (arith, h, pow-le-pow_right {n = 10} (omega arith) {i = k} {j = m} le)
 
-pub padded_small : (n len d power_of_ten : ℕ) → n < 10 ^ len → power_of_ten ≡ 10 ^ d → len + d ≤ 16 → n * power_of_ten ≤ 10 ^ 16
+pub padded_small : (n len d power_of_ten : ℕ) → n < 10 ^ len → power_of_ten ≡ 10 ^ d →
+    len + d ≤ 16 → n * power_of_ten ≤ 10 ^ 16
 padded_small n len d power_of_ten h is few =
-    let most : n * 10 ^ d ≤ 10 ^ len * 10 ^ d = mul-le n (10 ^ d) (10 ^ len) (10 ^ d) (omega (arith, h)) (omega arith) in
+    let most : n * 10 ^ d ≤ 10 ^ len * 10 ^ d =
+    mul-le n (10 ^ d) (10 ^ len) (10 ^ d) (omega (arith, h)) (omega arith) in
     let power = pow-le-pow_right {n = 10} (omega arith) {i = len + d} {j = 16} few in
     rw is (omega (arith, most, pow-add 10 len d, power))

@@ -19,10 +19,13 @@ use Rattle.drainage.proofs.Reach.{data_inside}
 use Rattle.terrain.proofs.EightWays.{eight, zip_some}
 
 -- height and steps on a way are those of a neighbour
-pub on_way : (t : Terrain) (steps : List (Option ℕ)) (p : Place) (a : Around) (way : ℕ) (w : ℤ × ℕ) → IsLaidAround t steps p a → way < 8 → get_or a.ways way None ≡ Some w →
-    (q : Place) × (place_on way p ≡ Some q) × (height_at t q ≡ Some w.0) × (entry_at t.cols t.rows steps q ≡ Some w.1)
+pub on_way : (t : Terrain) (steps : List (Option ℕ)) (p : Place) (a : Around) (way : ℕ)
+    (w : ℤ × ℕ) → IsLaidAround t steps p a → way < 8 → get_or a.ways way None ≡ Some w →
+    (q : Place) × (place_on way p ≡ Some q) × (height_at t q ≡ Some w.0)
+    × (entry_at t.cols t.rows steps q ≡ Some w.1)
 on_way t steps p a way w f below e =
-    zip_some (λ q. entry_at t.cols t.rows t.cells q) (λ q. entry_at t.cols t.rows steps q) (place_on way p) w.0 w.1 (sym (f.ways way below) ∙ e)
+    zip_some (λ q. entry_at t.cols t.rows t.cells q) (λ q. entry_at t.cols t.rows steps q)
+    (place_on way p) w.0 w.1 (sym (f.ways way below) ∙ e)
 
 pub positive_part-below : (x y : ℤ) → y <ℤ x → 0 < positive_part (x -ℤ y)
 positive_part-below x y less = part (x -ℤ y) (omega (arith, ints))
@@ -47,8 +50,10 @@ below-positive_part x y h = let above : pos 0 <ℤ (x -ℤ y) = part (x -ℤ y) 
     part (pos n) h = omega (arith, ints)
     part (negsuc n) h = absurd (omega arith)
 
-pub steps_at : (t : Terrain) (steps : List (Option ℕ)) (q : Place) → AreSteps t steps → IsDataCell t q → (n : ℕ) × (entry_at t.cols t.rows steps q ≡ Some n) × IsSteps t q n
-steps_at t steps q are is = MatchOption-at_some _ _ (height_of t q) (height_is t q is) (are.each q (data_inside t q is))
+pub steps_at : (t : Terrain) (steps : List (Option ℕ)) (q : Place) → AreSteps t steps →
+    IsDataCell t q → (n : ℕ) × (entry_at t.cols t.rows steps q ≡ Some n) × IsSteps t q n
+steps_at t steps q are is =
+    MatchOption-at_some _ _ (height_of t q) (height_is t q is) (are.each q (data_inside t q is))
 
 -- a drop of positive weight is above 0
 pub weight-drop : (way drop : ℕ) → 0 < weight way drop → 0 < drop
@@ -58,32 +63,40 @@ weight-drop way zero h = absurd (elim (cases_Bool (eqb (way % 2) 0)) [
 ])
 weight-drop way (suc n) h = omega arith
 
-pub some_way : (o : Option (ℤ × ℕ)) (level : ℤ) → 0 < drop_to level o → (w : ℤ × ℕ) × (o ≡ Some w) × (w.0 <ℤ level)
+pub some_way : (o : Option (ℤ × ℕ)) (level : ℤ) → 0 < drop_to level o → (w : ℤ × ℕ) × (o ≡ Some w)
+    × (w.0 <ℤ level)
 some_way None level h = absurd (omega arith)
 some_way (Some w) level h = (w, refl, below-positive_part level w.0 h)
 
-pub some_onward : (a : Around) (o : Option (ℤ × ℕ)) → leads_on a o ≡ true → (w : ℤ × ℕ) × (o ≡ Some w) × (w.0 ≡ a.level) × (w.1 + 1 ≡ a.steps)
+pub some_onward : (a : Around) (o : Option (ℤ × ℕ)) → leads_on a o ≡ true →
+    (w : ℤ × ℕ) × (o ≡ Some w) × (w.0 ≡ a.level) × (w.1 + 1 ≡ a.steps)
 some_onward a None h = absurd (false≢true h)
 some_onward a (Some w) h =
-    let both = and_parts _ _ h in (w, refl, (Decides-int_eq w.0 a.level).0 both.0, eqb-true _ _ both.1)
+    let both = and_parts _ _ h in
+    (w, refl, (Decides-int_eq w.0 a.level).0 both.0, eqb-true _ _ both.1)
 
 -- the height and the steps of the neighbour on a way, if both are known
 abbrev pub shown_on : Terrain → List (Option ℕ) → Place → ℕ → Option (ℤ × ℕ)
-shown_on t steps p way = option_zip (entry_on t.cols t.rows t.cells way p) (entry_on t.cols t.rows steps way p)
+shown_on t steps p way =
+    option_zip (entry_on t.cols t.rows t.cells way p) (entry_on t.cols t.rows steps way p)
 
 abbrev pub around_with : Terrain → List (Option ℕ) → Place → ℤ → ℕ → Bool → Around
 around_with t steps p level own edge = record {
   level = level;
   steps = own;
   edge = edge;
-  ways = shown_on t steps p 0 ∷ shown_on t steps p 1 ∷ shown_on t steps p 2 ∷ shown_on t steps p 3 ∷ shown_on t steps p 4 ∷ shown_on t steps p 5 ∷ shown_on t steps p 6 ∷ shown_on t steps p 7 ∷ [];
+  ways = shown_on t steps p 0 ∷ shown_on t steps p 1 ∷ shown_on t steps p 2 ∷ shown_on t steps p 3
+      ∷ shown_on t steps p 4 ∷ shown_on t steps p 5 ∷ shown_on t steps p 6 ∷ shown_on t steps p 7
+      ∷ [];
 }
 
-pub laid_with : (t : Terrain) (steps : List (Option ℕ)) (p : Place) (level : ℤ) (own : ℕ) (edge : Bool) → height_at t p ≡ Some level → entry_at t.cols t.rows steps p ≡ Some own →
+pub laid_with : (t : Terrain) (steps : List (Option ℕ)) (p : Place) (level : ℤ) (own : ℕ)
+    (edge : Bool) → height_at t p ≡ Some level → entry_at t.cols t.rows steps p ≡ Some own →
     IsLaidAround t steps p (around_with t steps p level own edge)
 laid_with t steps p level own edge high count = record {
   level = high;
   own_steps = count;
   count = refl;
-  ways = eight (λ (way : ℕ). get_or (around_with t steps p level own edge).ways way None ≡ shown_on t steps p way) refl refl refl refl refl refl refl refl;
+  ways = eight (λ (way : ℕ). get_or (around_with t steps p level own edge).ways way None
+      ≡ shown_on t steps p way) refl refl refl refl refl refl refl refl;
 }

@@ -31,18 +31,24 @@ use Rattle.drain.proofs.TileRound.{round_from}
 use Rattle.drain.proofs.Unique.{at_place, place_at-index_of}
 
 -- the initial count of a place is that of its spot
-pub begun_shown : (t : Terrain) (b : Bounds) (s q : Place) (n : ℕ) → Shows b s q → n ≤ no_count → IsBegun (IsEdgeOrHasLower t) q (known n) → IsBegunSpot (IsEdgeOrHasLower t) b s n
+pub begun_shown : (t : Terrain) (b : Bounds) (s q : Place) (n : ℕ) → Shows b s q → n ≤ no_count →
+    IsBegun (IsEdgeOrHasLower t) q (known n) → IsBegunSpot (IsEdgeOrHasLower t) b s n
 begun_shown t b s q n there few here = (
   few,
-  λ p shows. subst (λ (r : Place). IsBegun (IsEdgeOrHasLower t) r (known n)) (shows_same b s q p there shows) here,
+  λ p shows. subst (λ (r : Place). IsBegun (IsEdgeOrHasLower t) r (known n))
+      (shows_same b s q p there shows) here,
   λ off. absurd (shows_none b s q there off),
 )
 
 -- properties that agree at the place of a spot give it the same initial count
-begun_by : (A B : Place → Type 0) (b : Bounds) (s : Place) (n : ℕ) → ((p : Place) → Shows b s p → A p → B p) → ((p : Place) → Shows b s p → B p → A p) → IsBegunSpot A b s n → IsBegunSpot B b s n
+begun_by : (A B : Place → Type 0) (b : Bounds) (s : Place) (n : ℕ) → ((p : Place) → Shows b s p →
+    A p → B p) → ((p : Place) → Shows b s p → B p → A p) → IsBegunSpot A b s n → IsBegunSpot B b s n
 begun_by A B b s n to from is = (
   is.0,
-  λ p shows. let at = is.1 p shows in record { zero = λ drains. at.zero (from p shows drains); only = λ m e. let one = at.only m e in (to p shows one.0, one.1) },
+  λ p shows. let at = is.1 p shows in record {
+    zero = λ drains. at.zero (from p shows drains);
+    only = λ m e. let one = at.only m e in (to p shows one.0, one.1);
+  },
   is.2,
 )
 
@@ -51,36 +57,50 @@ sink_at sinks index = get_or sinks index (make_place 0 0)
 
 -- the cell is an edge cell, has a lower neighbour, or is a data cell among the first `end` sinks
 abbrev pub DrainsBefore : Terrain → List Place → ℕ → Place → Type 0
-DrainsBefore t sinks end p = IsEdgeOrHasLower t p ⊎ (IsDataCell t p × (k : ℕ) × (k < end) × (k < length sinks) × (get_or sinks k p ≡ p))
+DrainsBefore t sinks end p = IsEdgeOrHasLower t p
+    ⊎ (IsDataCell t p × (k : ℕ) × (k < end) × (k < length sinks) × (get_or sinks k p ≡ p))
 
 abbrev pub AreBegunBefore : Terrain → List Place → ℕ → Bounds → List ℕ → Type 0
 AreBegunBefore t sinks end b counts = AreBegunSpots (DrainsBefore t sinks end) b counts
 
-spots_by : (A B : Place → Type 0) (b : Bounds) (counts : List ℕ) → ((s p : Place) → IsSpot b s → Shows b s p → A p → B p) → ((s p : Place) → IsSpot b s → Shows b s p → B p → A p) → AreBegunSpots A b counts → AreBegunSpots B b counts
+spots_by : (A B : Place → Type 0) (b : Bounds) (counts : List ℕ) → ((s p : Place) →
+    IsSpot b s → Shows b s p → A p → B p) → ((s p : Place) → IsSpot b s → Shows b s p → B p → A p) →
+    AreBegunSpots A b counts → AreBegunSpots B b counts
 spots_by A B b counts to from are = record {
   size = are.size;
-  each = λ s spot below. begun_by A B b s _ (λ p shows. to s p spot shows) (λ p shows. from s p spot shows) (are.each s spot below);
+  each = λ s spot below. begun_by A B b s _ (λ p shows. to s p spot shows) (λ p shows.
+      from s p spot shows) (are.each s spot below);
 }
 
-pub before_any : (t : Terrain) (sinks : List Place) (b : Bounds) (counts : List ℕ) → AreBegunSpots (IsEdgeOrHasLower t) b counts → AreBegunBefore t sinks 0 b counts
-before_any t sinks b counts are = spots_by (IsEdgeOrHasLower t) (DrainsBefore t sinks 0) b counts (λ s p spot shows drains. inl drains) (λ s p spot shows drains. elim drains [ inl anyway ↦ anyway | inr sink ↦ absurd (omega (arith, sink.2)) ]) are
+pub before_any : (t : Terrain) (sinks : List Place) (b : Bounds) (counts : List ℕ) →
+    AreBegunSpots (IsEdgeOrHasLower t) b counts → AreBegunBefore t sinks 0 b counts
+before_any t sinks b counts are = spots_by (IsEdgeOrHasLower t) (DrainsBefore t sinks 0) b counts
+    (λ s p spot shows drains. inl drains) (λ s p spot shows drains.
+    elim drains [ inl anyway ↦ anyway | inr sink ↦ absurd (omega (arith, sink.2)) ]) are
 
-pub before_all : (t : Terrain) (sinks : List Place) (end : ℕ) (b : Bounds) (counts : List ℕ) → sinks ≡ t.sinks → length sinks ≤ end → AreBegunBefore t sinks end b counts → AreBegunSpots (DrainsAtOnce t) b counts
+pub before_all : (t : Terrain) (sinks : List Place) (end : ℕ) (b : Bounds) (counts : List ℕ) →
+    sinks ≡ t.sinks → length sinks ≤ end → AreBegunBefore t sinks end b counts →
+    AreBegunSpots (DrainsAtOnce t) b counts
 before_all t sinks end b counts named all are =
     spots_by (DrainsBefore t sinks end) (DrainsAtOnce t) b counts
     (λ s p spot shows drains. elim drains [
       | inl anyway ↦ elim anyway [ inl lower ↦ inl lower | inr edge ↦ inr (inl edge) ]
-      | inr sink ↦ inr (inr (sink.0, subst (λ (xs : List Place). Contains xs p) named (sink.1, sink.3, sink.4)))
+      | inr sink ↦ inr (inr (
+        sink.0,
+        subst (λ (xs : List Place). Contains xs p) named (sink.1, sink.3, sink.4),
+      ))
     ])
     (λ s p spot shows drains. elim drains [
       | inl lower ↦ inl (inl lower)
       | inr end ↦ elim end [
         | inl edge ↦ inl (inr edge)
-        | inr sink ↦ (let is = subst (λ (xs : List Place). Contains xs p) (sym named) sink.1 in inr (sink.0, is.0, omega (arith, is.1, all), is.1, is.2))
+        | inr sink ↦ (let is = subst (λ (xs : List Place). Contains xs p) (sym named) sink.1 in
+            inr (sink.0, is.0, omega (arith, is.1, all), is.1, is.2))
       ]
     ]) are
 
-module _ (t : Terrain) (sinks : List Place) (index : ℕ) (b : Bounds) (counts : List ℕ) (below : index < length sinks) (before : AreBegunBefore t sinks index b counts) where
+module _ (t : Terrain) (sinks : List Place) (index : ℕ) (b : Bounds) (counts : List ℕ)
+    (below : index < length sinks) (before : AreBegunBefore t sinks index b counts) where
   abbrev sink : Place
   sink = sink_at sinks index
 
@@ -91,7 +111,8 @@ module _ (t : Terrain) (sinks : List Place) (index : ℕ) (b : Bounds) (counts :
   later p (inl anyway) = inl anyway
   later p (inr one) = inr (one.0, one.1, omega (arith, one.2), one.3, one.4)
 
-  earlier : (p : Place) → (p ≡ sink → IsDataCell t p → ⊥) → DrainsBefore t sinks (index + 1) p → DrainsBefore t sinks index p
+  earlier : (p : Place) → (p ≡ sink → IsDataCell t p → ⊥) → DrainsBefore t sinks (index + 1) p →
+      DrainsBefore t sinks index p
   earlier p other (inl anyway) = inl anyway
   earlier p other (inr one) = elim (cases_eq one.1 index) [
     | inl last ↦ absurd (other (sym one.4 ∙ ap (λ n. get_or sinks n p) last ∙ named p) one.0)
@@ -99,23 +120,35 @@ module _ (t : Terrain) (sinks : List Place) (index : ℕ) (b : Bounds) (counts :
   ]
 
   -- a sink outside the window or without data changes no count
-  pub sink_passed : ((s : Place) → IsSpot b s → Shows b s (sink_at sinks index) → IsDataCell t (sink_at sinks index) → ⊥) → AreBegunBefore t sinks (index + 1) b counts
+  pub sink_passed : ((s : Place) → IsSpot b s → Shows b s (sink_at sinks index) →
+      IsDataCell t (sink_at sinks index) → ⊥) → AreBegunBefore t sinks (index + 1) b counts
   sink_passed out =
-      spots_by (DrainsBefore t sinks index) (DrainsBefore t sinks (index + 1)) b counts (λ s p spot shows. later p)
-      (λ s p spot shows. earlier p (λ same is. out s spot (subst (λ (q : Place). Shows b s q) same shows) (subst (λ (q : Place). IsDataCell t q) same is))) before
+      spots_by (DrainsBefore t sinks index) (DrainsBefore t sinks (index + 1)) b counts
+      (λ s p spot shows. later p)
+      (λ s p spot shows. earlier p (λ same is. out s spot (subst (λ (q : Place). Shows b s q)
+      same shows) (subst (λ (q : Place). IsDataCell t q) same is))) before
 
   -- a sink with data in the window sets the count of its spot
-  pub sink_put : (r : Place) → IsSpot b r → Shows b r (sink_at sinks index) → IsDataCell t (sink_at sinks index) → AreBegunBefore t sinks (index + 1) b (slice_set counts (spot_index b r) 0)
+  pub sink_put : (r : Place) →
+      IsSpot b r → Shows b r (sink_at sinks index) → IsDataCell t (sink_at sinks index) →
+      AreBegunBefore t sinks (index + 1) b (slice_set counts (spot_index b r) 0)
   sink_put r spot on here = record {
     size = length-set counts (spot_index b r) 0 ∙ before.size;
     each = λ s inner low. elim (cases_eq (spot_index b s) (spot_index b r)) [
       | inl e ↦ (let one : r ≡ s = index_injective (b.cols + 2) r s spot.1 inner.1 (sym e) in
-          subst (λ (q : Place). IsBegunSpot (DrainsBefore t sinks (index + 1)) b q (get_or (slice_set counts (spot_index b r) 0) (spot_index b q) 0)) one
-          (subst (λ (n : ℕ). IsBegunSpot (DrainsBefore t sinks (index + 1)) b r n) (sym (get_or-set_same counts (spot_index b r) 0 0 (omega (arith, before.size, spot_below b r spot)))) begun))
+          subst (λ (q : Place). IsBegunSpot (DrainsBefore t sinks (index + 1)) b q
+          (get_or (slice_set counts (spot_index b r) 0) (spot_index b q) 0)) one
+          (subst (λ (n : ℕ). IsBegunSpot (DrainsBefore t sinks (index + 1)) b r n)
+          (sym (get_or-set_same counts (spot_index b r) 0 0
+          (omega (arith, before.size, spot_below b r spot)))) begun))
       | inr ne ↦ (
-          subst (λ (n : ℕ). IsBegunSpot (DrainsBefore t sinks (index + 1)) b s n) (sym (get_or-set_other counts (spot_index b r) (spot_index b s) 0 0 ne))
-          (begun_by (DrainsBefore t sinks index) (DrainsBefore t sinks (index + 1)) b s _ (λ p shows. later p) (λ p shows. earlier p (λ same is. ne (ap (λ (q : Place). spot_index b q)
-          (same_place s r (omega (arith, shows.0, on.0, ap (λ (q : Place). q.row) same)) (omega (arith, shows.1, on.1, ap (λ (q : Place). q.col) same))))))
+          subst (λ (n : ℕ). IsBegunSpot (DrainsBefore t sinks (index + 1)) b s n)
+          (sym (get_or-set_other counts (spot_index b r) (spot_index b s) 0 0 ne))
+          (begun_by (DrainsBefore t sinks index)
+          (DrainsBefore t sinks (index + 1)) b s _ (λ p shows. later p)
+          (λ p shows. earlier p (λ same is. ne (ap (λ (q : Place). spot_index b q)
+          (same_place s r (omega (arith, shows.0, on.0, ap (λ (q : Place). q.row) same))
+          (omega (arith, shows.1, on.1, ap (λ (q : Place). q.col) same))))))
           (before.each s inner low)))
     ];
   }
@@ -125,26 +158,42 @@ module _ (t : Terrain) (sinks : List Place) (index : ℕ) (b : Bounds) (counts :
         omega arith,
         λ p shows. let same : p ≡ sink = shows_same b r p sink shows on in record {
           zero = λ drains. refl;
-          only = λ n e. (inr (subst (λ (q : Place). IsDataCell t q) (sym same) here, index, omega arith, below, named p ∙ sym same), same_Some n 0 (sym e));
+          only = λ n e. (
+            inr (
+              subst (λ (q : Place). IsDataCell t q) (sym same) here,
+              index,
+              omega arith,
+              below,
+              named p ∙ sym same,
+            ),
+            same_Some n 0 (sym e),
+          );
         },
-        λ off. absurd (elim off [ inl a ↦ omega (arith, a, on.0) | inr a ↦ omega (arith, a, on.1) ]),
+        λ off.
+            absurd (elim off [ inl a ↦ omega (arith, a, on.0) | inr a ↦ omega (arith, a, on.1) ]),
       )
 
 -- a cell has at most one initial count
-one_begun : (Drains : Place → Type 0) (p : Place) (x y : Option ℕ) → IsBegun Drains p x → IsBegun Drains p y → x ≡ y
+one_begun : (Drains : Place → Type 0) (p : Place) (x y : Option ℕ) → IsBegun Drains p x →
+    IsBegun Drains p y → x ≡ y
 one_begun Drains p None None f g = refl
-one_begun Drains p (Some n) y f g = let drains = (f.only n refl).0 in f.zero drains ∙ sym (g.zero drains)
-one_begun Drains p None (Some n) f g = let drains = (g.only n refl).0 in f.zero drains ∙ sym (g.zero drains)
+one_begun Drains p (Some n) y f g = let drains = (f.only n refl).0 in f.zero drains
+    ∙ sym (g.zero drains)
+one_begun Drains p None (Some n) f g = let drains = (g.only n refl).0 in f.zero drains
+    ∙ sym (g.zero drains)
 
 known_again : (counts : List ℕ) → AreCounts counts → counts ≡ known_counts (map known counts)
 known_again [] few = refl
-known_again (n ∷ counts) few = ap (λ (m : ℕ). m ∷ counts) (sym (known_number n (few 0))) ∙ ap (λ (xs : List ℕ). unwrap_or (known n) no_count ∷ xs) (known_again counts (λ k. few (suc k)))
+known_again (n ∷ counts) few = ap (λ (m : ℕ). m ∷ counts) (sym (known_number n (few 0))) ∙ ap
+    (λ (xs : List ℕ). unwrap_or (known n) no_count ∷ xs) (known_again counts (λ k. few (suc k)))
 
 -- the initial counts at the spots are those of any list of initial counts
-module _ (t : Terrain) (b : Bounds) (counts : List ℕ) (begun : List (Option ℕ)) (are : AreBegunSpots (DrainsAtOnce t) b counts) where
+module _ (t : Terrain) (b : Bounds) (counts : List ℕ) (begun : List (Option ℕ))
+    (are : AreBegunSpots (DrainsAtOnce t) b counts) where
   pub begun_small : AreCounts counts
   begun_small k = elim (cases_lt k (area_of b)) [
-    | inl less ↦ at_place (λ i. get_or counts i 0 ≤ no_count) (b.cols + 2) (b.rows + 2) (λ s row col. (are.each s (row, col) (spot_below b s (row, col))).0) k less
+    | inl less ↦ at_place (λ i. get_or counts i 0 ≤ no_count) (b.cols + 2) (b.rows
+        + 2) (λ s row col. (are.each s (row, col) (spot_below b s (row, col))).0) k less
     | inr past ↦ omega (arith, get_or_past counts k 0 (omega (arith, are.size)))
   ]
 
@@ -155,13 +204,16 @@ module _ (t : Terrain) (b : Bounds) (counts : List ℕ) (begun : List (Option �
     seen = λ s spot.
         let below = spot_below b s spot in
         let at = are.each s spot below in
-        let here = get_or-map known counts (spot_index b s) 0 None (omega (arith, are.size, below)) in
+        let here =
+        get_or-map known counts (spot_index b s) 0 None (omega (arith, are.size, below)) in
         (λ p shows. here ∙ value p (count_on b counts s) (at.1 p shows), λ off. here ∙ at.2 off);
     value = known_again counts begun_small;
   }
     where
-      value : (p : Place) (n : ℕ) → IsBegun (DrainsAtOnce t) p (known n) → known n ≡ entry_at t.cols t.rows begun p
-      value p n is = one_begun (DrainsAtOnce t) p (known n) (entry_at t.cols t.rows begun p) is (entry p)
+      value : (p : Place) (n : ℕ) → IsBegun (DrainsAtOnce t) p (known n) →
+          known n ≡ entry_at t.cols t.rows begun p
+      value p n is =
+          one_begun (DrainsAtOnce t) p (known n) (entry_at t.cols t.rows begun p) is (entry p)
         where
           entry : (p : Place) → IsBegun (DrainsAtOnce t) p (entry_at t.cols t.rows begun p)
           entry p = record {
@@ -171,8 +223,12 @@ module _ (t : Terrain) (b : Bounds) (counts : List ℕ) (begun : List (Option �
 
 begun_at : (t : Terrain) (p : Place) → (count : Option ℕ) × IsBegun (DrainsAtOnce t) p count
 begun_at t p = elim (drains_at_once t p) [
-  | inl drains ↦ (Some 0, record { zero = λ _. refl; only = λ n e. (drains, same_Some n 0 (sym e)) })
-  | inr keeps ↦ (None, record { zero = λ drains. absurd (keeps drains); only = λ n e. absurd (none-some n e) })
+  | inl drains ↦
+      (Some 0, record { zero = λ _. refl; only = λ n e. (drains, same_Some n 0 (sym e)) })
+  | inr keeps ↦ (
+    None,
+    record { zero = λ drains. absurd (keeps drains); only = λ n e. absurd (none-some n e) },
+  )
 ]
 
 abbrev begun_in : Terrain → ℕ → Option ℕ
@@ -188,20 +244,32 @@ some_begun t =
         size = length-map (range_with_len 0 count) (begun_in t) ∙ length-range_with_len 0 count;
         each = λ p inside.
             let at = entry-inside t.cols t.rows begun p inside.0 inside.1
-            ∙ get_or-map-range_with_len (begun_in t) 0 count (index_of t.cols p) (index_of t.cols p) None (index_below t.cols t.rows p inside.0 inside.1) (omega arith)
+            ∙ get_or-map-range_with_len (begun_in t) 0 count (index_of t.cols p)
+            (index_of t.cols p) None (index_below t.cols t.rows p inside.0 inside.1) (omega arith)
             ∙ ap (λ q. (begun_at t q).0) (place_at-index_of t.cols p inside.1) in
             subst (λ (o : Option ℕ). IsBegun (DrainsAtOnce t) p o) (sym at) (begun_at t p).1;
       },
     )
 
 -- a search from the initial counts gives the counts of a round
-pub begun_round : (t : Terrain) (v : View (Option ℤ)) (c : Cutting) (tile : ℕ) (b : Bounds) (levels : List (Option ℤ)) (old new : List ℕ) (list begun : List (Option ℕ)) →
-    v ≡ record { cutting = c; tile = tile; cells = t.cells } → Cuts c t → IsCutting v.cutting → b ≡ bounds_of v.cutting v.tile → AreShown v.cutting.cols v.cutting.rows v.cells None b levels →
-    AreBegunSpots (DrainsAtOnce t) b old → AreBegun t begun → IsSearched b levels old new → AreMadeBelow b (IsCopied b new) (b.rows * b.cols) list →
-    IsRound (IsSource (sinkless_terrain c t.cells) begun) (sinkless_terrain c t.cells) c tile begun list
-begun_round t v c tile b levels old new list begun e cuts lawful bounds shown are first finished out =
+pub begun_round : (t : Terrain) (v : View (Option ℤ)) (c : Cutting) (tile : ℕ) (b : Bounds)
+    (levels : List (Option ℤ)) (old new : List ℕ) (list begun : List (Option ℕ)) →
+    v ≡ record { cutting = c; tile = tile; cells = t.cells } → Cuts c t → IsCutting v.cutting →
+    b ≡ bounds_of v.cutting v.tile → AreShown v.cutting.cols v.cutting.rows v.cells None b levels →
+    AreBegunSpots (DrainsAtOnce t) b old → AreBegun t begun → IsSearched b levels old new →
+    AreMadeBelow b (IsCopied b new) (b.rows * b.cols) list →
+    IsRound (IsSource (sinkless_terrain c t.cells) begun)
+    (sinkless_terrain c t.cells) c tile begun list
+begun_round t v c tile b levels old new list begun e cuts lawful bounds shown are first finished
+    out =
     let w : View (Option ℤ) = record { cutting = c; tile = tile; cells = t.cells } in
-    let here = subst (λ (z : View (Option ℤ)). IsCutting z.cutting × (b ≡ bounds_of z.cutting z.tile) × AreShown z.cutting.cols z.cutting.rows z.cells None b levels) e (lawful, bounds, shown) in
-    let input = subst (λ (n : ℕ). AreWindowCounts n c.rows begun b old) (sym cuts.0) (subst (λ (n : ℕ). AreWindowCounts t.cols n begun b old) (sym cuts.1) (begun_window t b old begun are first)) in
-    let walks = subst (λ (x : Terrain). AreWalked (IsSource x begun) x begun) (same_terrain t c.cols c.rows t.cells cuts.0 cuts.1 refl) (begun_counting t begun first).walked in
-    round_from w (record { cutting = c; tile = tile; cells = begun }) b levels old new list here.0 here.1 here.2 input walks finished out
+    let here =
+    subst (λ (z : View (Option ℤ)). IsCutting z.cutting × (b ≡ bounds_of z.cutting z.tile)
+    × AreShown z.cutting.cols z.cutting.rows z.cells None b levels) e (lawful, bounds, shown) in
+    let input =
+    subst (λ (n : ℕ). AreWindowCounts n c.rows begun b old) (sym cuts.0) (subst (λ (n : ℕ).
+    AreWindowCounts t.cols n begun b old) (sym cuts.1) (begun_window t b old begun are first)) in
+    let walks = subst (λ (x : Terrain). AreWalked (IsSource x begun) x begun) (same_terrain t c.cols
+    c.rows t.cells cuts.0 cuts.1 refl) (begun_counting t begun first).walked in
+    round_from w (record { cutting = c; tile = tile; cells = begun })
+    b levels old new list here.0 here.1 here.2 input walks finished out

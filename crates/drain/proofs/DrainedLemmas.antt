@@ -14,26 +14,35 @@ use Rattle.drain.proofs.Pointing.{direction_leads}
 use Rattle.terrain.proofs.Options.{cases_option}
 
 -- two lists with values at the same places of the grid have values at the same places everywhere
-everywhere : {X Y : Type 0} (cols rows : ℕ) (xs : List (Option X)) (ys : List (Option Y)) → ((p : Place) → p.row < rows → p.col < cols → is_some (entry_at cols rows xs p) ≡ is_some (entry_at cols rows ys p)) →
+everywhere : {X Y : Type 0} (cols rows : ℕ) (xs : List (Option X)) (ys : List (Option Y)) →
+    ((p : Place) → p.row < rows → p.col < cols →
+    is_some (entry_at cols rows xs p) ≡ is_some (entry_at cols rows ys p)) →
     (p : Place) → is_some (entry_at cols rows xs p) ≡ is_some (entry_at cols rows ys p)
 everywhere cols rows xs ys same p = elim (cases_lt p.row rows) [
   | inl row ↦ elim (cases_lt p.col cols) [
     | inl col ↦ same p row col
-    | inr past ↦ ap is_some (entry-beside cols rows xs p past) ∙ sym (ap is_some (entry-beside cols rows ys p past))
+    | inr past ↦ ap is_some (entry-beside cols rows xs p past)
+        ∙ sym (ap is_some (entry-beside cols rows ys p past))
   ]
-  | inr past ↦ ap is_some (entry-below cols rows xs p past) ∙ sym (ap is_some (entry-below cols rows ys p past))
+  | inr past ↦ ap is_some (entry-below cols rows xs p past)
+      ∙ sym (ap is_some (entry-below cols rows ys p past))
 ]
 
 -- a list with a number at each data cell alone has values where the terrain has data
 same_where : (t : Terrain) (Is : Place → ℕ → Type 0) (xs : List (Option ℕ)) →
-    ((p : Place) → IsInside t p → MatchOption (height_at t p) (entry_at t.cols t.rows xs p ≡ None) (λ _. (n : ℕ) × (entry_at t.cols t.rows xs p ≡ Some n) × Is p n)) →
+    ((p : Place) → IsInside t p → MatchOption (height_at t p) (entry_at t.cols t.rows xs p ≡ None)
+    (λ _. (n : ℕ) × (entry_at t.cols t.rows xs p ≡ Some n) × Is p n)) →
     (p : Place) → is_some (entry_at t.cols t.rows xs p) ≡ is_some (height_at t p)
-same_where t Is xs each = everywhere t.cols t.rows xs t.cells (λ p row col. elim (cases_option (height_at t p)) [
-  | inl none ↦ ap is_some (MatchOption-at_none _ _ none (each p (row, col))) ∙ sym (ap is_some none)
-  | inr some ↦ ap is_some (MatchOption-at_some _ _ some.0 some.1 (each p (row, col))).1 ∙ sym (ap is_some some.1)
-])
+same_where t Is xs each =
+    everywhere t.cols t.rows xs t.cells (λ p row col. elim (cases_option (height_at t p)) [
+      | inl none ↦ ap is_some (MatchOption-at_none _ _ none (each p (row, col)))
+          ∙ sym (ap is_some none)
+      | inr some ↦ ap is_some (MatchOption-at_some _ _ some.0 some.1 (each p (row, col))).1
+          ∙ sym (ap is_some some.1)
+    ])
 
-pub are_draining : (t : Terrain) (steps codes : List (Option ℕ)) → AreSteps t steps → AreDirections t codes → IsDraining (record { terrain = t; steps = steps; codes = codes })
+pub are_draining : (t : Terrain) (steps codes : List (Option ℕ)) → AreSteps t steps →
+    AreDirections t codes → IsDraining (record { terrain = t; steps = steps; codes = codes })
 are_draining t steps codes are all = record {
   codes_size = all.size;
   steps_size = are.size;
@@ -42,14 +51,18 @@ are_draining t steps codes are all = record {
   leads = λ p code e some.
       let inside = inside_from_entry t.cols t.rows codes p code e in
       elim (cases_option (height_at t p)) [
-        | inl none ↦ absurd (none-some code (sym (MatchOption-at_none _ _ none (all.each p inside)) ∙ e))
+        | inl none ↦
+            absurd (none-some code (sym (MatchOption-at_none _ _ none (all.each p inside)) ∙ e))
         | inr h ↦
             (let at = MatchOption-at_some _ _ h.0 h.1 (all.each p inside) in
             let same : code ≡ at.0 = same_Some _ _ (sym e ∙ at.1) in
-            direction_leads t steps codes p code are (subst (λ n. IsDirection t p n) (sym same) at.2) some)
+            direction_leads t steps codes p code are
+            (subst (λ n. IsDirection t p n) (sym same) at.2) some)
       ];
 }
 
 -- a terrain without sinks is given by its size and cells
-pub same_terrain : (t : Terrain) (cols rows : ℕ) (cells : List (Option ℤ)) → cols ≡ t.cols → rows ≡ t.rows → cells ≡ t.cells → with_sinks t [] ≡ record { cols = cols; rows = rows; cells = cells; sinks = [] }
+pub same_terrain : (t : Terrain) (cols rows : ℕ) (cells : List (Option ℤ)) →
+    cols ≡ t.cols → rows ≡ t.rows → cells ≡ t.cells →
+    with_sinks t [] ≡ record { cols = cols; rows = rows; cells = cells; sinks = [] }
 same_terrain t cols rows cells a b c = cc

@@ -9,7 +9,8 @@ use Rattle.drain.specs.Entering.{IsInterior}
 use Rattle.tiles.proofs.Cut.{in_bounds, in_tile, tile_of_place_below}
 
 -- a place that touches another tile lies on the rim of its own tile
-pub on_rim : (c : Cutting) (p q : Place) → IsCutting c → IsWithin c p → (IsInTile c (tile_of_place c p) q → ⊥) → Touches p q → is_on_rim c p ≡ true
+pub on_rim : (c : Cutting) (p q : Place) → IsCutting c → IsWithin c p →
+    (IsInTile c (tile_of_place c p) q → ⊥) → Touches p q → is_on_rim c p ≡ true
 on_rim c p q lawful within other touch =
     let tile = tile_of_place c p in
     let b = bounds_of c tile in
@@ -22,22 +23,40 @@ on_rim c p q lawful within other touch =
           | inl at ↦ or_left _ _ (or_right _ _ (eq-eqb _ _ at))
           | inr left ↦ elim (cases_eq (p.col + 1) (b.left + b.cols)) [
             | inl at ↦ or_right _ _ (eq-eqb _ _ at)
-            | inr right ↦ absurd (other (in_tile c tile q lawful (tile_of_place_below c p lawful within)
-                (omega (arith, i.0, touch.row_up), omega (arith, i.1, touch.row_down), omega (arith, i.2, touch.col_left), omega (arith, i.3, touch.col_right))))
+            | inr right ↦
+                absurd (other (in_tile c tile q lawful (tile_of_place_below c p lawful within) (
+                  omega (arith, i.0, touch.row_up),
+                  omega (arith, i.1, touch.row_down),
+                  omega (arith, i.2, touch.col_left),
+                  omega (arith, i.3, touch.col_right),
+                )))
           ]
         ]
       ]
     ]
 
 -- a place whose eight places around lie in a tile touches only places of that tile
-pub interior_tile : (c : Cutting) (tile : ℕ) (p q : Place) → IsCutting c → tile < tile_count c → IsInterior (bounds_of c tile) p → Touches p q → tile_of_place c q ≡ tile_of_place c p
+pub interior_tile : (c : Cutting) (tile : ℕ) (p q : Place) → IsCutting c → tile < tile_count c →
+    IsInterior (bounds_of c tile) p → Touches p q → tile_of_place c q ≡ tile_of_place c p
 interior_tile c tile p q lawful below interior touch =
-    (in_tile c tile q lawful below (omega (arith, interior.0, touch.row_up), omega (arith, interior.1, touch.row_down), omega (arith, interior.2, touch.col_left), omega (arith, interior.3, touch.col_right))).1
-    ∙ sym (in_tile c tile p lawful below (omega (arith, interior.0), omega (arith, interior.1), omega (arith, interior.2), omega (arith, interior.3))).1
+    (in_tile c tile q lawful below (
+      omega (arith, interior.0, touch.row_up),
+      omega (arith, interior.1, touch.row_down),
+      omega (arith, interior.2, touch.col_left),
+      omega (arith, interior.3, touch.col_right),
+    )).1
+    ∙ sym (in_tile c tile p lawful below (
+      omega (arith, interior.0),
+      omega (arith, interior.1),
+      omega (arith, interior.2),
+      omega (arith, interior.3),
+    )).1
 
 -- a list contains the places of its tail
-pub left_of : (x : Place) (xs ys : List Place) (p : Place) → xs ≡ x ∷ ys → Contains ys p → Contains xs p
-left_of x xs ys p e has = subst (λ (zs : List Place). Contains zs p) (sym e) (suc has.0, omega (arith, has.1), has.2)
+pub left_of : (x : Place) (xs ys : List Place) (p : Place) → xs ≡ x ∷ ys → Contains ys p →
+    Contains xs p
+left_of x xs ys p e has =
+    subst (λ (zs : List Place). Contains zs p) (sym e) (suc has.0, omega (arith, has.1), has.2)
 
 pub taken : (x : Place) (xs ys : List Place) → xs ≡ x ∷ ys → Contains xs x
 taken x xs ys e = subst (λ (zs : List Place). Contains zs x) (sym e) (0, omega arith, refl)

@@ -6,23 +6,29 @@ use Rattle.terrain.specs.declared.place.Place.{Place}
 use Rattle.tiles.specs.declared.bounds.Bounds.{Bounds}
 use Rattle.drain.specs.Window.{level_on, count_on, IsLeastAlong}
 
-pub least_of_none : (b : Bounds) (levels : List (Option ℤ)) (counts : List ℕ) (from : Place) (level : Option ℤ) (bound : ℕ) → IsLeastAlong b levels counts from from.col level bound bound
+pub least_of_none : (b : Bounds) (levels : List (Option ℤ)) (counts : List ℕ) (from : Place)
+    (level : Option ℤ) (bound : ℕ) → IsLeastAlong b levels counts from from.col level bound bound
 least_of_none b levels counts from level bound = record {
   low = omega arith;
   each = λ r row first last on. absurd (omega arith);
   one = inl refl;
 }
 
-pub least_with : (b : Bounds) (levels : List (Option ℤ)) (counts : List ℕ) (from : Place) (col : ℕ) (level : Option ℤ) (bound least next : ℕ)
+pub least_with : (b : Bounds) (levels : List (Option ℤ)) (counts : List ℕ) (from : Place) (col : ℕ)
+    (level : Option ℤ) (bound least next : ℕ)
     → IsLeastAlong b levels counts from col level bound least → from.col ≤ col → next ≤ least
-    → (level_on b levels (make_place from.row col) ≡ level → next ≤ count_on b counts (make_place from.row col) + 1)
-    → ((next ≡ least) ⊎ ((level_on b levels (make_place from.row col) ≡ level) × (next ≡ count_on b counts (make_place from.row col) + 1) × (next < least)))
+    → (level_on b levels (make_place from.row col) ≡ level →
+    next ≤ count_on b counts (make_place from.row col) + 1)
+    → ((next ≡ least) ⊎ ((level_on b levels (make_place from.row col) ≡ level)
+    × (next ≡ count_on b counts (make_place from.row col) + 1) × (next < least)))
     → IsLeastAlong b levels counts from (col + 1) level bound next
 least_with b levels counts from col level bound least next f after less each one = record {
   low = omega (arith, f.low);
   each = λ r row first last on. elim (cases_eq r.col col) [
-    | inl e ↦ (let here : r ≡ make_place from.row col = same_place r (make_place from.row col) row e in
-        subst (λ (q : Place). next ≤ count_on b counts q + 1) (sym here) (each (subst (λ (q : Place). level_on b levels q ≡ level) here on)))
+    | inl e ↦
+        (let here : r ≡ make_place from.row col = same_place r (make_place from.row col) row e in
+        subst (λ (q : Place). next ≤ count_on b counts q
+        + 1) (sym here) (each (subst (λ (q : Place). level_on b levels q ≡ level) here on)))
     | inr ne ↦ (let before = f.each r row first (omega arith) on in omega arith)
   ];
   one = elim one [
@@ -30,6 +36,7 @@ least_with b levels counts from col level bound least next f after less each one
       | inl was ↦ inl (e ∙ was)
       | inr r ↦ inr (r.0, r.1, r.2, omega (arith, r.3), r.4, e ∙ r.5, omega (arith, r.6))
     ]
-    | inr h ↦ inr (make_place from.row col, refl, after, omega arith, h.0, h.1, omega (arith, h.2, f.low))
+    | inr h ↦
+        inr (make_place from.row col, refl, after, omega arith, h.0, h.1, omega (arith, h.2, f.low))
   ];
 }

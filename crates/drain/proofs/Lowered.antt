@@ -27,50 +27,70 @@ total_low zero f g low = omega arith
 total_low (suc n) f g low = omega (arith, low n, total_low n f g low)
 
 -- the sum falls if no count rises and one falls
-pub total_less : (n : ℕ) (f g : ℕ → ℕ) → ((k : ℕ) → g k ≤ f k) → (j : ℕ) → j < n → g j < f j → total n g < total n f
+pub total_less : (n : ℕ) (f g : ℕ → ℕ) → ((k : ℕ) → g k ≤ f k) → (j : ℕ) → j < n → g j < f j →
+    total n g < total n f
 unfolding total
 total_less zero f g low j below less = absurd (omega arith)
 total_less (suc n) f g low j below less = elim (cases_eq j n) [
-  | inl e ↦ (let here : g n < f n = subst (λ (i : ℕ). g i < f i) e less in omega (arith, here, total_low n f g low))
+  | inl e ↦ (let here : g n < f n = subst (λ (i : ℕ). g i < f i) e less in
+      omega (arith, here, total_low n f g low))
   | inr ne ↦ omega (arith, low n, total_less n f g low j (omega arith) less)
 ]
 
 -- Inside the tile each count is at most one above that of a level neighbour, unless the neighbour's
 -- change waits at index `from` or later.
-pub record IsEvenButReported (t : Terrain) (c : Cutting) (tile : ℕ) (steps : List (Option ℕ)) (l : Lowered) (from : ℕ) : Type 0 where
+pub record IsEvenButReported (t : Terrain) (c : Cutting) (tile : ℕ) (steps : List (Option ℕ))
+    (l : Lowered) (from : ℕ) : Type 0 where
   pub within : (p q : Place) → IsInTile c tile p → IsInTile c tile q → AreLevel t p q →
-      (counts_in c tile steps l (index_of c.cols p) ≤ counts_in c tile steps l (index_of c.cols q) + 1) ⊎ IsReported c tile steps l from q
+      (counts_in c tile steps l (index_of c.cols p) ≤ counts_in c tile steps l (index_of c.cols q)
+      + 1) ⊎ IsReported c tile steps l from q
 
 -- no count is above 2^24, the count of an unknown one
-small_walk : (Ends : Place → Type 0) (t : Terrain) (p : Place) (o : Option ℕ) → IfSome o (IsWalked Ends t p) → unwrap_or o (2 ^ 24) ≤ 2 ^ 24
+small_walk : (Ends : Place → Type 0) (t : Terrain) (p : Place) (o : Option ℕ) →
+    IfSome o (IsWalked Ends t p) → unwrap_or o (2 ^ 24) ≤ 2 ^ 24
 small_walk Ends t p None walked = omega arith
 small_walk Ends t p (Some n) walked = omega (arith, walked.0)
 
-pub small : (t : Terrain) (steps : List (Option ℕ)) (k : ℕ) → AreCounting t steps → count_of steps k ≤ 2 ^ 24
+pub small : (t : Terrain) (steps : List (Option ℕ)) (k : ℕ) → AreCounting t steps →
+    count_of steps k ≤ 2 ^ 24
 small t steps k counting = elim (cases_lt k (t.cols * t.rows)) [
   | inl below ↦ at_place (λ (i : ℕ). count_of steps i ≤ 2 ^ 24) t.cols t.rows (λ p row col.
-      let here = small_walk (IsSource t steps) t p (entry_at t.cols t.rows steps p) (counting.walked p) in
-      let same = ap (λ (o : Option ℕ). unwrap_or o (2 ^ 24)) (entry-inside t.cols t.rows steps p row col) in omega (arith, here, same)) k below
-  | inr past ↦ (let none = ap (λ (o : Option ℕ). unwrap_or o (2 ^ 24)) (get_or_past steps k None (omega (arith, past, counting.size))) in omega (arith, none))
+      let here =
+      small_walk (IsSource t steps) t p (entry_at t.cols t.rows steps p) (counting.walked p) in
+      let same = ap (λ (o : Option ℕ). unwrap_or o (2 ^ 24))
+      (entry-inside t.cols t.rows steps p row col) in omega (arith, here, same)) k below
+  | inr past ↦ (let none = ap (λ (o : Option ℕ). unwrap_or o (2 ^ 24))
+      (get_or_past steps k None (omega (arith, past, counting.size))) in omega (arith, none))
 ]
 
 module _ (t : Terrain) (c : Cutting) (tile : ℕ) (steps : List (Option ℕ)) where
   at : Lowered → Place → ℕ
   at l p = counts_in c tile steps l (index_of c.cols p)
 
-  change_low : (f g : ℕ → ℕ) (x : Change) → ((k : ℕ) → g k ≤ f k) → IsChange t c tile steps f x → IsChange t c tile steps g x
-  change_low f g x low is = record { inside = is.inside; walked = is.walked; less = is.less; least = omega (arith, is.least, low (index_of c.cols x.place)) }
+  change_low : (f g : ℕ → ℕ) (x : Change) → ((k : ℕ) → g k ≤ f k) → IsChange t c tile steps f x →
+      IsChange t c tile steps g x
+  change_low f g x low is = record {
+    inside = is.inside;
+    walked = is.walked;
+    less = is.less;
+    least = omega (arith, is.least, low (index_of c.cols x.place));
+  }
 
   -- a reported place stays reported while its count stays
-  reported_still : (old new : Lowered) (from : ℕ) (p : Place) → ((k : ℕ) → k < length old.changes.items → slice_get new.changes.items k ≡ slice_get old.changes.items k) →
-      counts_in c tile steps new (index_of c.cols p) ≡ counts_in c tile steps old (index_of c.cols p) → IsReported c tile steps old from p → IsReported c tile steps new from p
+  reported_still : (old new : Lowered) (from : ℕ) (p : Place) → ((k : ℕ) → k
+      < length old.changes.items → slice_get new.changes.items k ≡ slice_get old.changes.items k) →
+      counts_in c tile steps new (index_of c.cols p) ≡ counts_in c tile steps old
+      (index_of c.cols p) → IsReported c tile steps old from p → IsReported c tile steps new from p
   reported_still old new from p kept same reported = (
     reported.0,
     reported.1,
-    kept reported.0 (slice_get_within old.changes.items reported.0 _ reported.2) ∙ reported.2 ∙ ap (λ (n : ℕ). Some (let x : Change = record { place = p; count = n } in x)) (sym same),
+    kept reported.0 (slice_get_within old.changes.items reported.0 _ reported.2) ∙ reported.2
+        ∙ ap (λ (n : ℕ). Some (let x : Change = record { place = p; count = n } in x)) (sym same),
   )
 
-  pub reached_same : (Done : Place → Type 0) (bound : ℕ) (l : Lowered) → ((p : Place) → Done p → counts_in c tile steps l (index_of c.cols p) ≤ bound) → IsLoweredTo t c tile steps Done bound l l
+  pub reached_same : (Done : Place → Type 0) (bound : ℕ) (l : Lowered) →
+      ((p : Place) → Done p → counts_in c tile steps l (index_of c.cols p) ≤ bound) →
+      IsLoweredTo t c tile steps Done bound l l
   reached_same Done bound l near = record {
     low = λ k. omega arith;
     near = near;
@@ -82,15 +102,30 @@ module _ (t : Terrain) (c : Cutting) (tile : ℕ) (steps : List (Option ℕ)) wh
     left = omega arith;
   }
 
-  pub reached_none : (Done : Place → Type 0) (bound : ℕ) (l : Lowered) → ((p : Place) → Done p → ⊥) → IsLoweredTo t c tile steps Done bound l l
+  pub reached_none : (Done : Place → Type 0) (bound : ℕ) (l : Lowered) →
+      ((p : Place) → Done p → ⊥) → IsLoweredTo t c tile steps Done bound l l
   reached_none Done bound l none = reached_same Done bound l (λ p done. absurd (none p done))
 
-  pub reached_all : (First Done : Place → Type 0) (bound : ℕ) (old new : Lowered) → ((p : Place) → Done p → First p) → IsLoweredTo t c tile steps First bound old new → IsLoweredTo t c tile steps Done bound old new
-  reached_all First Done bound old new each f = record { low = f.low; near = λ p done. f.near p (each p done); rows = f.rows; longer = f.longer; kept = f.kept; reported = f.reported; added = f.added; left = f.left }
+  pub reached_all : (First Done : Place → Type 0) (bound : ℕ) (old new : Lowered) →
+      ((p : Place) → Done p → First p) → IsLoweredTo t c tile steps First bound old new →
+      IsLoweredTo t c tile steps Done bound old new
+  reached_all First Done bound old new each f =
+      record {
+        low = f.low;
+        near = λ p done. f.near p (each p done);
+        rows = f.rows;
+        longer = f.longer;
+        kept = f.kept;
+        reported = f.reported;
+        added = f.added;
+        left = f.left;
+      }
 
   -- a search to `First` and then to `Next` is a search to both
-  pub reached_then : (First Next Done : Place → Type 0) (bound : ℕ) (old mid new : Lowered) → ((p : Place) → Done p → First p ⊎ Next p) →
-      IsLoweredTo t c tile steps First bound old mid → IsLoweredTo t c tile steps Next bound mid new → IsLoweredTo t c tile steps Done bound old new
+  pub reached_then : (First Next Done : Place → Type 0) (bound : ℕ) (old mid new : Lowered) →
+      ((p : Place) → Done p → First p ⊎ Next p) →
+      IsLoweredTo t c tile steps First bound old mid →
+      IsLoweredTo t c tile steps Next bound mid new → IsLoweredTo t c tile steps Done bound old new
   reached_then First Next Done bound old mid new each f g = record {
     low = λ k. omega (arith, f.low k, g.low k);
     near = λ p done. elim (each p done) [
@@ -104,60 +139,91 @@ module _ (t : Terrain) (c : Cutting) (tile : ℕ) (steps : List (Option ℕ)) wh
       | inr reported ↦ inr (reported.0, omega (arith, reported.1, f.longer), reported.2)
       | inl same ↦ elim (f.reported p within) [
         | inl before ↦ inl (same ∙ before)
-        | inr reported ↦ inr (reported_still mid new (length old.changes.items) p g.kept same reported)
+        | inr reported ↦
+            inr (reported_still mid new (length old.changes.items) p g.kept same reported)
       ]
     ];
     added = λ k x past is. elim (cases_lt k (length mid.changes.items)) [
-      | inl below ↦ change_low (counts_in c tile steps mid) (counts_in c tile steps new) x g.low (f.added k x past (sym (g.kept k below) ∙ is))
+      | inl below ↦ change_low (counts_in c tile steps mid) (counts_in c tile steps new) x g.low
+          (f.added k x past (sym (g.kept k below) ∙ is))
       | inr beyond ↦ g.added k x beyond is
     ];
     left = omega (arith, f.left, g.left);
   }
 
   -- lowering one cell to its change is a part of a search
-  pub reached_put : (old new : Lowered) (x : Change) → IsInTile c tile x.place → IsWalked (IsSource t steps) t x.place x.count → x.count < counts_in c tile steps old (index_of c.cols x.place) →
+  pub reached_put : (old new : Lowered) (x : Change) →
+      IsInTile c tile x.place → IsWalked (IsSource t steps) t x.place x.count →
+      x.count < counts_in c tile steps old (index_of c.cols x.place) →
       ((k : ℕ) → counts_in c tile steps old k ≤ count_of steps k) →
-      counts_in c tile steps new (index_of c.cols x.place) ≡ x.count → ((k : ℕ) → k ≢ index_of c.cols x.place → counts_in c tile steps new k ≡ counts_in c tile steps old k) →
-      length new.rows.items ≡ length old.rows.items → new.changes.items ≡ old.changes.items ++ x ∷ [] → IsLoweredTo t c tile steps (λ p. p ≡ x.place) x.count old new
+      counts_in c tile steps new (index_of c.cols x.place) ≡ x.count → ((k : ℕ) →
+      k ≢ index_of c.cols x.place → counts_in c tile steps new k ≡ counts_in c tile steps old k) →
+      length new.rows.items ≡ length old.rows.items → new.changes.items ≡ old.changes.items
+      ++ x ∷ [] → IsLoweredTo t c tile steps (λ p. p ≡ x.place) x.count old new
   reached_put old new x inside walked less_old low_old here other rows pushed =
       let i = index_of c.cols x.place in
-      let low : (k : ℕ) → counts_in c tile steps new k ≤ counts_in c tile steps old k = λ k. elim (cases_eq k i) [
-        | inl e ↦ (let new_is : counts_in c tile steps new k ≡ counts_in c tile steps new i = ap (λ (j : ℕ). counts_in c tile steps new j) e in
-            let old_is : counts_in c tile steps old k ≡ counts_in c tile steps old i = ap (λ (j : ℕ). counts_in c tile steps old j) e in omega (arith, new_is, old_is, here, less_old))
+      let low : (k : ℕ) → counts_in c tile steps new k ≤ counts_in c tile steps old k =
+      λ k. elim (cases_eq k i) [
+        | inl e ↦ (let new_is : counts_in c tile steps new k ≡ counts_in c tile steps new i =
+            ap (λ (j : ℕ). counts_in c tile steps new j) e in
+            let old_is : counts_in c tile steps old k ≡ counts_in c tile steps old i =
+            ap (λ (j : ℕ). counts_in c tile steps old j) e in
+            omega (arith, new_is, old_is, here, less_old))
         | inr ne ↦ omega (arith, other k ne)
       ] in
-      let size : length new.changes.items ≡ length old.changes.items + 1 = ap (λ (xs : List Change). length xs) pushed ∙ length_push old.changes.items x in
+      let size : length new.changes.items ≡ length old.changes.items + 1 =
+      ap (λ (xs : List Change). length xs) pushed ∙ length_push old.changes.items x in
       let last : slice_get new.changes.items (length old.changes.items) ≡ Some x =
-      ap (λ (xs : List Change). slice_get xs (length old.changes.items)) pushed ∙ slice_get-append_right old.changes.items (x ∷ []) (length old.changes.items) 0 (omega arith) in
+      ap (λ (xs : List Change). slice_get xs (length old.changes.items)) pushed
+      ∙ slice_get-append_right old.changes.items (x ∷ []) (length old.changes.items) 0
+      (omega arith) in
       record {
         low = low;
-        near = λ p e. (let is : counts_in c tile steps new (index_of c.cols p) ≡ counts_in c tile steps new i = ap (λ (q : Place). counts_in c tile steps new (index_of c.cols q)) e in omega (arith, is, here));
+        near = λ p e. (let is : counts_in c tile steps new (index_of c.cols p)
+            ≡ counts_in c tile steps new i = ap (λ (q : Place).
+            counts_in c tile steps new (index_of c.cols q)) e in omega (arith, is, here));
         rows = rows;
         longer = omega (arith, size);
-        kept = λ k below. ap (λ (xs : List Change). slice_get xs k) pushed ∙ slice_get-append_left old.changes.items (x ∷ []) k below;
+        kept = λ k below. ap (λ (xs : List Change). slice_get xs k) pushed
+            ∙ slice_get-append_left old.changes.items (x ∷ []) k below;
         reported = λ p within. elim (cases_place p x.place) [
           | inl e ↦ inr (
             length old.changes.items,
             omega arith,
-            last ∙ ap (λ (n : ℕ). Some (let y : Change = record { place = x.place; count = n } in y)) (sym here)
-                ∙ ap (λ (q : Place). Some (let y : Change = record { place = q; count = counts_in c tile steps new (index_of c.cols q) } in y)) (sym e),
+            last ∙ ap (λ (n : ℕ).
+                Some (let y : Change = record { place = x.place; count = n } in y)) (sym here)
+                ∙ ap (λ (q : Place). Some (let y : Change =
+                record { place = q; count = counts_in c tile steps new (index_of c.cols q) } in y))
+                (sym e),
           )
-          | inr ne ↦ inl (other (index_of c.cols p) (λ e. ne (index_injective c.cols p x.place within.1 inside.0.1 e)))
+          | inr ne ↦ inl (other (index_of c.cols p)
+              (λ e. ne (index_injective c.cols p x.place within.1 inside.0.1 e)))
         ];
         added = λ k y past is.
-            (let at_end : k ≡ length old.changes.items = omega (arith, slice_get_within new.changes.items k y is, size) in
-            let one : x ≡ y = same_Some x y (sym last ∙ ap (λ (j : ℕ). slice_get new.changes.items j) (sym at_end) ∙ is) in
+            (let at_end : k ≡ length old.changes.items =
+            omega (arith, slice_get_within new.changes.items k y is, size) in
+            let one : x ≡ y = same_Some x y (sym last
+            ∙ ap (λ (j : ℕ). slice_get new.changes.items j) (sym at_end) ∙ is) in
             subst (λ (z : Change). IsChange t c tile steps (counts_in c tile steps new) z) one
-            (record { inside = inside; walked = walked; less = omega (arith, less_old, low_old i); least = omega (arith, here) }));
+            (record {
+              inside = inside;
+              walked = walked;
+              less = omega (arith, less_old, low_old i);
+              least = omega (arith, here);
+            }));
         left = omega (
           arith,
           size,
-          total_less (c.cols * c.rows) (counts_in c tile steps old) (counts_in c tile steps new) low i (index_below c.cols c.rows x.place inside.0.0 inside.0.1) (omega (arith, here, less_old)),
+          total_less (c.cols * c.rows) (counts_in c tile steps old) (counts_in c tile steps new)
+              low i (index_below c.cols c.rows x.place inside.0.0 inside.0.1)
+              (omega (arith, here, less_old)),
         );
       }
 
   -- the counts stay lowered by the changes alone
-  pub lowered_then : (Done : Place → Type 0) (bound : ℕ) (old new : Lowered) → IsLowered t c tile steps (counts_in c tile steps old) old.changes.items → IsLoweredTo t c tile steps Done bound old new →
+  pub lowered_then : (Done : Place → Type 0) (bound : ℕ) (old new : Lowered) →
+      IsLowered t c tile steps (counts_in c tile steps old) old.changes.items →
+      IsLoweredTo t c tile steps Done bound old new →
       IsLowered t c tile steps (counts_in c tile steps new) new.changes.items
   lowered_then Done bound old new f g = record {
     low = λ k. omega (arith, f.low k, g.low k);
@@ -165,17 +231,21 @@ module _ (t : Terrain) (c : Cutting) (tile : ℕ) (steps : List (Option ℕ)) wh
       | inr reported ↦ inr (reported.0, reported.2)
       | inl same ↦ elim (f.reported p within) [
         | inl before ↦ inl (same ∙ before)
-        | inr reported ↦ (let now = reported_still old new 0 p g.kept same (reported.0, omega arith, reported.1) in inr (now.0, now.2))
+        | inr reported ↦ (let now = reported_still old new 0 p g.kept same
+            (reported.0, omega arith, reported.1) in inr (now.0, now.2))
       ]
     ];
     each = λ x among. elim (cases_lt among.0 (length old.changes.items)) [
-      | inl below ↦ change_low (counts_in c tile steps old) (counts_in c tile steps new) x g.low (f.each x (among.0, sym (g.kept among.0 below) ∙ among.1))
+      | inl below ↦ change_low (counts_in c tile steps old) (counts_in c tile steps new) x g.low
+          (f.each x (among.0, sym (g.kept among.0 below) ∙ among.1))
       | inr past ↦ g.added among.0 x past among.1
     ];
   }
 
   -- after an entry is applied, the tile is even but for changes that wait
-  pub even_enter : (Done : Place → Type 0) (bound : ℕ) (old new : Lowered) (done : ℕ) → done ≤ length old.changes.items → IsEvenButReported t c tile steps old done → IsLoweredTo t c tile steps Done bound old new →
+  pub even_enter : (Done : Place → Type 0) (bound : ℕ) (old new : Lowered) (done : ℕ) →
+      done ≤ length old.changes.items → IsEvenButReported t c tile steps old done →
+      IsLoweredTo t c tile steps Done bound old new →
       IsEvenButReported t c tile steps new done
   even_enter Done bound old new done few even g = record {
     within = λ p q i j side. elim (g.reported q j.0) [
@@ -188,45 +258,69 @@ module _ (t : Terrain) (c : Cutting) (tile : ℕ) (steps : List (Option ℕ)) wh
   }
 
   -- after a change has spread, the tile is even but for later changes
-  pub even_spread : (old new : Lowered) (done : ℕ) (from : Change) → slice_get old.changes.items done ≡ Some from → IsEvenButReported t c tile steps old done →
-      IsLoweredTo t c tile steps (λ p. IsInTile c tile p × Touches from.place p × (height_at t p ≡ height_at t from.place)) (from.count + 1) old new → IsEvenButReported t c tile steps new (done + 1)
+  pub even_spread : (old new : Lowered) (done : ℕ) (from : Change) →
+      slice_get old.changes.items done ≡ Some from → IsEvenButReported t c tile steps old done →
+      IsLoweredTo t c tile steps (λ p. IsInTile c tile p
+      × Touches from.place p × (height_at t p ≡ height_at t from.place)) (from.count + 1) old new →
+      IsEvenButReported t c tile steps new (done + 1)
   even_spread old new done from here even g = record {
     within = λ p q i j side. elim (g.reported q j.0) [
-      | inr reported ↦ inr (reported.0, omega (arith, reported.1, slice_get_within old.changes.items done from here), reported.2)
+      | inr reported ↦ inr (
+        reported.0,
+        omega (arith, reported.1, slice_get_within old.changes.items done from here),
+        reported.2,
+      )
       | inl same ↦ elim (even.within p q i j side) [
         | inl le ↦ inl (omega (arith, le, same, g.low (index_of c.cols p)))
         | inr waits ↦ elim (cases_eq waits.0 done) [
-          | inl e ↦ (let one : from ≡ (record { place = q; count = counts_in c tile steps old (index_of c.cols q) }) = same_Some from _ (sym here ∙ ap (λ (k : ℕ). slice_get old.changes.items k) (sym e) ∙ waits.2) in
+          | inl e ↦ (let one : from
+              ≡ (record { place = q; count = counts_in c tile steps old (index_of c.cols q) }) =
+              same_Some from _ (sym here ∙ ap (λ (k : ℕ). slice_get old.changes.items k) (sym e)
+              ∙ waits.2) in
               let place : q ≡ from.place = sym (ap (λ (x : Change). x.place) one) in
-              let count : from.count ≡ counts_in c tile steps old (index_of c.cols q) = ap (λ (x : Change). x.count) one in
-              let near = g.near p (i, subst (λ (r : Place). Touches r p) place (touches_back p q side.next.touches), sym side.level ∙ ap (λ (r : Place). height_at t r) place) in
+              let count : from.count ≡ counts_in c tile steps old (index_of c.cols q) =
+              ap (λ (x : Change). x.count) one in
+              let near = g.near p (
+                i,
+                subst (λ (r : Place). Touches r p) place (touches_back p q side.next.touches),
+                sym side.level ∙ ap (λ (r : Place). height_at t r) place,
+              ) in
               inl (omega (arith, near, count, same)))
-          | inr ne ↦ inr (reported_still old new (done + 1) q g.kept same (waits.0, omega (arith, waits.1), waits.2))
+          | inr ne ↦ inr (reported_still old new (done + 1) q g.kept same
+              (waits.0, omega (arith, waits.1), waits.2))
         ]
       ]
     ];
   }
 
   -- if no change waits, the tile is even inside
-  pub even_end : (l : Lowered) (done : ℕ) → length l.changes.items ≤ done → IsEvenButReported t c tile steps l done → IsEvenInside t c tile (counts_in c tile steps l)
+  pub even_end : (l : Lowered) (done : ℕ) → length l.changes.items ≤ done →
+      IsEvenButReported t c tile steps l done → IsEvenInside t c tile (counts_in c tile steps l)
   even_end l done all even = record {
     within = λ p q i j side. elim (even.within p q i j side) [
       | inl le ↦ le
-      | inr waits ↦ absurd (omega (arith, waits.1, slice_get_within l.changes.items waits.0 _ waits.2))
+      | inr waits ↦
+          absurd (omega (arith, waits.1, slice_get_within l.changes.items waits.0 _ waits.2))
     ];
   }
 
 -- a change of a tile is a change of its cell's tile
-change_own : (t : Terrain) (c : Cutting) (tile : ℕ) (steps : List (Option ℕ)) (l : Lowered) (x : Change) → IsChange t c tile steps (counts_in c tile steps l) x →
+change_own : (t : Terrain) (c : Cutting) (tile : ℕ) (steps : List (Option ℕ)) (l : Lowered)
+    (x : Change) → IsChange t c tile steps (counts_in c tile steps l) x →
     IsChange t c (tile_of_place c x.place) steps (counts_in c (tile_of_place c x.place) steps l) x
-change_own t c tile steps l x is = subst (λ (k : ℕ). IsChange t c k steps (counts_in c k steps l) x) (sym is.inside.1) is
+change_own t c tile steps l x is =
+    subst (λ (k : ℕ). IsChange t c k steps (counts_in c k steps l) x) (sym is.inside.1) is
 
-pub low_own : (c : Cutting) (tile : ℕ) (steps : List (Option ℕ)) (l : Lowered) (p : Place) → tile_of_place c p ≡ tile → ((k : ℕ) → counts_in c tile steps l k ≤ count_of steps k) →
+pub low_own : (c : Cutting) (tile : ℕ) (steps : List (Option ℕ)) (l : Lowered) (p : Place) →
+    tile_of_place c p ≡ tile → ((k : ℕ) → counts_in c tile steps l k ≤ count_of steps k) →
     (k : ℕ) → counts_in c (tile_of_place c p) steps l k ≤ count_of steps k
-low_own c tile steps l p own low = subst (λ (i : ℕ). (k : ℕ) → counts_in c i steps l k ≤ count_of steps k) (sym own) low
+low_own c tile steps l p own low =
+    subst (λ (i : ℕ). (k : ℕ) → counts_in c i steps l k ≤ count_of steps k) (sym own) low
 
 -- a search may spread from each of its changes
-pub ready_at : (t : Terrain) (c : Cutting) (tile : ℕ) (steps : List (Option ℕ)) (b : Bounds) (l : Lowered) (x : Change) → AreCounting t steps → b ≡ bounds_of c tile → length l.rows.items ≡ b.rows → IsLowered t c tile steps (counts_in c tile steps l) l.changes.items →
+pub ready_at : (t : Terrain) (c : Cutting) (tile : ℕ) (steps : List (Option ℕ)) (b : Bounds)
+    (l : Lowered) (x : Change) → AreCounting t steps → b ≡ bounds_of c tile → length l.rows.items
+    ≡ b.rows → IsLowered t c tile steps (counts_in c tile steps l) l.changes.items →
     IsAmong l.changes.items x → MaySpread t c steps b l x
 ready_at t c tile steps b l x counting bounds rows lowered among =
     let change = lowered.each x among in
@@ -239,7 +333,9 @@ ready_at t c tile steps b l x counting bounds rows lowered among =
     }
 
 -- a search may still spread from a change after spreading further
-pub ready_still : (t : Terrain) (c : Cutting) (steps : List (Option ℕ)) (b : Bounds) (Done : Place → Type 0) (bound : ℕ) (old new : Lowered) (x : Change) → MaySpread t c steps b old x → IsLoweredTo t c (tile_of_place c x.place) steps Done bound old new → MaySpread t c steps b new x
+pub ready_still : (t : Terrain) (c : Cutting) (steps : List (Option ℕ)) (b : Bounds) (Done : Place →
+    Type 0) (bound : ℕ) (old new : Lowered) (x : Change) → MaySpread t c steps b old x →
+    IsLoweredTo t c (tile_of_place c x.place) steps Done bound old new → MaySpread t c steps b new x
 ready_still t c steps b Done bound old new x ready reached = record {
   counting = ready.counting;
   change = change_low t c (tile_of_place c x.place) steps _ _ x reached.low ready.change;
@@ -248,39 +344,68 @@ ready_still t c steps b Done bound old new x ready reached = record {
   low = λ k. omega (arith, reached.low k, ready.low k);
 }
 
-pub begun : (t : Terrain) (c : Cutting) (tile : ℕ) (steps : List (Option ℕ)) (l : Lowered) → ((k : ℕ) (row : Vec ℕ Global) → slice_get l.rows.items k ≡ Some row → row.items ≡ []) → l.changes.items ≡ [] → IsEvenInside t c tile (count_of steps) →
-    IsLowered t c tile steps (counts_in c tile steps l) l.changes.items × IsEvenButReported t c tile steps l 0
+pub begun : (t : Terrain) (c : Cutting) (tile : ℕ) (steps : List (Option ℕ)) (l : Lowered) →
+    ((k : ℕ) (row : Vec ℕ Global) → slice_get l.rows.items k ≡ Some row → row.items ≡ []) →
+    l.changes.items ≡ [] → IsEvenInside t c tile (count_of steps) →
+    IsLowered t c tile steps (counts_in c tile steps l) l.changes.items
+    × IsEvenButReported t c tile steps l 0
 begun t c tile steps l none empty even =
-    let same : (k : ℕ) → counts_in c tile steps l k ≡ count_of steps k = λ k. ap (λ (o : Option ℕ). unwrap_or o (count_of steps k)) (kept_none c tile l none k) in (
+    let same : (k : ℕ) → counts_in c tile steps l k ≡ count_of steps k =
+    λ k. ap (λ (o : Option ℕ). unwrap_or o (count_of steps k)) (kept_none c tile l none k) in (
       record {
         low = λ k. omega (arith, same k);
         reported = λ p within. inl (same (index_of c.cols p));
-        each = λ x among. absurd (omega (arith, slice_get_within l.changes.items among.0 x among.1, ap (λ (xs : List Change). length xs) empty));
+        each = λ x among. absurd (omega (
+          arith,
+          slice_get_within l.changes.items among.0 x among.1,
+          ap (λ (xs : List Change). length xs) empty,
+        ));
       },
-      record { within = λ p q i j side. inl (omega (arith, even.within p q i j side, same (index_of c.cols p), same (index_of c.cols q))) },
+      record {
+        within = λ p q i j side. inl (omega
+            (arith, even.within p q i j side, same (index_of c.cols p), same (index_of c.cols q)));
+      },
     )
 
 -- a place beside p, in the bounds of the tile of p, is a place of that tile
-pub beside_in_tile : (c : Cutting) (p q : Place) (b : Bounds) → IsCutting c → IsWithin c p → b ≡ bounds_of c (tile_of_place c p) → IsInBounds b q → Touches p q → IsInTile c (tile_of_place c p) q × Touches p q
-beside_in_tile c p q b lawful within e inside touch = (in_tile c (tile_of_place c p) q lawful (tile_of_place_below c p lawful within) (subst (λ (x : Bounds). IsInBounds x q) e inside), touch)
+pub beside_in_tile : (c : Cutting) (p q : Place) (b : Bounds) → IsCutting c →
+    IsWithin c p → b ≡ bounds_of c (tile_of_place c p) → IsInBounds b q → Touches p q →
+    IsInTile c (tile_of_place c p) q × Touches p q
+beside_in_tile c p q b lawful within e inside touch = (
+  in_tile c (tile_of_place c p) q lawful (tile_of_place_below c p lawful within)
+      (subst (λ (x : Bounds). IsInBounds x q) e inside),
+  touch,
+)
 
 -- a cell of a place's tile lies in the tile's bounds
-pub own_bounds : (c : Cutting) (p q : Place) (b : Bounds) → IsCutting c → b ≡ bounds_of c (tile_of_place c p) → IsInTile c (tile_of_place c p) q → IsInBounds b q
-own_bounds c p q b lawful e inside = subst (λ (x : Bounds). IsInBounds x q) (sym e) (in_bounds c (tile_of_place c p) q lawful inside)
+pub own_bounds : (c : Cutting) (p q : Place) (b : Bounds) → IsCutting c →
+    b ≡ bounds_of c (tile_of_place c p) → IsInTile c (tile_of_place c p) q → IsInBounds b q
+own_bounds c p q b lawful e inside =
+    subst (λ (x : Bounds). IsInBounds x q) (sym e) (in_bounds c (tile_of_place c p) q lawful inside)
 
-pub reached_tile : (t : Terrain) (c : Cutting) (tile other : ℕ) (steps : List (Option ℕ)) (Done : Place → Type 0) (bound : ℕ) (old new : Lowered) → tile ≡ other →
+pub reached_tile : (t : Terrain) (c : Cutting) (tile other : ℕ) (steps : List (Option ℕ))
+    (Done : Place → Type 0) (bound : ℕ) (old new : Lowered) → tile ≡ other →
     IsLoweredTo t c tile steps Done bound old new → IsLoweredTo t c other steps Done bound old new
-reached_tile t c tile other steps Done bound old new e f = subst (λ (k : ℕ). IsLoweredTo t c k steps Done bound old new) e f
+reached_tile t c tile other steps Done bound old new e f =
+    subst (λ (k : ℕ). IsLoweredTo t c k steps Done bound old new) e f
 
 -- entries stay applied while counts fall
-pub entered_low : (c : Cutting) (entries : List Entry) (from end : ℕ) (f g : ℕ → ℕ) → ((k : ℕ) → g k ≤ f k) → IsEntered c entries from end f → IsEntered c entries from end g
-entered_low c entries from end f g low is = record { each = λ k e past below here. omega (arith, is.each k e past below here, low (index_of c.cols e.change.place)) }
+pub entered_low : (c : Cutting) (entries : List Entry) (from end : ℕ) (f g : ℕ → ℕ) →
+    ((k : ℕ) → g k ≤ f k) → IsEntered c entries from end f → IsEntered c entries from end g
+entered_low c entries from end f g low is = record {
+  each = λ k e past below here.
+      omega (arith, is.each k e past below here, low (index_of c.cols e.change.place));
+}
 
-pub entered_more : (c : Cutting) (entries : List Entry) (from next : ℕ) (f g : ℕ → ℕ) (e : Entry) → slice_get entries next ≡ Some e → ((k : ℕ) → g k ≤ f k) → g (index_of c.cols e.change.place) ≤ e.change.count →
+pub entered_more : (c : Cutting) (entries : List Entry) (from next : ℕ) (f g : ℕ → ℕ) (e : Entry) →
+    slice_get entries next ≡ Some e → ((k : ℕ) → g k ≤ f k) →
+    g (index_of c.cols e.change.place) ≤ e.change.count →
     IsEntered c entries from next f → IsEntered c entries from (next + 1) g
 entered_more c entries from next f g e here low near is = record {
   each = λ k d past below at. elim (cases_eq k next) [
-    | inl one ↦ (let same : e ≡ d = same_Some e d (sym here ∙ ap (λ (j : ℕ). slice_get entries j) (sym one) ∙ at) in subst (λ (x : Entry). g (index_of c.cols x.change.place) ≤ x.change.count) same near)
+    | inl one ↦ (let same : e ≡ d =
+        same_Some e d (sym here ∙ ap (λ (j : ℕ). slice_get entries j) (sym one) ∙ at) in
+        subst (λ (x : Entry). g (index_of c.cols x.change.place) ≤ x.change.count) same near)
     | inr ne ↦ (entered_low c entries from next f g low is).each k d past (omega arith) at
   ];
 }

@@ -8,28 +8,41 @@ use Rattle.drain.specs.Rounding.{ArePut}
 use Rattle.drain.specs.declared.changes.Change.{Change}
 
 module _ (cols : ℕ) where
-  pub put_one : (x : Change) (old : List (Option ℕ)) (count : Option ℕ) → count ≡ Some x.count → index_of cols x.place < length old → x.count < count_of old (index_of cols x.place) →
+  pub put_one : (x : Change) (old : List (Option ℕ)) (count : Option ℕ) → count ≡ Some x.count →
+      index_of cols x.place < length old → x.count < count_of old (index_of cols x.place) →
       ArePut cols old (slice_set old (index_of cols x.place) count) (λ y. y ≡ x)
   put_one x old count is inside less = record {
     size = length-set old (index_of cols x.place) count;
     low = λ k. elim (cases_eq k (index_of cols x.place)) [
-      | inl e ↦ (let here = ap (λ (n : ℕ). count_of (slice_set old (index_of cols x.place) count) n) e ∙ at in omega (arith, here, less, ap (λ (n : ℕ). count_of old n) e))
-      | inr ne ↦ (let same = ap (λ (o : Option ℕ). unwrap_or o (2 ^ 24)) (get_or-set_other old (index_of cols x.place) k count None ne) in omega (arith, same))
+      | inl e ↦ (let here = ap (λ (n : ℕ). count_of (slice_set old (index_of cols x.place) count) n)
+          e ∙ at in omega (arith, here, less, ap (λ (n : ℕ). count_of old n) e))
+      | inr ne ↦ (let same = ap (λ (o : Option ℕ). unwrap_or o (2 ^ 24))
+          (get_or-set_other old (index_of cols x.place) k count None ne) in omega (arith, same))
     ];
-    done = λ y e. subst (λ (z : Change). count_of (slice_set old (index_of cols x.place) count) (index_of cols z.place) ≤ z.count) (sym e) (omega (arith, at));
+    done = λ y e. subst (λ (z : Change). count_of (slice_set old (index_of cols x.place) count)
+        (index_of cols z.place) ≤ z.count) (sym e) (omega (arith, at));
     reported = λ k. elim (cases_eq k (index_of cols x.place)) [
-      | inl e ↦ inr (x, refl, sym e, subst (λ (n : ℕ). get_or (slice_set old (index_of cols x.place) count) n None ≡ Some x.count) (sym e) (put ∙ is))
+      | inl e ↦ inr (
+        x,
+        refl,
+        sym e,
+        subst (λ (n : ℕ). get_or (slice_set old (index_of cols x.place) count) n None
+            ≡ Some x.count) (sym e) (put ∙ is),
+      )
       | inr ne ↦ inl (get_or-set_other old (index_of cols x.place) k count None ne)
     ];
   }
     where
-      put : get_or (slice_set old (index_of cols x.place) count) (index_of cols x.place) None ≡ count
+      put : get_or (slice_set old (index_of cols x.place) count) (index_of cols x.place) None
+          ≡ count
       put = get_or-set_same old (index_of cols x.place) count None inside
 
       at : count_of (slice_set old (index_of cols x.place) count) (index_of cols x.place) ≡ x.count
       at = ap (λ (o : Option ℕ). unwrap_or o (2 ^ 24)) (put ∙ is)
 
-  pub put_then : (First Next Given : Change → Type 0) (old mid new : List (Option ℕ)) → ((x : Change) → Given x → First x ⊎ Next x) → ((x : Change) → First x → Given x) → ((x : Change) → Next x → Given x) →
+  pub put_then : (First Next Given : Change → Type 0) (old mid new : List (Option ℕ)) →
+      ((x : Change) → Given x → First x ⊎ Next x) → ((x : Change) → First x → Given x) →
+      ((x : Change) → Next x → Given x) →
       ArePut cols old mid First → ArePut cols mid new Next → ArePut cols old new Given
   put_then First Next Given old mid new each first next f g = record {
     size = g.size ∙ f.size;
@@ -47,7 +60,9 @@ module _ (cols : ℕ) where
     ];
   }
 
-  pub put_all : (First Given : Change → Type 0) (old new : List (Option ℕ)) → ((x : Change) → Given x → First x) → ((x : Change) → First x → Given x) → ArePut cols old new First → ArePut cols old new Given
+  pub put_all : (First Given : Change → Type 0) (old new : List (Option ℕ)) →
+      ((x : Change) → Given x → First x) → ((x : Change) → First x → Given x) →
+      ArePut cols old new First → ArePut cols old new Given
   put_all First Given old new each back f = record {
     size = f.size;
     low = f.low;

@@ -18,39 +18,59 @@ use Rattle.terrain.proofs.Options.{cases_option}
 use Rattle.drain.proofs.Few.{steps_are_few, drains_data, data_on_walk}
 use Rattle.tiles.proofs.Cut.{tile_of_place_below}
 
-pub if_some : {X : Type 0} (o : Option X) (P : X → Type 0) → ((x : X) → o ≡ Some x → P x) → IfSome o P
+pub if_some : {X : Type 0} (o : Option X) (P : X → Type 0) → ((x : X) → o ≡ Some x → P x) →
+    IfSome o P
 if_some None P h = tt
 if_some (Some x) P h = h x refl
 
-pub match_from : {X : Type 0} {P : Type 0} {Q : X → Type 0} (o : Option X) → (o ≡ None → P) → ((x : X) → o ≡ Some x → Q x) → MatchOption o P Q
+pub match_from : {X : Type 0} {P : Type 0} {Q : X → Type 0} (o : Option X) → (o ≡ None → P) →
+    ((x : X) → o ≡ Some x → Q x) → MatchOption o P Q
 match_from None p q = p refl
 match_from (Some x) p q = q x refl
 
 -- a walk of no moves begins at its end
-pub ended : (Ends : Place → Type 0) (t : Terrain) (p : Place) (rest : List Place) → IsLevelWalk Ends t p rest → length rest ≡ 0 → Ends p
+pub ended : (Ends : Place → Type 0) (t : Terrain) (p : Place) (rest : List Place) →
+    IsLevelWalk Ends t p rest → length rest ≡ 0 → Ends p
 ended Ends t p [] walk none = walk
 ended Ends t p (q ∷ rest) walk none = absurd (omega (arith, none))
 
 -- sinks do not change neighbours
-next_with : (t : Terrain) (sinks : List Place) (p q : Place) → IsNeighbour t p q → IsNeighbour (with_sinks t sinks) p q
-next_with t sinks p q next = record { different = next.different; touches = next.touches; from_data = next.from_data; to_data = next.to_data }
+next_with : (t : Terrain) (sinks : List Place) (p q : Place) → IsNeighbour t p q →
+    IsNeighbour (with_sinks t sinks) p q
+next_with t sinks p q next = record {
+  different = next.different;
+  touches = next.touches;
+  from_data = next.from_data;
+  to_data = next.to_data;
+}
 
-walk_to : (A B : Place → Type 0) (t : Terrain) (sinks : List Place) → ((p : Place) → A p → B p) → (p : Place) (rest : List Place) → IsLevelWalk A t p rest → IsLevelWalk B (with_sinks t sinks) p rest
+walk_to : (A B : Place → Type 0) (t : Terrain) (sinks : List Place) →
+    ((p : Place) → A p → B p) → (p : Place) (rest : List Place) → IsLevelWalk A t p rest →
+    IsLevelWalk B (with_sinks t sinks) p rest
 walk_to A B t sinks to p [] walk = to p walk
-walk_to A B t sinks to p (q ∷ rest) walk = (next_with t sinks p q walk.0, walk.1, walk_to A B t sinks to q rest walk.2)
+walk_to A B t sinks to p (q ∷ rest) walk =
+    (next_with t sinks p q walk.0, walk.1, walk_to A B t sinks to q rest walk.2)
 
 -- a walk to a place of A is a walk to a place of B, if A implies B, with any sinks
-pub walked_to : (A B : Place → Type 0) (t : Terrain) (sinks : List Place) → ((p : Place) → A p → B p) → (p : Place) (n : ℕ) → IsWalked A t p n → IsWalked B (with_sinks t sinks) p n
+pub walked_to : (A B : Place → Type 0) (t : Terrain) (sinks : List Place) → ((p : Place) → A p →
+    B p) → (p : Place) (n : ℕ) → IsWalked A t p n → IsWalked B (with_sinks t sinks) p n
 walked_to A B t sinks to p n w = (w.0, w.1, walk_to A B t sinks to p w.1 w.2, w.3)
 
-pub are_walked_to : (A B : Place → Type 0) (t : Terrain) (sinks : List Place) (steps : List (Option ℕ)) → ((p : Place) → A p → B p) → AreWalked A t steps → AreWalked B (with_sinks t sinks) steps
-are_walked_to A B t sinks steps to walked p = if_some (entry_at t.cols t.rows steps p) (IsWalked B (with_sinks t sinks) p) (λ n e. walked_to A B t sinks to p n (MatchOption-at_some _ _ n e (walked p)))
+pub are_walked_to :
+    (A B : Place → Type 0) (t : Terrain) (sinks : List Place) (steps : List (Option ℕ)) →
+    ((p : Place) → A p → B p) → AreWalked A t steps → AreWalked B (with_sinks t sinks) steps
+are_walked_to A B t sinks steps to walked p =
+    if_some (entry_at t.cols t.rows steps p) (IsWalked B (with_sinks t sinks) p) (λ n e.
+    walked_to A B t sinks to p n (MatchOption-at_some _ _ n e (walked p)))
 
 -- counts of walks, each at most one above its neighbours' on the flat, are the steps
-module _ (t : Terrain) (steps : List (Option ℕ)) (zeros : HasZeros t steps) (all_walked : AreWalked (DrainsAtOnce t) t steps)
-    (near : (p q : Place) → IsNeighbour t p q → height_at t q ≡ height_at t p → IsOneAbove (entry_at t.cols t.rows steps p) (entry_at t.cols t.rows steps q)) where
+module _ (t : Terrain) (steps : List (Option ℕ)) (zeros : HasZeros t steps)
+    (all_walked : AreWalked (DrainsAtOnce t) t steps)
+    (near : (p q : Place) → IsNeighbour t p q → height_at t q ≡ height_at t p →
+    IsOneAbove (entry_at t.cols t.rows steps p) (entry_at t.cols t.rows steps q)) where
   -- a walk bounds the count of its first cell
-  count_steps : (rest : List Place) (p : Place) → IsFlatWalk t p rest → length rest < 2 ^ 24 → (n : ℕ) × (entry_at t.cols t.rows steps p ≡ Some n) × (n ≤ length rest)
+  count_steps : (rest : List Place) (p : Place) → IsFlatWalk t p rest → length rest < 2 ^ 24 →
+      (n : ℕ) × (entry_at t.cols t.rows steps p ≡ Some n) × (n ≤ length rest)
   count_steps [] p w few = (0, zeros p w, omega arith)
   count_steps (q ∷ rest) p w few =
       let next = count_steps rest q w.2 (omega arith) in
@@ -58,14 +78,17 @@ module _ (t : Terrain) (steps : List (Option ℕ)) (zeros : HasZeros t steps) (a
       (here.0, here.1, omega (arith, here.2, next.2))
 
   -- a count is the length of a flat walk
-  walked : (p : Place) (n : ℕ) → entry_at t.cols t.rows steps p ≡ Some n → IsWalked (DrainsAtOnce t) t p n
+  walked : (p : Place) (n : ℕ) → entry_at t.cols t.rows steps p ≡ Some n →
+      IsWalked (DrainsAtOnce t) t p n
   walked p n e = MatchOption-at_some _ _ n e (all_walked p)
 
-  data_counts : IsTerrain t → IsFilled t t.cells → (p : Place) → IsDataCell t p → (n : ℕ) × (entry_at t.cols t.rows steps p ≡ Some n) × IsSteps t p n
+  data_counts : IsTerrain t → IsFilled t t.cells → (p : Place) → IsDataCell t p →
+      (n : ℕ) × (entry_at t.cols t.rows steps p ≡ Some n) × IsSteps t p n
   data_counts lawful filled p is =
       let least = has_steps t p filled is in
       let few : least.0 < 2 ^ 24 = steps_are_few t p least.0 lawful least.1 in
-      let count = count_steps least.1.reached.0 p least.1.reached.1 (omega (arith, few, least.1.reached.2)) in
+      let count =
+      count_steps least.1.reached.0 p least.1.reached.1 (omega (arith, few, least.1.reached.2)) in
       let real = walked p count.0 count.1 in
       let above : least.0 ≤ length real.1 = least.1.least real.1 real.2 in
       let same : least.0 ≡ count.0 = omega (arith, count.2, least.1.reached.2, real.3) in
@@ -75,69 +98,91 @@ module _ (t : Terrain) (steps : List (Option ℕ)) (zeros : HasZeros t steps) (a
   uncounted : (p : Place) → height_at t p ≡ None → entry_at t.cols t.rows steps p ≡ None
   uncounted p none = elim (cases_option (entry_at t.cols t.rows steps p)) [
     | inl e ↦ e
-    | inr n ↦ (let real = walked p n.0 n.1 in absurd (false≢true (ap is_some (sym none) ∙ data_on_walk t p real.1 real.2)))
+    | inr n ↦ (let real = walked p n.0 n.1 in
+        absurd (false≢true (ap is_some (sym none) ∙ data_on_walk t p real.1 real.2)))
   ]
 
-  pub still_is_steps : IsTerrain t → IsFilled t t.cells → length steps ≡ t.cols * t.rows → AreSteps t steps
+  pub still_is_steps : IsTerrain t → IsFilled t t.cells → length steps ≡ t.cols * t.rows →
+      AreSteps t steps
   still_is_steps lawful filled size = record {
     size = size;
-    each = λ p inside. match_from (height_at t p) (λ none. uncounted p none) (λ h some. data_counts lawful filled p (ap is_some some));
+    each = λ p inside. match_from (height_at t p) (λ none. uncounted p none) (λ h some.
+        data_counts lawful filled p (ap is_some some));
   }
 
-pub in_own_tile : (t : Terrain) (c : Cutting) (p : Place) → Cuts c t → (p.row < t.rows) × (p.col < t.cols) → IsInTile c (tile_of_place c p) p
-in_own_tile t c p cuts inside = ((omega (arith, inside.0, cuts.1), omega (arith, inside.1, cuts.0)), refl)
+pub in_own_tile : (t : Terrain) (c : Cutting) (p : Place) → Cuts c t → (p.row < t.rows)
+    × (p.col < t.cols) → IsInTile c (tile_of_place c p) p
+in_own_tile t c p cuts inside =
+    ((omega (arith, inside.0, cuts.1), omega (arith, inside.1, cuts.0)), refl)
 
 -- each cell that drains at once is a source of the initial counts
-pub begun_input : (t : Terrain) (counts : List (Option ℕ)) → AreBegun t counts → (p : Place) → DrainsAtOnce t p → IsSource t counts p
-begun_input t counts begun p drains = let is = drains_data t p drains in (is, (begun.each p (data_inside t p is)).zero drains)
+pub begun_input : (t : Terrain) (counts : List (Option ℕ)) → AreBegun t counts → (p : Place) →
+    DrainsAtOnce t p → IsSource t counts p
+begun_input t counts begun p drains = let is = drains_data t p drains in
+    (is, (begun.each p (data_inside t p is)).zero drains)
 
-input_drains : (t : Terrain) (counts : List (Option ℕ)) → AreBegun t counts → (p : Place) → IsSource t counts p → DrainsAtOnce t p
+input_drains : (t : Terrain) (counts : List (Option ℕ)) → AreBegun t counts → (p : Place) →
+    IsSource t counts p → DrainsAtOnce t p
 input_drains t counts begun p input = ((begun.each p (data_inside t p input.0)).only 0 input.1).0
 
 -- each initial count is 0, the length of a walk without moves
-pub begun_walked : (Ends : Place → Type 0) (t : Terrain) (counts : List (Option ℕ)) → AreBegun t counts → ((p : Place) → DrainsAtOnce t p → Ends p) → AreWalked Ends t counts
-begun_walked Ends t counts begun to p = if_some (entry_at t.cols t.rows counts p) (IsWalked Ends t p) (λ n e.
+pub begun_walked : (Ends : Place → Type 0) (t : Terrain) (counts : List (Option ℕ)) →
+    AreBegun t counts → ((p : Place) → DrainsAtOnce t p → Ends p) → AreWalked Ends t counts
+begun_walked Ends t counts begun to p =
+    if_some (entry_at t.cols t.rows counts p) (IsWalked Ends t p) (λ n e.
     let at = (begun.each p (inside_from_entry t.cols t.rows counts p n e)).only n e in
     (omega (arith, at.1), [], to p at.0, sym at.1))
 
 -- the initial counts are lengths of walks to sources, in the terrain without sinks
-pub begun_counting : (t : Terrain) (counts : List (Option ℕ)) → AreBegun t counts → AreCounting (with_sinks t []) counts
+pub begun_counting : (t : Terrain) (counts : List (Option ℕ)) → AreBegun t counts →
+    AreCounting (with_sinks t []) counts
 begun_counting t counts begun = record {
   size = begun.size;
-  walked = are_walked_to (IsSource t counts) (IsSource t counts) t [] counts (λ p input. input) (begun_walked (IsSource t counts) t counts begun (begun_input t counts begun));
+  walked = are_walked_to (IsSource t counts) (IsSource t counts) t [] counts (λ p input.
+      input) (begun_walked (IsSource t counts) t counts begun (begun_input t counts begun));
 }
 
 -- a round of walks to A is a round of walks to B, if A implies B, with any sinks
-pub round_to : (A B : Place → Type 0) (t : Terrain) (sinks : List Place) (c : Cutting) (tile : ℕ) (old new : List (Option ℕ)) → ((p : Place) → A p → B p) →
+pub round_to : (A B : Place → Type 0) (t : Terrain) (sinks : List Place) (c : Cutting) (tile : ℕ)
+    (old new : List (Option ℕ)) → ((p : Place) → A p → B p) →
     IsRound A t c tile old new → IsRound B (with_sinks t sinks) c tile old new
 round_to A B t sinks c tile old new to round = record {
   size = round.size;
-  walked = λ p i. if_some (tile_entry c tile new p) (IsWalked B (with_sinks t sinks) p) (λ n e. walked_to A B t sinks to p n (MatchOption-at_some _ _ n e (round.walked p i)));
+  walked = λ p i. if_some (tile_entry c tile new p) (IsWalked B (with_sinks t sinks) p) (λ n e.
+      walked_to A B t sinks to p n (MatchOption-at_some _ _ n e (round.walked p i)));
   near = λ p q here next. round.near p q here (next_with (with_sinks t sinks) t.sinks p q next);
-  within = λ p q here there next. round.within p q here there (next_with (with_sinks t sinks) t.sinks p q next);
+  within = λ p q here there next.
+      round.within p q here there (next_with (with_sinks t sinks) t.sinks p q next);
   kept = round.kept;
 }
 
-pub counts_are_steps : (t : Terrain) (c : Cutting) (steps : List (Option ℕ)) (lists : ℕ → List (Option ℕ)) → Cuts c t → IsCutting c → HasZeros t steps → IsQuiet t c steps lists →
+pub counts_are_steps : (t : Terrain) (c : Cutting) (steps : List (Option ℕ)) (lists : ℕ →
+    List (Option ℕ)) → Cuts c t → IsCutting c → HasZeros t steps → IsQuiet t c steps lists →
     IsTerrain t → IsFilled t t.cells → length steps ≡ t.cols * t.rows → AreSteps t steps
 counts_are_steps t c steps lists cuts cutting zeros quiet lawful filled size =
     still_is_steps t steps zeros
     (λ p. if_some (entry_at t.cols t.rows steps p) (IsWalked (DrainsAtOnce t) t p) (λ n e.
     let here = in_own_tile t c p cuts (inside_from_entry t.cols t.rows steps p n e) in
-    MatchOption-at_some _ _ n (quiet.same (tile_of_place c p) p here ∙ e) ((quiet.rounds (tile_of_place c p) (tile_of_place_below c p cutting here.0)).walked p here)))
+    MatchOption-at_some _ _ n (quiet.same (tile_of_place c p) p here ∙ e)
+    ((quiet.rounds (tile_of_place c p) (tile_of_place_below c p cutting here.0)).walked p here)))
     (λ p q next level m e less.
     let here = in_own_tile t c p cuts (data_inside t p next.from_data) in
-    let near = (quiet.rounds (tile_of_place c p) (tile_of_place_below c p cutting here.0)).near p q here next level m e less in
+    let near = (quiet.rounds (tile_of_place c p)
+    (tile_of_place_below c p cutting here.0)).near p q here next level m e less in
     (near.0, sym (quiet.same (tile_of_place c p) p here) ∙ near.1, near.2))
     lawful filled size
 
 -- the final counts after the initial ones are the steps
-pub final_is_steps : (c : Cutting) (t : Terrain) (begun steps : List (Option ℕ)) → Cuts c t → IsTerrain t → IsFilled t t.cells → AreBegun t begun → AreFinal c (with_sinks t []) begun steps → AreSteps t steps
+pub final_is_steps : (c : Cutting) (t : Terrain) (begun steps : List (Option ℕ)) → Cuts c t →
+    IsTerrain t → IsFilled t t.cells → AreBegun t begun → AreFinal c (with_sinks t []) begun steps →
+    AreSteps t steps
 final_is_steps c t begun steps cuts lawful filled first finished =
     still_is_steps t steps
     (λ p drains. ((finished.same_sources p).0 (begun_input t begun first p drains)).1)
-    (are_walked_to (IsSource t steps) (DrainsAtOnce t) (with_sinks t []) t.sinks steps (λ p input. input_drains t begun first p ((finished.same_sources p).1 input)) finished.counting.walked)
+    (are_walked_to (IsSource t steps) (DrainsAtOnce t) (with_sinks t []) t.sinks steps (λ p input.
+    input_drains t begun first p ((finished.same_sources p).1 input)) finished.counting.walked)
     (λ p q next level.
     let inside = in_own_tile t c p cuts (data_inside t p next.from_data) in
-    (finished.still (tile_of_place c p) (tile_of_place_below c p finished.cutting inside.0)).near p q inside (next_with t [] p q next) level)
+    (finished.still (tile_of_place c p) (tile_of_place_below c p finished.cutting
+    inside.0)).near p q inside (next_with t [] p q next) level)
     lawful filled finished.counting.size

@@ -10,12 +10,15 @@ use Rattle.tile_maps.proofs.Whole.{map_of_size}
 use Rattle.drain.specs.Beginning.{IsPartOf}
 use Rattle.drain.specs.Directions.{IsCodeAt, AreDirections}
 
-pub coded_next : (t : Terrain) (b : Bounds) (row col : ℕ) (list : List (Option ℕ)) (x : Option ℕ) → row < b.rows → col < b.cols →
-    AreMadeBelow b (IsCodeAt t) (row * b.cols + col) list → IsCodeAt t (make_place (b.top + row) (b.left + col)) x → AreMadeBelow b (IsCodeAt t) (row * b.cols + (col + 1)) (list ++ x ∷ [])
+pub coded_next : (t : Terrain) (b : Bounds) (row col : ℕ) (list : List (Option ℕ)) (x : Option ℕ) →
+    row < b.rows → col < b.cols →
+    AreMadeBelow b (IsCodeAt t) (row * b.cols + col) list → IsCodeAt t (make_place (b.top + row)
+    (b.left + col)) x → AreMadeBelow b (IsCodeAt t) (row * b.cols + (col + 1)) (list ++ x ∷ [])
 coded_next t b = made_next b (IsCodeAt t)
 
 -- a tile's bounds lie in the terrain that is cut
-pub part_of : (t : Terrain) (c : Cutting) (b : Bounds) → IsCutting c → Cuts c t → AreBounds c b → IsPartOf t b
+pub part_of : (t : Terrain) (c : Cutting) (b : Bounds) → IsCutting c → Cuts c t → AreBounds c b →
+    IsPartOf t b
 part_of t c b lawful cuts fits = record {
   few_rows = omega (arith, lawful.few_rows, cuts.1);
   few_cols = omega (arith, lawful.few_cols, cuts.0);
@@ -24,5 +27,7 @@ part_of t c b lawful cuts fits = record {
 }
 
 -- the map of codes has the direction of each cell
-pub coded_map : (t : Terrain) (c : Cutting) (codes : List (Option ℕ)) → Cuts c t → IsMadeMap c (IsCodeAt t) codes → AreDirections t codes
-coded_map t c codes cuts made = let all = map_of_size c t.cols t.rows (IsCodeAt t) codes cuts.0 cuts.1 made in record { size = all.0; each = all.1 }
+pub coded_map : (t : Terrain) (c : Cutting) (codes : List (Option ℕ)) → Cuts c t →
+    IsMadeMap c (IsCodeAt t) codes → AreDirections t codes
+coded_map t c codes cuts made = let all = map_of_size c t.cols t.rows
+    (IsCodeAt t) codes cuts.0 cuts.1 made in record { size = all.0; each = all.1 }

@@ -23,7 +23,8 @@ use Rattle.drain.proofs.Unique.{at_place}
 use Rattle.drain.proofs.Few.{data_on_level_walk}
 
 -- a spot with a value shows a place
-is_on : {X : Type 0} (cols rows : ℕ) (entries : List (Option X)) (b : Bounds) (s : Place) (o : Option X) (x : X) → IsShown cols rows entries None b s o → o ≡ Some x →
+is_on : {X : Type 0} (cols rows : ℕ) (entries : List (Option X)) (b : Bounds) (s : Place)
+    (o : Option X) (x : X) → IsShown cols rows entries None b s o → o ≡ Some x →
     (p : Place) × Shows b s p × (entry_at cols rows entries p ≡ Some x)
 is_on {X = X} cols rows entries b s o x shown is =
     elim (cases_eq (b.top + s.row) 0) [
@@ -31,31 +32,44 @@ is_on {X = X} cols rows entries b s o x shown is =
       | inr row ↦ elim (cases_eq (b.left + s.col) 0) [
         | inl e ↦ absurd (none-some x (sym (shown.1 (inr e)) ∙ is))
         | inr col ↦
-            (let here : Shows b s (make_place (b.top + s.row - 1) (b.left + s.col - 1)) = (omega arith, omega arith) in
-            (make_place (b.top + s.row - 1) (b.left + s.col - 1), here, sym (shown.0 (make_place (b.top + s.row - 1) (b.left + s.col - 1)) here) ∙ is))
+            (let here : Shows b s (make_place (b.top + s.row - 1) (b.left + s.col - 1)) =
+            (omega arith, omega arith) in (
+              make_place (b.top + s.row - 1) (b.left + s.col - 1),
+              here,
+              sym (shown.0 (make_place (b.top + s.row - 1) (b.left + s.col - 1)) here) ∙ is,
+            ))
       ]
     ]
 
 -- Each known count is the length of a walk from the place of its spot to a source.
 IsSound : Terrain → List (Option ℕ) → Bounds → List ℕ → Type 0
-IsSound t steps b counts = (s : Place) → IsSpot b s → count_on b counts s < no_count → (p : Place) × Shows b s p × IsWalked (IsSource t steps) t p (count_on b counts s)
+IsSound t steps b counts = (s : Place) → IsSpot b s → count_on b counts s < no_count →
+    (p : Place) × Shows b s p × IsWalked (IsSource t steps) t p (count_on b counts s)
 
-count-known : (b : Bounds) (shown : List (Option ℕ)) (s : Place) → length shown ≡ area_of b → IsSpot b s → count_on b (known_counts shown) s ≡ unwrap_or (get_or shown (spot_index b s) None) no_count
-count-known b shown s size spot = get_or-map (λ (o : Option ℕ). unwrap_or o no_count) shown (spot_index b s) None 0 (omega (arith, size, spot_below b s spot))
+count-known : (b : Bounds) (shown : List (Option ℕ)) (s : Place) →
+    length shown ≡ area_of b → IsSpot b s →
+    count_on b (known_counts shown) s ≡ unwrap_or (get_or shown (spot_index b s) None) no_count
+count-known b shown s size spot = get_or-map (λ (o : Option ℕ).
+    unwrap_or o no_count) shown (spot_index b s) None 0 (omega (arith, size, spot_below b s spot))
 
 pub some_of_known : (o : Option ℕ) (n : ℕ) → n ≡ unwrap_or o no_count → n < no_count → o ≡ Some n
 some_of_known None n e less = absurd (omega arith)
 some_of_known (Some m) n e less = ap Some (sym e)
 
-sound_begin : (t : Terrain) (b : Bounds) (steps shown : List (Option ℕ)) → length shown ≡ area_of b → AreShown t.cols t.rows steps None b shown → AreWalked (IsSource t steps) t steps → IsSound t steps b (known_counts shown)
+sound_begin : (t : Terrain) (b : Bounds) (steps shown : List (Option ℕ)) →
+    length shown ≡ area_of b → AreShown t.cols t.rows steps None b shown →
+    AreWalked (IsSource t steps) t steps → IsSound t steps b (known_counts shown)
 unfolding IsSound
 sound_begin t b steps shown size on walked = λ s spot less.
     let n = count_on b (known_counts shown) s in
-    let some = some_of_known (get_or shown (spot_index b s) None) n (count-known b shown s size spot) less in
-    let place = is_on t.cols t.rows steps b s (get_or shown (spot_index b s) None) n (on s spot) some in
+    let some =
+    some_of_known (get_or shown (spot_index b s) None) n (count-known b shown s size spot) less in
+    let place =
+    is_on t.cols t.rows steps b s (get_or shown (spot_index b s) None) n (on s spot) some in
     (place.0, place.1, MatchOption-at_some _ _ n place.2 (walked place.0))
 
-touching_places : (b : Bounds) (s r p q : Place) → Shows b s p → Shows b r q → Touches s r → Touches q p
+touching_places : (b : Bounds) (s r p q : Place) → Shows b s p → Shows b r q → Touches s r →
+    Touches q p
 touching_places b s r p q f g t = record {
   row_down = omega (arith, f.0, g.0, t.row_up);
   row_up = omega (arith, f.0, g.0, t.row_down);
@@ -70,66 +84,109 @@ apart_places b s r p q f g ne e =
     ne (same_place s r (omega (arith, f.0, g.0, row)) (omega (arith, f.1, g.1, col)))
 
 -- a level walk with one more move in front
-pub walked_on : (t : Terrain) (steps : List (Option ℕ)) (p q : Place) (m n : ℕ) → IsNeighbour t q p → height_at t p ≡ height_at t q → IsWalked (IsSource t steps) t p m → n ≡ m + 1 → n < 2 ^ 24 → IsWalked (IsSource t steps) t q n
-walked_on t steps p q m n next level walk is less = (less, p ∷ walk.1, (next, level, walk.2), omega (arith, walk.3, is))
+pub walked_on : (t : Terrain) (steps : List (Option ℕ)) (p q : Place) (m n : ℕ) →
+    IsNeighbour t q p → height_at t p ≡ height_at t q → IsWalked (IsSource t steps) t p m →
+    n ≡ m + 1 → n < 2 ^ 24 → IsWalked (IsSource t steps) t q n
+walked_on t steps p q m n next level walk is less =
+    (less, p ∷ walk.1, (next, level, walk.2), omega (arith, walk.3, is))
 
-sound_moved : (t : Terrain) (steps : List (Option ℕ)) (b : Bounds) (levels : List (Option ℤ)) (some : List ℕ) (s r : Place) (n : ℕ) → AreShown t.cols t.rows t.cells None b levels → IsSound t steps b some →
-    IsSpot b s → IsSpot b r → Touches s r → s ≢ r → level_on b levels s ≡ level_on b levels r → n ≡ count_on b some s + 1 → n < no_count → (q : Place) × Shows b r q × IsWalked (IsSource t steps) t q n
+sound_moved : (t : Terrain) (steps : List (Option ℕ)) (b : Bounds) (levels : List (Option ℤ))
+    (some : List ℕ) (s r : Place) (n : ℕ) → AreShown t.cols t.rows t.cells None b levels →
+    IsSound t steps b some →
+    IsSpot b s → IsSpot b r → Touches s r → s ≢ r → level_on b levels s ≡ level_on b levels r →
+    n ≡ count_on b some s + 1 → n < no_count → (q : Place) × Shows b r q
+    × IsWalked (IsSource t steps) t q n
 unfolding IsSound
 sound_moved t steps b levels some s r n on sound spot other touch differ level is less =
     let from = sound s spot (omega (arith, is)) in
-    let known_place = data_on_level_walk (IsSource t steps) t (λ z input. input.0) from.0 from.2.1 from.2.2 in
+    let known_place =
+    data_on_level_walk (IsSource t steps) t (λ z input. input.0) from.0 from.2.1 from.2.2 in
     let height = height_is t from.0 known_place in
-    let here : level_on b levels s ≡ Some (height_of t from.0) = (on s spot).0 from.0 from.1 ∙ height in
-    let to = is_on t.cols t.rows t.cells b r (level_on b levels r) (height_of t from.0) (on r other) (sym level ∙ here) in (
+    let here : level_on b levels s ≡ Some (height_of t from.0) = (on s spot).0 from.0 from.1
+    ∙ height in
+    let to = is_on t.cols t.rows t.cells b r (level_on b levels r) (height_of t from.0) (on r other)
+    (sym level ∙ here) in (
       to.0,
       to.1,
       walked_on t steps from.0 to.0 (count_on b some s) n
-          (record { different = apart_places b s r from.0 to.0 from.1 to.1 differ; touches = touching_places b s r from.0 to.0 from.1 to.1 touch; from_data = ap is_some to.2; to_data = known_place })
+          (record {
+            different = apart_places b s r from.0 to.0 from.1 to.1 differ;
+            touches = touching_places b s r from.0 to.0 from.1 to.1 touch;
+            from_data = ap is_some to.2;
+            to_data = known_place;
+          })
           (height ∙ sym to.2) from.2 is less,
     )
 
-sound_set : (t : Terrain) (steps : List (Option ℕ)) (b : Bounds) (counts : List ℕ) (r : Place) (n : ℕ) → length counts ≡ area_of b → IsSpot b r → IsSound t steps b counts → ((q : Place) × Shows b r q × IsWalked (IsSource t steps) t q n) → IsSound t steps b (set counts (spot_index b r) n)
+sound_set : (t : Terrain) (steps : List (Option ℕ))
+    (b : Bounds) (counts : List ℕ) (r : Place) (n : ℕ) → length counts ≡ area_of b → IsSpot b r →
+    IsSound t steps b counts → ((q : Place) × Shows b r q × IsWalked (IsSource t steps) t q n) →
+    IsSound t steps b (set counts (spot_index b r) n)
 unfolding IsSound
 sound_set t steps b counts r n size spot sound moved_to = λ s inside less. elim (cases_place s r) [
-  | inl e ↦ (let at : count_on b (set counts (spot_index b r) n) r ≡ n = get_or-set_same counts (spot_index b r) n 0 (omega (arith, size, spot_below b r spot)) in
-      subst (λ (x : Place). (p : Place) × Shows b x p × IsWalked (IsSource t steps) t p (count_on b (set counts (spot_index b r) n) x)) (sym e)
-      (moved_to.0, moved_to.1, subst (λ m. IsWalked (IsSource t steps) t moved_to.0 m) (sym at) moved_to.2))
-  | inr ne ↦ (let apart : spot_index b s ≢ spot_index b r = λ i. ne (index_injective (b.cols + 2) s r inside.1 spot.1 i) in
-      let at : count_on b (set counts (spot_index b r) n) s ≡ count_on b counts s = get_or-set_other counts (spot_index b r) (spot_index b s) n 0 apart in
+  | inl e ↦ (let at : count_on b (set counts (spot_index b r) n) r ≡ n =
+      get_or-set_same counts (spot_index b r) n 0 (omega (arith, size, spot_below b r spot)) in
+      subst (λ (x : Place). (p : Place) × Shows b x p
+      × IsWalked (IsSource t steps) t p (count_on b (set counts (spot_index b r) n) x)) (sym e) (
+        moved_to.0,
+        moved_to.1,
+        subst (λ m. IsWalked (IsSource t steps) t moved_to.0 m) (sym at) moved_to.2,
+      ))
+  | inr ne ↦ (let apart : spot_index b s ≢ spot_index b r =
+      λ i. ne (index_injective (b.cols + 2) s r inside.1 spot.1 i) in
+      let at : count_on b (set counts (spot_index b r) n) s ≡ count_on b counts s =
+      get_or-set_other counts (spot_index b r) (spot_index b s) n 0 apart in
       let was = sound s inside (omega (arith, at)) in
       (was.0, was.1, subst (λ m. IsWalked (IsSource t steps) t was.0 m) (sym at) was.2))
 ]
 
-sound_after : (t : Terrain) (steps : List (Option ℕ)) (b : Bounds) (levels : List (Option ℤ)) (old new : List ℕ) → AreShown t.cols t.rows t.cells None b levels → length old ≡ area_of b → AreCounts old → IsSound t steps b old → IsSpread b levels old new → IsSound t steps b new
+sound_after : (t : Terrain) (steps : List (Option ℕ)) (b : Bounds) (levels : List (Option ℤ))
+    (old new : List ℕ) → AreShown t.cols t.rows t.cells None b levels → length old ≡ area_of b →
+    AreCounts old → IsSound t steps b old → IsSpread b levels old new → IsSound t steps b new
 sound_after t steps b levels old new on size small sound same = sound
-sound_after t steps b levels old new on size small sound (moved counts some s r n before earlier spot other touch differ level from less) =
-    sound_set t steps b counts r n (spread-length b levels old counts before ∙ size) other (sound_after t steps b levels old counts on size small sound before)
-    (sound_moved t steps b levels some s r n on (sound_after t steps b levels old some on size small sound earlier) spot other touch differ level from
+sound_after t steps b levels old new on size small sound
+    (moved counts some s r n before earlier spot other touch differ level from less) =
+    sound_set t steps b counts r n (spread-length b levels old counts before
+    ∙ size) other (sound_after t steps b levels old counts on size small sound before)
+    (sound_moved t steps b levels some s r n on (sound_after t steps b levels old some on size small
+    sound earlier) spot other touch differ level from
     (omega (arith, less, spread_counts b levels old counts small before (spot_index b r))))
 
 -- the spot of a place of the tile
 spot_of : Bounds → Place → Place
 spot_of b p = make_place (p.row + 1 - b.top) (p.col + 1 - b.left)
 
-spot_inner : (b : Bounds) (p : Place) → IsInBounds b p → IsInner b (spot_of b p) × Shows b (spot_of b p) p
+spot_inner : (b : Bounds) (p : Place) → IsInBounds b p → IsInner b (spot_of b p)
+    × Shows b (spot_of b p) p
 unfolding spot_of
 spot_inner b p i = (
-  record { first_row = omega (arith, i.0); last_row = omega (arith, i.1); first_col = omega (arith, i.2); last_col = omega (arith, i.3) },
+  record {
+    first_row = omega (arith, i.0);
+    last_row = omega (arith, i.1);
+    first_col = omega (arith, i.2);
+    last_col = omega (arith, i.3);
+  },
   (omega (arith, i.0), omega (arith, i.2)),
 )
 
 -- a place beside one of the tile has a spot
-spot_beside : (b : Bounds) (p q s : Place) → IsInner b s → Shows b s p → Touches p q → (r : Place) × IsSpot b r × Shows b r q × Touches s r
+spot_beside : (b : Bounds) (p q s : Place) → IsInner b s → Shows b s p → Touches p q →
+    (r : Place) × IsSpot b r × Shows b r q × Touches s r
 spot_beside b p q s i f t = (
   make_place (q.row + 1 - b.top) (q.col + 1 - b.left),
   (omega (arith, f.0, t.row_down, i.last_row), omega (arith, f.1, t.col_right, i.last_col)),
   (omega (arith, f.0, t.row_up, i.first_row), omega (arith, f.1, t.col_left, i.first_col)),
-  record { row_down = omega (arith, f.0, t.row_down); row_up = omega (arith, f.0, t.row_up, i.first_row); col_right = omega (arith, f.1, t.col_right); col_left = omega (arith, f.1, t.col_left, i.first_col) },
+  record {
+    row_down = omega (arith, f.0, t.row_down);
+    row_up = omega (arith, f.0, t.row_up, i.first_row);
+    col_right = omega (arith, f.1, t.col_right);
+    col_left = omega (arith, f.1, t.col_left, i.first_col);
+  },
 )
 
 -- the spots of places that touch also touch
-touching_spots : (b : Bounds) (p q s r : Place) → Shows b s p → Shows b r q → Touches p q → Touches r s
+touching_spots : (b : Bounds) (p q s r : Place) → Shows b s p → Shows b r q → Touches p q →
+    Touches r s
 touching_spots b p q s r f g t = record {
   row_down = omega (arith, f.0, g.0, t.row_up);
   row_up = omega (arith, f.0, g.0, t.row_down);
@@ -149,26 +206,42 @@ known-if n P h = elim (cases_lt n no_count) [
   | inr more ↦ subst (λ (o : Option ℕ). IfSome o P) (sym (known-none n more)) tt
 ]
 
-count_small : (t : Terrain) (b : Bounds) (s : Place) (steps : List (Option ℕ)) (o : Option ℕ) → IsShown t.cols t.rows steps None b s o → AreWalked (IsSource t steps) t steps → unwrap_or o no_count ≤ no_count
+count_small : (t : Terrain) (b : Bounds) (s : Place) (steps : List (Option ℕ)) (o : Option ℕ) →
+    IsShown t.cols t.rows steps None b s o → AreWalked (IsSource t steps) t steps →
+    unwrap_or o no_count ≤ no_count
 count_small t b s steps None on walks = omega arith
 count_small t b s steps (Some n) on walks =
     let place = is_on t.cols t.rows steps b s (Some n) n on refl in
     let real = MatchOption-at_some _ _ n place.2 (walks place.0) in omega (arith, real.0)
 
 -- no count in the window is above `no_count`
-pub counts_small : (t : Terrain) (b : Bounds) (steps shown : List (Option ℕ)) → length shown ≡ area_of b → AreShown t.cols t.rows steps None b shown → AreWalked (IsSource t steps) t steps → AreCounts (known_counts shown)
+pub counts_small : (t : Terrain) (b : Bounds) (steps shown : List (Option ℕ)) →
+    length shown ≡ area_of b → AreShown t.cols t.rows steps None b shown →
+    AreWalked (IsSource t steps) t steps → AreCounts (known_counts shown)
 counts_small t b steps shown size seen walks k = elim (cases_lt k (area_of b)) [
   | inl less ↦ at_place (λ i. get_or (known_counts shown) i 0 ≤ no_count) (b.cols + 2) (b.rows + 2)
-      (λ s row col. omega (arith, count-known b shown s size (row, col), count_small t b s steps (get_or shown (spot_index b s) None) (seen s (row, col)) walks)) k less
-  | inr past ↦ omega (arith, get_or_past (known_counts shown) k 0 (omega (arith, size, length-map shown (λ (o : Option ℕ). unwrap_or o no_count))))
+      (λ s row col. omega (
+        arith,
+        count-known b shown s size (row, col),
+        count_small t b s steps (get_or shown (spot_index b s) None) (seen s (row, col)) walks,
+      )) k less
+  | inr past ↦ omega (
+    arith,
+    get_or_past (known_counts shown) k 0
+        (omega (arith, size, length-map shown (λ (o : Option ℕ). unwrap_or o no_count))),
+  )
 ]
 
-module _ (t : Terrain) (c : Cutting) (tile : ℕ) (b : Bounds) (steps shown : List (Option ℕ)) (levels : List (Option ℤ)) (new : List ℕ) (list : List (Option ℕ))
-    (cutting : IsCutting c) (bounds : b ≡ bounds_of c tile) (on : AreShown t.cols t.rows t.cells None b levels) (size : length shown ≡ area_of b)
-    (seen : AreShown t.cols t.rows steps None b shown) (walks : AreWalked (IsSource t steps) t steps) (finished : IsSearched b levels (known_counts shown) new)
+module _ (t : Terrain) (c : Cutting) (tile : ℕ) (b : Bounds) (steps shown : List (Option ℕ))
+    (levels : List (Option ℤ)) (new : List ℕ) (list : List (Option ℕ))
+    (cutting : IsCutting c) (bounds : b ≡ bounds_of c tile)
+    (on : AreShown t.cols t.rows t.cells None b levels) (size : length shown ≡ area_of b)
+    (seen : AreShown t.cols t.rows steps None b shown) (walks :
+    AreWalked (IsSource t steps) t steps) (finished : IsSearched b levels (known_counts shown) new)
     (out : AreMadeBelow b (IsCopied b new) (b.rows * b.cols) list) where
   in_bounds_of : (p : Place) → IsInTile c tile p → IsInBounds b p
-  in_bounds_of p i = subst (λ (z : Bounds). IsInBounds z p) (sym bounds) (in_bounds c tile p cutting i)
+  in_bounds_of p i =
+      subst (λ (z : Bounds). IsInBounds z p) (sym bounds) (in_bounds c tile p cutting i)
 
   small : AreCounts (known_counts shown)
   small = counts_small t b steps shown size seen walks
@@ -177,58 +250,84 @@ module _ (t : Terrain) (c : Cutting) (tile : ℕ) (b : Bounds) (steps shown : Li
   handed = made_tile c tile b (IsCopied b new) list cutting bounds out
 
   -- the tile's list has the count of each place's spot
-  entry_is : (p : Place) → IsInTile c tile p → tile_entry c tile list p ≡ known (count_on b new (spot_of b p))
-  entry_is p i = entry_of_tile c tile (IsCopied b new) list cutting handed p i (spot_of b p) (spot_inner b p (in_bounds_of p i)).1
+  entry_is : (p : Place) → IsInTile c tile p →
+      tile_entry c tile list p ≡ known (count_on b new (spot_of b p))
+  entry_is p i = entry_of_tile c tile (IsCopied b new) list cutting handed p i (spot_of b p)
+      (spot_inner b p (in_bounds_of p i)).1
 
   -- the old count of a place is that of its spot
-  input_is : (s q : Place) (m : ℕ) → IsSpot b s → Shows b s q → entry_at t.cols t.rows steps q ≡ Some m → count_on b (known_counts shown) s ≡ m
+  input_is : (s q : Place) (m : ℕ) → IsSpot b s → Shows b s q →
+      entry_at t.cols t.rows steps q ≡ Some m → count_on b (known_counts shown) s ≡ m
   input_is s q m spot f e =
-      count-known b shown s size spot ∙ ap (λ (o : Option ℕ). unwrap_or o no_count) ((seen s spot).0 q f ∙ e)
+      count-known b shown s size spot
+      ∙ ap (λ (o : Option ℕ). unwrap_or o no_count) ((seen s spot).0 q f ∙ e)
 
-  walked_here : (p : Place) → IsInTile c tile p → IfSome (tile_entry c tile list p) (IsWalked (IsSource t steps) t p)
+  walked_here : (p : Place) → IsInTile c tile p →
+      IfSome (tile_entry c tile list p) (IsWalked (IsSource t steps) t p)
   unfolding IsSound
   walked_here p i =
       let inner = spot_inner b p (in_bounds_of p i) in
-      let sound = sound_after t steps b levels (known_counts shown) new on (length-map shown (λ (o : Option ℕ). unwrap_or o no_count) ∙ size) small (sound_begin t b steps shown size seen walks) finished.spread in
+      let sound = sound_after t steps b levels
+      (known_counts shown) new on (length-map shown (λ (o : Option ℕ). unwrap_or o no_count)
+      ∙ size) small (sound_begin t b steps shown size seen walks) finished.spread in
       subst (λ (o : Option ℕ). IfSome o (IsWalked (IsSource t steps) t p)) (sym (entry_is p i))
-      (known-if (count_on b new (spot_of b p)) (IsWalked (IsSource t steps) t p) (λ less. place_one p inner.1 (sound (spot_of b p) (spot_from_inner b (spot_of b p) inner.0) less)))
+      (known-if (count_on b new (spot_of b p)) (IsWalked (IsSource t steps) t p) (λ less.
+      place_one p inner.1 (sound (spot_of b p) (spot_from_inner b (spot_of b p) inner.0) less)))
     where
-      place_one : (p : Place) → Shows b (spot_of b p) p → (q : Place) × Shows b (spot_of b p) q × IsWalked (IsSource t steps) t q (count_on b new (spot_of b p)) → IsWalked (IsSource t steps) t p (count_on b new (spot_of b p))
-      place_one p f h = subst (λ (x : Place). IsWalked (IsSource t steps) t x (count_on b new (spot_of b p))) (shows_same b (spot_of b p) h.0 p h.1 f) h.2
+      place_one : (p : Place) → Shows b (spot_of b p) p → (q : Place) × Shows b (spot_of b p) q
+          × IsWalked (IsSource t steps) t q (count_on b new (spot_of b p)) →
+          IsWalked (IsSource t steps) t p (count_on b new (spot_of b p))
+      place_one p f h = subst (λ (x : Place). IsWalked (IsSource t steps) t x
+          (count_on b new (spot_of b p))) (shows_same b (spot_of b p) h.0 p h.1 f) h.2
 
-  near_here : (p q : Place) → IsInTile c tile p → IsNeighbour t p q → height_at t q ≡ height_at t p → IsOneAbove (tile_entry c tile list p) (entry_at t.cols t.rows steps q)
+  near_here : (p q : Place) → IsInTile c tile p → IsNeighbour t p q → height_at t q
+      ≡ height_at t p → IsOneAbove (tile_entry c tile list p) (entry_at t.cols t.rows steps q)
   near_here p q i next level m e less =
       let inner = spot_inner b p (in_bounds_of p i) in
       let s = spot_of b p in
       let r = spot_beside b p q s inner.0 inner.1 next.touches in
       let levels_are : level_on b levels r.0 ≡ level_on b levels s =
       (on r.0 r.1).0 q r.2 ∙ level ∙ sym ((on s (spot_from_inner b s inner.0)).0 p inner.1) in
-      let near : count_on b new s ≤ count_on b (known_counts shown) r.0 + 1 = (finished.near s inner.0).each r.0 r.3 levels_are in
+      let near : count_on b new s ≤ count_on b (known_counts shown) r.0 + 1 =
+      (finished.near s inner.0).each r.0 r.3 levels_are in
       let was = input_is r.0 q m r.1 r.2 e in
       let few : count_on b new s < no_count = omega (arith, near, was) in
       (count_on b new s, entry_is p i ∙ known-some (count_on b new s) few, omega (arith, near, was))
 
-  within_here : (p q : Place) → IsInTile c tile p → IsInTile c tile q → IsNeighbour t p q → height_at t q ≡ height_at t p → IsOneAbove (tile_entry c tile list p) (tile_entry c tile list q)
+  within_here : (p q : Place) → IsInTile c tile p → IsInTile c tile q →
+      IsNeighbour t p q → height_at t q ≡ height_at t p →
+      IsOneAbove (tile_entry c tile list p) (tile_entry c tile list q)
   within_here p q i j next level m e less =
       let to = spot_inner b p (in_bounds_of p i) in
       let from = spot_inner b q (in_bounds_of q j) in
       let touch = touching_spots b p q (spot_of b p) (spot_of b q) to.1 from.1 next.touches in
       let levels_are : level_on b levels (spot_of b p) ≡ level_on b levels (spot_of b q) =
-      (on (spot_of b p) (spot_from_inner b (spot_of b p) to.0)).0 p to.1 ∙ sym level ∙ sym ((on (spot_of b q) (spot_from_inner b (spot_of b q) from.0)).0 q from.1) in
-      let near : count_on b new (spot_of b p) ≤ count_on b new (spot_of b q) + 1 = finished.even.each (spot_of b q) (spot_of b p) from.0 to.0 touch levels_are in
-      let was : count_on b new (spot_of b q) ≡ m = known_is (count_on b new (spot_of b q)) m (sym (entry_is q j) ∙ e) in
-      let few : count_on b new (spot_of b p) < no_count = omega (arith, near, was) in
-      (count_on b new (spot_of b p), entry_is p i ∙ known-some (count_on b new (spot_of b p)) few, omega (arith, near, was))
+      (on (spot_of b p) (spot_from_inner b (spot_of b p) to.0)).0 p to.1 ∙ sym level
+      ∙ sym ((on (spot_of b q) (spot_from_inner b (spot_of b q) from.0)).0 q from.1) in
+      let near : count_on b new (spot_of b p) ≤ count_on b new (spot_of b q) + 1 =
+      finished.even.each (spot_of b q) (spot_of b p) from.0 to.0 touch levels_are in
+      let was : count_on b new (spot_of b q) ≡ m =
+      known_is (count_on b new (spot_of b q)) m (sym (entry_is q j) ∙ e) in
+      let few : count_on b new (spot_of b p) < no_count = omega (arith, near, was) in (
+        count_on b new (spot_of b p),
+        entry_is p i ∙ known-some (count_on b new (spot_of b p)) few,
+        omega (arith, near, was),
+      )
 
-  kept_here : (p : Place) (m : ℕ) → IsInTile c tile p → entry_at t.cols t.rows steps p ≡ Some m → (n : ℕ) × (tile_entry c tile list p ≡ Some n) × (n ≤ m)
+  kept_here : (p : Place) (m : ℕ) → IsInTile c tile p → entry_at t.cols t.rows steps p ≡ Some m →
+      (n : ℕ) × (tile_entry c tile list p ≡ Some n) × (n ≤ m)
   kept_here p m i e =
       let inner = spot_inner b p (in_bounds_of p i) in
       let s = spot_of b p in
       let was = input_is s p m (spot_from_inner b s inner.0) inner.1 e in
       let real = MatchOption-at_some _ _ m e (walks p) in
-      let fewer = (spread_not_above b levels (known_counts shown) new finished.spread).each (spot_index b s) in
-      let few : count_on b new s < no_count = omega (arith, fewer, was, real.0) in
-      (count_on b new s, entry_is p i ∙ known-some (count_on b new s) few, omega (arith, fewer, was))
+      let fewer =
+      (spread_not_above b levels (known_counts shown) new finished.spread).each (spot_index b s) in
+      let few : count_on b new s < no_count = omega (arith, fewer, was, real.0) in (
+        count_on b new s,
+        entry_is p i ∙ known-some (count_on b new s) few,
+        omega (arith, fewer, was),
+      )
 
   pub is_round : IsRound (IsSource t steps) t c tile steps list
   is_round = record {
@@ -240,20 +339,31 @@ module _ (t : Terrain) (c : Cutting) (tile : ℕ) (b : Bounds) (steps shown : Li
   }
 
 -- two views of one tile have one window of counts
-pub input_to : (v : View (Option ℤ)) (w : View (Option ℕ)) (b : Bounds) (old : List ℕ) → w.cutting ≡ v.cutting → w.tile ≡ v.tile → b ≡ bounds_of v.cutting v.tile →
-    AreWindowCounts w.cutting.cols w.cutting.rows w.cells (bounds_of w.cutting w.tile) old → AreWindowCounts v.cutting.cols v.cutting.rows w.cells b old
+pub input_to : (v : View (Option ℤ)) (w : View (Option ℕ)) (b : Bounds) (old : List ℕ) →
+    w.cutting ≡ v.cutting → w.tile ≡ v.tile → b ≡ bounds_of v.cutting v.tile →
+    AreWindowCounts w.cutting.cols w.cutting.rows w.cells (bounds_of w.cutting w.tile) old →
+    AreWindowCounts v.cutting.cols v.cutting.rows w.cells b old
 input_to v w b old cutting tile bounds input =
     subst (λ (z : Bounds). AreWindowCounts v.cutting.cols v.cutting.rows w.cells z old) (sym bounds)
-    (subst (λ (k : ℕ). AreWindowCounts v.cutting.cols v.cutting.rows w.cells (bounds_of v.cutting k) old) tile
-    (subst (λ (z : Cutting). AreWindowCounts z.cols z.rows w.cells (bounds_of z w.tile) old) cutting input))
+    (subst (λ (k : ℕ).
+    AreWindowCounts v.cutting.cols v.cutting.rows w.cells (bounds_of v.cutting k) old) tile
+    (subst (λ (z : Cutting). AreWindowCounts z.cols z.rows w.cells (bounds_of z w.tile) old)
+    cutting input))
 
-pub input_small : (t : Terrain) (b : Bounds) (steps : List (Option ℕ)) (old : List ℕ) → AreWindowCounts t.cols t.rows steps b old → AreWalked (IsSource t steps) t steps → AreCounts old
-input_small t b steps old input walks = subst (λ (xs : List ℕ). AreCounts xs) (sym input.value) (counts_small t b steps input.shown input.size input.seen walks)
+pub input_small : (t : Terrain) (b : Bounds) (steps : List (Option ℕ)) (old : List ℕ) →
+    AreWindowCounts t.cols t.rows steps b old → AreWalked (IsSource t steps) t steps → AreCounts old
+input_small t b steps old input walks = subst (λ (xs : List ℕ). AreCounts xs) (sym input.value)
+    (counts_small t b steps input.shown input.size input.seen walks)
 
-pub round_from : (v : View (Option ℤ)) (w : View (Option ℕ)) (b : Bounds) (levels : List (Option ℤ)) (old new : List ℕ) (list : List (Option ℕ)) →
-    IsCutting v.cutting → b ≡ bounds_of v.cutting v.tile → AreShown v.cutting.cols v.cutting.rows v.cells None b levels → AreWindowCounts v.cutting.cols v.cutting.rows w.cells b old →
-    AreWalked (IsSource (terrain_of v) w.cells) (terrain_of v) w.cells → IsSearched b levels old new → AreMadeBelow b (IsCopied b new) (b.rows * b.cols) list →
+pub round_from : (v : View (Option ℤ)) (w : View (Option ℕ)) (b : Bounds) (levels : List (Option ℤ))
+    (old new : List ℕ) (list : List (Option ℕ)) →
+    IsCutting v.cutting →
+    b ≡ bounds_of v.cutting v.tile → AreShown v.cutting.cols v.cutting.rows v.cells None b levels →
+    AreWindowCounts v.cutting.cols v.cutting.rows w.cells b old →
+    AreWalked (IsSource (terrain_of v) w.cells) (terrain_of v) w.cells →
+    IsSearched b levels old new → AreMadeBelow b (IsCopied b new) (b.rows * b.cols) list →
     IsRound (IsSource (terrain_of v) w.cells) (terrain_of v) v.cutting v.tile w.cells list
 round_from v w b levels old new list cutting bounds on input walks finished out =
-    is_round (terrain_of v) v.cutting v.tile b w.cells input.shown levels new list cutting bounds on input.size input.seen walks
+    is_round (terrain_of v) v.cutting v.tile b w.cells input.shown levels new list cutting bounds on
+    input.size input.seen walks
     (subst (λ (xs : List ℕ). IsSearched b levels xs new) input.value finished) out

@@ -25,7 +25,8 @@ use Rattle.drainage.proofs.Reach.{is_end_cell, end_true, true_end}
 
 -- the place of an index has that index
 pub index-place_at : (cols i : ℕ) → index_of cols (place_at cols i) ≡ i
-index-place_at cols i = let whole : cols * (i / cols) + i % cols ≡ i = div-add-mod i cols in omega arith
+index-place_at cols i = let whole : cols * (i / cols) + i % cols ≡ i = div-add-mod i cols in
+    omega arith
 
 some_cols : (cols rows i : ℕ) → i < cols * rows → 1 ≤ cols
 some_cols cols rows i h = elim (cases_eq cols 0) [
@@ -34,7 +35,8 @@ some_cols cols rows i h = elim (cases_eq cols 0) [
 ]
 
 -- a property of each place inside holds at each index
-pub at_place : (P : ℕ → Type 0) (cols rows : ℕ) → ((p : Place) → p.row < rows → p.col < cols → P (index_of cols p)) → (i : ℕ) → i < cols * rows → P i
+pub at_place : (P : ℕ → Type 0) (cols rows : ℕ) → ((p : Place) → p.row < rows → p.col < cols →
+    P (index_of cols p)) → (i : ℕ) → i < cols * rows → P i
 at_place P cols rows each i h =
     let some : 1 ≤ cols = some_cols cols rows i h in
     let row : i / cols < rows = div_below i cols rows some (omega arith) in
@@ -42,29 +44,38 @@ at_place P cols rows each i h =
     subst P (index-place_at cols i) (each (place_at cols i) row col)
 
 -- lists with equal entries at each place are equal
-pub same_entries : {X : Type 0} (cols rows : ℕ) (xs ys : List (Option X)) → length xs ≡ cols * rows → length ys ≡ cols * rows
-    → ((p : Place) → p.row < rows → p.col < cols → entry_at cols rows xs p ≡ entry_at cols rows ys p) → xs ≡ ys
+pub same_entries : {X : Type 0} (cols rows : ℕ) (xs ys : List (Option X)) →
+    length xs ≡ cols * rows → length ys ≡ cols * rows
+    → ((p : Place) → p.row < rows → p.col < cols →
+    entry_at cols rows xs p ≡ entry_at cols rows ys p) → xs ≡ ys
 same_entries cols rows xs ys m n same =
-    ext_get_or None xs ys (m ∙ sym n) (λ i h. at_place (λ k. get_or xs k None ≡ get_or ys k None) cols rows
-    (λ p row col. sym (entry-inside cols rows xs p row col) ∙ same p row col ∙ entry-inside cols rows ys p row col) i (omega arith))
+    ext_get_or None xs ys (m
+    ∙ sym n) (λ i h. at_place (λ k. get_or xs k None ≡ get_or ys k None) cols rows
+    (λ p row col. sym (entry-inside cols rows xs p row col) ∙ same p row col
+    ∙ entry-inside cols rows ys p row col) i (omega arith))
 
-pub one_list_of_directions : (t : Terrain) (xs ys : List (Option ℕ)) → AreDirections t xs → AreDirections t ys → xs ≡ ys
+pub one_list_of_directions : (t : Terrain) (xs ys : List (Option ℕ)) → AreDirections t xs →
+    AreDirections t ys → xs ≡ ys
 one_list_of_directions t xs ys a b =
     same_entries t.cols t.rows xs ys a.size b.size (λ p row col.
     elim (cases_option (height_at t p)) [
-      | inl none ↦ MatchOption-at_none _ _ none (a.each p (row, col)) ∙ sym (MatchOption-at_none _ _ none (b.each p (row, col)))
+      | inl none ↦ MatchOption-at_none _ _ none (a.each p (row, col))
+          ∙ sym (MatchOption-at_none _ _ none (b.each p (row, col)))
       | inr some ↦
           (let m = MatchOption-at_some _ _ some.0 some.1 (a.each p (row, col)) in
           let n = MatchOption-at_some _ _ some.0 some.1 (b.each p (row, col)) in
           m.1 ∙ ap Some (one_direction t p m.0 n.0 m.2 n.2) ∙ sym n.1)
     ])
 
-steps_of : (t : Terrain) → IsFilled t t.cells → (p : Place) (o : Option ℤ) → height_at t p ≡ o → (s : Option ℕ) × MatchOption o (s ≡ None) (λ _. (n : ℕ) × (s ≡ Some n) × IsSteps t p n)
+steps_of : (t : Terrain) → IsFilled t t.cells → (p : Place) (o : Option ℤ) → height_at t p ≡ o →
+    (s : Option ℕ) × MatchOption o (s ≡ None) (λ _. (n : ℕ) × (s ≡ Some n) × IsSteps t p n)
 steps_of t filled p None e = (None, refl)
-steps_of t filled p (Some h) e = let n = has_steps t p filled (ap is_some e) in (Some n.0, (n.0, refl, n.1))
+steps_of t filled p (Some h) e = let n = has_steps t p filled (ap is_some e) in
+    (Some n.0, (n.0, refl, n.1))
 
 pub place_at-index_of : (cols : ℕ) (p : Place) → p.col < cols → place_at cols (index_of cols p) ≡ p
-place_at-index_of cols p below = sym (same_place p (place_at cols (index_of cols p)) (sym (div-mul-add p.row cols p.col below)) (sym (mod-mul-add p.row cols p.col below)))
+place_at-index_of cols p below = sym (same_place p (place_at cols (index_of cols p))
+    (sym (div-mul-add p.row cols p.col below)) (sym (mod-mul-add p.row cols p.col below)))
 
 module _ (t : Terrain) (filled : IsFilled t t.cells) where
   steps_in : ℕ → Option ℕ
@@ -76,19 +87,28 @@ module _ (t : Terrain) (filled : IsFilled t t.cells) where
   are_steps : AreSteps t all_steps
   unfolding all_steps steps_in steps_of
   are_steps = record {
-    size = length-map (range_with_len 0 (t.cols * t.rows)) steps_in ∙ length-range_with_len 0 (t.cols * t.rows);
+    size = length-map (range_with_len 0 (t.cols * t.rows)) steps_in
+        ∙ length-range_with_len 0 (t.cols * t.rows);
     each = λ p inside.
         let at = entry-inside t.cols t.rows all_steps p inside.0 inside.1
-        ∙ get_or-map-range_with_len steps_in 0 (t.cols * t.rows) (index_of t.cols p) (index_of t.cols p) None (index_below t.cols t.rows p inside.0 inside.1) (omega arith)
-        ∙ ap (λ q. (steps_of t filled q (height_at t q) refl).0) (place_at-index_of t.cols p inside.1) in
-        subst (λ (s : Option ℕ). MatchOption (height_at t p) (s ≡ None) (λ _. (n : ℕ) × (s ≡ Some n) × IsSteps t p n)) (sym at) (steps_of t filled p (height_at t p) refl).1;
+        ∙ get_or-map-range_with_len steps_in 0 (t.cols * t.rows) (index_of t.cols p)
+        (index_of t.cols p) None (index_below t.cols t.rows p inside.0 inside.1) (omega arith)
+        ∙ ap (λ q. (steps_of t filled q (height_at t q) refl).0)
+        (place_at-index_of t.cols p inside.1) in
+        subst (λ (s : Option ℕ). MatchOption (height_at t p) (s ≡ None) (λ _. (n : ℕ) × (s ≡ Some n)
+        × IsSteps t p n)) (sym at) (steps_of t filled p (height_at t p) refl).1;
   }
 
-  pub has_direction : (p : Place) → IsDataCell t p → (code : ℕ) × IsDirection t p code × ((other : ℕ) → IsDirection t p other → other ≡ code)
+  pub has_direction : (p : Place) → IsDataCell t p → (code : ℕ) × IsDirection t p code
+      × ((other : ℕ) → IsDirection t p other → other ≡ code)
   has_direction p is =
       let n = steps_at t all_steps p are_steps is in
       let code = direction_of (around_with t all_steps p (height_of t p) n.0 (is_end_cell t p)) in
       let direction : IsDirection t p code =
-      direction_is t all_steps p (around_with t all_steps p (height_of t p) n.0 (is_end_cell t p)) are_steps
-      (record { laid = laid_with t all_steps p (height_of t p) n.0 (is_end_cell t p) (height_is t p is) n.1; edge = (end_true t p, true_end t p) }) in
+      direction_is t all_steps p
+      (around_with t all_steps p (height_of t p) n.0 (is_end_cell t p)) are_steps
+      (record {
+        laid = laid_with t all_steps p (height_of t p) n.0 (is_end_cell t p) (height_is t p is) n.1;
+        edge = (end_true t p, true_end t p);
+      }) in
       (code, direction, λ other d. one_direction t p other code d direction)

@@ -18,11 +18,14 @@ abbrev pub no_way : ℕ × Option (ℤ × ℕ)
 no_way = (0, None)
 
 pub length-weights : (a : Around) → length (weights a) ≡ length a.ways
-length-weights a = length-map (enumerate_from 0 a.ways) (own_weight a) ∙ length-enumerate_from 0 a.ways
+length-weights a = length-map (enumerate_from 0 a.ways) (own_weight a)
+    ∙ length-enumerate_from 0 a.ways
 
-pub get_or-weights : (a : Around) (k : ℕ) → k < length a.ways → get_or (weights a) k 0 ≡ weight k (drop_to a.level (get_or a.ways k None))
+pub get_or-weights : (a : Around) (k : ℕ) → k < length a.ways →
+    get_or (weights a) k 0 ≡ weight k (drop_to a.level (get_or a.ways k None))
 get_or-weights a k h =
-    let within : k < length (enumerate_from 0 a.ways) = omega (arith, length-enumerate_from 0 a.ways) in
+    let within : k < length (enumerate_from 0 a.ways) =
+    omega (arith, length-enumerate_from 0 a.ways) in
     let zero_and : 0 + k ≡ k = omega arith in
     get_or-map (own_weight a) (enumerate_from 0 a.ways) k no_way 0 within
     ∙ ap (own_weight a) (get_or-enumerate_from 0 a.ways k no_way h)
@@ -33,39 +36,48 @@ square-above_zero n h = let more : 1 * n ≤ n * n = mul-le-mul_right n h in ome
 
 -- only a drop of 0 has the weight 0
 pub drop_from_weight : (way drop : ℕ) → weight way drop ≤ 0 → drop ≡ 0
-drop_from_weight way drop h = elim (cases_eq drop 0) [ inl e ↦ e | inr ne ↦ absurd (weighs way drop (omega arith) h) ]
+drop_from_weight way drop h =
+    elim (cases_eq drop 0) [ inl e ↦ e | inr ne ↦ absurd (weighs way drop (omega arith) h) ]
   where
     weighs : (way drop : ℕ) → 1 ≤ drop → weight way drop ≤ 0 → ⊥
     weighs way drop some low =
         let square : 1 ≤ drop * drop = square-above_zero drop some in
         elim (cases_Bool (eqb (way % 2) 0)) [
-          | inl e ↦ (let is : weight way drop ≡ 2 * (drop * drop) = cond-true _ _ _ e in omega arith)
+          | inl e ↦
+              (let is : weight way drop ≡ 2 * (drop * drop) = cond-true _ _ _ e in omega arith)
           | inr e ↦ (let is : weight way drop ≡ drop * drop = cond-false _ _ _ e in omega arith)
         ]
 
 -- if no weight is above 0, no way leads down
-pub no_way_down : (a : Around) → fold max 0 (weights a) ≤ 0 → list_any (λ w. ltb 0 (drop_to a.level w)) a.ways ≡ false
+pub no_way_down : (a : Around) → fold max 0 (weights a) ≤ 0 →
+    list_any (λ w. ltb 0 (drop_to a.level w)) a.ways ≡ false
 no_way_down a h =
     none_passes (λ w. ltb 0 (drop_to a.level w)) a.ways None
     (λ k lt.
     let within : k < length (weights a) = omega (arith, length-weights a) in
-    let low : get_or (weights a) k 0 ≤ fold max 0 (weights a) = (le-fold_max (weights a) 0 k).1 within in
-    let own : weight k (drop_to a.level (get_or a.ways k None)) ≤ 0 = omega (arith, get_or-weights a k lt) in
+    let low : get_or (weights a) k 0 ≤ fold max 0 (weights a) =
+    (le-fold_max (weights a) 0 k).1 within in
+    let own : weight k (drop_to a.level (get_or a.ways k None)) ≤ 0 =
+    omega (arith, get_or-weights a k lt) in
     let none : drop_to a.level (get_or a.ways k None) ≡ 0 = drop_from_weight k _ own in
     le-ltb _ _ (omega arith))
 
 -- a fitting cell that has no way down and is no end cell has a way that leads on
-pub drains_onward : (a : Around) → IsFitting a → fold max 0 (weights a) ≤ 0 → a.edge ≡ false → list_any (leads_on a) a.ways ≡ true
+pub drains_onward : (a : Around) → IsFitting a → fold max 0 (weights a) ≤ 0 → a.edge ≡ false →
+    list_any (leads_on a) a.ways ≡ true
 drains_onward a f low inside = go a low inside f.drains
   where
     go : (a : Around) → fold max 0 (weights a) ≤ 0 → a.edge ≡ false
-        → ((a.edge ≡ true) ⊎ (list_any (λ w. ltb 0 (drop_to a.level w)) a.ways ≡ true) ⊎ (list_any (leads_on a) a.ways ≡ true))
+        → ((a.edge ≡ true) ⊎ (list_any (λ w. ltb 0 (drop_to a.level w)) a.ways ≡ true)
+        ⊎ (list_any (leads_on a) a.ways ≡ true))
         → list_any (leads_on a) a.ways ≡ true
     go a low inside (inl e) = absurd (false≢true (sym inside ∙ e))
     go a low inside (inr (inl e)) = absurd (false≢true (sym (no_way_down a low) ∙ e))
     go a low inside (inr (inr e)) = e
 
-pub direction_down : (a : Around) (greatest way : ℕ) → greatest ≡ fold max 0 (weights a) → 0 < greatest → position (λ w. eqb w greatest) (weights a) ≡ Some way → direction_of a ≡ code_of (Some way)
+pub direction_down : (a : Around) (greatest way : ℕ) → greatest ≡ fold max 0 (weights a) →
+    0 < greatest → position (λ w. eqb w greatest) (weights a) ≡ Some way →
+    direction_of a ≡ code_of (Some way)
 direction_down a greatest way is some first =
     let above : 0 < fold max 0 (weights a) = omega (arith, is) in
     cond-true _ _ _ (lt-ltb _ _ above)

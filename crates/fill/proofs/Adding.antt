@@ -20,16 +20,20 @@ use Rattle.fill.specs.declared.marks.CellLabel.{CellLabel}
 use Rattle.floods.proofs.Heaps.{cons_head, cons_cases, one_held}
 
 abbrev join_between : CellLabel → CellLabel → Join
-join_between from to = record { from = from.node; to = to.node; height = int_max from.level to.level }
+join_between from to =
+    record { from = from.node; to = to.node; height = int_max from.level to.level }
 
 -- Two marks with different labels, not both sources, have one join.
-pub joins_of_apart : (sources : List (Option ℤ)) (from to : CellLabel) → from.node ≢ to.node → are_both_sources sources from.node to.node ≡ false → joins_of sources from (Some to) ≡ join_between from to ∷ []
+pub joins_of_apart : (sources : List (Option ℤ)) (from to : CellLabel) →
+    from.node ≢ to.node → are_both_sources sources from.node to.node ≡ false →
+    joins_of sources from (Some to) ≡ join_between from to ∷ []
 joins_of_apart sources from to differ apart = elim (cases_Bool (from.node == to.node)) [
   | inl same ↦ absurd (differ (eqb-true _ _ same))
   | inr other ↦ cond-false _ _ _ other ∙ cond-false _ _ _ apart
 ]
 
-pub joins_of_two_sources : (sources : List (Option ℤ)) (from to : CellLabel) → from.node ≢ to.node → are_both_sources sources from.node to.node ≡ true → joins_of sources from (Some to) ≡ []
+pub joins_of_two_sources : (sources : List (Option ℤ)) (from to : CellLabel) → from.node ≢ to.node →
+    are_both_sources sources from.node to.node ≡ true → joins_of sources from (Some to) ≡ []
 joins_of_two_sources sources from to differ settled = elim (cases_Bool (from.node == to.node)) [
   | inl same ↦ absurd (differ (eqb-true _ _ same))
   | inr other ↦ cond-false _ _ _ other ∙ cond-true _ _ _ settled
@@ -38,16 +42,21 @@ joins_of_two_sources sources from to differ settled = elim (cases_Bool (from.nod
 pub no_join : (j : Join) → Contains [] j → ⊥
 no_join j h = omega (arith, h.1)
 
-pub joins_of_is : (sources : List (Option ℤ)) (from : CellLabel) (o : Option CellLabel) (j : Join) → Contains (joins_of sources from o) j → (to : CellLabel) × (o ≡ Some to) × (from.node ≢ to.node) × (are_both_sources sources from.node to.node ≡ false) × (join_between from to ≡ j)
+pub joins_of_is : (sources : List (Option ℤ)) (from : CellLabel) (o : Option CellLabel) (j : Join) →
+    Contains (joins_of sources from o) j → (to : CellLabel) × (o ≡ Some to) × (from.node ≢ to.node)
+    × (are_both_sources sources from.node to.node ≡ false) × (join_between from to ≡ j)
 joins_of_is sources from None j h = absurd (no_join j h)
 joins_of_is sources from (Some to) j h = elim (cases_eq from.node to.node) [
-  | inl same ↦ absurd (no_join j (subst (λ (z : List Join). Contains z j) (cond-true _ _ _ (eq-eqb _ _ same)) h))
+  | inl same ↦ absurd
+      (no_join j (subst (λ (z : List Join). Contains z j) (cond-true _ _ _ (eq-eqb _ _ same)) h))
   | inr differ ↦ elim (cases_Bool (are_both_sources sources from.node to.node)) [
-    | inl settled ↦ absurd (no_join j (subst (λ (z : List Join). Contains z j) (joins_of_two_sources sources from to differ settled) h))
-    | inr apart ↦ elim (cons_cases _ [] j (subst (λ (z : List Join). Contains z j) (joins_of_apart sources from to differ apart) h)) [
-      | inl same ↦ (to, refl, differ, apart, sym same)
-      | inr none ↦ absurd (no_join j none)
-    ]
+    | inl settled ↦ absurd (no_join j (subst (λ (z : List Join). Contains z j)
+        (joins_of_two_sources sources from to differ settled) h))
+    | inr apart ↦ elim (cons_cases _ [] j
+        (subst (λ (z : List Join). Contains z j) (joins_of_apart sources from to differ apart) h)) [
+          | inl same ↦ (to, refl, differ, apart, sym same)
+          | inr none ↦ absurd (no_join j none)
+        ]
   ]
 ]
 
@@ -55,11 +64,14 @@ pub covered_itself : (joins : List Join) (j : Join) → Contains joins j → Cov
 covered_itself joins j h = (j, h, refl, refl, ≤ℤ_refl j.height)
 
 -- A covered join stays covered.
-covered_still : (now new : List Join) → ((j : Join) → Contains now j → Covered new j) → (j : Join) → Covered now j → Covered new j
-covered_still now new kept j c = let d = kept c.0 c.1 in (d.0, d.1, d.2 ∙ c.2, d.3 ∙ c.3, trans _ _ _ d.4 c.4)
+covered_still : (now new : List Join) → ((j : Join) → Contains now j → Covered new j) → (j : Join) →
+    Covered now j → Covered new j
+covered_still now new kept j c = let d = kept c.0 c.1 in
+    (d.0, d.1, d.2 ∙ c.2, d.3 ∙ c.3, trans _ _ _ d.4 c.4)
 
 -- A join pushed at the end has been added.
-pub adds_pushed : (old new : List Join) (j : Join) → new ≡ old ++ j ∷ [] → AddsCovered old (j ∷ []) new
+pub adds_pushed : (old new : List Join) (j : Join) → new ≡ old ++ j ∷ [] →
+    AddsCovered old (j ∷ []) new
 adds_pushed old new j is = subst (AddsCovered old (j ∷ [])) (sym is) (record {
   kept = λ k h. covered_itself _ k (Contains-append_left old (j ∷ []) k h);
   only = λ k h. Contains-append_cases old (j ∷ []) k h;
@@ -74,62 +86,83 @@ adds_nothing now none is = subst (λ (z : List Join). AddsCovered now z now) (sy
 })
 
 -- Lowering a join to one of the same labels adds the lower join.
-pub adds_lower : (old : List Join) (at : ℕ) (met j : Join) → at < length old → met ≡ get_or old at met → met.from ≡ j.from → met.to ≡ j.to → j.height ≤ℤ met.height → AddsCovered old (j ∷ []) (set old at j)
+pub adds_lower : (old : List Join) (at : ℕ) (met j : Join) → at < length old →
+    met ≡ get_or old at met → met.from ≡ j.from → met.to ≡ j.to → j.height ≤ℤ met.height →
+    AddsCovered old (j ∷ []) (set old at j)
 adds_lower old at met j inside is from to low = record {
   kept = λ k h. elim (cases_eq h.0 at) [
     | inl same ↦
-        let k_is : met ≡ k = is ∙ get_or_default old at met k inside ∙ ap (λ n. get_or old n k) (sym same) ∙ h.2 in
+        let k_is : met ≡ k = is ∙ get_or_default old at met k inside
+        ∙ ap (λ n. get_or old n k) (sym same) ∙ h.2 in
         subst (Covered (set old at j)) k_is (j, there, sym from, sym to, low)
-    | inr other ↦ covered_itself (set old at j) k (h.0, omega (arith, h.1, length-set old at j), get_or-set_other old at h.0 j k other ∙ h.2)
+    | inr other ↦ covered_itself (set old at j) k
+        (h.0, omega (arith, h.1, length-set old at j), get_or-set_other old at h.0 j k other ∙ h.2)
   ];
   only = λ k h. elim (cases_eq h.0 at) [
-    | inl same ↦ inr (subst (Contains (j ∷ [])) (sym (get_or-set_same old at j k inside) ∙ ap (λ n. get_or (set old at j) n k) (sym same) ∙ h.2) (cons_head j []))
-    | inr other ↦ inl (h.0, omega (arith, h.1, length-set old at j), sym (get_or-set_other old at h.0 j k other) ∙ h.2)
+    | inl same ↦ inr (subst (Contains (j ∷ [])) (sym (get_or-set_same old at j k inside)
+        ∙ ap (λ n. get_or (set old at j) n k) (sym same) ∙ h.2) (cons_head j []))
+    | inr other ↦ inl (
+      h.0,
+      omega (arith, h.1, length-set old at j),
+      sym (get_or-set_other old at h.0 j k other) ∙ h.2,
+    )
   ];
-  every = λ k h. subst (Covered (set old at j)) (sym (one_held j k h)) (covered_itself (set old at j) j there);
+  every = λ k h.
+      subst (Covered (set old at j)) (sym (one_held j k h)) (covered_itself (set old at j) j there);
 } where
   there : Contains (set old at j) j
   there = (at, omega (arith, inside, length-set old at j), get_or-set_same old at j j inside)
 
-left_out_still : (marks : Marks) (out : LeftOutJoins) (p q : Place) (now new : List Join) → ((j : Join) → Contains now j → Covered new j) → (j : Join) → IsLeftOut marks out p q ⊎ Covered now j → IsLeftOut marks out p q ⊎ Covered new j
+left_out_still : (marks : Marks) (out : LeftOutJoins) (p q : Place) (now new : List Join) →
+    ((j : Join) → Contains now j → Covered new j) → (j : Join) → IsLeftOut marks out p q
+    ⊎ Covered now j → IsLeftOut marks out p q ⊎ Covered new j
 left_out_still marks out p q now new kept j (inl spared) = inl spared
-left_out_still marks out p q now new kept j (inr covered) = inr (covered_still now new kept j covered)
+left_out_still marks out p q now new kept j (inr covered) =
+    inr (covered_still now new kept j covered)
 
 -- The join of two cells at a corner is left out if a cell between is no higher.
-pub left_out_corner : (marks : Marks) (out : LeftOutJoins) (p q middle : Place) (from : CellLabel) (between to : Option CellLabel)
+pub left_out_corner : (marks : Marks) (out : LeftOutJoins) (p q middle : Place) (from : CellLabel)
+    (between to : Option CellLabel)
     → IsBetween p q middle → marks p ≡ Some from → between ≡ marks middle → to ≡ marks q
     → q.row ≡ p.row + 1 → p.col ≢ q.col
     → IsLowBetween out from between to → IsLeftOut marks out p q
-left_out_corner marks out p q middle from between to is_middle from_is between_is to_is next_row aside by = (
-  by.0,
-  record {
-    middle = middle;
-    from = from;
-    between = by.1;
-    to = by.2;
-    is_middle = is_middle;
-    from_is = from_is;
-    between_is = sym between_is ∙ by.3;
-    to_is = sym to_is ∙ by.4;
-    next_row = next_row;
-    aside = aside;
-    low = by.5;
-  },
-)
+left_out_corner marks out p q middle from between to is_middle from_is between_is to_is next_row
+    aside by = (
+      by.0,
+      record {
+        middle = middle;
+        from = from;
+        between = by.1;
+        to = by.2;
+        is_middle = is_middle;
+        from_is = from_is;
+        between_is = sym between_is ∙ by.3;
+        to_is = sym to_is ∙ by.4;
+        next_row = next_row;
+        aside = aside;
+        low = by.5;
+      },
+    )
 
-pub west_of : (row n : ℕ) (q : Place) → row ≡ q.row → q.col + 1 ≡ n → place_if_both (Some row) (before n) ≡ Some q
+pub west_of : (row n : ℕ) (q : Place) → row ≡ q.row → q.col + 1 ≡ n →
+    place_if_both (Some row) (before n) ≡ Some q
 west_of row zero q at next = absurd (omega (arith, next))
-west_of row (suc n) q at next = ap Some (same_place (record { row = row; col = n }) q at (omega (arith, next)))
+west_of row (suc n) q at next =
+    ap Some (same_place (record { row = row; col = n }) q at (omega (arith, next)))
 
 -- A later neighbour lies in one of the first four directions.
-after_way : (p q : Place) → Touches p q → IsAfter p q → ((place_on 0 p ≡ Some q) ⊎ (place_on 1 p ≡ Some q)) ⊎ ((place_on 2 p ≡ Some q) ⊎ (place_on 3 p ≡ Some q))
-after_way p q t (inr beside) = inl (inl (ap Some (same_place (record { row = p.row; col = p.col + 1 }) q beside.0 (omega (arith, t.col_right, beside.1)))))
+after_way : (p q : Place) → Touches p q → IsAfter p q → ((place_on 0 p ≡ Some q)
+    ⊎ (place_on 1 p ≡ Some q)) ⊎ ((place_on 2 p ≡ Some q) ⊎ (place_on 3 p ≡ Some q))
+after_way p q t (inr beside) = inl (inl (ap Some (same_place
+    (record { row = p.row; col = p.col + 1 }) q beside.0 (omega (arith, t.col_right, beside.1)))))
 after_way p q t (inl down) =
     let row : p.row + 1 ≡ q.row = omega (arith, t.row_down, down) in
     elim (cases_order p.col q.col) [
-      | inl same ↦ inr (inl (ap Some (same_place (record { row = p.row + 1; col = p.col }) q row same)))
+      | inl same ↦
+          inr (inl (ap Some (same_place (record { row = p.row + 1; col = p.col }) q row same)))
       | inr other ↦ elim other [
-        | inl east ↦ inl (inr (ap Some (same_place (record { row = p.row + 1; col = p.col + 1 }) q row (omega (arith, t.col_right, east)))))
+        | inl east ↦ inl (inr (ap Some (same_place (record { row = p.row + 1; col = p.col + 1 })
+            q row (omega (arith, t.col_right, east)))))
         | inr back ↦ inr (inr (west_of (p.row + 1) p.col q row (omega (arith, t.col_left, back))))
       ]
     ]
@@ -139,7 +172,8 @@ west_row : (row n : ℕ) (q : Place) → place_if_both (Some row) (before n) ≡
 west_row row zero q on = none_some (place_if_both (Some row) None) q refl on
 west_row row (suc n) q on = ap (λ (z : Place). z.row) (same_Some _ q on)
 
-pub next_row : (p q : Place) (way : ℕ) → way < 4 → place_on way p ≡ Some q → p.row ≢ q.row → q.row ≡ p.row + 1
+pub next_row : (p q : Place) (way : ℕ) → way < 4 → place_on way p ≡ Some q → p.row ≢ q.row →
+    q.row ≡ p.row + 1
 next_row p q zero few on differ = absurd (differ (ap (λ (z : Place). z.row) (same_Some _ q on)))
 next_row p q (suc zero) few on differ = sym (ap (λ (z : Place). z.row) (same_Some _ q on))
 next_row p q (suc (suc zero)) few on differ = sym (ap (λ (z : Place). z.row) (same_Some _ q on))
@@ -151,15 +185,21 @@ west_col : (row n : ℕ) (q : Place) → place_if_both (Some row) (before n) ≡
 west_col row zero q on same = none_some (place_if_both (Some row) None) q refl on
 west_col row (suc n) q on same = omega (arith, ap (λ (z : Place). z.col) (same_Some _ q on), same)
 
-pub same_col : (p q : Place) (way : ℕ) → way < 4 → place_on way p ≡ Some q → q.col ≡ p.col → q ≡ record { row = p.row + 1; col = p.col }
-same_col p q zero few on same = absurd (omega (arith, ap (λ (z : Place). z.col) (same_Some _ q on), same))
-same_col p q (suc zero) few on same = absurd (omega (arith, ap (λ (z : Place). z.col) (same_Some _ q on), same))
+pub same_col : (p q : Place) (way : ℕ) → way < 4 → place_on way p ≡ Some q → q.col ≡ p.col →
+    q ≡ record { row = p.row + 1; col = p.col }
+same_col p q zero few on same =
+    absurd (omega (arith, ap (λ (z : Place). z.col) (same_Some _ q on), same))
+same_col p q (suc zero) few on same =
+    absurd (omega (arith, ap (λ (z : Place). z.col) (same_Some _ q on), same))
 same_col p q (suc (suc zero)) few on same = sym (same_Some _ q on)
 same_col p q (suc (suc (suc zero))) few on same = absurd (west_col (p.row + 1) p.col q on same)
 same_col p q (suc (suc (suc (suc way)))) few on same = absurd (omega (arith, few))
 
 -- The cell in a direction has no mark, or the join with it has been added.
-pub adds_on_way : (marks : Marks) (out : LeftOutJoins) (p q : Place) (way : ℕ) (wanted : Place → Bool) (from : CellLabel) (o : Option CellLabel) (old new : List Join) → marks p ≡ Some from → marks q ≡ o → way < 8 → place_on way p ≡ Some q → wanted q ≡ true → AddsCovered old (joins_of out.sources from o) new → Adds marks out (IsPairOn way p wanted) old new
+pub adds_on_way : (marks : Marks) (out : LeftOutJoins) (p q : Place) (way : ℕ) (wanted : Place →
+    Bool) (from : CellLabel) (o : Option CellLabel) (old new : List Join) → marks p ≡ Some from →
+    marks q ≡ o → way < 8 → place_on way p ≡ Some q → wanted q ≡ true → AddsCovered old
+    (joins_of out.sources from o) new → Adds marks out (IsPairOn way p wanted) old new
 adds_on_way marks out p q way wanted from o old new here there few on want s = record {
   kept = s.kept;
   only = λ j h. elim (s.only j h) [
@@ -171,7 +211,8 @@ adds_on_way marks out p q way wanted from o old new here there few on want s = r
           q,
           (refl, on, want),
           subst (λ (z : Join). Meets marks out p q z) m.4 (record {
-            touches = (Touches-from_ways p q (way, few, sym (get_or_default (ways_from p) way None (Some q) few) ∙ on)).0;
+            touches = (Touches-from_ways p q
+                (way, few, sym (get_or_default (ways_from p) way None (Some q) few) ∙ on)).0;
             from_level = from.level;
             to_level = m.0.level;
             from_is = here;
@@ -187,23 +228,32 @@ adds_on_way marks out p q way wanted from o old new here there few on want s = r
       let r_is : q ≡ r = same_Some q r (sym on ∙ at.1) in
       let to : CellLabel = record { level = m.to_level; node = j.to } in
       let mark_is : o ≡ Some to = sym there ∙ ap marks r_is ∙ m.to_is in
-      let from_same = same_Some from (record { level = m.from_level; node = j.from }) (sym here ∙ m.from_is) in
+      let from_same =
+      same_Some from (record { level = m.from_level; node = j.from }) (sym here ∙ m.from_is) in
       inr (s.every j
-      (subst (λ (f : CellLabel). Contains (joins_of out.sources f o) j) (sym from_same) (subst (λ (z : Option CellLabel). Contains (joins_of out.sources (record { level = m.from_level; node = j.from }) z) j) (sym mark_is)
-      (subst (λ (z : List Join). Contains z j) (sym (joins_of_apart out.sources (record { level = m.from_level; node = j.from }) to m.different m.apart))
-      (subst (λ (h : ℤ). Contains (record { from = j.from; to = j.to; height = h } ∷ []) j) (sym m.greater) (cons_head j []))))));
+      (subst (λ (f : CellLabel). Contains (joins_of out.sources f o) j)
+      (sym from_same) (subst (λ (z : Option CellLabel). Contains
+      (joins_of out.sources (record { level = m.from_level; node = j.from }) z) j) (sym mark_is)
+      (subst (λ (z : List Join). Contains z j) (sym (joins_of_apart out.sources
+      (record { level = m.from_level; node = j.from }) to m.different m.apart))
+      (subst (λ (h : ℤ). Contains (record { from = j.from; to = j.to; height = h } ∷ []) j)
+      (sym m.greater) (cons_head j []))))));
 }
 
 -- The join with the cell in a direction is left out.
-pub adds_left_out : (marks : Marks) (out : LeftOutJoins) (p q : Place) (way : ℕ) (wanted : Place → Bool) (old : List Join) → place_on way p ≡ Some q → IsLeftOut marks out p q → Adds marks out (IsPairOn way p wanted) old old
+pub adds_left_out : (marks : Marks) (out : LeftOutJoins) (p q : Place) (way : ℕ)
+    (wanted : Place → Bool) (old : List Join) → place_on way p ≡ Some q → IsLeftOut marks out p q →
+    Adds marks out (IsPairOn way p wanted) old old
 adds_left_out marks out p q way wanted old on spared = record {
   kept = λ j h. covered_itself old j h;
   only = λ j h. inl h;
   every = λ x r j at after m.
-      inl (subst (λ (z : Place). IsLeftOut marks out z r) (sym at.0) (subst (IsLeftOut marks out p) (same_Some q r (sym on ∙ at.1)) spared));
+      inl (subst (λ (z : Place). IsLeftOut marks out z r) (sym at.0)
+      (subst (IsLeftOut marks out p) (same_Some q r (sym on ∙ at.1)) spared));
 }
 
-pub adds_none : (marks : Marks) (out : LeftOutJoins) (pairs : Place → Place → Type 0) (old new : List Join) → new ≡ old → ((p q : Place) → pairs p q → ⊥) → Adds marks out pairs old new
+pub adds_none : (marks : Marks) (out : LeftOutJoins) (pairs : Place → Place → Type 0) (old new :
+    List Join) → new ≡ old → ((p q : Place) → pairs p q → ⊥) → Adds marks out pairs old new
 adds_none marks out pairs old new same none = subst (Adds marks out pairs old) (sym same) (record {
   kept = λ j h. covered_itself old j h;
   only = λ j h. inl h;
@@ -211,36 +261,59 @@ adds_none marks out pairs old new same none = subst (Adds marks out pairs old) (
 })
 
 -- A cell without a mark has no joins.
-pub no_mark_adds : (marks : Marks) (out : LeftOutJoins) (p : Place) (wanted : Place → Bool) (old : List Join) → marks p ≡ None → Adds marks out (IsPairFrom p wanted) old old
+pub no_mark_adds : (marks : Marks) (out : LeftOutJoins) (p : Place) (wanted : Place → Bool)
+    (old : List Join) → marks p ≡ None → Adds marks out (IsPairFrom p wanted) old old
 no_mark_adds marks out p wanted old none = record {
   kept = λ j h. covered_itself old j h;
   only = λ j h. inl h;
-  every = λ x q j at after m. none_some _ (record { level = m.from_level; node = j.from }) (ap marks at.0 ∙ none) m.from_is;
+  every = λ x q j at after m.
+      none_some _ (record { level = m.from_level; node = j.from }) (ap marks at.0 ∙ none) m.from_is;
 }
 
 -- Adding the joins of some pairs and then of others adds those of all.
-pub adds_then : (marks : Marks) (out : LeftOutJoins) (first later both : Place → Place → Type 0) (old now new : List Join) → ((p q : Place) → both p q ↔ (first p q ⊎ later p q)) → Adds marks out first old now → Adds marks out later now new → Adds marks out both old new
+pub adds_then : (marks : Marks) (out : LeftOutJoins) (first later both : Place → Place → Type 0)
+    (old now new : List Join) → ((p q : Place) → both p q ↔ (first p q ⊎ later p q)) →
+    Adds marks out first old now → Adds marks out later now new → Adds marks out both old new
 adds_then marks out first later both old now new split a b = record {
   kept = λ j h. covered_still now new b.kept j (a.kept j h);
   only = λ j h. elim (b.only j h) [
     | inr late ↦ inr (late.0, late.1, (split late.0 late.1).1 (inr late.2), late.3)
-    | inl was ↦ elim (a.only j was) [ inl old ↦ inl old | inr early ↦ inr (early.0, early.1, (split early.0 early.1).1 (inl early.2), early.3) ]
+    | inl was ↦ elim (a.only j was) [
+      | inl old ↦ inl old
+      | inr early ↦
+          inr (early.0, early.1, (split early.0 early.1).1 (inl early.2), early.3)
+    ]
   ];
-  every = λ p q j at after m. elim ((split p q).0 at) [ inl early ↦ left_out_still marks out p q now new b.kept j (a.every p q j early after m) | inr late ↦ b.every p q j late after m ];
+  every = λ p q j at after m. elim ((split p q).0 at) [
+    | inl early ↦ left_out_still marks out p q now
+        new b.kept j (a.every p q j early after m)
+    | inr late ↦ b.every p q j late after m
+  ];
 }
 
 -- Only pairs of cells that have marks and touch matter.
-pub adds_as : (marks : Marks) (out : LeftOutJoins) (first both : Place → Place → Type 0) (old new : List Join) → ((p q : Place) → first p q → both p q) → ((p q : Place) → Touches p q → IsAfter p q → (m : CellLabel) → marks p ≡ Some m → (n : CellLabel) → marks q ≡ Some n → both p q → first p q) → Adds marks out first old new → Adds marks out both old new
+pub adds_as : (marks : Marks) (out : LeftOutJoins) (first both : Place → Place → Type 0)
+    (old new : List Join) → ((p q : Place) → first p q → both p q) → ((p q : Place) → Touches p q →
+    IsAfter p q → (m : CellLabel) → marks p ≡ Some m → (n : CellLabel) → marks q ≡ Some n →
+    both p q → first p q) → Adds marks out first old new → Adds marks out both old new
 adds_as marks out first both old new wider narrower a = record {
   kept = a.kept;
-  only = λ j h. elim (a.only j h) [ inl was ↦ inl was | inr made ↦ inr (made.0, made.1, wider made.0 made.1 made.2, made.3) ];
-  every = λ p q j at after m. a.every p q j (narrower p q m.touches after _ m.from_is _ m.to_is at) after m;
+  only = λ j h. elim (a.only j h) [
+    | inl was ↦ inl was
+    | inr made ↦
+        inr (made.0, made.1, wider made.0 made.1 made.2, made.3)
+  ];
+  every = λ p q j at after m.
+      a.every p q j (narrower p q m.touches after _ m.from_is _ m.to_is at) after m;
 }
 
 -- The joins of a cell are those in its first four directions.
-pub adds_four : (marks : Marks) (out : LeftOutJoins) (p : Place) (wanted : Place → Bool) (old first second third new : List Join)
-    → Adds marks out (IsPairOn 0 p wanted) old first → Adds marks out (IsPairOn 1 p wanted) first second
-    → Adds marks out (IsPairOn 2 p wanted) second third → Adds marks out (IsPairOn 3 p wanted) third new
+pub adds_four : (marks : Marks) (out : LeftOutJoins) (p : Place) (wanted : Place → Bool)
+    (old first second third new : List Join)
+    → Adds marks out (IsPairOn 0 p wanted) old first →
+    Adds marks out (IsPairOn 1 p wanted) first second
+    → Adds marks out (IsPairOn 2 p wanted) second third →
+    Adds marks out (IsPairOn 3 p wanted) third new
     → Adds marks out (IsPairFrom p wanted) old new
 adds_four marks out p wanted old first second third new east south_east south south_west =
     adds_as marks out (Any (Any (on 0) (on 1)) (Any (on 2) (on 3))) (IsPairFrom p wanted) old new
@@ -248,16 +321,28 @@ adds_four marks out p wanted old first second third new east south_east south so
       | inl early ↦ elim early [ inl here ↦ (here.0, here.2) | inr here ↦ (here.0, here.2) ]
       | inr late ↦ elim late [ inl here ↦ (here.0, here.2) | inr here ↦ (here.0, here.2) ]
     ])
-    (λ q r touch after m m_is n n_is at. elim (after_way p r (subst (λ (z : Place). Touches z r) at.0 touch) (subst (λ (z : Place). IsAfter z r) at.0 after)) [
-      | inl early ↦ elim early [ inl here ↦ inl (inl (at.0, here, at.1)) | inr here ↦ inl (inr (at.0, here, at.1)) ]
-      | inr late ↦ elim late [ inl here ↦ inr (inl (at.0, here, at.1)) | inr here ↦ inr (inr (at.0, here, at.1)) ]
+    (λ q r touch after m m_is n n_is at. elim (after_way p r (subst
+    (λ (z : Place). Touches z r) at.0 touch) (subst (λ (z : Place). IsAfter z r) at.0 after)) [
+      | inl early ↦ elim early [
+        | inl here ↦ inl (inl (at.0, here, at.1))
+        | inr here ↦
+            inl (inr (at.0, here, at.1))
+      ]
+      | inr late ↦ elim late [
+        | inl here ↦ inr (inl (at.0, here, at.1))
+        | inr here ↦
+            inr (inr (at.0, here, at.1))
+      ]
     ])
-    (any (Any (on 0) (on 1)) (Any (on 2) (on 3)) old second new (any (on 0) (on 1) old first second east south_east) (any (on 2) (on 3) second third new south south_west)) where
+    (any (Any (on 0) (on 1)) (Any (on 2) (on 3)) old second new (any (on 0) (on 1) old first second
+    east south_east) (any (on 2) (on 3) second third new south south_west)) where
       on : ℕ → Place → Place → Type 0
       on way = IsPairOn way p wanted
 
       Any : (Place → Place → Type 0) → (Place → Place → Type 0) → Place → Place → Type 0
       Any early late q r = early q r ⊎ late q r
 
-      any : (early late : Place → Place → Type 0) (a b c : List Join) → Adds marks out early a b → Adds marks out late b c → Adds marks out (Any early late) a c
-      any early late a b c x y = adds_then marks out early late (Any early late) a b c (λ q r. (λ at. at, λ at. at)) x y
+      any : (early late : Place → Place → Type 0) (a b c : List Join) → Adds marks out early a b →
+          Adds marks out late b c → Adds marks out (Any early late) a c
+      any early late a b c x y =
+          adds_then marks out early late (Any early late) a b c (λ q r. (λ at. at, λ at. at)) x y

@@ -21,15 +21,19 @@ use Rattle.fill.proofs.Rims.{has_tile_level, end_label, list_there, among_is}
 use Rattle.fill.proofs.CellMarks.{label_entry}
 
 -- `PutsEnds` of the first entries of the table.
-pub record PutsFirst (c : Cutting) (f : Flood) (count : ℕ) (old new : List (Option ℤ)) : Type 0 where
+pub record PutsFirst (c : Cutting) (f : Flood) (count : ℕ) (old new : List (Option ℤ)) :
+    Type 0 where
   pub size : length new ≡ length old
   pub only : (a : ℕ) → (get_or new a None ≡ get_or old a None) ⊎ IsEndAt c f a (get_or new a None)
-  pub every : (k : ℕ) (p : Place) → k < count → get_or f.table.places k None ≡ Some p → IsSome (get_or f.ends k None) → IsEndAt c f (index_of c.cols p) (get_or new (index_of c.cols p) None)
+  pub every : (k : ℕ) (p : Place) → k < count → get_or f.table.places k None ≡ Some p → IsSome
+      (get_or f.ends k None) → IsEndAt c f (index_of c.cols p) (get_or new (index_of c.cols p) None)
 
 pub none_put : (c : Cutting) (f : Flood) (old : List (Option ℤ)) → PutsFirst c f 0 old old
-none_put c f old = record { size = refl; only = λ a. inl refl; every = λ k p low. absurd (omega (arith, low)) }
+none_put c f old =
+    record { size = refl; only = λ a. inl refl; every = λ k p low. absurd (omega (arith, low)) }
 
-pub one_put : (c : Cutting) (f : Flood) (k : ℕ) (label : Option Place) (end : Option ℤ) (old now : List (Option ℤ))
+pub one_put : (c : Cutting) (f : Flood) (k : ℕ) (label : Option Place) (end : Option ℤ)
+    (old now : List (Option ℤ))
     → label ≡ get_or f.table.places k None → end ≡ get_or f.ends k None
     → IfSome label (IsWithin c) → length old ≡ c.cols * c.rows
     → PutsFirst c f k old now → PutsFirst c f (k + 1) old (put_end c.cols label end now)
@@ -53,20 +57,25 @@ one_put c f k (Some q) (Some h) old now label_is end_is within size s = record {
   size = length-set now (index_of c.cols q) (Some h) ∙ s.size;
   only = λ a. elim (cases_eq a (index_of c.cols q)) [
     | inl same ↦ inr (here a same)
-    | inr other ↦ subst (λ (o : Option ℤ). (o ≡ get_or old a None) ⊎ IsEndAt c f a o) (sym (get_or-set_other now (index_of c.cols q) a (Some h) None other)) (s.only a)
+    | inr other ↦ subst (λ (o : Option ℤ). (o ≡ get_or old a None) ⊎ IsEndAt c f a o)
+        (sym (get_or-set_other now (index_of c.cols q) a (Some h) None other)) (s.only a)
   ];
   every = λ j p low e some. elim (cases_eq (index_of c.cols p) (index_of c.cols q)) [
     | inl same ↦ here (index_of c.cols p) same
     | inr other ↦ elim (cases_eq j k) [
-      | inl last ↦ absurd (other (ap (index_of c.cols) (same_Some p q (sym e ∙ ap (λ n. get_or f.table.places n None) last ∙ sym label_is))))
-      | inr before ↦ subst (IsEndAt c f (index_of c.cols p)) (sym (get_or-set_other now (index_of c.cols q) (index_of c.cols p) (Some h) None other)) (s.every j p (omega (arith, low, before)) e some)
+      | inl last ↦ absurd (other (ap (index_of c.cols)
+          (same_Some p q (sym e ∙ ap (λ n. get_or f.table.places n None) last ∙ sym label_is))))
+      | inr before ↦ subst (IsEndAt c f (index_of c.cols p))
+          (sym (get_or-set_other now (index_of c.cols q) (index_of c.cols p) (Some h) None other))
+          (s.every j p (omega (arith, low, before)) e some)
     ]
   ];
 } where
   below : index_of c.cols q < length now
   below = omega (arith, index_below c.cols c.rows q within.0 within.1, s.size, size)
 
-  here : (a : ℕ) → a ≡ index_of c.cols q → IsEndAt c f a (get_or (set now (index_of c.cols q) (Some h)) a None)
+  here : (a : ℕ) → a ≡ index_of c.cols q →
+      IsEndAt c f a (get_or (set now (index_of c.cols q) (Some h)) a None)
   here a same = record {
     entry = k;
     place = q;
@@ -74,7 +83,8 @@ one_put c f k (Some q) (Some h) old now label_is end_is within size s = record {
     within = within;
     node = sym same;
     some = ap is_some (sym end_is);
-    is = ap (λ n. get_or (set now (index_of c.cols q) (Some h)) n None) same ∙ get_or-set_same now (index_of c.cols q) (Some h) None below ∙ end_is;
+    is = ap (λ n. get_or (set now (index_of c.cols q) (Some h)) n None) same
+        ∙ get_or-set_same now (index_of c.cols q) (Some h) None below ∙ end_is;
   }
 
 pub all_put : (c : Cutting) (f : Flood) (count : ℕ) (old new : List (Option ℤ))
@@ -99,18 +109,24 @@ abbrev IsEndNode : Terrain → Cutting → ℕ → ℤ → Type 0
 IsEndNode t c a h = (p : Place) × (index_of c.cols p ≡ a) × IsEnd t p × (height_at t p ≡ Some h)
 
 -- The heights are those of end cells, among them all labels of the first tiles that are end cells.
-pub record HaveEnds (t : Terrain) (c : Cutting) (floods : List Flood) (count : ℕ) (heights : List (Option ℤ)) : Type 0 where
+pub record HaveEnds (t : Terrain) (c : Cutting) (floods : List Flood) (count : ℕ)
+    (heights : List (Option ℤ)) : Type 0 where
   pub size : length heights ≡ c.cols * c.rows
   pub only : (a : ℕ) (h : ℤ) → get_or heights a None ≡ Some h → IsEndNode t c a h
-  pub every : (tile : ℕ) (f : Flood) (k : ℕ) (p : Place) (h : ℤ) → tile < count → slice_get floods tile ≡ Some f → get_or f.labels k None ≡ Some p → IsEnd t p → height_at t p ≡ Some h → get_or heights (index_of c.cols p) None ≡ Some h
+  pub every : (tile : ℕ) (f : Flood) (k : ℕ) (p : Place) (h : ℤ) →
+      tile < count → slice_get floods tile ≡ Some f → get_or f.labels k None ≡ Some p → IsEnd t p →
+      height_at t p ≡ Some h → get_or heights (index_of c.cols p) None ≡ Some h
 
-pub no_tile : (t : Terrain) (c : Cutting) (floods : List Flood) (places : ℕ) (heights : List (Option ℤ))
+pub no_tile :
+    (t : Terrain) (c : Cutting) (floods : List Flood) (places : ℕ) (heights : List (Option ℤ))
     → places ≡ c.cols * c.rows → heights ≡ replicate places None → HaveEnds t c floods 0 heights
 no_tile t c floods places heights size is = record {
   size = ap length is ∙ length-replicate {A = Option ℤ} places None ∙ size;
   only = λ a h e. elim (cases_lt a places) [
-    | inl low ↦ none_some (get_or heights a None) h (ap (λ (z : List (Option ℤ)). get_or z a None) is ∙ get_or-replicate places a None None low) e
-    | inr past ↦ none_some (get_or heights a None) h (get_or_past heights a None (omega (arith, past, ap length is, length-replicate {A = Option ℤ} places None))) e
+    | inl low ↦ none_some (get_or heights a None) h (ap
+        (λ (z : List (Option ℤ)). get_or z a None) is ∙ get_or-replicate places a None None low) e
+    | inr past ↦ none_some (get_or heights a None) h (get_or_past heights a None
+        (omega (arith, past, ap length is, length-replicate {A = Option ℤ} places None))) e
   ];
   every = λ tile f k p h low. absurd (omega (arith, low));
 }
@@ -124,7 +140,8 @@ end_is t c f a o ends at =
     let end = MatchOption-at_some _ _ some.0 some.1 (ends.each at.entry at.place at.listed) in
     (some.0, at.is ∙ some.1, (at.place, at.node, end.0, end.1))
 
-pub one_tile : (t : Terrain) (c : Cutting) (floods : List Flood) (tile : ℕ) (f : Flood) (old new : List (Option ℤ))
+pub one_tile : (t : Terrain) (c : Cutting) (floods : List Flood) (tile : ℕ) (f : Flood)
+    (old new : List (Option ℤ))
     → AreFloods t c floods → slice_get floods tile ≡ Some f → IsFlood f → PutsEnds c f old new
     → HaveEnds t c floods tile old → HaveEnds t c floods (tile + 1) new
 one_tile t c floods tile f old new are there lawful puts s = record {
@@ -146,7 +163,8 @@ one_tile t c floods tile f old new are there lawful puts s = record {
         | inl same ↦
             let g_is = same_Some g f (sym at ∙ ap (slice_get floods) same ∙ there) in
             let entry = entry_of k p (ap (λ (z : Flood). get_or z.labels k None) (sym g_is) ∙ e) in
-            from (get_or new (index_of c.cols p) None) (puts.every entry.0 p entry.1 (some_end entry.0 p entry.1 end))
+            from (get_or new (index_of c.cols p) None)
+            (puts.every entry.0 p entry.1 (some_end entry.0 p entry.1 end))
         | inr other ↦ elim (puts.only (index_of c.cols p)) [
           | inl kept ↦ kept ∙ s.every i g k p h (omega (arith, low, other)) at e end height
           | inr put ↦ from (get_or new (index_of c.cols p) None) put
@@ -156,39 +174,53 @@ one_tile t c floods tile f old new are there lawful puts s = record {
   ends : AreEndHeights t f.table.places f.ends
   ends = (are.each tile f there).ends
 
-  entry_of : (k : ℕ) (p : Place) → get_or f.labels k None ≡ Some p → (j : ℕ) × (get_or f.table.places j None ≡ Some p)
+  entry_of : (k : ℕ) (p : Place) → get_or f.labels k None ≡ Some p →
+      (j : ℕ) × (get_or f.table.places j None ≡ Some p)
   entry_of k p e =
-      let at : get_or (labels_by f.table.places f.table.indexes) k None ≡ Some p = ap (λ (z : List (Option Place)). get_or z k None) (sym lawful.labels) ∙ e in
+      let at : get_or (labels_by f.table.places f.table.indexes) k None ≡ Some p =
+      ap (λ (z : List (Option Place)). get_or z k None) (sym lawful.labels) ∙ e in
       elim (cases_lt k (length f.table.indexes)) [
-        | inl low ↦ (get_or f.table.indexes k 0, sym (get_or-map (λ n. get_or f.table.places n None) f.table.indexes k 0 None low) ∙ at)
-        | inr past ↦ none_some _ p (get_or_past (labels_by f.table.places f.table.indexes) k None (omega (arith, past, length-map f.table.indexes (λ n. get_or f.table.places n None)))) at
+        | inl low ↦ (
+          get_or f.table.indexes k 0,
+          sym (get_or-map (λ n. get_or f.table.places n None) f.table.indexes k 0 None low) ∙ at,
+        )
+        | inr past ↦
+            none_some _ p (get_or_past (labels_by f.table.places f.table.indexes) k None (omega
+            (arith, past, length-map f.table.indexes (λ n. get_or f.table.places n None)))) at
       ]
 
-  some_end : (k : ℕ) (p : Place) → get_or f.table.places k None ≡ Some p → IsEnd t p → IsSome (get_or f.ends k None)
+  some_end : (k : ℕ) (p : Place) → get_or f.table.places k None ≡ Some p → IsEnd t p →
+      IsSome (get_or f.ends k None)
   some_end k p e end = elim (cases_option (get_or f.ends k None)) [
     | inl none ↦ absurd (MatchOption-at_none _ _ none (ends.each k p e) end)
     | inr found ↦ ap is_some found.1
   ]
 
 -- The heights of the end cells of all tiles are the sources.
-pub all_tiles : (t : Terrain) (c : Cutting) (floods : List Flood) (count : ℕ) (heights : List (Option ℤ))
+pub all_tiles :
+    (t : Terrain) (c : Cutting) (floods : List Flood) (count : ℕ) (heights : List (Option ℤ))
     → AreFloods t c floods → length floods ≤ count → HaveEnds t c floods count heights
     → AreSourcesOf t c floods heights
 all_tiles t c floods count heights are all s = record {
   size = s.size;
-  right = λ g is. subst (λ (z : List (Option ℤ)). AreSpillSources t c floods (record { nodes = g.nodes; joins = g.joins; sources = z })) (sym is) (record {
-    each = λ p h carries end height.
-        let l = has_tile_level t c floods are.lawful are p (ap is_some height) in
-        let within = data_within t c p are.cuts (ap is_some height) in
-        let tile = tile_of_place c p in
-        let f = list_there floods tile (omega (arith, are.count, tile_of_place_below c p are.lawful within)) in
-        let own : label_in f.0 p ≡ Some p = sym (among_is (λ g. label_in g p) floods tile f.0 f.1) ∙ l.label_is ∙ ap Some (end_label t c p l.label l.level l.right end) in
-        let entry = label_entry f.0 p p own in
-        s.every tile f.0 entry.0 p h (omega (arith, slice_get_within floods tile f.0 f.1, all)) f.1 entry.1 end height;
-    only = λ a h e.
-        let end = s.only a h e in
-        let l = has_tile_level t c floods are.lawful are end.0 (ap is_some end.3) in
-        let own = end_label t c end.0 l.label l.level l.right end.2 in
-        (end.0, end.1, (end.0, l.label_is ∙ ap Some own, end.1), end.2, end.3);
-  });
+  right = λ g is. subst (λ (z : List (Option ℤ)). AreSpillSources t c floods
+      (record { nodes = g.nodes; joins = g.joins; sources = z })) (sym is) (record {
+        each = λ p h carries end height.
+            let l = has_tile_level t c floods are.lawful are p (ap is_some height) in
+            let within = data_within t c p are.cuts (ap is_some height) in
+            let tile = tile_of_place c p in
+            let f = list_there floods tile
+            (omega (arith, are.count, tile_of_place_below c p are.lawful within)) in
+            let own : label_in f.0 p ≡ Some p =
+            sym (among_is (λ g. label_in g p) floods tile f.0 f.1)
+            ∙ l.label_is ∙ ap Some (end_label t c p l.label l.level l.right end) in
+            let entry = label_entry f.0 p p own in
+            s.every tile f.0 entry.0 p h
+            (omega (arith, slice_get_within floods tile f.0 f.1, all)) f.1 entry.1 end height;
+        only = λ a h e.
+            let end = s.only a h e in
+            let l = has_tile_level t c floods are.lawful are end.0 (ap is_some end.3) in
+            let own = end_label t c end.0 l.label l.level l.right end.2 in
+            (end.0, end.1, (end.0, l.label_is ∙ ap Some own, end.1), end.2, end.3);
+      });
 }

@@ -17,10 +17,12 @@ use Rattle.fill.specs.declared.spills.Join.{Join}
 
 -- The order of joins: by their labels, and then by height.
 abbrev pub join_order : Join → Join → Ordering
-join_order x y = ordering_then (nat_cmp x.from y.from) (ordering_then (nat_cmp x.to y.to) (int_cmp x.height y.height))
+join_order x y = ordering_then (nat_cmp x.from y.from)
+    (ordering_then (nat_cmp x.to y.to) (int_cmp x.height y.height))
 
 abbrev pub NotAbove : Join → Join → Type 0
-NotAbove x y = (x.from < y.from) ⊎ ((x.from ≡ y.from) × ((x.to < y.to) ⊎ ((x.to ≡ y.to) × (x.height ≤ℤ y.height))))
+NotAbove x y = (x.from < y.from)
+    ⊎ ((x.from ≡ y.from) × ((x.to < y.to) ⊎ ((x.to ≡ y.to) × (x.height ≤ℤ y.height))))
 
 pub not_above : (x y : Join) → is_lt (join_order y x) ≡ false → NotAbove x y
 not_above x y e = elim (cases_order x.from y.from) [
@@ -29,7 +31,8 @@ not_above x y e = elim (cases_order x.from y.from) [
     same,
     elim (cases_order x.to y.to) [
       | inr other ↦ elim other [ inl less ↦ inl less | inr more ↦ absurd (grind arith) ]
-      | inl same_to ↦ inr (same_to, by_lt_z y.height x.height (λ less. absurd (grind arith)) (λ h. h))
+      | inl same_to ↦
+          inr (same_to, by_lt_z y.height x.height (λ less. absurd (grind arith)) (λ h. h))
     ],
   )
 ]
@@ -49,22 +52,27 @@ before_from x y (inr (e, inr a)) differ = absurd (differ e a.0)
 
 -- The joins are sorted.
 abbrev pub AreOrdered : List Join → Type 0
-AreOrdered joins = (m n : ℕ) (d : Join) → m ≤ n → n < length joins → NotAbove (get_or joins m d) (get_or joins n d)
+AreOrdered joins = (m n : ℕ) (d : Join) → m ≤ n → n < length joins →
+    NotAbove (get_or joins m d) (get_or joins n d)
 
 join_order_total : IsTotalOrder join_order
-join_order_total = then_total (on_total (λ j. j.from) nat_cmp_total) (then_total (on_total (λ j. j.to) nat_cmp_total) (on_total (λ j. j.height) int_cmp_total))
+join_order_total = then_total (on_total (λ j. j.from) nat_cmp_total)
+    (then_total (on_total (λ j. j.to) nat_cmp_total) (on_total (λ j. j.height) int_cmp_total))
 
 pub ordered : (joins : List Join) → IsSorted join_order joins → AreOrdered joins
-ordered joins sorted m n d low below = not_above _ _ (sorted_far (λ x y. is_lt (join_order x y)) (ranks_by join_order_total (λ j. j)) joins sorted m n d low below)
+ordered joins sorted m n d low below = not_above _ _ (sorted_far (λ x y. is_lt (join_order x y))
+    (ranks_by join_order_total (λ j. j)) joins sorted m n d low below)
 
 -- The lowest of the first joins have been kept.
 pub record HasKept (joins : List Join) (i : ℕ) (lowest : List Join) : Type 0 where
   pub only : (j : Join) → Contains lowest j → (k : ℕ) × (k < i) × (get_or joins k j ≡ j)
   pub every : (k : ℕ) (d : Join) → k < i → Covered lowest (get_or joins k d)
-  pub rising : (m n : ℕ) (d : Join) → m < n → n < length lowest → IsBefore (get_or lowest m d) (get_or lowest n d)
+  pub rising : (m n : ℕ) (d : Join) → m < n → n < length lowest →
+      IsBefore (get_or lowest m d) (get_or lowest n d)
 
 -- A join that repeats the labels before it is skipped.
-pub kept_same : (joins : List Join) (i : ℕ) (lowest : List Join) → AreOrdered joins → i < length joins → HasKept joins i lowest → IsRepeat joins i → HasKept joins (i + 1) lowest
+pub kept_same : (joins : List Join) (i : ℕ) (lowest : List Join) → AreOrdered joins →
+    i < length joins → HasKept joins i lowest → IsRepeat joins i → HasKept joins (i + 1) lowest
 kept_same joins i lowest order below s repeat = record {
   only = λ j h. let was = s.only j h in (was.0, omega (arith, was.1), was.2);
   every = λ k d low. elim (cases_eq k i) [
@@ -72,8 +80,10 @@ kept_same joins i lowest order below s repeat = record {
     | inl same ↦
         let was = s.every (i - 1) d (omega (arith, repeat.0)) in
         let ends = repeat.1 d in
-        let high = height_up (get_or joins (i - 1) d) (get_or joins i d) (order (i - 1) i d (omega arith) below) ends.0 ends.1 in
-        subst (λ n. Covered lowest (get_or joins n d)) (sym same) (was.0, was.1, was.2 ∙ ends.0, was.3 ∙ ends.1, trans _ _ _ was.4 high)
+        let high = height_up (get_or joins (i - 1) d) (get_or joins i d)
+        (order (i - 1) i d (omega arith) below) ends.0 ends.1 in
+        subst (λ n. Covered lowest (get_or joins n d)) (sym same)
+        (was.0, was.1, was.2 ∙ ends.0, was.3 ∙ ends.1, trans _ _ _ was.4 high)
   ];
   rising = s.rising;
 } where
@@ -83,44 +93,64 @@ kept_same joins i lowest order below s repeat = record {
   height_up x y (inr (g, inr a)) e f = a.1
 
 -- Any other join is kept.
-pub kept_more : (joins : List Join) (i : ℕ) (x : Join) (lowest : List Join) → AreOrdered joins → i < length joins → x ≡ get_or joins i x → HasKept joins i lowest → (IsRepeat joins i → ⊥) → HasKept joins (i + 1) (lowest ++ x ∷ [])
+pub kept_more : (joins : List Join) (i : ℕ) (x : Join) (lowest : List Join) → AreOrdered joins →
+    i < length joins → x ≡ get_or joins i x → HasKept joins i lowest → (IsRepeat joins i → ⊥) →
+    HasKept joins (i + 1) (lowest ++ x ∷ [])
 kept_more joins i x lowest order below is s fresh = record {
   only = λ j h. elim (Contains-push_cases lowest x j h) [
     | inl was ↦ let at = s.only j was in (at.0, omega (arith, at.1), at.2)
     | inr same ↦ (i, omega arith, sym (at_i j) ∙ same)
   ];
   every = λ k d low. elim (cases_eq k i) [
-    | inr other ↦ let was = s.every k d (omega (arith, low, other)) in (was.0, Contains-append_left lowest (x ∷ []) was.0 was.1, was.2, was.3, was.4)
-    | inl same ↦ subst (λ n. Covered (lowest ++ x ∷ []) (get_or joins n d)) (sym same) (subst (Covered (lowest ++ x ∷ [])) (at_i d) (x, Contains-push lowest x, refl, refl, omega (arith, ints)))
+    | inr other ↦ let was = s.every k d (omega (arith, low, other)) in
+        (was.0, Contains-append_left lowest (x ∷ []) was.0 was.1, was.2, was.3, was.4)
+    | inl same ↦
+        subst (λ n. Covered (lowest ++ x ∷ []) (get_or joins n d)) (sym same) (subst (Covered
+        (lowest ++ x ∷ [])) (at_i d) (x, Contains-push lowest x, refl, refl, omega (arith, ints)))
   ];
   rising = λ m n d low high. elim (cases_lt n (length lowest)) [
-    | inl inside ↦ subst (λ y. IsBefore y (get_or (lowest ++ x ∷ []) n d)) (sym (get_or_append_left lowest (x ∷ []) d m (omega (arith, low, inside))))
-        (subst (IsBefore (get_or lowest m d)) (sym (get_or_append_left lowest (x ∷ []) d n inside)) (s.rising m n d low inside))
+    | inl inside ↦ subst (λ y. IsBefore y (get_or (lowest ++ x ∷ []) n d))
+        (sym (get_or_append_left lowest (x ∷ []) d m (omega (arith, low, inside))))
+        (subst (IsBefore (get_or lowest m d)) (sym (get_or_append_left lowest (x ∷ []) d n inside))
+        (s.rising m n d low inside))
     | inr last ↦
         let end : length lowest ≡ n = omega (arith, high, last, length_push lowest x) in
-        subst (λ y. IsBefore y (get_or (lowest ++ x ∷ []) n d)) (sym (get_or_append_left lowest (x ∷ []) d m (omega (arith, low, end))))
-        (subst (IsBefore (get_or lowest m d)) (sym (get_or_push lowest x d n end)) (earlier (get_or lowest m d) (Contains-get_or lowest m d (omega (arith, low, end)))))
+        subst (λ y. IsBefore y (get_or (lowest ++ x ∷ []) n d))
+        (sym (get_or_append_left lowest (x ∷ []) d m (omega (arith, low, end))))
+        (subst (IsBefore (get_or lowest m d)) (sym (get_or_push lowest x d n end))
+        (earlier (get_or lowest m d) (Contains-get_or lowest m d (omega (arith, low, end)))))
   ];
 } where
   at_i : (d : Join) → x ≡ get_or joins i d
   at_i d = is ∙ get_or_default joins i x d below
 
-  move : (k : ℕ) (j d : Join) → (get_or joins (i - 1) j).from ≡ (get_or joins i j).from → (get_or joins (i - 1) d).from ≡ (get_or joins i d).from
-  move k j d e = ap (λ (z : Join). z.from) (get_or_default joins (i - 1) d j (omega (arith, below))) ∙ e ∙ ap (λ (z : Join). z.from) (get_or_default joins i j d below)
+  move : (k : ℕ) (j d : Join) → (get_or joins (i - 1) j).from ≡ (get_or joins i j).from →
+      (get_or joins (i - 1) d).from ≡ (get_or joins i d).from
+  move k j d e = ap (λ (z : Join). z.from) (get_or_default joins (i - 1) d j (omega (arith, below)))
+      ∙ e ∙ ap (λ (z : Join). z.from) (get_or_default joins i j d below)
 
-  move_to : (k : ℕ) (j d : Join) → (get_or joins (i - 1) j).to ≡ (get_or joins i j).to → (get_or joins (i - 1) d).to ≡ (get_or joins i d).to
-  move_to k j d e = ap (λ (z : Join). z.to) (get_or_default joins (i - 1) d j (omega (arith, below))) ∙ e ∙ ap (λ (z : Join). z.to) (get_or_default joins i j d below)
+  move_to : (k : ℕ) (j d : Join) → (get_or joins (i - 1) j).to ≡ (get_or joins i j).to →
+      (get_or joins (i - 1) d).to ≡ (get_or joins i d).to
+  move_to k j d e = ap (λ (z : Join). z.to) (get_or_default joins (i - 1) d j
+      (omega (arith, below))) ∙ e ∙ ap (λ (z : Join). z.to) (get_or_default joins i j d below)
 
   earlier : (j : Join) → Contains lowest j → IsBefore j x
   earlier j h =
       let at = s.only j h in
-      let before_x : (0 < i) → IsBefore (get_or joins (i - 1) j) x = λ pos. subst (IsBefore (get_or joins (i - 1) j)) (sym (at_i j))
-      (before_from (get_or joins (i - 1) j) (get_or joins i j) (order (i - 1) i j (omega arith) below) (λ e f. fresh (pos, λ d. (move (i - 1) j d e, move_to (i - 1) j d f)))) in
-      before_trans j (get_or joins (i - 1) j) x (subst (λ y. NotAbove y (get_or joins (i - 1) j)) at.2 (order at.0 (i - 1) j (omega (arith, at.1)) (omega (arith, below)))) (before_x (omega (arith, at.1)))
+      let before_x : (0 < i) → IsBefore (get_or joins (i - 1) j) x =
+      λ pos. subst (IsBefore (get_or joins (i - 1) j)) (sym (at_i j))
+      (before_from (get_or joins (i - 1) j) (get_or joins i j) (order (i - 1) i j (omega arith)
+      below) (λ e f. fresh (pos, λ d. (move (i - 1) j d e, move_to (i - 1) j d f)))) in
+      before_trans j (get_or joins (i - 1) j) x (subst (λ y. NotAbove y (get_or joins (i - 1) j))
+      at.2 (order at.0 (i - 1) j (omega (arith, at.1)) (omega (arith, below))))
+      (before_x (omega (arith, at.1)))
 
-pub all_kept : (given joins lowest : List Join) → IsPermutation given joins → HasKept joins (length joins) lowest → AreLowest given lowest
+pub all_kept : (given joins lowest : List Join) → IsPermutation given joins →
+    HasKept joins (length joins) lowest → AreLowest given lowest
 all_kept given joins lowest perm s = record {
-  only = λ j h. let at = s.only j h in Contains-permutation joins given j (IsPermutation-sym given joins perm) (at.0, at.1, at.2);
-  every = λ j h. let there = Contains-permutation given joins j perm h in subst (Covered lowest) there.2 (s.every there.0 j there.1);
+  only = λ j h. let at = s.only j h in
+      Contains-permutation joins given j (IsPermutation-sym given joins perm) (at.0, at.1, at.2);
+  every = λ j h. let there = Contains-permutation given joins j perm h in
+      subst (Covered lowest) there.2 (s.every there.0 j there.1);
   rising = s.rising;
 }

@@ -30,54 +30,74 @@ use Rattle.fill.proofs.CellMarks.{some_below, marked, marked_within, mark_from_t
 use Rattle.fill.proofs.Rims.{IsLabelNet, LeadsRound, neighbour_back, level_has_data, has_tile_level, among_is, list_there}
 
 -- Lists of equal lengths begin at equal indexes.
-flat_same : {X Y Z : Type 0} (g : X → List Y) (h : X → List Z) (xs : List X) (i : ℕ) → i ≤ length xs → ((k : ℕ) (d : X) → k < length xs → length (g (get_or xs k d)) ≡ length (h (get_or xs k d)))
+flat_same : {X Y Z : Type 0} (g : X → List Y) (h : X → List Z) (xs : List X) (i : ℕ) →
+    i ≤ length xs →
+    ((k : ℕ) (d : X) → k < length xs → length (g (get_or xs k d)) ≡ length (h (get_or xs k d)))
     → length (flat_map g (take i xs)) ≡ length (flat_map h (take i xs))
 flat_same g h [] zero low same = refl
 flat_same g h [] (suc i) low same = absurd (omega (arith, low))
 flat_same g h (x ∷ xs) zero low same = refl
 flat_same g h (x ∷ xs) (suc i) low same =
     let here = same 0 x (omega arith) in
-    let rest = flat_same g h xs i (omega (arith, low)) (λ k d below. same (suc k) d (omega (arith, below))) in
-    length-append (g x) (flat_map g (take i xs)) ∙ omega (arith, here, rest) ∙ sym (length-append (h x) (flat_map h (take i xs)))
+    let rest =
+    flat_same g h xs i (omega (arith, low)) (λ k d below. same (suc k) d (omega (arith, below))) in
+    length-append (g x) (flat_map g (take i xs)) ∙ omega (arith, here, rest)
+    ∙ sym (length-append (h x) (flat_map h (take i xs)))
 
 -- The place of a label, by its number.
-pub place_at : (floods : List Flood) (tile k : ℕ) (f : Flood) → slice_get floods tile ≡ Some f → k < length f.table.places → get_or (places_of floods) (first_of floods tile + k) None ≡ get_or f.table.places k None
+pub place_at : (floods : List Flood) (tile k : ℕ) (f : Flood) →
+    slice_get floods tile ≡ Some f → k < length f.table.places →
+    get_or (places_of floods) (first_of floods tile + k) None ≡ get_or f.table.places k None
 place_at floods tile k f there inside =
     let is = get_or_from_slice_get floods tile f f there in
-    get_or-flat_map (λ (g : Flood). g.table.places) floods tile k f None (slice_get_within floods tile f there) (subst (λ (g : Flood). k < length g.table.places) (sym is) inside)
+    get_or-flat_map (λ (g : Flood). g.table.places) floods tile k f None (slice_get_within floods
+    tile f there) (subst (λ (g : Flood). k < length g.table.places) (sym is) inside)
     ∙ ap (λ (g : Flood). get_or g.table.places k None) is
 
 -- The height of a label that is an end cell, by its number.
-pub end_at : (t : Terrain) (c : Cutting) (floods : List Flood) (tile k : ℕ) (f : Flood) → AreFloods t c floods → slice_get floods tile ≡ Some f → k < length f.table.places → get_or (ends_of floods) (first_of floods tile + k) None ≡ get_or f.ends k None
+pub end_at : (t : Terrain) (c : Cutting) (floods : List Flood) (tile k : ℕ) (f : Flood) →
+    AreFloods t c floods → slice_get floods tile ≡ Some f → k < length f.table.places →
+    get_or (ends_of floods) (first_of floods tile + k) None ≡ get_or f.ends k None
 end_at t c floods tile k f are there inside =
     let is = get_or_from_slice_get floods tile f f there in
     let low = slice_get_within floods tile f there in
-    let sizes : (i : ℕ) (d : Flood) → i < length floods → length (get_or floods i d).ends ≡ length (get_or floods i d).table.places = λ i d below.
+    let sizes : (i : ℕ) (d : Flood) → i < length floods →
+    length (get_or floods i d).ends ≡ length (get_or floods i d).table.places = λ i d below.
     let x = list_there floods i below in
     let same = get_or_from_slice_get floods i x.0 d x.1 in
-    subst (λ (g : Flood). length g.ends ≡ length g.table.places) (sym same) (are.each i x.0 x.1).ends.size in
+    subst (λ (g : Flood). length g.ends ≡ length g.table.places) (sym same)
+    (are.each i x.0 x.1).ends.size in
     let own : length f.ends ≡ length f.table.places = (are.each tile f there).ends.size in
-    ap (λ n. get_or (ends_of floods) (n + k) None) (flat_same (λ (g : Flood). g.table.places) (λ (g : Flood). g.ends) floods tile (omega (arith, low)) (λ i d below. sym (sizes i d below)))
-    ∙ get_or-flat_map (λ (g : Flood). g.ends) floods tile k f None low (subst (λ (g : Flood). k < length g.ends) (sym is) (omega (arith, own, inside)))
+    ap (λ n. get_or (ends_of floods) (n + k) None) (flat_same (λ (g : Flood). g.table.places)
+    (λ (g : Flood). g.ends) floods tile (omega (arith, low)) (λ i d below. sym (sizes i d below)))
+    ∙ get_or-flat_map (λ (g : Flood). g.ends) floods tile k f None low
+    (subst (λ (g : Flood). k < length g.ends) (sym is) (omega (arith, own, inside)))
     ∙ ap (λ (g : Flood). get_or g.ends k None) is
 
-pub ends_length : (t : Terrain) (c : Cutting) (floods : List Flood) → AreFloods t c floods → length (ends_of floods) ≡ length (places_of floods)
+pub ends_length : (t : Terrain) (c : Cutting) (floods : List Flood) → AreFloods t c floods →
+    length (ends_of floods) ≡ length (places_of floods)
 ends_length t c floods are =
-    let all : take (length floods) floods ≡ floods = take_all (length floods) floods (omega arith) in
-    let sizes : (i : ℕ) (d : Flood) → i < length floods → length (get_or floods i d).ends ≡ length (get_or floods i d).table.places = λ i d below.
+    let all : take (length floods) floods ≡ floods =
+    take_all (length floods) floods (omega arith) in
+    let sizes : (i : ℕ) (d : Flood) → i < length floods →
+    length (get_or floods i d).ends ≡ length (get_or floods i d).table.places = λ i d below.
     let x = list_there floods i below in
     let same = get_or_from_slice_get floods i x.0 d x.1 in
-    subst (λ (g : Flood). length g.ends ≡ length g.table.places) (sym same) (are.each i x.0 x.1).ends.size in
+    subst (λ (g : Flood). length g.ends ≡ length g.table.places) (sym same)
+    (are.each i x.0 x.1).ends.size in
     ap (λ (z : List Flood). length (ends_of z)) (sym all)
-    ∙ flat_same (λ (g : Flood). g.ends) (λ (g : Flood). g.table.places) floods (length floods) (omega arith) sizes
+    ∙ flat_same (λ (g : Flood). g.ends) (λ (g : Flood). g.table.places) floods (length floods)
+    (omega arith) sizes
     ∙ ap (λ (z : List Flood). length (places_of z)) all
 
 pub fit_of : (t : Terrain) (c : Cutting) (floods : List Flood) → AreFloods t c floods → Fit c floods
 fit_of t c floods are = record {
   count = are.count;
   bounds = λ tile f e. (are.each tile f e).bounds;
-  sizes = λ tile f e. (are.each tile f e).labels_size ∙ ap (λ (b : Bounds). b.rows * b.cols) (sym (are.each tile f e).bounds);
-  levels = λ tile f e. (are.each tile f e).levels_size ∙ ap (λ (b : Bounds). b.rows * b.cols) (sym (are.each tile f e).bounds);
+  sizes = λ tile f e. (are.each tile f e).labels_size
+      ∙ ap (λ (b : Bounds). b.rows * b.cols) (sym (are.each tile f e).bounds);
+  levels = λ tile f e. (are.each tile f e).levels_size
+      ∙ ap (λ (b : Bounds). b.rows * b.cols) (sym (are.each tile f e).bounds);
 }
 
 abbrev pub AreLawful : List Flood → Type 0
@@ -95,70 +115,97 @@ pub record IsNumbered (c : Cutting) (floods : List Flood) (p : Place) (m : CellL
   pub inside : entry < length flood.table.places
   pub node : first_of floods (tile_of_place c p) + entry ≡ m.node
 
-pub numbered : (c : Cutting) (floods : List Flood) (p : Place) (m : CellLabel) → AreLawful floods → mark_among c floods p ≡ Some m → IsNumbered c floods p m
+pub numbered : (c : Cutting) (floods : List Flood) (p : Place) (m : CellLabel) → AreLawful floods →
+    mark_among c floods p ≡ Some m → IsNumbered c floods p m
 numbered c floods p m lawful e =
     let x = marked c floods p m e in
     let f = x.flood in
     let i = index_in f.bounds p in
     let entry = get_or f.table.indexes i 0 in
-    let at : get_or (labels_by f.table.places f.table.indexes) i None ≡ Some x.label = ap (λ (z : List (Option Place)). get_or z i None) (sym (lawful _ f x.there).labels) ∙ x.label_is in
-    let low : i < length f.table.indexes = omega (arith, some_below (labels_by f.table.places f.table.indexes) i x.label at, length-map f.table.indexes (λ n. get_or f.table.places n None)) in
-    let listed : get_or f.table.places entry None ≡ Some x.label = sym (get_or-map (λ n. get_or f.table.places n None) f.table.indexes i 0 None low) ∙ at in
+    let at : get_or (labels_by f.table.places f.table.indexes) i None ≡ Some x.label = ap
+    (λ (z : List (Option Place)). get_or z i None) (sym (lawful _ f x.there).labels) ∙ x.label_is in
+    let low : i < length f.table.indexes =
+    omega (
+      arith,
+      some_below (labels_by f.table.places f.table.indexes) i x.label at,
+      length-map f.table.indexes (λ n. get_or f.table.places n None),
+    ) in
+    let listed : get_or f.table.places entry None ≡ Some x.label =
+    sym (get_or-map (λ n. get_or f.table.places n None) f.table.indexes i 0 None low) ∙ at in
     record {
       flood = f;
       entry = entry;
       label = x.label;
       there = x.there;
-      level_is = among_is (λ g. level_in g p) floods (tile_of_place c p) f x.there ∙ entry_in-inside f.bounds f.levels p x.inside ∙ x.level_is;
-      label_is = among_is (λ g. label_in g p) floods (tile_of_place c p) f x.there ∙ entry_in-inside f.bounds f.labels p x.inside ∙ x.label_is;
+      level_is = among_is (λ g. level_in g p) floods (tile_of_place c p) f x.there
+          ∙ entry_in-inside f.bounds f.levels p x.inside ∙ x.level_is;
+      label_is = among_is (λ g. label_in g p) floods (tile_of_place c p) f x.there
+          ∙ entry_in-inside f.bounds f.labels p x.inside ∙ x.label_is;
       listed = listed;
       inside = some_below f.table.places entry x.label listed;
       node = x.node_is;
     }
 
 -- The label of a cell, by its number.
-pub number_label : (c : Cutting) (floods : List Flood) (p : Place) (m : CellLabel) (x : IsNumbered c floods p m) → get_or (places_of floods) m.node None ≡ Some x.label
+pub number_label : (c : Cutting) (floods : List Flood) (p : Place) (m : CellLabel)
+    (x : IsNumbered c floods p m) → get_or (places_of floods) m.node None ≡ Some x.label
 number_label c floods p m x =
-    ap (λ n. get_or (places_of floods) n None) (sym x.node) ∙ place_at floods (tile_of_place c p) x.entry x.flood x.there x.inside ∙ x.listed
+    ap (λ n. get_or (places_of floods) n None) (sym x.node)
+    ∙ place_at floods (tile_of_place c p) x.entry x.flood x.there x.inside ∙ x.listed
 
-pub number_below : (c : Cutting) (floods : List Flood) (p : Place) (m : CellLabel) → AreLawful floods → mark_among c floods p ≡ Some m → m.node < length (places_of floods)
-number_below c floods p m lawful e = let x = numbered c floods p m lawful e in some_below (places_of floods) m.node x.label (number_label c floods p m x)
+pub number_below : (c : Cutting) (floods : List Flood) (p : Place) (m : CellLabel) →
+    AreLawful floods → mark_among c floods p ≡ Some m → m.node < length (places_of floods)
+number_below c floods p m lawful e = let x = numbered c floods p m lawful e in
+    some_below (places_of floods) m.node x.label (number_label c floods p m x)
 
 -- A cell with a level and a label has a mark.
-pub has_mark : (c : Cutting) (floods : List Flood) (p : Place) (level : ℤ) (label : Place) (f : Flood) → slice_get floods (tile_of_place c p) ≡ Some f → level_among c floods p ≡ Some level → label_among c floods p ≡ Some label
+pub has_mark : (c : Cutting) (floods : List Flood) (p : Place)
+    (level : ℤ) (label : Place) (f : Flood) → slice_get floods (tile_of_place c p) ≡ Some f →
+    level_among c floods p ≡ Some level → label_among c floods p ≡ Some label
     → (node : ℕ) × (mark_among c floods p ≡ Some (record { level = level; node = node }))
 has_mark c floods p level label f there level_is label_is =
     let first = first_of floods (tile_of_place c p) in
-    let level_here : level_in f p ≡ Some level = sym (among_is (λ g. level_in g p) floods (tile_of_place c p) f there) ∙ level_is in
-    let label_here : label_in f p ≡ Some label = sym (among_is (λ g. label_in g p) floods (tile_of_place c p) f there) ∙ label_is in
+    let level_here : level_in f p ≡ Some level =
+    sym (among_is (λ g. level_in g p) floods (tile_of_place c p) f there) ∙ level_is in
+    let label_here : label_in f p ≡ Some label =
+    sym (among_is (λ g. label_in g p) floods (tile_of_place c p) f there) ∙ label_is in
     let inside = bounds_from_entry f.bounds f.levels p level level_here in (
       first + get_or f.table.indexes (index_in f.bounds p) 0,
       sym (mark_from_tile c floods (tile_of_place c p) f p there refl)
           ∙ cond-true _ _ _ (in_bounds_from f.bounds p inside)
-          ∙ mark_some _ _ _ level label (sym (entry_in-inside f.bounds f.levels p inside) ∙ level_here) (sym (entry_in-inside f.bounds f.labels p inside) ∙ label_here),
+          ∙ mark_some _ _ _ level label (sym (entry_in-inside f.bounds f.levels p inside)
+          ∙ level_here) (sym (entry_in-inside f.bounds f.labels p inside) ∙ label_here),
     )
 
 -- The number of a cell's label.
 abbrev pub number_among : Cutting → List Flood → Place → Option ℕ
 number_among c floods p = option_map (λ (m : CellLabel). m.node) (mark_among c floods p)
 
-number_mark : (o : Option CellLabel) (a : ℕ) → option_map (λ (m : CellLabel). m.node) o ≡ Some a → (level : ℤ) × (o ≡ Some (record { level = level; node = a }))
+number_mark : (o : Option CellLabel) (a : ℕ) → option_map (λ (m : CellLabel). m.node) o ≡ Some a →
+    (level : ℤ) × (o ≡ Some (record { level = level; node = a }))
 number_mark None a e = absurd (cc)
-number_mark (Some m) a e = (m.level, ap (λ n. Some (record { level = m.level; node = n })) (same_Some m.node a e))
+number_mark (Some m) a e =
+    (m.level, ap (λ n. Some (record { level = m.level; node = n })) (same_Some m.node a e))
 
 -- The spill graph by numbers is a net of labels, as raising needs.
-module _ (t : Terrain) (c : Cutting) (floods : List Flood) (are : AreFloods t c floods) (lawful : AreLawful floods) (arcs : List (List Spill)) (sources : List (Option ℤ)) (graph : IsNumberGraph t c floods arcs sources) where
-  source_is : (p : Place) (m : CellLabel) (x : IsNumbered c floods p m) → source_number sources m.node ≡ get_or x.flood.ends x.entry None
+module _ (t : Terrain) (c : Cutting) (floods : List Flood) (are : AreFloods t c floods)
+    (lawful : AreLawful floods) (arcs : List (List Spill)) (sources : List (Option ℤ))
+    (graph : IsNumberGraph t c floods arcs sources) where
+  source_is : (p : Place) (m : CellLabel) (x : IsNumbered c floods p m) →
+      source_number sources m.node ≡ get_or x.flood.ends x.entry None
   source_is p m x =
-      ap (λ (z : List (Option ℤ)). get_or z m.node None) graph.ends ∙ ap (λ n. get_or (ends_of floods) n None) (sym x.node)
+      ap (λ (z : List (Option ℤ)). get_or z m.node None) graph.ends
+      ∙ ap (λ n. get_or (ends_of floods) n None) (sym x.node)
       ∙ end_at t c floods (tile_of_place c p) x.entry x.flood are x.there x.inside
 
-  pub number_net : IsLabelNet t c floods (number_among c floods) (HasArc arcs) (source_number sources)
+  pub number_net :
+      IsLabelNet t c floods (number_among c floods) (HasArc arcs) (source_number sources)
   number_net = record {
     some = λ p has.
         let l = has_tile_level t c floods are.lawful are p has in
         let within = data_within t c p are.cuts has in
-        let f = list_there floods (tile_of_place c p) (omega (arith, are.count, tile_of_place_below c p are.lawful within)) in
+        let f = list_there floods (tile_of_place c p)
+        (omega (arith, are.count, tile_of_place_below c p are.lawful within)) in
         let m = has_mark c floods p l.level l.label f.0 f.1 l.level_is l.label_is in
         (m.0, ap (option_map (λ (x : CellLabel). x.node)) m.1);
     one = λ p q a p_is q_is.
@@ -166,7 +213,8 @@ module _ (t : Terrain) (c : Cutting) (floods : List Flood) (are : AreFloods t c 
         let n = number_mark (mark_among c floods q) a q_is in
         let x = numbered c floods p (record { level = m.0; node = a }) lawful m.1 in
         let y = numbered c floods q (record { level = n.0; node = a }) lawful n.1 in
-        x.label_is ∙ sym (number_label c floods p (record { level = m.0; node = a }) x) ∙ number_label c floods q (record { level = n.0; node = a }) y ∙ sym y.label_is;
+        x.label_is ∙ sym (number_label c floods p (record { level = m.0; node = a }) x)
+        ∙ number_label c floods q (record { level = n.0; node = a }) y ∙ sym y.label_is;
     joined = λ a b z differ meet. elim (graph.joined a b z differ (record {
       from = meet.from;
       to = meet.to;
@@ -179,9 +227,12 @@ module _ (t : Terrain) (c : Cutting) (floods : List Flood) (are : AreFloods t c 
     })) [
       | inl joined ↦ inl joined
       | inr bypass ↦ elim bypass [
-        | inl by ↦ inr (round meet.from meet.to meet.from_level meet.to_level z meet.neighbours meet.from_is meet.to_is meet.greater by)
+        | inl by ↦ inr (round meet.from meet.to meet.from_level meet.to_level z meet.neighbours
+            meet.from_is meet.to_is meet.greater by)
         | inr by ↦
-            let back = round meet.to meet.from meet.to_level meet.from_level z (neighbour_back t meet.from meet.to meet.neighbours) meet.to_is meet.from_is (max_comm meet.to_level meet.from_level ∙ meet.greater) by in
+            let back = round meet.to meet.from meet.to_level meet.from_level z
+            (neighbour_back t meet.from meet.to meet.neighbours) meet.to_is meet.from_is
+            (max_comm meet.to_level meet.from_level ∙ meet.greater) by in
             inr (record {
               middle = back.middle;
               level = back.level;
@@ -206,8 +257,10 @@ module _ (t : Terrain) (c : Cutting) (floods : List Flood) (are : AreFloods t c 
           neighbours = pass.neighbours;
           from_number = ap (option_map (λ (x : CellLabel). x.node)) pass.from_is;
           to_number = ap (option_map (λ (x : CellLabel). x.node)) pass.to_is;
-          from_is = (numbered c floods pass.from (record { level = pass.from_level; node = a }) lawful pass.from_is).level_is;
-          to_is = (numbered c floods pass.to (record { level = pass.to_level; node = b }) lawful pass.to_is).level_is;
+          from_is = (numbered c floods pass.from
+              (record { level = pass.from_level; node = a }) lawful pass.from_is).level_is;
+          to_is = (numbered c floods pass.to
+              (record { level = pass.to_level; node = b }) lawful pass.to_is).level_is;
           greater = pass.greater;
         };
     end_source = λ p a z end own is height.
@@ -218,28 +271,35 @@ module _ (t : Terrain) (c : Cutting) (floods : List Flood) (are : AreFloods t c 
         let ends = (are.each _ x.flood x.there).ends.each x.entry p (x.listed ∙ ap Some same) in
         source_is p mark x ∙ elim (cases_option (get_or x.flood.ends x.entry None)) [
           | inl none ↦ absurd (MatchOption-at_none _ _ none ends end)
-          | inr found ↦ let at = MatchOption-at_some _ _ found.0 found.1 ends in found.1 ∙ sym at.1 ∙ height
+          | inr found ↦ let at = MatchOption-at_some _ _ found.0 found.1 ends in found.1 ∙ sym at.1
+              ∙ height
         ];
     source_end = λ p a z has is source.
         let m = number_mark (mark_among c floods p) a is in
         let mark : CellLabel = record { level = m.0; node = a } in
         let x = numbered c floods p mark lawful m.1 in
-        let at = MatchOption-at_some _ _ z (sym (source_is p mark x) ∙ source) ((are.each _ x.flood x.there).ends.each x.entry x.label x.listed) in
+        let at = MatchOption-at_some _ _ z (sym (source_is p mark x)
+        ∙ source) ((are.each _ x.flood x.there).ends.each x.entry x.label x.listed) in
         (x.label, x.label_is, at.0, at.1);
   } where
-    turn_straight : (p q : Place) → (p.row ≡ q.row) ⊎ (p.col ≡ q.col) → (q.row ≡ p.row) ⊎ (q.col ≡ p.col)
+    turn_straight : (p q : Place) → (p.row ≡ q.row) ⊎ (p.col ≡ q.col) → (q.row ≡ p.row)
+        ⊎ (q.col ≡ p.col)
     turn_straight p q (inl row) = inl (sym row)
     turn_straight p q (inr col) = inr (sym col)
 
-    round : (p q : Place) (x y z : ℤ) → IsNeighbour t p q → level_among c floods p ≡ Some x → level_among c floods q ≡ Some y → int_max x y ≡ z → IsBypassed (mark_among c floods) p q → LeadsRound t c floods p q z
+    round : (p q : Place) (x y z : ℤ) → IsNeighbour t p q → level_among c floods p ≡ Some x →
+        level_among c floods q ≡ Some y → int_max x y ≡ z → IsBypassed (mark_among c floods) p q →
+        LeadsRound t c floods p q z
     round p q x y z next p_is q_is greater by =
         let a = numbered c floods p by.from lawful by.from_is in
         let m = numbered c floods by.middle by.between lawful by.between_is in
         let b = numbered c floods q by.to lawful by.to_is in
         let x_is : by.from.level ≡ x = same_Some by.from.level x (sym a.level_is ∙ p_is) in
         let y_is : by.to.level ≡ y = same_Some by.to.level y (sym b.level_is ∙ q_is) in
-        let within = marked_within c floods by.middle by.between are.lawful (fit_of t c floods are) by.between_is in
-        let has = level_has_data t c floods are.lawful are by.middle by.between.level within m.level_is in
+        let within = marked_within c floods by.middle by.between are.lawful
+        (fit_of t c floods are) by.between_is in
+        let has =
+        level_has_data t c floods are.lawful are by.middle by.between.level within m.level_is in
         record {
           middle = by.middle;
           level = by.between.level;
@@ -249,30 +309,52 @@ module _ (t : Terrain) (c : Cutting) (floods : List Flood) (are : AreFloods t c 
               | inl below ↦ absurd (omega (arith, ap (λ (r : Place). r.row) e, by.next_row, below))
               | inr beside ↦ by.aside (ap (λ (r : Place). r.col) e ∙ beside.1)
             ];
-            touches = touch_at p by.middle (elim by.is_middle [ inl below ↦ (omega (arith, below, by.next_row), omega (arith, below)) | inr beside ↦ (omega (arith, beside), omega (arith, beside, next.touches)) ]);
+            touches = touch_at p by.middle (elim by.is_middle [
+              | inl below ↦
+                  (omega (arith, below, by.next_row), omega (arith, below))
+              | inr beside ↦
+                  (omega (arith, beside), omega (arith, beside, next.touches))
+            ]);
             from_data = next.from_data;
             to_data = has;
           };
           on = record {
             different = λ e. elim by.is_middle [
               | inl below ↦ by.aside (sym below.1 ∙ ap (λ (r : Place). r.col) e)
-              | inr beside ↦ absurd (omega (arith, ap (λ (r : Place). r.row) e, by.next_row, beside))
+              | inr beside ↦
+                  absurd (omega (arith, ap (λ (r : Place). r.row) e, by.next_row, beside))
             ];
-            touches = touch_at by.middle q (elim by.is_middle [ inl below ↦ (omega (arith, below), omega (arith, below, next.touches)) | inr beside ↦ (omega (arith, beside, by.next_row), omega (arith, beside)) ]);
+            touches = touch_at by.middle q (elim by.is_middle [
+              | inl below ↦
+                  (omega (arith, below), omega (arith, below, next.touches))
+              | inr beside ↦
+                  (omega (arith, beside, by.next_row), omega (arith, beside))
+            ]);
             from_data = has;
             to_data = next.to_data;
           };
-          there_straight = elim by.is_middle [ inl below ↦ inr (sym below.1) | inr beside ↦ inl (sym beside.0) ];
+          there_straight =
+              elim by.is_middle [ inl below ↦ inr (sym below.1) | inr beside ↦ inl (sym beside.0) ];
           on_straight = elim by.is_middle [ inl below ↦ inl below.0 | inr beside ↦ inr beside.1 ];
-          low = subst (λ n. by.between.level ≤ℤ n) (ap (λ n. int_max n by.to.level) x_is ∙ ap (int_max x) y_is ∙ greater) by.low;
+          low = subst (λ n. by.between.level ≤ℤ n) (ap (λ n. int_max n by.to.level) x_is
+              ∙ ap (int_max x) y_is ∙ greater) by.low;
           bent_row = λ e. omega (arith, e, by.next_row);
           bent_col = by.aside;
         } where
-          touch_at : (r s : Place) → ((s.row ≤ r.row + 1) × (r.row ≤ s.row + 1)) × ((s.col ≤ r.col + 1) × (r.col ≤ s.col + 1)) → Touches r s
-          touch_at r s near = record { row_down = omega (arith, near); row_up = omega (arith, near); col_right = omega (arith, near); col_left = omega (arith, near) }
+          touch_at : (r s : Place) → ((s.row ≤ r.row + 1) × (r.row ≤ s.row + 1))
+              × ((s.col ≤ r.col + 1) × (r.col ≤ s.col + 1)) → Touches r s
+          touch_at r s near = record {
+            row_down = omega (arith, near);
+            row_up = omega (arith, near);
+            col_right = omega (arith, near);
+            col_left = omega (arith, near);
+          }
 
-    mark_is : (p : Place) (a : ℕ) (level : ℤ) → number_among c floods p ≡ Some a → level_among c floods p ≡ Some level → mark_among c floods p ≡ Some (record { level = level; node = a })
+    mark_is : (p : Place) (a : ℕ) (level : ℤ) →
+        number_among c floods p ≡ Some a → level_among c floods p ≡ Some level →
+        mark_among c floods p ≡ Some (record { level = level; node = a })
     mark_is p a level is level_is =
         let m = number_mark (mark_among c floods p) a is in
         let x = numbered c floods p (record { level = m.0; node = a }) lawful m.1 in
-        m.1 ∙ ap (λ z. Some (record { level = z; node = a })) (same_Some m.0 level (sym x.level_is ∙ level_is))
+        m.1 ∙ ap (λ z. Some (record { level = z; node = a }))
+        (same_Some m.0 level (sym x.level_is ∙ level_is))

@@ -47,7 +47,8 @@ use Rattle.tile_maps.proofs.Whole.{map_of_size, tile_of_entries}
 use Rattle.drainage.proofs.FilledTwice.{filled_twice}
 
 -- `AreEntries` of no entries, and of one more.
-pub no_entries : (entry : ℕ → Option ℤ) (list : List (Option ℤ)) → list ≡ [] → AreEntries entry 0 list
+pub no_entries : (entry : ℕ → Option ℤ) (list : List (Option ℤ)) → list ≡ [] →
+    AreEntries entry 0 list
 no_entries entry list none = record {
   size = ap length none;
   each = λ k low. absurd (omega (arith, low));
@@ -71,132 +72,191 @@ all_entries entry i count list below past s =
     subst (λ n. AreEntries entry n list) (omega (arith, below, past)) s
 
 -- A cell has a level, and is raised, only if it has a label.
-raised_where : (c : Cutting) (levels : List (Option ℤ)) (height : ℤ) (label : Option Place) → greater_of (Some height) (spill_of c levels label) ≡ raised_by c levels (option_map (λ _. height) label) label
+raised_where : (c : Cutting) (levels : List (Option ℤ)) (height : ℤ) (label : Option Place) →
+    greater_of (Some height) (spill_of c levels label)
+    ≡ raised_by c levels (option_map (λ _. height) label) label
 raised_where c levels height None = refl
 raised_where c levels height (Some p) = refl
 
 -- These heights and levels of labels raise each cell as the flood and all levels do.
-pub record IsRaisedBy (c : Cutting) (f : Flood) (levels : List (Option ℤ)) (heights : List ℤ) (labels : List ℕ) (spills : List (Option ℤ)) : Type 0 where
+pub record IsRaisedBy (c : Cutting) (f : Flood) (levels : List (Option ℤ)) (heights : List ℤ)
+    (labels : List ℕ) (spills : List (Option ℤ)) : Type 0 where
   pub heights_size : length heights ≡ length f.labels
   pub labels_size : length labels ≡ length f.labels
   pub inside : All (λ k. k < length spills) labels
-  pub each : (i : ℕ) → i < length f.labels → greater_of (Some (get_or heights i (pos 0))) (get_or spills (get_or labels i 0) None)
+  pub each : (i : ℕ) → i < length f.labels →
+      greater_of (Some (get_or heights i (pos 0))) (get_or spills (get_or labels i 0) None)
       ≡ raised_by c levels (get_or f.levels i None) (get_or f.labels i None)
 
 -- A tile is raised by the levels of the labels in its table.
-by_table : (c : Cutting) (f : Flood) (places : List (Option Place)) (cells : List ℕ) (heights : List ℤ) (levels spills : List (Option ℤ)) → f.labels ≡ labels_by places cells → IsTable places cells
-    → f.levels ≡ levels_where f.labels heights → length cells ≡ length heights → spills ≡ map (spill_of c levels) places → IsRaisedBy c f levels heights cells spills
+by_table : (c : Cutting) (f : Flood) (places : List (Option Place)) (cells : List ℕ)
+    (heights : List ℤ) (levels spills : List (Option ℤ)) → f.labels ≡ labels_by places cells →
+    IsTable places cells
+    → f.levels ≡ levels_where f.labels heights → length cells ≡ length heights →
+    spills ≡ map (spill_of c levels) places → IsRaisedBy c f levels heights cells spills
 by_table c f places cells heights levels spills are table where_is long is = record {
   heights_size = sym fit;
   labels_size = long ∙ sym fit;
-  inside = λ i d low. omega (arith, table.inside i d low, ap length is, length-map places (spill_of c levels));
+  inside = λ i d low.
+      omega (arith, table.inside i d low, ap length is, length-map places (spill_of c levels));
   each = λ i low.
       let inside : i < length cells = omega (arith, low, long, fit) in
-      let spill : get_or spills (get_or cells i 0) None ≡ spill_of c levels (get_or f.labels i None) =
+      let spill : get_or spills (get_or cells i 0) None
+      ≡ spill_of c levels (get_or f.labels i None) =
       ap (λ (z : List (Option ℤ)). get_or z (get_or cells i 0) None) is
       ∙ get_or-map (spill_of c levels) places (get_or cells i 0) None None (table.inside i 0 inside)
-      ∙ ap (spill_of c levels) (sym (get_or-map (λ k. get_or places k None) cells i 0 None inside) ∙ ap (λ (z : List (Option Place)). get_or z i None) (sym are)) in
-      let level : get_or f.levels i None ≡ option_map (λ _. get_or heights i (pos 0)) (get_or f.labels i None) =
-      ap (λ (z : List (Option ℤ)). get_or z i None) where_is ∙ levels_where-at f.labels heights i fit in
+      ∙ ap (spill_of c levels) (sym (get_or-map (λ k. get_or places k None) cells i 0 None inside)
+      ∙ ap (λ (z : List (Option Place)). get_or z i None) (sym are)) in
+      let level : get_or f.levels i None
+      ≡ option_map (λ _. get_or heights i (pos 0)) (get_or f.labels i None) =
+      ap (λ (z : List (Option ℤ)). get_or z i None) where_is
+      ∙ levels_where-at f.labels heights i fit in
       ap (greater_of (Some (get_or heights i (pos 0)))) spill
-      ∙ raised_where c levels (get_or heights i (pos 0)) (get_or f.labels i None) ∙ ap (λ z. raised_by c levels z (get_or f.labels i None)) (sym level);
+      ∙ raised_where c levels (get_or heights i (pos 0)) (get_or f.labels i None)
+      ∙ ap (λ z. raised_by c levels z (get_or f.labels i None)) (sym level);
 }
   where
     fit : length f.labels ≡ length heights
     fit = ap length are ∙ length-map cells (λ k. get_or places k None) ∙ long
 
-pub raised_by_table : (c : Cutting) (f : Flood) (places : List (Option Place)) (cells : List ℕ) (heights : List ℤ) (levels spills raised : List (Option ℤ)) → f.labels ≡ labels_by places cells → IsTable places cells
-    → f.levels ≡ levels_where f.labels heights → length cells ≡ length heights → spills ≡ map (spill_of c levels) places → AreGreater heights cells spills raised → IsRaised c f levels raised
+pub raised_by_table : (c : Cutting) (f : Flood) (places : List (Option Place))
+    (cells : List ℕ) (heights : List ℤ) (levels spills raised : List (Option ℤ)) →
+    f.labels ≡ labels_by places cells → IsTable places cells
+    → f.levels ≡ levels_where f.labels heights → length cells ≡ length heights → spills ≡ map
+    (spill_of c levels) places → AreGreater heights cells spills raised → IsRaised c f levels raised
 raised_by_table c f places cells heights levels spills raised are table where_is long is s =
     let by = by_table c f places cells heights levels spills are table where_is long is in
-    let same : length f.levels ≡ length f.labels = ap length where_is ∙ levels_where-length f.labels heights (sym by.heights_size) in
+    let same : length f.levels ≡ length f.labels = ap length where_is
+    ∙ levels_where-length f.labels heights (sym by.heights_size) in
     record {
       size = s.size ∙ by.heights_size ∙ sym same;
-      each = λ i low. s.each i (omega (arith, low, same, by.heights_size)) ∙ by.each i (omega (arith, low, same));
+      each = λ i low. s.each i (omega (arith, low, same, by.heights_size))
+          ∙ by.each i (omega (arith, low, same));
     }
 
 -- A raised height, with the level of the label stored as a cell.
-greater_stored : (h : ℤ) (spill : Option ℤ) → h ≤ℤ no_data → cell_of (greater_of (Some h) (cell_of spill)) ≡ cell_of (greater_of (Some h) spill)
+greater_stored : (h : ℤ) (spill : Option ℤ) → h ≤ℤ no_data →
+    cell_of (greater_of (Some h) (cell_of spill)) ≡ cell_of (greater_of (Some h) spill)
 greater_stored h None low = refl
 greater_stored h (Some z) low = elim (cases_Bool (int_eq z no_data)) [
   | inl lacks ↦
       let is : z ≡ no_data = (Decides-int_eq z no_data).0 lacks in
       let most : int_max h z ≡ no_data = omega (arith, ints, clamps, low, is) in
-      ap (λ (o : Option ℤ). cell_of (greater_of (Some h) o)) (cond-true _ _ _ lacks) ∙ sym (ap stored_cell most)
+      ap (λ (o : Option ℤ). cell_of (greater_of (Some h) o)) (cond-true _ _ _ lacks)
+      ∙ sym (ap stored_cell most)
   | inr other ↦ ap (λ (o : Option ℤ). cell_of (greater_of (Some h) o)) (cond-false _ _ _ other)
 ]
 
 -- A raised height of a tile, with the levels of its labels stored as cells.
-pub raised_stored : (first : ℕ) (f : Flood) (levels : List (Option ℤ)) (x : RaisedTile) (i : ℕ) → IsRaisedTile first f levels x → i < length f.labels → get_or x.heights.now i (pos 0) ≤ℤ no_data
-    → cell_of (greater_of (Some (get_or x.heights.now i (pos 0))) (get_or x.spills.items (get_or x.labels.now i 0) None)) ≡ cell_of (greater_of (get_or f.levels i None) (spill_with levels (mark_with first f i)))
+pub raised_stored : (first : ℕ) (f : Flood) (levels : List (Option ℤ)) (x : RaisedTile) (i : ℕ) →
+    IsRaisedTile first f levels x → i < length f.labels → get_or x.heights.now i (pos 0) ≤ℤ no_data
+    → cell_of (greater_of
+    (Some (get_or x.heights.now i (pos 0))) (get_or x.spills.items (get_or x.labels.now i 0) None))
+    ≡ cell_of (greater_of (get_or f.levels i None) (spill_with levels (mark_with first f i)))
 raised_stored first f levels x i tile below low =
     let h = get_or x.heights.now i (pos 0) in
     let k = get_or f.table.indexes i 0 in
     let entry : get_or x.labels.now i 0 ≡ k = ap (λ (z : List ℕ). get_or z i 0) tile.labels in
     let inside : i < length f.table.indexes = omega (arith, below, table_size) in
-    let listed : get_or f.labels i None ≡ get_or f.table.places k None = ap (λ (z : List (Option Place)). get_or z i None) tile.lawful.labels ∙ get_or-map (λ n. get_or f.table.places n None) f.table.indexes i 0 None inside in
-    let stored : get_or x.spills.items k None ≡ cell_of (spill_at levels first f.table.places k) = tile.spills.each k (tile.lawful.table.inside i 0 inside) in
-    let level : get_or f.levels i None ≡ option_map (λ _. h) (get_or f.labels i None) = ap (λ (z : List (Option ℤ)). get_or z i None) tile.heights ∙ levels_where-at f.labels x.heights.now i (sym tile.size) in
+    let listed : get_or f.labels i None ≡ get_or f.table.places k None =
+    ap (λ (z : List (Option Place)). get_or z i None) tile.lawful.labels
+    ∙ get_or-map (λ n. get_or f.table.places n None) f.table.indexes i 0 None inside in
+    let stored : get_or x.spills.items k None ≡ cell_of (spill_at levels first f.table.places k) =
+    tile.spills.each k (tile.lawful.table.inside i 0 inside) in
+    let level : get_or f.levels i None ≡ option_map (λ _. h) (get_or f.labels i None) =
+    ap (λ (z : List (Option ℤ)). get_or z i None) tile.heights
+    ∙ levels_where-at f.labels x.heights.now i (sym tile.size) in
     ap (λ n. cell_of (greater_of (Some h) (get_or x.spills.items n None))) entry
-    ∙ ap (λ o. cell_of (greater_of (Some h) o)) stored ∙ greater_stored h (spill_at levels first f.table.places k) low
-    ∙ ap (λ o. cell_of o) (spill_by (get_or f.labels i None) (get_or f.levels i None) h k listed level)
+    ∙ ap (λ o. cell_of (greater_of (Some h) o)) stored
+    ∙ greater_stored h (spill_at levels first f.table.places k) low
+    ∙ ap (λ o.
+    cell_of o) (spill_by (get_or f.labels i None) (get_or f.levels i None) h k listed level)
   where
     table_size : length f.labels ≡ length f.table.indexes
-    table_size = ap length tile.lawful.labels ∙ length-map f.table.indexes (λ n. get_or f.table.places n None)
+    table_size = ap length tile.lawful.labels
+        ∙ length-map f.table.indexes (λ n. get_or f.table.places n None)
 
-    spill_by : (label : Option Place) (level : Option ℤ) (h : ℤ) (k : ℕ) → label ≡ get_or f.table.places k None → level ≡ option_map (λ _. h) label
-        → greater_of (Some h) (spill_at levels first f.table.places k) ≡ greater_of level (spill_with levels (mark_of (first + k) level label))
+    spill_by : (label : Option Place) (level : Option ℤ) (h : ℤ) (k : ℕ) →
+        label ≡ get_or f.table.places k None → level ≡ option_map (λ _. h) label
+        → greater_of (Some h) (spill_at levels first f.table.places k)
+        ≡ greater_of level (spill_with levels (mark_of (first + k) level label))
     spill_by None level h k listed is = rw (← listed, is) refl
     spill_by (Some p) level h k listed is = rw (← listed, is) refl
 
 -- The indexes of labels lie in the list of levels.
-pub stored_inside : (first : ℕ) (f : Flood) (levels : List (Option ℤ)) (x : RaisedTile) → IsRaisedTile first f levels x → All (λ k. k < length x.spills.items) x.labels.now
+pub stored_inside : (first : ℕ) (f : Flood) (levels : List (Option ℤ)) (x : RaisedTile) →
+    IsRaisedTile first f levels x → All (λ k. k < length x.spills.items) x.labels.now
 stored_inside first f levels x tile i d below =
     let at : i < length f.table.indexes = omega (arith, below, ap length tile.labels) in
-    omega (arith, tile.lawful.table.inside i d at, ap (λ (z : List ℕ). get_or z i d) tile.labels, tile.spills.size)
+    omega (
+      arith,
+      tile.lawful.table.inside i d at,
+      ap (λ (z : List ℕ). get_or z i d) tile.labels,
+      tile.spills.size,
+    )
 
 -- The raised height of a place, by the levels of labels by place.
 abbrev placed_among : Cutting → List Flood → List (Option ℤ) → Place → Option ℤ
-placed_among c floods levels p = raised_by c levels (level_among c floods p) (label_among c floods p)
+placed_among c floods levels p =
+    raised_by c levels (level_among c floods p) (label_among c floods p)
 
 -- The raised height of a place, by its index in its tile.
-pub raised_here : (c : Cutting) (floods : List Flood) (tile k : ℕ) (f : Flood) (levels : List (Option ℤ)) (p : Place) → IsCutting c → Fit c floods → slice_get floods tile ≡ Some f → IsInTile c tile p
-    → k ≡ index_in (bounds_of c tile) p → raised_by c levels (get_or f.levels k None) (get_or f.labels k None) ≡ placed_among c floods levels p
+pub raised_here : (c : Cutting) (floods : List Flood)
+    (tile k : ℕ) (f : Flood) (levels : List (Option ℤ)) (p : Place) → IsCutting c → Fit c floods →
+    slice_get floods tile ≡ Some f → IsInTile c tile p
+    → k ≡ index_in (bounds_of c tile) p → raised_by c levels (get_or f.levels k None)
+    (get_or f.labels k None) ≡ placed_among c floods levels p
 raised_here c floods tile k f levels p h fit there i at =
     let bounds = fit.bounds tile f there in
-    let held : IsInBounds f.bounds p = subst (λ x. IsInBounds x p) (sym bounds) (in_bounds c tile p h i) in
+    let held : IsInBounds f.bounds p =
+    subst (λ x. IsInBounds x p) (sym bounds) (in_bounds c tile p h i) in
     let index : index_in f.bounds p ≡ k = ap (λ (x : Bounds). index_in x p) bounds ∙ sym at in
-    let level : level_in f p ≡ get_or f.levels k None = entry_in-inside f.bounds f.levels p held ∙ ap (λ n. get_or f.levels n None) index in
-    let label : label_in f p ≡ get_or f.labels k None = entry_in-inside f.bounds f.labels p held ∙ ap (λ n. get_or f.labels n None) index in
+    let level : level_in f p ≡ get_or f.levels k None = entry_in-inside f.bounds f.levels p held
+    ∙ ap (λ n. get_or f.levels n None) index in
+    let label : label_in f p ≡ get_or f.labels k None = entry_in-inside f.bounds f.labels p held
+    ∙ ap (λ n. get_or f.labels n None) index in
     let own : slice_get floods (tile_of_place c p) ≡ Some f = ap (slice_get floods) i.1 ∙ there in
     let own_level = among_is (λ g. level_in g p) floods (tile_of_place c p) f own ∙ level in
     let own_label = among_is (λ g. label_in g p) floods (tile_of_place c p) f own ∙ label in
-    sym (ap (λ z. raised_by c levels z (get_or f.labels k None)) own_level) ∙ sym (ap (raised_by c levels (level_among c floods p)) own_label)
+    sym (ap (λ z. raised_by c levels z (get_or f.labels k None)) own_level)
+    ∙ sym (ap (raised_by c levels (level_among c floods p)) own_label)
 
 -- The raised height of a place, by its index and the levels of labels by number.
-number_here : (c : Cutting) (floods : List Flood) (tile k : ℕ) (f : Flood) (levels : List (Option ℤ)) (p : Place) → IsCutting c → Fit c floods → slice_get floods tile ≡ Some f → IsInTile c tile p
-    → k ≡ index_in (bounds_of c tile) p → greater_of (get_or f.levels k None) (spill_with levels (mark_with (first_of floods tile) f k)) ≡ raised_among c floods levels p
+number_here : (c : Cutting) (floods : List Flood) (tile k : ℕ)
+    (f : Flood) (levels : List (Option ℤ)) (p : Place) → IsCutting c → Fit c floods →
+    slice_get floods tile ≡ Some f → IsInTile c tile p
+    → k ≡ index_in (bounds_of c tile) p → greater_of (get_or f.levels k None)
+    (spill_with levels (mark_with (first_of floods tile) f k)) ≡ raised_among c floods levels p
 number_here c floods tile k f levels p h fit there i at =
     let bounds = fit.bounds tile f there in
     let inside = in_bounds c tile p h i in
     let held : IsInBounds f.bounds p = subst (λ x. IsInBounds x p) (sym bounds) inside in
     let index : index_in f.bounds p ≡ k = ap (λ (x : Bounds). index_in x p) bounds ∙ sym at in
     let own : slice_get floods (tile_of_place c p) ≡ Some f = ap (slice_get floods) i.1 ∙ there in
-    let below : tile < tile_count c = omega (arith, fit.count, slice_get_within floods tile f there) in
-    let level = among_is (λ g. level_in g p) floods (tile_of_place c p) f own ∙ entry_in-inside f.bounds f.levels p held ∙ ap (λ n. get_or f.levels n None) index in
+    let below : tile < tile_count c =
+    omega (arith, fit.count, slice_get_within floods tile f there) in
+    let level = among_is (λ g. level_in g p) floods (tile_of_place c p) f own
+    ∙ entry_in-inside f.bounds f.levels p held ∙ ap (λ n. get_or f.levels n None) index in
     let mark = entry_mark c floods tile f p k h below there bounds inside at in
-    sym (ap (λ z. greater_of z (spill_with levels (mark_with (first_of floods tile) f k))) level) ∙ sym (ap (λ z. greater_of (level_among c floods p) (spill_with levels z)) mark)
+    sym (ap (λ z. greater_of z (spill_with levels (mark_with (first_of floods tile) f k))) level)
+    ∙ sym (ap (λ z. greater_of (level_among c floods p) (spill_with levels z)) mark)
 
-pub raised_tile : (c : Cutting) (floods : List Flood) (tile : ℕ) (f : Flood) (levels raised : List (Option ℤ)) → IsCutting c → Fit c floods → slice_get floods tile ≡ Some f → IsRaised c f levels raised →
-    (length raised ≡ cell_count c tile) × ((p : Place) → IsInTile c tile p → tile_entry c tile raised p ≡ placed_among c floods levels p)
+pub raised_tile :
+    (c : Cutting) (floods : List Flood) (tile : ℕ) (f : Flood) (levels raised : List (Option ℤ)) →
+    IsCutting c → Fit c floods → slice_get floods tile ≡ Some f → IsRaised c f levels raised →
+    (length raised ≡ cell_count c tile) × ((p : Place) → IsInTile c tile p →
+    tile_entry c tile raised p ≡ placed_among c floods levels p)
 raised_tile c floods tile f levels raised h fit there is =
-    let area : length f.levels ≡ cell_count c tile = fit.levels tile f there ∙ ap (λ (x : Bounds). x.rows * x.cols) (fit.bounds tile f there) in (
+    let area : length f.levels ≡ cell_count c tile = fit.levels tile f there
+    ∙ ap (λ (x : Bounds). x.rows * x.cols) (fit.bounds tile f there) in (
       is.size ∙ area,
       λ p i.
           let b = bounds_of c tile in
           let k = index_in b p in
-          let low : k < length f.levels = omega (arith, index_in_below b p (in_bounds c tile p h i), area) in
-          tile_entry-in c tile raised p i ∙ is.each k low ∙ raised_here c floods tile k f levels p h fit there i refl,
+          let low : k < length f.levels =
+          omega (arith, index_in_below b p (in_bounds c tile p h i), area) in
+          tile_entry-in c tile raised p i ∙ is.each k low
+          ∙ raised_here c floods tile k f levels p h fit there i refl,
     )
 
 -- The raised cells of a tile, by the levels of labels by number.
@@ -216,18 +276,24 @@ raised_cells c floods tile f levels cells h fit there are =
     tile_entry-in c tile cells p i ∙ are.each k low
     ∙ ap cell_of (number_here c floods tile k f levels p h fit there i refl))
 
-label_inside : (t : Terrain) (c : Cutting) (floods : List Flood) (p label : Place) → AreFloods t c floods → label_among c floods p ≡ Some label → IsWithin c label
+label_inside : (t : Terrain) (c : Cutting) (floods : List Flood) (p label : Place) →
+    AreFloods t c floods → label_among c floods p ≡ Some label → IsWithin c label
 label_inside t c floods p label are e = elim (cases_option (slice_get floods (tile_of_place c p))) [
-  | inl none ↦ none_some (label_among c floods p) label (ap (option_and_then (λ (g : Flood). label_in g p)) none) e
+  | inl none ↦ none_some (label_among c floods p) label
+      (ap (option_and_then (λ (g : Flood). label_in g p)) none) e
   | inr f ↦
-      let entry = label_entry f.0 p label (sym (among_is (λ g. label_in g p) floods (tile_of_place c p) f.0 f.1) ∙ e) in
+      let entry = label_entry f.0 p label
+      (sym (among_is (λ g. label_in g p) floods (tile_of_place c p) f.0 f.1) ∙ e) in
       labels_within t c floods (tile_of_place c p) f.0 are f.1 entry.0 label entry.1
 ]
 
 -- The spill graph by places is a net of labels, as raising needs.
-place_net : (t : Terrain) (c : Cutting) (floods : List Flood) (g : Graph) → AreFloods t c floods → IsGraphOf t c floods g → IsLabelNet t c floods (λ p. option_map (index_of c.cols) (label_among c floods p)) (HasJoin g) (source_in g)
+place_net : (t : Terrain) (c : Cutting) (floods : List Flood) (g : Graph) →
+    AreFloods t c floods → IsGraphOf t c floods g → IsLabelNet t c floods (λ p.
+    option_map (index_of c.cols) (label_among c floods p)) (HasJoin g) (source_in g)
 place_net t c floods g are graph = record {
-  some = λ p has. let l = has_tile_level t c floods are.lawful are p has in (index_of c.cols l.label, ap (option_map (index_of c.cols)) l.label_is);
+  some = λ p has. let l = has_tile_level t c floods are.lawful are p has in
+      (index_of c.cols l.label, ap (option_map (index_of c.cols)) l.label_is);
   one = λ p q a p_is q_is.
       let x = label_of p a p_is in
       let y = label_of q a q_is in
@@ -257,7 +323,8 @@ place_net t c floods g are graph = record {
         from_level = pass.from_level;
         to_level = pass.to_level;
         neighbours = pass.neighbours;
-        from_number = ap (option_map (index_of c.cols)) pass.from_label.1 ∙ ap Some pass.from_label.2;
+        from_number = ap (option_map (index_of c.cols)) pass.from_label.1
+            ∙ ap Some pass.from_label.2;
         to_number = ap (option_map (index_of c.cols)) pass.to_label.1 ∙ ap Some pass.to_label.2;
         from_is = pass.from_is;
         to_is = pass.to_is;
@@ -275,24 +342,32 @@ place_net t c floods g are graph = record {
       let same = index_injective c.cols end.0 x.0 within.1 x.3.1 (end.1 ∙ sym x.2) in
       (end.0, x.1 ∙ ap Some (sym same), end.3, end.4);
 } where
-  from_option : (o : Option Place) (a : ℕ) → option_map (index_of c.cols) o ≡ Some a → (label : Place) × (o ≡ Some label) × (index_of c.cols label ≡ a)
+  from_option : (o : Option Place) (a : ℕ) → option_map (index_of c.cols) o ≡ Some a →
+      (label : Place) × (o ≡ Some label) × (index_of c.cols label ≡ a)
   from_option None a e = absurd (cc)
   from_option (Some label) a e = (label, refl, same_Some _ a e)
 
-  label_of : (p : Place) (a : ℕ) → option_map (index_of c.cols) (label_among c floods p) ≡ Some a → (label : Place) × (label_among c floods p ≡ Some label) × (index_of c.cols label ≡ a) × IsWithin c label
+  label_of : (p : Place) (a : ℕ) → option_map (index_of c.cols) (label_among c floods p) ≡ Some a →
+      (label : Place) × (label_among c floods p ≡ Some label) × (index_of c.cols label ≡ a)
+      × IsWithin c label
   label_of p a e =
       let x = from_option (label_among c floods p) a e in
       (x.0, x.1, x.2, label_inside t c floods p x.0 are x.1)
 
 -- A cell is raised to its filled height, by the levels of a net of labels.
-raised_filled : (t : Terrain) (c : Cutting) (floods : List Flood) (p : Place) → AreFloods t c floods → IsWithin c p → (spill : Option ℤ)
-    → ((l : HasTileLevel t c floods p) → IsDataCell t p → (n : ℤ) × (spill ≡ Some n) × IsFilledHeight t p (int_max l.level n))
-    → MatchOption (height_at t p) (greater_of (level_among c floods p) spill ≡ None) (λ _. (level : ℤ) × (greater_of (level_among c floods p) spill ≡ Some level) × IsFilledHeight t p level)
+raised_filled : (t : Terrain) (c : Cutting) (floods : List Flood) (p : Place) →
+    AreFloods t c floods → IsWithin c p → (spill : Option ℤ)
+    → ((l : HasTileLevel t c floods p) → IsDataCell t p → (n : ℤ) × (spill ≡ Some n)
+    × IsFilledHeight t p (int_max l.level n))
+    → MatchOption (height_at t p) (greater_of (level_among c floods p) spill ≡ None) (λ _. (level :
+    ℤ) × (greater_of (level_among c floods p) spill ≡ Some level) × IsFilledHeight t p level)
 raised_filled t c floods p are within spill has =
     let tile = tile_of_place c p in
-    let f = list_there floods tile (omega (arith, are.count, tile_of_place_below c p are.lawful within)) in
+    let f =
+    list_there floods tile (omega (arith, are.count, tile_of_place_below c p are.lawful within)) in
     match_of (height_at t p) _ _
-    (λ none. no_level (among_is (λ g. level_in g p) floods tile f.0 f.1 ∙ (MatchOption-at_none _ _ none ((are.each tile f.0 f.1).each p (within, refl))).0))
+    (λ none. no_level (among_is (λ g. level_in g p) floods tile f.0 f.1
+    ∙ (MatchOption-at_none _ _ none ((are.each tile f.0 f.1).each p (within, refl))).0))
     (λ h some.
     let l = has_tile_level t c floods are.lawful are p (ap is_some some) in
     let filled = has l (ap is_some some) in
@@ -300,84 +375,129 @@ raised_filled t c floods p are within spill has =
       no_level : level_among c floods p ≡ None → greater_of (level_among c floods p) spill ≡ None
       no_level none = rw none refl
 
-      both : (x n : ℤ) → level_among c floods p ≡ Some x → spill ≡ Some n → greater_of (level_among c floods p) spill ≡ Some (int_max x n)
+      both : (x n : ℤ) → level_among c floods p ≡ Some x → spill ≡ Some n →
+          greater_of (level_among c floods p) spill ≡ Some (int_max x n)
       both x n a b = rw (a, b) refl
 
-pub filled_tile : (t : Terrain) (c : Cutting) (floods : List Flood) (tile : ℕ) (f : Flood) (levels raised : List (Option ℤ)) → AreFloods t c floods → slice_get floods tile ≡ Some f → AreSpillLevels t c floods levels → IsRaised c f levels raised → IsFilledTile t c tile raised
+pub filled_tile : (t : Terrain) (c : Cutting) (floods : List Flood) (tile : ℕ) (f : Flood)
+    (levels raised : List (Option ℤ)) → AreFloods t c floods → slice_get floods tile ≡ Some f →
+    AreSpillLevels t c floods levels → IsRaised c f levels raised → IsFilledTile t c tile raised
 filled_tile t c floods tile f levels raised are there spill is =
-    let made = raised_tile c floods tile f levels raised are.lawful (fit_of t c floods are) there is in
+    let made =
+    raised_tile c floods tile f levels raised are.lawful (fit_of t c floods are) there is in
     let g = spill.0 in
     record {
       size = made.0;
       each = λ p i.
-          subst (λ (o : Option ℤ). MatchOption (height_at t p) (o ≡ None) (λ _. (level : ℤ) × (o ≡ Some level) × IsFilledHeight t p level)) (sym (made.1 p i))
-          (raised_filled t c floods p are i.0 (spill_of c levels (label_among c floods p)) (λ l data_is.
+          subst (λ (o : Option ℤ). MatchOption (height_at t p) (o ≡ None) (λ _. (level : ℤ)
+          × (o ≡ Some level) × IsFilledHeight t p level)) (sym (made.1 p i))
+          (raised_filled t c floods p are i.0 (spill_of c levels (label_among c floods p))
+          (λ l data_is.
           let within = label_inside t c floods p l.label are l.label_is in
-          let below : index_of c.cols l.label < g.nodes = omega (arith, spill.1.count, index_below c.cols c.rows l.label within.0 within.1) in
-          let filled = rims t c floods are.lawful are (λ q. option_map (index_of c.cols) (label_among c floods q)) (HasJoin g) (source_in g) (place_net t c floods g are spill.1)
-          g.nodes levels spill.2.0 spill.2.1 p (index_of c.cols l.label) l data_is (ap (option_map (index_of c.cols)) l.label_is) below in
+          let below : index_of c.cols l.label < g.nodes =
+          omega (arith, spill.1.count, index_below c.cols c.rows l.label within.0 within.1) in
+          let filled = rims t c floods are.lawful are (λ q. option_map (index_of c.cols)
+          (label_among c floods q)) (HasJoin g) (source_in g) (place_net t c floods g are spill.1)
+          g.nodes levels spill.2.0 spill.2.1 p (index_of c.cols l.label) l data_is
+          (ap (option_map (index_of c.cols)) l.label_is) below in
           (filled.0, ap (spill_of c levels) l.label_is ∙ filled.1, filled.2)));
     }
 
 -- A filled height is a height of the grid, so a cell can store it.
-fits_in_cell : (t : Terrain) (p : Place) (level : ℤ) → IsTerrain t → IsFilledHeight t p level → cell_of (Some level) ≡ Some level
-fits_in_cell t p level lawful filled = stored_some level (All-contains (λ c. IfSome c IsHeight) t.cells (Some level) lawful.heights (filled_height_occurs t p level filled)).1
+fits_in_cell : (t : Terrain) (p : Place) (level : ℤ) → IsTerrain t → IsFilledHeight t p level →
+    cell_of (Some level) ≡ Some level
+fits_in_cell t p level lawful filled = stored_some level (All-contains (λ c. IfSome c IsHeight)
+    t.cells (Some level) lawful.heights (filled_height_occurs t p level filled)).1
 
 -- A cell is raised to its filled height, by the levels of labels by number.
-filled_cell : (t : Terrain) (c : Cutting) (floods : List Flood) (arcs : List (List Spill)) (sources levels : List (Option ℤ)) → IsTerrain t → AreFloods t c floods → AreLawful floods → IsNumberGraph t c floods arcs sources → AreNumberLevels arcs sources levels → (p : Place) → IsWithin c p →
-    (entry : Option ℤ) → entry ≡ cell_of (raised_among c floods levels p) → MatchOption (height_at t p) (entry ≡ None) (λ _. (level : ℤ) × (entry ≡ Some level) × IsFilledHeight t p level)
+filled_cell : (t : Terrain) (c : Cutting) (floods : List Flood) (arcs : List (List Spill))
+    (sources levels : List (Option ℤ)) → IsTerrain t → AreFloods t c floods → AreLawful floods →
+    IsNumberGraph t c floods arcs sources → AreNumberLevels arcs sources levels → (p : Place) →
+    IsWithin c p →
+    (entry : Option ℤ) → entry ≡ cell_of (raised_among c floods levels p) → MatchOption (height_at t
+    p) (entry ≡ None) (λ _. (level : ℤ) × (entry ≡ Some level) × IsFilledHeight t p level)
 filled_cell t c floods arcs sources levels heights are lawful graph spill p within entry e =
-    let raised = raised_filled t c floods p are within (spill_with levels (mark_among c floods p)) (λ l data_is.
-    let f = list_there floods (tile_of_place c p) (omega (arith, are.count, tile_of_place_below c p are.lawful within)) in
+    let raised =
+    raised_filled t c floods p are within (spill_with levels (mark_among c floods p)) (λ l data_is.
+    let f = list_there floods (tile_of_place c p)
+    (omega (arith, are.count, tile_of_place_below c p are.lawful within)) in
     let m = has_mark c floods p l.level l.label f.0 f.1 l.level_is l.label_is in
     let below = number_below c floods p _ lawful m.1 in
-    let filled = rims t c floods are.lawful are (number_among c floods) (HasArc arcs) (source_number sources) (number_net t c floods are lawful arcs sources graph)
-    (length arcs) levels spill.0 spill.1 p m.0 l data_is (ap (option_map (λ (x : CellLabel). x.node)) m.1) (omega (arith, below, graph.count)) in
+    let filled = rims t c floods are.lawful are (number_among c floods) (HasArc arcs)
+    (source_number sources) (number_net t c floods are lawful arcs sources graph)
+    (length arcs) levels spill.0 spill.1 p m.0 l data_is
+    (ap (option_map (λ (x : CellLabel). x.node)) m.1) (omega (arith, below, graph.count)) in
     (filled.0, ap (spill_with levels) m.1 ∙ filled.1, filled.2)) in
     match_of (height_at t p) _ _
     (λ none. e ∙ ap cell_of (MatchOption-at_none _ _ none raised))
-    (λ h some. let filled = MatchOption-at_some _ _ h some raised in (filled.0, e ∙ ap cell_of filled.1 ∙ fits_in_cell t p filled.0 heights filled.2, filled.2))
+    (λ h some. let filled = MatchOption-at_some _ _ h some raised in
+    (filled.0, e ∙ ap cell_of filled.1 ∙ fits_in_cell t p filled.0 heights filled.2, filled.2))
 
 -- The whole grid is raised to its filled heights.
-pub filled_map : (t : Terrain) (c : Cutting) (floods : List Flood) (arcs : List (List Spill)) (sources levels whole : List (Option ℤ)) → IsTerrain t → AreFloods t c floods → AreLawful floods → IsNumberGraph t c floods arcs sources → AreNumberLevels arcs sources levels →
+pub filled_map : (t : Terrain) (c : Cutting) (floods : List Flood) (arcs : List (List Spill))
+    (sources levels whole : List (Option ℤ)) → IsTerrain t → AreFloods t c floods →
+    AreLawful floods → IsNumberGraph t c floods arcs sources → AreNumberLevels arcs sources levels →
     IsMadeMap c (λ p cell. cell ≡ cell_of (raised_among c floods levels p)) whole → IsFilled t whole
 filled_map t c floods arcs sources levels whole heights are lawful graph spill made =
-    let all = map_of_size c t.cols t.rows (λ p cell. cell ≡ cell_of (raised_among c floods levels p)) whole are.cuts.0 are.cuts.1 made in
+    let all = map_of_size c t.cols t.rows (λ p cell.
+    cell ≡ cell_of (raised_among c floods levels p)) whole are.cuts.0 are.cuts.1 made in
     record {
       size = all.0;
-      each = λ p inside. filled_cell t c floods arcs sources levels heights are lawful graph spill p (omega (arith, inside, are.cuts), omega (arith, inside, are.cuts)) (entry_at t.cols t.rows whole p) (all.1 p inside);
+      each = λ p inside. filled_cell t c floods arcs sources levels heights are lawful graph spill p
+          (omega (arith, inside, are.cuts), omega (arith, inside, are.cuts))
+          (entry_at t.cols t.rows whole p) (all.1 p inside);
     }
 
-pub flood_of_view : (t : Terrain) (c : Cutting) (job : ℕ) (v : View (Option ℤ)) (cells : List (Option ℤ)) (sinks : List Place) (f : Flood) → Cuts c t → v ≡ record { cutting = c; tile = job; cells = cells } → cells ≡ t.cells → sinks ≡ t.sinks → IsTileFlood (with_sinks (terrain_of v) sinks) v.cutting v.tile f → IsTileFlood t c job f
+pub flood_of_view : (t : Terrain) (c : Cutting) (job : ℕ) (v : View (Option ℤ))
+    (cells : List (Option ℤ)) (sinks : List Place) (f : Flood) → Cuts c t →
+    v ≡ record { cutting = c; tile = job; cells = cells } → cells ≡ t.cells → sinks ≡ t.sinks →
+    IsTileFlood (with_sinks (terrain_of v) sinks) v.cutting v.tile f → IsTileFlood t c job f
 flood_of_view t c job v cells sinks f cuts view same named flood =
     subst (λ (x : Terrain). IsTileFlood x c job f)
     (ap (λ n. record { cols = n; rows = c.rows; cells = cells; sinks = sinks }) cuts.0
     ∙ ap (λ n. record { cols = t.cols; rows = n; cells = cells; sinks = sinks }) cuts.1
     ∙ ap (λ z. record { cols = t.cols; rows = t.rows; cells = z; sinks = sinks }) same
     ∙ ap (λ z. record { cols = t.cols; rows = t.rows; cells = t.cells; sinks = z }) named)
-    (subst (λ (x : View (Option ℤ)). IsTileFlood (with_sinks (terrain_of x) sinks) x.cutting x.tile f) view flood)
+    (subst (λ (x : View (Option ℤ)).
+    IsTileFlood (with_sinks (terrain_of x) sinks) x.cutting x.tile f) view flood)
 
-pub filled_stand : (t : Terrain) (levels : List (Option ℤ)) → IsFilled t levels → All (λ c. IfSome c (λ h. Contains t.cells (Some h))) levels
-filled_stand t levels filled = All-from_get_or (λ c. IfSome c (λ h. Contains t.cells (Some h))) levels None (λ i below. each i below (cases_option (get_or levels i None))) where
-  positive : (a b k : ℕ) → k < a * b → 0 < a
-  positive zero b k h = absurd (omega (arith, h))
-  positive (suc a) b k h = omega arith
+pub filled_stand : (t : Terrain) (levels : List (Option ℤ)) → IsFilled t levels →
+    All (λ c. IfSome c (λ h. Contains t.cells (Some h))) levels
+filled_stand t levels filled = All-from_get_or (λ c. IfSome c (λ h. Contains t.cells (Some h)))
+    levels None (λ i below. each i below (cases_option (get_or levels i None))) where
+      positive : (a b k : ℕ) → k < a * b → 0 < a
+      positive zero b k h = absurd (omega (arith, h))
+      positive (suc a) b k h = omega arith
 
-  each : (i : ℕ) → i < length levels → (get_or levels i None ≡ None) ⊎ ((h : ℤ) × (get_or levels i None ≡ Some h)) → IfSome (get_or levels i None) (λ h. Contains t.cells (Some h))
-  each i below (inl none) = subst (λ (c : Option ℤ). IfSome c (λ h. Contains t.cells (Some h))) (sym none) tt
-  each i below (inr found) =
-      let count : i < t.cols * t.rows = omega (arith, below, filled.size) in
-      let some_cols : 0 < t.cols = positive t.cols t.rows i count in
-      let p : Place = record { row = i / t.cols; col = i % t.cols } in
-      let inside : IsInside t p = (div_below i t.cols t.rows some_cols (omega (arith, count, mul_comm t.cols t.rows)), mod_below i t.cols some_cols) in
-      let entry : entry_at t.cols t.rows levels p ≡ Some found.0 = entry-inside t.cols t.rows levels p inside.0 inside.1 ∙ ap (λ n. get_or levels n None) (div-add-mod' i t.cols) ∙ found.1 in
-      subst (λ (c : Option ℤ). IfSome c (λ h. Contains t.cells (Some h))) (sym found.1) (elim (cases_option (height_at t p)) [
-        | inl none ↦ none_some (entry_at t.cols t.rows levels p) found.0 (MatchOption-at_none _ _ none (filled.each p inside)) entry
-        | inr height ↦
-            let level = MatchOption-at_some _ _ height.0 height.1 (filled.each p inside) in
-            let same = same_Some level.0 found.0 (sym level.1 ∙ entry) in
-            subst (λ z. Contains t.cells (Some z)) same (filled_height_occurs t p level.0 level.2)
-      ])
+      each : (i : ℕ) → i < length levels →
+          (get_or levels i None ≡ None) ⊎ ((h : ℤ) × (get_or levels i None ≡ Some h)) →
+          IfSome (get_or levels i None) (λ h. Contains t.cells (Some h))
+      each i below (inl none) =
+          subst (λ (c : Option ℤ). IfSome c (λ h. Contains t.cells (Some h))) (sym none) tt
+      each i below (inr found) =
+          let count : i < t.cols * t.rows = omega (arith, below, filled.size) in
+          let some_cols : 0 < t.cols = positive t.cols t.rows i count in
+          let p : Place = record { row = i / t.cols; col = i % t.cols } in
+          let inside : IsInside t p = (
+            div_below i t.cols t.rows some_cols (omega (arith, count, mul_comm t.cols t.rows)),
+            mod_below i t.cols some_cols,
+          ) in
+          let entry : entry_at t.cols t.rows levels p ≡ Some found.0 =
+          entry-inside t.cols t.rows levels p inside.0 inside.1
+          ∙ ap (λ n. get_or levels n None) (div-add-mod' i t.cols) ∙ found.1 in
+          subst (λ (c : Option ℤ). IfSome c (λ h. Contains t.cells (Some h))) (sym found.1)
+          (elim (cases_option (height_at t p)) [
+            | inl none ↦ none_some (entry_at t.cols t.rows levels p) found.0
+                (MatchOption-at_none _ _ none (filled.each p inside)) entry
+            | inr height ↦
+                let level = MatchOption-at_some _ _ height.0 height.1 (filled.each p inside) in
+                let same = same_Some level.0 found.0 (sym level.1 ∙ entry) in
+                subst (λ z. Contains t.cells (Some z)) same
+                (filled_height_occurs t p level.0 level.2)
+          ])
 
-pub filled_grid : (g f : Raster) (cells : List (Option ℤ)) → f ≡ record g { terrain = record g.terrain { cells = cells } } → IsFilled g.terrain cells → IsOwnFilled f × IsFilledGrid g f
-filled_grid g f cells is filled = subst (λ (x : Raster). IsOwnFilled x × IsFilledGrid g x) (sym is) (filled_twice g.terrain cells filled, record { filled = filled; rest = refl })
+pub filled_grid : (g f : Raster) (cells : List (Option ℤ)) →
+    f ≡ record g { terrain = record g.terrain { cells = cells } } → IsFilled g.terrain cells →
+    IsOwnFilled f × IsFilledGrid g f
+filled_grid g f cells is filled = subst (λ (x : Raster). IsOwnFilled x × IsFilledGrid g x) (sym is)
+    (filled_twice g.terrain cells filled, record { filled = filled; rest = refl })

@@ -16,37 +16,45 @@ use Rattle.std.proofs.lemmas.Option.{same_Some}
 -- Some walk from the entry's node has its height as crest and ends at its label.
 abbrev pub HasWalk : Joins → Sources → Candidate → Type 0
 HasWalk joins source w =
-    (walk : List Spill) × IsWalk joins source w.node walk × (crest source w.node walk ≡ w.height.0) × (end_of w.node walk ≡ w.label)
+    (walk : List Spill) × IsWalk joins source w.node walk × (crest source w.node walk ≡ w.height.0)
+    × (end_of w.node walk ≡ w.label)
 
 -- The invariant of a flood: nodes with labels have their final levels. Of the others, each source
 -- and each neighbour of a node with a label has an entry low enough.
-pub record IsFlooding (joins : Joins) (source : Sources) (nodes : ℕ) (levels : List (Option ℤ)) (labels : List (Option ℕ)) (waiting : List Candidate) : Type 0 where
+pub record IsFlooding (joins : Joins) (source : Sources) (nodes : ℕ) (levels : List (Option ℤ))
+    (labels : List (Option ℕ)) (waiting : List Candidate) : Type 0 where
   pub levels_size : length levels ≡ nodes
   pub labels_size : length labels ≡ nodes
-  pub settled : (a b : ℕ) → entry_of labels a ≡ Some b → (l : ℤ) × (entry_of levels a ≡ Some l) × IsLevel joins source a l b
+  pub settled : (a b : ℕ) → entry_of labels a ≡ Some b → (l : ℤ) × (entry_of levels a ≡ Some l)
+      × IsLevel joins source a l b
   pub queue : All (λ w. (w.node < nodes) × HasWalk joins source w) waiting
-  pub sources : (a : ℕ) (h : ℤ) → a < nodes → source a ≡ Some h → entry_of labels a ≡ None → HasCandidate waiting a h
-  pub frontier : (a b : ℕ) (l h : ℤ) → a < nodes → joins a b h → IsSome (entry_of labels b) → entry_of levels b ≡ Some l → entry_of labels a ≡ None → HasCandidate waiting a (int_max h l)
+  pub sources : (a : ℕ) (h : ℤ) → a < nodes → source a ≡ Some h → entry_of labels a ≡ None →
+      HasCandidate waiting a h
+  pub frontier : (a b : ℕ) (l h : ℤ) → a < nodes → joins a b h → IsSome (entry_of labels b) →
+      entry_of levels b ≡ Some l → entry_of labels a ≡ None → HasCandidate waiting a (int_max h l)
 
 -- Only entries with labels left the queue.
 pub record OnlyDoneLeft (labels : List (Option ℕ)) (old new : List Candidate) : Type 0 where
   pub left : All (Contains old) new
   pub kept : All (λ x. IsDone labels x ⊎ Contains new x) old
 
-pub all_by_contains : {X : Type 0} (P : X → Type 0) (xs : List X) → ((x : X) → Contains xs x → P x) → All P xs
+pub all_by_contains : {X : Type 0} (P : X → Type 0) (xs : List X) →
+    ((x : X) → Contains xs x → P x) → All P xs
 all_by_contains P xs h k d below = h (get_or xs k d) (All-contains_itself xs k d below)
 
 pub cons_head : {X : Type 0} (x : X) (xs : List X) → Contains (x ∷ xs) x
 cons_head x xs = (0, omega arith, refl)
 
-pub cons_cases : {X : Type 0} (x : X) (xs : List X) (y : X) → Contains (x ∷ xs) y → (y ≡ x) ⊎ Contains xs y
+pub cons_cases : {X : Type 0} (x : X) (xs : List X) (y : X) → Contains (x ∷ xs) y →
+    (y ≡ x) ⊎ Contains xs y
 cons_cases x xs y h = go h.0 h.1 h.2 where
   go : (k : ℕ) → k < length (x ∷ xs) → get_or (x ∷ xs) k y ≡ y → (y ≡ x) ⊎ Contains xs y
   go zero below e = inl (sym e)
   go (suc k) below e = inr (k, omega arith, e)
 
 pub one_held : {X : Type 0} (x y : X) → Contains (x ∷ []) y → y ≡ x
-one_held x y h = elim (cons_cases x [] y h) [ inl same ↦ same | inr none ↦ absurd (omega (arith, none.1)) ]
+one_held x y h =
+    elim (cons_cases x [] y h) [ inl same ↦ same | inr none ↦ absurd (omega (arith, none.1)) ]
 
 pub cons_tail : {X : Type 0} (x : X) (xs : List X) (y : X) → Contains xs y → Contains (x ∷ xs) y
 cons_tail x xs y h = (suc h.0, omega (arith, h.1), h.2)
@@ -57,11 +65,14 @@ replicated x (suc n) zero = refl
 replicated x (suc n) (suc k) = replicated x n k
 
 -- After entry x is added, the entries are x and the old ones.
-pub held_in : {x : Candidate} {old new : List Candidate} → PutsIn x old new → (y : Candidate) → Contains (x ∷ old) y → Contains new y
+pub held_in : {x : Candidate} {old new : List Candidate} → PutsIn x old new → (y : Candidate) →
+    Contains (x ∷ old) y → Contains new y
 held_in {x} {old} {new} perm y h = Contains-permutation (x ∷ old) new y perm h
 
-pub held_cases : {x : Candidate} {old new : List Candidate} → PutsIn x old new → (y : Candidate) → Contains new y → (y ≡ x) ⊎ Contains old y
-held_cases {x} {old} {new} perm y h = cons_cases x old y (Contains-permutation new (x ∷ old) y (IsPermutation-sym _ _ perm) h)
+pub held_cases : {x : Candidate} {old new : List Candidate} → PutsIn x old new → (y : Candidate) →
+    Contains new y → (y ≡ x) ⊎ Contains old y
+held_cases {x} {old} {new} perm y h =
+    cons_cases x old y (Contains-permutation new (x ∷ old) y (IsPermutation-sym _ _ perm) h)
 
 pub nothing_left : (labels : List (Option ℕ)) (xs : List Candidate) → OnlyDoneLeft labels xs xs
 nothing_left labels xs = record {
@@ -69,9 +80,11 @@ nothing_left labels xs = record {
   kept = λ k d below. inr (All-contains_itself xs k d below);
 }
 
-pub one_left : (labels : List (Option ℕ)) (old now rest : List Candidate) (x : Candidate) → OnlyDoneLeft labels old now → PutsIn x rest now → IsDone labels x → OnlyDoneLeft labels old rest
+pub one_left : (labels : List (Option ℕ)) (old now rest : List Candidate) (x : Candidate) →
+    OnlyDoneLeft labels old now → PutsIn x rest now → IsDone labels x → OnlyDoneLeft labels old rest
 one_left labels old now rest x s perm done = record {
-  left = all_by_contains (Contains old) rest (λ y h. All-contains (Contains old) now y s.left (held_in perm y (cons_tail x rest y h)));
+  left = all_by_contains (Contains old) rest (λ y h.
+      All-contains (Contains old) now y s.left (held_in perm y (cons_tail x rest y h)));
   kept = all_by_contains (λ y. IsDone labels y ⊎ Contains rest y) old (λ y h.
       elim (All-contains (λ z. IsDone labels z ⊎ Contains now z) old y s.kept h) [
         | inl d ↦ inl d
@@ -82,7 +95,9 @@ one_left labels old now rest x s perm done = record {
       ]);
 }
 
-pub first_open : (labels : List (Option ℕ)) (old now rest : List Candidate) (x : Candidate) → OnlyDoneLeft labels old now → PutsIn x rest now → All (λ y. x.height.0 ≤ℤ y.height.0) rest → entry_of labels x.node ≡ None → TakesLowest labels old x rest
+pub first_open : (labels : List (Option ℕ)) (old now rest : List Candidate) (x : Candidate) →
+    OnlyDoneLeft labels old now → PutsIn x rest now → All (λ y. x.height.0 ≤ℤ y.height.0) rest →
+    entry_of labels x.node ≡ None → TakesLowest labels old x rest
 first_open labels old now rest x s perm bound is_open =
     record {
       was_open = is_open;
@@ -95,7 +110,8 @@ first_open labels old now rest x s perm bound is_open =
               | inr still ↦ inr (All-contains (λ z. x.height.0 ≤ℤ z.height.0) rest y bound still)
             ]
           ]);
-      left = all_by_contains (Contains old) rest (λ y h. All-contains (Contains old) now y s.left (held_in perm y (cons_tail x rest y h)));
+      left = all_by_contains (Contains old) rest (λ y h.
+          All-contains (Contains old) now y s.left (held_in perm y (cons_tail x rest y h)));
       kept = all_by_contains (λ y. IsDone labels y ⊎ (y ≡ x) ⊎ Contains rest y) old (λ y h.
           elim (All-contains (λ z. IsDone labels z ⊎ Contains now z) old y s.kept h) [
             | inl d ↦ inl d
@@ -104,26 +120,37 @@ first_open labels old now rest x s perm bound is_open =
     }
 
 -- If only entries with labels left, and none remains, all have labels.
-pub all_done : (labels : List (Option ℕ)) (old now : List Candidate) → OnlyDoneLeft labels old now → HasNone now → All (IsDone labels) old
+pub all_done : (labels : List (Option ℕ)) (old now : List Candidate) → OnlyDoneLeft labels old now →
+    HasNone now → All (IsDone labels) old
 all_done labels old now s none = all_by_contains (IsDone labels) old (λ y h.
-    elim (All-contains (λ z. IsDone labels z ⊎ Contains now z) old y s.kept h) [ inl d ↦ d | inr held ↦ absurd (none y held) ])
+    elim (All-contains (λ z. IsDone labels z ⊎ Contains now z) old y s.kept h) [
+      | inl d ↦
+          d
+      | inr held ↦ absurd (none y held)
+    ])
 
-pub no_sources : (source : Sources) (waiting : List Candidate) → HasNone waiting → AreSourcesQueued 0 source waiting
+pub no_sources : (source : Sources) (waiting : List Candidate) → HasNone waiting →
+    AreSourcesQueued 0 source waiting
 no_sources source waiting none = record {
-  only = all_by_contains (λ w. (w.node < 0) × (source w.node ≡ Some w.height.0) × (w.label ≡ w.node)) waiting (λ w h. absurd (none w h));
+  only = all_by_contains (λ w. (w.node < 0) × (source w.node ≡ Some w.height.0)
+      × (w.label ≡ w.node)) waiting (λ w h. absurd (none w h));
   every = λ a h below e. absurd (omega (arith, below));
 }
 
-pub source_passed : (source : Sources) (n : ℕ) (waiting : List Candidate) → AreSourcesQueued n source waiting → source n ≡ None → AreSourcesQueued (n + 1) source waiting
+pub source_passed : (source : Sources) (n : ℕ) (waiting : List Candidate) →
+    AreSourcesQueued n source waiting → source n ≡ None → AreSourcesQueued (n + 1) source waiting
 source_passed source n waiting s none = record {
   only = λ k d below. let o = s.only k d below in (omega (arith, o.0), o.1, o.2);
   every = λ a h below e. elim (cases_eq a n) [
-    | inl same ↦ let no : source n ≡ Some h = subst (λ (k : ℕ). source k ≡ Some h) same e in absurd (cc)
+    | inl same ↦ let no : source n ≡ Some h = subst (λ (k : ℕ). source k ≡ Some h) same e in
+        absurd (cc)
     | inr other ↦ s.every a h (omega arith) e
   ];
 }
 
-pub sources_passed : (source : Sources) (n m : ℕ) (waiting : List Candidate) → AreSourcesQueued n source waiting → n ≤ m → HasNoSource source n m → AreSourcesQueued m source waiting
+pub sources_passed : (source : Sources) (n m : ℕ) (waiting : List Candidate) →
+    AreSourcesQueued n source waiting → n ≤ m → HasNoSource source n m →
+    AreSourcesQueued m source waiting
 sources_passed source n m waiting s up none = record {
   only = λ k d below. let o = s.only k d below in (omega (arith, o.0, up), o.1, o.2);
   every = λ a h below e. elim (cases_lt a n) [
@@ -133,16 +160,28 @@ sources_passed source n m waiting s up none = record {
 }
 
 -- One more source is queued.
-pub source_more : (source : Sources) (n : ℕ) (h : ℤ) (now new : List Candidate) (w : Candidate) → AreSourcesQueued n source now → source n ≡ Some h → w.node ≡ n → w.label ≡ n → w.height.0 ≡ h → PutsIn w now new → AreSourcesQueued (n + 1) source new
+pub source_more : (source : Sources) (n : ℕ) (h : ℤ) (now new : List Candidate) (w : Candidate) →
+    AreSourcesQueued n source now → source n ≡ Some h → w.node ≡ n → w.label ≡ n → w.height.0 ≡ h →
+    PutsIn w now new → AreSourcesQueued (n + 1) source new
 source_more source n h now new w s is node label height perm = record {
-  only = all_by_contains (λ x. (x.node < n + 1) × (source x.node ≡ Some x.height.0) × (x.label ≡ x.node)) new (λ x held.
+  only = all_by_contains (λ x. (x.node < n + 1) × (source x.node ≡ Some x.height.0)
+      × (x.label ≡ x.node)) new (λ x held.
       elim (held_cases perm x held) [
-        | inl same ↦ subst (λ (x : Candidate). (x.node < n + 1) × (source x.node ≡ Some x.height.0) × (x.label ≡ x.node)) (sym same) (omega arith, ap source node ∙ is ∙ ap Some (sym height), label ∙ sym node)
-        | inr was ↦ let o = All-contains (λ x. (x.node < n) × (source x.node ≡ Some x.height.0) × (x.label ≡ x.node)) now x s.only was in (omega (arith, o.0), o.1, o.2)
+        | inl same ↦ subst (λ (x : Candidate). (x.node < n + 1)
+            × (source x.node ≡ Some x.height.0) × (x.label ≡ x.node)) (sym same)
+            (omega arith, ap source node ∙ is ∙ ap Some (sym height), label ∙ sym node)
+        | inr was ↦ let o = All-contains (λ x. (x.node < n) × (source x.node ≡ Some x.height.0)
+            × (x.label ≡ x.node)) now x s.only was in (omega (arith, o.0), o.1, o.2)
       ]);
   every = λ a k below e. elim (cases_eq a n) [
-    | inl same ↦ (w, held_in perm w (cons_head w now), node ∙ sym same, height ∙ same_Some h k (sym is ∙ subst (λ (j : ℕ). source j ≡ Some k) same e))
-    | inr other ↦ let x = s.every a k (omega arith) e in (x.0, held_in perm x.0 (cons_tail w now x.0 x.1), x.2, x.3)
+    | inl same ↦ (
+      w,
+      held_in perm w (cons_head w now),
+      node ∙ sym same,
+      height ∙ same_Some h k (sym is ∙ subst (λ (j : ℕ). source j ≡ Some k) same e),
+    )
+    | inr other ↦ let x = s.every a k (omega arith) e in
+        (x.0, held_in perm x.0 (cons_tail w now x.0 x.1), x.2, x.3)
   ];
 }
 
@@ -153,16 +192,20 @@ none_noted source nodes = record {
   rest = λ a _. replicated None nodes a;
 }
 
-pub noted_past : (source : Sources) (n : ℕ) (levels : List (Option ℤ)) → HasSourcesNoted n source levels → source n ≡ None → HasSourcesNoted (n + 1) source levels
+pub noted_past : (source : Sources) (n : ℕ) (levels : List (Option ℤ)) →
+    HasSourcesNoted n source levels → source n ≡ None → HasSourcesNoted (n + 1) source levels
 noted_past source n levels s none = record {
   each = λ a below. elim (cases_eq a n) [
-    | inl same ↦ subst (λ (k : ℕ). entry_of levels k ≡ source k) (sym same) (s.rest n (omega arith) ∙ sym none)
+    | inl same ↦ subst (λ (k : ℕ). entry_of levels k ≡ source k) (sym same) (s.rest n (omega arith)
+        ∙ sym none)
     | inr other ↦ s.each a (omega arith)
   ];
   rest = λ a past. s.rest a (omega (arith, past));
 }
 
-pub noted_passed : (source : Sources) (n m : ℕ) (levels : List (Option ℤ)) → HasSourcesNoted n source levels → n ≤ m → HasNoSource source n m → HasSourcesNoted m source levels
+pub noted_passed : (source : Sources) (n m : ℕ) (levels : List (Option ℤ)) →
+    HasSourcesNoted n source levels → n ≤ m → HasNoSource source n m →
+    HasSourcesNoted m source levels
 noted_passed source n m levels s up none = record {
   each = λ a below. elim (cases_lt a n) [
     | inl early ↦ s.each a early
@@ -171,11 +214,15 @@ noted_passed source n m levels s up none = record {
   rest = λ a past. s.rest a (omega (arith, past, up));
 }
 
-pub noted_more : (source : Sources) (n : ℕ) (h : ℤ) (levels : List (Option ℤ)) → n < length levels → HasSourcesNoted n source levels → source n ≡ Some h → HasSourcesNoted (n + 1) source (set levels n (Some h))
+pub noted_more : (source : Sources) (n : ℕ) (h : ℤ) (levels : List (Option ℤ)) →
+    n < length levels → HasSourcesNoted n source levels → source n ≡ Some h →
+    HasSourcesNoted (n + 1) source (set levels n (Some h))
 noted_more source n h levels inside s is = record {
   each = λ a below. elim (cases_eq a n) [
-    | inl same ↦ subst (λ (k : ℕ). entry_of (set levels n (Some h)) k ≡ source k) (sym same) (get_or-set_same levels n (Some h) None inside ∙ sym is)
+    | inl same ↦ subst (λ (k : ℕ). entry_of (set levels n (Some h)) k ≡ source k) (sym same)
+        (get_or-set_same levels n (Some h) None inside ∙ sym is)
     | inr other ↦ get_or-set_other levels n a (Some h) None other ∙ s.each a (omega arith)
   ];
-  rest = λ a past. get_or-set_other levels n a (Some h) None (λ same. omega (arith, same, past)) ∙ s.rest a (omega (arith, past));
+  rest = λ a past. get_or-set_other levels n a (Some h) None (λ same. omega (arith, same, past))
+      ∙ s.rest a (omega (arith, past));
 }

@@ -9,13 +9,16 @@ use Rattle.std.proofs.lemmas.Bool.{cases_Bool, cond-true, cond-false}
 use Rattle.std.proofs.lemmas.Bool.Decides.{Decides-int_eq}
 use Rattle.floods.specs.Notes.{noted, heights_where, height_or_lack, lack}
 
-pub length-where : (marks : List Bool) (heights : List ℤ) → length marks ≡ length heights → length (heights_where marks heights) ≡ length heights
+pub length-where : (marks : List Bool) (heights : List ℤ) → length marks ≡ length heights →
+    length (heights_where marks heights) ≡ length heights
 length-where [] [] e = refl
 length-where [] (h ∷ heights) e = e
 length-where (m ∷ marks) [] e = absurd (omega (arith, e))
 length-where (m ∷ marks) (h ∷ heights) e = ap suc (length-where marks heights (omega (arith, e)))
 
-pub where-at : (marks : List Bool) (heights : List ℤ) (i : ℕ) → length marks ≡ length heights → get_or (heights_where marks heights) i None ≡ noted (get_or marks i false) (get_or heights i lack)
+pub where-at : (marks : List Bool) (heights : List ℤ) (i : ℕ) →
+    length marks ≡ length heights → get_or (heights_where marks heights) i None
+    ≡ noted (get_or marks i false) (get_or heights i lack)
 where-at [] [] i e = refl
 where-at [] (h ∷ heights) i e = absurd (omega (arith, e))
 where-at (m ∷ marks) [] i e = absurd (omega (arith, e))
@@ -37,20 +40,28 @@ pub marked_there : (m : Bool) (h : ℤ) → int_eq h lack ≡ true → is_some (
 marked_there true h lacks some = refl
 marked_there false h lacks some = sym (ap is_some (noted_none false h lacks refl)) ∙ some
 
-pub where-marked : (marks : List Bool) (heights : List ℤ) (i : ℕ) (h : ℤ) → length marks ≡ length heights → heights_where (set marks i true) (set heights i h) ≡ set (heights_where marks heights) i (Some h)
+pub where-marked : (marks : List Bool) (heights : List ℤ) (i : ℕ) (h : ℤ) →
+    length marks ≡ length heights → heights_where (set marks i true) (set heights i h)
+    ≡ set (heights_where marks heights) i (Some h)
 where-marked [] heights i h e = refl
 where-marked (m ∷ marks) [] i h e = absurd (omega (arith, e))
 where-marked (m ∷ marks) (x ∷ heights) zero h e = refl
-where-marked (m ∷ marks) (x ∷ heights) (suc i) h e = ap (λ z. noted m x ∷ z) (where-marked marks heights i h (omega (arith, e)))
+where-marked (m ∷ marks) (x ∷ heights) (suc i) h e =
+    ap (λ z. noted m x ∷ z) (where-marked marks heights i h (omega (arith, e)))
 
-pub where-set : (marks : List Bool) (heights : List ℤ) (i : ℕ) (h : ℤ) → length marks ≡ length heights → int_eq h lack ≡ false → heights_where marks (set heights i h) ≡ set (heights_where marks heights) i (Some h)
+pub where-set : (marks : List Bool) (heights : List ℤ) (i : ℕ) (h : ℤ) →
+    length marks ≡ length heights → int_eq h lack ≡ false →
+    heights_where marks (set heights i h) ≡ set (heights_where marks heights) i (Some h)
 where-set [] [] i h e other = refl
 where-set [] (x ∷ heights) i h e other = absurd (omega (arith, e))
 where-set (m ∷ marks) [] i h e other = absurd (omega (arith, e))
-where-set (m ∷ marks) (x ∷ heights) zero h e other = ap (λ z. z ∷ heights_where marks heights) (noted_other m h other)
-where-set (m ∷ marks) (x ∷ heights) (suc i) h e other = ap (λ z. noted m x ∷ z) (where-set marks heights i h (omega (arith, e)) other)
+where-set (m ∷ marks) (x ∷ heights) zero h e other =
+    ap (λ z. z ∷ heights_where marks heights) (noted_other m h other)
+where-set (m ∷ marks) (x ∷ heights) (suc i) h e other =
+    ap (λ z. noted m x ∷ z) (where-set marks heights i h (omega (arith, e)) other)
 
-pub where-lacking : (n : ℕ) → heights_where (replicate n false) (replicate n lack) ≡ replicate n None
+pub where-lacking : (n : ℕ) →
+    heights_where (replicate n false) (replicate n lack) ≡ replicate n None
 where-lacking zero = refl
 where-lacking (suc n) = ap (λ z. None ∷ z) (where-lacking n)
 
@@ -66,9 +77,16 @@ pub low_is : (a b : ℤ) → a ≤ℤ b → le_z a b ≡ true
 low_is a b h = true_from _ h.le
 
 -- A stored number that is a height at most h is an entry at most h.
-pub no_higher : (marks : List Bool) (heights : List ℤ) (seen : List (Option ℤ)) (i : ℕ) (h : ℤ) → length marks ≡ length heights → heights_where marks heights ≡ seen → noted (get_or marks i false) (get_or heights i lack) ≡ Some (get_or heights i lack) → get_or heights i lack ≤ℤ h
+pub no_higher : (marks : List Bool) (heights : List ℤ) (seen : List (Option ℤ)) (i : ℕ) (h : ℤ) →
+    length marks ≡ length heights → heights_where marks heights ≡ seen →
+    noted (get_or marks i false) (get_or heights i lack) ≡ Some (get_or heights i lack) →
+    get_or heights i lack ≤ℤ h
     → (x : ℤ) × (get_or seen i None ≡ Some x) × (x ≤ℤ h)
-no_higher marks heights seen i h size view is low = (get_or heights i lack, ap (λ (l : List (Option ℤ)). get_or l i None) (sym view) ∙ where-at marks heights i size ∙ is, low)
+no_higher marks heights seen i h size view is low = (
+  get_or heights i lack,
+  ap (λ (l : List (Option ℤ)). get_or l i None) (sym view) ∙ where-at marks heights i size ∙ is,
+  low,
+)
 
 from_noted : (m : Bool) (height x : ℤ) → noted m height ≡ Some x → height ≡ x
 from_noted true height x e = same_Some height x e
@@ -77,10 +95,14 @@ from_noted false height x e = elim (cases_Bool (int_eq height lack)) [
   | inr other ↦ same_Some height x (sym (cond-false _ _ _ other) ∙ e)
 ]
 
-pub no_higher_is : (marks : List Bool) (heights : List ℤ) (seen : List (Option ℤ)) (i : ℕ) (h : ℤ) → length marks ≡ length heights → heights_where marks heights ≡ seen → (x : ℤ) × (get_or seen i None ≡ Some x) × (x ≤ℤ h)
-    → (is_some (noted (get_or marks i false) (get_or heights i lack)) ≡ true) × (get_or heights i lack ≤ℤ h)
+pub no_higher_is : (marks : List Bool) (heights : List ℤ) (seen : List (Option ℤ)) (i : ℕ) (h : ℤ) →
+    length marks ≡ length heights → heights_where marks heights ≡ seen →
+    (x : ℤ) × (get_or seen i None ≡ Some x) × (x ≤ℤ h)
+    → (is_some (noted (get_or marks i false) (get_or heights i lack)) ≡ true)
+    × (get_or heights i lack ≤ℤ h)
 no_higher_is marks heights seen i h size view s =
-    let here = sym (where-at marks heights i size) ∙ ap (λ (l : List (Option ℤ)). get_or l i None) view ∙ s.1 in
+    let here = sym (where-at marks heights i size)
+    ∙ ap (λ (l : List (Option ℤ)). get_or l i None) view ∙ s.1 in
     (ap is_some here, subst (λ z. z ≤ℤ h) (sym (from_noted _ _ s.0 here)) s.2)
 
 -- The stored numbers of all entries.
@@ -91,8 +113,10 @@ stored_number false h = elim (cases_Bool (int_eq h lack)) [
   | inr other ↦ sym (ap height_or_lack (cond-false _ _ _ other))
 ]
 
-pub stored_numbers : (marks : List Bool) (heights : List ℤ) → length marks ≡ length heights → heights ≡ map height_or_lack (heights_where marks heights)
+pub stored_numbers : (marks : List Bool) (heights : List ℤ) → length marks ≡ length heights →
+    heights ≡ map height_or_lack (heights_where marks heights)
 stored_numbers [] [] e = refl
 stored_numbers [] (h ∷ heights) e = absurd (omega (arith, e))
 stored_numbers (m ∷ marks) [] e = absurd (omega (arith, e))
-stored_numbers (m ∷ marks) (h ∷ heights) e = ap (λ z. z ∷ heights) (stored_number m h) ∙ ap (λ zs. height_or_lack (noted m h) ∷ zs) (stored_numbers marks heights (omega (arith, e)))
+stored_numbers (m ∷ marks) (h ∷ heights) e = ap (λ z. z ∷ heights) (stored_number m h)
+    ∙ ap (λ zs. height_or_lack (noted m h) ∷ zs) (stored_numbers marks heights (omega (arith, e)))

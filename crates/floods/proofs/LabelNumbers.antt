@@ -9,10 +9,13 @@ none_yet zero = refl
 none_yet (suc n) = ap (λ z. None ∷ z) (none_yet n)
 
 pub is_label : (label : ℕ) → label < 4294967295 → label_of label ≡ Some label
-is_label label below = ap (λ b. if b then None else Some label) (other (label == 4294967295) (λ same. omega (arith, below, eqb-true _ _ same))) where
-  other : (b : Bool) → (b ≡ true → ⊥) → b ≡ false
-  other true never = absurd (never refl)
-  other false never = refl
+is_label label below = ap (λ b. if b then None else Some label)
+    (other (label == 4294967295) (λ same. omega (arith, below, eqb-true _ _ same))) where
+      other : (b : Bool) → (b ≡ true → ⊥) → b ≡ false
+      other true never = absurd (never refl)
+      other false never = refl
 
-pub one_put : (numbers : List ℕ) (node label : ℕ) → label < 4294967295 → numbered_labels (set numbers node label) ≡ set (numbered_labels numbers) node (Some label)
-one_put numbers node label below = map-set label_of numbers node label ∙ ap (λ z. set (numbered_labels numbers) node z) (is_label label below)
+pub one_put : (numbers : List ℕ) (node label : ℕ) → label < 4294967295 →
+    numbered_labels (set numbers node label) ≡ set (numbered_labels numbers) node (Some label)
+one_put numbers node label below = map-set label_of numbers node label
+    ∙ ap (λ z. set (numbered_labels numbers) node z) (is_label label below)

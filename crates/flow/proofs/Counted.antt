@@ -30,28 +30,48 @@ use Rattle.flow.proofs.Totals.{total_is}
 pub weights_le : (cells : List (Option ℕ)) (i : ℕ) → get_or (weights_by cells) i 0 ≤ 1
 weights_le cells i = elim (cases_lt i (length cells)) [
   | inl l ↦ elim (cases_Bool (is_some (get_or cells i None))) [
-    | inl y ↦ omega (arith, get_or-map (λ (code : Option ℕ). cond {A = ℕ} (is_some code) 1 0) cells i None 0 l, cond-true {A = ℕ} _ 1 0 y)
-    | inr n ↦ omega (arith, get_or-map (λ (code : Option ℕ). cond {A = ℕ} (is_some code) 1 0) cells i None 0 l, cond-false {A = ℕ} _ 1 0 n)
+    | inl y ↦ omega (
+      arith,
+      get_or-map (λ (code : Option ℕ). cond {A = ℕ} (is_some code) 1 0) cells i None 0 l,
+      cond-true {A = ℕ} _ 1 0 y,
+    )
+    | inr n ↦ omega (
+      arith,
+      get_or-map (λ (code : Option ℕ). cond {A = ℕ} (is_some code) 1 0) cells i None 0 l,
+      cond-false {A = ℕ} _ 1 0 n,
+    )
   ]
-  | inr far ↦ omega (arith, get_or_past (weights_by cells) i 0 (omega (arith, length-map cells (λ (code : Option ℕ). cond {A = ℕ} (is_some code) 1 0))))
+  | inr far ↦ omega (
+    arith,
+    get_or_past (weights_by cells) i 0
+        (omega (arith, length-map cells (λ (code : Option ℕ). cond {A = ℕ} (is_some code) 1 0))),
+  )
 ]
 
 pub weights_size : (cells : List (Option ℕ)) → length (weights_by cells) ≡ length cells
 weights_size cells = length-map cells (λ (code : Option ℕ). cond {A = ℕ} (is_some code) 1 0)
 
 -- The flows and inflows found for a grid are those of its map of directions.
-pub counting_of : (t : Cutting) (codes : List (Option ℕ)) (flows joined : List Flow) (inflows : Inflows) → IsGridFlow t.cols t.rows codes → AreFlowsOf (make_directed t.cols t.rows codes) t flows →
-    AreTileCounts (make_directed t.cols t.rows codes) t flows → joined ≡ flows → ((d : Directed) → AreFlowsOf d t joined → AreTileCounts d t joined → AreInflows d t inflows) → IsCounting t codes flows inflows
+pub counting_of :
+    (t : Cutting) (codes : List (Option ℕ)) (flows joined : List Flow) (inflows : Inflows) →
+    IsGridFlow t.cols t.rows codes → AreFlowsOf (make_directed t.cols t.rows codes) t flows →
+    AreTileCounts (make_directed t.cols t.rows codes) t flows → joined ≡ flows →
+    ((d : Directed) → AreFlowsOf d t joined → AreTileCounts d t joined → AreInflows d t inflows) →
+    IsCounting t codes flows inflows
 counting_of t codes flows joined inflows grid are counts same entering = record {
   grid = grid;
   are_flows = are;
-  are_inflows = entering (make_directed t.cols t.rows codes) (subst (λ (x : List Flow). AreFlowsOf (make_directed t.cols t.rows codes) t x) (sym same) are)
-      (subst (λ (x : List Flow). AreTileCounts (make_directed t.cols t.rows codes) t x) (sym same) counts);
+  are_inflows = entering (make_directed t.cols t.rows codes)
+      (subst (λ (x : List Flow). AreFlowsOf (make_directed t.cols t.rows codes) t x) (sym same) are)
+      (subst (λ (x : List Flow). AreTileCounts (make_directed t.cols t.rows codes) t x)
+      (sym same) counts);
 }
 
-module _ (t : Cutting) (codes : List (Option ℕ)) (flows : List Flow) (inflows : Inflows) (s : IsCounting t codes flows inflows) where
+module _ (t : Cutting) (codes : List (Option ℕ)) (flows : List Flow) (inflows : Inflows)
+    (s : IsCounting t codes flows inflows) where
   ending : IsEnding (make_directed t.cols t.rows codes)
-  ending = ending_of (make_directed t.cols t.rows codes) t s.grid.ends s.are_flows.cutting (refl, refl)
+  ending =
+      ending_of (make_directed t.cols t.rows codes) t s.grid.ends s.are_flows.cutting (refl, refl)
 
   module _ (tile : ℕ) (f : Flow) (there : slice_get flows tile ≡ Some f) where
     right : IsTileExits (make_directed t.cols t.rows codes) t tile f
@@ -64,12 +84,15 @@ module _ (t : Cutting) (codes : List (Option ℕ)) (flows : List Flow) (inflows 
     around = bounds_inside t tile s.are_flows.cutting below
 
     of_cells : AreTileCodes (make_directed t.cols t.rows codes) (bounds_of t tile) f.codes
-    of_cells = codes_from (make_directed t.cols t.rows codes) t tile f s.are_flows.cutting below right
+    of_cells =
+        codes_from (make_directed t.cols t.rows codes) t tile f s.are_flows.cutting below right
 
-    within_tile : (p : Place) → IsInBounds (bounds_of t tile) p → (p.row < t.rows) × (p.col < t.cols)
+    within_tile : (p : Place) → IsInBounds (bounds_of t tile) p → (p.row < t.rows)
+        × (p.col < t.cols)
     within_tile p h = (omega (arith, h, around.rows_inside), omega (arith, h, around.cols_inside))
 
-    pub inflow_few : (p : Place) → IsInBounds (bounds_of t tile) p → listed_inflow inflows p ≤ 16777216
+    pub inflow_few : (p : Place) → IsInBounds (bounds_of t tile) p →
+        listed_inflow inflows p ≤ 16777216
     inflow_few p h = omega (
       arith,
       s.are_inflows.each p (within_tile p h),
@@ -78,7 +101,8 @@ module _ (t : Cutting) (codes : List (Option ℕ)) (flows : List Flow) (inflows 
     )
 
     module _ (links : List ℕ) (made : links ≡ links_by (bounds_of t tile) f.codes) where
-      lists : AreLists (record { cutting = t; tile = tile; cells = codes }) (bounds_of t tile) f.codes links (weights_by f.codes)
+      lists : AreLists (record { cutting = t; tile = tile; cells = codes })
+          (bounds_of t tile) f.codes links (weights_by f.codes)
       lists = record {
         ends = s.grid.ends;
         bounds = refl;
@@ -93,47 +117,68 @@ module _ (t : Cutting) (codes : List (Option ℕ)) (flows : List Flow) (inflows 
       piece_of = piece _ _ _ _ _ lists
 
       pub streams_of : AreStreams links
-      streams_of = tile_streams (make_directed t.cols t.rows codes) t tile (bounds_of t tile) links piece_of
+      streams_of =
+          tile_streams (make_directed t.cols t.rows codes) t tile (bounds_of t tile) links piece_of
 
       pub same_sizes : length links ≡ length f.codes
       same_sizes = piece_of.made.size ∙ sym of_cells.size
 
-      module _ (weights : List ℕ) (weighed : AreRimWeights inflows (bounds_of t tile) f.codes weights) where
-        weights_are : AreWeights (make_directed t.cols t.rows codes) ending t tile (bounds_of t tile) links piece_of weights
+      module _ (weights : List ℕ)
+          (weighed : AreRimWeights inflows (bounds_of t tile) f.codes weights) where
+        weights_are : AreWeights (make_directed t.cols t.rows codes) ending t tile
+            (bounds_of t tile) links piece_of weights
         weights_are j h =
-            let inside = in_place (make_directed t.cols t.rows codes) t tile (bounds_of t tile) links piece_of j h in
+            let inside = in_place (make_directed t.cols t.rows codes) t tile
+            (bounds_of t tile) links piece_of j h in
             let index = index_in-place_in (bounds_of t tile) j in
-            let own : get_or (weights_by f.codes) j 0 ≡ weight_in (make_directed t.cols t.rows codes) (bounds_of t tile) j =
-            (weights_from (make_directed t.cols t.rows codes) (bounds_of t tile) f.codes of_cells).each j (omega (arith, h, piece_of.made.size)) in
+            let own : get_or (weights_by f.codes) j 0
+            ≡ weight_in (make_directed t.cols t.rows codes) (bounds_of t tile) j =
+            (weights_from (make_directed t.cols t.rows codes)
+            (bounds_of t tile) f.codes of_cells).each j (omega (arith, h, piece_of.made.size)) in
             omega (
               arith,
               weighed.each (place_in (bounds_of t tile) j) inside,
               ap (λ n. get_or weights n 0) index,
               ap (λ n. get_or (weights_by f.codes) n 0) index,
               own,
-              s.are_inflows.each (place_in (bounds_of t tile) j) (within_tile (place_in (bounds_of t tile) j) inside),
+              s.are_inflows.each (place_in (bounds_of t tile) j)
+                  (within_tile (place_in (bounds_of t tile) j) inside),
             )
 
-        total_drained : (i : ℕ) → i < length links → total links weights i ≡ all_drained (make_directed t.cols t.rows codes) (place_in (bounds_of t tile) i)
-        total_drained = total_is links weights _ streams_of (all_totals (make_directed t.cols t.rows codes) ending t tile (bounds_of t tile) links piece_of weights weights_are)
+        total_drained : (i : ℕ) → i < length links → total links weights i
+            ≡ all_drained (make_directed t.cols t.rows codes) (place_in (bounds_of t tile) i)
+        total_drained = total_is links weights _ streams_of (all_totals (make_directed t.cols t.rows
+            codes) ending t tile (bounds_of t tile) links piece_of weights weights_are)
 
         module _ (upstream : List ℕ) (up : AreUpstream links weights upstream) where
           entry_is : (p : Place) → IsInBounds (bounds_of t tile) p →
               get_or (counts_by f.codes weights upstream) (index_in (bounds_of t tile) p) None
-              ≡ where_data (code_at (make_directed t.cols t.rows codes) p) (get_or upstream (index_in (bounds_of t tile) p) 0 + get_or weights (index_in (bounds_of t tile) p) 0 - 1)
+              ≡ where_data (code_at (make_directed t.cols t.rows codes) p)
+              (get_or upstream (index_in (bounds_of t tile) p) 0
+              + get_or weights (index_in (bounds_of t tile) p) 0 - 1)
           entry_is p h =
               let i = index_in (bounds_of t tile) p in
-              let in_cells : index_in (bounds_of t tile) p < length f.codes = omega (arith, index_in_below (bounds_of t tile) p h, of_cells.size) in
-              let code : get_or f.codes (index_in (bounds_of t tile) p) None ≡ code_at (make_directed t.cols t.rows codes) p =
-              of_cells.each (index_in (bounds_of t tile) p) (index_in_below (bounds_of t tile) p h) ∙ ap (code_at (make_directed t.cols t.rows codes)) (place_in-index_in (bounds_of t tile) p h) in
-              get_or-map-range_with_len (λ i. where_data (get_or f.codes i None) (get_or upstream i 0 + get_or weights i 0 - 1)) 0 (length f.codes) (index_in (bounds_of t tile) p) (index_in (bounds_of t tile) p) None in_cells (omega arith)
-              ∙ ap (λ o. where_data o (get_or upstream (index_in (bounds_of t tile) p) 0 + get_or weights (index_in (bounds_of t tile) p) 0 - 1)) code
+              let in_cells : index_in (bounds_of t tile) p < length f.codes =
+              omega (arith, index_in_below (bounds_of t tile) p h, of_cells.size) in
+              let code : get_or f.codes (index_in (bounds_of t tile) p) None
+              ≡ code_at (make_directed t.cols t.rows codes) p =
+              of_cells.each (index_in (bounds_of t tile) p) (index_in_below (bounds_of t tile) p h)
+              ∙ ap (code_at (make_directed t.cols t.rows codes))
+              (place_in-index_in (bounds_of t tile) p h) in
+              get_or-map-range_with_len (λ i. where_data (get_or f.codes i None)
+              (get_or upstream i 0 + get_or weights i 0 - 1)) 0 (length f.codes) (index_in
+              (bounds_of t tile) p) (index_in (bounds_of t tile) p) None in_cells (omega arith)
+              ∙ ap (λ o. where_data o (get_or upstream (index_in (bounds_of t tile) p) 0
+              + get_or weights (index_in (bounds_of t tile) p) 0 - 1)) code
 
-          count_is : (p : Place) → IsInBounds (bounds_of t tile) p → IsCoded (make_directed t.cols t.rows codes) p →
-              get_or upstream (index_in (bounds_of t tile) p) 0 + get_or weights (index_in (bounds_of t tile) p) 0 - 1 ≡ accumulation (make_directed t.cols t.rows codes) p
+          count_is : (p : Place) → IsInBounds (bounds_of t tile) p →
+              IsCoded (make_directed t.cols t.rows codes) p →
+              get_or upstream (index_in (bounds_of t tile) p) 0 + get_or weights (index_in
+              (bounds_of t tile) p) 0 - 1 ≡ accumulation (make_directed t.cols t.rows codes) p
           count_is p h is =
               let at = place_in-index_in (bounds_of t tile) p h in
-              let there : index_in (bounds_of t tile) p < length links = omega (arith, index_in_below (bounds_of t tile) p h, of_cells.size, same_sizes) in
+              let there : index_in (bounds_of t tile) p < length links =
+              omega (arith, index_in_below (bounds_of t tile) p h, of_cells.size, same_sizes) in
               omega (
                 arith,
                 up.each (index_in (bounds_of t tile) p) there,
@@ -144,37 +189,62 @@ module _ (t : Cutting) (codes : List (Option ℕ)) (flows : List Flow) (inflows 
 
     countable : IsCountable inflows tile f
     countable =
-        let made : links_by f.bounds f.codes ≡ links_by (bounds_of t tile) f.codes = ap (λ (b : Bounds). links_by b f.codes) right.bounds in
+        let made : links_by f.bounds f.codes ≡ links_by (bounds_of t tile) f.codes =
+        ap (λ (b : Bounds). links_by b f.codes) right.bounds in
         record {
-          bounds = right.bounds ∙ ap (λ (x : Cutting). bounds_of x tile) (sym s.are_inflows.cutting);
-          size = of_cells.size ∙ ap (λ (x : Cutting). cell_count x tile) (sym s.are_inflows.cutting);
+          bounds = right.bounds
+              ∙ ap (λ (x : Cutting). bounds_of x tile) (sym s.are_inflows.cutting);
+          size = of_cells.size
+              ∙ ap (λ (x : Cutting). cell_count x tile) (sym s.are_inflows.cutting);
           linked = same_sizes (links_by f.bounds f.codes) made;
-          few = omega (arith, few _ _ _ _ _ (lists (links_by f.bounds f.codes) made), same_sizes (links_by f.bounds f.codes) made);
+          few = omega (
+            arith,
+            few _ _ _ _ _ (lists (links_by f.bounds f.codes) made),
+            same_sizes (links_by f.bounds f.codes) made,
+          );
           streams = streams_of (links_by f.bounds f.codes) made;
-          few_enter = λ p h. omega (arith, inflow_few p (subst (λ (x : Cutting). IsInBounds (bounds_of x tile) p) s.are_inflows.cutting h));
+          few_enter = λ p h. omega (
+            arith,
+            inflow_few p
+                (subst (λ (x : Cutting). IsInBounds (bounds_of x tile) p) s.are_inflows.cutting h),
+          );
           totals_fit = λ weights weighed i h. omega (
             arith,
-            total_drained (links_by f.bounds f.codes) made weights (subst (λ (x : Cutting). AreRimWeights inflows (bounds_of x tile) f.codes weights) s.are_inflows.cutting weighed) i
+            total_drained (links_by f.bounds f.codes) made weights
+                (subst (λ (x : Cutting). AreRimWeights inflows (bounds_of x tile) f.codes weights)
+                s.are_inflows.cutting weighed) i
                 (omega (arith, h, same_sizes (links_by f.bounds f.codes) made)),
             drained_few (make_directed t.cols t.rows codes) ending (place_in (bounds_of t tile) i),
           );
         }
 
     -- The count at each place is its accumulation.
-    pub entry_counted : (values : List (Option ℕ)) → AreCounts inflows tile f values → (p : Place) → IsInTile t tile p →
-        IsValueAt (make_directed t.cols t.rows codes) (accumulation (make_directed t.cols t.rows codes)) p (tile_entry t tile values p)
+    pub entry_counted : (values : List (Option ℕ)) → AreCounts inflows tile f values → (p : Place) →
+        IsInTile t tile p →
+        IsValueAt (make_directed t.cols t.rows codes)
+        (accumulation (make_directed t.cols t.rows codes)) p (tile_entry t tile values p)
     entry_counted values are p i =
         let h = in_bounds t tile p s.are_flows.cutting i in
-        let made : links_by f.bounds f.codes ≡ links_by (bounds_of t tile) f.codes = ap (λ (b : Bounds). links_by b f.codes) right.bounds in
-        let weighed = subst (λ (x : Cutting). AreRimWeights inflows (bounds_of x tile) f.codes are.weights) s.are_inflows.cutting are.weighed in
+        let made : links_by f.bounds f.codes ≡ links_by (bounds_of t tile) f.codes =
+        ap (λ (b : Bounds). links_by b f.codes) right.bounds in
+        let weighed = subst (λ (x : Cutting). AreRimWeights inflows
+        (bounds_of x tile) f.codes are.weights) s.are_inflows.cutting are.weighed in
         match_data (code_at (make_directed t.cols t.rows codes) p) _ _ _
-        (tile_entry-in t tile values p i ∙ ap (λ (l : List (Option ℕ)). get_or l (index_in (bounds_of t tile) p) None) are.made
+        (tile_entry-in t tile values p i
+        ∙ ap (λ (l : List (Option ℕ)). get_or l (index_in (bounds_of t tile) p) None) are.made
         ∙ entry_is (links_by f.bounds f.codes) made are.weights weighed are.upstream are.up p h)
-        (λ code is. count_is (links_by f.bounds f.codes) made are.weights weighed are.upstream are.up p h (record { code = code; is = is }))
+        (λ code is. count_is (links_by f.bounds f.codes)
+        made are.weights weighed are.upstream are.up p h (record { code = code; is = is }))
 
   pub countable_all : AreCountable t flows inflows
-  countable_all = record { same_cutting = s.are_inflows.cutting; count = s.are_flows.of_tiles.count; each = countable }
+  countable_all = record {
+    same_cutting = s.are_inflows.cutting;
+    count = s.are_flows.of_tiles.count;
+    each = countable;
+  }
 
-pub counts_size : (inflows : Inflows) (tile : ℕ) (f : Flow) (values : List (Option ℕ)) → AreCounts inflows tile f values → length values ≡ length f.codes
+pub counts_size : (inflows : Inflows) (tile : ℕ) (f : Flow) (values : List (Option ℕ)) →
+    AreCounts inflows tile f values → length values ≡ length f.codes
 counts_size inflows tile f values are =
-    ap length are.made ∙ length-map-range_with_len (λ i. where_data (get_or f.codes i None) (get_or are.upstream i 0 + get_or are.weights i 0 - 1)) 0 (length f.codes)
+    ap length are.made ∙ length-map-range_with_len (λ i. where_data (get_or f.codes i None)
+    (get_or are.upstream i 0 + get_or are.weights i 0 - 1)) 0 (length f.codes)

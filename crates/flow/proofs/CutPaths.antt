@@ -36,7 +36,8 @@ pub record IsAbsent {X : Type 0} (test : X → Bool) (f : ℕ → X) (n : ℕ) :
   pub found : find test (map f (range_with_len 0 n)) ≡ None
 
 module _ {X : Type 0} (test : X → Bool) (f : ℕ → X) where
-  pub found_next : (n : ℕ) → find test (map f (range_with_len 0 (suc n))) ≡ option_or (find test (map f (range_with_len 0 n))) (cond (test (f n)) (Some (f n)) None)
+  pub found_next : (n : ℕ) → find test (map f (range_with_len 0 (suc n)))
+      ≡ option_or (find test (map f (range_with_len 0 n))) (cond (test (f n)) (Some (f n)) None)
   found_next n =
       ap (λ (k : ℕ). find test (map f (range_with_len 0 k))) (sym (add-one n))
       ∙ ap (find test) (mapped_next f n) ∙ find-append test (map f (range_with_len 0 n)) (f n ∷ [])
@@ -49,7 +50,8 @@ module _ {X : Type 0} (test : X → Bool) (f : ℕ → X) where
       below = omega (arith, first.below);
       passes = first.passes;
       before = first.before;
-      found = found_next n ∙ ap (λ (o : Option X). option_or o (cond (test (f n)) (Some (f n)) None)) first.found;
+      found = found_next n
+          ∙ ap (λ (o : Option X). option_or o (cond (test (f n)) (Some (f n)) None)) first.found;
     })
     | inr absent ↦ elim (cases_Bool (test (f n))) [
       | inl here ↦ inl (record {
@@ -57,56 +59,75 @@ module _ {X : Type 0} (test : X → Bool) (f : ℕ → X) where
         below = omega arith;
         passes = here;
         before = absent.fails;
-        found = found_next n ∙ ap (λ (o : Option X). option_or o (cond (test (f n)) (Some (f n)) None)) absent.found ∙ cond-true (test (f n)) (Some (f n)) None here;
+        found = found_next n ∙ ap (λ (o : Option X). option_or o (cond (test (f n))
+            (Some (f n)) None)) absent.found ∙ cond-true (test (f n)) (Some (f n)) None here;
       })
       | inr not_here ↦ inr (record {
         fails = λ j below. elim (cases_lt j n) [
           | inl early ↦ absent.fails j early
-          | inr late ↦ (let same : n ≡ j = omega (arith, late, below) in subst (λ (k : ℕ). test (f k) ≡ false) same not_here)
+          | inr late ↦ (let same : n ≡ j = omega (arith, late, below) in
+              subst (λ (k : ℕ). test (f k) ≡ false) same not_here)
         ];
-        found = found_next n ∙ ap (λ (o : Option X). option_or o (cond (test (f n)) (Some (f n)) None)) absent.found ∙ cond-false (test (f n)) (Some (f n)) None not_here;
+        found = found_next n ∙ ap (λ (o : Option X). option_or o (cond (test (f n))
+            (Some (f n)) None)) absent.found ∙ cond-false (test (f n)) (Some (f n)) None not_here;
       })
     ]
   ]
 
 -- The position of the first match: with one more entry, without a match, and for equal tests.
-pub position_push : {X : Type 0} (p : X → Bool) (i : ℕ) (xs : List X) (y : X) → position_from p i (xs ++ y ∷ []) ≡ option_or (position_from p i xs) (cond (p y) (Some (i + length xs)) None)
-position_push p i [] y = let z : i ≡ i + 0 = omega arith in ap (λ (k : ℕ). cond (p y) (Some k) None) z
+pub position_push : {X : Type 0} (p : X → Bool) (i : ℕ) (xs : List X) (y : X) → position_from p i
+    (xs ++ y ∷ []) ≡ option_or (position_from p i xs) (cond (p y) (Some (i + length xs)) None)
+position_push p i [] y = let z : i ≡ i + 0 = omega arith in
+    ap (λ (k : ℕ). cond (p y) (Some k) None) z
 position_push p i (x ∷ xs) y = elim (cases_Bool (p x)) [
-  | inl is ↦ cond-true (p x) (Some i) _ is ∙ sym (ap (λ (o : Option ℕ). option_or o (cond (p y) (Some (i + suc (length xs))) None)) (cond-true (p x) (Some i) (position_from p (i + 1) xs) is))
+  | inl is ↦ cond-true (p x) (Some i) _ is
+      ∙ sym (ap (λ (o : Option ℕ). option_or o (cond (p y) (Some (i + suc (length xs))) None))
+      (cond-true (p x) (Some i) (position_from p (i + 1) xs) is))
   | inr isnt ↦
       let z : i + 1 + length xs ≡ i + suc (length xs) = omega arith in
       cond-false (p x) (Some i) (position_from p (i + 1) (xs ++ y ∷ [])) isnt
       ∙ position_push p (i + 1) xs y
       ∙ ap (λ (k : ℕ). option_or (position_from p (i + 1) xs) (cond (p y) (Some k) None)) z
-      ∙ sym (ap (λ (o : Option ℕ). option_or o (cond (p y) (Some (i + suc (length xs))) None)) (cond-false (p x) (Some i) (position_from p (i + 1) xs) isnt))
+      ∙ sym (ap (λ (o : Option ℕ). option_or o (cond (p y) (Some (i + suc (length xs))) None))
+      (cond-false (p x) (Some i) (position_from p (i + 1) xs) isnt))
 ]
 
-pub position_none : {X : Type 0} (p : X → Bool) (i : ℕ) (xs : List X) → list_any p xs ≡ false → position_from p i xs ≡ None
+pub position_none : {X : Type 0} (p : X → Bool) (i : ℕ) (xs : List X) → list_any p xs ≡ false →
+    position_from p i xs ≡ None
 position_none p i [] none = refl
 position_none p i (x ∷ xs) none = elim (cases_Bool (p x)) [
   | inl is ↦ absurd (false≢true (sym (or_parts (p x) (list_any p xs) none).0 ∙ is))
-  | inr isnt ↦ cond-false (p x) (Some i) (position_from p (i + 1) xs) isnt ∙ position_none p (i + 1) xs (or_parts (p x) (list_any p xs) none).1
+  | inr isnt ↦ cond-false (p x) (Some i) (position_from p (i + 1) xs) isnt
+      ∙ position_none p (i + 1) xs (or_parts (p x) (list_any p xs) none).1
 ]
 
-pub position_same : {X : Type 0} (p q : X → Bool) (i : ℕ) (xs : List X) → All (λ x. p x ≡ q x) xs → position_from p i xs ≡ position_from q i xs
+pub position_same : {X : Type 0} (p q : X → Bool) (i : ℕ) (xs : List X) → All (λ x. p x ≡ q x) xs →
+    position_from p i xs ≡ position_from q i xs
 position_same p q i [] same = refl
 position_same p q i (x ∷ xs) same =
     ap (λ b. cond b (Some i) (position_from p (i + 1) xs)) (same 0 x (omega arith))
-    ∙ ap (λ o. cond (q x) (Some i) o) (position_same p q (i + 1) xs (λ k d below. same (suc k) d (omega (arith, below))))
+    ∙ ap (λ o. cond (q x) (Some i) o)
+    (position_same p q (i + 1) xs (λ k d below. same (suc k) d (omega (arith, below))))
 
-pub position_below : {X : Type 0} (p : X → Bool) (i : ℕ) (xs : List X) → unwrap_or (position_from p (suc i) xs) 0 ≤ i + length xs
+pub position_below : {X : Type 0} (p : X → Bool) (i : ℕ) (xs : List X) →
+    unwrap_or (position_from p (suc i) xs) 0 ≤ i + length xs
 position_below p i [] = omega arith
 position_below p i (x ∷ xs) = elim (cases_Bool (p x)) [
-  | inl is ↦ (let e : unwrap_or (position_from p (suc i) (x ∷ xs)) 0 ≡ suc i = ap (λ (o : Option ℕ). unwrap_or o 0) (cond-true (p x) (Some (suc i)) _ is) in omega (arith, e))
+  | inl is ↦ (let e : unwrap_or (position_from p (suc i) (x ∷ xs)) 0 ≡ suc i = ap
+      (λ (o : Option ℕ). unwrap_or o 0) (cond-true (p x) (Some (suc i)) _ is) in omega (arith, e))
   | inr isnt ↦
-      let e : unwrap_or (position_from p (suc i) (x ∷ xs)) 0 ≡ unwrap_or (position_from p (suc i + 1) xs) 0 = ap (λ (o : Option ℕ). unwrap_or o 0) (cond-false (p x) (Some (suc i)) (position_from p (suc i + 1) xs) isnt) in
+      let e : unwrap_or (position_from p (suc i) (x ∷ xs)) 0
+      ≡ unwrap_or (position_from p (suc i + 1) xs) 0 = ap (λ (o : Option ℕ).
+      unwrap_or o 0) (cond-false (p x) (Some (suc i)) (position_from p (suc i + 1) xs) isnt) in
       let z : suc i + 1 ≡ suc (suc i) = omega arith in
-      omega (arith, e, ap (λ (k : ℕ). unwrap_or (position_from p k xs) 0) z, position_below p (suc i) xs)
+      omega
+      (arith, e, ap (λ (k : ℕ). unwrap_or (position_from p k xs) 0) z, position_below p (suc i) xs)
 ]
 
 -- A map of directions in which gauges are outlets.
-module _ (d : Directed) (s : IsEnding d) (gauges : List Place) (codes : List (Option ℕ)) (coded : HaveCodes d.cols d.rows d.codes gauges) (cut : AreCutCodes d.cols d.rows d.codes gauges codes) where
+module _ (d : Directed) (s : IsEnding d)
+    (gauges : List Place) (codes : List (Option ℕ)) (coded : HaveCodes d.cols d.rows d.codes gauges)
+    (cut : AreCutCodes d.cols d.rows d.codes gauges codes) where
   abbrev pub cut_d : Directed
   cut_d = make_directed d.cols d.rows codes
 
@@ -114,34 +135,45 @@ module _ (d : Directed) (s : IsEnding d) (gauges : List Place) (codes : List (Op
   is_gauge q = list_any (is_place q) gauges
 
   goes_on : (q : Place) → is_gauge q ≡ false → next cut_d q ≡ next d q
-  goes_on q none = ap (λ (o : Option ℕ). unwrap_or (option_and_then (λ code. place_toward code q) o) q) (cut.elsewhere q none)
+  goes_on q none = ap (λ (o : Option ℕ).
+      unwrap_or (option_and_then (λ code. place_toward code q) o) q) (cut.elsewhere q none)
 
   stays : (q : Place) → is_gauge q ≡ true → next cut_d q ≡ q
   stays q is = outlet_stays cut_d q (cut.at_gauges q is)
 
-  follows : (p : Place) (k : ℕ) → ((j : ℕ) → j < k → is_gauge (follow d p j) ≡ false) → follow cut_d p k ≡ follow d p k
+  follows : (p : Place) (k : ℕ) → ((j : ℕ) → j < k → is_gauge (follow d p j) ≡ false) →
+      follow cut_d p k ≡ follow d p k
   follows p zero clear = refl
-  follows p (suc k) clear = ap (next cut_d) (follows p k (λ j below. clear j (omega (arith, below)))) ∙ goes_on (follow d p k) (clear k (omega arith))
+  follows p (suc k) clear = ap (next cut_d) (follows p k
+      (λ j below. clear j (omega (arith, below)))) ∙ goes_on (follow d p k) (clear k (omega arith))
 
   -- The path in the cut map ends at the first gauge of the path of p.
-  last_first : (p : Place) → (w : IsFirst is_gauge (follow d p) (moves d)) → last_of cut_d p ≡ follow d p w.at
+  last_first : (p : Place) → (w : IsFirst is_gauge (follow d p) (moves d)) →
+      last_of cut_d p ≡ follow d p w.at
   last_first p w =
       let here = follows p w.at w.before in
-      follow_stays cut_d p w.at (moves d) (omega (arith, w.below)) (ap (next cut_d) here ∙ stays (follow d p w.at) w.passes ∙ sym here) ∙ here
+      follow_stays cut_d p w.at (moves d) (omega (arith, w.below)) (ap (next cut_d) here
+      ∙ stays (follow d p w.at) w.passes ∙ sym here) ∙ here
 
-  last_absent : (p : Place) → IsAbsent is_gauge (follow d p) (moves d) → last_of cut_d p ≡ last_of d p
+  last_absent : (p : Place) → IsAbsent is_gauge (follow d p) (moves d) →
+      last_of cut_d p ≡ last_of d p
   last_absent p w = follows p (moves d) w.fails
 
-  no_gauge_last : (p : Place) → IsCoded d p → IsAbsent is_gauge (follow d p) (moves d) → is_gauge (last_of d p) ≡ false
-  no_gauge_last p is w = let m = reached_early d s p (last_of d p) is (moves d) refl in ap is_gauge (sym m.3) ∙ w.fails m.0 m.1
+  no_gauge_last : (p : Place) → IsCoded d p → IsAbsent is_gauge (follow d p) (moves d) →
+      is_gauge (last_of d p) ≡ false
+  no_gauge_last p is w = let m = reached_early d s p (last_of d p) is (moves d) refl in
+      ap is_gauge (sym m.3) ∙ w.fails m.0 m.1
 
   -- The number of the cut path's end is the catchment.
-  pub caught : (p : Place) → IsCoded d p → gauge_number gauges (last_of cut_d p) ≡ catchment d gauges p
+  pub caught : (p : Place) → IsCoded d p →
+      gauge_number gauges (last_of cut_d p) ≡ catchment d gauges p
   caught p is = elim (cases_first is_gauge (follow d p) (moves d)) [
-    | inl w ↦ ap (gauge_number gauges) (last_first p w) ∙ sym (ap (λ (o : Option Place). option_map_or (gauge_number gauges) o 0) w.found)
+    | inl w ↦ ap (gauge_number gauges) (last_first p w)
+        ∙ sym (ap (λ (o : Option Place). option_map_or (gauge_number gauges) o 0) w.found)
     | inr w ↦
         ap (gauge_number gauges) (last_absent p w)
-        ∙ ap (λ (o : Option ℕ). unwrap_or o 0) (position_none (is_place (last_of d p)) 1 gauges (no_gauge_last p is w))
+        ∙ ap (λ (o : Option ℕ).
+        unwrap_or o 0) (position_none (is_place (last_of d p)) 1 gauges (no_gauge_last p is w))
         ∙ sym (ap (λ (o : Option Place). option_map_or (gauge_number gauges) o 0) w.found)
   ]
 
@@ -170,38 +202,48 @@ module _ (d : Directed) (s : IsEnding d) (gauges : List Place) (codes : List (Op
       elim (cases_first is_gauge (follow d p) (moves d)) [
         | inl w ↦ ap (code_at cut_d) (last_first p w) ∙ cut.at_gauges (follow d p w.at) w.passes
         | inr w ↦
-            ap (code_at cut_d) (last_absent p w) ∙ cut.elsewhere (last_of d p) (no_gauge_last p is w) ∙ s.ends p is.code is.is
+            ap (code_at cut_d) (last_absent p w)
+            ∙ cut.elsewhere (last_of d p) (no_gauge_last p is w) ∙ s.ends p is.code is.is
       ]
 
   -- Data cells have one index exactly if they are one cell.
-  agree : (q g : Place) → IsCoded d q → IsCoded d g → (index_of d.cols g == index_of d.cols q) ≡ is_place q g
+  agree : (q g : Place) → IsCoded d q → IsCoded d g →
+      (index_of d.cols g == index_of d.cols q) ≡ is_place q g
   agree q g a b = elim (cases_Bool (is_place q g)) [
     | inl same ↦ eq-eqb _ _ (ap (index_of d.cols) (sym (place_is q g same))) ∙ sym same
-    | inr apart ↦ ne_eqb _ _ (λ e. false≢true (sym apart ∙ is_place_from q g (sym (index_injective d.cols g q (coded_inside d g b).1 (coded_inside d q a).1 e)))) ∙ sym apart
+    | inr apart ↦ ne_eqb _ _ (λ e. false≢true (sym apart ∙ is_place_from q g (sym
+        (index_injective d.cols g q (coded_inside d g b).1 (coded_inside d q a).1 e)))) ∙ sym apart
   ]
 
-  numbered_at : (q : Place) → IsCoded d q → unwrap_or (number_of_index d.cols gauges (index_of d.cols q)) 0 ≡ gauge_number gauges q
-  numbered_at q is = ap (λ (o : Option ℕ). unwrap_or o 0) (position_same (λ (g : Place). index_of d.cols g == index_of d.cols q) (is_place q) 1 gauges
+  numbered_at : (q : Place) → IsCoded d q →
+      unwrap_or (number_of_index d.cols gauges (index_of d.cols q)) 0 ≡ gauge_number gauges q
+  numbered_at q is = ap (λ (o : Option ℕ). unwrap_or o 0)
+      (position_same (λ (g : Place). index_of d.cols g == index_of d.cols q) (is_place q) 1 gauges
       (λ k g below.
       let there = get_or gauges k g in
-      agree q there is (coded_gauge there (list_any_at (is_place there) gauges k g below (is_place_from there there refl)))))
+      agree q there is (coded_gauge there
+      (list_any_at (is_place there) gauges k g below (is_place_from there there refl)))))
 
   -- The numbers of the ends are the catchments.
-  pub catchments_are : (n : EndNumbers) → ((i : ℕ) → n.number i ≡ unwrap_or (number_of_index d.cols gauges i) 0) → (values : List (Option ℕ)) →
+  pub catchments_are : (n : EndNumbers) → ((i : ℕ) →
+      n.number i ≡ unwrap_or (number_of_index d.cols gauges i) 0) → (values : List (Option ℕ)) →
       IsMapOf cut_d (end_number cut_d n) values → IsMapOf d (catchment d gauges) values
   catchments_are n numbers values made = record {
     size = made.size;
     each = λ p inside. elim (cases_coded d p) [
       | inl none ↦ match_none (code_at d p) _ _ none (elim (cases_coded cut_d p) [
         | inl none_cut ↦ MatchOption-at_none _ _ none_cut (made.each p inside)
-        | inr is ↦ (let here = coded_from_cut p is in absurd (none-some here.code (sym none ∙ here.is)))
+        | inr is ↦
+            (let here = coded_from_cut p is in absurd (none-some here.code (sym none ∙ here.is)))
       ])
       | inr is ↦
           let there = coded_to_cut p is in
-          let last = coded_from_cut (last_of cut_d p) (coded_along cut_d cut_ends p there (moves cut_d)) in
+          let last =
+          coded_from_cut (last_of cut_d p) (coded_along cut_d cut_ends p there (moves cut_d)) in
           match_some (code_at d p) _ _ is.code is.is (
           MatchOption-at_some _ _ there.code there.is (made.each p inside)
-          ∙ ap Some (numbers (index_of d.cols (last_of cut_d p)) ∙ numbered_at (last_of cut_d p) last ∙ caught p is)
+          ∙ ap Some (numbers (index_of d.cols (last_of cut_d p))
+          ∙ numbered_at (last_of cut_d p) last ∙ caught p is)
           )
     ];
   }

@@ -39,68 +39,93 @@ all_drained_inside d t p = sum_below (λ j. drained_inside d t p (cell d j)) (d.
 
 -- 1 if the flow path of q enters p from another tile, else 0.
 abbrev pub entered : Directed → Cutting → Place → Place → ℕ
-entered d t p q = cond {A = ℕ} (is_some (code_at d q) && list_any (enters d t p q) (range_with_len 0 (moves d - 1))) 1 0
+entered d t p q = cond {A = ℕ} (is_some (code_at d q)
+    && list_any (enters d t p q) (range_with_len 0 (moves d - 1))) 1 0
 
-pub inflow_sum : (d : Directed) (t : Cutting) (p : Place) → inflow_of d t p ≡ sum_below (λ c. entered d t p (cell d c)) (d.rows * d.cols)
+pub inflow_sum : (d : Directed) (t : Cutting) (p : Place) →
+    inflow_of d t p ≡ sum_below (λ c. entered d t p (cell d c)) (d.rows * d.cols)
 inflow_sum d t p = sum_of_cells (entered d t p) d.cols d.rows
 
 -- A data cell counts 1 if it passes the test, and 0 otherwise.
-pub counted_on : (d : Directed) (q : Place) (b : Bool) → IsCoded d q → b ≡ true → cond {A = ℕ} (is_some (code_at d q) && b) 1 0 ≡ 1
-counted_on d q b is y = cond-true {A = ℕ} _ 1 0 (and_from _ _ (ap (λ (o : Option ℕ). is_some o) is.is) y)
+pub counted_on : (d : Directed) (q : Place) (b : Bool) → IsCoded d q → b ≡ true →
+    cond {A = ℕ} (is_some (code_at d q) && b) 1 0 ≡ 1
+counted_on d q b is y =
+    cond-true {A = ℕ} _ 1 0 (and_from _ _ (ap (λ (o : Option ℕ). is_some o) is.is) y)
 
-pub counted_off : (d : Directed) (q : Place) (b : Bool) → b ≡ false → cond {A = ℕ} (is_some (code_at d q) && b) 1 0 ≡ 0
+pub counted_off : (d : Directed) (q : Place) (b : Bool) → b ≡ false →
+    cond {A = ℕ} (is_some (code_at d q) && b) 1 0 ≡ 0
 counted_off d q b f = cond-false {A = ℕ} _ 1 0 (and_right _ _ f)
 
-pub counted_none : (d : Directed) (q : Place) (b : Bool) → is_some (code_at d q) ≡ false → cond {A = ℕ} (is_some (code_at d q) && b) 1 0 ≡ 0
+pub counted_none : (d : Directed) (q : Place) (b : Bool) → is_some (code_at d q) ≡ false →
+    cond {A = ℕ} (is_some (code_at d q) && b) 1 0 ≡ 0
 counted_none d q b f = cond-false {A = ℕ} _ 1 0 (and_left _ _ f)
 
 module _ (d : Directed) (s : IsEnding d) where
   pub some_moves : 0 < moves d
   some_moves = let some : 1 * 1 ≤ moves d = mul-le-mul s.some_col s.some_row in omega arith
 
-  other_cell : (p : Place) → IsCoded d p → (j : ℕ) → j ≢ index_in (whole_bounds d.cols d.rows) p → cell d j ≢ p
-  other_cell p is j ne e = ne (sym (index_in-place_in (whole_bounds d.cols d.rows) j) ∙ ap (index_in (whole_bounds d.cols d.rows)) e)
+  other_cell : (p : Place) → IsCoded d p → (j : ℕ) → j ≢ index_in (whole_bounds d.cols d.rows) p →
+      cell d j ≢ p
+  other_cell p is j ne e = ne (sym (index_in-place_in (whole_bounds d.cols d.rows) j)
+      ∙ ap (index_in (whole_bounds d.cols d.rows)) e)
 
   -- f counts one cell more than g, the cell p.
-  pub one_more : (f g : Place → ℕ) (p : Place) → IsCoded d p → ((q : Place) → q ≢ p → f q ≡ g q) → f p ≡ 1 → g p ≡ 0 →
+  pub one_more : (f g : Place → ℕ) (p : Place) → IsCoded d p → ((q : Place) → q ≢ p → f q ≡ g q) →
+      f p ≡ 1 → g p ≡ 0 →
       sum_below (λ j. f (cell d j)) (d.rows * d.cols) ≡ sum_by g (places d.cols d.rows) + 1
   one_more f g p is same one none =
-      let change = sum_below-except (λ j. f (cell d j)) (λ j. g (cell d j)) (d.rows * d.cols) (index_in (whole_bounds d.cols d.rows) p) (cell_below d s p is)
+      let change = sum_below-except (λ j. f (cell d j)) (λ j. g (cell d j)) (d.rows * d.cols)
+      (index_in (whole_bounds d.cols d.rows) p) (cell_below d s p is)
       (λ j h ne. same (cell d j) (other_cell p is j ne)) in
-      let here : f (cell d (index_in (whole_bounds d.cols d.rows) p)) ≡ 1 = ap f (cell_back d s p is) ∙ one in
-      let there : g (cell d (index_in (whole_bounds d.cols d.rows) p)) ≡ 0 = ap g (cell_back d s p is) ∙ none in
+      let here : f (cell d (index_in (whole_bounds d.cols d.rows) p)) ≡ 1 =
+      ap f (cell_back d s p is) ∙ one in
+      let there : g (cell d (index_in (whole_bounds d.cols d.rows) p)) ≡ 0 =
+      ap g (cell_back d s p is) ∙ none in
       omega (arith, change, here, there, sum_of_cells g d.cols d.rows)
 
   pub other_test : (p q : Place) → q ≢ p → is_place p q ≡ false
   other_test p q ne = false_from_ne_true _ (λ y. ne (sym (place_is p q y)))
 
   pub drains_itself : (p : Place) → drains_through d p p ≡ true
-  drains_itself p = any_in_range (λ k. is_place p (follow d p k)) (moves d) 0 some_moves (is_place_from p p refl)
+  drains_itself p =
+      any_in_range (λ k. is_place p (follow d p k)) (moves d) 0 some_moves (is_place_from p p refl)
 
   pub reaches_itself : (t : Cutting) (p : Place) → reaches_inside d t p p ≡ true
   reaches_itself t p =
       any_in_range (λ k. is_place p (follow d p k) && stays d t p k) (moves d) 0 some_moves
-      (and_from _ _ (is_place_from p p refl) (all_in_range _ (0 + 1) (λ l h. (let z : 0 ≡ l = omega arith in eq-eqb _ _ (ap (λ n. tile_of_place t (follow d p n)) (sym z))))))
+      (and_from _ _ (is_place_from p p refl) (all_in_range _ (0 + 1) (λ l h. (let z : 0 ≡ l =
+      omega arith in eq-eqb _ _ (ap (λ n. tile_of_place t (follow d p n)) (sym z))))))
 
   pub accumulation_is : (p : Place) → IsCoded d p → all_drained d p ≡ accumulation d p + 1
   accumulation_is p is =
-      one_more (drained d p) (λ q. cond {A = ℕ} (is_some (code_at d q) && not (is_place p q) && drains_through d p q) 1 0) p is
-      (λ q ne. ap (λ x. cond {A = ℕ} (x && drains_through d p q) 1 0) (sym (and_on (is_some (code_at d q)) (not (is_place p q)) (not_from_false _ (other_test p q ne)))))
+      one_more (drained d p) (λ q.
+      cond {A = ℕ} (is_some (code_at d q) && not (is_place p q) && drains_through d p q) 1 0) p is
+      (λ q ne. ap (λ x. cond {A = ℕ} (x && drains_through d p q) 1 0) (sym
+      (and_on (is_some (code_at d q)) (not (is_place p q)) (not_from_false _ (other_test p q ne)))))
       (counted_on d p _ is (drains_itself p))
-      (cond-false {A = ℕ} _ 1 0 (and_left _ _ (and_right _ _ (not_from_true _ (is_place_from p p refl)))))
+      (cond-false {A = ℕ} _ 1 0
+      (and_left _ _ (and_right _ _ (not_from_true _ (is_place_from p p refl)))))
 
-  pub through_is : (t : Cutting) (p : Place) → IsCoded d p → all_drained_inside d t p ≡ through_of d t p + 1
+  pub through_is : (t : Cutting) (p : Place) → IsCoded d p →
+      all_drained_inside d t p ≡ through_of d t p + 1
   through_is t p is =
-      one_more (drained_inside d t p) (λ q. cond {A = ℕ} (is_some (code_at d q) && not (is_place p q) && reaches_inside d t p q) 1 0) p is
-      (λ q ne. ap (λ x. cond {A = ℕ} (x && reaches_inside d t p q) 1 0) (sym (and_on (is_some (code_at d q)) (not (is_place p q)) (not_from_false _ (other_test p q ne)))))
+      one_more (drained_inside d t p) (λ q.
+      cond {A = ℕ} (is_some (code_at d q) && not (is_place p q) && reaches_inside d t p q) 1 0) p is
+      (λ q ne. ap (λ x. cond {A = ℕ} (x && reaches_inside d t p q) 1 0) (sym
+      (and_on (is_some (code_at d q)) (not (is_place p q)) (not_from_false _ (other_test p q ne)))))
       (counted_on d p _ is (reaches_itself t p))
-      (cond-false {A = ℕ} _ 1 0 (and_left _ _ (and_right _ _ (not_from_true _ (is_place_from p p refl)))))
+      (cond-false {A = ℕ} _ 1 0
+      (and_left _ _ (and_right _ _ (not_from_true _ (is_place_from p p refl)))))
 
   -- A count of cells is at most 2^24.
-  pub counted_few : (test : Place → Bool) → sum_below (λ c. cond {A = ℕ} (test (cell d c)) 1 0) (d.rows * d.cols) ≤ 16777216
+  pub counted_few : (test : Place → Bool) →
+      sum_below (λ c. cond {A = ℕ} (test (cell d c)) 1 0) (d.rows * d.cols) ≤ 16777216
   counted_few test =
       let most : d.rows * d.cols ≤ 4096 * 4096 = mul-le-mul s.few_rows s.few_cols in
-      omega (arith, sum_below-few (λ c. cond {A = ℕ} (test (cell d c)) 1 0) (d.rows * d.cols) (λ c h. bit_le _))
+      omega (
+        arith,
+        sum_below-few (λ c. cond {A = ℕ} (test (cell d c)) 1 0) (d.rows * d.cols) (λ c h. bit_le _),
+      )
 
   pub drained_few : (p : Place) → all_drained d p ≤ 16777216
   drained_few p = counted_few (λ q. is_some (code_at d q) && drains_through d p q)
@@ -108,5 +133,7 @@ module _ (d : Directed) (s : IsEnding d) where
   pub drained_inside_few : (t : Cutting) (p : Place) → all_drained_inside d t p ≤ 16777216
   drained_inside_few t p = counted_few (λ q. is_some (code_at d q) && reaches_inside d t p q)
 
-  pub entered_few : (t : Cutting) (p : Place) → sum_below (λ c. entered d t p (cell d c)) (d.rows * d.cols) ≤ 16777216
-  entered_few t p = counted_few (λ q. is_some (code_at d q) && list_any (enters d t p q) (range_with_len 0 (moves d - 1)))
+  pub entered_few : (t : Cutting) (p : Place) →
+      sum_below (λ c. entered d t p (cell d c)) (d.rows * d.cols) ≤ 16777216
+  entered_few t p = counted_few (λ q. is_some (code_at d q)
+      && list_any (enters d t p q) (range_with_len 0 (moves d - 1)))

@@ -9,7 +9,8 @@ use Rattle.flow.specs.Finding.{AreFound, IsKnown, unknown_mark}
 use Rattle.flow.proofs.Sums.{bit_le, sum_below-same}
 
 -- A sequence whose next value depends on the last alone stays where it stops.
-pub stays_from : {X : Type 0} (x : ℕ → X) → ((a b : ℕ) → x a ≡ x b → x (suc a) ≡ x (suc b)) → (k m : ℕ) → k ≤ m → x (suc k) ≡ x k → x m ≡ x k
+pub stays_from : {X : Type 0} (x : ℕ → X) → ((a b : ℕ) → x a ≡ x b → x (suc a) ≡ x (suc b)) →
+    (k m : ℕ) → k ≤ m → x (suc k) ≡ x k → x m ≡ x k
 stays_from {X} x step k zero le stop = let z : 0 ≡ k = omega arith in ap x z
 stays_from {X} x step k (suc m) le stop = elim (cases_eq k (suc m)) [
   | inl e ↦ sym (ap x e)
@@ -21,20 +22,24 @@ module _ (x : ℕ → ℕ) (step : (a b : ℕ) → x a ≡ x b → x (suc a) ≡
   again : (a b : ℕ) → x a ≡ x b → (t : ℕ) → x (a + t) ≡ x (b + t)
   again a b same zero = ap x (add-zero a) ∙ same ∙ sym (ap x (add-zero b))
   again a b same (suc t) =
-      let p : a + suc t ≡ suc (a + t) = omega arith in let q : b + suc t ≡ suc (b + t) = omega arith in
+      let p : a + suc t ≡ suc (a + t) = omega arith in let q : b + suc t ≡ suc (b + t) =
+      omega arith in
       ap x p ∙ step (a + t) (b + t) (again a b same t) ∙ sym (ap x q)
 
   -- A sequence that repeats a value before it stops never stops.
-  never : (n a b : ℕ) → a < b → b ≤ n → x a ≡ x b → ((k : ℕ) → k < n → x (suc k) ≡ x k → ⊥) → (fuel m : ℕ) → m ≤ fuel → x (suc m) ≡ x m → ⊥
+  never : (n a b : ℕ) → a < b → b ≤ n → x a ≡ x b → ((k : ℕ) → k < n → x (suc k) ≡ x k → ⊥) →
+      (fuel m : ℕ) → m ≤ fuel → x (suc m) ≡ x m → ⊥
   never n a b lt le same none zero m few stop = none m (omega arith) stop
   never n a b lt le same none (suc fuel) m few stop = elim (cases_lt m n) [
     | inl l ↦ none m l stop
     | inr far ↦ (let z : b + (m - b) ≡ m = omega arith in
         let back : x (a + (m - b)) ≡ x m = again a b same (m - b) ∙ ap x z in
-        never n a b lt le same none fuel (a + (m - b)) (omega arith) (step (a + (m - b)) m back ∙ stop ∙ sym back))
+        never n a b lt le same none fuel (a + (m - b)) (omega arith) (step (a + (m - b)) m back
+        ∙ stop ∙ sym back))
   ]
 
-  cases_stop : (n : ℕ) → ((k : ℕ) × (k < n) × (x (suc k) ≡ x k)) ⊎ ((k : ℕ) → k < n → x (suc k) ≡ x k → ⊥)
+  cases_stop : (n : ℕ) → ((k : ℕ) × (k < n) × (x (suc k) ≡ x k))
+      ⊎ ((k : ℕ) → k < n → x (suc k) ≡ x k → ⊥)
   cases_stop zero = inr (λ k h _. omega arith)
   cases_stop (suc n) = elim (cases_stop n) [
     | inl r ↦ inl (r.0, omega (arith, r.1), r.2)
@@ -48,28 +53,36 @@ module _ (x : ℕ → ℕ) (step : (a b : ℕ) → x a ≡ x b → x (suc a) ≡
   ]
 
   -- A sequence of values below n that stops at all stops within n values.
-  pub early_stop : (n : ℕ) → ((k : ℕ) → x k < n) → (m : ℕ) → x (suc m) ≡ x m → (k : ℕ) × (k < n) × (x (suc k) ≡ x k)
+  pub early_stop : (n : ℕ) → ((k : ℕ) → x k < n) → (m : ℕ) → x (suc m) ≡ x m → (k : ℕ) × (k < n)
+      × (x (suc k) ≡ x k)
   early_stop n below m stop = elim (cases_stop n) [
     | inl r ↦ r
-    | inr none ↦ (let count : n + 1 ≤ n = pigeonhole n (n + 1) x (λ k l. below k) (λ a b lt le same. never n a b lt (omega arith) same none m m (omega arith) stop) in
+    | inr none ↦ (let count : n + 1 ≤ n = pigeonhole n (n + 1) x (λ k l. below k)
+        (λ a b lt le same. never n a b lt (omega arith) same none m m (omega arith) stop) in
         absurd (omega arith))
   ]
 
 abbrev pub IsStop : List ℕ → ℕ → ℕ → Type 0
 IsStop links i k = onward links (node_after links i k) ≡ node_after links i k
 
-pub inside_along : (links : List ℕ) → ((i : ℕ) → i < length links → onward links i < length links) → (i : ℕ) → i < length links → (k : ℕ) → node_after links i k < length links
+pub inside_along : (links : List ℕ) → ((i : ℕ) → i < length links → onward links i < length links) →
+    (i : ℕ) → i < length links → (k : ℕ) → node_after links i k < length links
 inside_along links inside i h zero = h
-inside_along links inside i h (suc k) = inside (node_after links i k) (inside_along links inside i h k)
+inside_along links inside i h (suc k) =
+    inside (node_after links i k) (inside_along links inside i h k)
 
-pub node_stays : (links : List ℕ) (i k m : ℕ) → k ≤ m → IsStop links i k → node_after links i m ≡ node_after links i k
+pub node_stays : (links : List ℕ) (i k m : ℕ) → k ≤ m → IsStop links i k →
+    node_after links i m ≡ node_after links i k
 node_stays links i = stays_from (node_after links i) (λ a b e. ap (onward links) e)
 
-pub early_end : (links : List ℕ) → ((i : ℕ) → i < length links → onward links i < length links) → (i : ℕ) → i < length links → (m : ℕ) → IsStop links i m →
+pub early_end : (links : List ℕ) → ((i : ℕ) → i < length links → onward links i < length links) →
+    (i : ℕ) → i < length links → (m : ℕ) → IsStop links i m →
     (k : ℕ) × (k < length links) × IsStop links i k
-early_end links inside i h m stop = early_stop (node_after links i) (λ a b e. ap (onward links) e) (length links) (inside_along links inside i h) m stop
+early_end links inside i h m stop = early_stop (node_after links i) (λ a b e.
+    ap (onward links) e) (length links) (inside_along links inside i h) m stop
 
-pub streams_from : (links : List ℕ) → ((i : ℕ) → i < length links → onward links i < length links) → ((i : ℕ) → i < length links → (m : ℕ) × IsStop links i m) → AreStreams links
+pub streams_from : (links : List ℕ) → ((i : ℕ) → i < length links → onward links i < length links) →
+    ((i : ℕ) → i < length links → (m : ℕ) × IsStop links i m) → AreStreams links
 streams_from links inside stops = record {
   inside = inside;
   ends = λ i h. (let s = stops i h in
@@ -78,18 +91,22 @@ streams_from links inside stops = record {
       ap (onward links) last ∙ r.2 ∙ sym last);
 }
 
-pub node_after-inside : (links : List ℕ) → AreStreams links → (i : ℕ) → i < length links → (k : ℕ) → node_after links i k < length links
+pub node_after-inside : (links : List ℕ) → AreStreams links → (i : ℕ) → i < length links → (k : ℕ) →
+    node_after links i k < length links
 node_after-inside links s = inside_along links s.inside
 
-pub node_after-first : (links : List ℕ) (i k : ℕ) → node_after links (onward links i) k ≡ node_after links i (suc k)
+pub node_after-first : (links : List ℕ) (i k : ℕ) →
+    node_after links (onward links i) k ≡ node_after links i (suc k)
 node_after-first links i zero = refl
 node_after-first links i (suc k) = ap (onward links) (node_after-first links i k)
 
-pub node_after-stays : (links : List ℕ) (i : ℕ) → onward links i ≡ i → (k : ℕ) → node_after links i k ≡ i
+pub node_after-stays : (links : List ℕ) (i : ℕ) → onward links i ≡ i → (k : ℕ) →
+    node_after links i k ≡ i
 node_after-stays links i e zero = refl
 node_after-stays links i e (suc k) = ap (onward links) (node_after-stays links i e k) ∙ e
 
-pub end-onward : (links : List ℕ) → AreStreams links → (i : ℕ) → i < length links → end_of links (onward links i) ≡ end_of links i
+pub end-onward : (links : List ℕ) → AreStreams links → (i : ℕ) → i < length links →
+    end_of links (onward links i) ≡ end_of links i
 end-onward links s i h = node_after-first links i (length links) ∙ s.ends i h
 
 -- A node whose path ends where that of `from` does.
@@ -100,62 +117,84 @@ pub next_on_path : (links : List ℕ) → AreStreams links → (from node : ℕ)
     IsOnPath links from node → IsOnPath links from (onward links node)
 next_on_path links s from node on = (s.inside node on.0, end-onward links s node on.0 ∙ on.1)
 
-pub end-along : (links : List ℕ) → AreStreams links → (i : ℕ) → i < length links → (k : ℕ) → end_of links (node_after links i k) ≡ end_of links i
+pub end-along : (links : List ℕ) → AreStreams links → (i : ℕ) → i < length links → (k : ℕ) →
+    end_of links (node_after links i k) ≡ end_of links i
 end-along links s i h zero = refl
-end-along links s i h (suc k) = end-onward links s (node_after links i k) (node_after-inside links s i h k) ∙ end-along links s i h k
+end-along links s i h (suc k) = end-onward links s (node_after links i k)
+    (node_after-inside links s i h k) ∙ end-along links s i h k
 
-pub end-inside : (links : List ℕ) → AreStreams links → (i : ℕ) → i < length links → end_of links i < length links
+pub end-inside : (links : List ℕ) → AreStreams links → (i : ℕ) → i < length links →
+    end_of links i < length links
 end-inside links s i h = node_after-inside links s i h (length links)
 
 -- The number of moves left on a path.
 abbrev pub moves_left : List ℕ → ℕ → ℕ
-moves_left links i = sum_below (λ k. cond {A = ℕ} (eqb (node_after links i k) (end_of links i)) 0 1) (length links)
+moves_left links i =
+    sum_below (λ k. cond {A = ℕ} (eqb (node_after links i k) (end_of links i)) 0 1) (length links)
 
 sum_of_next : (f : ℕ → ℕ) (n : ℕ) → sum_below (λ k. f (suc k)) n + f zero ≡ sum_below f n + f n
 sum_of_next f zero = refl
 sum_of_next f (suc n) = omega (arith, sum_of_next f n)
 
 -- A move leaves one move less.
-pub moves_fall : (links : List ℕ) → AreStreams links → (i : ℕ) → i < length links → onward links i ≢ i → moves_left links (onward links i) + 1 ≡ moves_left links i
+pub moves_fall : (links : List ℕ) → AreStreams links → (i : ℕ) → i < length links →
+    onward links i ≢ i → moves_left links (onward links i) + 1 ≡ moves_left links i
 moves_fall links s i h on =
     let left : ℕ → ℕ = λ k. cond {A = ℕ} (eqb (node_after links i k) (end_of links i)) 0 1 in
-    let here : left zero ≡ 1 = cond-false {A = ℕ} _ 0 1 (ne_eqb i (end_of links i) (λ e. on (ap (onward links) e ∙ s.ends i h ∙ sym e))) in
+    let here : left zero ≡ 1 = cond-false {A =
+    ℕ} _ 0 1 (ne_eqb i (end_of links i) (λ e. on (ap (onward links) e ∙ s.ends i h ∙ sym e))) in
     let last : left (length links) ≡ 0 = cond-true {A = ℕ} _ 0 1 (eq-eqb _ _ refl) in
     let next : moves_left links (onward links i) ≡ sum_below (λ k. left (suc k)) (length links) =
     sum_below-same _ (λ k. left (suc k)) (length links) (λ k _.
-    ap (λ a. cond {A = ℕ} (eqb a (end_of links (onward links i))) 0 1) (node_after-first links i k) ∙ ap (λ b. cond {A = ℕ} (eqb (node_after links i (suc k)) b) 0 1) (end-onward links s i h)) in
+    ap (λ a. cond {A = ℕ} (eqb a (end_of links (onward links i))) 0 1) (node_after-first links i k)
+    ∙ ap (λ b. cond {A = ℕ} (eqb (node_after links i (suc k)) b) 0 1) (end-onward links s i h)) in
     omega (arith, next, sum_of_next left (length links), here, last)
 
 -- The moves left, plus 1 while the node's end is unknown. It falls as ends are noted along a path.
 abbrev pub marks_left : List ℕ → List ℕ → ℕ → ℕ
 marks_left links ends i = moves_left links i + cond {A = ℕ} (eqb (get_or ends i 0) unknown_mark) 1 0
 
-pub marks_fall : (links ends : List ℕ) (i last : ℕ) → AreStreams links → AreFound links ends → i < length links → get_or ends i 0 ≡ unknown_mark → last ≢ unknown_mark →
+pub marks_fall : (links ends : List ℕ) (i last : ℕ) → AreStreams links → AreFound links ends →
+    i < length links → get_or ends i 0 ≡ unknown_mark → last ≢ unknown_mark →
     marks_left links (set ends i last) (onward links i) < marks_left links ends i
 marks_fall links ends i last s f h unknown known =
-    let was : cond {A = ℕ} (eqb (get_or ends i 0) unknown_mark) 1 0 ≡ 1 = cond-true {A = ℕ} _ 1 0 (eq-eqb _ _ unknown) in
+    let was : cond {A = ℕ} (eqb (get_or ends i 0) unknown_mark) 1 0 ≡ 1 =
+    cond-true {A = ℕ} _ 1 0 (eq-eqb _ _ unknown) in
     elim (cases_eq (onward links i) i) [
-      | inl e ↦ (let now : cond {A = ℕ} (eqb (get_or (set ends i last) (onward links i) 0) unknown_mark) 1 0 ≡ 0 =
-          cond-false {A = ℕ} _ 1 0 (ne_eqb _ _ (λ u. known (sym (ap (λ n. get_or (set ends i last) n 0) e ∙ get_or-set_same ends i last 0 (omega (arith, f.size, h))) ∙ u))) in
+      | inl e ↦ (let now :
+          cond {A = ℕ} (eqb (get_or (set ends i last) (onward links i) 0) unknown_mark) 1 0 ≡ 0 =
+          cond-false {A = ℕ} _ 1 0 (ne_eqb _ _ (λ u. known (sym (ap (λ n. get_or (set ends i last)
+          n 0) e ∙ get_or-set_same ends i last 0 (omega (arith, f.size, h))) ∙ u))) in
           omega (arith, was, now, ap (moves_left links) e))
-      | inr on ↦ omega (arith, was, moves_fall links s i h on, bit_le (eqb (get_or (set ends i last) (onward links i) 0) unknown_mark))
+      | inr on ↦ omega (
+        arith,
+        was,
+        moves_fall links s i h on,
+        bit_le (eqb (get_or (set ends i last) (onward links i) 0) unknown_mark),
+      )
     ]
 
 -- A list of ends with one more end noted.
-pub found_more : (links ends : List ℕ) (node end : ℕ) → AreFound links ends → node < length links → end ≡ end_of links node → AreFound links (set ends node end)
+pub found_more : (links ends : List ℕ) (node end : ℕ) → AreFound links ends → node < length links →
+    end ≡ end_of links node → AreFound links (set ends node end)
 found_more links ends node end f h e = record {
   size = length-set ends node end ∙ f.size;
   right = λ i l known. elim (cases_eq i node) [
-    | inl s ↦ ap (λ n. get_or (set ends node end) n 0) s ∙ get_or-set_same ends node end 0 (omega (arith, f.size)) ∙ e ∙ sym (ap (end_of links) s)
-    | inr ne ↦ (let same = get_or-set_other ends node i end 0 ne in same ∙ f.right i l (λ u. known (same ∙ u)))
+    | inl s ↦ ap (λ n. get_or (set ends node end) n 0) s
+        ∙ get_or-set_same ends node end 0 (omega (arith, f.size)) ∙ e ∙ sym (ap (end_of links) s)
+    | inr ne ↦ (let same = get_or-set_other ends node i end 0 ne in same
+        ∙ f.right i l (λ u. known (same ∙ u)))
   ];
 }
 
-pub known_same : (ends : List ℕ) (node end : ℕ) → node < length ends → end ≢ unknown_mark → IsKnown (set ends node end) node
+pub known_same : (ends : List ℕ) (node end : ℕ) → node < length ends → end ≢ unknown_mark →
+    IsKnown (set ends node end) node
 known_same ends node end h ne e = ne (sym (get_or-set_same ends node end 0 h) ∙ e)
 
-pub known_still : (ends : List ℕ) (node end : ℕ) → node < length ends → end ≢ unknown_mark → (i : ℕ) → IsKnown ends i → IsKnown (set ends node end) i
+pub known_still : (ends : List ℕ) (node end : ℕ) → node < length ends → end ≢ unknown_mark →
+    (i : ℕ) → IsKnown ends i → IsKnown (set ends node end) i
 known_still ends node end h ne i known = elim (cases_eq i node) [
-  | inl s ↦ (λ e. known_same ends node end h ne (sym (ap (λ n. get_or (set ends node end) n 0) s) ∙ e))
+  | inl s ↦
+      (λ e. known_same ends node end h ne (sym (ap (λ n. get_or (set ends node end) n 0) s) ∙ e))
   | inr other ↦ (λ e. known (sym (get_or-set_other ends node i end 0 other) ∙ e))
 ]

@@ -18,9 +18,11 @@ use Rattle.flow.specs.Catchments.{fault_of_gauge, gauges_fault}
 use Rattle.flow.specs.CutCodes.{HaveCodes}
 
 -- A place in the grid has a fault exactly if it has no data.
-pub fault_inside : (t : Terrain) (i : ℕ) (p : Place) → p.row < t.rows → p.col < t.cols → sink_fault_of t i p ≡ (if is_none (height_at t p) then Some (OnNodata i) else None)
+pub fault_inside : (t : Terrain) (i : ℕ) (p : Place) → p.row < t.rows → p.col < t.cols →
+    sink_fault_of t i p ≡ (if is_none (height_at t p) then Some (OnNodata i) else None)
 fault_inside t i p row col =
-    ap (λ b. if not b then Some (Outside i) else if is_none (height_at t p) then Some (OnNodata i) else None)
+    ap (λ b.
+    if not b then Some (Outside i) else if is_none (height_at t p) then Some (OnNodata i) else None)
     (and_from (nat_lt p.row t.rows) (nat_lt p.col t.cols) (lt-ltb _ _ row) (lt-ltb _ _ col))
 
 none_is : {X : Type 0} (o : Option X) → is_none o ≡ not (is_some o)
@@ -32,16 +34,19 @@ not_not true = refl
 not_not false = refl
 
 -- A code is `None` exactly where the terrain has no data.
-pub none_of_code : (d : Drained) → IsDraining d → (p : Place) (code : Option ℕ) (none : Bool) → code ≡ code_at (directed_of d) p → is_some code ≡ not none →
+pub none_of_code : (d : Drained) → IsDraining d → (p : Place) (code : Option ℕ) (none : Bool) →
+    code ≡ code_at (directed_of d) p → is_some code ≡ not none →
     is_none (height_at d.terrain p) ≡ none
 none_of_code d draining p code none read is =
-    none_is (height_at d.terrain p) ∙ ap not (sym (draining.same_data p) ∙ ap is_some (sym read) ∙ is) ∙ not_not none
+    none_is (height_at d.terrain p)
+    ∙ ap not (sym (draining.same_data p) ∙ ap is_some (sym read) ∙ is) ∙ not_not none
 
 no_sink_fault : (o : Option SinkFault) → option_map fault_of_gauge o ≡ None → o ≡ None
 no_sink_fault None e = refl
 no_sink_fault (Some f) e = absurd (cc)
 
-module _ (d : Drained) (draining : IsDraining d) (gauges : List Place) (none : gauges_fault d.terrain gauges ≡ None) where
+module _ (d : Drained) (draining : IsDraining d) (gauges : List Place)
+    (none : gauges_fault d.terrain gauges ≡ None) where
   no_fault : sinks_fault d.terrain gauges ≡ None
   no_fault = no_sink_fault (sinks_fault d.terrain gauges) none
 
@@ -57,5 +62,6 @@ module _ (d : Drained) (draining : IsDraining d) (gauges : List Place) (none : g
       subst (λ (q : Place). is_some (code_at (directed_of d) q) ≡ true) there.2
       (draining.same_data (get_or gauges there.0 p) ∙ (all_sound there.0 p there.1).1)
 
-  pub have_codes_in : (t : Cutting) (codes : List (Option ℕ)) → Cuts t d.terrain → codes ≡ d.codes → HaveCodes t.cols t.rows codes gauges
+  pub have_codes_in : (t : Cutting) (codes : List (Option ℕ)) → Cuts t d.terrain → codes ≡ d.codes →
+      HaveCodes t.cols t.rows codes gauges
   have_codes_in t codes cuts same p named = rw (same, cuts.0, cuts.1) (have_codes p named)

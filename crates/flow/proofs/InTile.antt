@@ -18,7 +18,8 @@ use Rattle.flow.proofs.Windows.{all_in_range}
 
 -- The index of the next cell downstream, or i if the water stays or leaves the tile.
 abbrev pub link_in : Directed → Bounds → ℕ → ℕ
-link_in d b i = if is_in_bounds b (next d (place_in b i)) then index_in b (next d (place_in b i)) else i
+link_in d b i =
+    if is_in_bounds b (next d (place_in b i)) then index_in b (next d (place_in b i)) else i
 
 -- 1 for a data cell, and 0 for NODATA.
 abbrev pub weight_in : Directed → Bounds → ℕ → ℕ
@@ -38,14 +39,17 @@ cases_bounds b p = elim (cases_Bool (is_in_bounds b p)) [
   | inr f ↦ inr (λ h. (let t = in_bounds_from b p h in absurd cc))
 ]
 
-pub link-in : (d : Directed) (b : Bounds) (i : ℕ) → IsInBounds b (next d (place_in b i)) → link_in d b i ≡ index_in b (next d (place_in b i))
+pub link-in : (d : Directed) (b : Bounds) (i : ℕ) → IsInBounds b (next d (place_in b i)) →
+    link_in d b i ≡ index_in b (next d (place_in b i))
 link-in d b i h = cond-true _ _ _ (in_bounds_from b _ h)
 
-pub link-out : (d : Directed) (b : Bounds) (i : ℕ) → (IsInBounds b (next d (place_in b i)) → ⊥) → link_in d b i ≡ i
+pub link-out : (d : Directed) (b : Bounds) (i : ℕ) → (IsInBounds b (next d (place_in b i)) → ⊥) →
+    link_in d b i ≡ i
 link-out d b i out = cond-false _ _ _ (false_from_ne_true _ (λ t. out (in_bounds_parts b _ t)))
 
 -- A tile, with its links, of a map of directions whose flow paths all end.
-pub record IsPiece (d : Directed) (c : Cutting) (tile : ℕ) (b : Bounds) (links : List ℕ) : Type 0 where
+pub record IsPiece (d : Directed) (c : Cutting) (tile : ℕ) (b : Bounds) (links : List ℕ) :
+    Type 0 where
   pub cutting : IsCutting c
   pub cols : d.cols ≡ c.cols
   pub rows : d.rows ≡ c.rows
@@ -54,7 +58,8 @@ pub record IsPiece (d : Directed) (c : Cutting) (tile : ℕ) (b : Bounds) (links
   pub places : (p : Place) → IsInTile c tile p ↔ IsInBounds b p
   pub made : AreTileLinks d b links
 
-module _ (d : Directed) (c : Cutting) (tile : ℕ) (b : Bounds) (links : List ℕ) (s : IsPiece d c tile b links) where
+module _ (d : Directed) (c : Cutting) (tile : ℕ) (b : Bounds) (links : List ℕ)
+    (s : IsPiece d c tile b links) where
   pub in_place : (i : ℕ) → i < length links → IsInBounds b (place_in b i)
   in_place i h = place_in_bounds b i s.inside.some_col (omega (arith, h, s.made.size))
 
@@ -63,20 +68,30 @@ module _ (d : Directed) (c : Cutting) (tile : ℕ) (b : Bounds) (links : List �
 
   pub links_inside : (i : ℕ) → i < length links → onward links i < length links
   links_inside i h = elim (cases_bounds b (next d (place_in b i))) [
-    | inl y ↦ omega (arith, link_is i h, link-in d b i y, index_in_below b (next d (place_in b i)) y, s.made.size)
+    | inl y ↦ omega (
+      arith,
+      link_is i h,
+      link-in d b i y,
+      index_in_below b (next d (place_in b i)) y,
+      s.made.size,
+    )
     | inr n ↦ omega (arith, link_is i h, link-out d b i n)
   ]
 
   pub node_inside : (i : ℕ) → i < length links → (k : ℕ) → node_after links i k < length links
   node_inside = inside_along links links_inside
 
-  pub self_link : (i : ℕ) → i < length links → next d (place_in b i) ≡ place_in b i → onward links i ≡ i
+  pub self_link : (i : ℕ) → i < length links → next d (place_in b i) ≡ place_in b i →
+      onward links i ≡ i
   self_link i h e =
-      link_is i h ∙ link-in d b i (subst (λ (q : Place). IsInBounds b q) (sym e) (in_place i h)) ∙ ap (index_in b) e ∙ index_in-place_in b i
+      link_is i h ∙ link-in d b i (subst (λ (q : Place). IsInBounds b q) (sym e) (in_place i h))
+      ∙ ap (index_in b) e ∙ index_in-place_in b i
 
   -- If the next cell downstream is in the tile, the link leads to it.
-  pub link_place : (i : ℕ) → i < length links → IsInBounds b (next d (place_in b i)) → place_in b (onward links i) ≡ next d (place_in b i)
-  link_place i h y = ap (place_in b) (link_is i h ∙ link-in d b i y) ∙ place_in-index_in b (next d (place_in b i)) y
+  pub link_place : (i : ℕ) → i < length links → IsInBounds b (next d (place_in b i)) →
+      place_in b (onward links i) ≡ next d (place_in b i)
+  link_place i h y = ap (place_in b) (link_is i h ∙ link-in d b i y)
+      ∙ place_in-index_in b (next d (place_in b i)) y
 
   -- k moves from node j along links lead where at most k moves of the flow path lead.
   pub record Tracks (j k : ℕ) : Type 0 where
@@ -95,7 +110,8 @@ module _ (d : Directed) (c : Cutting) (tile : ℕ) (b : Bounds) (links : List �
     done = inr (ap (onward links) stop);
   }
 
-  way_on : (j m : ℕ) → ((l : ℕ) → l ≤ m → IsInBounds b (follow d (place_in b j) l)) → IsInBounds b (follow d (place_in b j) (suc m)) →
+  way_on : (j m : ℕ) → ((l : ℕ) → l ≤ m → IsInBounds b (follow d (place_in b j) l)) →
+      IsInBounds b (follow d (place_in b j) (suc m)) →
       (l : ℕ) → l ≤ suc m → IsInBounds b (follow d (place_in b j) l)
   way_on j m way more l le = elim (cases_eq l (suc m)) [
     | inl e ↦ subst (λ (n : ℕ). IsInBounds b (follow d (place_in b j) n)) (sym e) more
@@ -106,7 +122,8 @@ module _ (d : Directed) (c : Cutting) (tile : ℕ) (b : Bounds) (links : List �
   tracks j h zero = record {
     met = 0;
     few = omega arith;
-    way = λ l le. (let z : 0 ≡ l = omega arith in subst (λ (n : ℕ). IsInBounds b (follow d (place_in b j) n)) z (in_place j h));
+    way = λ l le. (let z : 0 ≡ l = omega arith in
+        subst (λ (n : ℕ). IsInBounds b (follow d (place_in b j) n)) z (in_place j h));
     here = refl;
     done = inl refl;
   }
@@ -115,8 +132,10 @@ module _ (d : Directed) (c : Cutting) (tile : ℕ) (b : Bounds) (links : List �
       elim t.done [
         | inr stop ↦ stopped j k t stop
         | inl same ↦ elim (cases_bounds b (next d (place_in b (node_after links j k)))) [
-          | inr out ↦ stopped j k t (link_is (node_after links j k) (node_inside j h k) ∙ link-out d b (node_after links j k) out)
-          | inl y ↦ (let on : next d (place_in b (node_after links j k)) ≡ follow d (place_in b j) (suc t.met) = ap (next d) t.here in
+          | inr out ↦ stopped j k t (link_is (node_after links j k) (node_inside j h k)
+              ∙ link-out d b (node_after links j k) out)
+          | inl y ↦ (let on : next d (place_in b (node_after links j k))
+              ≡ follow d (place_in b j) (suc t.met) = ap (next d) t.here in
               record {
                 met = suc t.met;
                 few = omega (arith, t.few);
@@ -132,11 +151,13 @@ module _ (d : Directed) (c : Cutting) (tile : ℕ) (b : Bounds) (links : List �
     | inl none ↦ (0, self_link j h (none_stays d (place_in b j) none))
     | inr is ↦ (let t = tracks j h (moves d) in elim t.done [
       | inr stop ↦ (moves d, stop)
-      | inl same ↦ (let last : place_in b (node_after links j (moves d)) ≡ last_of d (place_in b j) = t.here ∙ ap (follow d (place_in b j)) same in (
-        moves d,
-        self_link (node_after links j (moves d)) (node_inside j h (moves d))
-            (ap (next d) last ∙ outlet_stays d (last_of d (place_in b j)) (s.ends (place_in b j) is.code is.is) ∙ sym last),
-      ))
+      | inl same ↦ (let last : place_in b (node_after links j (moves d))
+          ≡ last_of d (place_in b j) = t.here ∙ ap (follow d (place_in b j)) same in (
+            moves d,
+            self_link (node_after links j (moves d)) (node_inside j h (moves d))
+                (ap (next d) last ∙ outlet_stays d (last_of d (place_in b j))
+                (s.ends (place_in b j) is.code is.is) ∙ sym last),
+          ))
     ])
   ]
 
@@ -144,7 +165,8 @@ module _ (d : Directed) (c : Cutting) (tile : ℕ) (b : Bounds) (links : List �
   tile_streams = streams_from links links_inside stops
 
   pub coded_within : (p : Place) → IsCoded d p → IsWithin c p
-  coded_within p is = let w = coded_inside d p is in (omega (arith, w.0, s.rows), omega (arith, w.1, s.cols))
+  coded_within p is = let w = coded_inside d p is in
+      (omega (arith, w.0, s.rows), omega (arith, w.1, s.cols))
 
   pub few_cells : length links ≤ moves d
   few_cells =
@@ -155,18 +177,24 @@ module _ (d : Directed) (c : Cutting) (tile : ℕ) (b : Bounds) (links : List �
   pub tile_is : (q : Place) → IsInBounds b q → tile_of_place c q ≡ tile
   tile_is q h = ((s.places q).1 h).1
 
-  pub stays_from_way : (q : Place) (k : ℕ) → ((l : ℕ) → l ≤ k → IsInBounds b (follow d q l)) → stays d c q k ≡ true
+  pub stays_from_way : (q : Place) (k : ℕ) → ((l : ℕ) → l ≤ k → IsInBounds b (follow d q l)) →
+      stays d c q k ≡ true
   stays_from_way q k way = all_in_range _ (k + 1)
-      (λ l h. eq-eqb _ _ (tile_is (follow d q l) (way l (omega arith)) ∙ sym (tile_is q (way 0 (omega arith)))))
+      (λ l h. eq-eqb _ _ (tile_is (follow d q l) (way l (omega arith))
+      ∙ sym (tile_is q (way 0 (omega arith)))))
 
   -- The end of a data cell's path along links is its exit.
-  pub exit_is : (i : ℕ) → i < length links → IsCoded d (place_in b i) → IsExitOf d c (place_in b i) (place_in b (end_of links i))
+  pub exit_is : (i : ℕ) → i < length links → IsCoded d (place_in b i) →
+      IsExitOf d c (place_in b i) (place_in b (end_of links i))
   exit_is i h is =
       let r = early_end links tile_streams.inside i h (length links) (tile_streams.ends i h) in
-      let last : node_after links i r.0 ≡ end_of links i = sym (node_stays links i r.0 (length links) (omega (arith, r.1)) r.2) in
+      let last : node_after links i r.0 ≡ end_of links i =
+      sym (node_stays links i r.0 (length links) (omega (arith, r.1)) r.2) in
       let t = tracks i h r.0 in
-      let at : follow d (place_in b i) t.met ≡ place_in b (end_of links i) = sym t.here ∙ ap (place_in b) last in
-      let coded = subst (λ (q : Place). IsCoded d q) at (coded_along d s.ends (place_in b i) is t.met) in
+      let at : follow d (place_in b i) t.met ≡ place_in b (end_of links i) = sym t.here
+      ∙ ap (place_in b) last in
+      let coded =
+      subst (λ (q : Place). IsCoded d q) at (coded_along d s.ends (place_in b i) is t.met) in
       let stop : onward links (end_of links i) ≡ end_of links i = tile_streams.ends i h in
       let inside = node_inside i h (length links) in (
         t.met,
@@ -179,7 +207,8 @@ module _ (d : Directed) (c : Cutting) (tile : ℕ) (b : Bounds) (links : List �
             | inl y ↦ inl (outlet_from_stays d s.ends (place_in b (end_of links i)) coded
                 (sym (link_place (end_of links i) inside y) ∙ ap (place_in b) stop))
             | inr out ↦ inr (λ same. out ((s.places (next d (place_in b (end_of links i)))).0 (
-              coded_within (next d (place_in b (end_of links i))) (coded_along d s.ends (place_in b (end_of links i)) coded 1),
+              coded_within (next d (place_in b (end_of links i)))
+                  (coded_along d s.ends (place_in b (end_of links i)) coded 1),
               same ∙ tile_is (place_in b (end_of links i)) (in_place (end_of links i) inside),
             )))
           ],

@@ -25,24 +25,31 @@ use Rattle.flow.proofs.Piece.{match_none, match_some}
 use Rattle.flow.proofs.RimFlows.{within_of, last_same, exit_in_tile, exit_of_exit}
 
 -- An outlet's number is below `uncounted`, the stored count of NODATA.
-pub outlet_number_few : (codes : List (Option ℕ)) → length codes ≤ 4096 * 4096 → (i : ℕ) → (outlet_numbers codes).number i < uncounted
+pub outlet_number_few : (codes : List (Option ℕ)) → length codes ≤ 4096 * 4096 → (i : ℕ) →
+    (outlet_numbers codes).number i < uncounted
 outlet_number_few codes few i =
     let before = take i codes in
     omega (arith, few, count_by-le-length is_outlet_code before, length-take i codes)
 
 -- The flows and outlets found for a grid are those of its map of directions.
-pub numbering_of : (t : Cutting) (codes : List (Option ℕ)) (flows joined : List Flow) (o : Outlets) (n : EndNumbers) →
-    AreFlowsOf (make_directed t.cols t.rows codes) t flows → joined ≡ flows → o.cutting ≡ t → ((d : Directed) → AreFlowsOf d t joined → AreOutlets d t joined o) →
-    n.cells ≡ t.cols * t.rows → ((i : ℕ) → i < n.cells → n.number i < uncounted) → IsNumbering (make_directed t.cols t.rows codes) t flows o n
+pub numbering_of : (t : Cutting) (codes : List (Option ℕ)) (flows joined : List Flow) (o : Outlets)
+    (n : EndNumbers) →
+    AreFlowsOf (make_directed t.cols t.rows codes) t flows → joined ≡ flows → o.cutting ≡ t →
+    ((d : Directed) → AreFlowsOf d t joined → AreOutlets d t joined o) →
+    n.cells ≡ t.cols * t.rows → ((i : ℕ) → i < n.cells → n.number i < uncounted) →
+    IsNumbering (make_directed t.cols t.rows codes) t flows o n
 numbering_of t codes flows joined o n are same cutting outlets size few = record {
   are_flows = are;
-  are_outlets = subst (λ (x : List Flow). AreFlowsOf (make_directed t.cols t.rows codes) t x → AreOutlets (make_directed t.cols t.rows codes) t x o) same (outlets (make_directed t.cols t.rows codes)) are;
+  are_outlets = subst (λ (x : List Flow). AreFlowsOf (make_directed t.cols t.rows codes) t x →
+      AreOutlets (make_directed t.cols t.rows codes) t x o) same
+      (outlets (make_directed t.cols t.rows codes)) are;
   same_cutting = cutting;
   size = size;
   few = few;
 }
 
-module _ (d : Directed) (t : Cutting) (flows : List Flow) (o : Outlets) (n : EndNumbers) (s : IsNumbering d t flows o n) where
+module _ (d : Directed) (t : Cutting) (flows : List Flow) (o : Outlets) (n : EndNumbers)
+    (s : IsNumbering d t flows o n) where
   same_cols : o.cutting.cols ≡ d.cols
   same_cols = ap (λ (c : Cutting). c.cols) s.same_cutting ∙ sym s.are_flows.of_tiles.size.0
 
@@ -52,14 +59,17 @@ module _ (d : Directed) (t : Cutting) (flows : List Flow) (o : Outlets) (n : End
 
   last_below : (p : Place) → IsCoded d p → index_of d.cols (last_of d p) < n.cells
   last_below p is =
-      let w = coded_inside d (last_of d p) (coded_along d s.are_flows.ends p is (d.cols * d.rows)) in
+      let w =
+      coded_inside d (last_of d p) (coded_along d s.are_flows.ends p is (d.cols * d.rows)) in
       omega (arith, index_below d.cols d.rows (last_of d p) w.0 w.1, s.size)
 
-  numbered_last : (e : Place) → IsExitCell d t e → IsCoded d e → IfSome (listed_outlet o flows e) (λ q. index_of o.cutting.cols q < n.cells)
+  numbered_last : (e : Place) → IsExitCell d t e → IsCoded d e →
+      IfSome (listed_outlet o flows e) (λ q. index_of o.cutting.cols q < n.cells)
   numbered_last e cell is =
       let below : index_of o.cutting.cols (last_of d e) < n.cells =
       omega (arith, last_below e is, ap (λ cols. index_of cols (last_of d e)) same_cols) in
-      subst (λ (x : Option Place). IfSome x (λ q. index_of o.cutting.cols q < n.cells)) (sym (s.are_outlets.outlets e cell)) below
+      subst (λ (x : Option Place). IfSome x (λ q. index_of o.cutting.cols q < n.cells))
+      (sym (s.are_outlets.outlets e cell)) below
 
   -- The number of each data cell is below `uncounted`, the stored count of NODATA.
   number_few : (p : Place) → IsCoded d p → end_number d n p < uncounted
@@ -73,13 +83,16 @@ module _ (d : Directed) (t : Cutting) (flows : List Flow) (o : Outlets) (n : End
     cell_size = right.lawful.exits_size ∙ ap (λ (b : Bounds). b.rows * b.cols) right.bounds
 
     in_flow : (p : Place) → IsInTile t tile p → IsInBounds f.bounds p
-    in_flow p i = subst (λ (b : Bounds). IsInBounds b p) (sym right.bounds) (in_bounds t tile p s.are_flows.cutting i)
+    in_flow p i = subst (λ (b : Bounds). IsInBounds b p) (sym right.bounds)
+        (in_bounds t tile p s.are_flows.cutting i)
 
     index_few : (p : Place) → IsInTile t tile p → index_in f.bounds p < length f.exits
     index_few p i = omega (arith, index_in_below f.bounds p (in_flow p i), right.lawful.exits_size)
 
-    exit_entry : (p : Place) → IsInTile t tile p → get_or f.exits (index_in f.bounds p) None ≡ exit_in f p
-    exit_entry p i = sym (cond-true {A = Option Place} _ _ _ (in_bounds_from f.bounds p (in_flow p i)))
+    exit_entry : (p : Place) → IsInTile t tile p →
+        get_or f.exits (index_in f.bounds p) None ≡ exit_in f p
+    exit_entry p i =
+        sym (cond-true {A = Option Place} _ _ _ (in_bounds_from f.bounds p (in_flow p i)))
 
     -- The exit of a data cell p, as the flow lists it.
     record Has (p : Place) : Type 0 where
@@ -93,18 +106,28 @@ module _ (d : Directed) (t : Cutting) (flows : List Flow) (o : Outlets) (n : End
     has_exit p i is =
         let m = MatchOption-at_some _ _ is.code is.is (right.each p i) in
         let x = exit_in_tile d t flows s.are_flows p m.0 is m.2 in
-        record { exit = m.0; listed = exit_entry p i ∙ m.1; leads = m.2; coded = x.0; inside = (within_of d t flows s.are_flows m.0 x.0, x.1 ∙ i.1) }
+        record {
+          exit = m.0;
+          listed = exit_entry p i ∙ m.1;
+          leads = m.2;
+          coded = x.0;
+          inside = (within_of d t flows s.are_flows m.0 x.0, x.1 ∙ i.1);
+        }
 
-    no_exit : (p : Place) → IsInTile t tile p → code_at d p ≡ None → get_or f.exits (index_in f.bounds p) None ≡ None
+    no_exit : (p : Place) → IsInTile t tile p → code_at d p ≡ None →
+        get_or f.exits (index_in f.bounds p) None ≡ None
     no_exit p i none = exit_entry p i ∙ MatchOption-at_none _ _ none (right.each p i)
 
     -- Each exit in the list is in the tile, and its outlet has a number.
-    exit_of_tile : (p : Place) → IsInTile t tile p → IfSome (get_or f.exits (index_in f.bounds p) None) (IsExitOfTile o flows n f.bounds)
+    exit_of_tile : (p : Place) → IsInTile t tile p →
+        IfSome (get_or f.exits (index_in f.bounds p) None) (IsExitOfTile o flows n f.bounds)
     exit_of_tile p i = elim (cases_coded d p) [
-      | inl none ↦ subst (λ (x : Option Place). IfSome x (IsExitOfTile o flows n f.bounds)) (sym (no_exit p i none)) tt
+      | inl none ↦ subst (λ (x : Option Place). IfSome x (IsExitOfTile o flows n f.bounds))
+          (sym (no_exit p i none)) tt
       | inr is ↦
           let h = has_exit p i is in
-          subst (λ (x : Option Place). IfSome x (IsExitOfTile o flows n f.bounds)) (sym h.listed) (record {
+          subst (λ (x : Option Place). IfSome x (IsExitOfTile o flows n f.bounds)) (sym h.listed)
+          (record {
             inside = in_flow h.exit h.inside;
             within = subst (λ (c : Cutting). IsWithin c h.exit) (sym s.same_cutting) h.inside.0;
             numbered = numbered_last h.exit (h.leads).4 h.coded;
@@ -115,41 +138,64 @@ module _ (d : Directed) (t : Cutting) (flows : List Flow) (o : Outlets) (n : End
     tile_ready = record {
       size = cell_size;
       exits = λ i. elim (cases_lt i (length f.exits)) [
-        | inr far ↦ subst (λ (x : Option Place). IfSome x (IsExitOfTile o flows n f.bounds)) (sym (get_or_past f.exits i None far)) tt
+        | inr far ↦ subst (λ (x : Option Place). IfSome x (IsExitOfTile o flows n f.bounds))
+            (sym (get_or_past f.exits i None far)) tt
         | inl below ↦
-            let tile_below : tile < tile_count t = omega (arith, slice_get_within flows tile f there, s.are_flows.of_tiles.count) in
-            let inside = subst (λ (b : Bounds). IsInTile t tile (place_in b i)) (sym right.bounds) (place_in_tile t tile i s.are_flows.cutting tile_below (omega (arith, below, cell_size))) in
-            subst (λ k. IfSome (get_or f.exits k None) (IsExitOfTile o flows n f.bounds)) (index_in-place_in f.bounds i) (exit_of_tile (place_in f.bounds i) inside)
+            let tile_below : tile < tile_count t =
+            omega (arith, slice_get_within flows tile f there, s.are_flows.of_tiles.count) in
+            let inside = subst (λ (b : Bounds). IsInTile t tile (place_in b i))
+            (sym right.bounds) (place_in_tile t tile i s.are_flows.cutting tile_below
+            (omega (arith, below, cell_size))) in
+            subst (λ k. IfSome (get_or f.exits k None) (IsExitOfTile o flows n f.bounds))
+            (index_in-place_in f.bounds i) (exit_of_tile (place_in f.bounds i) inside)
       ];
     }
 
     -- The exit number at a cell's exit is the number of the end of the cell's flow path.
-    exit_number_is : (p : Place) → IsCoded d p → (h : Has p) → get_or (exit_numbers_by o flows n f) (index_in f.bounds h.exit) 0 ≡ end_number d n p
+    exit_number_is : (p : Place) → IsCoded d p → (h : Has p) →
+        get_or (exit_numbers_by o flows n f) (index_in f.bounds h.exit) 0 ≡ end_number d n p
     exit_number_is p is h =
         let own = has_exit h.exit h.inside h.coded in
-        let listed : get_or f.exits (index_in f.bounds h.exit) None ≡ Some h.exit = own.listed ∙ ap Some (exit_of_exit d t flows s.are_flows h.exit own.exit (h.leads).4 own.leads) in
-        get_or-map-range_with_len (λ i. exit_number_by o flows n f.bounds i (get_or f.exits i None)) 0 (length f.exits) (index_in f.bounds h.exit) (index_in f.bounds h.exit) 0 (index_few h.exit h.inside) (omega arith)
+        let listed : get_or f.exits (index_in f.bounds h.exit) None ≡ Some h.exit = own.listed
+        ∙ ap Some (exit_of_exit d t flows s.are_flows h.exit own.exit (h.leads).4 own.leads) in
+        get_or-map-range_with_len (λ i. exit_number_by o flows n f.bounds i
+        (get_or f.exits i None)) 0 (length f.exits) (index_in f.bounds h.exit)
+        (index_in f.bounds h.exit) 0 (index_few h.exit h.inside) (omega arith)
         ∙ ap (exit_number_by o flows n f.bounds (index_in f.bounds h.exit)) listed
-        ∙ cond-true {A = ℕ} _ (number_at o.cutting.cols n (listed_outlet o flows h.exit)) 0 (eq-eqb _ _ refl)
+        ∙ cond-true {A = ℕ} _ (number_at o.cutting.cols n (listed_outlet o flows h.exit)) 0
+        (eq-eqb _ _ refl)
         ∙ ap (number_at o.cutting.cols n) (s.are_outlets.outlets h.exit (h.leads).4)
         ∙ number_of_last h.exit
-        ∙ ap (λ (q : Place). n.number (index_of d.cols q)) (last_same d t flows s.are_flows p h.exit (h.leads).0 is (h.leads).3)
+        ∙ ap (λ (q : Place). n.number (index_of d.cols q))
+        (last_same d t flows s.are_flows p h.exit (h.leads).0 is (h.leads).3)
 
     -- The value at each place is the number of the end of its flow path.
-    pub entry_numbered : (values : List (Option ℕ)) → values ≡ cell_numbers_by f.bounds (exit_numbers_by o flows n f) f.exits → (p : Place) → IsInTile t tile p → IsValueAt d (end_number d n) p (tile_entry t tile values p)
+    pub entry_numbered : (values : List (Option ℕ)) →
+        values ≡ cell_numbers_by f.bounds (exit_numbers_by o flows n f) f.exits → (p : Place) →
+        IsInTile t tile p → IsValueAt d (end_number d n) p (tile_entry t tile values p)
     entry_numbered values made p i =
-        let entry : tile_entry t tile values p ≡ cell_number f.bounds (exit_numbers_by o flows n f) (get_or f.exits (index_in f.bounds p) None) =
+        let entry : tile_entry t tile values p ≡ cell_number f.bounds (exit_numbers_by o flows n f)
+        (get_or f.exits (index_in f.bounds p) None) =
         tile_entry-in t tile values p i
         ∙ ap (λ (b : Bounds). get_or values (index_in b p) None) (sym right.bounds)
         ∙ ap (λ (l : List (Option ℕ)). get_or l (index_in f.bounds p) None) made
-        ∙ get_or-map-range_with_len (λ i. cell_number f.bounds (exit_numbers_by o flows n f) (get_or f.exits i None)) 0 (length f.exits) (index_in f.bounds p) (index_in f.bounds p) None (index_few p i) (omega arith) in
+        ∙ get_or-map-range_with_len (λ i. cell_number f.bounds (exit_numbers_by o flows n f)
+        (get_or f.exits i None)) 0 (length f.exits) (index_in f.bounds p) (index_in f.bounds p) None
+        (index_few p i) (omega arith) in
         elim (cases_coded d p) [
-          | inl none ↦ match_none (code_at d p) _ _ none (entry ∙ ap (cell_number f.bounds (exit_numbers_by o flows n f)) (no_exit p i none))
+          | inl none ↦ match_none (code_at d p) _ _ none (entry
+              ∙ ap (cell_number f.bounds (exit_numbers_by o flows n f)) (no_exit p i none))
           | inr is ↦
               let h = has_exit p i is in
-              match_some (code_at d p) _ _ is.code is.is (entry ∙ ap (cell_number f.bounds (exit_numbers_by o flows n f)) h.listed
-              ∙ ap stored_count (exit_number_is p is h) ∙ stored_count_some (end_number d n p) (number_few p is))
+              match_some (code_at d p) _ _ is.code is.is (entry
+              ∙ ap (cell_number f.bounds (exit_numbers_by o flows n f)) h.listed
+              ∙ ap stored_count (exit_number_is p is h)
+              ∙ stored_count_some (end_number d n p) (number_few p is))
         ]
 
   pub ready : AreReady t flows o n
-  ready = record { same_cutting = s.same_cutting; count = s.are_flows.of_tiles.count; each = tile_ready }
+  ready = record {
+    same_cutting = s.same_cutting;
+    count = s.are_flows.of_tiles.count;
+    each = tile_ready;
+  }

@@ -26,7 +26,8 @@ use Rattle.flow.proofs.Sums.{sum_more}
 use Rattle.flow.proofs.Windows.{whole_bounds}
 
 -- The list of a grid's places, from lists of its rows.
-map_ranges : {X : Type 0} (f : ℕ → X) (a n m : ℕ) → map f (range_with_len a n) ++ map f (range_with_len (a + n) m) ≡ map f (range_with_len a (n + m))
+map_ranges : {X : Type 0} (f : ℕ → X) (a n m : ℕ) → map f (range_with_len a n)
+    ++ map f (range_with_len (a + n) m) ≡ map f (range_with_len a (n + m))
 map_ranges f a zero m =
     let z : a + 0 ≡ a = omega arith in
     let y : m ≡ 0 + m = omega arith in
@@ -42,11 +43,14 @@ module _ (cols rows : ℕ) where
   abbrev at : ℕ → Place
   at i = place_in (whole_bounds cols rows) i
 
-  row_places : (r n : ℕ) → n ≤ cols → map (λ (c : ℕ). make_place r c) (range_with_len 0 n) ≡ map at (range_with_len (r * cols) n)
+  row_places : (r n : ℕ) → n ≤ cols →
+      map (λ (c : ℕ). make_place r c) (range_with_len 0 n) ≡ map at (range_with_len (r * cols) n)
   row_places r zero le = refl
   row_places r (suc n) le =
       let here : make_place r n ≡ at (r * cols + n) =
-      same_place (make_place r n) (at (r * cols + n)) (omega (arith, div-mul-add r cols n (omega arith))) (omega (arith, mod-mul-add r cols n (omega arith))) in
+      same_place
+      (make_place r n) (at (r * cols + n)) (omega (arith, div-mul-add r cols n (omega arith)))
+      (omega (arith, mod-mul-add r cols n (omega arith))) in
       ap (λ k. map (λ (c : ℕ). make_place r c) (range_with_len 0 k)) (sym (add-one n))
       ∙ map-range_with_len_more (λ (c : ℕ). make_place r c) 0 n n (omega arith)
       ∙ ap (λ l. l ++ make_place r n ∷ []) (row_places r n (omega arith))
@@ -54,12 +58,14 @@ module _ (cols rows : ℕ) where
       ∙ sym (map-range_with_len_more at (r * cols) n (r * cols + n) (omega arith))
       ∙ ap (λ k. map at (range_with_len (r * cols) k)) (add-one n)
 
-  rows_places : (a n : ℕ) → flat_map (λ (r : ℕ). map (λ (c : ℕ). make_place r c) (range_with_len 0 cols)) (range_with_len a n) ≡ map at (range_with_len (a * cols) (n * cols))
+  rows_places : (a n : ℕ) → flat_map (λ (r : ℕ). map (λ (c : ℕ). make_place r c)
+      (range_with_len 0 cols)) (range_with_len a n) ≡ map at (range_with_len (a * cols) (n * cols))
   rows_places a zero = ap (λ k. map at (range_with_len (a * cols) k)) (sym (zero-mul cols))
   rows_places a (suc n) =
       let size : suc n * cols ≡ cols + n * cols = grind arith in
       let on : (a + 1) * cols ≡ a * cols + cols = omega arith in
-      ap (λ l. l ++ flat_map (λ (r : ℕ). map (λ (c : ℕ). make_place r c) (range_with_len 0 cols)) (range_with_len (a + 1) n)) (row_places a cols (omega arith))
+      ap (λ l. l ++ flat_map (λ (r : ℕ). map (λ (c : ℕ). make_place r c) (range_with_len 0 cols))
+      (range_with_len (a + 1) n)) (row_places a cols (omega arith))
       ∙ ap (λ l. map at (range_with_len (a * cols) cols) ++ l) (rows_places (a + 1) n)
       ∙ ap (λ k. map at (range_with_len (a * cols) cols) ++ map at (range_with_len k (n * cols))) on
       ∙ map_ranges at (a * cols) cols (n * cols)
@@ -69,11 +75,13 @@ module _ (cols rows : ℕ) where
   places_at = rows_places 0 rows ∙ ap (λ k. map at (range_with_len k (rows * cols))) (zero-mul cols)
 
 -- The first place that passes test p, among those that pass test t.
-module _ {X : Type 0} (f : ℕ → X) (p t : X → Bool) (j : ℕ) (here : p (f j) ≡ true) (kept : t (f j) ≡ true) (before : (k : ℕ) → k < j → p (f k) ≡ false) where
+module _ {X : Type 0} (f : ℕ → X) (p t : X → Bool) (j : ℕ) (here : p (f j) ≡ true)
+    (kept : t (f j) ≡ true) (before : (k : ℕ) → k < j → p (f k) ≡ false) where
   abbrev count : ℕ → ℕ
   count n = sum_below (λ k. cond {A = ℕ} (t (f k)) 1 0) n
 
-  filtered : (n a i : ℕ) → a ≤ j → j < a + n → (m : ℕ) × (position_from p i (filter t (map f (range_with_len a n))) ≡ Some (i + m)) × (count a + m ≡ count j)
+  filtered : (n a i : ℕ) → a ≤ j → j < a + n → (m : ℕ) × (position_from p i
+      (filter t (map f (range_with_len a n))) ≡ Some (i + m)) × (count a + m ≡ count j)
   filtered zero a i le lt = absurd (omega arith)
   filtered (suc n) a i le lt = elim (cases_eq a j) [
     | inl e ↦
@@ -81,7 +89,9 @@ module _ {X : Type 0} (f : ℕ → X) (p t : X → Bool) (j : ℕ) (here : p (f 
         let passes : p (f a) ≡ true = ap (λ k. p (f k)) e ∙ here in
         let z : i ≡ i + 0 = omega arith in (
           0,
-          ap (position_from p i) (cond-true (t (f a)) (f a ∷ rest) rest (ap (λ k. t (f k)) e ∙ kept)) ∙ cond-true (p (f a)) (Some i) (position_from p (i + 1) rest) passes ∙ ap Some z,
+          ap (position_from p i) (cond-true (t (f a)) (f a ∷ rest) rest (ap (λ k. t (f k)) e
+              ∙ kept)) ∙ cond-true (p (f a)) (Some i) (position_from p (i + 1) rest) passes
+              ∙ ap Some z,
           omega (arith, ap count e),
         )
     | inr ne ↦
@@ -92,25 +102,39 @@ module _ {X : Type 0} (f : ℕ → X) (p t : X → Bool) (j : ℕ) (here : p (f 
               let r = filtered n (a + 1) (i + 1) (omega arith) (omega arith) in
               let z : i + 1 + r.0 ≡ i + suc r.0 = omega arith in (
                 suc r.0,
-                ap (position_from p i) (cond-true (t (f a)) (f a ∷ rest) rest is_t) ∙ cond-false (p (f a)) (Some i) (position_from p (i + 1) rest) fails ∙ r.1 ∙ ap Some z,
-                omega (arith, r.2, sum_more (λ k. cond {A = ℕ} (t (f k)) 1 0) a, cond-true {A = ℕ} (t (f a)) 1 0 is_t),
+                ap (position_from p i) (cond-true (t (f a)) (f a ∷ rest) rest is_t) ∙ cond-false
+                    (p (f a)) (Some i) (position_from p (i + 1) rest) fails ∙ r.1 ∙ ap Some z,
+                omega (
+                  arith,
+                  r.2,
+                  sum_more (λ k. cond {A = ℕ} (t (f k)) 1 0) a,
+                  cond-true {A = ℕ} (t (f a)) 1 0 is_t,
+                ),
               )
           | inr isnt_t ↦
               let r = filtered n (a + 1) i (omega arith) (omega arith) in (
                 r.0,
                 ap (position_from p i) (cond-false (t (f a)) (f a ∷ rest) rest isnt_t) ∙ r.1,
-                omega (arith, r.2, sum_more (λ k. cond {A = ℕ} (t (f k)) 1 0) a, cond-false {A = ℕ} (t (f a)) 1 0 isnt_t),
+                omega (
+                  arith,
+                  r.2,
+                  sum_more (λ k. cond {A = ℕ} (t (f k)) 1 0) a,
+                  cond-false {A = ℕ} (t (f a)) 1 0 isnt_t,
+                ),
               )
         ]
   ]
 
 -- A place that passes p in a list filtered by t passes both.
-any_filtered : (p t : Place → Bool) (xs : List Place) → list_any p (filter t xs) ≡ true → (x : Place) × (p x ≡ true) × (t x ≡ true)
+any_filtered : (p t : Place → Bool) (xs : List Place) → list_any p (filter t xs) ≡ true →
+    (x : Place) × (p x ≡ true) × (t x ≡ true)
 any_filtered p t [] some = absurd (false≢true some)
 any_filtered p t (x ∷ xs) some = elim (cases_Bool (t x)) [
-  | inr fails ↦ any_filtered p t xs (sym (ap (list_any p) (cond-false (t x) (x ∷ filter t xs) (filter t xs) fails)) ∙ some)
+  | inr fails ↦ any_filtered p t xs
+      (sym (ap (list_any p) (cond-false (t x) (x ∷ filter t xs) (filter t xs) fails)) ∙ some)
   | inl holds ↦
-      let here = sym (ap (list_any p) (cond-true (t x) (x ∷ filter t xs) (filter t xs) holds)) ∙ some in
+      let here = sym (ap (list_any p) (cond-true (t x) (x ∷ filter t xs) (filter t xs) holds))
+      ∙ some in
       elim (cases_Bool (p x)) [
         | inl is ↦ (x, is, holds)
         | inr isnt ↦ any_filtered p t xs (ap (λ b. b || list_any p (filter t xs)) (sym isnt) ∙ here)
@@ -121,7 +145,8 @@ module _ (d : Directed) (s : IsEnding d) (size : length d.codes ≡ d.cols * d.r
   abbrev is_outlet : Place → Bool
   is_outlet q = is_outlet_code (code_at d q)
 
-  outlet_from : (q : Place) (o : Option ℕ) → code_at d q ≡ o → is_outlet_code o ≡ true → IsOutlet d q
+  outlet_from : (q : Place) (o : Option ℕ) → code_at d q ≡ o → is_outlet_code o ≡ true →
+      IsOutlet d q
   outlet_from q None e is = absurd (false≢true is)
   outlet_from q (Some c) e is = e ∙ ap Some (eqb-true c 0 is)
 
@@ -135,18 +160,23 @@ module _ (d : Directed) (s : IsEnding d) (size : length d.codes ≡ d.cols * d.r
   code_of_cell : (k : ℕ) → k < d.rows * d.cols → code_at d (cell d k) ≡ get_or d.codes k None
   code_of_cell k below =
       let w = place_in_bounds (whole_bounds d.cols d.rows) k s.some_col below in
-      entry-inside d.cols d.rows d.codes (cell d k) (omega (arith, w)) (omega (arith, w)) ∙ ap (λ i. get_or d.codes i None) (index_of_cell k)
+      entry-inside d.cols d.rows d.codes (cell d k) (omega (arith, w)) (omega (arith, w))
+      ∙ ap (λ i. get_or d.codes i None) (index_of_cell k)
 
-  counted : (i : ℕ) → i ≤ d.rows * d.cols → count_by is_outlet_code (take i d.codes) ≡ sum_below (λ k. cond {A = ℕ} (is_outlet (cell d k)) 1 0) i
+  counted : (i : ℕ) → i ≤ d.rows * d.cols → count_by is_outlet_code (take i d.codes)
+      ≡ sum_below (λ k. cond {A = ℕ} (is_outlet (cell d k)) 1 0) i
   counted zero le = refl
   counted (suc i) le =
       let turned : d.rows * d.cols ≡ d.cols * d.rows = grind arith in
-      let here : cond {A = ℕ} (is_outlet_code (get_or d.codes i None)) 1 0 ≡ cond {A = ℕ} (is_outlet (cell d i)) 1 0 =
-      ap (λ (o : Option ℕ). cond {A = ℕ} (is_outlet_code o) 1 0) (sym (code_of_cell i (omega arith))) in
+      let here : cond {A = ℕ} (is_outlet_code (get_or d.codes i None)) 1 0
+      ≡ cond {A = ℕ} (is_outlet (cell d i)) 1 0 =
+      ap (λ (o : Option ℕ). cond {A = ℕ} (is_outlet_code o) 1 0)
+      (sym (code_of_cell i (omega arith))) in
       omega (
         arith,
         ap (λ k. count_by is_outlet_code (take k d.codes)) (add-one i),
-        sum_by_more (λ (o : Option ℕ). cond {A = ℕ} (is_outlet_code o) 1 0) d.codes i None (omega (arith, size, turned)),
+        sum_by_more (λ (o : Option ℕ). cond {A = ℕ} (is_outlet_code o) 1 0) d.codes i None
+            (omega (arith, size, turned)),
         counted i (omega arith),
         here,
       )
@@ -154,26 +184,42 @@ module _ (d : Directed) (s : IsEnding d) (size : length d.codes ≡ d.cols * d.r
   coded_outlet : (q : Place) → IsOutlet d q → IsCoded d q
   coded_outlet q is = record { code = 0; is = is }
 
-  other_index : (q : Place) → IsCoded d q → (k : ℕ) → k < index_in (whole_bounds d.cols d.rows) q → is_place q (cell d k) ≡ false
+  other_index : (q : Place) → IsCoded d q → (k : ℕ) → k < index_in (whole_bounds d.cols d.rows) q →
+      is_place q (cell d k) ≡ false
   other_index q is k less = false_from_ne_true _ (λ same.
-      (let e = ap (index_in (whole_bounds d.cols d.rows)) (place_is q (cell d k) same) ∙ index_in-place_in (whole_bounds d.cols d.rows) k in omega (arith, e)))
+      (let e = ap (index_in (whole_bounds d.cols d.rows)) (place_is q (cell d k) same)
+      ∙ index_in-place_in (whole_bounds d.cols d.rows) k in omega (arith, e)))
 
-  pub outlet_number : (q : Place) → IsOutlet d q → gauge_number (outlets d) q ≡ 1 + count_by is_outlet_code (take (index_of d.cols q) d.codes)
+  pub outlet_number : (q : Place) → IsOutlet d q →
+      gauge_number (outlets d) q ≡ 1 + count_by is_outlet_code (take (index_of d.cols q) d.codes)
   outlet_number q is =
       let coded = coded_outlet q is in
       let j = index_in (whole_bounds d.cols d.rows) q in
       let back = cell_back d s q coded in
       let below = cell_below d s q coded in
       let index : index_of d.cols q ≡ j = sym (ap (index_of d.cols) back) ∙ index_of_cell j in
-      let r = filtered (cell d) (is_place q) is_outlet j (is_place_from q (cell d j) (sym back)) (ap is_outlet back ∙ ap is_outlet_code is) (other_index q coded) (d.rows * d.cols) 0 1 (omega arith) (omega (arith, below)) in
+      let r = filtered (cell d) (is_place q) is_outlet j (is_place_from q (cell d j) (sym back))
+      (ap is_outlet back ∙ ap is_outlet_code is) (other_index q coded) (d.rows * d.cols) 0 1
+      (omega arith) (omega (arith, below)) in
       let number : gauge_number (outlets d) q ≡ 1 + r.0 =
-      ap (λ l. unwrap_or (position_from (is_place q) 1 (filter is_outlet l)) 0) (places_at d.cols d.rows) ∙ ap (λ (o : Option ℕ). unwrap_or o 0) r.1 in
-      omega (arith, number, r.2, counted j (omega (arith, below)), ap (λ i. count_by is_outlet_code (take i d.codes)) index)
+      ap (λ l. unwrap_or (position_from (is_place q) 1 (filter is_outlet l)) 0)
+      (places_at d.cols d.rows) ∙ ap (λ (o : Option ℕ). unwrap_or o 0) r.1 in
+      omega (
+        arith,
+        number,
+        r.2,
+        counted j (omega (arith, below)),
+        ap (λ i. count_by is_outlet_code (take i d.codes)) index,
+      )
 
   named_outlet : (q : Place) → IsOutlet d q → list_any (is_place q) (outlets d) ≡ true
   named_outlet q is = elim (cases_Bool (list_any (is_place q) (outlets d))) [
     | inl named ↦ named
-    | inr isnt ↦ absurd (omega (arith, outlet_number q is, ap (λ (o : Option ℕ). unwrap_or o 0) (position_none (is_place q) 1 (outlets d) isnt)))
+    | inr isnt ↦ absurd (omega (
+      arith,
+      outlet_number q is,
+      ap (λ (o : Option ℕ). unwrap_or o 0) (position_none (is_place q) 1 (outlets d) isnt),
+    ))
   ]
 
   outlet_named : (q : Place) → list_any (is_place q) (outlets d) ≡ true → IsOutlet d q
@@ -182,13 +228,20 @@ module _ (d : Directed) (s : IsEnding d) (size : length d.codes ≡ d.cols * d.r
       outlet_from q (code_at d q) refl (ap is_outlet (place_is q r.0 r.1) ∙ r.2)
 
   pub basins_are : (p : Place) → IsCoded d p → catchment d (outlets d) p ≡ basin d p
-  basins_are p is = elim (cases_first (λ q. list_any (is_place q) (outlets d)) (follow d p) (moves d)) [
-    | inl w ↦
-        let here = outlet_named (follow d p w.at) w.passes in
-        let last : last_of d p ≡ follow d p w.at = follow_stays d p w.at (moves d) (omega (arith, w.below)) (outlet_stays d (follow d p w.at) here) in
-        ap (λ (o : Option Place). option_map_or (gauge_number (outlets d)) o 0) w.found ∙ outlet_number (follow d p w.at) here
-        ∙ sym (ap (λ (q : Place). 1 + count_by is_outlet_code (take (index_of d.cols q) d.codes)) last)
-    | inr w ↦
-        let m = reached_early d s p (last_of d p) is (moves d) refl in
-        absurd (false≢true (sym (w.fails m.0 m.1) ∙ ap (λ q. list_any (is_place q) (outlets d)) m.3 ∙ named_outlet (last_of d p) (s.ends p is.code is.is)))
-  ]
+  basins_are p is =
+      elim (cases_first (λ q. list_any (is_place q) (outlets d)) (follow d p) (moves d)) [
+        | inl w ↦
+            let here = outlet_named (follow d p w.at) w.passes in
+            let last : last_of d p ≡ follow d p w.at = follow_stays d p w.at (moves d)
+            (omega (arith, w.below)) (outlet_stays d (follow d p w.at) here) in
+            ap (λ (o : Option Place). option_map_or (gauge_number (outlets d)) o 0) w.found
+            ∙ outlet_number (follow d p w.at) here
+            ∙ sym
+            (ap (λ (q : Place). 1 + count_by is_outlet_code (take (index_of d.cols q) d.codes))
+            last)
+        | inr w ↦
+            let m = reached_early d s p (last_of d p) is (moves d) refl in
+            absurd
+            (false≢true (sym (w.fails m.0 m.1) ∙ ap (λ q. list_any (is_place q) (outlets d)) m.3
+            ∙ named_outlet (last_of d p) (s.ends p is.code is.is)))
+      ]

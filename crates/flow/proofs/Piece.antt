@@ -23,18 +23,26 @@ use Rattle.flow.proofs.InTile.{AreTileLinks, AreTileWeights, IsPiece, tile_strea
 use Rattle.flow.proofs.TileTotals.{own_totals}
 
 pub small_bounds : (t : Cutting) (b : Bounds) → IsCutting t → AreBounds t b → IsSmall b
-small_bounds t b h a = record { some_col = a.some_col; few_rows = omega (arith, h.few_rows, a.rows_inside); few_cols = omega (arith, h.few_cols, a.cols_inside) }
-
-pub links_from : (d : Directed) (b : Bounds) (cells : List (Option ℕ)) → AreTileCodes d b cells → AreTileLinks d b (links_by b cells)
-links_from d b cells codes = record {
-  size = length-map-range_with_len (λ i. link_by b i (get_or cells i None)) 0 (b.rows * b.cols);
-  each = λ i h. get_or-map-range_with_len (λ i. link_by b i (get_or cells i None)) 0 (b.rows * b.cols) i i 0 h (omega arith) ∙ ap (link_by b i) (codes.each i h);
+small_bounds t b h a = record {
+  some_col = a.some_col;
+  few_rows = omega (arith, h.few_rows, a.rows_inside);
+  few_cols = omega (arith, h.few_cols, a.cols_inside);
 }
 
-pub weights_from : (d : Directed) (b : Bounds) (cells : List (Option ℕ)) → AreTileCodes d b cells → AreTileWeights d b (weights_by cells)
+pub links_from : (d : Directed) (b : Bounds) (cells : List (Option ℕ)) → AreTileCodes d b cells →
+    AreTileLinks d b (links_by b cells)
+links_from d b cells codes = record {
+  size = length-map-range_with_len (λ i. link_by b i (get_or cells i None)) 0 (b.rows * b.cols);
+  each = λ i h. get_or-map-range_with_len (λ i. link_by b i (get_or cells i None)) 0
+      (b.rows * b.cols) i i 0 h (omega arith) ∙ ap (link_by b i) (codes.each i h);
+}
+
+pub weights_from : (d : Directed) (b : Bounds) (cells : List (Option ℕ)) → AreTileCodes d b cells →
+    AreTileWeights d b (weights_by cells)
 weights_from d b cells codes = record {
   size = length-map cells (λ (code : Option ℕ). cond {A = ℕ} (is_some code) 1 0) ∙ codes.size;
-  each = λ i h. get_or-map (λ (code : Option ℕ). cond {A = ℕ} (is_some code) 1 0) cells i None 0 (omega (arith, codes.size))
+  each = λ i h. get_or-map (λ (code : Option ℕ). cond {A = ℕ} (is_some code) 1 0) cells i None 0
+      (omega (arith, codes.size))
       ∙ ap (λ (code : Option ℕ). cond {A = ℕ} (is_some code) 1 0) (codes.each i h);
 }
 
@@ -44,7 +52,8 @@ ends_are links = record {
   each = λ i h. get_or-map-range_with_len (end_of links) 0 (length links) i i 0 h (omega arith);
 }
 
-few_cells : (b : Bounds) → b.top + b.rows ≤ longest_axis → b.left + b.cols ≤ longest_axis → b.rows * b.cols ≤ 2 ^ 24
+few_cells : (b : Bounds) → b.top + b.rows ≤ longest_axis → b.left + b.cols ≤ longest_axis →
+    b.rows * b.cols ≤ 2 ^ 24
 few_cells b rows cols =
     let r : b.rows ≤ 4096 = omega (arith, rows) in
     let k : b.cols ≤ 4096 = omega (arith, cols) in
@@ -52,20 +61,25 @@ few_cells b rows cols =
     omega arith
 
 -- Sizes and entries of the lists of one flow.
-module _ (b : Bounds) (cells : List (Option ℕ)) (links upstream rim_ends : List ℕ) (s : AreFlowLists b cells links upstream rim_ends) where
+module _ (b : Bounds) (cells : List (Option ℕ)) (links upstream rim_ends : List ℕ)
+    (s : AreFlowLists b cells links upstream rim_ends) where
   pub as_many_links : length links ≡ length cells
-  as_many_links = ap length s.linked ∙ length-map-range_with_len (λ i. link_by b i (get_or cells i None)) 0 (b.rows * b.cols) ∙ sym s.lawful.codes_size
+  as_many_links = ap length s.linked ∙ length-map-range_with_len (λ i.
+      link_by b i (get_or cells i None)) 0 (b.rows * b.cols) ∙ sym s.lawful.codes_size
 
   pub end_listed : (i : ℕ) → i < length cells → end_of links i ≡ get_or (ends_by links) i 0
   end_listed i h = sym ((ends_are links).each i (omega (arith, h, as_many_links)))
 
   -- Ends of paths along the links of a flow's codes are ends of paths along its list of links.
-  pub ends_seen : (f : Flow) → flow_by b cells upstream (ends_by links) ≡ f → (ends : List ℕ) → AreEnds (links_by f.bounds f.codes) ends → AreEnds links ends
+  pub ends_seen : (f : Flow) → flow_by b cells upstream (ends_by links) ≡ f → (ends : List ℕ) →
+      AreEnds (links_by f.bounds f.codes) ends → AreEnds links ends
   ends_seen f seen ends are =
-      subst (λ (l : List ℕ). AreEnds l ends) (sym s.linked) (subst (λ (z : Flow). AreEnds (links_by z.bounds z.codes) ends) (sym seen) are)
+      subst (λ (l : List ℕ). AreEnds l ends) (sym s.linked)
+      (subst (λ (z : Flow). AreEnds (links_by z.bounds z.codes) ends) (sym seen) are)
 
 -- The lists made for a tile that a view shows.
-pub record AreLists (v : View (Option ℕ)) (b : Bounds) (cells : List (Option ℕ)) (links weights : List ℕ) : Type 0 where
+pub record AreLists (v : View (Option ℕ)) (b : Bounds) (cells : List (Option ℕ))
+    (links weights : List ℕ) : Type 0 where
   pub ends : AllFlowEnds (directed_by v)
   pub bounds : b ≡ bounds_of v.cutting v.tile
   pub inside : AreBounds v.cutting b
@@ -74,8 +88,11 @@ pub record AreLists (v : View (Option ℕ)) (b : Bounds) (cells : List (Option �
   pub made : links ≡ links_by b cells
   pub weighed : weights ≡ weights_by cells
 
-pub lists_made : (v : View (Option ℕ)) (b : Bounds) (cells given : List (Option ℕ)) (links : List ℕ) → AllFlowEnds (directed_by v) → b ≡ bounds_of v.cutting v.tile → AreBounds v.cutting b → IsView v →
-    AreTileCodes (directed_by v) (bounds_of v.cutting v.tile) cells → given ≡ cells → links ≡ links_by b given → AreLists v b cells links (weights_by cells)
+pub lists_made : (v : View (Option ℕ)) (b : Bounds) (cells given : List (Option ℕ))
+    (links : List ℕ) → AllFlowEnds (directed_by v) → b ≡ bounds_of v.cutting v.tile →
+    AreBounds v.cutting b → IsView v →
+    AreTileCodes (directed_by v) (bounds_of v.cutting v.tile) cells → given ≡ cells →
+    links ≡ links_by b given → AreLists v b cells links (weights_by cells)
 lists_made v b cells given links ends is inside lawful codes same made = record {
   ends = ends;
   bounds = is;
@@ -86,18 +103,22 @@ lists_made v b cells given links ends is inside lawful codes same made = record 
   weighed = refl;
 }
 
-pub match_none : {X : Type 0} (o : Option X) (P : Type 0) (Q : X → Type 0) → o ≡ None → P → MatchOption o P Q
+pub match_none : {X : Type 0} (o : Option X) (P : Type 0) (Q : X → Type 0) → o ≡ None → P →
+    MatchOption o P Q
 match_none {X} o P Q e p = subst (λ (z : Option X). MatchOption z P Q) (sym e) p
 
-pub match_some : {X : Type 0} (o : Option X) (P : Type 0) (Q : X → Type 0) (x : X) → o ≡ Some x → Q x → MatchOption o P Q
+pub match_some : {X : Type 0} (o : Option X) (P : Type 0) (Q : X → Type 0) (x : X) → o ≡ Some x →
+    Q x → MatchOption o P Q
 match_some {X} o P Q x e q = subst (λ (z : Option X). MatchOption z P Q) (sym e) q
 
 -- An entry made by `where_data` has its value at a data cell, and is `None` at NODATA.
-pub match_data : {X : Type 0} (o : Option ℕ) (x y : X) (entry : Option X) → entry ≡ where_data o x → ((code : ℕ) → o ≡ Some code → x ≡ y) → MatchOption o (entry ≡ None) (λ _. entry ≡ Some y)
+pub match_data : {X : Type 0} (o : Option ℕ) (x y : X) (entry : Option X) → entry ≡ where_data o x →
+    ((code : ℕ) → o ≡ Some code → x ≡ y) → MatchOption o (entry ≡ None) (λ _. entry ≡ Some y)
 match_data None x y entry e same = e
 match_data (Some code) x y entry e same = e ∙ ap Some (same code refl)
 
-module _ (v : View (Option ℕ)) (b : Bounds) (cells : List (Option ℕ)) (links weights : List ℕ) (s : AreLists v b cells links weights) where
+module _ (v : View (Option ℕ)) (b : Bounds) (cells : List (Option ℕ)) (links weights : List ℕ)
+    (s : AreLists v b cells links weights) where
   pub piece : IsPiece (directed_by v) v.cutting v.tile b links
   piece = record {
     cutting = s.lawful.cutting;
@@ -106,26 +127,35 @@ module _ (v : View (Option ℕ)) (b : Bounds) (cells : List (Option ℕ)) (links
     ends = s.ends;
     inside = s.inside;
     places = places_from_value v.cutting v.tile b s.lawful.cutting s.lawful.tile s.bounds;
-    made = subst (λ (l : List ℕ). AreTileLinks (directed_by v) b l) (sym s.made) (links_from (directed_by v) b cells s.codes);
+    made = subst (λ (l : List ℕ). AreTileLinks (directed_by v) b l) (sym s.made)
+        (links_from (directed_by v) b cells s.codes);
   }
 
   weighs : AreTileWeights (directed_by v) b weights
-  weighs = subst (λ (w : List ℕ). AreTileWeights (directed_by v) b w) (sym s.weighed) (weights_from (directed_by v) b cells s.codes)
+  weighs = subst (λ (w : List ℕ). AreTileWeights (directed_by v) b w) (sym s.weighed)
+      (weights_from (directed_by v) b cells s.codes)
 
   pub streams : AreStreams links
   streams = tile_streams (directed_by v) v.cutting v.tile b links piece
 
   pub few : length links ≤ 2 ^ 24
-  few = let small = small_bounds v.cutting b s.lawful.cutting s.inside in omega (arith, piece.made.size, few_cells b small.few_rows small.few_cols)
+  few = let small = small_bounds v.cutting b s.lawful.cutting s.inside in
+      omega (arith, piece.made.size, few_cells b small.few_rows small.few_cols)
 
   ending : IsEnding (directed_by v)
   ending = ending_of (directed_by v) v.cutting s.ends s.lawful.cutting (refl, refl)
 
-  total_drained_inside : (i : ℕ) → i < length links → total links weights i ≡ all_drained_inside (directed_by v) v.cutting (place_in b i)
-  total_drained_inside = total_is links weights _ streams (own_totals (directed_by v) ending v.cutting v.tile b links piece weights weighs)
+  total_drained_inside : (i : ℕ) → i < length links →
+      total links weights i ≡ all_drained_inside (directed_by v) v.cutting (place_in b i)
+  total_drained_inside = total_is links weights _ streams
+      (own_totals (directed_by v) ending v.cutting v.tile b links piece weights weighs)
 
   pub fits : (i : ℕ) → i < length links → total links weights i < 2 ^ 32
-  fits i h = omega (arith, total_drained_inside i h, drained_inside_few (directed_by v) ending v.cutting (place_in b i))
+  fits i h = omega (
+    arith,
+    total_drained_inside i h,
+    drained_inside_few (directed_by v) ending v.cutting (place_in b i),
+  )
 
   pub sizes : length links ≡ length cells
   sizes = piece.made.size ∙ sym s.codes.size
@@ -133,20 +163,26 @@ module _ (v : View (Option ℕ)) (b : Bounds) (cells : List (Option ℕ)) (links
   in_cells : (p : Place) → IsInBounds b p → index_in b p < length cells
   in_cells p h = omega (arith, index_in_below b p h, s.codes.size)
 
-  code_is : (p : Place) → IsInBounds b p → get_or cells (index_in b p) None ≡ code_at (directed_by v) p
-  code_is p h = s.codes.each (index_in b p) (index_in_below b p h) ∙ ap (code_at (directed_by v)) (place_in-index_in b p h)
+  code_is : (p : Place) → IsInBounds b p →
+      get_or cells (index_in b p) None ≡ code_at (directed_by v) p
+  code_is p h = s.codes.each (index_in b p) (index_in_below b p h)
+      ∙ ap (code_at (directed_by v)) (place_in-index_in b p h)
 
   module _ (upstream : List ℕ) (up : AreUpstream links weights upstream) where
     pub upstream_size : length upstream ≡ length cells
     upstream_size = up.size ∙ sizes
 
-    pub through_is : (p : Place) → IsInBounds b p → entry_in b (through_list cells upstream) p ≡ where_data (code_at (directed_by v) p) (get_or upstream (index_in b p) 0)
+    pub through_is : (p : Place) → IsInBounds b p → entry_in b (through_list cells upstream) p
+        ≡ where_data (code_at (directed_by v) p) (get_or upstream (index_in b p) 0)
     through_is p h =
         entry_in-inside b (through_list cells upstream) p h
-        ∙ get_or-map-range_with_len (λ i. where_data (get_or cells i None) (get_or upstream i 0)) 0 (length upstream) (index_in b p) (index_in b p) None (omega (arith, in_cells p h, upstream_size)) (omega arith)
+        ∙ get_or-map-range_with_len (λ i.
+        where_data (get_or cells i None) (get_or upstream i 0)) 0 (length upstream) (index_in b p)
+        (index_in b p) None (omega (arith, in_cells p h, upstream_size)) (omega arith)
         ∙ ap (λ o. where_data o (get_or upstream (index_in b p) 0)) (code_is p h)
 
-    pub count_of : (p : Place) → IsInBounds b p → IsCoded (directed_by v) p → get_or upstream (index_in b p) 0 ≡ through_of (directed_by v) v.cutting p
+    pub count_of : (p : Place) → IsInBounds b p → IsCoded (directed_by v) p →
+        get_or upstream (index_in b p) 0 ≡ through_of (directed_by v) v.cutting p
     count_of p h is =
         let at = place_in-index_in b p h in
         let i : index_in b p < length links = omega (arith, in_cells p h, sizes) in
@@ -162,20 +198,25 @@ module _ (v : View (Option ℕ)) (b : Bounds) (cells : List (Option ℕ)) (links
         ∙ ap (through_of (directed_by v) v.cutting) at
 
   module _ (ends : List ℕ) (last : AreEnds links ends) where
-    exit_entry : (p : Place) → IsInBounds b p → entry_in b (exits_by b cells ends) p ≡ where_data (code_at (directed_by v) p) (place_in b (get_or ends (index_in b p) 0))
+    exit_entry : (p : Place) → IsInBounds b p → entry_in b (exits_by b cells ends) p
+        ≡ where_data (code_at (directed_by v) p) (place_in b (get_or ends (index_in b p) 0))
     exit_entry p h =
         entry_in-inside b (exits_by b cells ends) p h
-        ∙ get_or-map-range_with_len (λ i. where_data (get_or cells i None) (place_in b (get_or ends i 0))) 0 (length cells) (index_in b p) (index_in b p) None (in_cells p h) (omega arith)
+        ∙ get_or-map-range_with_len (λ i. where_data (get_or cells i None) (place_in b (get_or ends
+        i 0))) 0 (length cells) (index_in b p) (index_in b p) None (in_cells p h) (omega arith)
         ∙ ap (λ o. where_data o (place_in b (get_or ends (index_in b p) 0))) (code_is p h)
 
-    exit_of : (p : Place) → IsInBounds b p → IsCoded (directed_by v) p → IsExitOf (directed_by v) v.cutting p (place_in b (get_or ends (index_in b p) 0))
+    exit_of : (p : Place) → IsInBounds b p → IsCoded (directed_by v) p →
+        IsExitOf (directed_by v) v.cutting p (place_in b (get_or ends (index_in b p) 0))
     exit_of p h is =
         let at = place_in-index_in b p h in
         let i : index_in b p < length links = omega (arith, in_cells p h, sizes) in
         let there = subst (λ (q : Place). IsCoded (directed_by v) q) (sym at) is in
         let e = exit_is (directed_by v) v.cutting v.tile b links piece (index_in b p) i there in
-        subst (λ (q : Place). IsExitOf (directed_by v) v.cutting q (place_in b (get_or ends (index_in b p) 0))) at
-        (subst (λ n. IsExitOf (directed_by v) v.cutting (place_in b (index_in b p)) (place_in b n)) (sym (last.each (index_in b p) i)) e)
+        subst (λ (q : Place).
+        IsExitOf (directed_by v) v.cutting q (place_in b (get_or ends (index_in b p) 0))) at
+        (subst (λ n. IsExitOf (directed_by v) v.cutting (place_in b (index_in b p)) (place_in b n))
+        (sym (last.each (index_in b p) i)) e)
 
     pub flow_lawful : (upstream : List ℕ) → IsFlow (flow_by b cells upstream ends)
     flow_lawful upstream =
@@ -185,60 +226,90 @@ module _ (v : View (Option ℕ)) (b : Bounds) (cells : List (Option ℕ)) (links
           few_rows = small.few_rows;
           few_cols = small.few_cols;
           codes_size = s.codes.size;
-          exits_size = length-map-range_with_len (λ i. where_data (get_or cells i None) (place_in b (get_or ends i 0))) 0 (length cells) ∙ s.codes.size;
+          exits_size = length-map-range_with_len (λ i. where_data (get_or cells i None)
+              (place_in b (get_or ends i 0))) 0 (length cells) ∙ s.codes.size;
         }
 
-    pub exits_are : (upstream : List ℕ) → IsTileExits (directed_by v) v.cutting v.tile (flow_by b cells upstream ends)
+    pub exits_are : (upstream : List ℕ) →
+        IsTileExits (directed_by v) v.cutting v.tile (flow_by b cells upstream ends)
     exits_are upstream = record {
       bounds = s.bounds;
       lawful = flow_lawful upstream;
-      same_codes = λ p i. (let h = (piece.places p).0 i in entry_in-inside b cells p h ∙ code_is p h);
+      same_codes =
+          λ p i. (let h = (piece.places p).0 i in entry_in-inside b cells p h ∙ code_is p h);
       each = λ p i. (let h = (piece.places p).0 i in
           elim (cases_coded (directed_by v) p) [
-            | inl none ↦ match_none (code_at (directed_by v) p) _ _ none (exit_entry p h ∙ ap (λ o. where_data o (place_in b (get_or ends (index_in b p) 0))) none)
+            | inl none ↦ match_none (code_at (directed_by v) p) _ _ none (exit_entry p h
+                ∙ ap (λ o. where_data o (place_in b (get_or ends (index_in b p) 0))) none)
             | inr is ↦ match_some (code_at (directed_by v) p) _ _ is.code is.is (
               place_in b (get_or ends (index_in b p) 0),
-              exit_entry p h ∙ ap (λ o. where_data o (place_in b (get_or ends (index_in b p) 0))) is.is,
+              exit_entry p h
+                  ∙ ap (λ o. where_data o (place_in b (get_or ends (index_in b p) 0))) is.is,
               exit_of p h is,
             )
           ]);
     }
 
-  pub lists_are : (upstream rim_ends : List ℕ) → rim_ends ≡ rim_ends_by b links → AreFlowLists b cells links upstream rim_ends
-  lists_are upstream rim_ends rim = record { linked = s.made; lawful = flow_lawful (ends_by links) (ends_are links) upstream; streams = streams; rim = rim }
+  pub lists_are : (upstream rim_ends : List ℕ) → rim_ends ≡ rim_ends_by b links →
+      AreFlowLists b cells links upstream rim_ends
+  lists_are upstream rim_ends rim = record {
+    linked = s.made;
+    lawful = flow_lawful (ends_by links) (ends_are links) upstream;
+    streams = streams;
+    rim = rim;
+  }
 
-  pub counts_are : (upstream : List ℕ) → AreUpstream links weights upstream → (f : Flow) → f.bounds ≡ b → f.through ≡ through_list cells upstream → IsTileCounts (directed_by v) v.cutting v.tile f
+  pub counts_are : (upstream : List ℕ) → AreUpstream links weights upstream →
+      (f : Flow) → f.bounds ≡ b → f.through ≡ through_list cells upstream →
+      IsTileCounts (directed_by v) v.cutting v.tile f
   counts_are upstream up f same through = record {
-    size = ap length through ∙ length-map-range_with_len (λ i. where_data (get_or cells i None) (get_or upstream i 0)) 0 (length upstream) ∙ upstream_size upstream up ∙ s.codes.size ∙ sym (ap (λ (z : Bounds). z.rows * z.cols) same);
+    size = ap length through ∙ length-map-range_with_len (λ i. where_data (get_or cells i None)
+        (get_or upstream i 0)) 0 (length upstream) ∙ upstream_size upstream up ∙ s.codes.size
+        ∙ sym (ap (λ (z : Bounds). z.rows * z.cols) same);
     each = λ p i. (let h = (piece.places p).0 i in
-        let entry : through_in f p ≡ entry_in b (through_list cells upstream) p = ap (λ (z : Bounds). entry_in z f.through p) same ∙ ap (λ (l : List (Option ℕ)). entry_in b l p) through in
-        match_data (code_at (directed_by v) p) _ _ _ (entry ∙ through_is upstream up p h) (λ code is. count_of upstream up p h (record { code = code; is = is })));
+        let entry : through_in f p ≡ entry_in b (through_list cells upstream) p =
+        ap (λ (z : Bounds). entry_in z f.through p) same
+        ∙ ap (λ (l : List (Option ℕ)). entry_in b l p) through in
+        match_data (code_at (directed_by v) p) _ _ _ (entry ∙ through_is upstream up p h)
+        (λ code is. count_of upstream up p h (record { code = code; is = is })));
   }
 
 -- The codes in a tile's flow are those of the tile.
-pub codes_from : (d : Directed) (t : Cutting) (tile : ℕ) (f : Flow) → IsCutting t → tile < tile_count t → IsTileExits d t tile f → AreTileCodes d (bounds_of t tile) f.codes
+pub codes_from : (d : Directed) (t : Cutting) (tile : ℕ) (f : Flow) → IsCutting t →
+    tile < tile_count t → IsTileExits d t tile f → AreTileCodes d (bounds_of t tile) f.codes
 codes_from d t tile f cutting below right = record {
   size = right.lawful.codes_size ∙ ap (λ (b : Bounds). b.rows * b.cols) right.bounds;
   each = λ i h.
       let inside = place_in_tile t tile i cutting below h in
-      let entry : entry_in f.bounds f.codes (place_in (bounds_of t tile) i) ≡ get_or f.codes i None =
+      let entry : entry_in f.bounds f.codes (place_in (bounds_of t tile) i)
+      ≡ get_or f.codes i None =
       ap (λ (b : Bounds). entry_in b f.codes (place_in (bounds_of t tile) i)) right.bounds
-      ∙ cond-true {A = Option ℕ} _ _ _ (in_bounds_from (bounds_of t tile) (place_in (bounds_of t tile) i) (in_bounds t tile (place_in (bounds_of t tile) i) cutting inside))
+      ∙ cond-true {A = Option ℕ} _ _ _ (in_bounds_from (bounds_of t tile) (place_in
+      (bounds_of t tile) i) (in_bounds t tile (place_in (bounds_of t tile) i) cutting inside))
       ∙ ap (λ n. get_or f.codes n None) (index_in-place_in (bounds_of t tile) i) in
       sym entry ∙ right.same_codes (place_in (bounds_of t tile) i) inside;
 }
 
 -- The lists of a tile's flow are those made for the tile.
-pub lists_seen : (v : View (Option ℕ)) (b : Bounds) (cells : List (Option ℕ)) (upstream ends links : List ℕ) (f : Flow) → flow_by b cells upstream ends ≡ f → IsTileExits (directed_by v) v.cutting v.tile f →
-    AllFlowEnds (directed_by v) → IsView v → links ≡ links_by b cells → AreLists v b cells links (weights_by cells)
+pub lists_seen : (v : View (Option ℕ)) (b : Bounds) (cells : List (Option ℕ))
+    (upstream ends links : List ℕ) (f : Flow) → flow_by b cells upstream ends ≡ f →
+    IsTileExits (directed_by v) v.cutting v.tile f →
+    AllFlowEnds (directed_by v) → IsView v → links ≡ links_by b cells →
+    AreLists v b cells links (weights_by cells)
 lists_seen v b cells upstream ends links f seen are flow_ends lawful made =
-    let right = subst (λ (z : Flow). IsTileExits (directed_by v) v.cutting v.tile z) (sym seen) are in
-    lists_made v b cells cells links flow_ends right.bounds (subst (λ (z : Bounds). AreBounds v.cutting z) (sym right.bounds) (bounds_inside v.cutting v.tile lawful.cutting lawful.tile)) lawful
-    (codes_from (directed_by v) v.cutting v.tile (flow_by b cells upstream ends) lawful.cutting lawful.tile right) refl made
+    let right =
+    subst (λ (z : Flow). IsTileExits (directed_by v) v.cutting v.tile z) (sym seen) are in
+    lists_made v b cells cells links flow_ends right.bounds
+    (subst (λ (z : Bounds). AreBounds v.cutting z) (sym right.bounds)
+    (bounds_inside v.cutting v.tile lawful.cutting lawful.tile)) lawful
+    (codes_from (directed_by v) v.cutting v.tile
+    (flow_by b cells upstream ends) lawful.cutting lawful.tile right) refl made
 
 -- Replacing the counts of a flow keeps its exits.
-pub exits_kept : (d : Directed) (t : Cutting) (tile : ℕ) (f : Flow) (through : List (Option ℕ)) → IsTileExits d t tile f →
-    IsTileExits d t tile (record { bounds = f.bounds; codes = f.codes; through = through; exits = f.exits })
+pub exits_kept : (d : Directed) (t : Cutting) (tile : ℕ) (f : Flow) (through : List (Option ℕ)) →
+    IsTileExits d t tile f →
+    IsTileExits d t tile
+    (record { bounds = f.bounds; codes = f.codes; through = through; exits = f.exits })
 exits_kept d t tile f through right = record {
   bounds = right.bounds;
   lawful = record {

@@ -32,58 +32,81 @@ outlet_from_code None h = cc
 outlet_from_code (Some n) h = ap Some (eqb-true _ _ h)
 
 -- A value read from the flow of a place's tile is the value read for the place.
-pub read_of_tile : {X : Type 0} (read : Flow → Option X) (t : Cutting) (flows : List Flow) (p : Place) (tile : ℕ) (flow : Flow) (x : Option X) →
-    length flows ≡ tile_count t → tile ≡ tile_of_place t p → tile < tile_count t → flow ≡ get_or flows tile flow → x ≡ read flow → x ≡ option_and_then read (slice_get flows (tile_of_place t p))
+pub read_of_tile : {X : Type 0} (read : Flow → Option X) (t : Cutting) (flows : List Flow)
+    (p : Place) (tile : ℕ) (flow : Flow) (x : Option X) →
+    length flows ≡ tile_count t →
+    tile ≡ tile_of_place t p → tile < tile_count t → flow ≡ get_or flows tile flow → x ≡ read flow →
+    x ≡ option_and_then read (slice_get flows (tile_of_place t p))
 read_of_tile read t flows p tile flow x count at below is value =
-    value ∙ ap (option_and_then read) (sym (slice_get_read flows (length flows) tile flow refl (omega (arith, below, count)) is) ∙ ap (slice_get flows) at)
+    value ∙ ap (option_and_then read) (sym (slice_get_read flows (length flows) tile flow refl
+    (omega (arith, below, count)) is) ∙ ap (slice_get flows) at)
 
 -- A code points to one of the eight places around.
 toward_touches : (p q : Place) (code : ℕ) → place_toward code p ≡ Some q → Touches p q
 toward_touches p q code e = elim (cases_option (way_of code)) [
-  | inl none ↦ absurd (none-some q (sym (ap (λ (o : Option ℕ). option_and_then (λ way. place_on way p) o) none) ∙ e))
-  | inr way ↦ (let at : get_or (ways_from p) way.0 None ≡ Some q = sym (ap (λ (o : Option ℕ). option_and_then (λ way. place_on way p) o) way.1) ∙ e in
+  | inl none ↦ absurd (none-some q
+      (sym (ap (λ (o : Option ℕ). option_and_then (λ way. place_on way p) o) none) ∙ e))
+  | inr way ↦ (let at : get_or (ways_from p) way.0 None ≡ Some q =
+      sym (ap (λ (o : Option ℕ). option_and_then (λ way. place_on way p) o) way.1) ∙ e in
       elim (cases_lt way.0 8) [
-        | inl below ↦ (Touches-from_ways p q (way.0, below, get_or_default (ways_from p) way.0 (Some q) None below ∙ at)).0
+        | inl below ↦ (Touches-from_ways p q
+            (way.0, below, get_or_default (ways_from p) way.0 (Some q) None below ∙ at)).0
         | inr far ↦ absurd (none-some q (sym (get_or_past (ways_from p) way.0 None far) ∙ at))
       ])
 ]
 
 -- On the rim, a place that is no outlet has the outlet listed for its rim number.
-pub outlet_listed : (t : Cutting) (flows : List Flow) (listed : List (Option Place)) (p : Place) → is_outlet_code (code_in t flows p) ≡ false → is_place (rim_place t (rim_number t p)) p ≡ true →
+pub outlet_listed : (t : Cutting) (flows : List Flow) (listed : List (Option Place)) (p : Place) →
+    is_outlet_code (code_in t flows p) ≡ false → is_place (rim_place t (rim_number t p)) p ≡ true →
     outlet_by t flows listed p ≡ get_or listed (rim_number t p) None
-outlet_listed t flows listed p f y = cond-false {A = Option Place} _ (Some p) (cond {A = Option Place} (is_place (rim_place t (rim_number t p)) p) (get_or listed (rim_number t p) None) None) f ∙ cond-true {A = Option Place} _ _ _ y
+outlet_listed t flows listed p f y = cond-false {A =
+    Option Place} _ (Some p) (cond {A = Option Place} (is_place (rim_place t (rim_number t p)) p)
+    (get_or listed (rim_number t p) None) None) f ∙ cond-true {A = Option Place} _ _ _ y
 
-pub outlet_unlisted : (t : Cutting) (flows : List Flow) (listed : List (Option Place)) (p : Place) → is_outlet_code (code_in t flows p) ≡ false → is_place (rim_place t (rim_number t p)) p ≡ false →
+pub outlet_unlisted : (t : Cutting) (flows : List Flow) (listed : List (Option Place)) (p : Place) →
+    is_outlet_code (code_in t flows p) ≡ false → is_place (rim_place t (rim_number t p)) p ≡ false →
     outlet_by t flows listed p ≡ None
-outlet_unlisted t flows listed p f n = cond-false {A = Option Place} _ (Some p) (cond {A = Option Place} (is_place (rim_place t (rim_number t p)) p) (get_or listed (rim_number t p) None) None) f ∙ cond-false {A = Option Place} _ _ _ n
+outlet_unlisted t flows listed p f n = cond-false {A =
+    Option Place} _ (Some p) (cond {A = Option Place} (is_place (rim_place t (rim_number t p)) p)
+    (get_or listed (rim_number t p) None) None) f ∙ cond-false {A = Option Place} _ _ _ n
 
-pub targets_size : (t : Cutting) (flows : List Flow) (targets : List (Option Place)) → targets ≡ targets_by t flows → length targets ≡ number_count t
-targets_size t flows targets made = ap length made ∙ length-map-range_with_len (target_by t flows) 0 (number_count t)
+pub targets_size : (t : Cutting) (flows : List Flow) (targets : List (Option Place)) →
+    targets ≡ targets_by t flows → length targets ≡ number_count t
+targets_size t flows targets made = ap length made
+    ∙ length-map-range_with_len (target_by t flows) 0 (number_count t)
 
-pub target_listed : (t : Cutting) (flows : List Flow) (targets : List (Option Place)) → targets ≡ targets_by t flows → (i : ℕ) → i < number_count t → get_or targets i None ≡ target_by t flows i
+pub target_listed : (t : Cutting) (flows : List Flow) (targets : List (Option Place)) →
+    targets ≡ targets_by t flows → (i : ℕ) → i < number_count t →
+    get_or targets i None ≡ target_by t flows i
 target_listed t flows targets made i h =
-    ap (λ l. get_or l i None) made ∙ get_or-map-range_with_len (target_by t flows) 0 (number_count t) i i None h (omega arith)
+    ap (λ l. get_or l i None) made
+    ∙ get_or-map-range_with_len (target_by t flows) 0 (number_count t) i i None h (omega arith)
 
 -- The target of a rim number, from its side number.
-pub target_in_tile : (t : Cutting) (flows : List Flow) (tile side : ℕ) (f : Flow) → side < stride (bounds_of t 0) → slice_get flows tile ≡ Some f →
+pub target_in_tile : (t : Cutting) (flows : List Flow) (tile side : ℕ) (f : Flow) →
+    side < stride (bounds_of t 0) → slice_get flows tile ≡ Some f →
     target_by t flows (tile * stride (bounds_of t 0) + side) ≡ target_in (bounds_of t 0) f side
 target_in_tile t flows tile side f below is =
     let largest = bounds_of t 0 in
     let number = tile * stride largest + side in
-    ap (λ n. option_and_then (λ (g : Flow). target_in largest g (number % stride largest)) (slice_get flows n)) (div-mul-add tile (stride largest) side below)
-    ∙ ap (λ n. option_and_then (λ (g : Flow). target_in largest g n) (slice_get flows tile)) (mod-mul-add tile (stride largest) side below)
+    ap (λ n. option_and_then (λ (g : Flow). target_in largest g (number % stride largest))
+    (slice_get flows n)) (div-mul-add tile (stride largest) side below)
+    ∙ ap (λ n. option_and_then (λ (g : Flow). target_in largest g n) (slice_get flows tile))
+    (mod-mul-add tile (stride largest) side below)
     ∙ ap (λ (o : Option Flow). option_and_then (λ (g : Flow). target_in largest g side) o) is
 
 module _ (d : Directed) (t : Cutting) (flows : List Flow) (s : AreFlowsOf d t flows) where
   pub within_of : (p : Place) → IsCoded d p → IsWithin t p
-  within_of p is = let z = coded_inside d p is in (omega (arith, z.0, s.of_tiles.size.1), omega (arith, z.1, s.of_tiles.size.0))
+  within_of p is = let z = coded_inside d p is in
+      (omega (arith, z.0, s.of_tiles.size.1), omega (arith, z.1, s.of_tiles.size.0))
 
   stops_of : (p : Place) → IsCoded d p → StopsAt d p (moves d)
   stops_of p is = outlet_stays d (last_of d p) (s.ends p is.code is.is)
 
   pub last_same : (p e : Place) (k : ℕ) → IsCoded d p → follow d p k ≡ e → last_of d e ≡ last_of d p
   last_same p e k is way =
-      ap (λ (q : Place). follow d q (moves d)) (sym way) ∙ follow_more d p k (moves d) ∙ follow_stays d p (moves d) (k + moves d) (omega arith) (stops_of p is)
+      ap (λ (q : Place). follow d q (moves d)) (sym way) ∙ follow_more d p k (moves d)
+      ∙ follow_stays d p (moves d) (k + moves d) (omega arith) (stops_of p is)
 
   last_here : (p : Place) → IsOutlet d p → last_of d p ≡ p
   last_here p out = follow_stays d p 0 (moves d) (omega arith) (outlet_stays d p out)
@@ -103,10 +126,13 @@ module _ (d : Directed) (t : Cutting) (flows : List Flow) (s : AreFlowsOf d t fl
   pub code_here : (p : Place) → IsWithin t p → code_in t flows p ≡ code_at d p
   code_here p w =
       let f = flow_of p w in
-      ap (λ (o : Option Flow). option_and_then (λ (x : Flow). entry_in x.bounds x.codes p) o) f.is ∙ f.right.same_codes p (w, refl)
+      ap (λ (o : Option Flow). option_and_then (λ (x : Flow). entry_in x.bounds x.codes p) o) f.is
+      ∙ f.right.same_codes p (w, refl)
 
-  next_here : (tile : ℕ) (f : Flow) (p : Place) → IsTileExits d t tile f → IsInTile t tile p → next_in f p ≡ next d p
-  next_here tile f p right i = ap (λ (o : Option ℕ). unwrap_or (option_and_then (λ code. place_toward code p) o) p) (right.same_codes p i)
+  next_here : (tile : ℕ) (f : Flow) (p : Place) → IsTileExits d t tile f → IsInTile t tile p →
+      next_in f p ≡ next d p
+  next_here tile f p right i = ap (λ (o : Option ℕ).
+      unwrap_or (option_and_then (λ code. place_toward code p) o) p) (right.same_codes p i)
 
   -- A data cell whose direction leads into another tile.
   pub record Crosses (p : Place) : Type 0 where
@@ -115,10 +141,13 @@ module _ (d : Directed) (t : Cutting) (flows : List Flow) (s : AreFlowsOf d t fl
 
   pub touching : (p : Place) → Crosses p → Touches p (next d p)
   touching p c =
-      let at : next d p ≡ unwrap_or (place_toward c.coded.code p) p = ap (λ (o : Option ℕ). unwrap_or (option_and_then (λ code. place_toward code p) o) p) c.coded.is in
+      let at : next d p ≡ unwrap_or (place_toward c.coded.code p) p = ap (λ (o : Option ℕ).
+      unwrap_or (option_and_then (λ code. place_toward code p) o) p) c.coded.is in
       elim (cases_option (place_toward c.coded.code p)) [
-        | inl none ↦ absurd (c.apart (ap (tile_of_place t) (at ∙ ap (λ (o : Option Place). unwrap_or o p) none)))
-        | inr q ↦ subst (λ (z : Place). Touches p z) (sym (at ∙ ap (λ (o : Option Place). unwrap_or o p) q.1)) (toward_touches p q.0 c.coded.code q.1)
+        | inl none ↦ absurd
+            (c.apart (ap (tile_of_place t) (at ∙ ap (λ (o : Option Place). unwrap_or o p) none)))
+        | inr q ↦ subst (λ (z : Place). Touches p z) (sym (at
+            ∙ ap (λ (o : Option Place). unwrap_or o p) q.1)) (toward_touches p q.0 c.coded.code q.1)
       ]
 
   -- A cell whose direction leads into another tile lies on the rim.
@@ -128,23 +157,31 @@ module _ (d : Directed) (t : Cutting) (flows : List Flow) (s : AreFlowsOf d t fl
       let i = in_bounds t (tile_of_place t p) p s.cutting (w, refl) in
       let below = tile_of_place_below t p s.cutting w in
       let touch = touching p c in
-      elim (cases_eq (p.col + 1) ((bounds_of t (tile_of_place t p)).left + (bounds_of t (tile_of_place t p)).cols)) [
+      elim (cases_eq (p.col + 1)
+      ((bounds_of t (tile_of_place t p)).left + (bounds_of t (tile_of_place t p)).cols)) [
         | inl y ↦ y
-        | inr ne ↦ absurd (c.apart (in_tile t (tile_of_place t p) (next d p) s.cutting below
-            (omega (arith, a, touch.row_up), omega (arith, b, touch.row_down), omega (arith, e, touch.col_left), omega (arith, ne, touch.col_right))).1)
+        | inr ne ↦ absurd (c.apart (in_tile t (tile_of_place t p) (next d p) s.cutting below (
+          omega (arith, a, touch.row_up),
+          omega (arith, b, touch.row_down),
+          omega (arith, e, touch.col_left),
+          omega (arith, ne, touch.col_right),
+        )).1)
       ]
 
   pub back : (p : Place) → Crosses p → rim_place t (rim_number t p) ≡ p
   back p c = number_back t s.cutting p (within_of p c.coded) (on_side p c)
 
   abbrev going_out : Flow → Place → Option Place
-  going_out f p = cond {A = Option Place} (is_in_bounds f.bounds (next_in f p)) None (Some (next_in f p))
+  going_out f p =
+      cond {A = Option Place} (is_in_bounds f.bounds (next_in f p)) None (Some (next_in f p))
 
   -- If a cell's direction leads into another tile, the next cell is outside the tile's bounds.
-  out_of_bounds : (p : Place) → Crosses p → is_in_bounds (bounds_of t (tile_of_place t p)) (next d p) ≡ false
+  out_of_bounds : (p : Place) → Crosses p →
+      is_in_bounds (bounds_of t (tile_of_place t p)) (next d p) ≡ false
   out_of_bounds p c =
       let below = tile_of_place_below t p s.cutting (within_of p c.coded) in
-      false_from_ne_true _ (λ y. c.apart (in_tile t (tile_of_place t p) (next d p) s.cutting below (in_bounds_parts (bounds_of t (tile_of_place t p)) (next d p) y)).1)
+      false_from_ne_true _ (λ y. c.apart (in_tile t (tile_of_place t p) (next d p) s.cutting below
+      (in_bounds_parts (bounds_of t (tile_of_place t p)) (next d p) y)).1)
 
   pub target_on : (p : Place) → Crosses p → target_by t flows (rim_number t p) ≡ Some (next d p)
   target_on p c =
@@ -155,11 +192,15 @@ module _ (d : Directed) (t : Cutting) (flows : List Flow) (s : AreFlowsOf d t fl
       let high = no_higher t s.cutting (tile_of_place t p) in
       let side : ℕ = side_number (bounds_of t 0) (bounds_of t (tile_of_place t p)) p in
       let cell : side_cell (bounds_of t 0) f.flow.bounds side ≡ Some p =
-      ap (λ (b : Bounds). side_cell (bounds_of t 0) b side) f.right.bounds ∙ cell_at (bounds_of t 0) (bounds_of t (tile_of_place t p)) p i (side_back (bounds_of t 0) (bounds_of t (tile_of_place t p)) p wide high i (on_side p c)) in
+      ap (λ (b : Bounds). side_cell (bounds_of t 0) b side) f.right.bounds
+      ∙ cell_at (bounds_of t 0) (bounds_of t (tile_of_place t p)) p i
+      (side_back (bounds_of t 0) (bounds_of t (tile_of_place t p)) p wide high i (on_side p c)) in
       let next_is = next_here (tile_of_place t p) f.flow p f.right (w, refl) in
       let out : is_in_bounds f.flow.bounds (next_in f.flow p) ≡ false =
-      ap (is_in_bounds f.flow.bounds) next_is ∙ ap (λ (b : Bounds). is_in_bounds b (next d p)) f.right.bounds ∙ out_of_bounds p c in
-      target_in_tile t flows (tile_of_place t p) side f.flow (side_below (bounds_of t 0) (bounds_of t (tile_of_place t p)) p wide high i) f.is
+      ap (is_in_bounds f.flow.bounds) next_is
+      ∙ ap (λ (b : Bounds). is_in_bounds b (next d p)) f.right.bounds ∙ out_of_bounds p c in
+      target_in_tile t flows (tile_of_place t p) side f.flow
+      (side_below (bounds_of t 0) (bounds_of t (tile_of_place t p)) p wide high i) f.is
       ∙ ap (λ (o : Option Place). option_and_then (going_out f.flow) o) cell
       ∙ cond-false {A = Option Place} _ None _ out
       ∙ ap Some next_is
@@ -169,18 +210,23 @@ module _ (d : Directed) (t : Cutting) (flows : List Flow) (s : AreFlowsOf d t fl
     pub number : rim_number t (rim_place t i) ≡ i
     pub is : q ≡ next d (rim_place t i)
 
-  crosses_from : (tile : ℕ) (p : Place) → IsInTile t tile p → is_in_bounds (bounds_of t tile) (next d p) ≡ false → Crosses p
+  crosses_from : (tile : ℕ) (p : Place) → IsInTile t tile p →
+      is_in_bounds (bounds_of t tile) (next d p) ≡ false → Crosses p
   crosses_from tile p i f =
-      let out : (IsInBounds (bounds_of t tile) (next d p) → ⊥) = λ inside. false≢true (sym f ∙ in_bounds_from _ _ inside) in
+      let out : (IsInBounds (bounds_of t tile) (next d p) → ⊥) =
+      λ inside. false≢true (sym f ∙ in_bounds_from _ _ inside) in
       elim (cases_coded d p) [
-        | inl none ↦ absurd (out (subst (λ (q : Place). IsInBounds (bounds_of t tile) q) (sym (none_stays d p none)) (in_bounds t tile p s.cutting i)))
+        | inl none ↦ absurd (out (subst (λ (q : Place). IsInBounds (bounds_of t tile) q)
+            (sym (none_stays d p none)) (in_bounds t tile p s.cutting i)))
         | inr is ↦ record {
           coded = is;
-          apart = λ same. out (in_bounds t tile (next d p) s.cutting (within_of (next d p) (coded_along d s.ends p is 1), same ∙ i.1));
+          apart = λ same. out (in_bounds t tile (next d p) s.cutting
+              (within_of (next d p) (coded_along d s.ends p is 1), same ∙ i.1));
         }
       ]
 
-  target_of_cell : (i : ℕ) (p q : Place) → rim_place t i ≡ p → rim_number t p ≡ i → Crosses p → q ≡ next d p → IsTarget i q
+  target_of_cell : (i : ℕ) (p q : Place) → rim_place t i ≡ p → rim_number t p ≡ i → Crosses p →
+      q ≡ next d p → IsTarget i q
   target_of_cell i p q place number crosses is = record {
     crosses = subst (λ (z : Place). Crosses z) (sym place) crosses;
     number = ap (rim_number t) place ∙ number;
@@ -188,61 +234,79 @@ module _ (d : Directed) (t : Cutting) (flows : List Flow) (s : AreFlowsOf d t fl
   }
 
   -- The target of a rim number is where its cell's water enters another tile.
-  target_from_cell : (i : ℕ) (f : Flow) (p q : Place) → IsTileExits d t (i / stride (bounds_of t 0)) f → i / stride (bounds_of t 0) < tile_count t →
-      IsCellOf (bounds_of t 0) (bounds_of t (i / stride (bounds_of t 0))) (i % stride (bounds_of t 0)) p → going_out f p ≡ Some q → IsTarget i q
+  target_from_cell : (i : ℕ) (f : Flow) (p q : Place) →
+      IsTileExits d t (i / stride (bounds_of t 0)) f → i / stride (bounds_of t 0) < tile_count t →
+      IsCellOf (bounds_of t 0) (bounds_of t (i / stride (bounds_of t 0)))
+      (i % stride (bounds_of t 0)) p → going_out f p ≡ Some q → IsTarget i q
   target_from_cell i f p q right below cell goes =
       let here = in_tile t (i / stride (bounds_of t 0)) p s.cutting below cell.inside in
       let next_is = next_here (i / stride (bounds_of t 0)) f p right here in
       elim (cases_Bool (is_in_bounds f.bounds (next_in f p))) [
         | inl y ↦ absurd (none-some q (sym (cond-true {A = Option Place} _ None _ y) ∙ goes))
         | inr out ↦ target_of_cell i p q cell.place
-            (number_from_side t (i / stride (bounds_of t 0)) (i % stride (bounds_of t 0)) p here cell.number ∙ div-add-mod' i (stride (bounds_of t 0)))
+            (number_from_side t (i / stride (bounds_of t 0)) (i % stride (bounds_of t 0))
+            p here cell.number ∙ div-add-mod' i (stride (bounds_of t 0)))
             (crosses_from (i / stride (bounds_of t 0)) p here
-            (sym (ap (is_in_bounds f.bounds) next_is ∙ ap (λ (b : Bounds). is_in_bounds b (next d p)) right.bounds) ∙ out))
-            (sym (same_Some _ _ (sym (cond-false {A = Option Place} _ None _ out) ∙ goes)) ∙ next_is)
+            (sym (ap (is_in_bounds f.bounds) next_is
+            ∙ ap (λ (b : Bounds). is_in_bounds b (next d p)) right.bounds) ∙ out))
+            (sym (same_Some _ _ (sym (cond-false {A = Option Place} _ None _ out) ∙ goes))
+            ∙ next_is)
       ]
 
   pub target_from : (i : ℕ) (q : Place) → target_by t flows i ≡ Some q → IsTarget i q
   target_from i q e =
       let side : ℕ = i % stride (bounds_of t 0) in
       elim (cases_option (slice_get flows (i / stride (bounds_of t 0)))) [
-        | inl none ↦ absurd (none-some q (sym (ap (λ (o : Option Flow). option_and_then (λ (f : Flow). target_in (bounds_of t 0) f side) o) none) ∙ e))
+        | inl none ↦ absurd (none-some q (sym (ap (λ (o : Option Flow).
+            option_and_then (λ (f : Flow). target_in (bounds_of t 0) f side) o) none) ∙ e))
         | inr f ↦ (let right = s.of_tiles.each (i / stride (bounds_of t 0)) f.0 f.1 in
-            let below : i / stride (bounds_of t 0) < tile_count t = omega (arith, slice_get_within flows _ f.0 f.1, s.of_tiles.count) in
-            let at : target_in (bounds_of t 0) f.0 side ≡ Some q = sym (ap (λ (o : Option Flow). option_and_then (λ (f : Flow). target_in (bounds_of t 0) f side) o) f.1) ∙ e in
+            let below : i / stride (bounds_of t 0) < tile_count t =
+            omega (arith, slice_get_within flows _ f.0 f.1, s.of_tiles.count) in
+            let at : target_in (bounds_of t 0) f.0 side ≡ Some q = sym (ap (λ (o : Option Flow).
+            option_and_then (λ (f : Flow). target_in (bounds_of t 0) f side) o) f.1) ∙ e in
             elim (cases_option (side_cell (bounds_of t 0) f.0.bounds side)) [
-              | inl none ↦ absurd (none-some q (sym (ap (λ (o : Option Place). option_and_then (going_out f.0) o) none) ∙ at))
+              | inl none ↦ absurd (none-some q
+                  (sym (ap (λ (o : Option Place). option_and_then (going_out f.0) o) none) ∙ at))
               | inr p ↦ target_from_cell i f.0 p.0 q right below
-                  (cell_from (bounds_of t 0) (bounds_of t (i / stride (bounds_of t 0))) side p.0 (ap (λ (b : Bounds). side_cell (bounds_of t 0) b side) (sym right.bounds) ∙ p.1))
+                  (cell_from (bounds_of t 0) (bounds_of t (i / stride (bounds_of t 0))) side p.0
+                  (ap (λ (b : Bounds). side_cell (bounds_of t 0) b side) (sym right.bounds) ∙ p.1))
                   (sym (ap (λ (o : Option Place). option_and_then (going_out f.0) o) p.1) ∙ at)
             ])
       ]
 
-  pub target_within : (i : ℕ) (q : Place) → target_by t flows i ≡ Some q → IsCoded d q × IsWithin t q
+  pub target_within : (i : ℕ) (q : Place) → target_by t flows i ≡ Some q →
+      IsCoded d q × IsWithin t q
   target_within i q e =
       let x = target_from i q e in
-      let is = subst (λ (z : Place). IsCoded d z) (sym x.is) (coded_along d s.ends (rim_place t i) x.crosses.coded 1) in
+      let is = subst (λ (z : Place).
+      IsCoded d z) (sym x.is) (coded_along d s.ends (rim_place t i) x.crosses.coded 1) in
       (is, within_of q is)
 
   pub targets_within : (i : ℕ) → IfSome (target_by t flows i) (IsWithin t)
   targets_within i = elim (cases_option (target_by t flows i)) [
     | inl none ↦ subst (λ (o : Option Place). IfSome o (IsWithin t)) (sym none) tt
-    | inr q ↦ subst (λ (o : Option Place). IfSome o (IsWithin t)) (sym q.1) (target_within i q.0 q.1).1
+    | inr q ↦
+        subst (λ (o : Option Place). IfSome o (IsWithin t)) (sym q.1) (target_within i q.0 q.1).1
   ]
 
   -- e is the exit of q, by the flows and by the map of directions.
   pub record HasExit (q e : Place) : Type 0 where
     pub exit : exit_by t flows q ≡ Some e
     pub leads : IsExitOf d t q e
-    pub out : next_exit_by t flows q ≡ cond {A = Option Place} (is_outlet_code (code_at d e)) None (Some e)
+    pub out : next_exit_by t flows q
+        ≡ cond {A = Option Place} (is_outlet_code (code_at d e)) None (Some e)
 
   -- The exit of a data cell is a data cell in the same tile.
-  pub exit_in_tile : (q e : Place) → IsCoded d q → IsExitOf d t q e → IsCoded d e × (tile_of_place t e ≡ tile_of_place t q)
+  pub exit_in_tile : (q e : Place) → IsCoded d q → IsExitOf d t q e →
+      IsCoded d e × (tile_of_place t e ≡ tile_of_place t q)
   exit_in_tile q e is x =
       let at : x.0 < x.0 + 1 = omega arith in
       let there : tile_of_place t (follow d q x.0) ≡ tile_of_place t q =
-      eqb-true _ _ (every_in_range (λ j. eqb (tile_of_place t (follow d q j)) (tile_of_place t q)) (x.0 + 1) x.2 x.0 at) in
-      (subst (λ (z : Place). IsCoded d z) x.3 (coded_along d s.ends q is x.0), sym (ap (tile_of_place t) x.3) ∙ there)
+      eqb-true _ _ (every_in_range (λ j. eqb (tile_of_place t (follow d q j)) (tile_of_place t q))
+      (x.0 + 1) x.2 x.0 at) in (
+        subst (λ (z : Place). IsCoded d z) x.3 (coded_along d s.ends q is x.0),
+        sym (ap (tile_of_place t) x.3) ∙ there,
+      )
 
   -- An exit is its own exit.
   pub exit_of_exit : (e x : Place) → IsExitCell d t e → IsExitOf d t e x → x ≡ e
@@ -251,7 +315,8 @@ module _ (d : Directed) (t : Cutting) (flows : List Flow) (s : AreFlowsOf d t fl
     | inr ne ↦ elim cell.1 [
       | inl out ↦ sym h.3 ∙ follow_stays d e 0 h.0 (omega arith) (outlet_stays d e out)
       | inr apart ↦ (let one : 1 < h.0 + 1 = omega (arith, ne) in
-          absurd (apart (eqb-true _ _ (every_in_range (λ j. eqb (tile_of_place t (follow d e j)) (tile_of_place t e)) (h.0 + 1) h.2 1 one))))
+          absurd (apart (eqb-true _ _ (every_in_range
+          (λ j. eqb (tile_of_place t (follow d e j)) (tile_of_place t e)) (h.0 + 1) h.2 1 one))))
     ]
   ]
 
@@ -261,30 +326,40 @@ module _ (d : Directed) (t : Cutting) (flows : List Flow) (s : AreFlowsOf d t fl
       let f = flow_of q w in
       let m = MatchOption-at_some _ _ is.code is.is (f.right.each q (w, refl)) in
       let x = exit_in_tile q m.0 is m.2 in
-      let same : entry_in f.flow.bounds f.flow.codes m.0 ≡ code_at d m.0 = f.right.same_codes m.0 (within_of m.0 x.0, x.1) in (
+      let same : entry_in f.flow.bounds f.flow.codes m.0 ≡ code_at d m.0 =
+      f.right.same_codes m.0 (within_of m.0 x.0, x.1) in (
         m.0,
         record {
           exit = ap (λ (o : Option Flow). option_and_then (λ (z : Flow). exit_in z q) o) f.is ∙ m.1;
           leads = m.2;
           out = ap (λ (o : Option Flow). option_and_then (λ (z : Flow). next_exit_in z q) o) f.is
-              ∙ ap (λ (o : Option Place). option_and_then (λ (e : Place). cond {A = Option Place} (is_outlet_code (entry_in f.flow.bounds f.flow.codes e)) None (Some e)) o) m.1
-              ∙ ap (λ (o : Option ℕ). cond {A = Option Place} (is_outlet_code o) None (Some m.0)) same;
+              ∙ ap (λ (o : Option Place). option_and_then (λ (e : Place). cond {A = Option Place}
+              (is_outlet_code (entry_in f.flow.bounds f.flow.codes e)) None (Some e)) o) m.1
+              ∙ ap (λ (o : Option ℕ).
+              cond {A = Option Place} (is_outlet_code o) None (Some m.0)) same;
         },
       )
 
   pub not_outlet : (e : Place) → Crosses e → is_outlet_code (code_at d e) ≡ false
-  not_outlet e c = false_from_ne_true _ (λ y. c.apart (ap (tile_of_place t) (outlet_stays d e (outlet_from_code (code_at d e) y))))
+  not_outlet e c = false_from_ne_true _ (λ y.
+      c.apart (ap (tile_of_place t) (outlet_stays d e (outlet_from_code (code_at d e) y))))
 
-  pub next_exit_within : (q e : Place) → IsWithin t q → next_exit_by t flows q ≡ Some e → IsWithin t e
+  pub next_exit_within : (q e : Place) → IsWithin t q → next_exit_by t flows q ≡ Some e →
+      IsWithin t e
   next_exit_within q e w x = elim (cases_coded d q) [
     | inr is ↦ (let y = exit_here q is in elim (cases_Bool (is_outlet_code (code_at d y.0))) [
-      | inl out ↦ absurd (none-some e (sym (cond-true {A = Option Place} _ None (Some y.0) out) ∙ sym y.1.out ∙ x))
-      | inr goes ↦ subst (λ (z : Place). IsWithin t z) (same_Some y.0 e (sym (cond-false {A = Option Place} _ None (Some y.0) goes) ∙ sym y.1.out ∙ x)) (within_of y.0 (exit_in_tile q y.0 is y.1.leads).0)
+      | inl out ↦ absurd (none-some e (sym (cond-true {A = Option Place} _ None (Some y.0) out)
+          ∙ sym y.1.out ∙ x))
+      | inr goes ↦ subst (λ (z : Place).
+          IsWithin t z) (same_Some y.0 e (sym (cond-false {A = Option Place} _ None (Some y.0) goes)
+          ∙ sym y.1.out ∙ x)) (within_of y.0 (exit_in_tile q y.0 is y.1.leads).0)
     ])
     | inl none ↦ (let f = flow_of q w in
         let m = MatchOption-at_none _ _ none (f.right.each q (w, refl)) in
-        absurd (none-some e (sym (ap (λ (o : Option Flow). option_and_then (λ (z : Flow). next_exit_in z q) o) f.is
-        ∙ ap (λ (o : Option Place). option_and_then (λ (e : Place). cond {A = Option Place} (is_outlet_code (entry_in f.flow.bounds f.flow.codes e)) None (Some e)) o) m) ∙ x)))
+        absurd (none-some e
+        (sym (ap (λ (o : Option Flow). option_and_then (λ (z : Flow). next_exit_in z q) o) f.is
+        ∙ ap (λ (o : Option Place). option_and_then (λ (e : Place). cond {A = Option Place}
+        (is_outlet_code (entry_in f.flow.bounds f.flow.codes e)) None (Some e)) o) m) ∙ x)))
   ]
 
   -- Rim number i has a next exit, `to`, and is linked to its number.
@@ -313,8 +388,10 @@ module _ (d : Directed) (t : Cutting) (flows : List Flow) (s : AreFlowsOf d t fl
       let is = (target_within i q e).0 in
       let y = exit_here q is in
       let leads = y.1.leads in
-      let way : follow d (rim_place t i) (suc leads.0) ≡ y.0 = sym (ap (λ (r : Place). follow d r leads.0) x.is ∙ follow_first d (rim_place t i) leads.0) ∙ leads.3 in
-      let link : rim_link t flows i ≡ number_or t i (cond {A = Option Place} (is_outlet_code (code_at d y.0)) None (Some y.0)) = ap (link_by i) e ∙ ap (number_or t i) y.1.out in
+      let way : follow d (rim_place t i) (suc leads.0) ≡ y.0 = sym (ap (λ (r : Place).
+      follow d r leads.0) x.is ∙ follow_first d (rim_place t i) leads.0) ∙ leads.3 in
+      let link : rim_link t flows i ≡ number_or t i (cond {A = Option Place} (is_outlet_code
+      (code_at d y.0)) None (Some y.0)) = ap (link_by i) e ∙ ap (number_or t i) y.1.out in
       elim leads.4.1 [
         | inl out ↦ inr (record {
           to = y.0;
@@ -322,16 +399,19 @@ module _ (d : Directed) (t : Cutting) (flows : List Flow) (s : AreFlowsOf d t fl
           way = way;
           outlet = out;
           exit = ap (λ (o : Option Place). option_and_then (λ q. exit_by t flows q) o) e ∙ y.1.exit;
-          link = link ∙ ap (number_or t i) (cond-true {A = Option Place} _ None (Some y.0) (ap is_outlet_code out));
+          link = link ∙ ap (number_or t i) (cond-true {A = Option Place} _ None (Some y.0)
+              (ap is_outlet_code out));
         })
-        | inr apart ↦ (let c : Crosses y.0 = record { coded = (exit_in_tile q y.0 is leads).0; apart = apart } in
+        | inr apart ↦ (let c : Crosses y.0 =
+            record { coded = (exit_in_tile q y.0 is leads).0; apart = apart } in
             inl (record {
               to = y.0;
               crosses = c;
               steps = leads.0;
               still = subst (λ (z : Place). stays d t z leads.0 ≡ true) x.is leads.2;
               way = way;
-              link = link ∙ ap (number_or t i) (cond-false {A = Option Place} _ None (Some y.0) (not_outlet y.0 c));
+              link = link ∙ ap (number_or t i) (cond-false {A = Option Place} _ None (Some y.0)
+                  (not_outlet y.0 c));
             }))
       ]
 
@@ -341,15 +421,18 @@ module _ (d : Directed) (t : Cutting) (flows : List Flow) (s : AreFlowsOf d t fl
   pub to_below : (p : Place) → Crosses p → rim_number t p < number_count t
   to_below p c = number_below t s.cutting p (within_of p c.coded)
 
-  no_cycle : (n : ℕ) (p e : Place) (k : ℕ) → follow d p (suc k) ≡ e → e ≡ p → Crosses p → StopsAt d p n → ⊥
-  no_cycle n p e k way same c stop = c.apart (ap (tile_of_place t) (cycle_stops d n p k (way ∙ same) stop))
+  no_cycle : (n : ℕ) (p e : Place) (k : ℕ) → follow d p (suc k) ≡ e → e ≡ p → Crosses p →
+      StopsAt d p n → ⊥
+  no_cycle n p e k way same c stop =
+      c.apart (ap (tile_of_place t) (cycle_stops d n p k (way ∙ same) stop))
 
   module _ (links : List ℕ) (made : links ≡ rim_links_by t flows) where
     pub links_size : length links ≡ number_count t
     links_size = ap length made ∙ length-map-range_with_len (rim_link t flows) 0 (number_count t)
 
     pub link_at : (i : ℕ) → i < number_count t → onward links i ≡ rim_link t flows i
-    link_at i h = ap (λ (l : List ℕ). get_or l i 0) made ∙ get_or-map-range_with_len (rim_link t flows) 0 (number_count t) i i 0 h (omega arith)
+    link_at i h = ap (λ (l : List ℕ). get_or l i 0) made
+        ∙ get_or-map-range_with_len (rim_link t flows) 0 (number_count t) i i 0 h (omega arith)
 
     links_in : (i : ℕ) → i < number_count t → onward links i < number_count t
     links_in i h = elim (cases_option (target_by t flows i)) [
@@ -360,7 +443,8 @@ module _ (d : Directed) (t : Cutting) (flows : List Flow) (s : AreFlowsOf d t fl
       ]
     ]
 
-    stop_within : (n i : ℕ) → i < number_count t → ((q : Place) → target_by t flows i ≡ Some q → StopsAt d (rim_place t i) n) → (m : ℕ) × IsStop links i m
+    stop_within : (n i : ℕ) → i < number_count t → ((q : Place) → target_by t flows i ≡ Some q →
+        StopsAt d (rim_place t i) n) → (m : ℕ) × IsStop links i m
     stop_within zero i h stop = elim (cases_option (target_by t flows i)) [
       | inl none ↦ (0, link_at i h ∙ untargeted i none)
       | inr q ↦ absurd ((target_from i q.0 q.1).crosses.apart (ap (tile_of_place t) (stop q.0 q.1)))
@@ -369,17 +453,21 @@ module _ (d : Directed) (t : Cutting) (flows : List Flow) (s : AreFlowsOf d t fl
       | inl none ↦ (0, link_at i h ∙ untargeted i none)
       | inr q ↦ elim (targets_on i q.0 q.1) [
         | inr e ↦ (0, link_at i h ∙ e.link)
-        | inl g ↦ (let there = subst (λ (z : Place). StopsAt d z n) (sym (back g.to g.crosses)) (stops_sooner d (rim_place t i) g.to g.steps n g.way (stop q.0 q.1)) in
+        | inl g ↦ (let there = subst (λ (z : Place). StopsAt d z n) (sym (back g.to g.crosses))
+            (stops_sooner d (rim_place t i) g.to g.steps n g.way (stop q.0 q.1)) in
             let r = stop_within n (rim_number t g.to) (to_below g.to g.crosses) (λ z e. there) in
             let same : node_after links (rim_number t g.to) r.0 ≡ node_after links i (suc r.0) =
-            ap (λ j. node_after links j r.0) (sym (link_at i h ∙ g.link)) ∙ node_after-first links i r.0 in
+            ap (λ j. node_after links j r.0) (sym (link_at i h ∙ g.link))
+            ∙ node_after-first links i r.0 in
             (suc r.0, sym (ap (onward links) same) ∙ r.1 ∙ same))
       ]
     ]
 
     pub rim_streams : AreStreams links
-    rim_streams = streams_from links (λ i h. omega (arith, links_in i (omega (arith, h, links_size)), links_size))
-        (λ i h. stop_within (moves d) i (omega (arith, h, links_size)) (λ q e. stops_of (rim_place t i) (target_from i q e).crosses.coded))
+    rim_streams = streams_from links (λ i h.
+        omega (arith, links_in i (omega (arith, h, links_size)), links_size))
+        (λ i h. stop_within (moves d) i (omega (arith, h, links_size))
+        (λ q e. stops_of (rim_place t i) (target_from i q e).crosses.coded))
 
     -- The water of i and of a node j on its path ends at one outlet.
     record OnWay (i j : ℕ) : Type 0 where
@@ -395,61 +483,85 @@ module _ (d : Directed) (t : Cutting) (flows : List Flow) (s : AreFlowsOf d t fl
           | inl g ↦ subst (λ (n : ℕ). OnWay i n) (sym (link_at j h ∙ g.link)) (record {
             entry = next d g.to;
             target = target_on g.to g.crosses;
-            last = ap (last_of d) (back g.to g.crosses) ∙ last_same (rim_place t j) g.to (suc g.steps) c.coded g.way ∙ o.last;
+            last = ap (last_of d) (back g.to g.crosses)
+                ∙ last_same (rim_place t j) g.to (suc g.steps) c.coded g.way ∙ o.last;
           })
         ]
 
-    on_way : (i : ℕ) → i < number_count t → (q : Place) → target_by t flows i ≡ Some q → (k : ℕ) → OnWay i (node_after links i k)
+    on_way : (i : ℕ) → i < number_count t → (q : Place) → target_by t flows i ≡ Some q → (k : ℕ) →
+        OnWay i (node_after links i k)
     on_way i h q e zero = record { entry = q; target = e; last = refl }
     on_way i h q e (suc k) =
-        step_on i (node_after links i k) (omega (arith, node_after-inside links rim_streams i (omega (arith, h, links_size)) k, links_size)) (on_way i h q e k)
+        step_on i (node_after links i k) (omega
+        (arith, node_after-inside links rim_streams i (omega (arith, h, links_size)) k, links_size))
+        (on_way i h q e k)
 
     module _ (ends : List ℕ) (found : AreEnds links ends) where
       -- The end of the links of i gives the outlet of its water.
-      pub outlet_of : (i : ℕ) → i < number_count t → (q : Place) → target_by t flows i ≡ Some q → rim_outlet t flows ends i ≡ Some (last_of d (rim_place t i))
+      pub outlet_of : (i : ℕ) → i < number_count t → (q : Place) → target_by t flows i ≡ Some q →
+          rim_outlet t flows ends i ≡ Some (last_of d (rim_place t i))
       outlet_of i h q e =
           let here : i < length links = omega (arith, h, links_size) in
-          let below : end_of links i < number_count t = omega (arith, node_after-inside links rim_streams i here (length links), links_size) in
+          let below : end_of links i < number_count t =
+          omega (arith, node_after-inside links rim_streams i here (length links), links_size) in
           let o = on_way i h q e (length links) in
           let c = (target_from (end_of links i) o.entry o.target).crosses in
-          let first : rim_outlet t flows ends i ≡ option_and_then (λ q. exit_by t flows q) (target_by t flows (end_of links i)) =
-          ap (λ (x : Option Place). option_and_then (λ (y : Place). option_and_then (λ q. exit_by t flows q) (target_by t flows (get_or ends i 0))) x) e
-          ∙ ap (λ n. option_and_then (λ q. exit_by t flows q) (target_by t flows n)) (found.each i here) in
+          let first : rim_outlet t flows ends i
+          ≡ option_and_then (λ q. exit_by t flows q) (target_by t flows (end_of links i)) =
+          ap (λ (x : Option Place). option_and_then (λ (y : Place).
+          option_and_then (λ q. exit_by t flows q) (target_by t flows (get_or ends i 0))) x) e
+          ∙ ap (λ n. option_and_then (λ q. exit_by t flows q) (target_by t flows n))
+          (found.each i here) in
           elim (targets_on (end_of links i) o.entry o.target) [
             | inr x ↦ first ∙ x.exit
-                ∙ ap Some (sym (last_here x.to x.outlet) ∙ last_same (rim_place t (end_of links i)) x.to (suc x.steps) c.coded x.way ∙ o.last)
-            | inl g ↦ (let same : rim_number t g.to ≡ end_of links i = sym (link_at (end_of links i) below ∙ g.link) ∙ rim_streams.ends i here in
-                absurd (no_cycle (moves d) (rim_place t (end_of links i)) g.to g.steps g.way (sym (back g.to g.crosses) ∙ ap (rim_place t) same) c (stops_of (rim_place t (end_of links i)) c.coded)))
+                ∙ ap Some (sym (last_here x.to x.outlet) ∙ last_same
+                (rim_place t (end_of links i)) x.to (suc x.steps) c.coded x.way ∙ o.last)
+            | inl g ↦ (let same : rim_number t g.to ≡ end_of links i =
+                sym (link_at (end_of links i) below ∙ g.link) ∙ rim_streams.ends i here in
+                absurd (no_cycle (moves d) (rim_place t (end_of links i)) g.to g.steps g.way
+                (sym (back g.to g.crosses) ∙ ap (rim_place t) same) c
+                (stops_of (rim_place t (end_of links i)) c.coded)))
           ]
 
-      module _ (outlets : List (Option Place)) (listed : outlets ≡ rim_outlets_by t flows ends) where
+      module _ (outlets : List (Option Place))
+          (listed : outlets ≡ rim_outlets_by t flows ends) where
         listed_at : (i : ℕ) → i < number_count t → get_or outlets i None ≡ rim_outlet t flows ends i
-        listed_at i h = ap (λ (l : List (Option Place)). get_or l i None) listed ∙ get_or-map-range_with_len (rim_outlet t flows ends) 0 (number_count t) i i None h (omega arith)
+        listed_at i h = ap (λ (l : List (Option Place)). get_or l i None) listed
+            ∙ get_or-map-range_with_len (rim_outlet t flows ends) 0 (number_count t) i i None h
+            (omega arith)
 
-        exit_outlet : (p : Place) → IsExitCell d t p → outlet_by t flows outlets p ≡ Some (last_of d p)
+        exit_outlet : (p : Place) → IsExitCell d t p →
+            outlet_by t flows outlets p ≡ Some (last_of d p)
         exit_outlet p x =
             let is = coded_from_some d p x.0 in
             let w = within_of p is in
             elim x.1 [
-              | inl out ↦ cond-true {A = Option Place} _ _ _ (ap is_outlet_code (code_here p w ∙ out)) ∙ ap Some (sym (last_here p out))
+              | inl out ↦ cond-true {A = Option Place} _ _ _
+                  (ap is_outlet_code (code_here p w ∙ out)) ∙ ap Some (sym (last_here p out))
               | inr apart ↦ (let c : Crosses p = record { coded = is; apart = apart } in
-                  outlet_listed t flows outlets p (ap is_outlet_code (code_here p w) ∙ not_outlet p c) (is_place_from _ _ (back p c))
+                  outlet_listed t flows outlets p (ap is_outlet_code (code_here p w)
+                  ∙ not_outlet p c) (is_place_from _ _ (back p c))
                   ∙ listed_at (rim_number t p) (to_below p c)
                   ∙ outlet_of (rim_number t p) (to_below p c) (next d p) (target_on p c)
                   ∙ ap (λ (q : Place). Some (last_of d q)) (back p c))
             ]
 
-        no_exit_outlet : (p : Place) → IsWithin t p → (IsExitCell d t p → ⊥) → outlet_by t flows outlets p ≡ None
+        no_exit_outlet : (p : Place) → IsWithin t p → (IsExitCell d t p → ⊥) →
+            outlet_by t flows outlets p ≡ None
         no_exit_outlet p w out =
             let off : is_outlet_code (code_in t flows p) ≡ false = false_from_ne_true _ (λ y.
-            (let o = outlet_from_code (code_at d p) (sym (ap is_outlet_code (code_here p w)) ∙ y) in out (ap (λ (c : Option ℕ). is_some c) o, inl o))) in
+            (let o = outlet_from_code (code_at d p) (sym (ap is_outlet_code (code_here p w)) ∙ y) in
+            out (ap (λ (c : Option ℕ). is_some c) o, inl o))) in
             elim (cases_Bool (is_place (rim_place t (rim_number t p)) p)) [
               | inr f ↦ outlet_unlisted t flows outlets p off f
               | inl y ↦ outlet_listed t flows outlets p off y
                   ∙ listed_at (rim_number t p) (number_below t s.cutting p w)
                   ∙ elim (cases_option (target_by t flows (rim_number t p))) [
-                    | inl none ↦ ap (λ (x : Option Place). option_and_then (λ (z : Place). option_and_then (λ q. exit_by t flows q) (target_by t flows (get_or ends (rim_number t p) 0))) x) none
-                    | inr q ↦ (let c = subst (λ (z : Place). Crosses z) (place_is _ _ y) (target_from (rim_number t p) q.0 q.1).crosses in
+                    | inl none ↦ ap (λ (x : Option Place).
+                        option_and_then (λ (z : Place). option_and_then (λ q. exit_by t flows q)
+                        (target_by t flows (get_or ends (rim_number t p) 0))) x) none
+                    | inr q ↦ (let c = subst (λ (z : Place). Crosses z) (place_is _ _ y)
+                        (target_from (rim_number t p) q.0 q.1).crosses in
                         absurd (out (ap (λ (c : Option ℕ). is_some c) c.coded.is, inr c.apart)))
                   ]
             ]

@@ -12,37 +12,47 @@ pub and_on : (a b : Bool) → b ≡ true → (a && b) ≡ a
 and_on true b t = t
 and_on false b t = refl
 
-pub waiting-open : (links waits : List ℕ) (i j : ℕ) → has_sent waits j ≡ false → waiting links waits i j ≡ donor links i j
-waiting-open links waits i j f = ap (λ x. cond {A = ℕ} x 1 0) (and_on (leads_to links j i) (not (has_sent waits j)) (not_from_false _ f))
+pub waiting-open : (links waits : List ℕ) (i j : ℕ) → has_sent waits j ≡ false →
+    waiting links waits i j ≡ donor links i j
+waiting-open links waits i j f = ap (λ x.
+    cond {A = ℕ} x 1 0) (and_on (leads_to links j i) (not (has_sent waits j)) (not_from_false _ f))
 
-pub waiting-sent : (links waits : List ℕ) (i j : ℕ) → has_sent waits j ≡ true → waiting links waits i j ≡ 0
+pub waiting-sent : (links waits : List ℕ) (i j : ℕ) → has_sent waits j ≡ true →
+    waiting links waits i j ≡ 0
 waiting-sent links waits i j t = cond-false _ _ _ (and_right _ _ (not_from_true _ t))
 
-pub sent_on-open : (links weights waits upstream : List ℕ) (i j : ℕ) → has_sent waits j ≡ false → sent_on links weights waits upstream i j ≡ 0
+pub sent_on-open : (links weights waits upstream : List ℕ) (i j : ℕ) → has_sent waits j ≡ false →
+    sent_on links weights waits upstream i j ≡ 0
 sent_on-open links weights waits upstream i j f = cond-false _ _ _ (and_right _ _ f)
 
 pub sent_on-all : (links weights waits upstream : List ℕ) (i j : ℕ) → has_sent waits j ≡ true →
-    sent_on links weights waits upstream i j ≡ cond {A = ℕ} (leads_to links j i) (get_or upstream j 0 + get_or weights j 0) 0
-sent_on-all links weights waits upstream i j t = ap (λ x. cond {A = ℕ} x (get_or upstream j 0 + get_or weights j 0) 0) (and_on (leads_to links j i) (has_sent waits j) t)
+    sent_on links weights waits upstream i j
+    ≡ cond {A = ℕ} (leads_to links j i) (get_or upstream j 0 + get_or weights j 0) 0
+sent_on-all links weights waits upstream i j t = ap (λ x. cond {A = ℕ} x
+    (get_or upstream j 0 + get_or weights j 0) 0) (and_on (leads_to links j i) (has_sent waits j) t)
 
-pub awaited_from : (links waits : List ℕ) (i j : ℕ) → 0 < waiting links waits i j → (leads_to links j i ≡ true) × (has_sent waits j ≡ false)
+pub awaited_from : (links waits : List ℕ) (i j : ℕ) → 0 < waiting links waits i j →
+    (leads_to links j i ≡ true) × (has_sent waits j ≡ false)
 awaited_from links waits i j h = elim (cases_Bool (leads_to links j i && not (has_sent waits j))) [
   | inl y ↦ (let w = and_parts _ _ y in (w.0, not-true _ w.1))
   | inr n ↦ absurd (omega (arith, cond-false {A = ℕ} _ 1 0 n))
 ]
 
-pub open_from_count : (waits : List ℕ) (i : ℕ) → get_or waits i 0 < sent_mark → has_sent waits i ≡ false
+pub open_from_count : (waits : List ℕ) (i : ℕ) → get_or waits i 0 < sent_mark →
+    has_sent waits i ≡ false
 open_from_count waits i l = ne_eqb _ _ (λ e. omega (arith, e))
 
 -- A node that is no end leads to its link and to no other node.
-pub leads_test : (links : List ℕ) (node i : ℕ) → onward links node ≢ node → leads_to links node i ≡ eqb (onward links node) i
+pub leads_test : (links : List ℕ) (node i : ℕ) → onward links node ≢ node →
+    leads_to links node i ≡ eqb (onward links node) i
 leads_test links node i ne = elim (cases_Bool (eqb (onward links node) i)) [
   | inl y ↦ leads_from links node i (eqb-true _ _ y) (λ e. ne (eqb-true _ _ y ∙ sym e)) ∙ sym y
   | inr n ↦ and_left _ _ n ∙ sym n
 ]
 
 -- The entries of a list after entry k was raised by v.
-pub added_at : (xs : List ℕ) (k v i : ℕ) → k < length xs → get_or (set xs k (get_or xs k 0 + v)) i 0 ≡ get_or xs i 0 + cond {A = ℕ} (eqb k i) v 0
+pub added_at : (xs : List ℕ) (k v i : ℕ) → k < length xs →
+    get_or (set xs k (get_or xs k 0 + v)) i 0 ≡ get_or xs i 0 + cond {A = ℕ} (eqb k i) v 0
 added_at xs k v i h = elim (cases_eq k i) [
   | inl e ↦ omega (
     arith,
@@ -51,7 +61,11 @@ added_at xs k v i h = elim (cases_eq k i) [
     ap (λ n. get_or xs n 0) e,
     cond-true {A = ℕ} _ v 0 (eq-eqb k i e),
   )
-  | inr ne ↦ omega (arith, get_or-set_other xs k i (get_or xs k 0 + v) 0 (λ e. ne (sym e)), cond-false {A = ℕ} _ v 0 (ne_eqb k i ne))
+  | inr ne ↦ omega (
+    arith,
+    get_or-set_other xs k i (get_or xs k 0 + v) 0 (λ e. ne (sym e)),
+    cond-false {A = ℕ} _ v 0 (ne_eqb k i ne),
+  )
 ]
 
 -- The state before any node has sent, and the state after all have.
@@ -62,39 +76,51 @@ part_le true false n = omega arith
 part_le false b n = omega arith
 
 -- A node's sum so far, plus its own weight, is at most its total.
-pub upstream_le : (links weights waits upstream : List ℕ) → AreStreams links → IsSending links weights waits upstream →
+pub upstream_le : (links weights waits upstream : List ℕ) → AreStreams links →
+    IsSending links weights waits upstream →
     (i : ℕ) → i < length links → get_or upstream i 0 + get_or weights i 0 ≤ total links weights i
 upstream_le links weights waits upstream streams s =
-    totals_le links streams (λ j. get_or weights j 0) (λ j. get_or upstream j 0 + get_or weights j 0) (total links weights)
+    totals_le links streams (λ j. get_or weights j 0) (λ j. get_or upstream j 0
+    + get_or weights j 0) (total links weights)
     (λ i h. omega (
       arith,
       s.sums i h,
-      sum_below-le (sent_on links weights waits upstream i) (λ j. cond {A = ℕ} (leads_to links j i) (get_or upstream j 0 + get_or weights j 0) 0) (length links)
-          (λ j l. part_le (leads_to links j i) (has_sent waits j) (get_or upstream j 0 + get_or weights j 0)),
+      sum_below-le (sent_on links weights waits upstream i) (λ j. cond {A = ℕ} (leads_to links j i)
+          (get_or upstream j 0 + get_or weights j 0) 0) (length links)
+          (λ j l. part_le (leads_to links j i) (has_sent waits j)
+          (get_or upstream j 0 + get_or weights j 0)),
     ))
     (λ i h. omega (arith, (totals_are links weights streams).each i h))
 
 -- If no count is 0, every node has sent.
-pub all_sent : (links weights waits upstream : List ℕ) → AreStreams links → IsSending links weights waits upstream → ((i : ℕ) → i < length links → get_or waits i 0 ≢ 0) →
+pub all_sent : (links weights waits upstream : List ℕ) → AreStreams links →
+    IsSending links weights waits upstream → ((i : ℕ) → i < length links → get_or waits i 0 ≢ 0) →
     (i : ℕ) → i < length links → has_sent waits i ≡ true
-all_sent links weights waits upstream streams s some = each_downstream links streams (λ _ i. has_sent waits i ≡ true)
+all_sent links weights waits upstream streams s some =
+    each_downstream links streams (λ _ i. has_sent waits i ≡ true)
     (λ _ i h before. true_from_ne_false _ (λ f.
-    (let above : 0 < sum_below (waiting links waits i) (length links) = omega (arith, some i h, s.counts i h f) in
+    (let above : 0 < sum_below (waiting links waits i) (length links) =
+    omega (arith, some i h, s.counts i h f) in
     let j = some_term (waiting links waits i) (length links) above in
     let a = awaited_from links waits i j.0 j.2 in
     false≢true (sym a.1 ∙ before j.0 j.1 a.0))))
 
-pub upstream_from : (links weights waits upstream : List ℕ) → AreStreams links → IsSending links weights waits upstream → ((i : ℕ) → i < length links → get_or waits i 0 ≢ 0) → AreUpstream links weights upstream
+pub upstream_from : (links weights waits upstream : List ℕ) → AreStreams links →
+    IsSending links weights waits upstream → ((i : ℕ) → i < length links → get_or waits i 0 ≢ 0) →
+    AreUpstream links weights upstream
 upstream_from links weights waits upstream streams s some = record {
   size = s.upstream_size;
-  each = λ i h. sym (total_is links weights (λ j. get_or upstream j 0 + get_or weights j 0) streams (record {
-    each = λ i h. omega (
-      arith,
-      s.sums i h,
-      sum_below-same (sent_on links weights waits upstream i) (λ j. cond {A = ℕ} (leads_to links j i) (get_or upstream j 0 + get_or weights j 0) 0) (length links)
-          (λ j l. sent_on-all links weights waits upstream i j (all_sent links weights waits upstream streams s some j l)),
-    );
-  }) i h);
+  each = λ i h.
+      sym (total_is links weights (λ j. get_or upstream j 0 + get_or weights j 0) streams (record {
+        each = λ i h. omega (
+          arith,
+          s.sums i h,
+          sum_below-same (sent_on links weights waits upstream i) (λ j. cond {A = ℕ}
+              (leads_to links j i) (get_or upstream j 0 + get_or weights j 0) 0) (length links)
+              (λ j l. sent_on-all links weights waits upstream i j
+              (all_sent links weights waits upstream streams s some j l)),
+        );
+      }) i h);
 }
 
 -- 1 if node i has not sent, else 0.
@@ -105,38 +131,53 @@ unsent_one waits i = cond {A = ℕ} (has_sent waits i) 0 1
 abbrev pub unsent : List ℕ → ℕ → ℕ
 unsent waits n = sum_below (unsent_one waits) n
 
-pub unsent_falls : (waits new : List ℕ) (n node : ℕ) → node < n → has_sent waits node ≡ false → has_sent new node ≡ true →
+pub unsent_falls : (waits new : List ℕ) (n node : ℕ) → node < n → has_sent waits node ≡ false →
+    has_sent new node ≡ true →
     ((j : ℕ) → j < n → j ≢ node → has_sent new j ≡ has_sent waits j) → unsent new n < unsent waits n
 unsent_falls waits new n node h f t same = omega (
   arith,
-  sum_below-except (unsent_one new) (unsent_one waits) n node h (λ j l ne. ap (λ b. cond {A = ℕ} b 0 1) (same j l ne)),
+  sum_below-except (unsent_one new) (unsent_one waits) n node h (λ j l ne.
+      ap (λ b. cond {A = ℕ} b 0 1) (same j l ne)),
   cond-false {A = ℕ} _ 0 1 f,
   cond-true {A = ℕ} _ 0 1 t,
 )
 
-pub donors_begin : (links weights waits upstream : List ℕ) → length links ≤ 2 ^ 30 → AreDonorCounts links waits → AreZeros (length links) upstream → IsSending links weights waits upstream
+pub donors_begin : (links weights waits upstream : List ℕ) →
+    length links ≤ 2 ^ 30 → AreDonorCounts links waits → AreZeros (length links) upstream →
+    IsSending links weights waits upstream
 donors_begin links weights waits upstream few d none =
     let low : (i : ℕ) → i < length links → has_sent waits i ≡ false =
-    λ i h. open_from_count waits i (omega (arith, few, d.each i h, sum_below-few (donor links i) (length links) (λ j l. bit_le (leads_to links j i)))) in
+    λ i h. open_from_count waits i (omega (
+      arith,
+      few,
+      d.each i h,
+      sum_below-few (donor links i) (length links) (λ j l. bit_le (leads_to links j i)),
+    )) in
     record {
       waits_size = d.size;
       upstream_size = none.size;
-      counts = λ i h f. d.each i h ∙ sum_below-same (donor links i) (waiting links waits i) (length links) (λ j l. sym (waiting-open links waits i j (low j l)));
-      sums = λ i h. none.zeros i ∙ sym (sum_below-none (sent_on links weights waits upstream i) (length links) (λ j l. sent_on-open links weights waits upstream i j (low j l)));
+      counts = λ i h f. d.each i h ∙ sum_below-same (donor links i) (waiting links waits i)
+          (length links) (λ j l. sym (waiting-open links waits i j (low j l)));
+      sums = λ i h. none.zeros i ∙ sym (sum_below-none (sent_on links weights waits upstream i)
+          (length links) (λ j l. sent_on-open links weights waits upstream i j (low j l)));
       closed = λ i j h l on t. absurd (false≢true (sym (low i h) ∙ t));
     }
 
 -- One node sends its sum.
 
 -- How counts and sums change when a node sends, or is an end.
-pub record MovesOn (links weights waits upstream new_waits new_upstream : List ℕ) (node : ℕ) : Type 0 where
+pub record MovesOn (links weights waits upstream new_waits new_upstream : List ℕ) (node : ℕ) :
+    Type 0 where
   pub waits_size : length new_waits ≡ length waits
   pub upstream_size : length new_upstream ≡ length upstream
   pub marked : get_or new_waits node 0 ≡ sent_mark
   pub fewer : (i : ℕ) → i ≢ node → get_or new_waits i 0 + donor links i node ≡ get_or waits i 0
-  pub more : (i : ℕ) → get_or new_upstream i 0 ≡ get_or upstream i 0 + cond {A = ℕ} (leads_to links node i) (get_or upstream node 0 + get_or weights node 0) 0
+  pub more : (i : ℕ) → get_or new_upstream i 0 ≡ get_or upstream i 0
+      + cond {A = ℕ} (leads_to links node i) (get_or upstream node 0 + get_or weights node 0) 0
 
-module _ (links weights waits upstream : List ℕ) (few : length links ≤ 2 ^ 30) (s : IsSending links weights waits upstream) (node : ℕ) (inside : node < length links) (ready : get_or waits node 0 ≡ 0) where
+module _ (links weights waits upstream : List ℕ) (few : length links ≤ 2 ^ 30)
+    (s : IsSending links weights waits upstream) (node : ℕ) (inside : node < length links)
+    (ready : get_or waits node 0 ≡ 0) where
   pub node_open : has_sent waits node ≡ false
   node_open = open_from_count waits node (omega (arith, ready))
 
@@ -155,7 +196,8 @@ module _ (links weights waits upstream : List ℕ) (few : length links ≤ 2 ^ 3
 
   -- The node downstream has not sent.
   next_open : (i : ℕ) → i < length links → leads_to links node i ≡ true → has_sent waits i ≡ false
-  next_open i h on = false_from_ne_true _ (λ t. false≢true (sym node_open ∙ s.closed i node h inside on t))
+  next_open i h on =
+      false_from_ne_true _ (λ t. false≢true (sym node_open ∙ s.closed i node h inside on t))
 
   pub next_waits : (i : ℕ) → i < length links → leads_to links node i ≡ true → 1 ≤ get_or waits i 0
   next_waits i h on = omega (
@@ -166,61 +208,80 @@ module _ (links weights waits upstream : List ℕ) (few : length links ≤ 2 ^ 3
     term-le-sum_below (waiting links waits i) (length links) node inside,
   )
 
-  next_few : (i : ℕ) → i < length links → leads_to links node i ≡ true → get_or waits i 0 ≤ length links
+  next_few : (i : ℕ) → i < length links → leads_to links node i ≡ true →
+      get_or waits i 0 ≤ length links
   next_few i h on = omega (
     arith,
     s.counts i h (next_open i h on),
-    sum_below-few (waiting links waits i) (length links) (λ j l. bit_le (leads_to links j i && not (has_sent waits j))),
+    sum_below-few (waiting links waits i) (length links) (λ j l.
+        bit_le (leads_to links j i && not (has_sent waits j))),
   )
 
-  module _ (new_waits new_upstream : List ℕ) (m : MovesOn links weights waits upstream new_waits new_upstream node) where
+  module _ (new_waits new_upstream : List ℕ)
+      (m : MovesOn links weights waits upstream new_waits new_upstream node) where
     pub sent_now : has_sent new_waits node ≡ true
     sent_now = eq-eqb _ _ m.marked
 
     pub other_sent : (j : ℕ) → j < length links → j ≢ node → has_sent new_waits j ≡ has_sent waits j
     other_sent j h ne = elim (cases_Bool (leads_to links node j)) [
-      | inl on ↦ open_from_count new_waits j (omega (arith, m.fewer j ne, next_few j h on)) ∙ sym (next_open j h on)
-      | inr off ↦ (let same : get_or new_waits j 0 ≡ get_or waits j 0 = omega (arith, m.fewer j ne, cond-false {A = ℕ} _ 1 0 off) in ap (λ n. eqb n sent_mark) same)
+      | inl on ↦ open_from_count new_waits j (omega (arith, m.fewer j ne, next_few j h on))
+          ∙ sym (next_open j h on)
+      | inr off ↦ (let same : get_or new_waits j 0 ≡ get_or waits j 0 = omega
+          (arith, m.fewer j ne, cond-false {A = ℕ} _ 1 0 off) in ap (λ n. eqb n sent_mark) same)
     ]
 
     apart : (i : ℕ) → has_sent new_waits i ≡ false → i ≢ node
     apart i f e = false≢true (sym f ∙ ap (has_sent new_waits) e ∙ sent_now)
 
-    new_counts : (i : ℕ) → i < length links → has_sent new_waits i ≡ false → get_or new_waits i 0 ≡ sum_below (waiting links new_waits i) (length links)
+    new_counts : (i : ℕ) → i < length links → has_sent new_waits i ≡ false →
+        get_or new_waits i 0 ≡ sum_below (waiting links new_waits i) (length links)
     new_counts i h f = omega (
       arith,
       m.fewer i (apart i f),
       s.counts i h (sym (other_sent i h (apart i f)) ∙ f),
-      sum_below-except (waiting links new_waits i) (waiting links waits i) (length links) node inside
+      sum_below-except (waiting links new_waits i) (waiting links waits i)
+          (length links) node inside
           (λ j l ne. ap (λ b. cond {A = ℕ} (leads_to links j i && not b) 1 0) (other_sent j l ne)),
       waiting-open links waits i node node_open,
       waiting-sent links new_waits i node sent_now,
     )
 
-    upstream_still : (j : ℕ) → leads_to links node j ≡ false → get_or new_upstream j 0 ≡ get_or upstream j 0
-    upstream_still j off = omega (arith, m.more j, cond-false {A = ℕ} _ (get_or upstream node 0 + get_or weights node 0) 0 off)
+    upstream_still : (j : ℕ) → leads_to links node j ≡ false →
+        get_or new_upstream j 0 ≡ get_or upstream j 0
+    upstream_still j off = omega (
+      arith,
+      m.more j,
+      cond-false {A = ℕ} _ (get_or upstream node 0 + get_or weights node 0) 0 off,
+    )
 
-    same_sent : (i j : ℕ) → j < length links → j ≢ node → sent_on links weights new_waits new_upstream i j ≡ sent_on links weights waits upstream i j
+    same_sent : (i j : ℕ) → j < length links → j ≢ node →
+        sent_on links weights new_waits new_upstream i j ≡ sent_on links weights waits upstream i j
     same_sent i j l ne = elim (cases_Bool (has_sent waits j)) [
       | inl t ↦
           sent_on-all links weights new_waits new_upstream i j (other_sent j l ne ∙ t)
-          ∙ ap (λ n. cond {A = ℕ} (leads_to links j i) (n + get_or weights j 0) 0) (upstream_still j (false_from_ne_true _ (λ on. false≢true (sym (next_open j l on) ∙ t))))
+          ∙ ap (λ n. cond {A = ℕ} (leads_to links j i) (n + get_or weights j 0) 0)
+          (upstream_still j (false_from_ne_true _ (λ on. false≢true (sym (next_open j l on) ∙ t))))
           ∙ sym (sent_on-all links weights waits upstream i j t)
-      | inr f ↦ sent_on-open links weights new_waits new_upstream i j (other_sent j l ne ∙ f) ∙ sym (sent_on-open links weights waits upstream i j f)
+      | inr f ↦ sent_on-open links weights new_waits new_upstream i j (other_sent j l ne ∙ f)
+          ∙ sym (sent_on-open links weights waits upstream i j f)
     ]
 
-    new_sums : (i : ℕ) → i < length links → get_or new_upstream i 0 ≡ sum_below (sent_on links weights new_waits new_upstream i) (length links)
+    new_sums : (i : ℕ) → i < length links → get_or new_upstream i 0
+        ≡ sum_below (sent_on links weights new_waits new_upstream i) (length links)
     new_sums i h = omega (
       arith,
       m.more i,
       s.sums i h,
-      sum_below-except (sent_on links weights new_waits new_upstream i) (sent_on links weights waits upstream i) (length links) node inside (same_sent i),
+      sum_below-except (sent_on links weights new_waits new_upstream i)
+          (sent_on links weights waits upstream i) (length links) node inside (same_sent i),
       sent_on-open links weights waits upstream i node node_open,
       sent_on-all links weights new_waits new_upstream i node sent_now,
-      ap (λ n. cond {A = ℕ} (leads_to links node i) (n + get_or weights node 0) 0) (upstream_still node (leads_self links node)),
+      ap (λ n. cond {A = ℕ} (leads_to links node i) (n + get_or weights node 0) 0)
+          (upstream_still node (leads_self links node)),
     )
 
-    new_closed : (i j : ℕ) → i < length links → j < length links → leads_to links j i ≡ true → has_sent new_waits i ≡ true → has_sent new_waits j ≡ true
+    new_closed : (i j : ℕ) → i < length links → j < length links → leads_to links j i ≡ true →
+        has_sent new_waits i ≡ true → has_sent new_waits j ≡ true
     new_closed i j h l on t = elim (cases_eq j node) [
       | inl k ↦ ap (has_sent new_waits) k ∙ sent_now
       | inr k ↦ other_sent j l k ∙ elim (cases_eq i node) [
@@ -242,12 +303,16 @@ module _ (links weights waits upstream : List ℕ) (few : length links ≤ 2 ^ 3
 -- The step of the loop that sends downstream.
 
 abbrev pub next_waits_list : List ℕ → ℕ → ℕ → List ℕ
-next_waits_list waits node next = set (set waits node sent_mark) next (get_or (set waits node sent_mark) next 0 - 1)
+next_waits_list waits node next =
+    set (set waits node sent_mark) next (get_or (set waits node sent_mark) next 0 - 1)
 
 abbrev pub next_upstream_list : List ℕ → List ℕ → ℕ → ℕ → List ℕ
-next_upstream_list weights upstream node next = set upstream next (get_or upstream next 0 + (get_or upstream node 0 + get_or weights node 0))
+next_upstream_list weights upstream node next =
+    set upstream next (get_or upstream next 0 + (get_or upstream node 0 + get_or weights node 0))
 
-module _ (links weights waits upstream : List ℕ) (streams : AreStreams links) (few : length links ≤ 2 ^ 30) (s : IsSending links weights waits upstream) (node : ℕ) (inside : node < length links) (ready : get_or waits node 0 ≡ 0) where
+module _ (links weights waits upstream : List ℕ) (streams : AreStreams links)
+    (few : length links ≤ 2 ^ 30) (s : IsSending links weights waits upstream) (node : ℕ)
+    (inside : node < length links) (ready : get_or waits node 0 ≡ 0) where
   marked : get_or (set waits node sent_mark) node 0 ≡ sent_mark
   marked = get_or-set_same waits node sent_mark 0 (omega (arith, s.waits_size))
 
@@ -256,15 +321,20 @@ module _ (links weights waits upstream : List ℕ) (streams : AreStreams links) 
 
   module _ (on : get_or links node 0 ≡ node → ⊥) where
     pub step_waits : 1 ≤ get_or waits (get_or links node 0) 0
-    step_waits = next_waits links weights waits upstream few s node inside ready (get_or links node 0) (streams.inside node inside) (leads_from links node (get_or links node 0) refl (λ e. on (sym e)))
+    step_waits = next_waits links weights waits upstream few s node inside ready
+        (get_or links node 0) (streams.inside node inside)
+        (leads_from links node (get_or links node 0) refl (λ e. on (sym e)))
 
-    fewer : (i : ℕ) → i ≢ node → get_or (next_waits_list waits node (get_or links node 0)) i 0 + cond {A = ℕ} (leads_to links node i) 1 0 ≡ get_or waits i 0
+    fewer : (i : ℕ) → i ≢ node → get_or (next_waits_list waits node (get_or links node 0)) i 0
+        + cond {A = ℕ} (leads_to links node i) 1 0 ≡ get_or waits i 0
     fewer i ne = elim (cases_eq (get_or links node 0) i) [
       | inl e ↦ omega (
         arith,
         ap (λ n. get_or (next_waits_list waits node (get_or links node 0)) n 0) e,
-        get_or-set_same (set waits node sent_mark) (get_or links node 0) (get_or (set waits node sent_mark) (get_or links node 0) 0 - 1) 0
-            (omega (arith, length-set waits node sent_mark, s.waits_size, streams.inside node inside)),
+        get_or-set_same (set waits node sent_mark) (get_or links node 0)
+            (get_or (set waits node sent_mark) (get_or links node 0) 0 - 1) 0
+            (omega
+            (arith, length-set waits node sent_mark, s.waits_size, streams.inside node inside)),
         others (get_or links node 0) on,
         ap (λ n. get_or waits n 0) e,
         step_waits,
@@ -273,42 +343,64 @@ module _ (links weights waits upstream : List ℕ) (streams : AreStreams links) 
       )
       | inr other ↦ omega (
         arith,
-        get_or-set_other (set waits node sent_mark) (get_or links node 0) i (get_or (set waits node sent_mark) (get_or links node 0) 0 - 1) 0 (λ e. other (sym e)),
+        get_or-set_other (set waits node sent_mark) (get_or links node 0) i
+            (get_or (set waits node sent_mark) (get_or links node 0) 0 - 1) 0 (λ e. other (sym e)),
         others i ne,
         ap (λ b. cond {A = ℕ} b 1 0) (leads_test links node i on),
         cond-false {A = ℕ} _ 1 0 (ne_eqb (get_or links node 0) i other),
       )
     ]
 
-    moves : MovesOn links weights waits upstream (next_waits_list waits node (get_or links node 0)) (next_upstream_list weights upstream node (get_or links node 0)) node
+    moves : MovesOn links weights waits upstream (next_waits_list waits node (get_or links node 0))
+        (next_upstream_list weights upstream node (get_or links node 0)) node
     moves = record {
-      waits_size = length-set (set waits node sent_mark) (get_or links node 0) (get_or (set waits node sent_mark) (get_or links node 0) 0 - 1) ∙ length-set waits node sent_mark;
-      upstream_size = length-set upstream (get_or links node 0) (get_or upstream (get_or links node 0) 0 + (get_or upstream node 0 + get_or weights node 0));
-      marked = get_or-set_other (set waits node sent_mark) (get_or links node 0) node (get_or (set waits node sent_mark) (get_or links node 0) 0 - 1) 0 (λ e. on (sym e)) ∙ marked;
+      waits_size = length-set (set waits node sent_mark) (get_or links node 0) (get_or
+          (set waits node sent_mark) (get_or links node 0) 0 - 1) ∙ length-set waits node sent_mark;
+      upstream_size = length-set upstream (get_or links node 0) (get_or upstream
+          (get_or links node 0) 0 + (get_or upstream node 0 + get_or weights node 0));
+      marked = get_or-set_other (set waits node sent_mark) (get_or links node 0) node (get_or
+          (set waits node sent_mark) (get_or links node 0) 0 - 1) 0 (λ e. on (sym e)) ∙ marked;
       fewer = fewer;
-      more = λ i. added_at upstream (get_or links node 0) (get_or upstream node 0 + get_or weights node 0) i (omega (arith, s.upstream_size, streams.inside node inside))
-          ∙ ap (λ b. get_or upstream i 0 + cond {A = ℕ} b (get_or upstream node 0 + get_or weights node 0) 0) (sym (leads_test links node i on));
+      more = λ i. added_at upstream (get_or links node 0) (get_or upstream node 0
+          + get_or weights node 0) i (omega (arith, s.upstream_size, streams.inside node inside))
+          ∙ ap (λ b. get_or upstream i 0 + cond {A = ℕ} b
+          (get_or upstream node 0 + get_or weights node 0) 0) (sym (leads_test links node i on));
     }
 
-    pub step_sending : IsSending links weights (next_waits_list waits node (get_or links node 0)) (next_upstream_list weights upstream node (get_or links node 0))
+    pub step_sending : IsSending links weights (next_waits_list waits node (get_or links node 0))
+        (next_upstream_list weights upstream node (get_or links node 0))
     step_sending = sending_on links weights waits upstream few s node inside ready _ _ moves
 
-    pub step_fits : get_or upstream (get_or links node 0) 0 + (get_or upstream node 0 + get_or weights node 0) ≤ total links weights (get_or links node 0)
+    pub step_fits : get_or upstream (get_or links node 0) 0 + (get_or upstream node 0
+        + get_or weights node 0) ≤ total links weights (get_or links node 0)
     step_fits = omega (
       arith,
-      get_or-set_same upstream (get_or links node 0) (get_or upstream (get_or links node 0) 0 + (get_or upstream node 0 + get_or weights node 0)) 0 (omega (arith, s.upstream_size, streams.inside node inside)),
-      upstream_le links weights _ _ streams step_sending (get_or links node 0) (streams.inside node inside),
+      get_or-set_same upstream (get_or links node 0) (get_or upstream (get_or links node 0) 0
+          + (get_or upstream node 0 + get_or weights node 0)) 0
+          (omega (arith, s.upstream_size, streams.inside node inside)),
+      upstream_le links weights _ _ streams step_sending (get_or links node 0)
+          (streams.inside node inside),
     )
 
-    pub step_falls : unsent (next_waits_list waits node (get_or links node 0)) (length links) < unsent waits (length links)
-    step_falls = unsent_falls waits _ (length links) node inside (node_open links weights waits upstream few s node inside ready)
-        (sent_now links weights waits upstream few s node inside ready _ _ moves) (other_sent links weights waits upstream few s node inside ready _ _ moves)
+    pub step_falls : unsent (next_waits_list waits node (get_or links node 0)) (length links)
+        < unsent waits (length links)
+    step_falls = unsent_falls waits _ (length links) node inside
+        (node_open links weights waits upstream few s node inside ready)
+        (sent_now links weights waits upstream few s node inside ready _ _ moves)
+        (other_sent links weights waits upstream few s node inside ready _ _ moves)
 
     pub step_early : (from : ℕ) → ((i : ℕ) → i < from → i ≢ node → get_or waits i 0 ≢ 0) →
-        (i : ℕ) → i < from → i ≢ get_or links node 0 → get_or (next_waits_list waits node (get_or links node 0)) i 0 ≢ 0
+        (i : ℕ) → i < from → i ≢ get_or links node 0 →
+        get_or (next_waits_list waits node (get_or links node 0)) i 0 ≢ 0
     step_early from early i h ne = elim (cases_eq i node) [
-      | inl e ↦ (λ z. omega (arith, z, ap (λ n. get_or (next_waits_list waits node (get_or links node 0)) n 0) e, moves.marked))
-      | inr other ↦ (λ z. early i h other (sym (get_or-set_other (set waits node sent_mark) (get_or links node 0) i _ 0 ne ∙ others i other) ∙ z))
+      | inl e ↦ (λ z. omega (
+        arith,
+        z,
+        ap (λ n. get_or (next_waits_list waits node (get_or links node 0)) n 0) e,
+        moves.marked,
+      ))
+      | inr other ↦ (λ z. early i h other (sym (get_or-set_other (set waits node sent_mark)
+          (get_or links node 0) i _ 0 ne ∙ others i other) ∙ z))
     ]
 
   module _ (end : get_or links node 0 ≡ node) where
@@ -317,8 +409,13 @@ module _ (links weights waits upstream : List ℕ) (streams : AreStreams links) 
       waits_size = length-set waits node sent_mark;
       upstream_size = refl;
       marked = marked;
-      fewer = λ i ne. omega (arith, others i ne, cond-false {A = ℕ} _ 1 0 (leads_end links node i end));
-      more = λ i. omega (arith, cond-false {A = ℕ} _ (get_or upstream node 0 + get_or weights node 0) 0 (leads_end links node i end));
+      fewer =
+          λ i ne. omega (arith, others i ne, cond-false {A = ℕ} _ 1 0 (leads_end links node i end));
+      more = λ i. omega (
+        arith,
+        cond-false {A = ℕ} _ (get_or upstream node 0 + get_or weights node 0) 0
+            (leads_end links node i end),
+      );
     }
 
     pub end_sending : IsSending links weights (set waits node sent_mark) upstream

@@ -3,16 +3,19 @@ use Rattle.std.proofs.Common.{◌≡◌, ◌≢◌, ℕ, zero, suc, ◌+◌, ◌
 use Rattle.std.proofs.lemmas.Bool.{cases_eq, cases_lt}
 use Rattle.flow.specs.Streams.{sum_below}
 
-pub sum_below-same : (f g : ℕ → ℕ) (n : ℕ) → ((i : ℕ) → i < n → f i ≡ g i) → sum_below f n ≡ sum_below g n
+pub sum_below-same : (f g : ℕ → ℕ) (n : ℕ) → ((i : ℕ) → i < n → f i ≡ g i) →
+    sum_below f n ≡ sum_below g n
 sum_below-same f g zero same = refl
 sum_below-same f g (suc n) same =
     omega (arith, sum_below-same f g n (λ i h. same i (omega arith)), same n (omega arith))
 
-pub sum_below-add : (f g : ℕ → ℕ) (n : ℕ) → sum_below (λ i. f i + g i) n ≡ sum_below f n + sum_below g n
+pub sum_below-add : (f g : ℕ → ℕ) (n : ℕ) →
+    sum_below (λ i. f i + g i) n ≡ sum_below f n + sum_below g n
 sum_below-add f g zero = refl
 sum_below-add f g (suc n) = omega (arith, sum_below-add f g n)
 
-pub sum_below-le : (f g : ℕ → ℕ) (n : ℕ) → ((i : ℕ) → i < n → f i ≤ g i) → sum_below f n ≤ sum_below g n
+pub sum_below-le : (f g : ℕ → ℕ) (n : ℕ) → ((i : ℕ) → i < n → f i ≤ g i) →
+    sum_below f n ≤ sum_below g n
 sum_below-le f g zero le = omega arith
 sum_below-le f g (suc n) le =
     omega (arith, sum_below-le f g n (λ i h. le i (omega arith)), le n (omega arith))
@@ -27,7 +30,8 @@ bit_le false = omega arith
 
 pub sum_below-none : (f : ℕ → ℕ) (n : ℕ) → ((i : ℕ) → i < n → f i ≡ 0) → sum_below f n ≡ 0
 sum_below-none f zero none = refl
-sum_below-none f (suc n) none = omega (arith, sum_below-none f n (λ i h. none i (omega arith)), none n (omega arith))
+sum_below-none f (suc n) none =
+    omega (arith, sum_below-none f n (λ i h. none i (omega arith)), none n (omega arith))
 
 -- A sum of n terms of at most 1 is at most n.
 pub sum_below-few : (f : ℕ → ℕ) (n : ℕ) → ((i : ℕ) → i < n → f i ≤ 1) → sum_below f n ≤ n
@@ -43,12 +47,18 @@ term-le-sum_below f (suc n) i h = elim (cases_eq i n) [
 ]
 
 -- If only term i changes, the sum changes by as much.
-pub sum_below-except : (f g : ℕ → ℕ) (n i : ℕ) → i < n → ((j : ℕ) → j < n → j ≢ i → f j ≡ g j) → sum_below f n + g i ≡ sum_below g n + f i
+pub sum_below-except : (f g : ℕ → ℕ) (n i : ℕ) → i < n → ((j : ℕ) → j < n → j ≢ i → f j ≡ g j) →
+    sum_below f n + g i ≡ sum_below g n + f i
 sum_below-except f g zero i h same = absurd (omega arith)
 sum_below-except f g (suc n) i h same = elim (cases_eq i n) [
-  | inl e ↦ (let rest : sum_below f n ≡ sum_below g n = sum_below-same f g n (λ j l. same j (omega arith) (omega arith)) in
+  | inl e ↦ (let rest : sum_below f n ≡ sum_below g n =
+      sum_below-same f g n (λ j l. same j (omega arith) (omega arith)) in
       let here : f i ≡ f n = ap f e in let there : g i ≡ g n = ap g e in omega arith)
-  | inr ne ↦ omega (arith, sum_below-except f g n i (omega arith) (λ j l m. same j (omega arith) m), same n (omega arith) (λ e. ne (sym e)))
+  | inr ne ↦ omega (
+    arith,
+    sum_below-except f g n i (omega arith) (λ j l m. same j (omega arith) m),
+    same n (omega arith) (λ e. ne (sym e)),
+  )
 ]
 
 -- A sum above 0 has a term above 0.
@@ -63,11 +73,13 @@ pub sum_more : (f : ℕ → ℕ) (n : ℕ) → sum_below f (n + 1) ≡ sum_below
 sum_more f n = rw add-one refl
 
 -- A sum over a + n numbers is the sum of its two parts.
-pub sum_below-split : (f : ℕ → ℕ) (a n : ℕ) → sum_below f (a + n) ≡ sum_below f a + sum_below (λ i. f (a + i)) n
+pub sum_below-split : (f : ℕ → ℕ) (a n : ℕ) →
+    sum_below f (a + n) ≡ sum_below f a + sum_below (λ i. f (a + i)) n
 sum_below-split f a zero = ap (sum_below f) (add-zero a) ∙ omega arith
 sum_below-split f a (suc n) =
     let next : a + suc n ≡ suc (a + n) = omega arith in
-    let rest : sum_below f (a + n) ≡ sum_below f a + sum_below (λ i. f (a + i)) n = sum_below-split f a n in
+    let rest : sum_below f (a + n) ≡ sum_below f a + sum_below (λ i. f (a + i)) n =
+    sum_below-split f a n in
     ap (sum_below f) next ∙ omega arith
 
 -- The sum of the first terms is at most the whole.
@@ -77,15 +89,20 @@ sum_below-part f k n le =
     omega (arith, sum_below-split f k (n - k), ap (sum_below f) whole)
 
 -- A double sum is the same in either order.
-pub exchange : (f : ℕ → ℕ → ℕ) (n m : ℕ) → sum_below (λ i. sum_below (f i) m) n ≡ sum_below (λ j. sum_below (λ i. f i j) n) m
+pub exchange : (f : ℕ → ℕ → ℕ) (n m : ℕ) →
+    sum_below (λ i. sum_below (f i) m) n ≡ sum_below (λ j. sum_below (λ i. f i j) n) m
 exchange f zero m = sym (sum_below-none (λ j. 0) m (λ j h. refl))
-exchange f (suc n) m = ap (λ k. k + sum_below (f n) m) (exchange f n m) ∙ sym (sum_below-add (λ j. sum_below (λ i. f i j) n) (f n) m)
+exchange f (suc n) m = ap (λ k. k + sum_below (f n) m) (exchange f n m)
+    ∙ sym (sum_below-add (λ j. sum_below (λ i. f i j) n) (f n) m)
 
 -- A sum with at most one term above 0 is that term.
-pub one_term : (f : ℕ → ℕ) (n i : ℕ) → i < n → ((j : ℕ) → j < n → j ≢ i → f j ≡ 0) → sum_below f n ≡ f i
-one_term f n i h none = omega (arith, sum_below-except f (λ _. 0) n i h none, sum_below-none (λ _. 0) n (λ j l. refl))
+pub one_term : (f : ℕ → ℕ) (n i : ℕ) → i < n → ((j : ℕ) → j < n → j ≢ i → f j ≡ 0) →
+    sum_below f n ≡ f i
+one_term f n i h none =
+    omega (arith, sum_below-except f (λ _. 0) n i h none, sum_below-none (λ _. 0) n (λ j l. refl))
 
 -- A condition on a sum is a condition on each term.
-pub cond-sum : (b : Bool) (f : ℕ → ℕ) (n : ℕ) → cond {A = ℕ} b (sum_below f n) 0 ≡ sum_below (λ c. cond {A = ℕ} b (f c) 0) n
+pub cond-sum : (b : Bool) (f : ℕ → ℕ) (n : ℕ) →
+    cond {A = ℕ} b (sum_below f n) 0 ≡ sum_below (λ c. cond {A = ℕ} b (f c) 0) n
 cond-sum true f n = refl
 cond-sum false f n = sym (sum_below-none (λ c. 0) n (λ c h. refl))

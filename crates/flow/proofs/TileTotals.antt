@@ -21,9 +21,11 @@ use Rattle.flow.proofs.InTile.{weight_in, AreTileWeights, IsPiece, cases_bounds,
 use Rattle.flow.proofs.Reaching.{IsEnding, still_at, still_from, reached_early, drains_at, drains_from, EntersRegion, stays_or_enters, never_enters, enters_from_one, one_move, enters_from, enters_at}
 use Rattle.flow.proofs.DrainedCells.{cell, all_drained, all_drained_inside, entered, inflow_sum, counted_on, counted_off, counted_none}
 
-module _ (d : Directed) (e : IsEnding d) (t : Cutting) (tile : ℕ) (b : Bounds) (links : List ℕ) (s : IsPiece d t tile b links) where
+module _ (d : Directed) (e : IsEnding d) (t : Cutting) (tile : ℕ) (b : Bounds) (links : List ℕ)
+    (s : IsPiece d t tile b links) where
   -- A link to another cell is one move of the flow path.
-  leads_place : (j i : ℕ) → j < length links → leads_to links j i ≡ true → (next d (place_in b j) ≡ place_in b i) × (place_in b j ≢ place_in b i)
+  leads_place : (j i : ℕ) → j < length links → leads_to links j i ≡ true →
+      (next d (place_in b j) ≡ place_in b i) × (place_in b j ≢ place_in b i)
   leads_place j i h on =
       let l = leads_parts links j i on in (
         elim (cases_bounds b (next d (place_in b j))) [
@@ -39,59 +41,85 @@ module _ (d : Directed) (e : IsEnding d) (t : Cutting) (tile : ℕ) (b : Bounds)
 
   -- The water of one cell q. T says which moves of its path count, and R which places they reach.
   -- `over` is 1 if a move that counts enters place i from outside the bounds, else 0.
-  module _ (q : Place) (is : IsCoded d q) (i : ℕ) (h : i < length links) (R : Place → Bool) (T : ℕ → Type 0) (start : T 0)
-      (from : (p : Place) → R p ≡ true → (k : ℕ) × (follow d q k ≡ p) × T k) (at : (p : Place) (k : ℕ) → follow d q k ≡ p → T k → R p ≡ true)
-      (less : (k m : ℕ) → m ≤ k → T k → T m) (more : (k : ℕ) → T k → IsInBounds b (follow d q k) → IsInBounds b (follow d q (suc k)) → T (suc k))
-      (over : ℕ) (off : ((a : ℕ) → follow d q (suc a) ≡ place_in b i → T (suc a) → (IsInBounds b (follow d q a) → ⊥) → ⊥) → over ≡ 0)
-      (on : (a : ℕ) → follow d q (suc a) ≡ place_in b i → T (suc a) → (IsInBounds b (follow d q a) → ⊥) → over ≡ 1) where
+  module _ (q : Place) (is : IsCoded d q) (i : ℕ) (h : i < length links) (R : Place → Bool)
+      (T : ℕ → Type 0) (start : T 0)
+      (from : (p : Place) → R p ≡ true → (k : ℕ) × (follow d q k ≡ p) × T k)
+      (at : (p : Place) (k : ℕ) → follow d q k ≡ p → T k → R p ≡ true)
+      (less : (k m : ℕ) → m ≤ k → T k → T m) (more : (k : ℕ) → T k → IsInBounds b (follow d q k) →
+      IsInBounds b (follow d q (suc k)) → T (suc k))
+      (over : ℕ) (off : ((a : ℕ) → follow d q (suc a) ≡ place_in b i → T (suc a) →
+      (IsInBounds b (follow d q a) → ⊥) → ⊥) → over ≡ 0)
+      (on : (a : ℕ) → follow d q (suc a) ≡ place_in b i → T (suc a) →
+      (IsInBounds b (follow d q a) → ⊥) → over ≡ 1) where
     abbrev term : ℕ → ℕ
-    term j = cond {A = ℕ} (leads_to links j i) (cond {A = ℕ} (is_some (code_at d q) && R (place_in b j)) 1 0) 0
+    term j = cond {A =
+        ℕ} (leads_to links j i) (cond {A = ℕ} (is_some (code_at d q) && R (place_in b j)) 1 0) 0
 
-    term_off : (j : ℕ) → j < length links → ((a : ℕ) → follow d q (suc a) ≡ place_in b i → follow d q a ≢ place_in b i → T (suc a) → follow d q a ≡ place_in b j → ⊥) → term j ≡ 0
+    term_off : (j : ℕ) → j < length links → ((a : ℕ) → follow d q (suc a) ≡ place_in b i →
+        follow d q a ≢ place_in b i → T (suc a) → follow d q a ≡ place_in b j → ⊥) → term j ≡ 0
     term_off j l none = elim (cases_Bool (leads_to links j i)) [
       | inr n ↦ cond-false {A = ℕ} _ _ 0 n
-      | inl y ↦ cond-true {A = ℕ} _ _ 0 y ∙ counted_off d q (R (place_in b j)) (false_from_ne_true _ (λ r.
+      | inl y ↦ cond-true {A = ℕ} _ _ 0 y
+          ∙ counted_off d q (R (place_in b j)) (false_from_ne_true _ (λ r.
           (let m = from (place_in b j) r in
           let x = leads_place j i l y in
           let goes : follow d q (suc m.0) ≡ place_in b i = ap (next d) m.1 ∙ x.0 in
           none m.0 goes (λ z. x.1 (sym m.1 ∙ z))
-          (more m.0 m.2 (subst (λ (p : Place). IsInBounds b p) (sym m.1) (in_place d t tile b links s j l)) (subst (λ (p : Place). IsInBounds b p) (sym goes) (in_place d t tile b links s i h))) m.1)))
+          (more m.0 m.2
+          (subst (λ (p : Place). IsInBounds b p) (sym m.1) (in_place d t tile b links s j l)) (subst
+          (λ (p : Place). IsInBounds b p) (sym goes) (in_place d t tile b links s i h))) m.1)))
     ]
 
-    pub parts : cond {A = ℕ} (is_some (code_at d q) && R (place_in b i)) 1 0 ≡ own (place_in b i) q + over + sum_below term (length links)
+    pub parts : cond {A = ℕ} (is_some (code_at d q) && R (place_in b i)) 1 0 ≡ own (place_in b i) q
+        + over + sum_below term (length links)
     parts = elim (cases_Bool (R (place_in b i))) [
       | inr n ↦ omega (
         arith,
         counted_off d q (R (place_in b i)) n,
-        counted_off d q (is_place (place_in b i) q) (false_from_ne_true _ (λ y. false≢true (sym n ∙ at (place_in b i) 0 (sym (place_is (place_in b i) q y)) start))),
+        counted_off d q (is_place (place_in b i) q) (false_from_ne_true _ (λ y.
+            false≢true (sym n ∙ at (place_in b i) 0 (sym (place_is (place_in b i) q y)) start))),
         off (λ a goes far _. false≢true (sym n ∙ at (place_in b i) (suc a) goes far)),
-        sum_below-none term (length links) (λ j l. term_off j l (λ a goes _ far _. false≢true (sym n ∙ at (place_in b i) (suc a) goes far))),
+        sum_below-none term (length links) (λ j l. term_off j l
+            (λ a goes _ far _. false≢true (sym n ∙ at (place_in b i) (suc a) goes far))),
       )
       | inl y ↦ (let r = from (place_in b i) y in
-          elim (stays_or_enters d e (λ z. z ≡ place_in b i) (λ z. cases_place z (place_in b i)) q r.0 r.1) [
-            | inl way ↦ (let here : (a : ℕ) → follow d q (suc a) ≡ place_in b i → follow d q a ≢ place_in b i → ⊥ =
-                λ a goes apart. never_enters d e (λ z. z ≡ place_in b i) q is r.0 (suc a) (r.1 ∙ sym goes) way (one_move d e q (place_in b i) a goes apart) in
+          elim (stays_or_enters d e (λ z. z ≡ place_in b i)
+          (λ z. cases_place z (place_in b i)) q r.0 r.1) [
+            | inl way ↦ (let here : (a : ℕ) → follow d q (suc a) ≡ place_in b i →
+                follow d q a ≢ place_in b i → ⊥ =
+                λ a goes apart. never_enters d e (λ z. z ≡ place_in b i) q is r.0 (suc a) (r.1
+                ∙ sym goes) way (one_move d e q (place_in b i) a goes apart) in
                 omega (
                   arith,
                   counted_on d q (R (place_in b i)) is y,
-                  counted_on d q (is_place (place_in b i) q) is (is_place_from (place_in b i) q (sym (way 0 (omega arith)))),
-                  off (λ a goes far out. here a goes (λ z. out (subst (λ (p : Place). IsInBounds b p) (sym z) (in_place d t tile b links s i h)))),
-                  sum_below-none term (length links) (λ j l. term_off j l (λ a goes apart _ _. here a goes apart)),
+                  counted_on d q (is_place (place_in b i) q) is
+                      (is_place_from (place_in b i) q (sym (way 0 (omega arith)))),
+                  off (λ a goes far out. here a goes (λ z. out (subst
+                      (λ (p : Place). IsInBounds b p) (sym z) (in_place d t tile b links s i h)))),
+                  sum_below-none term (length links) (λ j l.
+                      term_off j l (λ a goes apart _ _. here a goes apart)),
                 ))
             | inr c ↦ arrives y r.0 r.1 r.2 c
           ])
     ]
       where
-        arrives : R (place_in b i) ≡ true → (k : ℕ) → follow d q k ≡ place_in b i → T k → EntersRegion d e (λ z. z ≡ place_in b i) q k →
-            cond {A = ℕ} (is_some (code_at d q) && R (place_in b i)) 1 0 ≡ own (place_in b i) q + over + sum_below term (length links)
+        arrives : R (place_in b i) ≡ true → (k : ℕ) → follow d q k ≡ place_in b i → T k →
+            EntersRegion d e (λ z. z ≡ place_in b i) q k →
+            cond {A = ℕ} (is_some (code_at d q) && R (place_in b i)) 1 0 ≡ own (place_in b i) q
+            + over + sum_below term (length links)
         arrives y k way far c =
-            let goes : follow d q (suc c.from) ≡ place_in b i = c.inside (suc c.from) (omega arith) (omega (arith, c.before)) in
+            let goes : follow d q (suc c.from) ≡ place_in b i =
+            c.inside (suc c.from) (omega arith) (omega (arith, c.before)) in
             let there : T (suc c.from) = less k (suc c.from) (omega (arith, c.before)) far in
-            let same : (a : ℕ) → follow d q (suc a) ≡ place_in b i → follow d q a ≢ place_in b i → a ≡ c.from =
-            λ a moves apart. enters_from_one d e (λ z. z ≡ place_in b i) q is (suc a) k (moves ∙ sym way) (one_move d e q (place_in b i) a moves apart) c in
+            let same : (a : ℕ) → follow d q (suc a) ≡ place_in b i → follow d q a ≢ place_in b i →
+            a ≡ c.from =
+            λ a moves apart. enters_from_one d e (λ z. z ≡ place_in b i) q is (suc a) k (moves
+            ∙ sym way) (one_move d e q (place_in b i) a moves apart) c in
             let not_own : is_place (place_in b i) q ≡ false =
-            false_from_ne_true _ (λ z. never_enters d e (λ z. z ≡ place_in b i) q is 0 k (sym (place_is (place_in b i) q z) ∙ sym way)
-            (λ l le. (let w : l ≡ 0 = omega arith in ap (follow d q) w ∙ sym (place_is (place_in b i) q z))) c) in
+            false_from_ne_true _ (λ z. never_enters d e (λ z. z ≡ place_in b i) q is 0 k
+            (sym (place_is (place_in b i) q z) ∙ sym way)
+            (λ l le. (let w : l ≡ 0 = omega arith in ap (follow d q) w
+            ∙ sym (place_is (place_in b i) q z))) c) in
             elim (cases_bounds b (follow d q c.from)) [
               | inr out ↦ omega (
                 arith,
@@ -99,56 +127,82 @@ module _ (d : Directed) (e : IsEnding d) (t : Cutting) (tile : ℕ) (b : Bounds)
                 counted_off d q _ not_own,
                 on c.from goes there out,
                 sum_below-none term (length links) (λ j l. term_off j l (λ a moves apart _ at_j.
-                    out (subst (λ (p : Place). IsInBounds b p) (sym at_j ∙ ap (follow d q) (same a moves apart)) (in_place d t tile b links s j l)))),
+                    out (subst (λ (p : Place). IsInBounds b p) (sym at_j
+                    ∙ ap (follow d q) (same a moves apart)) (in_place d t tile b links s j l)))),
               )
               | inl within ↦
-                  let below : index_in b (follow d q c.from) < length links = omega (arith, index_in_below b (follow d q c.from) within, s.made.size) in
-                  let back : place_in b (index_in b (follow d q c.from)) ≡ follow d q c.from = place_in-index_in b (follow d q c.from) within in
-                  let to : next d (place_in b (index_in b (follow d q c.from))) ≡ place_in b i = ap (next d) back ∙ goes in
+                  let below : index_in b (follow d q c.from) < length links =
+                  omega (arith, index_in_below b (follow d q c.from) within, s.made.size) in
+                  let back : place_in b (index_in b (follow d q c.from)) ≡ follow d q c.from =
+                  place_in-index_in b (follow d q c.from) within in
+                  let to : next d (place_in b (index_in b (follow d q c.from))) ≡ place_in b i =
+                  ap (next d) back ∙ goes in
                   let link : onward links (index_in b (follow d q c.from)) ≡ i =
                   link_is d t tile b links s (index_in b (follow d q c.from)) below
-                  ∙ link-in d b (index_in b (follow d q c.from)) (subst (λ (p : Place). IsInBounds b p) (sym to) (in_place d t tile b links s i h))
+                  ∙ link-in d b (index_in b (follow d q c.from))
+                  (subst (λ (p : Place). IsInBounds b p) (sym to) (in_place d t tile b links s i h))
                   ∙ ap (index_in b) to ∙ index_in-place_in b i in
-                  let leads : leads_to links (index_in b (follow d q c.from)) i ≡ true = leads_from links _ i link (λ z. c.outside (sym back ∙ ap (place_in b) z)) in
+                  let leads : leads_to links (index_in b (follow d q c.from)) i ≡ true =
+                  leads_from links _ i link (λ z. c.outside (sym back ∙ ap (place_in b) z)) in
                   omega (
                     arith,
                     counted_on d q (R (place_in b i)) is y,
                     counted_off d q _ not_own,
-                    off (λ a moves _ out. out (subst (λ n. IsInBounds b (follow d q n)) (sym (same a moves (λ z. out (subst (λ (p : Place). IsInBounds b p) (sym z) (in_place d t tile b links s i h))))) within)),
+                    off (λ a moves _ out. out (subst (λ n. IsInBounds b (follow d q n))
+                        (sym (same a moves (λ z. out (subst (λ (p : Place). IsInBounds b p) (sym z)
+                        (in_place d t tile b links s i h))))) within)),
                     one_term term (length links) (index_in b (follow d q c.from)) below
-                        (λ n l ne. term_off n l (λ a moves apart _ at_n. ne (sym (index_in-place_in b n) ∙ ap (index_in b) (sym at_n ∙ ap (follow d q) (same a moves apart))))),
-                    cond-true {A = ℕ} _ (cond {A = ℕ} (is_some (code_at d q) && R (place_in b (index_in b (follow d q c.from)))) 1 0) 0 leads,
-                    counted_on d q (R (place_in b (index_in b (follow d q c.from)))) is (at _ c.from (sym back) (less k c.from (omega (arith, c.before)) far)),
+                        (λ n l ne. term_off n l (λ a moves apart _ at_n. ne (sym (index_in-place_in
+                        b n) ∙ ap (index_in b) (sym at_n ∙ ap (follow d q) (same a moves apart))))),
+                    cond-true {A = ℕ} _ (cond {A = ℕ} (is_some (code_at d q)
+                        && R (place_in b (index_in b (follow d q c.from)))) 1 0) 0 leads,
+                    counted_on d q (R (place_in b (index_in b (follow d q c.from)))) is
+                        (at _ c.from (sym back) (less k c.from (omega (arith, c.before)) far)),
                   )
             ]
 
   -- Over all cells: the water at i is its own weight, what enters, and what its donors pass on.
   tallied : (R : Place → Place → Bool) (over : Place → Place → ℕ) (i : ℕ) → i < length links →
       ((q : Place) → IsCoded d q → cond {A = ℕ} (is_some (code_at d q) && R (place_in b i) q) 1 0
-      ≡ own (place_in b i) q + over (place_in b i) q + sum_below (λ j. cond {A = ℕ} (leads_to links j i) (cond {A = ℕ} (is_some (code_at d q) && R (place_in b j) q) 1 0) 0) (length links)) →
+      ≡ own (place_in b i) q + over (place_in b i) q + sum_below (λ j. cond {A = ℕ} (leads_to links
+      j i) (cond {A = ℕ} (is_some (code_at d q) && R (place_in b j) q) 1 0) 0) (length links)) →
       ((q : Place) → is_some (code_at d q) ≡ false → over (place_in b i) q ≡ 0) →
-      sum_below (λ c. cond {A = ℕ} (is_some (code_at d (cell d c)) && R (place_in b i) (cell d c)) 1 0) (d.rows * d.cols)
+      sum_below (λ c. cond {A = ℕ} (is_some (code_at d (cell d c)) && R (place_in b i) (cell d c))
+      1 0) (d.rows * d.cols)
       ≡ weight_in d b i + sum_below (λ c. over (place_in b i) (cell d c)) (d.rows * d.cols)
-      + upstream_sum links (λ j. sum_below (λ c. cond {A = ℕ} (is_some (code_at d (cell d c)) && R (place_in b j) (cell d c)) 1 0) (d.rows * d.cols)) i
+      + upstream_sum links (λ j. sum_below (λ c. cond {A = ℕ}
+      (is_some (code_at d (cell d c)) && R (place_in b j) (cell d c)) 1 0) (d.rows * d.cols)) i
   tallied R over i h each none =
       omega (
         arith,
-        sum_below-same (λ c. cond {A = ℕ} (is_some (code_at d (cell d c)) && R (place_in b i) (cell d c)) 1 0)
+        sum_below-same (λ c.
+            cond {A = ℕ} (is_some (code_at d (cell d c)) && R (place_in b i) (cell d c)) 1 0)
             (λ c. own (place_in b i) (cell d c) + over (place_in b i) (cell d c)
-            + sum_below (λ j. cond {A = ℕ} (leads_to links j i) (cond {A = ℕ} (is_some (code_at d (cell d c)) && R (place_in b j) (cell d c)) 1 0) 0) (length links)) (d.rows * d.cols)
+            + sum_below (λ j. cond {A = ℕ} (leads_to links j i) (cond {A = ℕ} (is_some (code_at d
+            (cell d c)) && R (place_in b j) (cell d c)) 1 0) 0) (length links)) (d.rows * d.cols)
             (λ c _. of_cell (cell d c)),
         sum_below-add (λ c. own (place_in b i) (cell d c) + over (place_in b i) (cell d c))
-            (λ c. sum_below (λ j. cond {A = ℕ} (leads_to links j i) (cond {A = ℕ} (is_some (code_at d (cell d c)) && R (place_in b j) (cell d c)) 1 0) 0) (length links)) (d.rows * d.cols),
-        sum_below-add (λ c. own (place_in b i) (cell d c)) (λ c. over (place_in b i) (cell d c)) (d.rows * d.cols),
+            (λ c. sum_below (λ j. cond {A = ℕ} (leads_to links j i)
+            (cond {A = ℕ} (is_some (code_at d (cell d c)) && R (place_in b j) (cell d c)) 1 0) 0)
+            (length links)) (d.rows * d.cols),
+        sum_below-add (λ c. own (place_in b i) (cell d c)) (λ c. over (place_in b i) (cell d c))
+            (d.rows * d.cols),
         own_sum,
-        exchange (λ c j. cond {A = ℕ} (leads_to links j i) (cond {A = ℕ} (is_some (code_at d (cell d c)) && R (place_in b j) (cell d c)) 1 0) 0) (d.rows * d.cols) (length links),
-        sum_below-same (λ j. sum_below (λ c. cond {A = ℕ} (leads_to links j i) (cond {A = ℕ} (is_some (code_at d (cell d c)) && R (place_in b j) (cell d c)) 1 0) 0) (d.rows * d.cols))
-            (λ j. cond {A = ℕ} (leads_to links j i) (sum_below (λ c. cond {A = ℕ} (is_some (code_at d (cell d c)) && R (place_in b j) (cell d c)) 1 0) (d.rows * d.cols)) 0) (length links)
-            (λ j _. sym (cond-sum (leads_to links j i) (λ c. cond {A = ℕ} (is_some (code_at d (cell d c)) && R (place_in b j) (cell d c)) 1 0) (d.rows * d.cols))),
+        exchange (λ c j. cond {A = ℕ} (leads_to links j i) (cond {A = ℕ} (is_some (code_at d
+            (cell d c)) && R (place_in b j) (cell d c)) 1 0) 0) (d.rows * d.cols) (length links),
+        sum_below-same (λ j. sum_below (λ c. cond {A = ℕ} (leads_to links j i)
+            (cond {A = ℕ} (is_some (code_at d (cell d c)) && R (place_in b j) (cell d c)) 1 0) 0)
+            (d.rows * d.cols))
+            (λ j. cond {A = ℕ} (leads_to links j i) (sum_below (λ c. cond {A = ℕ} (is_some (code_at
+            d (cell d c)) && R (place_in b j) (cell d c)) 1 0) (d.rows * d.cols)) 0) (length links)
+            (λ j _. sym (cond-sum (leads_to links j i) (λ c. cond {A = ℕ} (is_some
+            (code_at d (cell d c)) && R (place_in b j) (cell d c)) 1 0) (d.rows * d.cols))),
       )
     where
       of_cell : (q : Place) → cond {A = ℕ} (is_some (code_at d q) && R (place_in b i) q) 1 0
-          ≡ own (place_in b i) q + over (place_in b i) q + sum_below (λ j. cond {A = ℕ} (leads_to links j i) (cond {A = ℕ} (is_some (code_at d q) && R (place_in b j) q) 1 0) 0) (length links)
+          ≡ own (place_in b i) q
+          + over (place_in b i) q + sum_below (λ j. cond {A = ℕ} (leads_to links j i)
+          (cond {A = ℕ} (is_some (code_at d q) && R (place_in b j) q) 1 0) 0) (length links)
       of_cell q = elim (cases_Bool (is_some (code_at d q))) [
         | inl y ↦ each q (coded_from_some d q y)
         | inr n ↦ omega (
@@ -156,73 +210,103 @@ module _ (d : Directed) (e : IsEnding d) (t : Cutting) (tile : ℕ) (b : Bounds)
           counted_none d q (R (place_in b i) q) n,
           counted_none d q (is_place (place_in b i) q) n,
           none q n,
-          sum_below-none (λ j. cond {A = ℕ} (leads_to links j i) (cond {A = ℕ} (is_some (code_at d q) && R (place_in b j) q) 1 0) 0) (length links)
-              (λ j l. ap (λ x. cond {A = ℕ} (leads_to links j i) x 0) (counted_none d q (R (place_in b j) q) n) ∙ cond_same (leads_to links j i)),
+          sum_below-none (λ j. cond {A = ℕ} (leads_to links j i)
+              (cond {A = ℕ} (is_some (code_at d q) && R (place_in b j) q) 1 0) 0) (length links)
+              (λ j l. ap (λ x. cond {A = ℕ} (leads_to links j i) x 0)
+              (counted_none d q (R (place_in b j) q) n) ∙ cond_same (leads_to links j i)),
         )
       ]
 
       own_sum : sum_below (λ c. own (place_in b i) (cell d c)) (d.rows * d.cols) ≡ weight_in d b i
       own_sum =
           let inside : IsInBounds (whole_bounds d.cols d.rows) (place_in b i) =
-          (let x = in_place d t tile b links s i h in (omega arith, omega (arith, x, s.inside.rows_inside, s.rows), omega arith, omega (arith, x, s.inside.cols_inside, s.cols))) in
-          one_term (λ c. own (place_in b i) (cell d c)) (d.rows * d.cols) (index_in (whole_bounds d.cols d.rows) (place_in b i)) (index_in_below (whole_bounds d.cols d.rows) (place_in b i) inside)
+          (let x = in_place d t tile b links s i h in (
+            omega arith,
+            omega (arith, x, s.inside.rows_inside, s.rows),
+            omega arith,
+            omega (arith, x, s.inside.cols_inside, s.cols),
+          )) in
+          one_term (λ c. own (place_in b i) (cell d c))
+          (d.rows * d.cols) (index_in (whole_bounds d.cols d.rows) (place_in b i))
+          (index_in_below (whole_bounds d.cols d.rows) (place_in b i) inside)
           (λ j l ne. counted_off d (cell d j) _ (false_from_ne_true _ (λ y.
-          ne (sym (index_in-place_in (whole_bounds d.cols d.rows) j) ∙ ap (index_in (whole_bounds d.cols d.rows)) (sym (place_is (place_in b i) (cell d j) y))))))
-          ∙ ap (own (place_in b i)) (place_in-index_in (whole_bounds d.cols d.rows) (place_in b i) inside)
-          ∙ ap (λ x. cond {A = ℕ} x 1 0) (and_on (is_some (code_at d (place_in b i))) _ (is_place_from (place_in b i) (place_in b i) refl))
+          ne (sym (index_in-place_in (whole_bounds d.cols d.rows) j) ∙ ap
+          (index_in (whole_bounds d.cols d.rows)) (sym (place_is (place_in b i) (cell d j) y))))))
+          ∙ ap (own (place_in b i))
+          (place_in-index_in (whole_bounds d.cols d.rows) (place_in b i) inside)
+          ∙ ap (λ x. cond {A = ℕ} x 1 0) (and_on (is_some (code_at d (place_in b i))) _
+          (is_place_from (place_in b i) (place_in b i) refl))
 
   -- The weights of a tile's cells: 1 for each data cell, plus the inflow.
   abbrev pub AreWeights : List ℕ → Type 0
-  AreWeights weights = (j : ℕ) → j < length links → get_or weights j 0 ≡ weight_in d b j + inflow_of d t (place_in b j)
+  AreWeights weights = (j : ℕ) → j < length links →
+      get_or weights j 0 ≡ weight_in d b j + inflow_of d t (place_in b j)
 
   -- With the inflows added, totals count all cells upstream.
-  pub all_totals : (weights : List ℕ) → AreWeights weights → AreTotals links weights (λ i. all_drained d (place_in b i))
+  pub all_totals : (weights : List ℕ) → AreWeights weights →
+      AreTotals links weights (λ i. all_drained d (place_in b i))
   all_totals weights weighed = record {
     each = λ i h. omega (
       arith,
       weighed i h,
       inflow_sum d t (place_in b i),
-      tallied (drains_through d) (entered d t) i h (λ q is. parts q is i h (λ p. drains_through d p q) (λ k. Unit {0}) tt
-          (λ p y. (let m = drains_from d e q p y in (m.0, m.1, tt))) (λ p k way _. drains_at d e q p is k way) (λ k m le _. tt) (λ k _ x y. tt)
+      tallied (drains_through d) (entered d t) i h (λ q is.
+          parts q is i h (λ p. drains_through d p q) (λ k. Unit {0}) tt
+          (λ p y. (let m = drains_from d e q p y in (m.0, m.1, tt))) (λ p k way _.
+          drains_at d e q p is k way) (λ k m le _. tt) (λ k _ x y. tt)
           (entered d t (place_in b i) q)
           (λ none. counted_off d q _ (false_from_ne_true _ (λ y.
           (let x = enters_from d e t (place_in b i) q y in
-          none x.0 x.1 tt (λ z. x.2 (tile_is d t tile b links s _ z ∙ sym (tile_is d t tile b links s _ (in_place d t tile b links s i h))))))))
+          none x.0 x.1 tt (λ z. x.2 (tile_is d t tile b links s _ z
+          ∙ sym (tile_is d t tile b links s _ (in_place d t tile b links s i h))))))))
           (λ a goes _ out. counted_on d q _ is (enters_at d e t (place_in b i) q is a goes
-          (λ same. out ((s.places (follow d q a)).0 (coded_within d t tile b links s (follow d q a) (coded_along d s.ends q is a), same ∙ tile_is d t tile b links s _ (in_place d t tile b links s i h)))))))
+          (λ same. out ((s.places (follow d q a)).0 (
+            coded_within d t tile b links s (follow d q a) (coded_along d s.ends q is a),
+            same ∙ tile_is d t tile b links s _ (in_place d t tile b links s i h),
+          ))))))
           (λ q n. counted_none d q _ n),
     );
   }
 
   -- Without the inflows, totals count the cells upstream in the tile.
-  pub own_totals : (weights : List ℕ) → AreTileWeights d b weights → AreTotals links weights (λ i. all_drained_inside d t (place_in b i))
+  pub own_totals : (weights : List ℕ) → AreTileWeights d b weights →
+      AreTotals links weights (λ i. all_drained_inside d t (place_in b i))
   own_totals weights weighed = record {
     each = λ i h. omega (
       arith,
       weighed.each i (omega (arith, h, s.made.size)),
       sum_below-none (λ c. 0) (d.rows * d.cols) (λ c _. refl),
-      tallied (reaches_inside d t) (λ p q. 0) i h (λ q is. parts q is i h (λ p. reaches_inside d t p q) (λ k. stays d t q k ≡ true) (begins q)
-          (λ p y. (let r = some_in_range (λ k. is_place p (follow d q k) && stays d t q k) (moves d) y in
+      tallied (reaches_inside d t) (λ p q. 0) i h (λ q is.
+          parts q is i h (λ p. reaches_inside d t p q) (λ k. stays d t q k ≡ true) (begins q)
+          (λ p y.
+          (let r = some_in_range (λ k. is_place p (follow d q k) && stays d t q k) (moves d) y in
           let w = and_parts _ _ r.2 in (r.0, sym (place_is p (follow d q r.0) w.0), w.1)))
           (λ p k way still. (let m = reached_early d e q p is k way in
-          any_in_range (λ k. is_place p (follow d q k) && stays d t q k) (moves d) m.0 m.1 (and_from _ _ (is_place_from p (follow d q m.0) (sym m.3)) (sooner q k m.0 m.2 still))))
+          any_in_range (λ k. is_place p (follow d q k) && stays d t q k) (moves d) m.0 m.1
+          (and_from _ _ (is_place_from p (follow d q m.0) (sym m.3)) (sooner q k m.0 m.2 still))))
           (sooner q) (later q) 0 (λ _. refl)
           (λ a goes still out. absurd (out ((s.places (follow d q a)).0 (
             coded_within d t tile b links s (follow d q a) (coded_along d s.ends q is a),
-            still_at d t q (suc a) still a (omega arith) ∙ sym (still_at d t q (suc a) still (suc a) (omega arith)) ∙ ap (tile_of_place t) goes ∙ tile_is d t tile b links s _ (in_place d t tile b links s i h),
+            still_at d t q (suc a) still a (omega arith) ∙ sym
+                (still_at d t q (suc a) still (suc a) (omega arith)) ∙ ap (tile_of_place t) goes
+                ∙ tile_is d t tile b links s _ (in_place d t tile b links s i h),
           )))))
           (λ q n. refl),
     );
   }
     where
       begins : (q : Place) → stays d t q 0 ≡ true
-      begins q = still_from d t q 0 (λ l le. (let z : l ≡ 0 = omega arith in ap (λ n. tile_of_place t (follow d q n)) z))
+      begins q = still_from d t q 0 (λ l le.
+          (let z : l ≡ 0 = omega arith in ap (λ n. tile_of_place t (follow d q n)) z))
 
       sooner : (q : Place) (k m : ℕ) → m ≤ k → stays d t q k ≡ true → stays d t q m ≡ true
       sooner q k m le still = still_from d t q m (λ l less. still_at d t q k still l (omega arith))
 
-      later : (q : Place) (k : ℕ) → stays d t q k ≡ true → IsInBounds b (follow d q k) → IsInBounds b (follow d q (suc k)) → stays d t q (suc k) ≡ true
+      later : (q : Place) (k : ℕ) → stays d t q k ≡ true → IsInBounds b (follow d q k) →
+          IsInBounds b (follow d q (suc k)) → stays d t q (suc k) ≡ true
       later q k still here next_here = still_from d t q (suc k) (λ l le. elim (cases_eq l (suc k)) [
-        | inl z ↦ ap (λ n. tile_of_place t (follow d q n)) z ∙ tile_is d t tile b links s _ next_here ∙ sym (tile_is d t tile b links s _ here) ∙ still_at d t q k still k (omega arith)
+        | inl z ↦ ap (λ n. tile_of_place t (follow d q n)) z
+            ∙ tile_is d t tile b links s _ next_here ∙ sym (tile_is d t tile b links s _ here)
+            ∙ still_at d t q k still k (omega arith)
         | inr ne ↦ still_at d t q k still l (omega arith)
       ])

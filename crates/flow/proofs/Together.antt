@@ -15,14 +15,19 @@ use Rattle.flow.specs.Counts.{IsMapOf, IsValueAt}
 use Rattle.flow.proofs.Coded.{IsCoded, coded_from_some}
 use Rattle.flow.proofs.Reaching.{IsEnding}
 
-pub directed_same : (d : Drained) (t : Cutting) (codes : List (Option ℕ)) → Cuts t d.terrain → codes ≡ d.codes → make_directed t.cols t.rows codes ≡ directed_of d
+pub directed_same : (d : Drained) (t : Cutting) (codes : List (Option ℕ)) → Cuts t d.terrain →
+    codes ≡ d.codes → make_directed t.cols t.rows codes ≡ directed_of d
 directed_same d t codes cuts e =
-    ap (λ n. make_directed n t.rows codes) cuts.0 ∙ ap (λ n. make_directed d.terrain.cols n codes) cuts.1 ∙ ap (make_directed d.terrain.cols d.terrain.rows) e
+    ap (λ n. make_directed n t.rows codes) cuts.0 ∙ ap (λ n. make_directed d.terrain.cols n codes)
+    cuts.1 ∙ ap (make_directed d.terrain.cols d.terrain.rows) e
 
-pub grid_flow : (d : Drained) (t : Cutting) (codes : List (Option ℕ)) → IsDraining d → Cuts t d.terrain → codes ≡ d.codes → IsGridFlow t.cols t.rows codes
+pub grid_flow : (d : Drained) (t : Cutting) (codes : List (Option ℕ)) → IsDraining d →
+    Cuts t d.terrain → codes ≡ d.codes → IsGridFlow t.cols t.rows codes
 grid_flow d t codes draining cuts e = record {
-  size = ap length e ∙ draining.codes_size ∙ sym (ap (λ n. n * t.rows) cuts.0 ∙ ap (λ n. d.terrain.cols * n) cuts.1);
-  ends = subst (λ (x : Directed). AllFlowEnds x) (sym (directed_same d t codes cuts e)) (falling_ends d draining);
+  size = ap length e ∙ draining.codes_size
+      ∙ sym (ap (λ n. n * t.rows) cuts.0 ∙ ap (λ n. d.terrain.cols * n) cuts.1);
+  ends = subst (λ (x : Directed). AllFlowEnds x) (sym (directed_same d t codes cuts e))
+      (falling_ends d draining);
 }
 
 -- The map of directions of a drained terrain is within the limits, and its flow paths end.
@@ -35,18 +40,27 @@ drained_ending d terrain draining = record {
   few_rows = terrain.few_rows;
 }
 
-pub drained_coded : (d : Drained) → IsDraining d → (p : Place) → IsDataCell d.terrain p → IsCoded (directed_of d) p
+pub drained_coded : (d : Drained) → IsDraining d → (p : Place) → IsDataCell d.terrain p →
+    IsCoded (directed_of d) p
 drained_coded d draining p is = coded_from_some (directed_of d) p (draining.same_data p ∙ is)
 
 -- A property of all lists with a result for each job holds of the list that the jobs return.
-pub jobs_gave : {X E : Type 0} (P : ℕ → X → Type 0) (r : Result (Vec X Global) E) (n m : ℕ) (Q : List X → Type 0) → n ≡ m →
-    ((outs : List X) → length outs ≡ m → ((k : ℕ) (x : X) → slice_get outs k ≡ Some x → P k x) → Q outs) →
+pub jobs_gave : {X E : Type 0} (P : ℕ → X → Type 0) (r : Result (Vec X Global) E) (n m : ℕ)
+    (Q : List X → Type 0) → n ≡ m →
+    ((outs : List X) → length outs ≡ m → ((k : ℕ) (x : X) → slice_get outs k ≡ Some x → P k x) →
+    Q outs) →
     IfOk r (λ v. vec_len v ≡ n) → IfOk r (λ v. AllGiven P n v.items) → IfOk r (λ v. Q v.items)
 jobs_gave P (Ok v) n m Q same made len given = made v.items (omega (arith, v.ok.0, len, same))
-    (λ k x there. subst (P k) (get_or_from_slice_get v.items k x x there) (given k x (omega (arith, v.ok.0, len, slice_get_within v.items k x there))))
+    (λ k x there. subst (P k) (get_or_from_slice_get v.items k x x there)
+    (given k x (omega (arith, v.ok.0, len, slice_get_within v.items k x there))))
 jobs_gave P (Err e) n m Q same made len given = len
 
 -- The map over the whole grid, from its value at each place of the cutting.
-pub whole_map : (d : Drained) (t : Cutting) (codes : List (Option ℕ)) → Cuts t d.terrain → codes ≡ d.codes → (value : Directed → Place → ℕ) (whole : List (Option ℕ)) → length whole ≡ t.cols * t.rows →
-    ((p : Place) → IsWithin t p → IsValueAt (make_directed t.cols t.rows codes) (value (make_directed t.cols t.rows codes)) p (entry_at t.cols t.rows whole p)) → IsMapOf (directed_of d) (value (directed_of d)) whole
-whole_map d t codes cuts same value whole size each = subst (λ (x : Directed). IsMapOf x (value x) whole) (directed_same d t codes cuts same) (record { size = size; each = each })
+pub whole_map : (d : Drained) (t : Cutting) (codes : List (Option ℕ)) →
+    Cuts t d.terrain → codes ≡ d.codes → (value : Directed → Place → ℕ) (whole : List (Option ℕ)) →
+    length whole ≡ t.cols * t.rows →
+    ((p : Place) → IsWithin t p → IsValueAt (make_directed t.cols t.rows codes)
+    (value (make_directed t.cols t.rows codes)) p (entry_at t.cols t.rows whole p)) →
+    IsMapOf (directed_of d) (value (directed_of d)) whole
+whole_map d t codes cuts same value whole size each = subst (λ (x : Directed). IsMapOf x
+    (value x) whole) (directed_same d t codes cuts same) (record { size = size; each = each })

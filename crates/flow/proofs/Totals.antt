@@ -5,20 +5,26 @@ use Rattle.flow.specs.Streams.{AreStreams, total_within, total, onward, node_aft
 use Rattle.flow.proofs.Sums.{sum_below-le}
 use Rattle.flow.proofs.Ending.{IsStop, early_end}
 
-pub leads_parts : (links : List ℕ) (j i : ℕ) → leads_to links j i ≡ true → (onward links j ≡ i) × (j ≢ i)
-leads_parts links j i y = let w = and_parts _ _ y in (eqb-true _ _ w.0, λ e. false≢true (sym (not-true _ w.1) ∙ eq-eqb _ _ e))
+pub leads_parts : (links : List ℕ) (j i : ℕ) → leads_to links j i ≡ true → (onward links j ≡ i)
+    × (j ≢ i)
+leads_parts links j i y = let w = and_parts _ _ y in
+    (eqb-true _ _ w.0, λ e. false≢true (sym (not-true _ w.1) ∙ eq-eqb _ _ e))
 
 pub leads_from : (links : List ℕ) (j i : ℕ) → onward links j ≡ i → j ≢ i → leads_to links j i ≡ true
 leads_from links j i e ne = and_from _ _ (eq-eqb _ _ e) (not_from_false _ (ne_eqb _ _ ne))
 
 -- An end leads to no other node, and no node leads to itself.
-pub leads_end : (links : List ℕ) (node i : ℕ) → onward links node ≡ node → leads_to links node i ≡ false
-leads_end links node i e = false_from_ne_true _ (λ y. (let w = leads_parts links node i y in w.1 (sym e ∙ w.0)))
+pub leads_end : (links : List ℕ) (node i : ℕ) → onward links node ≡ node →
+    leads_to links node i ≡ false
+leads_end links node i e =
+    false_from_ne_true _ (λ y. (let w = leads_parts links node i y in w.1 (sym e ∙ w.0)))
 
 pub leads_self : (links : List ℕ) (i : ℕ) → leads_to links i i ≡ false
 leads_self links i = and_right _ (not (eqb i i)) (not_from_true _ (eq-eqb i i refl))
 
-module _ (links : List ℕ) (streams : AreStreams links) (P : ℕ → ℕ → Type 0) (step : (k i : ℕ) → i < length links → ((j : ℕ) → j < length links → leads_to links j i ≡ true → P k j) → P (suc k) i) where
+module _ (links : List ℕ)
+    (streams : AreStreams links) (P : ℕ → ℕ → Type 0) (step : (k i : ℕ) → i < length links →
+    ((j : ℕ) → j < length links → leads_to links j i ≡ true → P k j) → P (suc k) i) where
   -- A path of k moves that leads to node i, without an end before it.
   record Chain (k i : ℕ) : Type 0 where
     pub from : ℕ
@@ -35,33 +41,47 @@ module _ (links : List ℕ) (streams : AreStreams links) (P : ℕ → ℕ → Ty
         inside = c.inside;
         leads = there;
         goes = λ m lt stop. elim (cases_eq m k) [
-          | inl e ↦ l.1 (sym c.leads ∙ sym (subst (λ (n : ℕ). IsStop links c.from n) e stop) ∙ there)
+          | inl e ↦
+              l.1 (sym c.leads ∙ sym (subst (λ (n : ℕ). IsStop links c.from n) e stop) ∙ there)
           | inr ne ↦ c.goes m (omega arith) stop
         ];
       }
 
   by_chains : (k i : ℕ) → i < length links → (Chain k i → ⊥) → P k i
-  by_chains zero i h none = absurd (none (record { from = i; inside = h; leads = refl; goes = λ m lt _. omega arith }))
-  by_chains (suc k) i h none = step k i h (λ j l on. by_chains k j l (λ c. none (chain_on k j i on c)))
+  by_chains zero i h none =
+      absurd (none (record { from = i; inside = h; leads = refl; goes = λ m lt _. omega arith }))
+  by_chains (suc k) i h none =
+      step k i h (λ j l on. by_chains k j l (λ c. none (chain_on k j i on c)))
 
   -- A property of a node that follows from that of its donors holds of every node.
   pub each_downstream : (i : ℕ) → i < length links → P (length links) i
-  each_downstream i h = by_chains (length links) i h (λ c. (let r = early_end links streams.inside c.from c.inside (length links) (streams.ends c.from c.inside) in c.goes r.0 r.1 r.2))
+  each_downstream i h = by_chains (length links) i h (λ c. (let r = early_end links streams.inside
+      c.from c.inside (length links) (streams.ends c.from c.inside) in c.goes r.0 r.1 r.2))
 
-pub sums_le : (links : List ℕ) (i : ℕ) (f g : ℕ → ℕ) → ((j : ℕ) → j < length links → leads_to links j i ≡ true → f j ≤ g j) → upstream_sum links f i ≤ upstream_sum links g i
+pub sums_le : (links : List ℕ) (i : ℕ) (f g : ℕ → ℕ) → ((j : ℕ) → j < length links →
+    leads_to links j i ≡ true → f j ≤ g j) → upstream_sum links f i ≤ upstream_sum links g i
 sums_le links i f g le =
-    sum_below-le (λ j. cond {A = ℕ} (leads_to links j i) (f j) 0) (λ j. cond {A = ℕ} (leads_to links j i) (g j) 0) (length links)
+    sum_below-le (λ j. cond {A = ℕ} (leads_to links j i) (f j) 0) (λ j.
+    cond {A = ℕ} (leads_to links j i) (g j) 0) (length links)
     (λ j l. elim (cases_Bool (leads_to links j i)) [
-      | inl on ↦ omega (arith, cond-true {A = ℕ} _ (f j) 0 on, cond-true {A = ℕ} _ (g j) 0 on, le j l on)
+      | inl on ↦
+          omega (arith, cond-true {A = ℕ} _ (f j) 0 on, cond-true {A = ℕ} _ (g j) 0 on, le j l on)
       | inr off ↦ omega (arith, cond-false {A = ℕ} _ (f j) 0 off, cond-false {A = ℕ} _ (g j) 0 off)
     ])
 
-pub sums_same : (links : List ℕ) (i : ℕ) (f g : ℕ → ℕ) → ((j : ℕ) → j < length links → leads_to links j i ≡ true → f j ≡ g j) → upstream_sum links f i ≡ upstream_sum links g i
-sums_same links i f g same = omega (arith, sums_le links i f g (λ j l on. omega (arith, same j l on)), sums_le links i g f (λ j l on. omega (arith, same j l on)))
+pub sums_same : (links : List ℕ) (i : ℕ) (f g : ℕ → ℕ) → ((j : ℕ) → j < length links →
+    leads_to links j i ≡ true → f j ≡ g j) → upstream_sum links f i ≡ upstream_sum links g i
+sums_same links i f g same = omega (
+  arith,
+  sums_le links i f g (λ j l on. omega (arith, same j l on)),
+  sums_le links i g f (λ j l on. omega (arith, same j l on)),
+)
 
 -- If f is at most the weight plus the donors' sum of f, and g at least that of g, f is at most g.
-pub totals_le : (links : List ℕ) → AreStreams links → (w f g : ℕ → ℕ) → ((i : ℕ) → i < length links → f i ≤ w i + upstream_sum links f i) →
-    ((i : ℕ) → i < length links → w i + upstream_sum links g i ≤ g i) → (i : ℕ) → i < length links → f i ≤ g i
+pub totals_le : (links : List ℕ) → AreStreams links → (w f g : ℕ → ℕ) →
+    ((i : ℕ) → i < length links → f i ≤ w i + upstream_sum links f i) →
+    ((i : ℕ) → i < length links → w i + upstream_sum links g i ≤ g i) → (i : ℕ) → i < length links →
+    f i ≤ g i
 totals_le links streams w f g low high = each_downstream links streams (λ _ i. f i ≤ g i)
     (λ _ i h before. omega (arith, low i h, high i h, sums_le links i f g before))
 
@@ -69,15 +89,26 @@ totals_le links streams w f g low high = each_downstream links streams (λ _ i. 
 pub record AreTotals (links weights : List ℕ) (f : ℕ → ℕ) : Type 0 where
   pub each : (i : ℕ) → i < length links → f i ≡ get_or weights i 0 + upstream_sum links f i
 
-pub totals_are : (links weights : List ℕ) → AreStreams links → AreTotals links weights (total links weights)
+pub totals_are : (links weights : List ℕ) → AreStreams links →
+    AreTotals links weights (total links weights)
 totals_are links weights streams = record {
-  each = each_downstream links streams (λ k i. total_within links weights k i ≡ total_within links weights (suc k) i)
-      (λ k i h before. omega (arith, sums_same links i (total_within links weights k) (total_within links weights (suc k)) before));
+  each = each_downstream links streams (λ k i. total_within links weights k i
+      ≡ total_within links weights (suc k) i)
+      (λ k i h before. omega (
+        arith,
+        sums_same links i (total_within links weights k)
+            (total_within links weights (suc k)) before,
+      ));
 }
 
-pub total_is : (links weights : List ℕ) (f : ℕ → ℕ) → AreStreams links → AreTotals links weights f → (i : ℕ) → i < length links → total links weights i ≡ f i
+pub total_is : (links weights : List ℕ) (f : ℕ → ℕ) → AreStreams links → AreTotals links weights f →
+    (i : ℕ) → i < length links → total links weights i ≡ f i
 total_is links weights f streams are i h = omega (
   arith,
-  totals_le links streams (λ j. get_or weights j 0) f (total links weights) (λ j l. omega (arith, are.each j l)) (λ j l. omega (arith, (totals_are links weights streams).each j l)) i h,
-  totals_le links streams (λ j. get_or weights j 0) (total links weights) f (λ j l. omega (arith, (totals_are links weights streams).each j l)) (λ j l. omega (arith, are.each j l)) i h,
+  totals_le links streams (λ j.
+      get_or weights j 0) f (total links weights) (λ j l. omega (arith, are.each j l)) (λ j l.
+      omega (arith, (totals_are links weights streams).each j l)) i h,
+  totals_le links streams (λ j. get_or weights j 0) (total links weights) f (λ j l.
+      omega (arith, (totals_are links weights streams).each j l)) (λ j l.
+      omega (arith, are.each j l)) i h,
 )

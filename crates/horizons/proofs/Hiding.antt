@@ -10,22 +10,32 @@ use Rattle.horizons.specs.declared.target.Target.{Target}
 use Rattle.horizons.specs.declared.ramp.Ramp.{Ramp}
 
 -- From X k < A and A l <= C k follows X l < C, for X = x - y, A = a - b, C = c - d.
-passed_on : (x y a b c d k l : ℕ) → 0 < k → 0 < l → x * k + b < y * k + a → a * l + d * k ≤ c * k + b * l → x * l + d < y * l + c
+passed_on : (x y a b c d k l : ℕ) → 0 < k → 0 < l → x * k + b < y * k + a →
+    a * l + d * k ≤ c * k + b * l → x * l + d < y * l + c
 passed_on x y a b c d k l some more less h =
     elim (cases_lt (x * l + d) (y * l + c)) [
       | inl is ↦ is
-      | inr not ↦ absurd (omega (arith, mul-le (x * k + b + 1) l (y * k + a) l (omega arith) (omega arith), mul-le (y * l + c) k (x * l + d) k not (omega arith)))
+      | inr not ↦ absurd (omega (
+        arith,
+        mul-le (x * k + b + 1) l (y * k + a) l (omega arith) (omega arith),
+        mul-le (y * l + c) k (x * l + d) k not (omega arith),
+      ))
     ]
 
-hides_more : (r s : Ramp) (t : Target) (x : ℤ) → 0 < r.lines → 0 < s.lines → (value_at r t *ℤ pos s.lines) ≤ℤ (value_at s t *ℤ pos r.lines)
+hides_more : (r s : Ramp) (t : Target) (x : ℤ) → 0 < r.lines → 0 < s.lines →
+    (value_at r t *ℤ pos s.lines) ≤ℤ (value_at s t *ℤ pos r.lines)
     → hides_by r t x ≡ true → hides_by s t x ≡ true
 hides_more r s t x some more h e =
-    let is = passed_on (up x) (down x) (up (value_at r t)) (down (value_at r t)) (up (value_at s t)) (down (value_at s t)) r.lines s.lines some more (omega (arith, ints, e)) (omega (arith, ints, h)) in
+    let is =
+    passed_on (up x) (down x) (up (value_at r t)) (down (value_at r t)) (up (value_at s t)) (down
+    (value_at s t)) r.lines s.lines some more (omega (arith, ints, e)) (omega (arith, ints, h)) in
     sym (true_is_lt (x *ℤ pos s.lines) (value_at s t) (omega (arith, ints, is)))
 
 -- If ramp r is not above ramp s at a target and hides it, s hides it too.
-pub hides_if_not_above : (r s : Ramp) (t : Target) (x : ℤ) → IsRampAt r t → IsRampAt s t → is_above r s t ≡ false → hides_by r t x ≡ true → hides_by s t x ≡ true
-hides_if_not_above r s t x is_r is_s not = hides_more r s t x is_r.lines.0 is_s.lines.0 (omega (arith, ints, not))
+pub hides_if_not_above : (r s : Ramp) (t : Target) (x : ℤ) → IsRampAt r t → IsRampAt s t →
+    is_above r s t ≡ false → hides_by r t x ≡ true → hides_by s t x ≡ true
+hides_if_not_above r s t x is_r is_s not =
+    hides_more r s t x is_r.lines.0 is_s.lines.0 (omega (arith, ints, not))
 
 pub either_hides : (a b : Bool) → (b ≡ true → a ≡ true) → a ≡ (a || b)
 either_hides true b h = refl
@@ -36,13 +46,17 @@ either_hides' : (a b : Bool) → (a ≡ true → b ≡ true) → b ≡ (a || b)
 either_hides' true b h = h refl
 either_hides' false b h = refl
 
-pub greater_hides : (r s : Ramp) (t : Target) (x : ℤ) → IsRampAt r t → IsRampAt s t → hides_by (greater_at s r t) t x ≡ (hides_by r t x || hides_by s t x)
+pub greater_hides : (r s : Ramp) (t : Target) (x : ℤ) → IsRampAt r t → IsRampAt s t →
+    hides_by (greater_at s r t) t x ≡ (hides_by r t x || hides_by s t x)
 greater_hides r s t x is_r is_s = elim (cases_Bool (is_above s r t)) [
-  | inl above ↦ rw above (either_hides' (hides_by r t x) (hides_by s t x) (hides_more r s t x is_r.lines.0 is_s.lines.0 (omega (arith, ints, above))))
-  | inr not ↦ rw not (either_hides (hides_by r t x) (hides_by s t x) (hides_more s r t x is_s.lines.0 is_r.lines.0 (omega (arith, ints, not))))
+  | inl above ↦ rw above (either_hides' (hides_by r t x) (hides_by s t x)
+      (hides_more r s t x is_r.lines.0 is_s.lines.0 (omega (arith, ints, above))))
+  | inr not ↦ rw not (either_hides (hides_by r t x) (hides_by s t x)
+      (hides_more s r t x is_s.lines.0 is_r.lines.0 (omega (arith, ints, not))))
 ]
 
-pub greater_is_ramp : (r s : Ramp) (t : Target) → IsRampAt r t → IsRampAt s t → IsRampAt (greater_at s r t) t
+pub greater_is_ramp : (r s : Ramp) (t : Target) → IsRampAt r t → IsRampAt s t →
+    IsRampAt (greater_at s r t) t
 greater_is_ramp r s t is_r is_s = elim (cases_Bool (is_above s r t)) [
   | inl above ↦ rw above is_s
   | inr not ↦ rw not is_r

@@ -22,59 +22,86 @@ use Rattle.relief.specs.Refusals.{tiles_of, gauge_fault, observer_fault, named_p
 use Rattle.relief.proofs.Viewing.{forbidden}
 
 -- a grid that was read has no sinks before they are added
-drained_text : (scale : ℕ) (text : List ℕ) (g : Raster) (sinks : List Place) → IsGridText scale text g → grid_with_sinks sinks g ≡ raster_with_sinks g sinks
-drained_text scale text g [] is = ap (λ (named : List Place). record g { terrain = record g.terrain { sinks = named } }) (ap (λ (r : Raster). r.terrain.sinks) is.grid)
+drained_text : (scale : ℕ) (text : List ℕ) (g : Raster) (sinks : List Place) →
+    IsGridText scale text g → grid_with_sinks sinks g ≡ raster_with_sinks g sinks
+drained_text scale text g [] is = ap (λ (named : List Place). record g {
+  terrain =
+      record g.terrain { sinks = named };
+}) (ap (λ (r : Raster). r.terrain.sinks) is.grid)
 drained_text scale text g (p ∷ rest) is = refl
 
-pub drained_some : (g : Raster) (sinks : List Place) → eqb (length sinks) 0 ≡ false → raster_with_sinks g sinks ≡ grid_with_sinks sinks g
+pub drained_some : (g : Raster) (sinks : List Place) → eqb (length sinks) 0 ≡ false →
+    raster_with_sinks g sinks ≡ grid_with_sinks sinks g
 drained_some g [] some = absurd (cc)
 drained_some g (p ∷ rest) some = refl
 
-pub map_of_text : (w : Request) (text map : List ℕ) (g : Raster) → IsGridText w.scale text g → IsMapText (grid_with_sinks w.sinks g) w.map map → IsMapOfText w.scale w.map w.sinks text map
-map_of_text w text map g is made = (g, is, subst (λ (r : Raster). IsMapText r w.map map) (drained_text w.scale text g w.sinks is) made)
+pub map_of_text : (w : Request) (text map : List ℕ) (g : Raster) → IsGridText w.scale text g →
+    IsMapText (grid_with_sinks w.sinks g) w.map map → IsMapOfText w.scale w.map w.sinks text map
+map_of_text w text map g is made = (
+  g,
+  is,
+  subst (λ (r : Raster). IsMapText r w.map map) (drained_text w.scale text g w.sinks is) made,
+)
 
 -- added sinks change no fault
-pub fault_without : (w : Request) (g : Raster) (sinks : List Place) → request_fault w (grid_with_sinks sinks g) ≡ request_fault w g
+pub fault_without : (w : Request) (g : Raster) (sinks : List Place) →
+    request_fault w (grid_with_sinks sinks g) ≡ request_fault w g
 fault_without w g [] = refl
 fault_without w g (p ∷ rest) = refl
 
-pub refusal_without : (w : Request) (g : Raster) (f : RunFault) (sinks : List Place) → IsWorkRefusal w (grid_with_sinks sinks g) f → IsWorkRefusal w g f
+pub refusal_without : (w : Request) (g : Raster) (f : RunFault) (sinks : List Place) →
+    IsWorkRefusal w (grid_with_sinks sinks g) f → IsWorkRefusal w g f
 refusal_without w g f [] h = h
 refusal_without w g f (p ∷ rest) h = h
 
-pub request_of_many : (w : Request) (g : Raster) → most_tiles < tiles_of g w.tile → request_fault w g ≡ Some (Tiling TooManyTiles)
+pub request_of_many : (w : Request) (g : Raster) → most_tiles < tiles_of g w.tile →
+    request_fault w g ≡ Some (Tiling TooManyTiles)
 request_of_many w g many = cond-true _ _ _ (lt-ltb _ _ many)
 
-pub request_of_few : (w : Request) (g : Raster) → tiles_of g w.tile ≤ most_tiles → request_fault w g ≡ option_or (named_place_fault w g) (option_map Sight (observer_fault g w.map))
+pub request_of_few : (w : Request) (g : Raster) → tiles_of g w.tile ≤ most_tiles → request_fault w g
+    ≡ option_or (named_place_fault w g) (option_map Sight (observer_fault g w.map))
 request_of_few w g few = cond-false _ _ _ (le-ltb _ _ few)
 
-pub request_of_sound : (w : Request) (g : Raster) → tiles_of g w.tile ≤ most_tiles → named_place_fault w g ≡ None → request_fault w g ≡ option_map Sight (observer_fault g w.map)
-request_of_sound w g few sound = request_of_few w g few ∙ ap (λ o. option_or o (option_map Sight (observer_fault g w.map))) sound
+pub request_of_sound : (w : Request) (g : Raster) → tiles_of g w.tile ≤ most_tiles →
+    named_place_fault w g ≡ None → request_fault w g ≡ option_map Sight (observer_fault g w.map)
+request_of_sound w g few sound = request_of_few w g few
+    ∙ ap (λ o. option_or o (option_map Sight (observer_fault g w.map))) sound
 
-pub place_refused : (w : Request) (g : Raster) (f : RunFault) → tiles_of g w.tile ≤ most_tiles → named_place_fault w g ≡ Some f → IsWorkRefusal w g f
+pub place_refused : (w : Request) (g : Raster) (f : RunFault) → tiles_of g w.tile ≤ most_tiles →
+    named_place_fault w g ≡ Some f → IsWorkRefusal w g f
 place_refused w g f few at_fault =
-    forbidden w g f (request_of_few w g few ∙ ap (λ o. option_or o (option_map Sight (observer_fault g w.map))) at_fault)
+    forbidden w g f (request_of_few w g few
+    ∙ ap (λ o. option_or o (option_map Sight (observer_fault g w.map))) at_fault)
 
-no_sinks : (a : Option SinkFault) (b : Option RunFault) → option_or (option_map Sinks a) b ≡ None → a ≡ None
+no_sinks : (a : Option SinkFault) (b : Option RunFault) → option_or (option_map Sinks a) b ≡ None →
+    a ≡ None
 no_sinks None b e = refl
 no_sinks (Some f) b e = absurd (cc)
 
-pub sound_sinks : (w : Request) (g : Raster) → named_place_fault w g ≡ None → sinks_fault g.terrain w.sinks ≡ None
-sound_sinks w g sound = no_sinks (sinks_fault g.terrain w.sinks) (option_map Gauges (gauge_fault g w.map)) sound
+pub sound_sinks : (w : Request) (g : Raster) → named_place_fault w g ≡ None →
+    sinks_fault g.terrain w.sinks ≡ None
+sound_sinks w g sound =
+    no_sinks (sinks_fault g.terrain w.sinks) (option_map Gauges (gauge_fault g w.map)) sound
 
-no_gauges : (a : Option SinkFault) (b : Option GaugeFault) → option_or (option_map Sinks a) (option_map Gauges b) ≡ None → b ≡ None
+no_gauges : (a : Option SinkFault) (b : Option GaugeFault) →
+    option_or (option_map Sinks a) (option_map Gauges b) ≡ None → b ≡ None
 no_gauges None None e = refl
 no_gauges None (Some f) e = absurd (cc)
 no_gauges (Some f) b e = absurd (cc)
 
-pub sound_gauges : (w : Request) (g : Raster) → named_place_fault w g ≡ None → gauge_fault g w.map ≡ None
+pub sound_gauges : (w : Request) (g : Raster) → named_place_fault w g ≡ None →
+    gauge_fault g w.map ≡ None
 sound_gauges w g sound = no_gauges (sinks_fault g.terrain w.sinks) (gauge_fault g w.map) sound
 
-pub fault_of_sinks : (w : Request) (g : Raster) (f : SinkFault) → sinks_fault g.terrain w.sinks ≡ Some f → named_place_fault w g ≡ Some (Sinks f)
-fault_of_sinks w g f e = ap (λ o. option_or (option_map Sinks o) (option_map Gauges (gauge_fault g w.map))) e
+pub fault_of_sinks : (w : Request) (g : Raster) (f : SinkFault) →
+    sinks_fault g.terrain w.sinks ≡ Some f → named_place_fault w g ≡ Some (Sinks f)
+fault_of_sinks w g f e =
+    ap (λ o. option_or (option_map Sinks o) (option_map Gauges (gauge_fault g w.map))) e
 
-pub fault_of_gauges : (w : Request) (g : Raster) → sinks_fault g.terrain w.sinks ≡ None → named_place_fault w g ≡ option_map Gauges (gauge_fault g w.map)
-fault_of_gauges w g e = ap (λ o. option_or (option_map Sinks o) (option_map Gauges (gauge_fault g w.map))) e
+pub fault_of_gauges : (w : Request) (g : Raster) → sinks_fault g.terrain w.sinks ≡ None →
+    named_place_fault w g ≡ option_map Gauges (gauge_fault g w.map)
+fault_of_gauges w g e =
+    ap (λ o. option_or (option_map Sinks o) (option_map Gauges (gauge_fault g w.map))) e
 
 unseen : (g : Raster) (m : Map) → ¬ IsView m → observer_fault g m ≡ None
 unseen g Fill drains = refl
@@ -85,8 +112,13 @@ unseen g (Catchments gauges) drains = refl
 unseen g (View observers target radius) drains = absurd (drains tt)
 
 -- sound sinks are refused only for want of memory, which is a work refusal
-pub sinks_refused : {T : Type 0} (w : Request) (g : Raster) (f : SinkFault) → (IsView w.map → w.sinks ≡ []) → eqb (length w.sinks) 0 ≡ false → tiles_of g w.tile ≤ most_tiles → named_place_fault w g ≡ None → RefusesSinks {T = T} (sinks_fault g.terrain w.sinks) (Err f) → IsWorkRefusal w g (of_sinks f)
+pub sinks_refused : {T : Type 0} (w : Request) (g : Raster) (f : SinkFault) →
+    (IsView w.map → w.sinks ≡ []) →
+    eqb (length w.sinks) 0 ≡ false → tiles_of g w.tile ≤ most_tiles → named_place_fault w g ≡ None →
+    RefusesSinks {T = T} (sinks_fault g.terrain w.sinks) (Err f) → IsWorkRefusal w g (of_sinks f)
 sinks_refused w g f none some few sound h =
-    let drains : ¬ IsView w.map = λ view. (let empty : eqb (length w.sinks) 0 ≡ true = ap (λ (ps : List Place). eqb (length ps) 0) (none view) in cc) in
-    subst (λ (k : SinkFault). IsWorkRefusal w g (of_sinks k)) (sym (h.memory (sound_sinks w g sound) f refl))
+    let drains : ¬ IsView w.map = λ view. (let empty : eqb (length w.sinks) 0 ≡ true =
+    ap (λ (ps : List Place). eqb (length ps) 0) (none view) in cc) in
+    subst (λ (k : SinkFault). IsWorkRefusal w g (of_sinks k))
+    (sym (h.memory (sound_sinks w g sound) f refl))
     (request_of_sound w g few sound ∙ ap (λ o. option_map Sight o) (unseen g w.map drains))

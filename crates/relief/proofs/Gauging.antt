@@ -18,7 +18,8 @@ abbrev with_levels : Terrain → List (Option ℤ) → Terrain
 with_levels t levels = record t { cells = levels }
 
 module _ (t : Terrain) (levels : List (Option ℤ)) (filled : IsFilled t levels) where
-  same_data : (p : Place) → IsInside t p → is_none (entry_at t.cols t.rows levels p) ≡ is_none (height_at t p)
+  same_data : (p : Place) → IsInside t p →
+      is_none (entry_at t.cols t.rows levels p) ≡ is_none (height_at t p)
   same_data p inside = elim (cases_option (height_at t p)) [
     | inl none ↦ ap is_none (MatchOption-at_none _ _ none (filled.each p inside) ∙ sym none)
     | inr some ↦
@@ -29,20 +30,27 @@ module _ (t : Terrain) (levels : List (Option ℤ)) (filled : IsFilled t levels)
   same_fault : (i : ℕ) (p : Place) → sink_fault_of (with_levels t levels) i p ≡ sink_fault_of t i p
   same_fault i p = go (nat_lt p.row t.rows && nat_lt p.col t.cols) refl where
     fault : Bool → Bool → Option SinkFault
-    fault inside no_data = if not inside then Some (Outside i) else if no_data then Some (OnNodata i) else None
+    fault inside no_data =
+        if not inside then Some (Outside i) else if no_data then Some (OnNodata i) else None
 
-    go : (inside : Bool) → nat_lt p.row t.rows && nat_lt p.col t.cols ≡ inside → fault inside (is_none (entry_at t.cols t.rows levels p)) ≡ fault inside (is_none (height_at t p))
+    go : (inside : Bool) → nat_lt p.row t.rows && nat_lt p.col t.cols ≡ inside → fault inside
+        (is_none (entry_at t.cols t.rows levels p)) ≡ fault inside (is_none (height_at t p))
     go false e = refl
     go true e =
         let within = and_parts (nat_lt p.row t.rows) (nat_lt p.col t.cols) e in
         ap (fault true) (same_data p (ltb-true _ _ within.0, ltb-true _ _ within.1))
 
-  same_first : (i : ℕ) (ps : List Place) → first_sink_fault (with_levels t levels) i ps ≡ first_sink_fault t i ps
+  same_first : (i : ℕ) (ps : List Place) →
+      first_sink_fault (with_levels t levels) i ps ≡ first_sink_fault t i ps
   same_first i [] = refl
   same_first i (p ∷ rest) = ap₂ option_or (same_fault i p) (same_first (i + 1) rest)
 
-pub filled_gauges : (g f : Raster) → IsFilledGrid g f → (gauges : List Place) → gauges_fault f.terrain gauges ≡ gauges_fault g.terrain gauges
+pub filled_gauges : (g f : Raster) → IsFilledGrid g f → (gauges : List Place) →
+    gauges_fault f.terrain gauges ≡ gauges_fault g.terrain gauges
 filled_gauges g f is gauges =
-    let sinks : sinks_fault (with_levels g.terrain f.terrain.cells) gauges ≡ sinks_fault g.terrain gauges =
-    ap (λ o. if nat_lt most_sinks (length gauges) then Some TooManySinks else o) (same_first g.terrain f.terrain.cells is.filled 0 gauges) in
-    ap (λ (r : Raster). gauges_fault r.terrain gauges) is.rest ∙ ap (option_map fault_of_gauge) sinks
+    let sinks : sinks_fault (with_levels g.terrain f.terrain.cells) gauges
+    ≡ sinks_fault g.terrain gauges =
+    ap (λ o. if nat_lt most_sinks (length gauges) then Some TooManySinks else o)
+    (same_first g.terrain f.terrain.cells is.filled 0 gauges) in
+    ap (λ (r : Raster). gauges_fault r.terrain gauges) is.rest
+    ∙ ap (option_map fault_of_gauge) sinks

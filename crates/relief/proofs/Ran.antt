@@ -19,7 +19,8 @@ use Rattle.ascii_grid.proofs.Taking.{consumed_end}
 use Rattle.relief.proofs.Draining.{fault_without, map_of_text}
 use Rattle.relief.proofs.Viewing.{work_refused, work_is_no_device}
 
-pub reading_refused : {R W : Type 0} (remaining : R → Option (List ℕ)) (contents : W → Option (List ℕ)) (w : Request) (reader left : Device R) (writer : Device W) (e : InputFault)
+pub reading_refused : {R W : Type 0} (remaining : R → Option (List ℕ)) (contents : W →
+    Option (List ℕ)) (w : Request) (reader left : Device R) (writer : Device W) (e : InputFault)
     → ReadsGrid remaining w.scale reader left (Err e)
     → Runs {T = Unit {0}} remaining contents w reader left writer writer (Err (of_input e))
 reading_refused remaining contents w reader left writer (input.Grid f) reads =
@@ -47,14 +48,18 @@ reading_refused remaining contents w reader left writer input.Read reads =
       clean = λ e. reads.clean refl;
     }
 
-module _ {R W : Type 0} (remaining : R → Option (List ℕ)) (contents : W → Option (List ℕ)) (w : Request) (reader left : Device R) (writer grown : Device W) (g : Raster) (reads : ReadsGrid remaining w.scale reader left (Ok g)) where
+module _ {R W : Type 0} (remaining : R → Option (List ℕ)) (contents : W → Option (List ℕ))
+    (w : Request) (reader left : Device R) (writer grown : Device W) (g : Raster)
+    (reads : ReadsGrid remaining w.scale reader left (Ok g)) where
   same : left.failures ≡ reader.failures
   same = reads.sound (λ bad. cc)
 
   whole : (text : List ℕ) → remaining reader.device ≡ Some text → IsGridText w.scale text g
-  whole text reported = subst (λ (z : List ℕ). IsGridText w.scale z g) (consumed_end _ _ text reads.taken.bytes reported reads.taken.read.known reads.grid.1) reads.grid.0
+  whole text reported = subst (λ (z : List ℕ). IsGridText w.scale z g) (consumed_end _ _ text
+      reads.taken.bytes reported reads.taken.read.known reads.grid.1) reads.grid.0
 
-  pub making_refused : (f : RunFault) → IsWorkRefusal w g f → Runs {T = Unit {0}} remaining contents w reader left writer writer (Err f)
+  pub making_refused : (f : RunFault) → IsWorkRefusal w g f →
+      Runs {T = Unit {0}} remaining contents w reader left writer writer (Err f)
   making_refused f refusal =
       let other = work_is_no_device w g f refusal in record {
         taken = reads.taken;
@@ -62,32 +67,47 @@ module _ {R W : Type 0} (remaining : R → Option (List ℕ)) (contents : W → 
         refused = λ text reported. work_refused w text g f (whole text reported) refusal;
         unwritten = λ no_write. refl;
         part = λ e. absurd (other.1 (let same_fault : f ≡ Write = cc in same_fault));
-        read = (λ e. absurd (other.0 (let same_fault : f ≡ Read = cc in same_fault)), λ more. absurd (omega (arith, same)));
-        write = (λ e. absurd (other.1 (let same_fault : f ≡ Write = cc in same_fault)), λ more. absurd (omega arith));
+        read = (
+          λ e. absurd (other.0 (let same_fault : f ≡ Read = cc in same_fault)),
+          λ more. absurd (omega (arith, same)),
+        );
+        write = (
+          λ e. absurd (other.1 (let same_fault : f ≡ Write = cc in same_fault)),
+          λ more. absurd (omega arith),
+        );
         sound = tt;
         clean = λ e. absurd (other.0 (let same_fault : f ≡ Read = cc in same_fault));
       }
 
   module _ (map : List ℕ) (made : IsMapText (grid_with_sinks w.sinks g) w.map map) where
-    pub writing_failed : (e : WriteFailed) → request_fault w (grid_with_sinks w.sinks g) ≡ None → Writes {T = Unit {0}} {E = WriteFailed} contents writer grown map (Err e)
+    pub writing_failed : (e : WriteFailed) → request_fault w (grid_with_sinks w.sinks g) ≡ None →
+        Writes {T = Unit {0}} {E = WriteFailed} contents writer grown map (Err e)
         → Runs {T = Unit {0}} remaining contents w reader left writer grown (Err Write)
     writing_failed e ready writes =
         let more : grown.failures ≡ writer.failures + 1 = writes.count.err in record {
           taken = reads.taken;
           written = tt;
-          refused = λ text reported. (g, whole text reported, sym (fault_without w g w.sinks) ∙ ready);
+          refused =
+              λ text reported. (g, whole text reported, sym (fault_without w g w.sinks) ∙ ready);
           unwritten = λ other. absurd (other refl);
-          part = λ failed. (map, map_of_text w reads.taken.bytes map g reads.grid.0 made, writes.part, reads.grid.1);
+          part = λ failed. (
+            map,
+            map_of_text w reads.taken.bytes map g reads.grid.0 made,
+            writes.part,
+            reads.grid.1,
+          );
           read = (λ failed. absurd (cc), λ less. absurd (omega (arith, same)));
           write = (λ failed. omega arith, λ less. refl);
           sound = tt;
           clean = λ failed. absurd (cc);
         }
 
-    pub ran : Writes {T = Unit {0}} {E = WriteFailed} contents writer grown map (Ok tt) → Runs {T = Unit {0}} remaining contents w reader left writer grown (Ok tt)
+    pub ran : Writes {T = Unit {0}} {E = WriteFailed} contents writer grown map (Ok tt) →
+        Runs {T = Unit {0}} remaining contents w reader left writer grown (Ok tt)
     ran writes = record {
       taken = reads.taken;
-      written = (map, map_of_text w reads.taken.bytes map g reads.grid.0 made, writes.all, reads.grid.1);
+      written =
+          (map, map_of_text w reads.taken.bytes map g reads.grid.0 made, writes.all, reads.grid.1);
       refused = λ text reported. tt;
       unwritten = tt;
       part = λ e. absurd (cc);

@@ -28,14 +28,19 @@ help_is_no_want : (k : ErrorKind) → IsHelp k → k ≡ OutOfMemory → ⊥
 help_is_no_want k (inl help) want = absurd (cc)
 help_is_no_want k (inr version) want = absurd (cc)
 
-module _ {R W E : Type 0} (contents : W → Option (List ℕ)) (lines : E → Option (List ℕ)) (words : List Text) (reader : Device R) (writer grown : Device W) (errors reported : Device E) (status : ℕ) where
+module _ {R W E : Type 0} (contents : W → Option (List ℕ)) (lines : E → Option (List ℕ))
+    (words : List Text) (reader : Device R) (writer grown : Device W) (errors reported : Device E)
+    (status : ℕ) where
   abbrev Unread : Type 0
   Unread = EndsUnread contents lines words reader reader writer grown errors reported status
 
-  pub words_refused : (text : List ℕ) → IsRefusalText words text → WritesLine lines errors reported text → grown ≡ writer → status ≡ 1 → Unread
-  words_refused text refusal told_text same refused = record { unread = refl; reason = inr (inl ((text, refusal, told_text), refused, same)) }
+  pub words_refused : (text : List ℕ) → IsRefusalText words text →
+      WritesLine lines errors reported text → grown ≡ writer → status ≡ 1 → Unread
+  words_refused text refusal told_text same refused =
+      record { unread = refl; reason = inr (inl ((text, refusal, told_text), refused, same)) }
 
-  pub shown : (e : Error) → EndsShowing contents lines (kind_of e) writer grown errors reported status → HasKind (fault_of program_app words) e → Unread
+  pub shown : (e : Error) → EndsShowing contents lines (kind_of e)
+      writer grown errors reported status → HasKind (fault_of program_app words) e → Unread
   shown e (inl help) (inl want) = absurd (help_is_no_want (kind_of e) help.0 want)
   shown e (inl help) (inr among) = record {
     unread = refl;
@@ -57,32 +62,48 @@ ends_line front place = (front ++ decimal place, refl)
 module _ (words : List Text) where
   pub bad_observer_refused : (place : ℕ) → HasBadObserver words place → IsRefusalText words (codes "relief: bad observer word " ++ decimal place ++ codes "\n")
   bad_observer_refused place bad = record {
-    refused = inr (bad.command.accepted, bad_requests_none words bad.command.accepted _ _ bad.command.found place bad);
+    refused = inr (
+      bad.command.accepted,
+      bad_requests_none words bad.command.accepted _ _ bad.command.found place bad,
+    );
     line = ends_line (codes "relief: bad observer word ") place;
     bad_observer = λ other b. ap (λ k. codes "relief: bad observer word " ++ decimal k ++ codes "\n") (one_bad words bad.command.accepted _ _ bad.command.found place other bad b);
-    bad_gauge = λ other b. absurd (no_gauge_observed words bad.command.accepted _ _ bad.command.found other place b bad);
-    bad_sink = λ other b. absurd (bad_alone words bad.command.accepted _ _ bad.command.found place other bad b);
+    bad_gauge = λ other b. absurd
+        (no_gauge_observed words bad.command.accepted _ _ bad.command.found other place b bad);
+    bad_sink = λ other b.
+        absurd (bad_alone words bad.command.accepted _ _ bad.command.found place other bad b);
   }
 
   pub bad_gauge_refused : (place : ℕ) → HasBadGauge words place → IsRefusalText words (codes "relief: bad gauge word " ++ decimal place ++ codes "\n")
   bad_gauge_refused place bad = record {
-    refused = inr (bad.command.accepted, bad_gauge_requests_none words bad.command.accepted _ _ bad.command.found place bad);
+    refused = inr (
+      bad.command.accepted,
+      bad_gauge_requests_none words bad.command.accepted _ _ bad.command.found place bad,
+    );
     line = ends_line (codes "relief: bad gauge word ") place;
-    bad_observer = λ other b. absurd (no_gauge_observed words bad.command.accepted _ _ bad.command.found place other bad b);
+    bad_observer = λ other b. absurd
+        (no_gauge_observed words bad.command.accepted _ _ bad.command.found place other bad b);
     bad_gauge = λ other b. ap (λ k. codes "relief: bad gauge word " ++ decimal k ++ codes "\n") (one_bad_gauge words bad.command.accepted _ _ bad.command.found place other bad b);
-    bad_sink = λ other b. absurd (bad_gauge_alone words bad.command.accepted _ _ bad.command.found place other bad b);
+    bad_sink = λ other b.
+        absurd (bad_gauge_alone words bad.command.accepted _ _ bad.command.found place other bad b);
   }
 
   pub bad_sink_refused : (place : ℕ) → HasBadSink words place → IsRefusalText words (codes "relief: bad sink word " ++ decimal place ++ codes "\n")
   bad_sink_refused place bad = record {
-    refused = inr (bad.command.accepted, bad_sink_requests_none words bad.command.accepted _ _ bad.command.found place bad);
+    refused = inr (
+      bad.command.accepted,
+      bad_sink_requests_none words bad.command.accepted _ _ bad.command.found place bad,
+    );
     line = ends_line (codes "relief: bad sink word ") place;
-    bad_observer = λ other b. absurd (bad_alone words bad.command.accepted _ _ bad.command.found other place b bad);
-    bad_gauge = λ other b. absurd (bad_gauge_alone words bad.command.accepted _ _ bad.command.found other place b bad);
+    bad_observer = λ other b.
+        absurd (bad_alone words bad.command.accepted _ _ bad.command.found other place b bad);
+    bad_gauge = λ other b.
+        absurd (bad_gauge_alone words bad.command.accepted _ _ bad.command.found other place b bad);
     bad_sink = λ other b. ap (λ k. codes "relief: bad sink word " ++ decimal k ++ codes "\n") (one_bad_sink words bad.command.accepted _ _ bad.command.found place other bad b);
   }
 
-  pub no_map_refused : (text : List ℕ) → IsFaultOf words NoMap → EndsLine text → IsRefusalText words text
+  pub no_map_refused : (text : List ℕ) → IsFaultOf words NoMap → EndsLine text →
+      IsRefusalText words text
   no_map_refused text fault line = record {
     refused = inr (fault.0, fault.1);
     line = line;

@@ -24,110 +24,164 @@ use Rattle.request.specs.declared.words.WordsFault.TheVariants.{Clap, BadObserve
 use Rattle.request.specs.declared.map.Map.{Map}
 use Rattle.request.specs.declared.map.Map.TheVariants.{Fill, Flow, Accumulate, Basins, Catchments, View}
 
-pub same_number : (rows : List Row) (id : Text) (m n : ℕ) → HasNumber rows id m → HasNumber rows id n → m ≡ n
+pub same_number : (rows : List Row) (id : Text) (m n : ℕ) → HasNumber rows id m →
+    HasNumber rows id n → m ≡ n
 same_number rows id m n a b =
-    sym a.spelled ∙ ap (λ (t : Text). digits_value 10 (without_leading_plus t)) (same_Some _ _ (sym a.given ∙ b.given)) ∙ b.spelled
+    sym a.spelled ∙ ap (λ (t : Text). digits_value 10 (without_leading_plus t))
+    (same_Some _ _ (sym a.given ∙ b.given)) ∙ b.spelled
 
-pub given_words : (f : Found) (id : Text) (o : Option (Bor (List (Bor Text)))) (none words : Bor (List (Bor Text))) → words ≡ unwrap_or o none → none.now ≡ []
-    → option_map (λ s. map (λ w. w.now) s.now) o ≡ option_map raw_values (matched_of f id) → map (λ w. w.now) words.now ≡ words_of id (rows_of f)
-given_words f id None none words is empty same = ap (λ (ws : Bor (List (Bor Text))). map (λ w. w.now) ws.now) is ∙ ap (map (λ (w : Bor Text). w.now)) empty ∙ ap (λ ws. unwrap_or ws []) (same ∙ raw_values-rows f id)
-given_words f id (Some s) none words is empty same = ap (λ (ws : Bor (List (Bor Text))). map (λ w. w.now) ws.now) is ∙ ap (λ ws. unwrap_or ws []) (same ∙ raw_values-rows f id)
+pub given_words : (f : Found) (id : Text) (o : Option (Bor (List (Bor Text))))
+    (none words : Bor (List (Bor Text))) → words ≡ unwrap_or o none → none.now ≡ []
+    → option_map (λ s. map (λ w. w.now) s.now) o ≡ option_map raw_values (matched_of f id) →
+    map (λ w. w.now) words.now ≡ words_of id (rows_of f)
+given_words f id None none words is empty same = ap (λ (ws : Bor (List (Bor Text))).
+    map (λ w. w.now) ws.now) is ∙ ap (map (λ (w : Bor Text). w.now)) empty
+    ∙ ap (λ ws. unwrap_or ws []) (same ∙ raw_values-rows f id)
+given_words f id (Some s) none words is empty same = ap (λ (ws : Bor (List (Bor Text))).
+    map (λ w. w.now) ws.now) is ∙ ap (λ ws. unwrap_or ws []) (same ∙ raw_values-rows f id)
 
 abbrev Reads : Text → Result ℕ ParseIntError → Type 0
 Reads t r = ParsesUnsigned 32 10 t r × ExplainsUnsignedError 10 t r × HasUnsignedDigitsIfOk t r
 
 module _ (rows : List Row) (id : Text) where
-  pub number_some : (o : Option Text) → one_of id rows ≡ o → (r : Option ℕ) → (o ≡ None → r ≡ None) → ((t : Text) → o ≡ Some t → ReadsOne Reads t r) →
+  pub number_some : (o : Option Text) → one_of id rows ≡ o → (r : Option ℕ) →
+      (o ≡ None → r ≡ None) → ((t : Text) → o ≡ Some t → ReadsOne Reads t r) →
       IfSome r (HasNumber rows id)
   number_some o is None none value = tt
   number_some None is (Some n) none value = absurd (none-some n (sym (none refl)))
   number_some (Some t) is (Some n) none value =
       let p = (value t refl).0 in
-      record { text = t; given = is; numeral = p.0.0; spelled = sym p.1; small = subst (λ (k : ℕ). k < 2 ^ 32) (sym p.1) p.0.1 }
+      record {
+        text = t;
+        given = is;
+        numeral = p.0.0;
+        spelled = sym p.1;
+        small = subst (λ (k : ℕ). k < 2 ^ 32) (sym p.1) p.0.1;
+      }
 
-  pub number_none : (o : Option Text) → one_of id rows ≡ o → (r : Option ℕ) → (o ≡ None → r ≡ None) → ((t : Text) → o ≡ Some t → ReadsOne Reads t r) →
+  pub number_none : (o : Option Text) → one_of id rows ≡ o → (r : Option ℕ) →
+      (o ≡ None → r ≡ None) → ((t : Text) → o ≡ Some t → ReadsOne Reads t r) →
       IfNone r ((n : ℕ) → HasNumber rows id n → ⊥)
   number_none o is (Some n) none value = tt
   number_none None is None none value = λ n h. none-some h.text (sym is ∙ h.given)
   number_none (Some t) is None none value = λ n h.
       let v = value t refl in
       let same : h.text ≡ t = same_Some _ _ (sym h.given ∙ is) in
-      let small : digits_value 10 (without_leading_plus h.text) < 2 ^ 32 = subst (λ (k : ℕ). k < 2 ^ 32) (sym h.spelled) h.small in
+      let small : digits_value 10 (without_leading_plus h.text) < 2 ^ 32 =
+      subst (λ (k : ℕ). k < 2 ^ 32) (sym h.spelled) h.small in
       v.1.0 (
         subst (λ (x : Text). IsNumeral 10 (without_leading_plus x)) same h.numeral,
         subst (λ (x : Text). digits_value 10 (without_leading_plus x) < 2 ^ 32) same small,
       )
 
-pub only_view : (rows : List Row) → ((os : List Observer) (t r : ℕ) → HasObservers rows os → HasNumber rows (codes "target") t → HasNumber rows (codes "radius") r → ⊥) →
+pub only_view : (rows : List Row) → ((os : List Observer) (t r : ℕ) → HasObservers rows os →
+    HasNumber rows (codes "target") t → HasNumber rows (codes "radius") r → ⊥) →
     (m : Map) → Names (codes "view") rows m → ⊥
-only_view rows never Fill e = let bad : ◌≡◌ {A = ℕ} 118 102 = ap (λ (t : Text). slice_index t 0) e in absurd (omega arith)
-only_view rows never Flow e = let bad : ◌≡◌ {A = ℕ} 118 102 = ap (λ (t : Text). slice_index t 0) e in absurd (omega arith)
-only_view rows never Accumulate e = let bad : ◌≡◌ {A = ℕ} 118 97 = ap (λ (t : Text). slice_index t 0) e in absurd (omega arith)
-only_view rows never Basins e = let bad : ◌≡◌ {A = ℕ} 118 98 = ap (λ (t : Text). slice_index t 0) e in absurd (omega arith)
-only_view rows never (Catchments gauges) e = let bad : ◌≡◌ {A = ℕ} 118 99 = ap (λ (t : Text). slice_index t 0) e.0 in absurd (omega arith)
+only_view rows never Fill e = let bad : ◌≡◌ {A = ℕ} 118 102 =
+    ap (λ (t : Text). slice_index t 0) e in absurd (omega arith)
+only_view rows never Flow e = let bad : ◌≡◌ {A = ℕ} 118 102 =
+    ap (λ (t : Text). slice_index t 0) e in absurd (omega arith)
+only_view rows never Accumulate e = let bad : ◌≡◌ {A = ℕ} 118 97 =
+    ap (λ (t : Text). slice_index t 0) e in absurd (omega arith)
+only_view rows never Basins e = let bad : ◌≡◌ {A = ℕ} 118 98 =
+    ap (λ (t : Text). slice_index t 0) e in absurd (omega arith)
+only_view rows never (Catchments gauges) e = let bad : ◌≡◌ {A = ℕ} 118 99 =
+    ap (λ (t : Text). slice_index t 0) e.0 in absurd (omega arith)
 only_view rows never (View os t r) n = never os.items t r n.1 n.2 n.3
 
 module _ {X : Type 0} (of : Text → Option X) where
-  spelled : (words : List Text) (items : List X) (i : ℕ) (d : Text) → Spell of words items → i < length words → is_none (of (get_or words i d)) ≡ false
+  spelled : (words : List Text) (items : List X) (i : ℕ) (d : Text) → Spell of words items →
+      i < length words → is_none (of (get_or words i d)) ≡ false
   spelled [] items i d e lt = absurd (omega arith)
   spelled (w ∷ words) [] i d e lt = absurd (cc)
-  spelled (w ∷ words) (x ∷ items) zero d e lt = ap (λ (xs : List (Option X)). is_none (get_or xs 0 None)) e
-  spelled (w ∷ words) (x ∷ items) (suc i) d e lt = spelled words items i d (ap (drop 1) e) (omega arith)
+  spelled (w ∷ words) (x ∷ items) zero d e lt =
+      ap (λ (xs : List (Option X)). is_none (get_or xs 0 None)) e
+  spelled (w ∷ words) (x ∷ items) (suc i) d e lt =
+      spelled words items i d (ap (drop 1) e) (omega arith)
 
-  pub none_bad : (words : List Text) (items : List X) (place : ℕ) → Spell of words items → ¬ IsFirstBad of words place
+  pub none_bad : (words : List Text) (items : List X) (place : ℕ) → Spell of words items →
+      ¬ IsFirstBad of words place
   none_bad words items place all bad =
       let at = position-Some (λ word. is_none (of word)) words place [] bad in
       let not_here = spelled words items place [] all at.0 in
       absurd (cc)
 
-  pub bad_at : (words : List (Bor Text)) (items : List X) (k : ℕ) (d : Bor Text) → k < length words → Spell of (map (λ w. w.now) (take k words)) items → of (slice_index_or words k d).now ≡ None → IsFirstBad of (map (λ w. w.now) words) k
+  pub bad_at : (words : List (Bor Text)) (items : List X) (k : ℕ) (d : Bor Text) →
+      k < length words → Spell of (map (λ w. w.now) (take k words)) items →
+      of (slice_index_or words k d).now ≡ None → IsFirstBad of (map (λ w. w.now) words) k
   bad_at words items k d lt before here =
       let texts : List Text = map (λ w. w.now) words in
       let is_bad : Text → Bool = λ word. is_none (of word) in
       let size : length texts ≡ length words = length-map words _ in
-      let at : position_or_len is_bad texts ≡ k = position_or_len_is is_bad texts k d.now (omega (arith, size))
+      let at : position_or_len is_bad texts ≡ k =
+      position_or_len_is is_bad texts k d.now (omega (arith, size))
       (λ i less.
-      let good = spelled (map (λ w. w.now) (take k words)) items i d.now before (omega (arith, length-map (take k words) (λ (w : Bor Text). w.now), length-take k words)) in
-      rw (get_or-map (λ (w : Bor Text). w.now) words i d, ← get_or-take k words i d less, ← get_or-map (λ (w : Bor Text). w.now) (take k words) i d) good)
+      let good = spelled (map (λ w. w.now) (take k words)) items i d.now before
+      (omega (arith, length-map (take k words) (λ (w : Bor Text). w.now), length-take k words)) in
+      rw (
+        get_or-map (λ (w : Bor Text). w.now) words i d,
+        ← get_or-take k words i d less,
+        ← get_or-map (λ (w : Bor Text). w.now) (take k words) i d,
+      ) good)
       (λ inside. rw (get_or-map (λ (w : Bor Text). w.now) words k d) (ap is_none here)) in
       rw (at, lt-ltb k (length texts) (omega (arith, size))) refl
 
-pub no_bad : (name : Text) (rows : List Row) (os : List Observer) (place : ℕ) → HasObservers rows os → ¬ IsBadObserverAfter name rows place
+pub no_bad : (name : Text) (rows : List Row) (os : List Observer) (place : ℕ) →
+    HasObservers rows os → ¬ IsBadObserverAfter name rows place
 no_bad name rows os place has bad =
     none_bad observer_of _ os place has bad.1
 
-pub map_without_bad : (name : Text) (rows : List Row) (m : Map) (place : ℕ) → Names name rows m → ¬ IsBadObserverAfter name rows place
-map_without_bad name rows Fill place n bad = let no : ◌≡◌ {A = ℕ} 118 102 = ap (λ (t : Text). slice_index t 0) (sym bad.0 ∙ n) in absurd (omega arith)
-map_without_bad name rows Flow place n bad = let no : ◌≡◌ {A = ℕ} 118 102 = ap (λ (t : Text). slice_index t 0) (sym bad.0 ∙ n) in absurd (omega arith)
-map_without_bad name rows Accumulate place n bad = let no : ◌≡◌ {A = ℕ} 118 97 = ap (λ (t : Text). slice_index t 0) (sym bad.0 ∙ n) in absurd (omega arith)
-map_without_bad name rows Basins place n bad = let no : ◌≡◌ {A = ℕ} 118 98 = ap (λ (t : Text). slice_index t 0) (sym bad.0 ∙ n) in absurd (omega arith)
-map_without_bad name rows (Catchments gauges) place n bad = let no : ◌≡◌ {A = ℕ} 118 99 = ap (λ (t : Text). slice_index t 0) (sym bad.0 ∙ n.0) in absurd (omega arith)
+pub map_without_bad : (name : Text) (rows : List Row) (m : Map) (place : ℕ) → Names name rows m →
+    ¬ IsBadObserverAfter name rows place
+map_without_bad name rows Fill place n bad = let no : ◌≡◌ {A = ℕ} 118 102 =
+    ap (λ (t : Text). slice_index t 0) (sym bad.0 ∙ n) in absurd (omega arith)
+map_without_bad name rows Flow place n bad = let no : ◌≡◌ {A = ℕ} 118 102 =
+    ap (λ (t : Text). slice_index t 0) (sym bad.0 ∙ n) in absurd (omega arith)
+map_without_bad name rows Accumulate place n bad = let no : ◌≡◌ {A = ℕ} 118 97 =
+    ap (λ (t : Text). slice_index t 0) (sym bad.0 ∙ n) in absurd (omega arith)
+map_without_bad name rows Basins place n bad = let no : ◌≡◌ {A = ℕ} 118 98 =
+    ap (λ (t : Text). slice_index t 0) (sym bad.0 ∙ n) in absurd (omega arith)
+map_without_bad name rows (Catchments gauges) place n bad = let no : ◌≡◌ {A = ℕ} 118 99 =
+    ap (λ (t : Text). slice_index t 0) (sym bad.0 ∙ n.0) in absurd (omega arith)
 map_without_bad name rows (View os t r) place n bad = no_bad name rows os.items place n.1 bad
 
-named_catchments : (name : Text) (letter : ℕ) → name ≡ codes "catchments" → slice_index name 0 ≡ letter → ◌≡◌ {A = ℕ} 99 letter
+named_catchments : (name : Text) (letter : ℕ) → name ≡ codes "catchments" →
+    slice_index name 0 ≡ letter → ◌≡◌ {A = ℕ} 99 letter
 named_catchments name letter is first = ap (λ (t : Text). slice_index t 0) (sym is) ∙ first
 
-pub view_without_gauges : (rows : List Row) (place : ℕ) → ¬ IsBadGaugeAfter (codes "view") rows place
-view_without_gauges rows place bad = let no = named_catchments (codes "view") 118 bad.0 refl in absurd (omega arith)
+pub view_without_gauges : (rows : List Row) (place : ℕ) →
+    ¬ IsBadGaugeAfter (codes "view") rows place
+view_without_gauges rows place bad = let no = named_catchments (codes "view") 118 bad.0 refl in
+    absurd (omega arith)
 
-pub map_without_bad_gauge : (name : Text) (rows : List Row) (m : Map) (place : ℕ) → Names name rows m → ¬ IsBadGaugeAfter name rows place
-map_without_bad_gauge name rows Fill place n bad = let no = named_catchments name 102 bad.0 (ap (λ (t : Text). slice_index t 0) n) in absurd (omega arith)
-map_without_bad_gauge name rows Flow place n bad = let no = named_catchments name 102 bad.0 (ap (λ (t : Text). slice_index t 0) n) in absurd (omega arith)
-map_without_bad_gauge name rows Accumulate place n bad = let no = named_catchments name 97 bad.0 (ap (λ (t : Text). slice_index t 0) n) in absurd (omega arith)
-map_without_bad_gauge name rows Basins place n bad = let no = named_catchments name 98 bad.0 (ap (λ (t : Text). slice_index t 0) n) in absurd (omega arith)
-map_without_bad_gauge name rows (Catchments gauges) place n bad = none_bad sink_of _ gauges.items place n.1 bad.1
-map_without_bad_gauge name rows (View os t r) place n bad = let no = named_catchments name 118 bad.0 (ap (λ (t : Text). slice_index t 0) n.0) in absurd (omega arith)
+pub map_without_bad_gauge : (name : Text) (rows : List Row) (m : Map) (place : ℕ) →
+    Names name rows m → ¬ IsBadGaugeAfter name rows place
+map_without_bad_gauge name rows Fill place n bad = let no =
+    named_catchments name 102 bad.0 (ap (λ (t : Text). slice_index t 0) n) in absurd (omega arith)
+map_without_bad_gauge name rows Flow place n bad = let no =
+    named_catchments name 102 bad.0 (ap (λ (t : Text). slice_index t 0) n) in absurd (omega arith)
+map_without_bad_gauge name rows Accumulate place n bad = let no =
+    named_catchments name 97 bad.0 (ap (λ (t : Text). slice_index t 0) n) in absurd (omega arith)
+map_without_bad_gauge name rows Basins place n bad = let no =
+    named_catchments name 98 bad.0 (ap (λ (t : Text). slice_index t 0) n) in absurd (omega arith)
+map_without_bad_gauge name rows (Catchments gauges) place n bad =
+    none_bad sink_of _ gauges.items place n.1 bad.1
+map_without_bad_gauge name rows (View os t r) place n bad = let no =
+    named_catchments name 118 bad.0 (ap (λ (t : Text). slice_index t 0) n.0) in absurd (omega arith)
 
-pub view_without_sinks : (name : Text) (rows : List Row) (m : Map) → Names name rows m → IsView m → Spell sink_of (sink_words name rows) []
+pub view_without_sinks : (name : Text) (rows : List Row) (m : Map) → Names name rows m → IsView m →
+    Spell sink_of (sink_words name rows) []
 view_without_sinks name rows Fill named view = absurd view
 view_without_sinks name rows Flow named view = absurd view
 view_without_sinks name rows Accumulate named view = absurd view
 view_without_sinks name rows Basins named view = absurd view
 view_without_sinks name rows (Catchments gauges) named view = absurd view
-view_without_sinks name rows (View os t r) named view = subst (λ (n : Text). Spell sink_of (sink_words n rows) []) (sym named.0) refl
+view_without_sinks name rows (View os t r) named view =
+    subst (λ (n : Text). Spell sink_of (sink_words n rows) []) (sym named.0) refl
 
 module _ {Observer Gauge Bad WrongGauge : ℕ → Type 0} {Missing NoMapThen : Type 0} where
-  pub fault_weaker : (f : WordsFault) → ((place : ℕ) → Observer place → Bad place) → ((place : ℕ) → Gauge place → WrongGauge place) → (Missing → NoMapThen)
+  pub fault_weaker : (f : WordsFault) → ((place : ℕ) → Observer place → Bad place) →
+      ((place : ℕ) → Gauge place → WrongGauge place) → (Missing → NoMapThen)
       → IsFaultBy Observer Gauge (λ _. ⊥) Missing f → IsFaultBy Bad WrongGauge (λ _. ⊥) NoMapThen f
   fault_weaker (Clap e) observer gauge missing h = h
   fault_weaker (BadObserver place) observer gauge missing h = observer place h

@@ -28,19 +28,26 @@ pub program_free : is_simple_and_free program_app ≡ true
 unfolding clap_on_literals
 program_free = refl
 
-pub found_in : (app : App) (words : List Text) (m : ArgMatches) → app ≡ program_app → HasMatchesOf app words m → subcommand_of program_app words ≡ subcommand_rows_of m
-found_in app words m is has = ap (λ a. subcommand_of a words) (sym is) ∙ sym (has (ap is_simple is ∙ program_simple)).1
+pub found_in : (app : App) (words : List Text) (m : ArgMatches) → app ≡ program_app →
+    HasMatchesOf app words m → subcommand_of program_app words ≡ subcommand_rows_of m
+found_in app words m is has = ap (λ a. subcommand_of a words) (sym is)
+    ∙ sym (has (ap is_simple is ∙ program_simple)).1
 
-pub accepted : (app : App) (words : List Text) → app ≡ program_app → (is_simple_and_free app ≡ true → fault_of app words ≡ []) → fault_of program_app words ≡ []
-accepted app words is none = ap (λ a. fault_of a words) (sym is) ∙ none (ap is_simple_and_free is ∙ program_free)
+pub accepted : (app : App) (words : List Text) → app ≡ program_app →
+    (is_simple_and_free app ≡ true → fault_of app words ≡ []) → fault_of program_app words ≡ []
+accepted app words is none = ap (λ a. fault_of a words) (sym is)
+    ∙ none (ap is_simple_and_free is ∙ program_free)
 
 pub named_by : {Z : Type 0} (x : Option (Box SubCommand Z)) (n : Text) (rs : List Row) →
-    Some n ≡ option_map (λ b. (out-SubCommand (box_value b)).name.now) x → Some rs ≡ option_map (λ (p : Text × List Row). p.1) (subcommand_rows x) →
+    Some n ≡ option_map (λ b. (out-SubCommand (box_value b)).name.now) x →
+    Some rs ≡ option_map (λ (p : Text × List Row). p.1) (subcommand_rows x) →
     subcommand_rows x ≡ Some (n, rs)
 named_by None n rs name rows = absurd (none-some n (sym name))
-named_by (Some b) n rs name rows = ap₂ (λ (k : Text) (r : List Row). Some (k, r)) (sym (same_Some _ _ name)) (sym (same_Some _ _ rows))
+named_by (Some b) n rs name rows = ap₂ (λ (k : Text) (r : List Row).
+    Some (k, r)) (sym (same_Some _ _ name)) (sym (same_Some _ _ rows))
 
-pub none_by : {Z : Type 0} (x : Option (Box SubCommand Z)) → None ≡ option_map (λ (p : Text × List Row). p.1) (subcommand_rows x) → subcommand_rows x ≡ None
+pub none_by : {Z : Type 0} (x : Option (Box SubCommand Z)) →
+    None ≡ option_map (λ (p : Text × List Row). p.1) (subcommand_rows x) → subcommand_rows x ≡ None
 none_by None none = refl
 none_by (Some b) none = absurd (cc)
 
@@ -59,16 +66,23 @@ module _ (words : List Text) (accepted : fault_of program_app words ≡ []) wher
     same_found p is = same_Some p (n, rs) (sym is ∙ found)
 
     map_of_request : (request : Request) → RequestFor words request → Names n rs request.map
-    map_of_request request w = subst (λ (p : Text × List Row). Names p.0 p.1 request.map) (same_found _ w.command.found) w.map
+    map_of_request request w = subst (λ (p : Text × List Row).
+        Names p.0 p.1 request.map) (same_found _ w.command.found) w.map
 
     bad_after : (place : ℕ) → HasBadObserver words place → IsBadObserverAfter n rs place
-    bad_after place bad = subst (λ (p : Text × List Row). IsBadObserverAfter p.0 p.1 place) (same_found _ bad.command.found) (refl, bad.first)
+    bad_after place bad = subst (λ (p : Text × List Row). IsBadObserverAfter p.0 p.1 place)
+        (same_found _ bad.command.found) (refl, bad.first)
 
     bad_gauge_after : (place : ℕ) → HasBadGauge words place → IsBadGaugeAfter n rs place
-    bad_gauge_after place bad = subst (λ (p : Text × List Row). IsBadGaugeAfter p.0 p.1 place) (same_found _ bad.command.found) (refl, bad.first)
+    bad_gauge_after place bad = subst (λ (p : Text × List Row). IsBadGaugeAfter p.0 p.1 place)
+        (same_found _ bad.command.found) (refl, bad.first)
 
-    pub requested : (map : Map) (request : Request) → Names n rs map → request.map ≡ map → Spell sink_of (sink_words n rs) request.sinks → HasOptions rs request.tile request.workers request.scale → AreLimits request.tile request.workers request.scale
-        → request.progress ≡ is_given (codes "progress") rs → (IsView request.map → request.sinks ≡ []) → RequestFor words request
+    pub requested : (map : Map) (request : Request) →
+        Names n rs map → request.map ≡ map → Spell sink_of (sink_words n rs) request.sinks →
+        HasOptions rs request.tile request.workers request.scale →
+        AreLimits request.tile request.workers request.scale
+        → request.progress ≡ is_given (codes "progress") rs →
+        (IsView request.map → request.sinks ≡ []) → RequestFor words request
     requested map request named same spelled options limits progress view = record {
       name = n;
       rows = rs;
@@ -81,7 +95,8 @@ module _ (words : List Text) (accepted : fault_of program_app words ≡ []) wher
     }
 
     named_of_bad : (place : ℕ) (bad : HasBadSink words place) → Names n rs bad.map
-    named_of_bad place bad = subst (λ (p : Text × List Row). Names p.0 p.1 bad.map) (same_found _ bad.command.found) bad.named
+    named_of_bad place bad = subst (λ (p : Text × List Row).
+        Names p.0 p.1 bad.map) (same_found _ bad.command.found) bad.named
 
     pub map_refused : (f : WordsFault) → IsMapFault n rs f → IsFaultOf words f
     map_refused (Clap e) h = inl h
@@ -105,9 +120,11 @@ module _ (words : List Text) (accepted : fault_of program_app words ≡ []) wher
     )
 
     words_of_bad : (place : ℕ) → HasBadSink words place → IsFirstBad sink_of (sink_words n rs) place
-    words_of_bad place bad = subst (λ (p : Text × List Row). IsFirstBad sink_of (sink_words p.0 p.1) place) (same_found _ bad.command.found) bad.first
+    words_of_bad place bad = subst (λ (p : Text × List Row).
+        IsFirstBad sink_of (sink_words p.0 p.1) place) (same_found _ bad.command.found) bad.first
 
-    pub sinks_refused : (map : Map) → Names n rs map → (f : WordsFault) → IsFaultBy (λ _. ⊥) (λ _. ⊥) (IsFirstBad sink_of (sink_words n rs)) ⊥ f → IsFaultOf words f
+    pub sinks_refused : (map : Map) → Names n rs map → (f : WordsFault) →
+        IsFaultBy (λ _. ⊥) (λ _. ⊥) (IsFirstBad sink_of (sink_words n rs)) ⊥ f → IsFaultOf words f
     sinks_refused map named (Clap e) h = inl h
     sinks_refused map named (BadObserver place) h = absurd h
     sinks_refused map named (BadGauge place) h = absurd h
@@ -121,50 +138,69 @@ module _ (words : List Text) (accepted : fault_of program_app words ≡ []) wher
     }
     sinks_refused map named NoMap h = absurd h
 
-    pub options_refused : (map : Map) (sinks : List Place) → Names n rs map → Spell sink_of (sink_words n rs) sinks
-        → ((tile workers scale : ℕ) → AreLimits tile workers scale → HasOptions rs tile workers scale → ⊥) → IsFaultOf words NoMap
+    pub options_refused : (map : Map) (sinks : List Place) → Names n rs map →
+        Spell sink_of (sink_words n rs) sinks
+        → ((tile workers scale : ℕ) → AreLimits tile workers scale →
+        HasOptions rs tile workers scale → ⊥) → IsFaultOf words NoMap
     options_refused map sinks named spelled never = (
       accepted,
-      λ request w. never request.tile request.workers request.scale w.limits.in_limits (subst (λ (p : Text × List Row). HasOptions p.1 request.tile request.workers request.scale) (same_found _ w.command.found) w.options),
+      λ request w. never request.tile request.workers request.scale w.limits.in_limits (subst
+          (λ (p : Text × List Row). HasOptions p.1 request.tile request.workers request.scale)
+          (same_found _ w.command.found) w.options),
       λ place bad. map_without_bad n rs map place named (bad_after place bad),
       λ place bad. none_bad sink_of _ sinks place spelled (words_of_bad place bad),
       λ place bad. map_without_bad_gauge n rs map place named (bad_gauge_after place bad),
     )
 
-    pub bad_requests_none : (place : ℕ) → HasBadObserver words place → (request : Request) → ¬ RequestFor words request
-    bad_requests_none place bad request w = map_without_bad n rs request.map place (map_of_request request w) (bad_after place bad)
+    pub bad_requests_none : (place : ℕ) → HasBadObserver words place → (request : Request) →
+        ¬ RequestFor words request
+    bad_requests_none place bad request w =
+        map_without_bad n rs request.map place (map_of_request request w) (bad_after place bad)
 
-    pub bad_gauge_requests_none : (place : ℕ) → HasBadGauge words place → (request : Request) → ¬ RequestFor words request
-    bad_gauge_requests_none place bad request w = map_without_bad_gauge n rs request.map place (map_of_request request w) (bad_gauge_after place bad)
+    pub bad_gauge_requests_none : (place : ℕ) → HasBadGauge words place → (request : Request) →
+        ¬ RequestFor words request
+    bad_gauge_requests_none place bad request w = map_without_bad_gauge n rs request.map place
+        (map_of_request request w) (bad_gauge_after place bad)
 
-    pub bad_sink_requests_none : (place : ℕ) → HasBadSink words place → (request : Request) → ¬ RequestFor words request
+    pub bad_sink_requests_none : (place : ℕ) → HasBadSink words place → (request : Request) →
+        ¬ RequestFor words request
     bad_sink_requests_none place bad request w =
         none_bad sink_of _ request.sinks place
-        (subst (λ (p : Text × List Row). Spell sink_of (sink_words p.0 p.1) request.sinks) (same_found _ w.command.found) w.sinks)
+        (subst (λ (p : Text × List Row). Spell sink_of (sink_words p.0 p.1) request.sinks)
+        (same_found _ w.command.found) w.sinks)
         (words_of_bad place bad)
 
-    pub one_bad_sink : (place other : ℕ) → HasBadSink words place → HasBadSink words other → place ≡ other
-    one_bad_sink place other bad b = same_Some _ _ (sym (words_of_bad place bad) ∙ words_of_bad other b)
+    pub one_bad_sink : (place other : ℕ) → HasBadSink words place → HasBadSink words other →
+        place ≡ other
+    one_bad_sink place other bad b =
+        same_Some _ _ (sym (words_of_bad place bad) ∙ words_of_bad other b)
 
     pub bad_alone : (place other : ℕ) → HasBadObserver words place → HasBadSink words other → ⊥
-    bad_alone place other bad b = map_without_bad n rs b.map place (named_of_bad other b) (bad_after place bad)
+    bad_alone place other bad b =
+        map_without_bad n rs b.map place (named_of_bad other b) (bad_after place bad)
 
     pub bad_gauge_alone : (place other : ℕ) → HasBadGauge words place → HasBadSink words other → ⊥
-    bad_gauge_alone place other bad b = map_without_bad_gauge n rs b.map place (named_of_bad other b) (bad_gauge_after place bad)
+    bad_gauge_alone place other bad b =
+        map_without_bad_gauge n rs b.map place (named_of_bad other b) (bad_gauge_after place bad)
 
-    pub no_gauge_observed : (place other : ℕ) → HasBadGauge words place → HasBadObserver words other → ⊥
+    pub no_gauge_observed : (place other : ℕ) → HasBadGauge words place →
+        HasBadObserver words other → ⊥
     no_gauge_observed place other bad b =
-        let same : ◌≡◌ {A = ℕ} 99 118 = ap (λ (t : Text). slice_index t 0) (sym (bad_gauge_after place bad).0 ∙ (bad_after other b).0) in
+        let same : ◌≡◌ {A = ℕ} 99 118 = ap (λ (t : Text).
+        slice_index t 0) (sym (bad_gauge_after place bad).0 ∙ (bad_after other b).0) in
         absurd (omega arith)
 
-    pub one_bad_gauge : (place other : ℕ) → HasBadGauge words place → HasBadGauge words other → place ≡ other
+    pub one_bad_gauge : (place other : ℕ) → HasBadGauge words place → HasBadGauge words other →
+        place ≡ other
     one_bad_gauge place other bad b =
         same_Some _ _ (sym (bad_gauge_after place bad).1 ∙ (bad_gauge_after other b).1)
 
-    pub one_bad : (place other : ℕ) → HasBadObserver words place → HasBadObserver words other → place ≡ other
+    pub one_bad : (place other : ℕ) → HasBadObserver words place → HasBadObserver words other →
+        place ≡ other
     one_bad place other bad b =
         same_Some _ _ (sym (bad_after place bad).1 ∙ (bad_after other b).1)
 
-pub words_given_some : (words : List (Bor Text)) → eqb (length words) 0 ≡ false → words_given (map (λ w. w.now) words) ≡ map (λ w. w.now) words
+pub words_given_some : (words : List (Bor Text)) → eqb (length words) 0 ≡ false →
+    words_given (map (λ w. w.now) words) ≡ map (λ w. w.now) words
 words_given_some [] some = absurd (cc)
 words_given_some (w ∷ words) some = refl

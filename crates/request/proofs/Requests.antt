@@ -28,7 +28,8 @@ letter Basins = 115
 letter (Catchments gauges) = 116
 letter (View observers target radius) = 101
 
-name_letter : (name : Text) (rows : List Row) (m : Map) → Names name rows m → slice_index name 2 ≡ letter m
+name_letter : (name : Text) (rows : List Row) (m : Map) → Names name rows m →
+    slice_index name 2 ≡ letter m
 name_letter name rows Fill n = ap (λ (t : Text). slice_index t 2) n
 name_letter name rows Flow n = ap (λ (t : Text). slice_index t 2) n
 name_letter name rows Accumulate n = ap (λ (t : Text). slice_index t 2) n
@@ -40,9 +41,11 @@ same_somes : {X : Type 0} (xs ys : List X) → map Some xs ≡ map Some ys → x
 same_somes [] [] e = refl
 same_somes [] (y ∷ ys) e = absurd (cc)
 same_somes (x ∷ xs) [] e = absurd (cc)
-same_somes {X} (x ∷ xs) (y ∷ ys) e = ap₂ (λ (z : X) (zs : List X). z ∷ zs) (same_Some x y (ap (λ (zs : List (Option X)). get_or zs 0 None) e)) (same_somes xs ys (ap (drop 1) e))
+same_somes {X} (x ∷ xs) (y ∷ ys) e = ap₂ (λ (z : X) (zs : List X). z ∷ zs) (same_Some x y
+    (ap (λ (zs : List (Option X)). get_or zs 0 None) e)) (same_somes xs ys (ap (drop 1) e))
 
-one_letter : (name : Text) (rows : List Row) (m n : Map) → Names name rows m → Names name rows n → letter m ≡ letter n → AreSame m n
+one_letter : (name : Text) (rows : List Row) (m n : Map) → Names name rows m → Names name rows n →
+    letter m ≡ letter n → AreSame m n
 one_letter name rows Fill Fill a b e = refl
 one_letter name rows Fill Flow a b e = absurd (omega arith)
 one_letter name rows Fill Accumulate a b e = absurd (omega arith)
@@ -79,40 +82,58 @@ one_letter name rows (View observers target radius) Flow a b e = absurd (omega a
 one_letter name rows (View observers target radius) Accumulate a b e = absurd (omega arith)
 one_letter name rows (View observers target radius) Basins a b e = absurd (omega arith)
 one_letter name rows (View observers target radius) (Catchments gauges) a b e = absurd (omega arith)
-one_letter name rows (View observers target radius) (View others height reach) a b e =
-    (same_somes observers.items others.items (sym a.1 ∙ b.1), same_number rows (codes "target") target height a.2 b.2, same_number rows (codes "radius") radius reach a.3 b.3)
+one_letter name rows (View observers target radius) (View others height reach) a b e = (
+  same_somes observers.items others.items (sym a.1 ∙ b.1),
+  same_number rows (codes "target") target height a.2 b.2,
+  same_number rows (codes "radius") radius reach a.3 b.3,
+)
 
-pub one_request : (words : List Text) (request other : Request) → RequestFor words request → RequestFor words other →
+pub one_request : (words : List Text) (request other : Request) → RequestFor words request →
+    RequestFor words other →
     AreSame request.map other.map × (request.tile ≡ other.tile) × (request.workers ≡ other.workers)
-    × (request.scale ≡ other.scale) × (request.sinks ≡ other.sinks) × (request.progress ≡ other.progress)
+    × (request.scale ≡ other.scale) × (request.sinks ≡ other.sinks)
+    × (request.progress ≡ other.progress)
 one_request words request other a b =
     let command = same_Some _ _ (sym b.command.found ∙ a.command.found) in
     let map = subst (λ (p : Text × List Row). Names p.0 p.1 other.map) command b.map in
-    let options = subst (λ (p : Text × List Row). HasOptions p.1 other.tile other.workers other.scale) command b.options in (
-      one_letter a.name a.rows request.map other.map a.map map (sym (name_letter a.name a.rows request.map a.map) ∙ name_letter a.name a.rows other.map map),
+    let options = subst (λ (p : Text × List Row).
+    HasOptions p.1 other.tile other.workers other.scale) command b.options in (
+      one_letter a.name a.rows request.map other.map a.map map (sym
+          (name_letter a.name a.rows request.map a.map) ∙ name_letter a.name a.rows other.map map),
       same_number a.rows (codes "tile") _ _ a.options.0 options.0,
       same_number a.rows (codes "workers") _ _ a.options.1 options.1,
       same_number a.rows (codes "scale") _ _ a.options.2 options.2,
-      same_somes request.sinks other.sinks (sym a.sinks ∙ subst (λ (p : Text × List Row). Spell sink_of (sink_words p.0 p.1) other.sinks) command b.sinks),
-      a.progress ∙ ap (λ (p : Text × List Row). is_given (codes "progress") p.1) (sym command) ∙ sym b.progress,
+      same_somes request.sinks other.sinks (sym a.sinks ∙ subst (λ (p : Text × List Row).
+          Spell sink_of (sink_words p.0 p.1) other.sinks) command b.sinks),
+      a.progress ∙ ap (λ (p : Text × List Row). is_given (codes "progress") p.1) (sym command)
+          ∙ sym b.progress,
     )
 
 none_any : (P : ErrorKind → Type 0) (ks : Kinds) → ks ≡ [] → Any P ks → ⊥
 none_any P ks none any = let some = subst (Any P) none any in absurd (omega (arith, some.2))
 
-pub request_accepted : (words : List Text) (request : Request) → RequestFor words request → ¬ AskForHelp words × ¬ AreRefused words
+pub request_accepted : (words : List Text) (request : Request) → RequestFor words request →
+    ¬ AskForHelp words × ¬ AreRefused words
 request_accepted words request w = (
   none_any IsHelp _ w.command.accepted,
-  λ refused. elim refused [ inl fault ↦ none_any (λ kind. ¬ IsHelp kind) _ w.command.accepted fault | inr none ↦ none.1 request w ],
+  λ refused. elim refused [
+    | inl fault ↦
+        none_any (λ kind. ¬ IsHelp kind) _ w.command.accepted fault
+    | inr none ↦ none.1 request w
+  ],
 )
 
 abbrev rows_in : List Text → List Row
 rows_in words = option_map_or (λ p. p.1) (subcommand_of program_app words) []
 
-spelled : (rows : List Row) (id text : Text) (n : ℕ) → one_of id rows ≡ Some text → IsNumeral 10 (without_leading_plus text) → digits_value 10 (without_leading_plus text) ≡ n → n < 2 ^ 32 → HasNumber rows id n
-spelled rows id text n given numeral value small = record { text = text; given = given; numeral = numeral; spelled = value; small = small }
+spelled : (rows : List Row) (id text : Text) (n : ℕ) → one_of id rows ≡ Some text →
+    IsNumeral 10 (without_leading_plus text) → digits_value 10 (without_leading_plus text) ≡ n →
+    n < 2 ^ 32 → HasNumber rows id n
+spelled rows id text n given numeral value small =
+    record { text = text; given = given; numeral = numeral; spelled = value; small = small }
 
-default_options : (given : List Row) → one_of (codes "tile") given ≡ Some (codes "256") → one_of (codes "workers") given ≡ Some (codes "1")
+default_options : (given : List Row) → one_of (codes "tile") given ≡ Some (codes "256") →
+    one_of (codes "workers") given ≡ Some (codes "1")
     → one_of (codes "scale") given ≡ Some (codes "0") → HasOptions given 256 1 0
 default_options given tile workers scale = (
   spelled given (codes "tile") (codes "256") 256 tile (search rules) refl (omega arith),
@@ -153,7 +174,8 @@ basins_of_sinks = record {
 }
 
 abbrev catchments_words : List Text
-catchments_words = codes "relief" ∷ codes "catchments" ∷ codes "--progress" ∷ codes "--sink" ∷ codes "1,2"
+catchments_words =
+    codes "relief" ∷ codes "catchments" ∷ codes "--progress" ∷ codes "--sink" ∷ codes "1,2"
     ∷ codes "--sink" ∷ codes "0,3" ∷ codes "4,5" ∷ []
 
 pub catchments_of_a_gauge : CatchmentsOfAGauge
@@ -181,8 +203,10 @@ view_with_radius observers one = record {
   map = (
     refl,
     ap (λ (os : List Observer). map Some os) (sym one),
-    spelled (rows_in view_words) (codes "target") (codes "0") 0 refl (search rules) refl (omega arith),
-    spelled (rows_in view_words) (codes "radius") (codes "5") 5 refl (search rules) refl (omega arith),
+    spelled (rows_in view_words) (codes "target") (codes "0") 0 refl (search rules) refl
+        (omega arith),
+    spelled (rows_in view_words) (codes "radius") (codes "5") 5 refl (search rules) refl
+        (omega arith),
   );
   sinks = refl;
   options = default_options (rows_in view_words) refl refl refl;
@@ -192,7 +216,13 @@ view_with_radius observers one = record {
 
 pub no_side_of_zero : NoSideOfZero
 unfolding clap_on_literals
-no_side_of_zero = inl (0, kind.ValueValidation, omega arith, refl, λ help. elim help [ inl same ↦ cc | inr same ↦ cc ])
+no_side_of_zero = inl (
+  0,
+  kind.ValueValidation,
+  omega arith,
+  refl,
+  λ help. elim help [ inl same ↦ cc | inr same ↦ cc ],
+)
 
 pub help_of_view : HelpOfView
 unfolding clap_on_literals

@@ -16,16 +16,21 @@ pub swapped : (a b : ℕ) → a * b ≡ b * a
 swapped a b = omega arith
 
 -- a bound of a bound is a bound
-pub top_over : (top result : Option ℤ) (h : ℤ) → ((m : ℤ) → top ≡ Some m → IsTopOf result m) → IsTopOf top h → IsTopOf result h
+pub top_over : (top result : Option ℤ) (h : ℤ) → ((m : ℤ) → top ≡ Some m → IsTopOf result m) →
+    IsTopOf top h → IsTopOf result h
 top_over None result h over is = absurd is
 top_over (Some m) None h over is = over m refl
-top_over (Some m) (Some r) h over is = let above : m ≤ℤ r = over m refl in omega (arith, ints, is, above)
+top_over (Some m) (Some r) h over is = let above : m ≤ℤ r = over m refl in
+    omega (arith, ints, is, above)
 
-pub run_at : (cells : List (Option ℤ)) (a b i : ℕ) → i < b - a → get_or (slice_range cells a b) i None ≡ get_or cells (a + i) None
-run_at cells a b i below = get_or-take (b - a) (drop a cells) i None below ∙ get_or-drop a cells i None
+pub run_at : (cells : List (Option ℤ)) (a b i : ℕ) → i < b - a →
+    get_or (slice_range cells a b) i None ≡ get_or cells (a + i) None
+run_at cells a b i below = get_or-take (b - a) (drop a cells) i None below
+    ∙ get_or-drop a cells i None
 
 -- row r of a block is at or past the block's first row, and before the next block's
-pub in_block : (size r block : ℕ) → 0 < size → r / size ≡ block → (block * size ≤ r) × (r < block * size + size)
+pub in_block : (size r block : ℕ) → 0 < size → r / size ≡ block → (block * size ≤ r)
+    × (r < block * size + size)
 in_block size r block some is =
     let parts = div-add-mod' r size in
     let small = mod_below r size some in
@@ -34,23 +39,38 @@ in_block size r block some is =
 
 pub few_blocks : (size cells : ℕ) → 0 < size → blocks_in size cells ≤ cells
 few_blocks size cells some = elim (cases_lt cells (blocks_in size cells)) [
-  | inl more ↦ absurd (omega (arith, more, div-add-mod' (cells + (size - 1)) size, mul-le (cells + 1) size (blocks_in size cells) size (omega arith) (omega arith), mul-le cells 1 cells size (omega arith) (omega arith)))
+  | inl more ↦ absurd (omega (
+    arith,
+    more,
+    div-add-mod' (cells + (size - 1)) size,
+    mul-le (cells + 1) size (blocks_in size cells) size (omega arith) (omega arith),
+    mul-le cells 1 cells size (omega arith) (omega arith),
+  ))
   | inr few ↦ few
 ]
 
 -- the list of the blocks' heights is a ground
-pub ground_of_tops : (size : ℕ) (t : Terrain) (tops : List (Option ℤ)) → 0 < size → (1 ≤ t.cols) × (t.cols ≤ 4096) → (1 ≤ t.rows) × (t.rows ≤ 4096) → AreTops size t tops
+pub ground_of_tops : (size : ℕ) (t : Terrain) (tops : List (Option ℤ)) → 0 < size →
+    (1 ≤ t.cols) × (t.cols ≤ 4096) → (1 ≤ t.rows) × (t.rows ≤ 4096) → AreTops size t tops
     → IsGround (blocks_in size t.cols) (blocks_in size t.rows) tops
 ground_of_tops size t tops some cols rows are = record {
-  cols_in = (omega (arith, block_before size 0 t.cols some (omega arith)), omega (arith, few_blocks size t.cols some));
-  rows_in = (omega (arith, block_before size 0 t.rows some (omega arith)), omega (arith, few_blocks size t.rows some));
+  cols_in = (
+    omega (arith, block_before size 0 t.cols some (omega arith)),
+    omega (arith, few_blocks size t.cols some),
+  );
+  rows_in = (
+    omega (arith, block_before size 0 t.rows some (omega arith)),
+    omega (arith, few_blocks size t.rows some),
+  );
   size = are.count ∙ swapped (blocks_in size t.rows) (blocks_in size t.cols);
   heights = are.heights;
 }
 
 -- the greatest heights of a terrain without its sinks are those of the terrain
-pub tops_of_ground : (size : ℕ) (t : Terrain) (tops : List (Option ℤ)) → AreTops size (ground_of t.cols t.rows t.cells) tops → AreTops size t tops
-tops_of_ground size t tops are = record { count = are.count; heights = are.heights; above = are.above }
+pub tops_of_ground : (size : ℕ) (t : Terrain) (tops : List (Option ℤ)) →
+    AreTops size (ground_of t.cols t.rows t.cells) tops → AreTops size t tops
+tops_of_ground size t tops are =
+    record { count = are.count; heights = are.heights; above = are.above }
 
 -- blocks of 8 by 8 near blocks are far blocks
 in_blocks : (cells : ℕ) → blocks_in 8 (blocks_in 16 cells) ≡ blocks_in 128 cells
@@ -59,21 +79,28 @@ in_blocks cells = omega arith
 in_block_of_blocks : (n : ℕ) → n / 16 / 8 ≡ n / 128
 in_block_of_blocks n = omega arith
 
-pub tops_of_tops : (t : Terrain) (near far : List (Option ℤ)) → AreTops 16 t near → AreTops 8 (ground_of (blocks_in 16 t.cols) (blocks_in 16 t.rows) near) far → AreTops 128 t far
+pub tops_of_tops : (t : Terrain) (near far : List (Option ℤ)) → AreTops 16 t near →
+    AreTops 8 (ground_of (blocks_in 16 t.cols) (blocks_in 16 t.rows) near) far → AreTops 128 t far
 tops_of_tops t near far low high = record {
-  count = high.count ∙ ap (λ n. n * blocks_in 8 (blocks_in 16 t.cols)) (in_blocks t.rows) ∙ ap (λ n. blocks_in 128 t.rows * n) (in_blocks t.cols);
+  count = high.count ∙ ap (λ n. n * blocks_in 8 (blocks_in 16 t.cols)) (in_blocks t.rows)
+      ∙ ap (λ n. blocks_in 128 t.rows * n) (in_blocks t.cols);
   heights = high.heights;
   above = λ p h is.
       let inside = inside_from_entry t.cols t.rows t.cells p h is in
       let q = make_place (p.row / 16) (p.col / 16) in
       let row : q.row < blocks_in 16 t.rows = block_before 16 p.row t.rows (omega arith) inside.0 in
       let col : q.col < blocks_in 16 t.cols = block_before 16 p.col t.cols (omega arith) inside.1 in
-      let at : block_of 8 (ground_of (blocks_in 16 t.cols) (blocks_in 16 t.rows) near) q ≡ block_of 128 t p =
+      let at : block_of 8 (ground_of (blocks_in 16 t.cols) (blocks_in 16 t.rows) near) q
+      ≡ block_of 128 t p =
       ap (λ n. n * blocks_in 8 (blocks_in 16 t.cols) + q.col / 8) (in_block_of_blocks p.row)
-      ∙ ap (λ n. p.row / 128 * n + q.col / 8) (in_blocks t.cols) ∙ ap (λ n. p.row / 128 * blocks_in 128 t.cols + n) (in_block_of_blocks p.col) in
-      let over : (m : ℤ) → get_or near (block_of 16 t p) None ≡ Some m → IsTopOf (get_or far (block_of 128 t p) None) m =
-      λ m top. subst (λ n. IsTopOf (get_or far n None) m) at (high.above q m (entry-inside (blocks_in 16 t.cols) (blocks_in 16 t.rows) near q row col ∙ top)) in
-      top_over (get_or near (block_of 16 t p) None) (get_or far (block_of 128 t p) None) h over (low.above p h is);
+      ∙ ap (λ n. p.row / 128 * n + q.col / 8) (in_blocks t.cols)
+      ∙ ap (λ n. p.row / 128 * blocks_in 128 t.cols + n) (in_block_of_blocks p.col) in
+      let over : (m : ℤ) → get_or near (block_of 16 t p) None ≡ Some m →
+      IsTopOf (get_or far (block_of 128 t p) None) m =
+      λ m top. subst (λ n. IsTopOf (get_or far n None) m) at (high.above q m
+      (entry-inside (blocks_in 16 t.cols) (blocks_in 16 t.rows) near q row col ∙ top)) in
+      top_over (get_or near (block_of 16 t p) None) (get_or far (block_of 128 t p) None) h over
+      (low.above p h is);
 }
 
 pub no_tops : (size : ℕ) (t : Terrain) (from : ℕ) → AreTopsBetween size t from from []
@@ -115,7 +142,8 @@ joined_tops size t from between to first next left right = record {
   count = omega (arith, length-append first next);
   heights = λ i h is. elim (cases_lt i (length first)) [
     | inl low ↦ left.heights i h (sym (get_or-append first next None i low) ∙ is)
-    | inr high ↦ right.heights (i - length first) h (sym (get_or-append_right first next i None high) ∙ is)
+    | inr high ↦
+        right.heights (i - length first) h (sym (get_or-append_right first next i None high) ∙ is)
   ];
   above = λ p h low high is. elim (cases_lt (block_of size t p) between) [
     | inl before ↦
@@ -123,7 +151,8 @@ joined_tops size t from between to first next left right = record {
         rw at (left.above p h low before is)
     | inr behind ↦
         let at = get_or-append_right first next (block_of size t p - from) None (omega arith) in
-        let place : block_of size t p - from - length first ≡ block_of size t p - between = omega arith in
+        let place : block_of size t p - from - length first ≡ block_of size t p - between =
+        omega arith in
         rw (at, place) (right.above p h behind high is)
   ];
 }
@@ -137,8 +166,10 @@ all_tops size t tops some are = record {
       let inside = inside_from_entry t.cols t.rows t.cells p h is in
       let row = block_before size p.row t.rows some inside.0 in
       let col = block_before size p.col t.cols some inside.1 in
-      let below = mul-add-lt (p.row / size) (blocks_in size t.cols) (p.col / size) (blocks_in size t.rows) row col in
+      let below = mul-add-lt (p.row / size) (blocks_in size t.cols) (p.col / size)
+      (blocks_in size t.rows) row col in
       let own : block_of size t p - 0 ≡ block_of size t p = omega arith in
       subst (λ n. IsTopOf (get_or tops n None) h) own
-      (are.above p h (omega arith) (omega (arith, below, swapped (blocks_in size t.rows) (blocks_in size t.cols))) is);
+      (are.above p h (omega arith)
+      (omega (arith, below, swapped (blocks_in size t.rows) (blocks_in size t.cols))) is);
 }

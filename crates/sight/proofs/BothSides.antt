@@ -19,26 +19,35 @@ rises : (e g h : ℤ) → g +ℤ h ≡ e +ℤ ((g +ℤ h) -ℤ e)
 rises e g h = omega (arith, ints)
 
 -- the walk to a cell of line n is blocked exactly where a line before line n blocks the cell
-lines_block : (cells : List (Option ℤ)) (f : Family) (height n x y : ℕ) → lead_of f n ≡ x → abs_diff f.lines.at x ≡ n
-    → walk_blocks cells (sightline_to cells f height x y) ≡ is_blocked_before cells f n y (rise_at cells f height n y) n
+lines_block : (cells : List (Option ℤ)) (f : Family) (height n x y : ℕ) → lead_of f n ≡ x →
+    abs_diff f.lines.at x ≡ n
+    → walk_blocks cells (sightline_to cells f height x y)
+    ≡ is_blocked_before cells f n y (rise_at cells f height n y) n
 lines_block cells f height n x y at away =
-    let level : ℕ → ℤ = λ to. unwrap_or (get_or cells (to * f.lines.stride + y * f.side.stride) None) (pos 0) in
+    let level : ℕ → ℤ =
+    λ to. unwrap_or (get_or cells (to * f.lines.stride + y * f.side.stride) None) (pos 0) in
     let axis : ℕ → Axis = λ to. record { from = f.lines.at; to = to; stride = f.lines.stride } in
-    let high = ap (λ to. level to +ℤ pos height) (sym at) ∙ rises f.eye (level (lead_of f n)) (pos height) in
-    walk_is_blocked cells f n y (rise_at cells f height n y) (sightline_to cells f height x y) (ap axis (sym at)) refl refl high away
+    let high = ap (λ to. level to +ℤ pos height) (sym at)
+    ∙ rises f.eye (level (lead_of f n)) (pos height) in
+    walk_is_blocked cells f n y (rise_at cells f height n y) (sightline_to cells f height x y)
+    (ap axis (sym at)) refl refl high away
 
 -- no crossing is between the observer and the next line
-none_between : (cells : List (Option ℤ)) (l : Sightline) → steps_of l ≤ 1 → walk_blocks cells l ≡ false
+none_between : (cells : List (Option ℤ)) (l : Sightline) → steps_of l ≤ 1 →
+    walk_blocks cells l ≡ false
 none_between cells l few =
     let none : steps_of l - 1 ≡ 0 = omega arith in
-    ap (λ m. list_any (λ k. step_blocks cells l.lead l.side l.from_level l.to_level (steps_of l) k) (range_with_len 1 m)) none
+    ap (λ m. list_any (λ k. step_blocks cells l.lead l.side l.from_level l.to_level (steps_of l) k)
+    (range_with_len 1 m)) none
 
 unchanged : (m b : Bool) → b ≡ false → m ≡ (m && not b)
 unchanged true b e = rw e refl
 unchanged false b e = refl
 
-pub both_sides : (cells : List (Option ℤ)) (f : Family) (w : Window) (height : ℕ) (old mid new : List Bool) → f.lines.at < 4096 → w.lines.first + w.lines.cells ≤ 4096
-    → AreHidden cells (facing f false) w height old mid → AreHidden cells (facing f true) w height mid new → AreOpen cells f w height old new
+pub both_sides : (cells : List (Option ℤ)) (f : Family) (w : Window) (height : ℕ)
+    (old mid new : List Bool) → f.lines.at < 4096 → w.lines.first + w.lines.cells ≤ 4096
+    → AreHidden cells (facing f false) w height old mid →
+    AreHidden cells (facing f true) w height mid new → AreOpen cells f w height old new
 both_sides cells f w height old mid new few inside one two = record {
   size = two.size ∙ one.size;
   each = λ x y in_lines in_side.
@@ -53,8 +62,10 @@ both_sides cells f w height old mid new few inside one two = record {
             } in
             two.kept x y in_lines in_side (λ m c e. omega (arith, e, c.later))
             ∙ ap (λ z. mark_in_window w z y mid) (sym at) ∙ one.crossed n y crosses in_side
-            ∙ ap (λ b. mark_in_window w (f.lines.at + n) y old && not b) (sym (lines_block cells (facing f false) height n x y at (omega arith)))
-            ∙ ap (λ z. mark_in_window w z y old && not (walk_blocks cells (sightline_to cells f height x y))) at
+            ∙ ap (λ b. mark_in_window w (f.lines.at + n) y old
+            && not b) (sym (lines_block cells (facing f false) height n x y at (omega arith)))
+            ∙ ap (λ z. mark_in_window w z y old
+            && not (walk_blocks cells (sightline_to cells f height x y))) at
         | inr not_ahead ↦ elim (cases_lt (x + 1) f.lines.at) [
           | inl behind ↦
               let n = f.lines.at - x in
@@ -64,15 +75,19 @@ both_sides cells f w height old mid new few inside one two = record {
                 line = (omega arith, omega arith, λ e. omega arith);
                 within = (omega arith, omega arith);
               } in
-              let before : mark_in_window w x y mid ≡ mark_in_window w x y old = one.kept x y in_lines in_side (λ m c e. omega (arith, e, c.later)) in
+              let before : mark_in_window w x y mid ≡ mark_in_window w x y old =
+              one.kept x y in_lines in_side (λ m c e. omega (arith, e, c.later)) in
               ap (λ z. mark_in_window w z y new) (sym at) ∙ two.crossed n y crosses in_side
-              ∙ ap (λ b. mark_in_window w (f.lines.at - n) y mid && not b) (sym (lines_block cells (facing f true) height n x y at (omega arith)))
-              ∙ ap (λ z. mark_in_window w z y mid && not (walk_blocks cells (sightline_to cells f height x y))) at
+              ∙ ap (λ b. mark_in_window w (f.lines.at - n) y mid
+              && not b) (sym (lines_block cells (facing f true) height n x y at (omega arith)))
+              ∙ ap (λ z. mark_in_window w z y mid
+              && not (walk_blocks cells (sightline_to cells f height x y))) at
               ∙ ap (λ m. m && not (walk_blocks cells (sightline_to cells f height x y))) before
           | inr beside ↦
               two.kept x y in_lines in_side (λ m c e. omega (arith, e, c.later, c.line.2 refl))
               ∙ one.kept x y in_lines in_side (λ m c e. omega (arith, e, c.later))
-              ∙ unchanged (mark_in_window w x y old) (walk_blocks cells (sightline_to cells f height x y)) (none_between cells (sightline_to cells f height x y) (omega arith))
+              ∙ unchanged (mark_in_window w x y old) (walk_blocks cells (sightline_to cells f height
+              x y)) (none_between cells (sightline_to cells f height x y) (omega arith))
         ]
       ];
 }

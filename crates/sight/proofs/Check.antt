@@ -31,7 +31,8 @@ parts_of x y a b s small_y small_b e = elim (cases_lt x a) [
   ]
 ]
 
-same_cell : (w : Window) (x y a b : ℕ) → IsApart w → IsInRun w.lines x → IsInRun w.side y → IsInRun w.lines a → IsInRun w.side b → mark_index w x y ≡ mark_index w a b → (x ≡ a) × (y ≡ b)
+same_cell : (w : Window) (x y a b : ℕ) → IsApart w → IsInRun w.lines x → IsInRun w.side y →
+    IsInRun w.lines a → IsInRun w.side b → mark_index w x y ≡ mark_index w a b → (x ≡ a) × (y ≡ b)
 same_cell w x y a b is in_x in_y in_a in_b e =
     let r = x - w.lines.first in
     let c = y - w.side.first in
@@ -39,58 +40,79 @@ same_cell w x y a b is in_x in_y in_a in_b e =
     let d = b - w.side.first in
     elim is.apart [
       | inl h ↦
-          let here : r * w.lines.stride + c ≡ q * w.lines.stride + d = omega (arith, e, ap (λ k. c * k) h.0, ap (λ k. d * k) h.0) in
-          let same = parts_of r c q d w.lines.stride (omega (arith, h.1, in_y)) (omega (arith, h.1, in_b)) here in
+          let here : r * w.lines.stride + c ≡ q * w.lines.stride + d =
+          omega (arith, e, ap (λ k. c * k) h.0, ap (λ k. d * k) h.0) in
+          let same = parts_of r c q d w.lines.stride (omega (arith, h.1, in_y))
+          (omega (arith, h.1, in_b)) here in
           (omega (arith, same.0, in_x, in_a), omega (arith, same.1, in_y, in_b))
       | inr h ↦
-          let here : c * w.side.stride + r ≡ d * w.side.stride + q = omega (arith, e, ap (λ k. r * k) h.0, ap (λ k. q * k) h.0) in
-          let same = parts_of c r d q w.side.stride (omega (arith, h.1, in_x)) (omega (arith, h.1, in_a)) here in
+          let here : c * w.side.stride + r ≡ d * w.side.stride + q =
+          omega (arith, e, ap (λ k. r * k) h.0, ap (λ k. q * k) h.0) in
+          let same = parts_of c r d q w.side.stride (omega (arith, h.1, in_x))
+          (omega (arith, h.1, in_a)) here in
           (omega (arith, same.1, in_x, in_a), omega (arith, same.0, in_y, in_b))
     ]
 
 -- different lines have different coordinates
-line_from : (back : Bool) (at m n : ℕ) → (back ≡ true → m ≤ at) → (back ≡ true → n ≤ at) → (if back then at - m else at + m) ≡ (if back then at - n else at + n) → m ≡ n
+line_from : (back : Bool) (at m n : ℕ) → (back ≡ true → m ≤ at) → (back ≡ true → n ≤ at) →
+    (if back then at - m else at + m) ≡ (if back then at - n else at + n) → m ≡ n
 line_from true at m n a b e =
     let p : m ≤ at = a refl in
     let q : n ≤ at = b refl in
     omega arith
 line_from false at m n a b e = omega arith
 
-near_line : (back : Bool) (at n : ℕ) → at < 4096 → (back ≡ true → n ≤ at) → (if back then at - n else at + n) < 4096 → n < 4096
+near_line : (back : Bool) (at n : ℕ) → at < 4096 → (back ≡ true → n ≤ at) →
+    (if back then at - n else at + n) < 4096 → n < 4096
 near_line true at n few a is =
     let p : n ≤ at = a refl in
     omega arith
 near_line false at n few a is = omega arith
 
-pub ray_is_target : (f : Family) (w : Window) (marks : List Bool) (t : Target) → IsFamily f → IsWindow f w marks → IsRay f w t → IsTarget t
+pub ray_is_target : (f : Family) (w : Window) (marks : List Bool) (t : Target) → IsFamily f →
+    IsWindow f w marks → IsRay f w t → IsTarget t
 ray_is_target f w marks t is_f is_w ray = record {
-  line = (omega (arith, ray.crosses.later), near_line f.lines.back f.lines.at t.line is_f.lines ray.crosses.line.2 (omega (arith, ray.crosses.within, is_w.lines)));
+  line = (
+    omega (arith, ray.crosses.later),
+    near_line f.lines.back f.lines.at t.line is_f.lines ray.crosses.line.2
+        (omega (arith, ray.crosses.within, is_w.lines)),
+  );
   offset = omega (arith, ints, ray.stands.offset, ray.stands.side, is_f.side, is_f.cells);
 }
 
-pub ray_at : (f : Family) (w : Window) (marks : List Bool) (rays same : List Target) (n : ℕ) → same ≡ rays → n < length same → AreRays f w marks 4097 0 rays → IsRay f w (get_or same n (record { offset = pos 0; line = 0 }))
+pub ray_at : (f : Family) (w : Window) (marks : List Bool) (rays same : List Target) (n : ℕ) →
+    same ≡ rays → n < length same → AreRays f w marks 4097 0 rays →
+    IsRay f w (get_or same n (record { offset = pos 0; line = 0 }))
 ray_at f w marks rays same n e within are =
     let at = slice_get-get_or same n (record { offset = pos 0; line = 0 }) within in
-    (are.each n (get_or same n (record { offset = pos 0; line = 0 })) (ap (λ xs. slice_get xs n) (sym e) ∙ at)).0
+    (are.each n (get_or same n (record { offset = pos 0; line = 0 }))
+    (ap (λ xs. slice_get xs n) (sym e) ∙ at)).0
 
 -- the target of a ray is at its rank among the targets
-pub rank_at : (rays targets : List Target) (ranks : List ℕ) (n rank : ℕ) → n < length rays → IsRanked rays targets ranks → rank ≡ get_or ranks n rank
+pub rank_at : (rays targets : List Target) (ranks : List ℕ) (n rank : ℕ) → n < length rays →
+    IsRanked rays targets ranks → rank ≡ get_or ranks n rank
     → slice_get targets rank ≡ Some (get_or rays n (record { offset = pos 0; line = 0 }))
 rank_at rays targets ranks n rank within are at =
     let t = get_or rays n (record { offset = pos 0; line = 0 }) in
-    let has : slice_get ranks n ≡ Some rank = slice_get_read ranks (length ranks) n rank refl (omega (arith, are.size)) at in
-    ap (slice_get targets) (sym (get_or_from_slice_get ranks n rank 0 has)) ∙ are.each n t (slice_get-get_or rays n (record { offset = pos 0; line = 0 }) within)
+    let has : slice_get ranks n ≡ Some rank =
+    slice_get_read ranks (length ranks) n rank refl (omega (arith, are.size)) at in
+    ap (slice_get targets) (sym (get_or_from_slice_get ranks n rank 0 has))
+    ∙ are.each n t (slice_get-get_or rays n (record { offset = pos 0; line = 0 }) within)
 
 -- a lookup at line k stays one if only its cursor and its last rank change
-pub looked_on : (cells : List (Option ℤ)) (f : Family) (targets : List Target) (k : ℕ) (old new : SweepLookup) → LooksFrom cells f targets k old → new.line ≡ old.line → new.sweep ≡ old.sweep
+pub looked_on : (cells : List (Option ℤ)) (f : Family) (targets : List Target) (k : ℕ) (old new :
+    SweepLookup) → LooksFrom cells f targets k old → new.line ≡ old.line → new.sweep ≡ old.sweep
     → IsUpTo new.sweep.highest new.cursor new.last → LooksFrom cells f targets new.line new
 looked_on cells f targets k old new were line sweep cursor = record {
   line = refl;
-  hides = subst (λ (n : ℕ). HidesBefore cells f targets n new.sweep.highest) (sym (line ∙ were.line)) (subst (λ (s : Sweep). HidesBefore cells f targets k s.highest) (sym sweep) were.hides);
+  hides =
+      subst (λ (n : ℕ). HidesBefore cells f targets n new.sweep.highest) (sym (line ∙ were.line))
+      (subst (λ (s : Sweep). HidesBefore cells f targets k s.highest) (sym sweep) were.hides);
   cursor = cursor;
 }
 
-pub window_kept : (f : Family) (w : Window) (old new : List Bool) → length new ≡ length old → IsWindow f w old → IsWindow f w new
+pub window_kept : (f : Family) (w : Window) (old new : List Bool) → length new ≡ length old →
+    IsWindow f w old → IsWindow f w new
 window_kept f w old new size is = record {
   lines = is.lines;
   first = is.first;
@@ -104,27 +126,39 @@ and_true true b h = h
 and_true false b h = refl
 
 -- the new mark of a cell that is blocked, and of one that is not
-left_blocked : (cells : List (Option ℤ)) (f : Family) (w : Window) (height : ℕ) (old : List Bool) (n y : ℕ) → is_blocked_before cells f n y (rise_at cells f height n y) n ≡ true → mark_left cells f w height old n y ≡ false
-left_blocked cells f w height old n y is = and_right (mark_in_window w (lead_of f n) y old) _ (ap not is)
+left_blocked : (cells : List (Option ℤ)) (f : Family) (w : Window) (height : ℕ) (old : List Bool)
+    (n y : ℕ) → is_blocked_before cells f n y (rise_at cells f height n y) n ≡ true →
+    mark_left cells f w height old n y ≡ false
+left_blocked cells f w height old n y is =
+    and_right (mark_in_window w (lead_of f n) y old) _ (ap not is)
 
-left_open : (cells : List (Option ℤ)) (f : Family) (w : Window) (height : ℕ) (old : List Bool) (n y : ℕ) → is_blocked_before cells f n y (rise_at cells f height n y) n ≡ false
+left_open : (cells : List (Option ℤ)) (f : Family) (w : Window) (height : ℕ) (old : List Bool)
+    (n y : ℕ) → is_blocked_before cells f n y (rise_at cells f height n y) n ≡ false
     → mark_left cells f w height old n y ≡ mark_in_window w (lead_of f n) y old
-left_open cells f w height old n y is = and_true (mark_in_window w (lead_of f n) y old) _ (ap not is)
+left_open cells f w height old n y is =
+    and_true (mark_in_window w (lead_of f n) y old) _ (ap not is)
 
 -- a target of the family is at one line and cell
-same_target : (f : Family) (t : Target) (m z y : ℕ) → IsAtCell f y t → t ≡ target_at f m z → (m ≡ t.line) × (z ≡ y)
-same_target f t m z y stands e = (ap (λ q. q.line) (sym e), omega (arith, ints, stands.offset, ap (λ q. q.offset) e))
+same_target : (f : Family) (t : Target) (m z y : ℕ) → IsAtCell f y t → t ≡ target_at f m z →
+    (m ≡ t.line) × (z ≡ y)
+same_target f t m z y stands e =
+    (ap (λ q. q.line) (sym e), omega (arith, ints, stands.offset, ap (λ q. q.offset) e))
 
 -- the marks after a check of the cells of the rays below index `end`
-pub record AreHiddenBelow (cells : List (Option ℤ)) (f : Family) (w : Window) (height : ℕ) (rays : List Target) (end : ℕ) (old new : List Bool) : Type 0 where
+pub record AreHiddenBelow (cells : List (Option ℤ)) (f : Family) (w : Window) (height : ℕ)
+    (rays : List Target) (end : ℕ) (old new : List Bool) : Type 0 where
   pub size : length new ≡ length old
-  pub asked : (u n y : ℕ) → u < end → slice_get rays u ≡ Some (target_at f n y) → Crosses f w n → IsInRun w.side y
+  pub asked : (u n y : ℕ) → u < end → slice_get rays u ≡ Some (target_at f n y) → Crosses f w n →
+      IsInRun w.side y
       → mark_in_window w (lead_of f n) y new ≡ mark_left cells f w height old n y
   pub crossed : (n y : ℕ) → Crosses f w n → IsInRun w.side y
-      → (mark_in_window w (lead_of f n) y new ≡ mark_in_window w (lead_of f n) y old) ⊎ (mark_in_window w (lead_of f n) y new ≡ mark_left cells f w height old n y)
-  pub kept : (x y : ℕ) → IsInRun w.lines x → IsInRun w.side y → ((n : ℕ) → Crosses f w n → lead_of f n ≡ x → ⊥) → mark_in_window w x y new ≡ mark_in_window w x y old
+      → (mark_in_window w (lead_of f n) y new ≡ mark_in_window w (lead_of f n) y old)
+      ⊎ (mark_in_window w (lead_of f n) y new ≡ mark_left cells f w height old n y)
+  pub kept : (x y : ℕ) → IsInRun w.lines x → IsInRun w.side y → ((n : ℕ) → Crosses f w n →
+      lead_of f n ≡ x → ⊥) → mark_in_window w x y new ≡ mark_in_window w x y old
 
-pub none_asked : (cells : List (Option ℤ)) (f : Family) (w : Window) (height : ℕ) (rays : List Target) (marks : List Bool) → AreHiddenBelow cells f w height rays 0 marks marks
+pub none_asked : (cells : List (Option ℤ)) (f : Family) (w : Window) (height : ℕ)
+    (rays : List Target) (marks : List Bool) → AreHiddenBelow cells f w height rays 0 marks marks
 none_asked cells f w height rays marks = record {
   size = refl;
   asked = λ u n y below at crosses in_y. absurd (omega arith);
@@ -132,20 +166,34 @@ none_asked cells f w height rays marks = record {
   kept = λ x y in_x in_y not_crossed. refl;
 }
 
-pub blocked_asked : (cells : List (Option ℤ)) (f : Family) (w : Window) (height : ℕ) (rays : List Target) (n : ℕ) (old marks : List Bool) (t : Target) (y : ℕ) → IsApart w → IsWindow f w marks
-    → slice_get rays n ≡ Some t → IsAtCell f y t → IsInRun w.side y → Crosses f w t.line → is_blocked_before cells f t.line y (rise_at cells f height t.line y) t.line ≡ true
-    → AreHiddenBelow cells f w height rays n old marks → AreHiddenBelow cells f w height rays (n + 1) old (set marks (mark_index w (lead_of f t.line) y) false)
-blocked_asked cells f w height rays n old marks t y apart is_w at_t stands in_y crosses blocked were =
+pub blocked_asked : (cells : List (Option ℤ)) (f : Family) (w : Window) (height : ℕ)
+    (rays : List Target) (n : ℕ) (old marks : List Bool) (t : Target) (y : ℕ) → IsApart w →
+    IsWindow f w marks
+    → slice_get rays n ≡ Some t → IsAtCell f y t → IsInRun w.side y → Crosses f w t.line →
+    is_blocked_before cells f t.line y (rise_at cells f height t.line y) t.line ≡ true
+    → AreHiddenBelow cells f w height rays n old marks → AreHiddenBelow cells f w height rays (n
+    + 1) old (set marks (mark_index w (lead_of f t.line) y) false)
+blocked_asked cells f w height rays n old marks t y apart is_w at_t stands in_y crosses blocked
+    were =
     let i = mark_index w (lead_of f t.line) y in
     let new = set marks i false in
-    let within : i < length marks = is_w.inside (lead_of f t.line - w.lines.first) (y - w.side.first) (omega (arith, crosses.within)) (omega (arith, in_y)) in
-    let here : (m z : ℕ) → m ≡ t.line → z ≡ y → mark_in_window w (lead_of f m) z new ≡ mark_left cells f w height old m z = λ m z m_is z_is.
-    let index : mark_index w (lead_of f m) z ≡ i = ap (λ k. mark_index w (lead_of f k) z) m_is ∙ ap (λ k. mark_index w (lead_of f t.line) k) z_is in
-    let left : mark_left cells f w height old m z ≡ false = ap (λ k. mark_left cells f w height old k z) m_is ∙ ap (λ k. mark_left cells f w height old t.line k) z_is ∙ left_blocked cells f w height old t.line y blocked in
+    let within : i < length marks = is_w.inside (lead_of f t.line - w.lines.first)
+    (y - w.side.first) (omega (arith, crosses.within)) (omega (arith, in_y)) in
+    let here : (m z : ℕ) → m ≡ t.line → z ≡ y →
+    mark_in_window w (lead_of f m) z new ≡ mark_left cells f w height old m z = λ m z m_is z_is.
+    let index : mark_index w (lead_of f m) z ≡ i = ap (λ k. mark_index w (lead_of f k) z) m_is
+    ∙ ap (λ k. mark_index w (lead_of f t.line) k) z_is in
+    let left : mark_left cells f w height old m z ≡ false = ap (λ k.
+    mark_left cells f w height old k z) m_is ∙ ap (λ k. mark_left cells f w height old t.line k)
+    z_is ∙ left_blocked cells f w height old t.line y blocked in
     ap (λ k. get_or new k false) index ∙ get_or-set_same marks i false false within ∙ sym left in
-    let there : (x z : ℕ) → mark_index w x z ≢ i → mark_in_window w x z new ≡ mark_in_window w x z marks = λ x z other. get_or-set_other marks i (mark_index w x z) false false other in
-    let met : (m z : ℕ) → Crosses f w m → IsInRun w.side z → mark_index w (lead_of f m) z ≡ i → (m ≡ t.line) × (z ≡ y) = λ m z crossed in_z same.
-    let cell = same_cell w (lead_of f m) z (lead_of f t.line) y apart crossed.within in_z crosses.within in_y same in
+    let there : (x z : ℕ) →
+    mark_index w x z ≢ i → mark_in_window w x z new ≡ mark_in_window w x z marks =
+    λ x z other. get_or-set_other marks i (mark_index w x z) false false other in
+    let met : (m z : ℕ) → Crosses f w m → IsInRun w.side z → mark_index w (lead_of f m) z ≡ i →
+    (m ≡ t.line) × (z ≡ y) = λ m z crossed in_z same.
+    let cell = same_cell w (lead_of f m) z
+    (lead_of f t.line) y apart crossed.within in_z crosses.within in_y same in
     (line_from f.lines.back f.lines.at m t.line crossed.line.2 crosses.line.2 cell.0, cell.1) in
     record {
       size = length-set marks i false ∙ were.size;
@@ -155,7 +203,8 @@ blocked_asked cells f w height rays n old marks t y apart is_w at_t stands in_y 
           | inl before ↦ there (lead_of f m) z other ∙ were.asked u m z before at crossed in_z
           | inr last ↦
               let u_is : n ≡ u = omega arith in
-              let is = same_target f t m z y stands (same_Some t (target_at f m z) (sym at_t ∙ ap (slice_get rays) u_is ∙ at)) in
+              let is = same_target f t m z y stands
+              (same_Some t (target_at f m z) (sym at_t ∙ ap (slice_get rays) u_is ∙ at)) in
               here m z is.0 is.1
         ]
       ];
@@ -166,21 +215,31 @@ blocked_asked cells f w height rays n old marks t y apart is_w at_t stands in_y 
           | inr e ↦ inr (there (lead_of f m) z other ∙ e)
         ]
       ];
-      kept = λ x z in_x in_z not_crossed. there x z (λ same. not_crossed t.line crosses (sym (same_cell w x z (lead_of f t.line) y apart in_x in_z crosses.within in_y same).0)) ∙ were.kept x z in_x in_z not_crossed;
+      kept = λ x z in_x in_z not_crossed. there x z (λ same. not_crossed t.line crosses
+          (sym (same_cell w x z (lead_of f t.line) y apart in_x in_z crosses.within in_y same).0))
+          ∙ were.kept x z in_x in_z not_crossed;
     }
 
-pub open_asked : (cells : List (Option ℤ)) (f : Family) (w : Window) (height : ℕ) (rays : List Target) (n : ℕ) (old marks : List Bool) (t : Target) (y : ℕ) → slice_get rays n ≡ Some t → IsAtCell f y t
-    → is_blocked_before cells f t.line y (rise_at cells f height t.line y) t.line ≡ false → AreHiddenBelow cells f w height rays n old marks → AreHiddenBelow cells f w height rays (n + 1) old marks
+pub open_asked : (cells : List (Option ℤ)) (f : Family) (w : Window)
+    (height : ℕ) (rays : List Target) (n : ℕ) (old marks : List Bool) (t : Target) (y : ℕ) →
+    slice_get rays n ≡ Some t → IsAtCell f y t
+    → is_blocked_before cells f t.line y (rise_at cells f height t.line y) t.line ≡ false →
+    AreHiddenBelow cells f w height rays n old marks →
+    AreHiddenBelow cells f w height rays (n + 1) old marks
 open_asked cells f w height rays n old marks t y at_t stands not_blocked were =
-    let here : (m z : ℕ) → m ≡ t.line → z ≡ y → mark_left cells f w height old m z ≡ mark_in_window w (lead_of f m) z old = λ m z m_is z_is.
-    left_open cells f w height old m z (ap (λ k. is_blocked_before cells f k z (rise_at cells f height k z) k) m_is ∙ ap (λ k. is_blocked_before cells f t.line k (rise_at cells f height t.line k) t.line) z_is ∙ not_blocked) in
+    let here : (m z : ℕ) → m ≡ t.line → z ≡ y →
+    mark_left cells f w height old m z ≡ mark_in_window w (lead_of f m) z old = λ m z m_is z_is.
+    left_open cells f w height old m z (ap (λ k. is_blocked_before cells f k z
+    (rise_at cells f height k z) k) m_is ∙ ap (λ k. is_blocked_before cells f t.line k
+    (rise_at cells f height t.line k) t.line) z_is ∙ not_blocked) in
     record {
       size = were.size;
       asked = λ u m z below at crossed in_z. elim (cases_lt u n) [
         | inl before ↦ were.asked u m z before at crossed in_z
         | inr last ↦
             let u_is : n ≡ u = omega arith in
-            let is = same_target f t m z y stands (same_Some t (target_at f m z) (sym at_t ∙ ap (slice_get rays) u_is ∙ at)) in
+            let is = same_target f t m z y stands
+            (same_Some t (target_at f m z) (sym at_t ∙ ap (slice_get rays) u_is ∙ at)) in
             elim (were.crossed m z crossed in_z) [
               | inl e ↦ e ∙ sym (here m z is.0 is.1)
               | inr e ↦ e
@@ -190,14 +249,17 @@ open_asked cells f w height rays n old marks t y at_t stands not_blocked were =
       kept = were.kept;
     }
 
-pub all_asked : (cells : List (Option ℤ)) (f : Family) (w : Window) (height : ℕ) (rays : List Target) (old new : List Bool) → AreRays f w old 4097 0 rays → AreHiddenBelow cells f w height rays (length rays) old new
+pub all_asked : (cells : List (Option ℤ)) (f : Family) (w : Window)
+    (height : ℕ) (rays : List Target) (old new : List Bool) → AreRays f w old 4097 0 rays →
+    AreHiddenBelow cells f w height rays (length rays) old new
     → AreHidden cells f w height old new
 all_asked cells f w height rays old new are asked = record {
   size = asked.size;
   crossed = λ n y crosses in_y. elim (cases_Bool (mark_in_window w (lead_of f n) y old)) [
     | inl marked ↦
         let ray = are.whole n y (inl (omega (arith, crosses.line.1))) crosses in_y marked in
-        asked.asked ray.0 n y (slice_get_within rays ray.0 (target_at f n y) ray.1) ray.1 crosses in_y
+        asked.asked ray.0 n y
+        (slice_get_within rays ray.0 (target_at f n y) ray.1) ray.1 crosses in_y
     | inr unmarked ↦ elim (asked.crossed n y crosses in_y) [
       | inl e ↦ e ∙ unmarked ∙ sym (and_left (mark_in_window w (lead_of f n) y old) _ unmarked)
       | inr e ↦ e
@@ -207,8 +269,14 @@ all_asked cells f w height rays old new are asked = record {
 }
 
 -- the cell of a ray, as the code computes it
-pub cell_back : (f : Family) (y : ℕ) (ray : Target) → IsFamily f → IsAtCell f y ray → unsigned_abs (to_z w32 (of_z w32 (to_z w32 f.side.at +ℤ to_z w32 (of_z w32 ray.offset)))) ≡ y
+pub cell_back : (f : Family) (y : ℕ) (ray : Target) → IsFamily f → IsAtCell f y ray →
+    unsigned_abs (to_z w32 (of_z w32 (to_z w32 f.side.at +ℤ to_z w32 (of_z w32 ray.offset)))) ≡ y
 cell_back f y ray is stands =
     let sum : pos f.side.at +ℤ ray.offset ≡ pos y = omega (arith, ints, stands.offset) in
     let offset = back_short ray.offset (omega (arith, ints, stands.offset, stands.side, is)) in
-    rw (to_z_pos w32 f.side.at (omega (arith, is)), offset, sum, back_short (pos y) (omega (arith, stands.side, is))) refl
+    rw (
+      to_z_pos w32 f.side.at (omega (arith, is)),
+      offset,
+      sum,
+      back_short (pos y) (omega (arith, stands.side, is)),
+    ) refl

@@ -18,39 +18,54 @@ use Rattle.sight.specs.Viewed.{value_at, HasValue, counted, AreAtMost}
 use Rattle.sight.specs.Marks.{AreMarked, MarksSeen}
 use Rattle.terrain.specs.declared.observer.Observer.{Observer}
 
-counted_yes : (h : Option ℤ) (n m : ℕ) → m ≡ n + 1 → counted (option_map (λ _. n) h) true ≡ option_map (λ _. m) h
+counted_yes : (h : Option ℤ) (n m : ℕ) → m ≡ n + 1 →
+    counted (option_map (λ _. n) h) true ≡ option_map (λ _. m) h
 counted_yes None n m e = refl
 counted_yes (Some x) n m e = ap Some (sym e)
 
-value_counted : (t : Terrain) (os : List Observer) (target radius i : ℕ) (d : Observer) (p : Place) (sees : Bool) → i < length os → is_seen t (get_or os i d) p target radius ≡ sees
-    → counted (value_at t (take i os) target radius p) sees ≡ value_at t (take (i + 1) os) target radius p
+value_counted : (t : Terrain) (os : List Observer) (target radius i : ℕ) (d : Observer) (p : Place)
+    (sees : Bool) → i < length os → is_seen t (get_or os i d) p target radius ≡ sees
+    → counted (value_at t (take i os) target radius p) sees
+    ≡ value_at t (take (i + 1) os) target radius p
 value_counted t os target radius i d p true less e =
-    counted_yes (height_at t p) (viewshed_value t (take i os) target radius p) (viewshed_value t (take (i + 1) os) target radius p)
+    counted_yes (height_at t p) (viewshed_value t (take i os) target radius p)
+    (viewshed_value t (take (i + 1) os) target radius p)
     (count_by_more_yes (λ (o : Observer). is_seen t o p target radius) os i d less e)
 value_counted t os target radius i d p false less e =
-    ap (λ n. option_map (λ _. n) (height_at t p)) (sym (count_by_more_no (λ (o : Observer). is_seen t o p target radius) os i d less e))
+    ap (λ n. option_map (λ _. n) (height_at t p))
+    (sym (count_by_more_no (λ (o : Observer). is_seen t o p target radius) os i d less e))
 
 -- the values after an observer whose view was marked
-pub looked : (t : Terrain) (os : List Observer) (target radius i : ℕ) (d : Observer) (b : Bounds) (old new : List (Option ℕ)) (seen : List Bool) → i < length os
-    → AreMadeBelow b (HasValue t (take i os) target radius) (b.rows * b.cols) old → AreMarked b (MarksSeen t (get_or os i d) target radius) seen
-    → length new ≡ length old → ((k : ℕ) → get_or new k None ≡ counted (get_or old k None) (get_or seen k false))
+pub looked : (t : Terrain) (os : List Observer) (target radius i : ℕ) (d : Observer) (b : Bounds)
+    (old new : List (Option ℕ)) (seen : List Bool) → i < length os
+    → AreMadeBelow b (HasValue t (take i os) target radius) (b.rows * b.cols) old →
+    AreMarked b (MarksSeen t (get_or os i d) target radius) seen
+    → length new ≡ length old →
+    ((k : ℕ) → get_or new k None ≡ counted (get_or old k None) (get_or seen k false))
     → AreMadeBelow b (HasValue t (take (i + 1) os) target radius) (b.rows * b.cols) new
 looked t os target radius i d b old new seen less before marks size each = record {
   size = size ∙ before.size;
   each = λ p inside below entry is.
       let k = index_in b p in
-      let had = before.each p inside below (get_or old k None) (slice_get-get_or old k None (omega (arith, below, before.size))) in
-      sym (get_or_from_slice_get new k entry None is) ∙ each k ∙ ap (λ v. counted v (get_or seen k false)) had ∙ ap (λ s. counted (value_at t (take i os) target radius p) s) (marks.each p inside below)
-      ∙ value_counted t os target radius i d p (is_seen t (get_or os i d) p target radius) less refl;
+      let had = before.each p inside below (get_or old k None)
+      (slice_get-get_or old k None (omega (arith, below, before.size))) in
+      sym (get_or_from_slice_get new k entry None is)
+      ∙ each k ∙ ap (λ v. counted v (get_or seen k false)) had
+      ∙ ap (λ s. counted (value_at t (take i os) target radius p) s) (marks.each p inside below)
+      ∙ value_counted t os target radius i d p
+      (is_seen t (get_or os i d) p target radius) less refl;
 }
 
 -- the values after an observer who sees no cell of the tile
-pub passed : (t : Terrain) (os : List Observer) (target radius i : ℕ) (d : Observer) (b : Bounds) (values : List (Option ℕ)) → i < length os
-    → AreMadeBelow b (HasValue t (take i os) target radius) (b.rows * b.cols) values → ((p : Place) → IsInBounds b p → is_seen t (get_or os i d) p target radius ≡ false)
+pub passed : (t : Terrain) (os : List Observer) (target radius i : ℕ) (d : Observer) (b : Bounds)
+    (values : List (Option ℕ)) → i < length os
+    → AreMadeBelow b (HasValue t (take i os) target radius) (b.rows * b.cols) values →
+    ((p : Place) → IsInBounds b p → is_seen t (get_or os i d) p target radius ≡ false)
     → AreMadeBelow b (HasValue t (take (i + 1) os) target radius) (b.rows * b.cols) values
 passed t os target radius i d b values less before none = record {
   size = before.size;
-  each = λ p inside below entry is. before.each p inside below entry is ∙ value_counted t os target radius i d p false less (none p inside);
+  each = λ p inside below entry is. before.each p inside below entry is
+      ∙ value_counted t os target radius i d p false less (none p inside);
 }
 
 -- if a cell with data has the value m, and its value is n, then n is m
@@ -70,23 +85,38 @@ module _ (b : Bounds) (k : ℕ) (below : k < b.rows * b.cols) where
 
   inside : IsInBounds b place
   unfolding place
-  inside = (omega arith, omega (arith, div_below k b.cols b.rows some_cols (omega (arith, below))), omega arith, omega (arith, mod_below k b.cols some_cols))
+  inside = (
+    omega arith,
+    omega (arith, div_below k b.cols b.rows some_cols (omega (arith, below))),
+    omega arith,
+    omega (arith, mod_below k b.cols some_cols),
+  )
 
   at : index_in b place ≡ k
   unfolding place
   at =
       let row : b.top + k / b.cols - b.top ≡ k / b.cols = omega arith in
       let whole = div-add-mod' k b.cols in
-      let rows : (b.top + k / b.cols - b.top) * b.cols ≡ k / b.cols * b.cols = ap (λ n. n * b.cols) row in
+      let rows : (b.top + k / b.cols - b.top) * b.cols ≡ k / b.cols * b.cols =
+      ap (λ n. n * b.cols) row in
       omega (arith, rows, whole)
 
-pub few : (t : Terrain) (os : List Observer) (target radius i : ℕ) (b : Bounds) (values : List (Option ℕ)) → AreMadeBelow b (HasValue t (take i os) target radius) (b.rows * b.cols) values → AreAtMost i values
+pub few : (t : Terrain) (os : List Observer) (target radius i : ℕ)
+    (b : Bounds) (values : List (Option ℕ)) → AreMadeBelow b (HasValue t (take i os) target radius)
+    (b.rows * b.cols) values → AreAtMost i values
 few t os target radius i b values made k n e = elim (cases_lt k (length values)) [
   | inl less ↦
       (let below : k < b.rows * b.cols = omega (arith, made.size) in
       let p = place b k below in
-      let here : get_or values k None ≡ value_at t (take i os) target radius p = made.each p (inside b k below) (omega (arith, at b k below)) (get_or values k None) (ap (slice_get values) (at b k below) ∙ slice_get-get_or values k None less) in
-      let is : n ≡ viewshed_value t (take i os) target radius p = value_few (height_at t p) n (viewshed_value t (take i os) target radius p) (sym here ∙ e) in
-      omega (arith, count_by-le-length (λ (o : Observer). is_seen t o p target radius) (take i os), length-take i os))
+      let here : get_or values k None ≡ value_at t (take i os) target radius p =
+      made.each p (inside b k below) (omega (arith, at b k below)) (get_or values k None)
+      (ap (slice_get values) (at b k below) ∙ slice_get-get_or values k None less) in
+      let is : n ≡ viewshed_value t (take i os) target radius p =
+      value_few (height_at t p) n (viewshed_value t (take i os) target radius p) (sym here ∙ e) in
+      omega (
+        arith,
+        count_by-le-length (λ (o : Observer). is_seen t o p target radius) (take i os),
+        length-take i os,
+      ))
   | inr past ↦ (let none = get_or_past values k None past in absurd (cc))
 ]

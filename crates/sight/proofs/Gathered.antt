@@ -25,7 +25,9 @@ lines_passed f w marks n c k rays less few none_between are = record {
   ];
 }
 
-pub line_ended : (f : Family) (w : Window) (marks : List Bool) (n c : ℕ) (rays : List Target) → w.side.first + w.side.cells ≤ c → c ≤ 4096 → AreRays f w marks n c rays → AreRays f w marks (n + 1) 0 rays
+pub line_ended : (f : Family) (w : Window) (marks : List Bool) (n c : ℕ) (rays : List Target) →
+    w.side.first + w.side.cells ≤ c → c ≤ 4096 → AreRays f w marks n c rays →
+    AreRays f w marks (n + 1) 0 rays
 line_ended f w marks n c rays all few are =
     lines_passed f w marks n c (n + 1) rays (omega arith) (omega (arith, are.few))
     (λ m y h crosses in_run. elim (cases_lt m n) [
@@ -33,7 +35,8 @@ line_ended f w marks n c rays all few are =
       | inr not ↦ inr (omega arith, omega arith)
     ]) are
 
-pub line_passed : (f : Family) (w : Window) (marks : List Bool) (n : ℕ) (rays : List Target) → (Crosses f w n → ⊥) → AreRays f w marks n 0 rays → AreRays f w marks (n + 1) 0 rays
+pub line_passed : (f : Family) (w : Window) (marks : List Bool) (n : ℕ) (rays : List Target) →
+    (Crosses f w n → ⊥) → AreRays f w marks n 0 rays → AreRays f w marks (n + 1) 0 rays
 line_passed f w marks n rays not_there are = lines_passed f w marks n 0 (n + 1) rays (omega arith)
     (omega (arith, are.few)) (λ m y h crosses in_run. elim (cases_lt m n) [
       | inl less ↦ inl less
@@ -42,7 +45,9 @@ line_passed f w marks n rays not_there are = lines_passed f w marks n 0 (n + 1) 
           absurd (not_there (subst (λ (k : ℕ). Crosses f w k) m_is crosses))
     ]) are
 
-pub cell_passed : (f : Family) (w : Window) (marks : List Bool) (n c : ℕ) (rays : List Target) → mark_in_window w (lead_of f n) c marks ≡ false → AreRays f w marks n c rays → AreRays f w marks n (c + 1) rays
+pub cell_passed : (f : Family) (w : Window) (marks : List Bool) (n c : ℕ) (rays : List Target) →
+    mark_in_window w (lead_of f n) c marks ≡ false → AreRays f w marks n c rays →
+    AreRays f w marks n (c + 1) rays
 cell_passed f w marks n c rays unmarked are = record {
   few = omega (arith, are.few);
   each = are.each;
@@ -53,19 +58,31 @@ cell_passed f w marks n c rays unmarked are = record {
       | inl less ↦ are.whole m y (inr (h.0, less)) crosses in_run marked
       | inr not ↦
           let y_is : y ≡ c = omega (arith, h.1) in
-          let here : mark_in_window w (lead_of f m) y marks ≡ mark_in_window w (lead_of f n) c marks = ap (λ k. mark_in_window w (lead_of f k) y marks) h.0 ∙ ap (λ k. mark_in_window w (lead_of f n) k marks) y_is in
+          let here : mark_in_window w (lead_of f m) y marks ≡ mark_in_window w
+          (lead_of f n) c marks = ap (λ k. mark_in_window w (lead_of f k) y marks) h.0
+          ∙ ap (λ k. mark_in_window w (lead_of f n) k marks) y_is in
           absurd (cc)
     ]
   ];
 }
 
-pub cell_taken : (f : Family) (w : Window) (marks : List Bool) (n c : ℕ) (rays : List Target) → IsFamily f → IsWindow f w marks → Crosses f w n → IsInRun w.side c → AreRays f w marks n c rays → AreRays f w marks n (c + 1) (rays ++ target_at f n c ∷ [])
+pub cell_taken : (f : Family) (w : Window) (marks : List Bool) (n c : ℕ) (rays : List Target) →
+    IsFamily f → IsWindow f w marks → Crosses f w n → IsInRun w.side c →
+    AreRays f w marks n c rays → AreRays f w marks n (c + 1) (rays ++ target_at f n c ∷ [])
 cell_taken f w marks n c rays is_f is_w crosses in_run are =
     let t = target_at f n c in
-    let stands : IsAtCell f c t = record { offset = refl; first = omega (arith, is_w.first, in_run); side = omega (arith, is_w.side, in_run); line = crosses.line } in
-    let old : (u : ℕ) (s : Target) → u < length rays → slice_get (rays ++ t ∷ []) u ≡ Some s → slice_get rays u ≡ Some s = λ u s less at. sym (slice_get-front rays t u less) ∙ at in
-    let new : (u : ℕ) (s : Target) → length rays ≤ u → slice_get (rays ++ t ∷ []) u ≡ Some s → t ≡ s = λ u s not at.
-    let u_is : u ≡ length rays = omega (arith, slice_get_within (rays ++ t ∷ []) u s at, length-append rays (t ∷ [])) in
+    let stands : IsAtCell f c t = record {
+      offset = refl;
+      first = omega (arith, is_w.first, in_run);
+      side = omega (arith, is_w.side, in_run);
+      line = crosses.line;
+    } in
+    let old : (u : ℕ) (s : Target) → u < length rays → slice_get (rays ++ t ∷ []) u ≡ Some s →
+    slice_get rays u ≡ Some s = λ u s less at. sym (slice_get-front rays t u less) ∙ at in
+    let new : (u : ℕ) (s : Target) → length rays ≤ u → slice_get (rays ++ t ∷ []) u ≡ Some s →
+    t ≡ s = λ u s not at.
+    let u_is : u ≡ length rays =
+    omega (arith, slice_get_within (rays ++ t ∷ []) u s at, length-append rays (t ∷ [])) in
     same_Some t s (sym (slice_get-last rays t) ∙ ap (slice_get (rays ++ t ∷ [])) (sym u_is) ∙ at) in
     record {
       few = omega (arith, are.few, in_run, length-append rays (t ∷ []));
@@ -73,7 +90,8 @@ cell_taken f w marks n c rays is_f is_w crosses in_run are =
         | inl less ↦ are.each u s (old u s less at)
         | inr not ↦
             let P : Target → Type 0 = λ r. IsRay f w r × (r.line ≤ n) in
-            subst P (new u s not at) (record { cell = c; stands = stands; within = in_run; crosses = crosses }, omega arith)
+            subst P (new u s not at)
+            (record { cell = c; stands = stands; within = in_run; crosses = crosses }, omega arith)
       ];
       sorted = λ u v r s le at_r at_s. elim (cases_lt v (length rays)) [
         | inl less ↦ are.sorted u v r s le (old u r (omega arith) at_r) (old v s less at_s)
@@ -83,24 +101,32 @@ cell_taken f w marks n c rays is_f is_w crosses in_run are =
               | inl before ↦
                   let is = are.each u r (old u r before at_r) in
                   omega (arith, is.1, ap (λ q. q.line) last)
-              | inr also ↦ let first : t ≡ r = new u r also at_r in omega (arith, ap (λ q. q.line) last, ap (λ q. q.line) first)
+              | inr also ↦ let first : t ≡ r = new u r also at_r in
+                  omega (arith, ap (λ q. q.line) last, ap (λ q. q.line) first)
             ]
       ];
       whole = λ m y before crossed in_y marked.
-          let kept : (u : ℕ) × (slice_get rays u ≡ Some (target_at f m y)) → (u : ℕ) × (slice_get (rays ++ t ∷ []) u ≡ Some (target_at f m y)) = λ was.
-          (was.0, slice_get-front rays t was.0 (slice_get_within rays was.0 (target_at f m y) was.1) ∙ was.1) in
+          let kept : (u : ℕ) × (slice_get rays u ≡ Some (target_at f m y)) →
+          (u : ℕ) × (slice_get (rays ++ t ∷ []) u ≡ Some (target_at f m y)) = λ was. (
+            was.0,
+            slice_get-front rays t was.0 (slice_get_within rays was.0 (target_at f m y) was.1)
+                ∙ was.1,
+          ) in
           elim before [
             | inl h ↦ kept (are.whole m y (inl h) crossed in_y marked)
             | inr h ↦ elim (cases_lt y c) [
               | inl less ↦ kept (are.whole m y (inr (h.0, less)) crossed in_y marked)
               | inr not ↦
                   let y_is : c ≡ y = omega (arith, h.1) in
-                  let here : t ≡ target_at f m y = ap (λ k. target_at f k c) (sym h.0) ∙ ap (λ k. target_at f m k) y_is in
+                  let here : t ≡ target_at f m y = ap (λ k. target_at f k c) (sym h.0)
+                  ∙ ap (λ k. target_at f m k) y_is in
                   (length rays, slice_get-last rays t ∙ ap (λ q. Some q) here)
             ]
           ];
     }
 
-pub all_gathered : (f : Family) (w : Window) (marks : List Bool) (n : ℕ) (rays : List Target) → n ≤ 4096 → ((m : ℕ) → Crosses f w m → m < n) → AreRays f w marks n 0 rays → AreRays f w marks 4097 0 rays
+pub all_gathered : (f : Family) (w : Window) (marks : List Bool) (n : ℕ) (rays : List Target) →
+    n ≤ 4096 → ((m : ℕ) → Crosses f w m → m < n) → AreRays f w marks n 0 rays →
+    AreRays f w marks 4097 0 rays
 all_gathered f w marks n rays few end are = lines_passed f w marks n 0 4097 rays (omega arith)
     (omega (arith, are.few)) (λ m y h crosses in_run. inl (end m crosses)) are

@@ -25,108 +25,175 @@ grows a b n h = by (b -ℤ a) refl
     by (negsuc m) e = absurd (omega (arith, ints, e, h))
 
 -- if the ray to target m passes before a cell, so do the rays to all targets before m
-pub before_to : (targets : List Target) (k m : ℕ) (offset : ℤ) (u : Target) → AreTargets targets → slice_get targets m ≡ Some u → IsBefore k offset u → AreBefore targets k offset (m + 1)
+pub before_to : (targets : List Target) (k m : ℕ) (offset : ℤ) (u : Target) → AreTargets targets →
+    slice_get targets m ≡ Some u → IsBefore k offset u → AreBefore targets k offset (m + 1)
 before_to targets k m offset u are at_m before i t below at_i =
-    high_back offset t.offset u.offset t.line u.line k (are.each i t at_i).line.0 (slope_up targets i m t u are (omega arith) at_i at_m) before
+    high_back offset t.offset u.offset t.line u.line k (are.each i t at_i).line.0
+    (slope_up targets i m t u are (omega arith) at_i at_m) before
 
 -- rays from one at `offset` to below `end` pass among the cells `offset` to `last`
-pub passes_onward : (targets : List Target) (k from end i : ℕ) (offset last : ℤ) (u t : Target) → AreTargets targets → slice_get targets from ≡ Some u → Passes k offset u → AreBefore targets k (last +ℤ pos 1) end
+pub passes_onward : (targets : List Target) (k from end i : ℕ) (offset last : ℤ) (u t : Target) →
+    AreTargets targets → slice_get targets from ≡ Some u → Passes k offset u →
+    AreBefore targets k (last +ℤ pos 1) end
     → from ≤ i → i < end → slice_get targets i ≡ Some t → PassesAmong k offset last t
 passes_onward targets k from end i offset last u t are at_u passes before low high at_t = record {
-  low = low_onward offset u.offset t.offset u.line t.line k (are.each from u at_u).line.0 (slope_up targets from i u t are low at_u at_t) passes.low;
+  low = low_onward offset u.offset t.offset u.line t.line k (are.each from u at_u).line.0
+      (slope_up targets from i u t are low at_u at_t) passes.low;
   high = before i t high at_t;
 }
 
 -- a ray that passes a cell passes among it and any later ones
-pub passes_before : (k : ℕ) (offset last : ℤ) (t : Target) → offset ≤ℤ last → Passes k offset t → PassesAmong k offset last t
-passes_before k offset last t up passes = record { low = passes.low; high = omega (arith, ints, passes.high, grows (offset +ℤ pos 1) (last +ℤ pos 1) t.line (omega (arith, ints, up))) }
+pub passes_before : (k : ℕ) (offset last : ℤ) (t : Target) → offset ≤ℤ last → Passes k offset t →
+    PassesAmong k offset last t
+passes_before k offset last t up passes = record {
+  low = passes.low;
+  high = omega (
+    arith,
+    ints,
+    passes.high,
+    grows (offset +ℤ pos 1) (last +ℤ pos 1) t.line (omega (arith, ints, up)),
+  );
+}
 
-pub none_raised : (cells : List (Option ℤ)) (f : Family) (targets : List Target) (k : ℕ) (highest h : List Piece) → h ≡ [] → (extent h ≡ 0) × RaisesBelow cells f targets k highest 0 h
+pub none_raised : (cells : List (Option ℤ)) (f : Family) (targets : List Target) (k : ℕ)
+    (highest h : List Piece) → h ≡ [] → (extent h ≡ 0) × RaisesBelow cells f targets k highest 0 h
 unfolding extent
 none_raised cells f targets k highest h e = (rw e refl, λ i t below at. absurd (omega arith))
 
-pub more_raised : (cells : List (Option ℤ)) (f : Family) (targets : List Target) (k from end : ℕ) (highest : List Piece) (ramp : Ramp) (old new : List Piece) → extent old ≡ from → from < end → IsPushed old end ramp new
-    → RaisesBelow cells f targets k highest from old → ((i : ℕ) (t : Target) → from ≤ i → i < end → slice_get targets i ≡ Some t → Raises cells f k highest i t ramp)
+pub more_raised : (cells : List (Option ℤ)) (f : Family) (targets : List Target) (k from end : ℕ)
+    (highest : List Piece) (ramp : Ramp) (old new : List Piece) → extent old ≡ from → from < end →
+    IsPushed old end ramp new
+    → RaisesBelow cells f targets k highest from old → ((i : ℕ) (t : Target) → from ≤ i → i < end →
+    slice_get targets i ≡ Some t → Raises cells f k highest i t ramp)
     → (extent new ≡ end) × RaisesBelow cells f targets k highest end new
 more_raised cells f targets k from end highest ramp old new reach more pushed raised here = (
   omega (arith, pushed.reach),
   λ i t below at. elim (cases_lt i from) [
-    | inl before ↦ let was = raised i t before at in (was.0, pushed.kept i (omega arith) ∙ was.1, was.2)
+    | inl before ↦ let was = raised i t before at in
+        (was.0, pushed.kept i (omega arith) ∙ was.1, was.2)
     | inr after ↦ (ramp, pushed.added i (omega arith) below, here i t after below at)
   ],
 )
 
 -- a span's ramp shows the ground for all targets of the span
-pub shown_over : (cells : List (Option ℤ)) (f : Family) (targets : List Target) (k from end : ℕ) (span : Span) (u : Target) → AreTargets targets → slice_get targets from ≡ Some u
-    → ((t : Target) → IsTarget t → IsSlopeUpTo u t → PassesAmong k span.offset span.last t → (span.alone ≡ true → t ≡ u) → Shows cells f k t span.ramp)
-    → ((i : ℕ) (t : Target) → from ≤ i → i < end → slice_get targets i ≡ Some t → PassesAmong k span.offset span.last t × (span.alone ≡ true → t ≡ u))
-    → (i : ℕ) (t : Target) → from ≤ i → i < end → slice_get targets i ≡ Some t → Shows cells f k t span.ramp
+pub shown_over : (cells : List (Option ℤ)) (f : Family) (targets : List Target) (k from end : ℕ)
+    (span : Span) (u : Target) → AreTargets targets → slice_get targets from ≡ Some u
+    → ((t : Target) → IsTarget t → IsSlopeUpTo u t → PassesAmong k span.offset span.last t →
+    (span.alone ≡ true → t ≡ u) → Shows cells f k t span.ramp)
+    → ((i : ℕ) (t : Target) → from ≤ i → i < end → slice_get targets i ≡ Some t →
+    PassesAmong k span.offset span.last t × (span.alone ≡ true → t ≡ u))
+    → (i : ℕ) (t : Target) → from ≤ i → i < end → slice_get targets i ≡ Some t →
+    Shows cells f k t span.ramp
 shown_over cells f targets k from end span u are at_u shows over i t low high at =
     let here = over i t low high at in
     shows t (are.each i t at) (slope_up targets from i u t are low at_u at) here.0 here.1
 
 -- the greater of the ground's ramp and the old one raises the horizon
-raised_to : (cells : List (Option ℤ)) (f : Family) (k i : ℕ) (highest : List Piece) (ground ramp : Ramp) (t : Target) → ramp_at highest i ≡ Some ramp → IsRampAt ramp t → Shows cells f k t ground
+raised_to : (cells : List (Option ℤ)) (f : Family) (k i : ℕ) (highest : List Piece) (ground ramp :
+    Ramp) (t : Target) → ramp_at highest i ≡ Some ramp → IsRampAt ramp t → Shows cells f k t ground
     → Raises cells f k highest i t (greater_at ground ramp t)
 raised_to cells f k i highest ground ramp t is is_ramp shows = record {
   at = greater_is_ramp ramp ground t is_ramp shows.at;
-  hides = λ y rise stands later small. greater_hides ramp ground t rise is_ramp shows.at ∙ (rw (is, shows.hides y rise stands later small) refl);
+  hides = λ y rise stands later small. greater_hides ramp ground t rise is_ramp shows.at
+      ∙ (rw (is, shows.hides y rise stands later small) refl);
 }
 
-pub greater_raised : (cells : List (Option ℤ)) (f : Family) (targets : List Target) (k from end : ℕ) (highest : List Piece) (ground ramp : Ramp) (old new : List Piece) → extent old ≡ from → from < end
-    → IsOver targets highest → ((i : ℕ) → from ≤ i → i < end → ramp_at highest i ≡ Some ramp) → IsGreaterPushed targets ground ramp old end new
-    → RaisesBelow cells f targets k highest from old → ((i : ℕ) (t : Target) → from ≤ i → i < end → slice_get targets i ≡ Some t → Shows cells f k t ground)
+pub greater_raised : (cells : List (Option ℤ)) (f : Family) (targets : List Target) (k from end : ℕ)
+    (highest : List Piece) (ground ramp : Ramp) (old new : List Piece) → extent old ≡ from →
+    from < end
+    → IsOver targets highest → ((i : ℕ) → from ≤ i → i < end → ramp_at highest i ≡ Some ramp) →
+    IsGreaterPushed targets ground ramp old end new
+    → RaisesBelow cells f targets k highest from old → ((i : ℕ) (t : Target) → from ≤ i → i < end →
+    slice_get targets i ≡ Some t → Shows cells f k t ground)
     → (extent new ≡ end) × RaisesBelow cells f targets k highest end new
-greater_raised cells f targets k from end highest ground ramp old new reach more over is pushed raised shows = (
-  pushed.reach,
-  λ i t below at. elim (cases_lt i from) [
-    | inl before ↦ let was = raised i t before at in (was.0, pushed.kept i (omega arith) ∙ was.1, was.2)
-    | inr after ↦
-        let here = is i after below in (
-          greater_at ground ramp t,
-          pushed.added i t (omega arith) below at,
-          raised_to cells f k i highest ground ramp t here (over.each i t ramp at here) (shows i t after below at),
-        )
-  ],
-)
+greater_raised cells f targets k from end highest ground ramp old new reach more over is pushed
+    raised shows = (
+      pushed.reach,
+      λ i t below at. elim (cases_lt i from) [
+        | inl before ↦ let was = raised i t before at in
+            (was.0, pushed.kept i (omega arith) ∙ was.1, was.2)
+        | inr after ↦
+            let here = is i after below in (
+              greater_at ground ramp t,
+              pushed.added i t (omega arith) below at,
+              raised_to cells f k i highest ground ramp t here (over.each i t ramp at here)
+                  (shows i t after below at),
+            )
+      ],
+    )
 
 -- if the old ramp hides all that a line blocks, the old ramp remains
-pub hidden_raised : (cells : List (Option ℤ)) (f : Family) (targets : List Target) (k i from end : ℕ) (highest : List Piece) (ramp : Ramp) (t : Target) → IsOver targets highest → ramp_at highest i ≡ Some ramp
-    → IsHiddenOn cells f targets k ramp from end → from ≤ i → i < end → slice_get targets i ≡ Some t → Raises cells f k highest i t ramp
+pub hidden_raised : (cells : List (Option ℤ)) (f : Family) (targets : List Target)
+    (k i from end : ℕ) (highest : List Piece) (ramp : Ramp) (t : Target) → IsOver targets highest →
+    ramp_at highest i ≡ Some ramp
+    → IsHiddenOn cells f targets k ramp from end → from ≤ i → i < end →
+    slice_get targets i ≡ Some t → Raises cells f k highest i t ramp
 hidden_raised cells f targets k i from end highest ramp t over is hidden low high at = record {
   at = over.each i t ramp at is;
-  hides = λ y rise stands later small. either_hides (hides_by ramp t rise) (line_blocks cells f t.line y rise k) (hidden i t low high at y rise stands later) ∙ (rw is refl);
+  hides = λ y rise stands later small. either_hides (hides_by ramp t rise) (line_blocks cells f
+      t.line y rise k) (hidden i t low high at y rise stands later) ∙ (rw is refl);
 }
 
 -- a ray between two cells at or past `first` crosses no line before `first`
-low_side : (first at y k r : ℕ) → first ≤ at → first ≤ y → y * k + at * (r + k) < first * (r + k) + at * k → ⊥
-low_side first at y k r a b less = omega (arith, less, mul-le first k y k b (omega arith), mul-le first r at r a (omega arith))
+low_side : (first at y k r : ℕ) → first ≤ at → first ≤ y →
+    y * k + at * (r + k) < first * (r + k) + at * k → ⊥
+low_side first at y k r a b less =
+    omega (arith, less, mul-le first k y k b (omega arith), mul-le first r at r a (omega arith))
 
-high_side : (cells at y k r : ℕ) → 0 < k → at < cells → y < cells → cells * (r + k) + at * k ≤ y * k + at * (r + k) → ⊥
-high_side cells at y k r some a b more = omega (arith, more, mul-le (y + 1) k cells k (omega arith) (omega arith), mul-le (at + 1) r cells r (omega arith) (omega arith))
+high_side : (cells at y k r : ℕ) → 0 < k → at < cells → y < cells →
+    cells * (r + k) + at * k ≤ y * k + at * (r + k) → ⊥
+high_side cells at y k r some a b more = omega (
+  arith,
+  more,
+  mul-le (y + 1) k cells k (omega arith) (omega arith),
+  mul-le (at + 1) r cells r (omega arith) (omega arith),
+)
 
 -- a ray that crosses line k before the side leads to a target not beyond line k
-pub passed_low : (f : Family) (k y : ℕ) (t : Target) → IsFamily f → IsAtCell f y t → k < t.line → IsBefore k (pos f.side.first -ℤ pos f.side.at) t → ⊥
+pub passed_low : (f : Family) (k y : ℕ) (t : Target) → IsFamily f → IsAtCell f y t → k < t.line →
+    IsBefore k (pos f.side.first -ℤ pos f.side.at) t → ⊥
 passed_low f k y t is stands later before =
     let r = t.line - k in
     let n_is : t.line ≡ r + k = omega arith in
-    let left : ((pos y -ℤ pos f.side.at) *ℤ pos k) <ℤ ((pos f.side.first -ℤ pos f.side.at) *ℤ pos (r + k)) =
-    subst (λ (n : ℕ). ((pos y -ℤ pos f.side.at) *ℤ pos k) <ℤ ((pos f.side.first -ℤ pos f.side.at) *ℤ pos n)) n_is (subst (λ (a : ℤ). (a *ℤ pos k) <ℤ ((pos f.side.first -ℤ pos f.side.at) *ℤ pos t.line)) stands.offset before) in
+    let left : ((pos y -ℤ pos f.side.at) *ℤ pos k)
+    <ℤ ((pos f.side.first -ℤ pos f.side.at) *ℤ pos (r + k)) =
+    subst (λ (n : ℕ). ((pos y -ℤ pos f.side.at) *ℤ pos k)
+    <ℤ ((pos f.side.first -ℤ pos f.side.at) *ℤ pos n)) n_is (subst (λ (a : ℤ).
+    (a *ℤ pos k) <ℤ ((pos f.side.first -ℤ pos f.side.at) *ℤ pos t.line)) stands.offset before) in
     low_side f.side.first f.side.at y k r is.first stands.first
-    (omega (arith, ints, left, rest_times (pos y) (pos f.side.at) (pos k), rest_times (pos f.side.first) (pos f.side.at) (pos (r + k))))
+    (omega (
+      arith,
+      ints,
+      left,
+      rest_times (pos y) (pos f.side.at) (pos k),
+      rest_times (pos f.side.first) (pos f.side.at) (pos (r + k)),
+    ))
 
-pub passed_high : (f : Family) (k y : ℕ) (t : Target) → IsFamily f → IsAtCell f y t → 0 < k → k < t.line → ((pos f.side.cells -ℤ pos f.side.at) *ℤ pos t.line) ≤ℤ (t.offset *ℤ pos k) → ⊥
+pub passed_high : (f : Family) (k y : ℕ) (t : Target) → IsFamily f → IsAtCell f y t → 0 < k →
+    k < t.line → ((pos f.side.cells -ℤ pos f.side.at) *ℤ pos t.line) ≤ℤ (t.offset *ℤ pos k) → ⊥
 passed_high f k y t is stands some later past =
     let r = t.line - k in
     let n_is : t.line ≡ r + k = omega arith in
-    let left : ((pos f.side.cells -ℤ pos f.side.at) *ℤ pos (r + k)) ≤ℤ ((pos y -ℤ pos f.side.at) *ℤ pos k) =
-    subst (λ (n : ℕ). ((pos f.side.cells -ℤ pos f.side.at) *ℤ pos n) ≤ℤ ((pos y -ℤ pos f.side.at) *ℤ pos k)) n_is (subst (λ (a : ℤ). ((pos f.side.cells -ℤ pos f.side.at) *ℤ pos t.line) ≤ℤ (a *ℤ pos k)) stands.offset past) in
+    let left : ((pos f.side.cells -ℤ pos f.side.at) *ℤ pos (r + k))
+    ≤ℤ ((pos y -ℤ pos f.side.at) *ℤ pos k) =
+    subst (λ (n : ℕ). ((pos f.side.cells -ℤ pos f.side.at) *ℤ pos n)
+    ≤ℤ ((pos y -ℤ pos f.side.at) *ℤ pos k)) n_is (subst (λ (a : ℤ).
+    ((pos f.side.cells -ℤ pos f.side.at) *ℤ pos t.line) ≤ℤ (a *ℤ pos k)) stands.offset past) in
     high_side f.side.cells f.side.at y k r some is.side stands.side
-    (omega (arith, ints, left, rest_times (pos y) (pos f.side.at) (pos k), rest_times (pos f.side.cells) (pos f.side.at) (pos (r + k))))
+    (omega (
+      arith,
+      ints,
+      left,
+      rest_times (pos y) (pos f.side.at) (pos k),
+      rest_times (pos f.side.cells) (pos f.side.at) (pos (r + k)),
+    ))
 
 -- a horizon raised over the targets whose rays cross before the first cell
-pub low_raised : (cells : List (Option ℤ)) (f : Family) (targets : List Target) (k end : ℕ) (highest : List Piece) (ramp : Ramp) (old new : List Piece) → old ≡ [] → IsFamily f → AreTargets targets → IsPushed old end ramp new
-    → AreBefore targets k (pos f.side.first -ℤ pos f.side.at) end → ((t : Target) → IsTarget t → IsRampAt ramp t) → (extent new ≡ end) × RaisesBelow cells f targets k highest end new
+pub low_raised : (cells : List (Option ℤ)) (f : Family) (targets : List Target) (k end : ℕ)
+    (highest : List Piece) (ramp : Ramp) (old new : List Piece) → old ≡ [] → IsFamily f →
+    AreTargets targets → IsPushed old end ramp new
+    → AreBefore targets k (pos f.side.first -ℤ pos f.side.at) end → ((t : Target) → IsTarget t →
+    IsRampAt ramp t) → (extent new ≡ end) × RaisesBelow cells f targets k highest end new
 low_raised cells f targets k end highest ramp old new e is are pushed before at =
     let none = none_raised cells f targets k highest old e in (
       omega (arith, pushed.reach, none.0),
@@ -135,22 +202,30 @@ low_raised cells f targets k end highest ramp old new e is are pushed before at 
         pushed.added i (omega (arith, none.0)) below,
         record {
           at = at t (are.each i t at_t);
-          hides = λ y rise stands later _. absurd (passed_low f k y t is stands later (before i t below at_t));
+          hides = λ y rise stands later _.
+              absurd (passed_low f k y t is stands later (before i t below at_t));
         },
       ),
     )
 
 -- a horizon raised over the targets whose rays cross past the last cell
-pub high_raised : (cells : List (Option ℤ)) (f : Family) (targets : List Target) (k from end : ℕ) (highest : List Piece) (offset : ℤ) (u : Target) (ramp : Ramp) (old new : List Piece) → 0 < k → IsFamily f → AreTargets targets → slice_get targets from ≡ Some u
-    → Passes k offset u → (pos f.side.cells -ℤ pos f.side.at) ≤ℤ offset → extent old ≡ from → from < end → ((t : Target) → IsTarget t → IsRampAt ramp t)
-    → RaisesBelow cells f targets k highest from old → IsPushed old end ramp new → (extent new ≡ end) × RaisesBelow cells f targets k highest end new
-high_raised cells f targets k from end highest offset u ramp old new some is are at_u passes past reach more at raised pushed =
+pub high_raised : (cells : List (Option ℤ)) (f : Family) (targets : List Target) (k from end : ℕ)
+    (highest : List Piece) (offset : ℤ) (u : Target) (ramp : Ramp) (old new : List Piece) → 0 < k →
+    IsFamily f → AreTargets targets → slice_get targets from ≡ Some u
+    → Passes k offset u → (pos f.side.cells -ℤ pos f.side.at) ≤ℤ offset → extent old ≡ from →
+    from < end → ((t : Target) → IsTarget t → IsRampAt ramp t)
+    → RaisesBelow cells f targets k highest from old → IsPushed old end ramp new →
+    (extent new ≡ end) × RaisesBelow cells f targets k highest end new
+high_raised cells f targets k from end highest offset u ramp old new some is are at_u passes past
+    reach more at raised pushed =
     more_raised cells f targets k from end highest ramp old new reach more pushed raised
     (λ i t low high at_t. record {
       at = at t (are.each i t at_t);
       hides = λ y rise stands later _.
           let last = pos f.side.cells -ℤ pos f.side.at in
-          let here : (last *ℤ pos u.line) ≤ℤ (u.offset *ℤ pos k) = omega (arith, ints, grows last offset u.line past, passes.low) in
-          let on = low_onward last u.offset t.offset u.line t.line k (are.each from u at_u).line.0 (slope_up targets from i u t are low at_u at_t) here in
+          let here : (last *ℤ pos u.line) ≤ℤ (u.offset *ℤ pos k) =
+          omega (arith, ints, grows last offset u.line past, passes.low) in
+          let on = low_onward last u.offset t.offset u.line t.line k (are.each from u at_u).line.0
+          (slope_up targets from i u t are low at_u at_t) here in
           absurd (passed_high f k y t is stands some later on);
     })

@@ -12,7 +12,8 @@ use Rattle.sightlines.specs.Sight.{is_open}
 use Rattle.sight.specs.Marks.{AreMarkedBelow, AreMarked, AreLeft, MarksSeen, MarksSeenIfOpen}
 use Rattle.terrain.specs.declared.observer.Observer.{Observer}
 
-pub marked_more : (b : Bounds) (Holds : Place → Bool → Type 0) (p : Place) (marks : List Bool) (i : ℕ) (x : Bool) → IsInBounds b p → i ≡ index_in b p → AreMarkedBelow b Holds i marks → Holds p x
+pub marked_more : (b : Bounds) (Holds : Place → Bool → Type 0) (p : Place) (marks : List Bool) (i :
+    ℕ) (x : Bool) → IsInBounds b p → i ≡ index_in b p → AreMarkedBelow b Holds i marks → Holds p x
     → AreMarkedBelow b Holds (i + 1) (set marks i x)
 marked_more b Holds p marks i x inside at before is = record {
   size = length-set marks i x ∙ before.size;
@@ -20,14 +21,18 @@ marked_more b Holds p marks i x inside at before is = record {
     | inl e ↦
         let one : p ≡ q = within_injective b p q inside within (sym at ∙ sym e) in
         let room : i < length marks = omega (arith, index_in_below b p inside, before.size) in
-        let here : get_or (set marks i x) (index_in b q) false ≡ x = ap (λ k. get_or (set marks i x) k false) e ∙ get_or-set_same marks i x false room in
+        let here : get_or (set marks i x) (index_in b q) false ≡ x =
+        ap (λ k. get_or (set marks i x) k false) e ∙ get_or-set_same marks i x false room in
         subst (Holds q) (sym here) (subst (λ (r : Place). Holds r x) one is)
-    | inr ne ↦ subst (Holds q) (sym (get_or-set_other marks i (index_in b q) x false ne)) (before.each q within (omega arith))
+    | inr ne ↦ subst (Holds q) (sym (get_or-set_other marks i (index_in b q) x false ne))
+        (before.each q within (omega arith))
   ];
 }
 
 -- the marks that a sweep leaves are those of the seen places
-pub left_seen : (b : Bounds) (t : Terrain) (o : Observer) (target radius : ℕ) (old new : List Bool) → AreMarked b (MarksSeenIfOpen t o target radius) old → AreLeft b (λ (p : Place). is_open t o p target) old new
+pub left_seen : (b : Bounds) (t : Terrain) (o : Observer) (target radius : ℕ)
+    (old new : List Bool) → AreMarked b (MarksSeenIfOpen t o target radius) old →
+    AreLeft b (λ (p : Place). is_open t o p target) old new
     → AreMarked b (MarksSeen t o target radius) new
 left_seen b t o target radius old new marked left = record {
   size = left.size ∙ marked.size;

@@ -16,46 +16,84 @@ use Rattle.sightlines.proofs.Crossings.{height_is, column_blocks-walk, row_block
 
 -- the coordinates of an observer and a tile
 abbrev pub columns_at : Bounds → Place → Coordinate
-columns_at b p = record { at = p.col; stride = 1; tile = record { first = b.left; cells = b.cols; stride = 1 } }
+columns_at b p =
+    record { at = p.col; stride = 1; tile = record { first = b.left; cells = b.cols; stride = 1 } }
 
 abbrev pub rows_at : Terrain → Bounds → Place → Coordinate
-rows_at t b p = record { at = p.row; stride = t.cols; tile = record { first = b.top; cells = b.rows; stride = b.cols } }
+rows_at t b p = record {
+  at = p.row;
+  stride = t.cols;
+  tile = record { first = b.top; cells = b.rows; stride = b.cols };
+}
 
-pub column_marks : (b : Bounds) (x y n : ℕ) → n ≡ b.rows * b.cols → x < b.cols → y < b.rows → x * 1 + y * b.cols < n
+pub column_marks : (b : Bounds) (x y n : ℕ) → n ≡ b.rows * b.cols → x < b.cols → y < b.rows →
+    x * 1 + y * b.cols < n
 column_marks b x y n size in_x in_y = omega (arith, size, mul-add-lt y b.cols x b.rows in_y in_x)
 
-pub row_marks : (b : Bounds) (x y n : ℕ) → n ≡ b.rows * b.cols → x < b.rows → y < b.cols → x * b.cols + y * 1 < n
+pub row_marks : (b : Bounds) (x y n : ℕ) → n ≡ b.rows * b.cols → x < b.rows → y < b.cols →
+    x * b.cols + y * 1 < n
 row_marks b x y n size in_x in_y = omega (arith, size, mul-add-lt x b.cols y b.rows in_x in_y)
 
 -- the new mark stays right if its index and its test are replaced by equal ones
-reported : (new old : List Bool) (i j : ℕ) (walked blocked : Bool) → i ≡ j → walked ≡ blocked → get_or new i false ≡ (get_or old i false && not walked) → get_or new j false ≡ (get_or old j false && not blocked)
+reported : (new old : List Bool) (i j : ℕ) (walked blocked : Bool) →
+    i ≡ j → walked ≡ blocked → get_or new i false ≡ (get_or old i false && not walked) →
+    get_or new j false ≡ (get_or old j false && not blocked)
 reported new old i j walked blocked at same is =
-    ap (λ k. get_or new k false) (sym at) ∙ is ∙ ap (λ k. get_or old k false && not walked) at ∙ ap (λ b. get_or old j false && not b) same
+    ap (λ k. get_or new k false) (sym at) ∙ is ∙ ap (λ k. get_or old k false && not walked) at
+    ∙ ap (λ b. get_or old j false && not b) same
 
-module _ (t : Terrain) (p : Place) (b : Bounds) (e : ℤ) (target : ℕ) (old new : List Bool) (observer : IsInside t p) (rows : b.top + b.rows ≤ t.rows) (cols : b.left + b.cols ≤ t.cols) where
-  column_told : (q : Place) → IsInside t q → walk_blocks t.cells (sightline_to t.cells (family_of (columns_at b p) (rows_at t b p) e) target q.col q.row) ≡ column_blocks t p q e (height_of t q +ℤ pos target)
+module _ (t : Terrain) (p : Place) (b : Bounds) (e : ℤ)
+    (target : ℕ) (old new : List Bool) (observer : IsInside t p) (rows : b.top + b.rows ≤ t.rows)
+    (cols : b.left + b.cols ≤ t.cols) where
+  column_told : (q : Place) → IsInside t q → walk_blocks t.cells
+      (sightline_to t.cells (family_of (columns_at b p) (rows_at t b p) e) target q.col q.row)
+      ≡ column_blocks t p q e (height_of t q +ℤ pos target)
   column_told q inside =
-      let height = height_is t q.row q.col (q.col * 1 + q.row * t.cols) inside.0 inside.1 (omega arith) in
-      let line : Option ℤ → Sightline = λ h. record { lead = columns_of p q; side = rows_of t p q; from_level = e; to_level = unwrap_or h (pos 0) +ℤ pos target } in
-      ap (λ h. walk_blocks t.cells (line h)) (sym height) ∙ sym (column_blocks-walk t p q e (height_of t q +ℤ pos target) observer inside)
+      let height =
+      height_is t q.row q.col (q.col * 1 + q.row * t.cols) inside.0 inside.1 (omega arith) in
+      let line : Option ℤ → Sightline = λ h. record {
+        lead = columns_of p q;
+        side = rows_of t p q;
+        from_level = e;
+        to_level = unwrap_or h (pos 0) +ℤ pos target;
+      } in
+      ap (λ h. walk_blocks t.cells (line h)) (sym height)
+      ∙ sym (column_blocks-walk t p q e (height_of t q +ℤ pos target) observer inside)
 
-  row_told : (q : Place) → IsInside t q → walk_blocks t.cells (sightline_to t.cells (family_of (rows_at t b p) (columns_at b p) e) target q.row q.col) ≡ row_blocks t p q e (height_of t q +ℤ pos target)
+  row_told : (q : Place) → IsInside t q → walk_blocks t.cells
+      (sightline_to t.cells (family_of (rows_at t b p) (columns_at b p) e) target q.row q.col)
+      ≡ row_blocks t p q e (height_of t q +ℤ pos target)
   row_told q inside =
-      let height = height_is t q.row q.col (q.row * t.cols + q.col * 1) inside.0 inside.1 (omega arith) in
-      let line : Option ℤ → Sightline = λ h. record { lead = rows_of t p q; side = columns_of p q; from_level = e; to_level = unwrap_or h (pos 0) +ℤ pos target } in
-      ap (λ h. walk_blocks t.cells (line h)) (sym height) ∙ sym (row_blocks-walk t p q e (height_of t q +ℤ pos target) observer inside)
+      let height =
+      height_is t q.row q.col (q.row * t.cols + q.col * 1) inside.0 inside.1 (omega arith) in
+      let line : Option ℤ → Sightline = λ h. record {
+        lead = rows_of t p q;
+        side = columns_of p q;
+        from_level = e;
+        to_level = unwrap_or h (pos 0) +ℤ pos target;
+      } in
+      ap (λ h. walk_blocks t.cells (line h)) (sym height)
+      ∙ sym (row_blocks-walk t p q e (height_of t q +ℤ pos target) observer inside)
 
-  pub columns_left : AreOpen t.cells (family_of (columns_at b p) (rows_at t b p) e) (window_of (columns_at b p) (rows_at t b p)) target old new → AreLeft b (λ (q : Place). not (column_blocks t p q e (height_of t q +ℤ pos target))) old new
+  pub columns_left : AreOpen t.cells (family_of (columns_at b p) (rows_at t b p) e)
+      (window_of (columns_at b p) (rows_at t b p)) target old new →
+      AreLeft b (λ (q : Place). not (column_blocks t p q e (height_of t q +ℤ pos target))) old new
   columns_left are = record {
     size = are.size;
-    each = λ q inside. reported new old ((q.col - b.left) * 1 + (q.row - b.top) * b.cols) (index_in b q) _ _ (omega arith) (column_told q (omega (arith, inside.1, rows), omega (arith, inside.3, cols)))
+    each = λ q inside.
+        reported new old ((q.col - b.left) * 1 + (q.row - b.top) * b.cols) (index_in b q) _ _
+        (omega arith) (column_told q (omega (arith, inside.1, rows), omega (arith, inside.3, cols)))
         (are.each q.col q.row (inside.2, inside.3) (inside.0, inside.1));
   }
 
-  pub rows_left : AreOpen t.cells (family_of (rows_at t b p) (columns_at b p) e) (window_of (rows_at t b p) (columns_at b p)) target old new → AreLeft b (λ (q : Place). not (row_blocks t p q e (height_of t q +ℤ pos target))) old new
+  pub rows_left : AreOpen t.cells (family_of (rows_at t b p) (columns_at b p) e)
+      (window_of (rows_at t b p) (columns_at b p)) target old new →
+      AreLeft b (λ (q : Place). not (row_blocks t p q e (height_of t q +ℤ pos target))) old new
   rows_left are = record {
     size = are.size;
-    each = λ q inside. reported new old ((q.row - b.top) * b.cols + (q.col - b.left) * 1) (index_in b q) _ _ (omega arith) (row_told q (omega (arith, inside.1, rows), omega (arith, inside.3, cols)))
+    each = λ q inside.
+        reported new old ((q.row - b.top) * b.cols + (q.col - b.left) * 1) (index_in b q) _ _
+        (omega arith) (row_told q (omega (arith, inside.1, rows), omega (arith, inside.3, cols)))
         (are.each q.row q.col (inside.0, inside.1) (inside.2, inside.3));
   }
 
@@ -63,8 +101,10 @@ and_both : (m n k a c : Bool) → n ≡ (m && a) → k ≡ (n && c) → k ≡ (m
 and_both true n k a c one two = two ∙ ap (λ z. z && c) one
 and_both false n k a c one two = two ∙ ap (λ z. z && c) one
 
-pub left_both : (b : Bounds) (one two : Place → Bool) (old mid new : List Bool) → AreLeft b one old mid → AreLeft b two mid new → AreLeft b (λ p. one p && two p) old new
+pub left_both : (b : Bounds) (one two : Place → Bool) (old mid new : List Bool) →
+    AreLeft b one old mid → AreLeft b two mid new → AreLeft b (λ p. one p && two p) old new
 left_both b one two old mid new first second = record {
   size = second.size ∙ first.size;
-  each = λ p inside. and_both (mark_at b old p) (mark_at b mid p) (mark_at b new p) (one p) (two p) (first.each p inside) (second.each p inside);
+  each = λ p inside. and_both (mark_at b old p) (mark_at b mid p) (mark_at b new p) (one p) (two p)
+      (first.each p inside) (second.each p inside);
 }

@@ -21,15 +21,22 @@ abbrev pub ValueRow : Type 0
 ValueRow = Terrain × List ℕ
 
 abbrev pub HaveValues : List ValueRow → Type 0
-HaveValues rows = map (λ (row : ValueRow). values_from_corner row.0) rows ≡ map (λ (row : ValueRow). row.1) rows
+HaveValues rows =
+    map (λ (row : ValueRow). values_from_corner row.0) rows ≡ map (λ (row : ValueRow). row.1) rows
 
 -- ground at the line, then above it; NODATA, which blocks nothing; averages above it, then at it
 small_grids : HaveValues (
     (land 3 1 (up 0 ∷ up 5 ∷ up 10 ∷ []), 1 ∷ 1 ∷ 1 ∷ [])
     ∷ (land 3 1 (up 0 ∷ up 6 ∷ up 10 ∷ []), 1 ∷ 1 ∷ 0 ∷ [])
     ∷ (land 3 2 (up 0 ∷ up 30000 ∷ up 0 ∷ up 0 ∷ None ∷ up 0 ∷ []), 1 ∷ 1 ∷ 0 ∷ 1 ∷ 0 ∷ 1 ∷ [])
-    ∷ (land 3 2 (up 0 ∷ up 8 ∷ up 0 ∷ up 0 ∷ Some (negsuc 6) ∷ up 0 ∷ []), 1 ∷ 1 ∷ 0 ∷ 1 ∷ 1 ∷ 0 ∷ [])
-    ∷ (land 3 2 (up 0 ∷ up 8 ∷ up 0 ∷ up 0 ∷ Some (negsuc 7) ∷ up 0 ∷ []), 1 ∷ 1 ∷ 0 ∷ 1 ∷ 1 ∷ 1 ∷ [])
+    ∷ (
+      land 3 2 (up 0 ∷ up 8 ∷ up 0 ∷ up 0 ∷ Some (negsuc 6) ∷ up 0 ∷ []),
+      1 ∷ 1 ∷ 0 ∷ 1 ∷ 1 ∷ 0 ∷ [],
+    )
+    ∷ (
+      land 3 2 (up 0 ∷ up 8 ∷ up 0 ∷ up 0 ∷ Some (negsuc 7) ∷ up 0 ∷ []),
+      1 ∷ 1 ∷ 0 ∷ 1 ∷ 1 ∷ 1 ∷ [],
+    )
     ∷ [])
 small_grids = refl
 
@@ -43,7 +50,8 @@ flat = land 3 3 (map up (0 ∷ 0 ∷ 0 ∷ 0 ∷ 0 ∷ 0 ∷ 0 ∷ 0 ∷ 0 ∷ [
 abbrev pub middle : Observer
 middle = record { row = 1; col = 1; eye = 0 }
 
-an_observer_twice : map (viewshed_value flat (middle ∷ middle ∷ []) 0 1) (places 3 3) ≡ 0 ∷ 2 ∷ 0 ∷ 2 ∷ 2 ∷ 2 ∷ 0 ∷ 2 ∷ 0 ∷ []
+an_observer_twice : map (viewshed_value flat (middle ∷ middle ∷ []) 0 1) (places 3 3) ≡ 0 ∷ 2 ∷ 0
+    ∷ 2 ∷ 2 ∷ 2 ∷ 0 ∷ 2 ∷ 0 ∷ []
 an_observer_twice = refl
 
 -- the faults of observers, in their order
@@ -63,7 +71,10 @@ observer_faults : HaveFaults (
     (observers_fault gap (observer_at 2 0 0 ∷ []) 0 1, Some (Outside 0))
     ∷ (observers_fault gap (observer_at 0 0 0 ∷ observer_at 0 3 0 ∷ []) 0 1, Some (Outside 1))
     ∷ (observers_fault gap (observer_at 1 1 0 ∷ observer_at 9 9 0 ∷ []) 0 1, Some (OnNodata 0))
-    ∷ (observers_fault gap (observer_at 9 9 0 ∷ observer_at 0 0 1000001 ∷ []) 0 0, Some (BadEye (Some 1)))
+    ∷ (
+      observers_fault gap (observer_at 9 9 0 ∷ observer_at 0 0 1000001 ∷ []) 0 0,
+      Some (BadEye (Some 1)),
+    )
     ∷ (observers_fault gap (observer_at 9 9 1000001 ∷ []) 1000001 0, Some (BadEye None))
     ∷ (observers_fault gap (observer_at 9 9 0 ∷ []) 1000000 0, Some BadRadius)
     ∷ (observers_fault gap (observer_at 0 0 0 ∷ []) 0 8193, Some BadRadius)

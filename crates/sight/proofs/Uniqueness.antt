@@ -17,12 +17,14 @@ use Rattle.tile_maps.proofs.Whole.{map_of_size}
 abbrev place_of_index : ℕ → ℕ → Place
 place_of_index cols k = record { row = k / cols; col = k % cols }
 
-entry_told : (h : Option ℤ) (n : ℕ) (entry : Option ℕ) → MatchOption h (entry ≡ None) (λ _. entry ≡ Some n) → entry ≡ option_map (λ _. n) h
+entry_told : (h : Option ℤ) (n : ℕ) (entry : Option ℕ) →
+    MatchOption h (entry ≡ None) (λ _. entry ≡ Some n) → entry ≡ option_map (λ _. n) h
 entry_told None n entry e = e
 entry_told (Some x) n entry e = e
 
 -- the entry at an index is the value of its place
-entry_is : (t : Terrain) (observers : List Observer) (target radius : ℕ) (values : List (Option ℕ)) (k : ℕ) → IsViewshed t observers target radius values → k < t.cols * t.rows
+entry_is : (t : Terrain) (observers : List Observer) (target radius : ℕ) (values : List (Option ℕ))
+    (k : ℕ) → IsViewshed t observers target radius values → k < t.cols * t.rows
     → get_or values k None ≡ value_at t observers target radius (place_of_index t.cols k)
 entry_is t observers target radius values k is below =
     let p = place_of_index t.cols k in
@@ -32,25 +34,40 @@ entry_is t observers target radius values k is below =
     let at : index_of t.cols p ≡ k = div-add-mod' k t.cols in
     ap (λ n. get_or values n None) (sym at)
     ∙ sym (entry-inside t.cols t.rows values p row col)
-    ∙ entry_told (height_at t p) (viewshed_value t observers target radius p) (entry_at t.cols t.rows values p) (is.each p (row, col))
+    ∙ entry_told (height_at t p) (viewshed_value t observers target radius p)
+    (entry_at t.cols t.rows values p) (is.each p (row, col))
   where
     positive : (a b k : ℕ) → k < a * b → 0 < a
     positive a b k h = grind arith
 
-all_are : (t : Terrain) (observers : List Observer) (target radius : ℕ) (values : List (Option ℕ)) → IsViewshed t observers target radius values
-    → values ≡ map (λ k. value_at t observers target radius (place_of_index t.cols k)) (range_with_len 0 (t.cols * t.rows))
+all_are : (t : Terrain) (observers : List Observer) (target radius : ℕ) (values : List (Option ℕ)) →
+    IsViewshed t observers target radius values
+    → values ≡ map (λ k. value_at t observers target radius (place_of_index t.cols k))
+    (range_with_len 0 (t.cols * t.rows))
 all_are t observers target radius values is =
-    fill_by_all (λ k. value_at t observers target radius (place_of_index t.cols k)) values (t.cols * t.rows) None is.size (λ k h. entry_is t observers target radius values k is h)
+    fill_by_all (λ k. value_at t observers target radius (place_of_index t.cols k)) values
+    (t.cols * t.rows) None is.size (λ k h. entry_is t observers target radius values k is h)
 
-pub viewsheds_are_one : (t : Terrain) (observers : List Observer) (target radius : ℕ) (values others : List (Option ℕ))
-    → IsViewshed t observers target radius values → IsViewshed t observers target radius others → values ≡ others
-viewsheds_are_one t observers target radius values others a b = all_are t observers target radius values a ∙ sym (all_are t observers target radius others b)
+pub viewsheds_are_one :
+    (t : Terrain) (observers : List Observer) (target radius : ℕ) (values others : List (Option ℕ))
+    → IsViewshed t observers target radius values → IsViewshed t observers target radius others →
+    values ≡ others
+viewsheds_are_one t observers target radius values others a b =
+    all_are t observers target radius values a ∙ sym (all_are t observers target radius others b)
 
-reported : (h : Option ℤ) (n : ℕ) (entry : Option ℕ) → entry ≡ option_map (λ _. n) h → MatchOption h (entry ≡ None) (λ _. entry ≡ Some n)
+reported : (h : Option ℤ) (n : ℕ) (entry : Option ℕ) → entry ≡ option_map (λ _. n) h →
+    MatchOption h (entry ≡ None) (λ _. entry ≡ Some n)
 reported None n entry e = e
 reported (Some x) n entry e = e
 
-pub whole_viewed : (c : Cutting) (t : Terrain) (observers : List Observer) (target radius : ℕ) (values : List (Option ℕ)) → Cuts c t → IsMadeMap c (HasValue t observers target radius) values → IsViewshed t observers target radius values
+pub whole_viewed : (c : Cutting) (t : Terrain) (observers : List Observer)
+    (target radius : ℕ) (values : List (Option ℕ)) → Cuts c t → IsMadeMap c
+    (HasValue t observers target radius) values → IsViewshed t observers target radius values
 whole_viewed c t observers target radius values cuts made =
-    let all = map_of_size c t.cols t.rows (HasValue t observers target radius) values cuts.0 cuts.1 made in
-    record { size = all.0; each = λ p i. reported (height_at t p) (viewshed_value t observers target radius p) (entry_at t.cols t.rows values p) (all.1 p i) }
+    let all =
+    map_of_size c t.cols t.rows (HasValue t observers target radius) values cuts.0 cuts.1 made in
+    record {
+      size = all.0;
+      each = λ p i. reported (height_at t p) (viewshed_value t observers target radius p)
+          (entry_at t.cols t.rows values p) (all.1 p i);
+    }

@@ -10,12 +10,14 @@ use Rattle.sightlines.specs.Walk.{AreHeights}
 
 pub are_heights : (t : Terrain) → IsTerrain t → AreHeights t.cells
 are_heights t is i h at = elim (cases_lt i (length t.cells)) [
-  | inl within ↦ rw at at (All-get_or (λ (c : Option ℤ). IfSome c IsHeight) t.cells i None within is.heights)
+  | inl within ↦
+      rw at at (All-get_or (λ (c : Option ℤ). IfSome c IsHeight) t.cells i None within is.heights)
   | inr past ↦ let none = get_or_past t.cells i None past in absurd (cc)
 ]
 
 -- the height of a cell, 0 where it has none, is within the limits
-pub ground_is_height : (height : Option ℤ) → ((h : ℤ) → height ≡ Some h → IsHeight h) → IsHeight (unwrap_or height (pos 0))
+pub ground_is_height : (height : Option ℤ) → ((h : ℤ) → height ≡ Some h → IsHeight h) →
+    IsHeight (unwrap_or height (pos 0))
 ground_is_height None are = (omega (arith, ints), omega (arith, ints))
 ground_is_height (Some h) are = are h refl
 
@@ -26,12 +28,17 @@ height_fits h is = omega (arith, ints, is)
 pub kept : (h : ℤ) → IsHeight h → IsHeight (to_z w64 (of_z w64 h))
 kept h is = rw (to_z-of_z w64 h (height_fits h is)) is
 
-pub has_height : (cells : List (Option ℤ)) (index : ℕ) {cell height : Option ℤ} {h : ℤ} → cell ≡ get_or cells index cell → height ≡ cell → height ≡ Some h → index < length cells →
+pub has_height : (cells : List (Option ℤ)) (index : ℕ) {cell height : Option ℤ} {h : ℤ} →
+    cell ≡ get_or cells index cell → height ≡ cell → height ≡ Some h → index < length cells →
     get_or cells index None ≡ Some h
-has_height cells index {cell = cell} read same is below = sym (read ∙ get_or_default cells index cell None below) ∙ sym same ∙ is
+has_height cells index {cell = cell} read same is below =
+    sym (read ∙ get_or_default cells index cell None below) ∙ sym same ∙ is
 
 -- the product of a height and a weight, as the code computes it, fits and is exact
-pub weighed_is : (h : ℤ) (n : ℕ) → n ≤ 4096 → IsHeight h → let z = to_z w64 n *ℤ to_z w64 (of_z w64 h) in FitsSigned w64 z × (to_z w64 (of_z w64 z) ≡ pos n *ℤ h)
+pub weighed_is : (h : ℤ) (n : ℕ) → n ≤ 4096 → IsHeight h → let z =
+    to_z w64 n *ℤ to_z w64 (of_z w64 h) in FitsSigned w64 z × (to_z w64 (of_z w64 z) ≡ pos n *ℤ h)
 weighed_is h n few is =
-    let fits = fits_signed_mul w64 (pos n) h 4096 (10 ^ 15) few (omega (arith, ints, is)) (omega arith) in
-    rw (to_z_pos w64 n (omega arith), to_z-of_z w64 h (height_fits h is)) (fits, to_z-of_z w64 (pos n *ℤ h) fits)
+    let fits =
+    fits_signed_mul w64 (pos n) h 4096 (10 ^ 15) few (omega (arith, ints, is)) (omega arith) in
+    rw (to_z_pos w64 n (omega arith), to_z-of_z w64 h (height_fits h is))
+    (fits, to_z-of_z w64 (pos n *ℤ h) fits)

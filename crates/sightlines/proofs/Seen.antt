@@ -9,10 +9,13 @@ use Rattle.terrain.specs.declared.observer.Observer.{Observer}
 use Rattle.sightlines.proofs.Crossings.{column_blocks-walk, row_blocks-walk, columns_in_list, rows_in_list, walk_back}
 
 -- with data in both cells and the target within the radius, the crossings decide
-seen_is : (t : Terrain) (o : Observer) (q : Place) (target radius : ℕ) (from to : ℤ) → IsInside t (place_of o) → IsInside t q
-    → height_at t (place_of o) ≡ Some from → height_at t q ≡ Some to → is_near (place_of o) q radius ≡ true
+seen_is : (t : Terrain) (o : Observer) (q : Place) (target radius : ℕ) (from to : ℤ) →
+    IsInside t (place_of o) → IsInside t q
+    → height_at t (place_of o) ≡ Some from → height_at t q ≡ Some to →
+    is_near (place_of o) q radius ≡ true
     → let p = place_of o in let e = from +ℤ pos o.eye in let f = to +ℤ pos target in
-    is_seen t o q target radius ≡ (not (walk_blocks t.cells (over_columns t q p f e)) && not (walk_blocks t.cells (over_rows t q p f e)))
+    is_seen t o q target radius ≡ (not (walk_blocks t.cells (over_columns t q p f e))
+    && not (walk_blocks t.cells (over_rows t q p f e)))
 seen_is t o q target radius from to a b from_is to_is near =
     let p = place_of o in
     let e = from +ℤ pos o.eye in
@@ -29,33 +32,51 @@ out_of_reach true true c = refl
 out_of_reach true false c = refl
 
 -- no place outside the radius is seen
-pub unseen : (t : Terrain) (o : Observer) (q : Place) (target radius : ℕ) → is_near (place_of o) q radius ≡ false → is_seen t o q target radius ≡ false
-unseen t o q target radius far = rw far (out_of_reach (is_some (height_at t (place_of o))) (is_some (height_at t q)) _)
+pub unseen : (t : Terrain) (o : Observer) (q : Place) (target radius : ℕ) →
+    is_near (place_of o) q radius ≡ false → is_seen t o q target radius ≡ false
+unseen t o q target radius far =
+    rw far (out_of_reach (is_some (height_at t (place_of o))) (is_some (height_at t q)) _)
 
-reached_is : (t : Terrain) (o : Observer) (q : Place) (target radius : ℕ) (from to : ℤ) → height_at t (place_of o) ≡ Some from → height_at t q ≡ Some to → is_near (place_of o) q radius ≡ true
+reached_is : (t : Terrain) (o : Observer) (q : Place) (target radius : ℕ) (from to : ℤ) →
+    height_at t (place_of o) ≡ Some from → height_at t q ≡ Some to →
+    is_near (place_of o) q radius ≡ true
     → is_seen t o q target radius ≡ is_open t o q target
 reached_is t o q target radius from to from_is to_is near = rw (from_is, to_is, near) refl
 
-small : (t : Terrain) (p q : Place) (e f : ℤ) → IsTerrain t → IsInside t p → IsInside t q → IsLevel e → IsLevel f → IsSightline (over_columns t q p f e) × IsSightline (over_rows t q p f e)
+small : (t : Terrain) (p q : Place) (e f : ℤ) → IsTerrain t → IsInside t p → IsInside t q →
+    IsLevel e → IsLevel f → IsSightline (over_columns t q p f e) × IsSightline (over_rows t q p f e)
 small t p q e f is a b e_level f_level = (
   record {
-    ends = (omega (arith, is.few_cols), omega (arith, is.few_cols), omega (arith, is.few_rows), omega (arith, is.few_rows));
+    ends = (
+      omega (arith, is.few_cols),
+      omega (arith, is.few_cols),
+      omega (arith, is.few_rows),
+      omega (arith, is.few_rows),
+    );
     strides = (omega arith, is.few_cols);
     from_level = f_level;
     to_level = e_level;
   },
   record {
-    ends = (omega (arith, is.few_rows), omega (arith, is.few_rows), omega (arith, is.few_cols), omega (arith, is.few_cols));
+    ends = (
+      omega (arith, is.few_rows),
+      omega (arith, is.few_rows),
+      omega (arith, is.few_cols),
+      omega (arith, is.few_cols),
+    );
     strides = (is.few_cols, omega arith);
     from_level = f_level;
     to_level = e_level;
   },
 )
 
-pub lines_are : (t : Terrain) (o : Observer) (q : Place) (target radius : ℕ) (from to : ℤ) → IsTerrain t → IsInside t (place_of o) → IsInside t q
-    → height_at t (place_of o) ≡ Some from → height_at t q ≡ Some to → is_near (place_of o) q radius ≡ true → IsLevel (from +ℤ pos o.eye) → IsLevel (to +ℤ pos target)
+pub lines_are : (t : Terrain) (o : Observer) (q : Place) (target radius : ℕ) (from to : ℤ) →
+    IsTerrain t → IsInside t (place_of o) → IsInside t q
+    → height_at t (place_of o) ≡ Some from → height_at t q ≡ Some to →
+    is_near (place_of o) q radius ≡ true → IsLevel (from +ℤ pos o.eye) → IsLevel (to +ℤ pos target)
     → let p = place_of o in let e = from +ℤ pos o.eye in let f = to +ℤ pos target in
-    AreSightlines t o q target radius (record { columns = over_columns t q p f e; rows = over_rows t q p f e })
+    AreSightlines t o q target radius
+    (record { columns = over_columns t q p f e; rows = over_rows t q p f e })
 lines_are t o q target radius from to is a b from_is to_is near e_level f_level =
     let p = place_of o in
     let e = from +ℤ pos o.eye in
@@ -80,6 +101,7 @@ hidden_by_rows seen true b is blocked = sym is
 hidden_by_rows seen false b is blocked = sym (is ∙ ap not blocked)
 
 -- a row crossing that blocks hides the target; where none was found, `is_open` decides
-pub seen_if_open : (seen is_open a b rows : Bool) → seen ≡ (not a && not b) → seen ≡ is_open → (rows ≡ true → b ≡ true) → (not rows && is_open) ≡ seen
+pub seen_if_open : (seen is_open a b rows : Bool) → seen ≡ (not a && not b) → seen ≡ is_open →
+    (rows ≡ true → b ≡ true) → (not rows && is_open) ≡ seen
 seen_if_open seen is_open a b true is same reported = hidden_by_rows seen a b is (reported refl)
 seen_if_open seen is_open a b false is same reported = sym same

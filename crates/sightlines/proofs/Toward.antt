@@ -7,21 +7,26 @@ use Rattle.std.proofs.lemmas.Nat.{div-mul-add, mod-mul-add, div-add-mod', mul-le
 use Rattle.sightlines.specs.Sight.{toward, onward}
 
 -- quotient and remainder of t by n, where t plus `back` * n is x * n + m
-pub quotient_is : (t x n m back : ℕ) → t + back * n ≡ x * n + m → m < n → (t / n + back ≡ x) × (t % n ≡ m)
+pub quotient_is : (t x n m back : ℕ) → t + back * n ≡ x * n + m → m < n → (t / n + back ≡ x)
+    × (t % n ≡ m)
 quotient_is t x n m back e below =
     let low : back ≤ x = elim (cases_lt x back) [
       | inl h ↦ absurd (omega (arith, mul-le (x + 1) n back n (omega arith) (omega arith)))
       | inr h ↦ h
     ] in
     let split : x ≡ (x - back) + back = omega arith in
-    let t_is : t ≡ (x - back) * n + m = omega (arith, ap (λ z. z * n) split) in
-    (rw t_is (rw (div-mul-add (x - back) n m below) (omega arith)), rw t_is (mod-mul-add (x - back) n m below))
+    let t_is : t ≡ (x - back) * n + m = omega (arith, ap (λ z. z * n) split) in (
+      rw t_is (rw (div-mul-add (x - back) n m below) (omega arith)),
+      rw t_is (mod-mul-add (x - back) n m below),
+    )
 
 more : (a b k m r : ℕ) → a * r + b * (k + m) + m * a ≡ a * (r + m) + b * k + m * b
 more a b k m r = omega arith
 
-pub toward_more : (a b n k m : ℕ) → k + m ≤ n → toward a b n (k + m) + m * a ≡ toward a b n k + m * b
-toward_more a b n k m h = let e : n - k ≡ (n - (k + m)) + m = omega arith in rw e (more a b k m (n - (k + m)))
+pub toward_more : (a b n k m : ℕ) → k + m ≤ n →
+    toward a b n (k + m) + m * a ≡ toward a b n k + m * b
+toward_more a b n k m h = let e : n - k ≡ (n - (k + m)) + m = omega arith in
+    rw e (more a b k m (n - (k + m)))
 
 within : (a b m k r : ℕ) → a ≤ m → b ≤ m → a * r + b * k ≤ m * (r + k)
 within a b m k r p q = omega (arith, mul-le a r m r p (omega arith), mul-le b k m k q (omega arith))
@@ -29,24 +34,32 @@ within a b m k r p q = omega (arith, mul-le a r m r p (omega arith), mul-le b k 
 pub toward_le : (a b n k : ℕ) → k ≤ n → toward a b n k ≤ max a b * n
 toward_le a b n k h =
     let e : n ≡ (n - k) + k = omega arith in
-    let fact : toward a b n k ≤ max a b * ((n - k) + k) = within a b (max a b) k (n - k) (omega arith) (omega arith) in
+    let fact : toward a b n k ≤ max a b * ((n - k) + k) =
+    within a b (max a b) k (n - k) (omega arith) (omega arith) in
     omega (arith, ap (λ z. max a b * z) e)
 
 -- the place after m more steps, where the parts stay below a cell and where they fill one
-pub step_stays : (a b n k m ahead behind part : ℕ) → k + m ≤ n → m * b + behind * n ≡ m * a + ahead * n + part → toward a b n k % n + part < n
-    → (toward a b n (k + m) / n + behind ≡ toward a b n k / n + ahead) × (toward a b n (k + m) % n ≡ toward a b n k % n + part)
+pub step_stays : (a b n k m ahead behind part : ℕ) → k + m ≤ n →
+    m * b + behind * n ≡ m * a + ahead * n + part → toward a b n k % n + part < n
+    → (toward a b n (k + m) / n + behind ≡ toward a b n k / n + ahead)
+    × (toward a b n (k + m) % n ≡ toward a b n k % n + part)
 step_stays a b n k m ahead behind part h gains below =
     let t = toward a b n k in
-    let e : toward a b n (k + m) + behind * n ≡ (t / n + ahead) * n + (t % n + part) = omega (arith, toward_more a b n k m h, div-add-mod' t n) in
+    let e : toward a b n (k + m) + behind * n ≡ (t / n + ahead) * n + (t % n + part) =
+    omega (arith, toward_more a b n k m h, div-add-mod' t n) in
     quotient_is (toward a b n (k + m)) (t / n + ahead) n (t % n + part) behind e below
 
-pub step_passes : (a b n k m ahead behind part : ℕ) → k + m ≤ n → 0 < n → m * b + behind * n ≡ m * a + ahead * n + part → part < n → n ≤ toward a b n k % n + part
-    → (toward a b n (k + m) / n + behind ≡ toward a b n k / n + ahead + 1) × (toward a b n (k + m) % n + n ≡ toward a b n k % n + part)
+pub step_passes : (a b n k m ahead behind part : ℕ) → k + m ≤ n → 0 < n →
+    m * b + behind * n ≡ m * a + ahead * n + part → part < n → n ≤ toward a b n k % n + part
+    → (toward a b n (k + m) / n + behind ≡ toward a b n k / n + ahead + 1)
+    × (toward a b n (k + m) % n + n ≡ toward a b n k % n + part)
 step_passes a b n k m ahead behind part h some gains small passed =
     let t = toward a b n k in
     let low : t % n < n = mod_below t n some in
-    let e : toward a b n (k + m) + behind * n ≡ (t / n + ahead + 1) * n + (t % n + part - n) = omega (arith, toward_more a b n k m h, div-add-mod' t n) in
-    let both = quotient_is (toward a b n (k + m)) (t / n + ahead + 1) n (t % n + part - n) behind e (omega arith) in
+    let e : toward a b n (k + m) + behind * n ≡ (t / n + ahead + 1) * n + (t % n + part - n) =
+    omega (arith, toward_more a b n k m h, div-add-mod' t n) in
+    let both = quotient_is (toward a b n (k + m)) (t / n + ahead + 1) n (t % n
+    + part - n) behind e (omega arith) in
     (both.0, omega (arith, both.1))
 
 up_by : (a k r : ℕ) → a * r + (a + (r + k)) * k ≡ (a + k) * (r + k) + 0
@@ -86,10 +99,12 @@ pub onward_is : (a b n k : ℕ) → n ≡ abs_diff a b → 0 < n → k ≤ n →
 onward_is a b n k e some h =
     elim (cases_lt a b) [
       | inl low ↦ rw (lt-ltb a b low) (sym (lead_up_is a b n k (omega arith) some h))
-      | inr high ↦ let there = lead_down_is a b n k (omega arith) some h in rw (le-ltb a b high) (omega (arith, there))
+      | inr high ↦ let there = lead_down_is a b n k (omega arith) some h in
+          rw (le-ltb a b high) (omega (arith, there))
     ]
 
-pub lead_part : (a b n ahead behind part : ℕ) → n ≡ abs_diff a b → b + behind * n ≡ a + ahead * n + part → part < n → part ≡ 0
+pub lead_part : (a b n ahead behind part : ℕ) → n ≡ abs_diff a b →
+    b + behind * n ≡ a + ahead * n + part → part < n → part ≡ 0
 lead_part a b n ahead behind part e gains below =
     elim (cases_lt a b) [
       | inl low ↦ sym (quotient_is 0 ahead n part (behind + 1) (omega arith) below).1 ∙ zero-mod n

@@ -28,12 +28,16 @@ pub height_is : (t : Terrain) (p : Place) (h : ℤ) → height_at t p ≡ Some h
 height_is t p h e = ap (λ (o : Option ℤ). unwrap_or o (pos 0)) e
 
 -- if all heights of a list are within their limits, the height at an index is
-pub listed_height : (cells : List (Option ℤ)) (i : ℕ) (h : ℤ) → All (λ c. IfSome c IsHeight) cells → i < length cells → get_or cells i None ≡ Some h → IsHeight h
-listed_height cells i h heights within e = MatchOption-at_some _ _ h e (All-get_or (λ (c : Option ℤ). IfSome c IsHeight) cells i None within heights)
+pub listed_height : (cells : List (Option ℤ)) (i : ℕ) (h : ℤ) → All (λ c. IfSome c IsHeight) cells →
+    i < length cells → get_or cells i None ≡ Some h → IsHeight h
+listed_height cells i h heights within e = MatchOption-at_some _ _ h e
+    (All-get_or (λ (c : Option ℤ). IfSome c IsHeight) cells i None within heights)
 
 -- the height at a place of a terrain is within its limits
-pub height_in : (t : Terrain) (q : Place) (h : ℤ) → IsTerrain t → height_at t q ≡ Some h → IsHeight h
+pub height_in : (t : Terrain) (q : Place) (h : ℤ) → IsTerrain t → height_at t q ≡ Some h →
+    IsHeight h
 height_in t q h lawful e =
     let inside = inside_from_entry t.cols t.rows t.cells q h e in
-    listed_height t.cells (index_of t.cols q) h lawful.heights (omega (arith, lawful.size, index_below t.cols t.rows q inside.0 inside.1))
+    listed_height t.cells (index_of t.cols q) h lawful.heights
+    (omega (arith, lawful.size, index_below t.cols t.rows q inside.0 inside.1))
     (sym (entry-inside t.cols t.rows t.cells q inside.0 inside.1) ∙ e)

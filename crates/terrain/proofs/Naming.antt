@@ -21,7 +21,8 @@ none_of_both (Some f) b h = absurd (cc)
 abbrev pub IsSound : Terrain → Place → Type 0
 IsSound t p = IsInside t p × IsDataCell t p
 
-has_data : (h : Option ℤ) (i : ℕ) → (if is_none h then Some (OnNodata i) else None) ≡ None → is_some h ≡ true
+has_data : (h : Option ℤ) (i : ℕ) → (if is_none h then Some (OnNodata i) else None) ≡ None →
+    is_some h ≡ true
 has_data None i fault = absurd (cc)
 has_data (Some z) i fault = refl
 
@@ -30,49 +31,64 @@ sound t i p h = elim (cases_Bool (nat_lt p.row t.rows && nat_lt p.col t.cols)) [
   | inl is ↦
       let both = and_parts (nat_lt p.row t.rows) (nat_lt p.col t.cols) is in
       let rest : (if is_none (height_at t p) then Some (OnNodata i) else None) ≡ None =
-      sym (ap (λ b. if not b then Some (Outside i) else if is_none (height_at t p) then Some (OnNodata i) else None) is) ∙ h in
+      sym (ap (λ b. if not b then Some (Outside i) else if is_none
+      (height_at t p) then Some (OnNodata i) else None) is) ∙ h in
       ((ltb-true _ _ both.0, ltb-true _ _ both.1), has_data (height_at t p) i rest)
   | inr isnt ↦
       let fault : sink_fault_of t i p ≡ Some (Outside i) =
-      ap (λ b. if not b then Some (Outside i) else if is_none (height_at t p) then Some (OnNodata i) else None) isnt in
+      ap (λ b. if not b then Some (Outside i) else if is_none
+      (height_at t p) then Some (OnNodata i) else None) isnt in
       absurd (cc)
 ]
 
-all_sound : (t : Terrain) (i : ℕ) (places : List Place) → first_sink_fault t i places ≡ None → All (IsSound t) places
+all_sound : (t : Terrain) (i : ℕ) (places : List Place) → first_sink_fault t i places ≡ None →
+    All (IsSound t) places
 all_sound t i [] h k d below = absurd (omega (arith, below))
-all_sound t i (p ∷ rest) h zero d below = sound t i p (none_of_both (sink_fault_of t i p) (first_sink_fault t (i + 1) rest) h).0
+all_sound t i (p ∷ rest) h zero d below =
+    sound t i p (none_of_both (sink_fault_of t i p) (first_sink_fault t (i + 1) rest) h).0
 all_sound t i (p ∷ rest) h (suc k) d below =
-    all_sound t (i + 1) rest (none_of_both (sink_fault_of t i p) (first_sink_fault t (i + 1) rest) h).1 k d (omega (arith, below))
+    all_sound t (i + 1) rest (none_of_both (sink_fault_of t i p)
+    (first_sink_fault t (i + 1) rest) h).1 k d (omega (arith, below))
 
-pub few_sinks : (t : Terrain) (sinks : List Place) → sinks_fault t sinks ≡ None → nat_lt most_sinks (length sinks) ≡ false
+pub few_sinks : (t : Terrain) (sinks : List Place) → sinks_fault t sinks ≡ None →
+    nat_lt most_sinks (length sinks) ≡ false
 few_sinks t sinks h = elim (cases_Bool (nat_lt most_sinks (length sinks))) [
-  | inl many ↦ let fault : sinks_fault t sinks ≡ Some TooManySinks = cond-true _ _ _ many in absurd (cc)
+  | inl many ↦ let fault : sinks_fault t sinks ≡ Some TooManySinks = cond-true _ _ _ many in
+      absurd (cc)
   | inr few ↦ few
 ]
 
 -- sinks without a fault are in the grid and have data
-pub sinks_sound : (t : Terrain) (sinks : List Place) → sinks_fault t sinks ≡ None → All (IsSound t) sinks
+pub sinks_sound : (t : Terrain) (sinks : List Place) → sinks_fault t sinks ≡ None →
+    All (IsSound t) sinks
 sinks_sound t sinks h = all_sound t 0 sinks (sym (cond-false _ _ _ (few_sinks t sinks h)) ∙ h)
 
-named : (P : Place → Type 0) (places : List Place) (p : Place) → All P places → P p → All P (named_once places p)
+named : (P : Place → Type 0) (places : List Place) (p : Place) → All P places → P p →
+    All P (named_once places p)
 named P places p all one = elim (cases_Bool (list_any (is_place p) places)) [
   | inl is ↦ subst (All P) (sym (cond-true _ _ _ is)) all
-  | inr isnt ↦ subst (All P) (sym (cond-false _ _ _ isnt)) (All-append P places (p ∷ []) all (alone P p one))
+  | inr isnt ↦
+      subst (All P) (sym (cond-false _ _ _ isnt)) (All-append P places (p ∷ []) all (alone P p one))
 ] where
   alone : (P : Place → Type 0) (p : Place) → P p → All P (p ∷ [])
   alone P p one zero d below = one
   alone P p one (suc k) d below = absurd (omega (arith, below))
 
-all_named : (P : Place → Type 0) (places rest : List Place) → All P places → All P rest → All P (fold named_once places rest)
+all_named : (P : Place → Type 0) (places rest : List Place) → All P places → All P rest →
+    All P (fold named_once places rest)
 all_named P places [] all more = all
 all_named P places (p ∷ rest) all more =
-    all_named P (named_once places p) rest (named P places p all (more 0 p (omega arith))) (λ k d below. more (suc k) d (omega (arith, below)))
+    all_named P (named_once places p) rest (named P places p all (more 0 p (omega arith)))
+    (λ k d below. more (suc k) d (omega (arith, below)))
 
-sinks_inside : (t : Terrain) (sinks : List Place) → sinks_fault t sinks ≡ None → All (IsInside t) (each_once sinks)
+sinks_inside : (t : Terrain) (sinks : List Place) → sinks_fault t sinks ≡ None →
+    All (IsInside t) (each_once sinks)
 sinks_inside t sinks h =
-    all_named (IsInside t) [] sinks (λ k d below. absurd (omega (arith, below))) (λ k d below. (sinks_sound t sinks h k d below).0)
+    all_named (IsInside t) [] sinks (λ k d below. absurd (omega (arith, below))) (λ k d below.
+    (sinks_sound t sinks h k d below).0)
 
-pub lawful_with_sinks : (g : Raster) (sinks : List Place) → IsLawful g → sinks_fault g.terrain sinks ≡ None → IsLawful (raster_with_sinks g sinks)
+pub lawful_with_sinks : (g : Raster) (sinks : List Place) → IsLawful g →
+    sinks_fault g.terrain sinks ≡ None → IsLawful (raster_with_sinks g sinks)
 lawful_with_sinks g sinks lawful fault =
     let t = lawful.terrain in
     lawful_with_parts g g.terrain.cells (each_once sinks) lawful t.size t.heights lawful.apart

@@ -18,11 +18,13 @@ pub none_done : {X P : Type 0} (o : Option X) → o ≡ None → IsSome o → P
 none_done None e h = absurd (cc)
 none_done (Some x) e h = absurd (cc)
 
-pub match_of : {X : Type 0} (o : Option X) (P : Type 0) (Q : X → Type 0) → (o ≡ None → P) → ((x : X) → o ≡ Some x → Q x) → MatchOption o P Q
+pub match_of : {X : Type 0} (o : Option X) (P : Type 0) (Q : X → Type 0) → (o ≡ None → P) →
+    ((x : X) → o ≡ Some x → Q x) → MatchOption o P Q
 match_of None P Q none some = none refl
 match_of (Some x) P Q none some = some x refl
 
-pub some_inside : {X : Type 0} (xs : List (Option X)) (a : ℕ) (x : X) → get_or xs a None ≡ Some x → a < length xs
+pub some_inside : {X : Type 0} (xs : List (Option X)) (a : ℕ) (x : X) → get_or xs a None ≡ Some x →
+    a < length xs
 some_inside xs a x e = elim (cases_lt a (length xs)) [
   | inl below ↦ below
   | inr past ↦ none_some (get_or xs a None) x (get_or_past xs a None past) e

@@ -9,7 +9,8 @@ use Rattle.terrain.specs.Parts.{raster_with_parts}
 use Rattle.terrain.specs.declared.place.Place.{Place}
 
 -- a property of all heights of a list holds for cells whose heights occur in the list
-heights_kept : (P : ℤ → Type 0) (old cells : List (Option ℤ)) → All (λ c. IfSome c P) old → All (λ c. IfSome c (λ h. Contains old (Some h))) cells → All (λ c. IfSome c P) cells
+heights_kept : (P : ℤ → Type 0) (old cells : List (Option ℤ)) → All (λ c. IfSome c P) old →
+    All (λ c. IfSome c (λ h. Contains old (Some h))) cells → All (λ c. IfSome c P) cells
 heights_kept P old cells all held i d low = at (get_or cells i d) (held i d low) where
   at : (o : Option ℤ) → IfSome o (λ h. Contains old (Some h)) → IfSome o P
   at None h = h
@@ -43,7 +44,9 @@ lawful_with_parts g cells sinks lawful size heights apart inside =
     }
 
 -- a grid stays lawful with cells whose heights occur in it
-pub lawful_with_cells : (g : Raster) (cells : List (Option ℤ)) → IsLawful g → length cells ≡ g.terrain.cols * g.terrain.rows → All (λ c. IfSome c (λ h. Contains g.terrain.cells (Some h))) cells → IsLawful (raster_with_parts g cells g.terrain.sinks)
+pub lawful_with_cells : (g : Raster) (cells : List (Option ℤ)) →
+    IsLawful g → length cells ≡ g.terrain.cols * g.terrain.rows → All (λ c. IfSome c (λ h.
+    Contains g.terrain.cells (Some h))) cells → IsLawful (raster_with_parts g cells g.terrain.sinks)
 lawful_with_cells g cells lawful size held =
     let old = g.terrain.cells in
     lawful_with_parts g cells g.terrain.sinks lawful size

@@ -13,15 +13,18 @@ pub stored_inverse : (z : ℤ) → unwrap_or (stored_cell z) no_data ≡ z
 stored_inverse z = ap (λ c. c.stored) (the_inverse_ok (record { stored = z }) tt)
 
 pub stored_injective : (y z : ℤ) → stored_cell y ≡ stored_cell z → y ≡ z
-stored_injective y z same = sym (stored_inverse y) ∙ ap (λ (o : Option ℤ). unwrap_or o no_data) same ∙ stored_inverse z
+stored_injective y z same = sym (stored_inverse y) ∙ ap (λ (o : Option ℤ). unwrap_or o no_data) same
+    ∙ stored_inverse z
 
 pub stored_some : (z : ℤ) → z ≤ℤ highest → stored_cell z ≡ Some z
 stored_some z low =
     let other : int_eq z no_data ≡ false = elim (cases_Bool (int_eq z no_data)) [
-      | inl same ↦ (let is = (Decides-int_eq z no_data).0 same in absurd (omega (arith, ints, low, is)))
+      | inl same ↦
+          (let is = (Decides-int_eq z no_data).0 same in absurd (omega (arith, ints, low, is)))
       | inr other ↦ other
     ] in
     cond-false _ _ _ other
 
 pub stored_count_some : (n : ℕ) → n < uncounted → stored_count n ≡ Some n
-stored_count_some n less = cond-false _ _ _ (ne_eqb n uncounted (λ same. absurd (omega (arith, same))))
+stored_count_some n less =
+    cond-false _ _ _ (ne_eqb n uncounted (λ same. absurd (omega (arith, same))))

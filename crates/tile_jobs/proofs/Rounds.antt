@@ -7,8 +7,10 @@ use Rattle.std.proofs.Math.Nat.{mod-add-div'}
 use Rattle.tile_jobs.proofs.Residues.{deal_length}
 use Rattle.tile_jobs.specs.Board.{deal}
 
-part_of_round : (q r seats v : ℕ) → r ≤ seats → length (deal (q * seats) seats v) ≡ q → length (deal (q * seats + r) seats v) ≡ q + cond (nat_lt v r) 1 0
-part_of_round q zero seats v few whole = let e : q * seats + 0 ≡ q * seats = omega arith in let t : nat_lt v 0 ≡ false = grind (arith, nat_tests) in rw (e, t) (whole ∙ omega arith)
+part_of_round : (q r seats v : ℕ) → r ≤ seats → length (deal (q * seats) seats v) ≡ q →
+    length (deal (q * seats + r) seats v) ≡ q + cond (nat_lt v r) 1 0
+part_of_round q zero seats v few whole = let e : q * seats + 0 ≡ q * seats = omega arith in
+    let t : nat_lt v 0 ≡ false = grind (arith, nat_tests) in rw (e, t) (whole ∙ omega arith)
 part_of_round q (suc r) seats v few whole =
     let h = part_of_round q r seats v (omega arith) whole in
     let m = mod-mul-add q seats r (omega arith) in
@@ -23,17 +25,22 @@ whole_rounds (suc q) seats v low =
     let e : suc q * seats ≡ q * seats + seats = omega arith in
     rw e (h ∙ rw t (omega arith))
 
-pub deal_count : (jobs seats v : ℕ) → v < seats → length (deal jobs seats v) ≡ jobs / seats + cond (nat_lt v (jobs % seats)) 1 0
+pub deal_count : (jobs seats v : ℕ) → v < seats →
+    length (deal jobs seats v) ≡ jobs / seats + cond (nat_lt v (jobs % seats)) 1 0
 deal_count jobs seats v low =
     let r : jobs % seats < seats = omega arith in
-    let e : (jobs / seats) * seats + jobs % seats ≡ jobs = let s = mod-add-div' jobs seats in omega (arith, s) in
-    ap (λ j. length (deal j seats v)) (sym e) ∙ part_of_round (jobs / seats) (jobs % seats) seats v (omega arith) (whole_rounds (jobs / seats) seats v low)
+    let e : (jobs / seats) * seats + jobs % seats ≡ jobs = let s = mod-add-div' jobs seats in
+    omega (arith, s) in
+    ap (λ j. length (deal j seats v)) (sym e) ∙ part_of_round (jobs / seats) (jobs % seats) seats v
+    (omega arith) (whole_rounds (jobs / seats) seats v low)
 
-pub deal_before_round : (seats v round : ℕ) → v < seats → length (deal (v + round * seats) seats v) ≡ round
+pub deal_before_round : (seats v round : ℕ) → v < seats →
+    length (deal (v + round * seats) seats v) ≡ round
 deal_before_round seats v round low =
     let e : v + round * seats ≡ round * seats + v = omega arith in
     let t : nat_lt v v ≡ false = grind (arith, nat_tests) in
-    rw e (part_of_round round v seats v (omega arith) (whole_rounds round seats v low) ∙ rw t (omega arith))
+    rw e (part_of_round round v seats v (omega arith) (whole_rounds round seats v low)
+    ∙ rw t (omega arith))
 
 deal_grows : (n m seats v : ℕ) → n ≤ m → length (deal n seats v) ≤ length (deal m seats v)
 deal_grows zero m seats v l = omega arith
@@ -41,13 +48,20 @@ deal_grows (suc n) zero seats v l = absurd (omega arith)
 deal_grows (suc n) (suc m) seats v l =
     elim (cases_eq n m) [
       | inl e ↦ rw e (omega arith)
-      | inr far ↦ let h = deal_grows (suc n) m seats v (omega arith) in let s = deal_length m seats v in omega arith
+      | inr far ↦ let h = deal_grows (suc n) m seats v (omega arith) in let s =
+          deal_length m seats v in omega arith
     ]
 
-pub round_below : (jobs seats v count round : ℕ) → v < seats → count ≡ length (deal jobs seats v) → round < count → v + round * seats < jobs
+pub round_below : (jobs seats v count round : ℕ) → v < seats → count ≡ length (deal jobs seats v) →
+    round < count → v + round * seats < jobs
 round_below jobs seats v count round low is few =
     let at = deal_before_round seats v round low in
-    elim (cases_lt (v + round * seats) jobs) [ inl l ↦ l | inr high ↦ let h = deal_grows jobs (v + round * seats) seats v high in absurd (omega arith) ]
+    elim (cases_lt (v + round * seats) jobs) [
+      | inl l ↦ l
+      | inr high ↦ let h =
+          deal_grows jobs (v + round * seats) seats v high in absurd (omega arith)
+    ]
 
 pub round_remainder : (seats v round : ℕ) → v < seats → (v + round * seats) % seats ≡ v
-round_remainder seats v round low = let e : v + round * seats ≡ round * seats + v = omega arith in rw e (mod-mul-add round seats v low)
+round_remainder seats v round low = let e : v + round * seats ≡ round * seats + v = omega arith in
+    rw e (mod-mul-add round seats v low)

@@ -18,26 +18,38 @@ use Rattle.tile_jobs.proofs.Totals.{total_set, total_at, total_snoc, total_plus,
 use Rattle.tile_jobs.proofs.Entries.{cut_take, cut_drop, cut_below, cut_past, times_append, jobs_append, ends_append, feed_ends, feed_early, feed_late, feed_is, feed_rises, all_below}
 
 no_list : All IsRising ([] ∷ [])
-no_list = All-cons IsRising [] [] (λ i k d l low. absurd (omega arith)) (λ k d low. absurd (omega arith))
+no_list =
+    All-cons IsRising [] [] (λ i k d l low. absurd (omega arith)) (λ k d low. absurd (omega arith))
 
 -- A pass that may take has the deque's numbers.
-pub names : (items : List Entry) (views : List Log) (h : Lawful items views) (port : ℕ) (u : Log) → get_elem? views port ≡ some u → CanTake u → (u.jobs ≡ h.jobs) × (u.seats ≡ h.seats) × (u.deque ≡ h.v)
-names items views h port u at can = let n : 0 < u.marks_due = can.0 in (h.views_are port u at).named (inr (omega arith))
+pub names : (items : List Entry) (views : List Log) (h : Lawful items views) (port : ℕ) (u : Log) →
+    get_elem? views port ≡ some u → CanTake u → (u.jobs ≡ h.jobs) × (u.seats ≡ h.seats)
+    × (u.deque ≡ h.v)
+names items views h port u at can = let n : 0 < u.marks_due = can.0 in
+    (h.views_are port u at).named (inr (omega arith))
 
-pub all_pushed : (items : List Entry) (views : List Log) (h : Lawful items views) (port : ℕ) (u : Log) → get_elem? views port ≡ some u → CanTake u → h.pushed ≡ length (feed h.jobs h.seats h.v)
+pub all_pushed : (items : List Entry) (views : List Log) (h : Lawful items views) (port : ℕ) (u :
+    Log) → get_elem? views port ≡ some u → CanTake u → h.pushed ≡ length (feed h.jobs h.seats h.v)
 all_pushed items views h port u at can =
     let mine = h.views_are port u at in
     let n = names items views h port u at can in
-    ⊎_elim (λ (r : u.ready ≡ true). (mine.ready r).0) (λ (o : (u.owns ≡ true) × (u.pushed ≡ length (feed u.jobs u.seats u.deque))). sym (mine.owns o.0).1 ∙ rw (n.0, n.1, n.2) at o.1) can.1
+    ⊎_elim (λ (r : u.ready ≡ true).
+    (mine.ready r).0) (λ (o : (u.owns ≡ true) × (u.pushed ≡ length (feed u.jobs u.seats u.deque))).
+    sym (mine.owns o.0).1 ∙ rw (n.0, n.1, n.2) at o.1) can.1
 
-left_of_feed : (items : List Entry) (views : List Log) (h : Lawful items views) (port : ℕ) (u : Log) → get_elem? views port ≡ some u → CanTake u → items ≡ drop (total taken views) (feed h.jobs h.seats h.v)
+left_of_feed : (items : List Entry) (views : List Log)
+    (h : Lawful items views) (port : ℕ) (u : Log) → get_elem? views port ≡ some u → CanTake u →
+    items ≡ drop (total taken views) (feed h.jobs h.seats h.v)
 left_of_feed items views h port u at can =
     let all = feed h.jobs h.seats h.v in
-    h.held ∙ ap (drop (total taken views)) (rw (all_pushed items views h port u at can) (take_all (length all) all (omega arith)))
+    h.held ∙ ap (drop (total taken views))
+    (rw (all_pushed items views h port u at can) (take_all (length all) all (omega arith)))
 
 -- `Lawful` after one entry was taken.
-taken_after : (x : Entry) (items : List Entry) (views : List Log) (h : Lawful (x ∷ items) views) (port : ℕ) (u w : Log) → get_elem? views port ≡ some u → CanTake u
-    → taken w ≡ suc (taken u) → share w ≡ share u → ((y : ℕ) → times y (all_taken w) ≡ times y (all_taken u) + times y (jobs_of (x ∷ []))) → w.marks ≡ u.marks + ends_of (x ∷ [])
+taken_after : (x : Entry) (items : List Entry) (views : List Log) (h : Lawful (x ∷ items) views)
+    (port : ℕ) (u w : Log) → get_elem? views port ≡ some u → CanTake u
+    → taken w ≡ suc (taken u) → share w ≡ share u → ((y : ℕ) → times y (all_taken w)
+    ≡ times y (all_taken u) + times y (jobs_of (x ∷ []))) → w.marks ≡ u.marks + ends_of (x ∷ [])
     → IsOf h.jobs h.seats h.v h.pushed h.owner port w
     → Lawful items (set views port w)
 taken_after x items views h port u w at can more same jobs ends is =
@@ -46,7 +58,8 @@ taken_after x items views h port u w at can more same jobs ends is =
     let whole = all_pushed (x ∷ items) views h port u at can in
     let held = left_of_feed (x ∷ items) views h port u at can in
     let low = cut_below all t x items held in
-    let t' : total taken (set views port w) ≡ suc t = (let s = total_set taken views port u w at in omega arith) in
+    let t' : total taken (set views port w) ≡ suc t =
+    (let s = total_set taken views port u w at in omega arith) in
     let next : take (suc t) all ≡ take t all ++ x ∷ [] = cut_take all t x items held in
     record {
       jobs = h.jobs;
@@ -57,16 +70,23 @@ taken_after x items views h port u w at can more same jobs ends is =
       within = omega arith;
       held = rw (t', whole, take_all (length all) all (omega arith)) (cut_drop all t x items held);
       each = λ y. rw (t', next, jobs_append, times_append)
-          (let s = total_set (λ (v : Log). times y (all_taken v)) views port u w at in let old = h.each y in let new = jobs y in omega arith);
-      marks = rw (t', next, ends_append) (let s = total_set (λ (v : Log). v.marks) views port u w at in let old = h.marks in omega arith);
-      marks_due = (let s = total_set share views port u w at in let old = h.marks_due in omega arith);
+          (let s = total_set (λ (v : Log). times y (all_taken v)) views port u w at in
+          let old = h.each y in let new = jobs y in omega arith);
+      marks = rw (t', next, ends_append) (let s =
+          total_set (λ (v : Log). v.marks) views port u w at in let old = h.marks in omega arith);
+      marks_due =
+          (let s = total_set share views port u w at in let old = h.marks_due in omega arith);
       closed = λ _. whole;
-      views_are = λ j v e. ⊎_elim (λ (q : (j ≡ port) × (w ≡ v)). subst (λ (y : ℕ × Log). IsOf h.jobs h.seats h.v h.pushed h.owner y.0 y.1) (λ i. (sym q.0 i, q.1 i)) is)
-          (λ (q : (j ≢ port) × (get_elem? views j ≡ some v)). h.views_are j v q.1) (at_set views port j w v e);
+      views_are = λ j v e. ⊎_elim (λ (q : (j ≡ port) × (w ≡ v)). subst (λ (y : ℕ × Log).
+          IsOf h.jobs h.seats h.v h.pushed h.owner y.0 y.1) (λ i. (sym q.0 i, q.1 i)) is)
+          (λ (q : (j ≢ port) × (get_elem? views j ≡ some v)).
+          h.views_are j v q.1) (at_set views port j w v e);
     }
 
-takes_job : (j : ℕ) (items : List Entry) (views : List Log) (h : Lawful (Job j ∷ items) views) (port : ℕ) (u : Log) → get_elem? views port ≡ some u → CanTake u
-    → let w = record u { took = u.took ++ j ∷ [] } in Lawful items (set views port w) × Took u (Job j ∷ []) w
+takes_job : (j : ℕ) (items : List Entry) (views : List Log) (h : Lawful (Job j ∷ items) views)
+    (port : ℕ) (u : Log) → get_elem? views port ≡ some u → CanTake u
+    → let w = record u { took = u.took ++ j ∷ [] } in Lawful items (set views port w)
+    × Took u (Job j ∷ []) w
 takes_job j items views h port u at can =
     let t = total taken views in
     let mine = h.views_are port u at in
@@ -82,25 +102,52 @@ takes_job j items views h port u at can =
     let l2 = length-append (u.took ++ j ∷ []) (concat u.gathered) in
     let l3 = length-append u.took (concat u.gathered) in
     let j_is = feed_is h.jobs h.seats h.v t j items held in
-    let rises : All (λ x. x < j) u.took = all_below u.took j (λ x n. feed_rises h.jobs h.seats h.v t j items held x
-    (let a = times_append x u.took (concat u.gathered) in let b = total_at (λ (v : Log). times x (all_taken v)) views port u at in let c = h.each x in omega arith)) in
+    let rises : All (λ x. x < j) u.took =
+    all_below u.took j (λ x n. feed_rises h.jobs h.seats h.v t j items held x
+    (let a = times_append x u.took (concat u.gathered) in let b = total_at
+    (λ (v : Log). times x (all_taken v)) views port u at in let c = h.each x in omega arith)) in
     let rising : All IsRising (w.took ∷ w.gathered) = All-cons IsRising w.took u.gathered
-    (all_pairs_push (λ x y. x < y) u.took j (All-head IsRising u.took u.gathered mine.rising) rises) (All-tail IsRising u.took u.gathered mine.rising) in (
+    (all_pairs_push (λ x y. x < y) u.took j (All-head IsRising u.took u.gathered mine.rising) rises)
+    (All-tail IsRising u.took u.gathered mine.rising) in (
       taken_after (Job j) items views h port u w at can (omega arith) refl
-          (λ y. (let a = times_append y (u.took ++ j ∷ []) (concat u.gathered) in let b = times_append y u.took (j ∷ []) in let c = times_append y u.took (concat u.gathered) in omega arith))
+          (λ y. (let a = times_append y (u.took ++ j ∷ []) (concat u.gathered) in let b =
+          times_append y u.took (j ∷ []) in let c = times_append y u.took (concat u.gathered) in
+          omega arith))
           (omega arith)
-          (record { named = mine.named; owns = mine.owns; ready = mine.ready; idle = λ z. absurd (omega arith); rising = rising }),
-      record { view = refl; below = rw n.0 j_is.0; of_deque = rw (n.1, n.2) j_is.1; rises = rises; fits = rw (n.0, n.1, n.2) (omega arith); unmarked = no_marks },
+          (record {
+            named = mine.named;
+            owns = mine.owns;
+            ready = mine.ready;
+            idle = λ z. absurd (omega arith);
+            rising = rising;
+          }),
+      record {
+        view = refl;
+        below = rw n.0 j_is.0;
+        of_deque = rw (n.1, n.2) j_is.1;
+        rises = rises;
+        fits = rw (n.0, n.1, n.2) (omega arith);
+        unmarked = no_marks;
+      },
     )
 
-takes_mark : (items : List Entry) (views : List Log) (h : Lawful (End ∷ items) views) (port : ℕ) (u : Log) → get_elem? views port ≡ some u → CanTake u
-    → let w = record u { marks = suc u.marks; marks_due = u.marks_due - 1 } in Lawful items (set views port w) × Took u (End ∷ []) w
+takes_mark : (items : List Entry) (views : List Log) (h : Lawful (End ∷ items) views) (port : ℕ)
+    (u : Log) → get_elem? views port ≡ some u → CanTake u
+    → let w = record u { marks = suc u.marks; marks_due = u.marks_due - 1 } in
+    Lawful items (set views port w) × Took u (End ∷ []) w
 takes_mark items views h port u at can =
     let mine = h.views_are port u at in
     let w : Log = record u { marks = suc u.marks; marks_due = u.marks_due - 1 } in
     let some_leave : 0 < u.marks_due = can.0 in (
-      taken_after End items views h port u w at can (omega arith) (omega arith) (λ y. omega arith) (omega arith)
-          (record { named = λ _. mine.named (inr (omega arith)); owns = mine.owns; ready = λ r. ((mine.ready r).0, omega arith); idle = λ z. absurd (omega arith); rising = mine.rising }),
+      taken_after End items views h port u w at can (omega arith) (omega arith) (λ y.
+          omega arith) (omega arith)
+          (record {
+            named = λ _. mine.named (inr (omega arith));
+            owns = mine.owns;
+            ready = λ r. ((mine.ready r).0, omega arith);
+            idle = λ z. absurd (omega arith);
+            rising = mine.rising;
+          }),
       refl,
     )
 
@@ -108,16 +155,21 @@ takes_mark items views h port u at can =
 pub takes : (port : ℕ) (u : Log) → CanTake u → Takes Lawful port u 1 (Took u)
 takes port u can [] items views some_x few h at = absurd (omega arith)
 takes port u can (x ∷ y ∷ zs) items views some_x few h at = absurd (omega arith)
-takes port u can (Job j ∷ []) items views some_x few h at = let r = takes_job j items views h port u at can in (record u { took = u.took ++ j ∷ [] }, r.0, r.1)
-takes port u can (End ∷ []) items views some_x few h at = let r = takes_mark items views h port u at can in (record u { marks = suc u.marks; marks_due = u.marks_due - 1 }, r.0, r.1)
+takes port u can (Job j ∷ []) items views some_x few h at = let r =
+    takes_job j items views h port u at can in (record u { took = u.took ++ j ∷ [] }, r.0, r.1)
+takes port u can (End ∷ []) items views some_x few h at =
+    let r = takes_mark items views h port u at can in
+    (record u { marks = suc u.marks; marks_due = u.marks_due - 1 }, r.0, r.1)
 
-pub never_empty : (port : ℕ) (u : Log) → CanTake u → (views : List Log) → Lawful [] views → get_elem? views port ≡ some u → ⊥
+pub never_empty : (port : ℕ) (u : Log) → CanTake u → (views : List Log) → Lawful [] views →
+    get_elem? views port ≡ some u → ⊥
 never_empty port u can views h at =
     let all = feed h.jobs h.seats h.v in
     let t = total taken views in
     let held = left_of_feed [] views h port u at can in
     let past : length all ≤ t = cut_past all t held in
-    let marks : total (λ (v : Log). v.marks) views ≡ h.seats = h.marks ∙ ap ends_of (take_all t all past) ∙ feed_ends h.jobs h.seats h.v in
+    let marks : total (λ (v : Log). v.marks) views ≡ h.seats = h.marks
+    ∙ ap ends_of (take_all t all past) ∙ feed_ends h.jobs h.seats h.v in
     let sums = total_plus (λ (v : Log). v.marks_due) (λ (v : Log). v.marks) views in
     let mine = total_at (λ (v : Log). v.marks_due) views port u at in
     let some_leave : 0 < u.marks_due = can.0 in
@@ -132,17 +184,34 @@ finds_few port u can [] views few h at = never_empty port u can views h at
 finds_few port u can (x ∷ xs) views few h at = absurd (omega arith)
 
 -- Splitting a stealing pass off the owner's keeps `Lawful`.
-pub forks : (port : ℕ) (u : Log) → u.owns ≡ true → u.pushed ≡ length (feed u.jobs u.seats u.deque) → 1 < u.marks_due → Forks Lawful port u (after_split u) (split_off u)
+pub forks : (port : ℕ) (u : Log) → u.owns ≡ true → u.pushed ≡ length (feed u.jobs u.seats u.deque) →
+    1 < u.marks_due → Forks Lawful port u (after_split u) (split_off u)
 forks port u owns all two items views h at =
     let mine = h.views_are port u at in
     let n = mine.named (inl owns) in
-    let whole : h.pushed ≡ length (feed h.jobs h.seats h.v) = sym (mine.owns owns).1 ∙ rw (n.0, n.1, n.2) at all in
+    let whole : h.pushed ≡ length (feed h.jobs h.seats h.v) = sym (mine.owns owns).1
+    ∙ rw (n.0, n.1, n.2) at all in
     let l : Log = after_split u in
     let r : Log = split_off u in
     let vs : List Log = set views port l in
-    let left_is : IsOf h.jobs h.seats h.v h.pushed h.owner port l = record { named = λ _. n; owns = mine.owns; ready = λ q. ((mine.ready q).0, omega arith); idle = λ z. absurd (omega arith); rising = mine.rising } in
-    let right_is : (j : ℕ) → IsOf h.jobs h.seats h.v h.pushed h.owner j r = λ j. record { named = λ _. n; owns = λ o. absurd (true≢false (sym o)); ready = λ q. (whole, omega arith); idle = λ z. absurd (omega arith); rising = no_list } in
-    let same : total taken (vs ++ r ∷ []) ≡ total taken views = (let s = total_set taken views port u l at in let k = total_snoc taken vs r in omega arith) in
+    let left_is : IsOf h.jobs h.seats h.v h.pushed h.owner port l =
+    record {
+      named = λ _. n;
+      owns = mine.owns;
+      ready = λ q. ((mine.ready q).0, omega arith);
+      idle = λ z. absurd (omega arith);
+      rising = mine.rising;
+    } in
+    let right_is : (j : ℕ) → IsOf h.jobs h.seats h.v h.pushed h.owner j r =
+    λ j. record {
+      named = λ _. n;
+      owns = λ o. absurd (true≢false (sym o));
+      ready = λ q. (whole, omega arith);
+      idle = λ z. absurd (omega arith);
+      rising = no_list;
+    } in
+    let same : total taken (vs ++ r ∷ []) ≡ total taken views =
+    (let s = total_set taken views port u l at in let k = total_snoc taken vs r in omega arith) in
     record {
       jobs = h.jobs;
       seats = h.seats;
@@ -151,34 +220,65 @@ forks port u owns all two items views h at =
       owner = h.owner;
       within = rw same h.within;
       held = rw same h.held;
-      each = λ y. rw same (let s = total_set (λ (v : Log). times y (all_taken v)) views port u l at in let k = total_snoc (λ (v : Log). times y (all_taken v)) vs r in let old = h.each y in omega arith);
-      marks = rw same (let s = total_set (λ (v : Log). v.marks) views port u l at in let k = total_snoc (λ (v : Log). v.marks) vs r in let old = h.marks in omega arith);
-      marks_due = (let s = total_set share views port u l at in let k = total_snoc share vs r in let old = h.marks_due in omega arith);
+      each = λ y. rw same (let s = total_set (λ (v : Log). times y (all_taken v))
+          views port u l at in let k = total_snoc (λ (v : Log). times y (all_taken v)) vs r in
+          let old = h.each y in omega arith);
+      marks = rw same (let s = total_set (λ (v : Log). v.marks) views port u l at in
+          let k = total_snoc (λ (v : Log). v.marks) vs r in let old = h.marks in omega arith);
+      marks_due = (let s = total_set share views port u l at in let k = total_snoc share vs r in
+          let old = h.marks_due in omega arith);
       closed = λ _. whole;
       views_are = λ j v e. ⊎_elim
-          (λ (x : get_elem? vs j ≡ some v). ⊎_elim (λ (q : (j ≡ port) × (l ≡ v)). subst (λ (y : ℕ × Log). IsOf h.jobs h.seats h.v h.pushed h.owner y.0 y.1) (λ i. (sym q.0 i, q.1 i)) left_is)
-          (λ (q : (j ≢ port) × (get_elem? views j ≡ some v)). h.views_are j v q.1) (at_set views port j l v x))
-          (λ (is : r ≡ v). subst (IsOf h.jobs h.seats h.v h.pushed h.owner j) is (right_is j)) (at_snoc vs r v j e);
+          (λ (x : get_elem? vs j ≡ some v).
+          ⊎_elim (λ (q : (j ≡ port) × (l ≡ v)). subst (λ (y : ℕ × Log).
+          IsOf h.jobs h.seats h.v h.pushed h.owner y.0 y.1) (λ i. (sym q.0 i, q.1 i)) left_is)
+          (λ (q : (j ≢ port) × (get_elem? views j ≡ some v)).
+          h.views_are j v q.1) (at_set views port j l v x))
+          (λ (is : r ≡ v). subst (IsOf h.jobs h.seats h.v h.pushed h.owner j) is (right_is j))
+          (at_snoc vs r v j e);
     }
 
 back_all : (u w : Log) → all_taken (taken_back u w) ≡ all_taken u ++ all_taken w
-back_all u w = ap (λ l. u.took ++ l) (concat-append u.gathered (w.took ∷ w.gathered)) ∙ sym (append_assoc u.took (concat u.gathered) (all_taken w))
+back_all u w = ap (λ l. u.took ++ l) (concat-append u.gathered (w.took ∷ w.gathered))
+    ∙ sym (append_assoc u.took (concat u.gathered) (all_taken w))
 
 -- Joining a pass to the owner's keeps `Lawful`.
-pub merges : (port : ℕ) (u : Log) (other : ℕ) (w : Log) → u.owns ≡ true → Merges Lawful port u other w (taken_back u w) spent
+pub merges : (port : ℕ) (u : Log) (other : ℕ) (w : Log) → u.owns ≡ true →
+    Merges Lawful port u other w (taken_back u w) spent
 merges port u other w owns items views h at two at' =
     let mine = h.views_are port u at in
     let n = mine.named (inl owns) in
     let both : Log = taken_back u w in
     let vs : List Log = set views port both in
-    let was : get_elem? views other ≡ some w = ⊎_elim (λ (q : (other ≡ port) × (both ≡ w)). absurd (two q.0)) (λ (q : (other ≢ port) × (get_elem? views other ≡ some w)). q.1) (at_set views port other both w at') in
+    let was : get_elem? views other ≡ some w = ⊎_elim (λ (q : (other ≡ port) × (both ≡ w)).
+    absurd (two q.0)) (λ (q : (other ≢ port) × (get_elem? views other ≡ some w)).
+    q.1) (at_set views port other both w at') in
     let theirs = h.views_are other w was in
     let joins : all_taken both ≡ all_taken u ++ all_taken w = back_all u w in
-    let sizes : length (all_taken both) ≡ length (all_taken u) + length (all_taken w) = ap length joins ∙ length-append (all_taken u) (all_taken w) in
-    let idle : share both ≡ 0 → all_taken both ≡ [] = λ z. joins ∙ rw (mine.idle (omega arith), theirs.idle (omega arith)) in
-    let both_is : IsOf h.jobs h.seats h.v h.pushed h.owner port both = record { named = λ _. n; owns = mine.owns; ready = λ q. let k = (mine.ready q).1 in ((mine.ready q).0, omega arith); idle = idle; rising = All-append IsRising (u.took ∷ u.gathered) (w.took ∷ w.gathered) mine.rising theirs.rising } in
-    let spent_is : IsOf h.jobs h.seats h.v h.pushed h.owner other spent = record { named = elim [ inl o ↦ absurd (true≢false (sym o)) | inr z ↦ absurd (omega arith) ]; owns = λ o. absurd (true≢false (sym o)); ready = λ q. absurd (true≢false (sym q)); idle = λ _. refl; rising = no_list } in
-    let same : total taken (set vs other spent) ≡ total taken views = (let s = total_set taken views port u both at in let k = total_set taken vs other w spent at' in omega arith) in
+    let sizes : length (all_taken both) ≡ length (all_taken u) + length (all_taken w) =
+    ap length joins ∙ length-append (all_taken u) (all_taken w) in
+    let idle : share both ≡ 0 → all_taken both ≡ [] = λ z. joins
+    ∙ rw (mine.idle (omega arith), theirs.idle (omega arith)) in
+    let both_is : IsOf h.jobs h.seats h.v h.pushed h.owner port both =
+    record {
+      named = λ _. n;
+      owns = mine.owns;
+      ready = λ q. let k = (mine.ready q).1 in ((mine.ready q).0, omega arith);
+      idle = idle;
+      rising =
+          All-append IsRising (u.took ∷ u.gathered) (w.took ∷ w.gathered) mine.rising theirs.rising;
+    } in
+    let spent_is : IsOf h.jobs h.seats h.v h.pushed h.owner other spent =
+    record {
+      named = elim [ inl o ↦ absurd (true≢false (sym o)) | inr z ↦ absurd (omega arith) ];
+      owns = λ o. absurd (true≢false (sym o));
+      ready = λ q. absurd (true≢false (sym q));
+      idle = λ _. refl;
+      rising = no_list;
+    } in
+    let same : total taken (set vs other spent) ≡ total taken views =
+    (let s = total_set taken views port u both at in let k = total_set taken vs other w spent at' in
+    omega arith) in
     record {
       jobs = h.jobs;
       seats = h.seats;
@@ -187,28 +287,40 @@ merges port u other w owns items views h at two at' =
       owner = h.owner;
       within = rw same h.within;
       held = rw same h.held;
-      each = λ y. rw same (let s = total_set (λ (v : Log). times y (all_taken v)) views port u both at in let k = total_set (λ (v : Log). times y (all_taken v)) vs other w spent at' in let old = h.each y in
-          let c : times y (all_taken both) ≡ times y (all_taken u) + times y (all_taken w) = ap (times y) joins ∙ times_append y (all_taken u) (all_taken w) in omega arith);
-      marks = rw same (let s = total_set (λ (v : Log). v.marks) views port u both at in let k = total_set (λ (v : Log). v.marks) vs other w spent at' in let old = h.marks in omega arith);
-      marks_due = (let s = total_set share views port u both at in let k = total_set share vs other w spent at' in let old = h.marks_due in omega arith);
+      each = λ y. rw same (let s =
+          total_set (λ (v : Log). times y (all_taken v)) views port u both at in let k = total_set
+          (λ (v : Log). times y (all_taken v)) vs other w spent at' in let old = h.each y in
+          let c : times y (all_taken both) ≡ times y (all_taken u) + times y (all_taken w) =
+          ap (times y) joins ∙ times_append y (all_taken u) (all_taken w) in omega arith);
+      marks = rw same (let s = total_set (λ (v : Log). v.marks) views port u both at in
+          let k = total_set (λ (v : Log). v.marks) vs other w spent at' in let old = h.marks in
+          omega arith);
+      marks_due = (let s = total_set share views port u both at in
+          let k = total_set share vs other w spent at' in let old = h.marks_due in omega arith);
       closed = rw same h.closed;
-      views_are = λ j v e. ⊎_elim (λ (q : (j ≡ other) × (spent ≡ v)). subst (λ (y : ℕ × Log). IsOf h.jobs h.seats h.v h.pushed h.owner y.0 y.1) (λ i. (sym q.0 i, q.1 i)) spent_is)
-          (λ (q : (j ≢ other) × (get_elem? vs j ≡ some v)). ⊎_elim (λ (r : (j ≡ port) × (both ≡ v)). subst (λ (y : ℕ × Log). IsOf h.jobs h.seats h.v h.pushed h.owner y.0 y.1) (λ i. (sym r.0 i, r.1 i)) both_is)
-          (λ (r : (j ≢ port) × (get_elem? views j ≡ some v)). h.views_are j v r.1) (at_set views port j both v q.1)) (at_set vs other j spent v e);
+      views_are = λ j v e. ⊎_elim (λ (q : (j ≡ other) × (spent ≡ v)). subst (λ (y : ℕ × Log).
+          IsOf h.jobs h.seats h.v h.pushed h.owner y.0 y.1) (λ i. (sym q.0 i, q.1 i)) spent_is)
+          (λ (q : (j ≢ other) × (get_elem? vs j ≡ some v)).
+          ⊎_elim (λ (r : (j ≡ port) × (both ≡ v)). subst (λ (y : ℕ × Log).
+          IsOf h.jobs h.seats h.v h.pushed h.owner y.0 y.1) (λ i. (sym r.0 i, r.1 i)) both_is)
+          (λ (r : (j ≢ port) × (get_elem? views j ≡ some v)).
+          h.views_are j v r.1) (at_set views port j both v q.1)) (at_set vs other j spent v e);
     }
 
 -- All passes are joined to the owner's, and an end mark was taken.
 abbrev pub IsWhole : Log → Type 0
 IsWhole u = (u.owns ≡ true) × (share u ≡ u.seats) × (0 < u.marks)
 
-pub whole_learns : (port : ℕ) (u : Log) → IsWhole u → Learns Lawful port u (λ _. (y : ℕ) → times y (all_taken u) ≡ times y (deal u.jobs u.seats u.deque))
+pub whole_learns : (port : ℕ) (u : Log) → IsWhole u → Learns Lawful port u (λ _. (y : ℕ) →
+    times y (all_taken u) ≡ times y (deal u.jobs u.seats u.deque))
 whole_learns port u is items views h at y =
     let mine = h.views_are port u at in
     let n = mine.named (inl is.0) in
     let all = feed h.jobs h.seats h.v in
     let t = total taken views in
     let alone : total share views ≡ share u = h.marks_due ∙ sym n.1 ∙ sym is.1 in
-    let weigh : (j : ℕ) (v : Log) → get_elem? views j ≡ some v → share v ≡ 0 → times y (all_taken v) ≡ 0 = λ j v e z. ap (times y) ((h.views_are j v e).idle z) in
+    let weigh : (j : ℕ) (v : Log) → get_elem? views j ≡ some v → share v ≡ 0 →
+    times y (all_taken v) ≡ 0 = λ j v e z. ap (times y) ((h.views_are j v e).idle z) in
     let only = total_alone (λ (v : Log). times y (all_taken v)) share views port u weigh at alone in
     let marks = total_at (λ (v : Log). v.marks) views port u at in
     let some_mark : 0 < u.marks = is.2 in
@@ -217,7 +329,13 @@ whole_learns port u is items views h at y =
 
 first_is : (port : ℕ) (u : Log) → get_elem? (blank ∷ []) port ≡ some u → IsOf 0 0 0 0 0 port u
 first_is zero u e = let is : blank ≡ u = cc in
-    subst (IsOf 0 0 0 0 0 0) is (record { named = λ _. (refl, refl, refl); owns = λ _. (refl, refl); ready = λ q. absurd (true≢false (sym q)); idle = λ _. refl; rising = no_list })
+    subst (IsOf 0 0 0 0 0 0) is (record {
+      named = λ _. (refl, refl, refl);
+      owns = λ _. (refl, refl);
+      ready = λ q. absurd (true≢false (sym q));
+      idle = λ _. refl;
+      rising = no_list;
+    })
 first_is (suc port) u e = absurd (some-ne-none u (sym e))
 
 pub begins : Lawful [] (blank ∷ [])
@@ -237,7 +355,9 @@ begins = record {
 }
 
 -- `Lawful` after one more entry was pushed.
-pushed_after : (J S V n : ℕ) (e : Entry) (rest items : List Entry) (views : List Log) (h : Lawful items views) (port : ℕ) → get_elem? views port ≡ some (dealing J S V n) → e ∷ rest ≡ drop n (feed J S V)
+pushed_after : (J S V n : ℕ) (e : Entry) (rest items : List Entry) (views : List Log)
+    (h : Lawful items views) (port : ℕ) → get_elem? views port ≡ some (dealing J S V n) →
+    e ∷ rest ≡ drop n (feed J S V)
     → total taken views ≡ 0 → items ≡ take n (feed J S V) → total share views + S ≡ S + once n S
     → ((j : ℕ) (v : Log) → j ≢ port → get_elem? views j ≡ some v → IsOf J S V (suc n) port j v)
     → Lawful (items ++ e ∷ []) (set views port (dealing J S V (suc n)))
@@ -246,8 +366,16 @@ pushed_after J S V n e rest items views h port at next none held shares others =
     let u : Log = dealing J S V n in
     let w : Log = dealing J S V (suc n) in
     let low = cut_below all n e rest next in
-    let t' : total taken (set views port w) ≡ 0 = (let s = total_set taken views port u w at in omega arith) in
-    let w_is : IsOf J S V (suc n) port port w = record { named = λ _. (refl, refl, refl); owns = λ _. (refl, refl); ready = λ q. absurd (true≢false (sym q)); idle = λ _. refl; rising = no_list } in
+    let t' : total taken (set views port w) ≡ 0 =
+    (let s = total_set taken views port u w at in omega arith) in
+    let w_is : IsOf J S V (suc n) port port w =
+    record {
+      named = λ _. (refl, refl, refl);
+      owns = λ _. (refl, refl);
+      ready = λ q. absurd (true≢false (sym q));
+      idle = λ _. refl;
+      rising = no_list;
+    } in
     record {
       jobs = J;
       seats = S;
@@ -256,19 +384,24 @@ pushed_after J S V n e rest items views h port at next none held shares others =
       owner = port;
       within = omega arith;
       held = rw (t', cut_take all n e rest next) (ap (λ l. l ++ e ∷ []) held);
-      each = λ y. rw t' (let s = total_set (λ (v : Log). times y (all_taken v)) views port u w at in let old = rw none at (h.each y) in omega arith);
-      marks = rw t' (let s = total_set (λ (v : Log). v.marks) views port u w at in let old = rw none at h.marks in omega arith);
+      each = λ y. rw t' (let s = total_set (λ (v : Log). times y (all_taken v)) views port u w at in
+          let old = rw none at (h.each y) in omega arith);
+      marks = rw t' (let s = total_set (λ (v : Log). v.marks) views port u w at in
+          let old = rw none at h.marks in omega arith);
       marks_due = (let s = total_set share views port u w at in omega arith);
       closed = λ z. absurd (omega arith);
-      views_are = λ j v x. ⊎_elim (λ (q : (j ≡ port) × (w ≡ v)). subst (λ (y : ℕ × Log). IsOf J S V (suc n) port y.0 y.1) (λ i. (sym q.0 i, q.1 i)) w_is)
-          (λ (q : (j ≢ port) × (get_elem? views j ≡ some v)). others j v q.0 q.1) (at_set views port j w v x);
+      views_are = λ j v x. ⊎_elim (λ (q : (j ≡ port) × (w ≡ v)).
+          subst (λ (y : ℕ × Log). IsOf J S V (suc n) port y.0 y.1) (λ i. (sym q.0 i, q.1 i)) w_is)
+          (λ (q : (j ≢ port) × (get_elem? views j ≡ some v)).
+          others j v q.0 q.1) (at_set views port j w v x);
     }
 
 none_yet : (t p l : ℕ) → (0 < t → p ≡ l) → p < l → t ≡ 0
 none_yet zero p l closed low = refl
 none_yet (suc t) p l closed low = let e = closed (omega arith) in absurd (omega arith)
 
-pub pushes : (J S V n port : ℕ) (e : Entry) (rest : List Entry) → e ∷ rest ≡ drop n (feed J S V) → Pushes Lawful port (dealing J S V n) (e ∷ []) (λ w. w ≡ dealing J S V (suc n))
+pub pushes : (J S V n port : ℕ) (e : Entry) (rest : List Entry) → e ∷ rest ≡ drop n (feed J S V) →
+    Pushes Lawful port (dealing J S V n) (e ∷ []) (λ w. w ≡ dealing J S V (suc n))
 pushes J S V zero port e rest next items views h at =
     let mine = h.views_are port blank at in
     let n = mine.named (inl refl) in
@@ -278,27 +411,37 @@ pushes J S V zero port e rest next items views h at =
     let p : h.pushed ≡ 0 = sym o.1 in
     let held : items ≡ [] = h.held ∙ rw (none, p) in
     let shares : total share views ≡ 0 = h.marks_due ∙ sym n.1 in
-    let others : (j : ℕ) (v : Log) → j ≢ port → get_elem? views j ≡ some v → IsOf J S V 1 port j v = λ j v far x.
+    let others : (j : ℕ) (v : Log) → j ≢ port → get_elem? views j ≡ some v → IsOf J S V 1 port j v =
+    λ j v far x.
     let theirs = h.views_are j v x in
     let little = total_at share views j v x in
     record {
-      named = elim [ inl q ↦ absurd (far ((theirs.owns q).0 ∙ sym o.0)) | inr z ↦ absurd (omega arith) ];
+      named = elim [
+        | inl q ↦ absurd (far ((theirs.owns q).0 ∙ sym o.0))
+        | inr z ↦
+            absurd (omega arith)
+      ];
       owns = λ q. absurd (far ((theirs.owns q).0 ∙ sym o.0));
       ready = λ q. (let some_share = (theirs.ready q).1 in absurd (omega arith));
       idle = theirs.idle;
       rising = theirs.rising;
-    } in
-    (dealing J S V 1, pushed_after J S V 0 e rest items views h port at next none held (omega arith) others, refl)
+    } in (
+      dealing J S V 1,
+      pushed_after J S V 0 e rest items views h port at next none held (omega arith) others,
+      refl,
+    )
 pushes J S V (suc m) port e rest next items views h at =
     let mine = h.views_are port (dealing J S V (suc m)) at in
     let n = mine.named (inl refl) in
     let o = mine.owns refl in
     let low = cut_below (feed J S V) (suc m) e rest next in
     let low' : suc m < length (feed h.jobs h.seats h.v) = rw (n.0, n.1, n.2) at low in
-    let none : total taken views ≡ 0 = none_yet (total taken views) h.pushed (length (feed h.jobs h.seats h.v)) h.closed (omega arith) in
+    let none : total taken views ≡ 0 = none_yet (total taken views) h.pushed
+    (length (feed h.jobs h.seats h.v)) h.closed (omega arith) in
     let held : items ≡ take (suc m) (feed J S V) = h.held ∙ rw (none, n.0, n.1, n.2, o.1) in
     let marks_due = h.marks_due in
-    let others : (j : ℕ) (v : Log) → j ≢ port → get_elem? views j ≡ some v → IsOf J S V (suc (suc m)) port j v = λ j v far x.
+    let others : (j : ℕ) (v : Log) → j ≢ port → get_elem? views j ≡ some v →
+    IsOf J S V (suc (suc m)) port j v = λ j v far x.
     let theirs = h.views_are j v x in
     record {
       named = λ q. let k = theirs.named q in (k.0 ∙ sym n.0, k.1 ∙ sym n.1, k.2 ∙ sym n.2);
@@ -306,19 +449,26 @@ pushes J S V (suc m) port e rest next items views h at =
       ready = λ q. (let late = (theirs.ready q).0 in absurd (omega arith));
       idle = theirs.idle;
       rising = theirs.rising;
-    } in
-    (dealing J S V (suc (suc m)), pushed_after J S V (suc m) e rest items views h port at next none held (omega arith) others, refl)
+    } in (
+      dealing J S V (suc (suc m)),
+      pushed_after J S V (suc m) e rest items views h port at next none held (omega arith) others,
+      refl,
+    )
 
-next_is : (xs items : List Entry) (views : List Log) (h : Lawful (xs ++ items) views) (port : ℕ) (u : Log) → get_elem? views port ≡ some u → CanTake u → u.owns ≡ true → share u ≡ u.seats
+next_is : (xs items : List Entry) (views : List Log) (h : Lawful (xs ++ items) views) (port : ℕ)
+    (u : Log) → get_elem? views port ≡ some u → CanTake u → u.owns ≡ true → share u ≡ u.seats
     → (rest : List Entry) × (xs ++ rest ≡ drop (taken u) (feed u.jobs u.seats u.deque))
 next_is xs items views h port u at can owns whole =
     let n = (h.views_are port u at).named (inl owns) in
     let alone : total share views ≡ share u = h.marks_due ∙ sym n.1 ∙ sym whole in
-    let weigh : (j : ℕ) (v : Log) → get_elem? views j ≡ some v → share v ≡ 0 → taken v ≡ 0 = λ j v e z. (let k = ap length ((h.views_are j v e).idle z) in omega arith) in
+    let weigh : (j : ℕ) (v : Log) → get_elem? views j ≡ some v → share v ≡ 0 → taken v ≡ 0 =
+    λ j v e z. (let k = ap length ((h.views_are j v e).idle z) in omega arith) in
     let only = total_alone taken share views port u weigh at alone in
     (items, rw (n.0, n.1, n.2, ← only) (left_of_feed (xs ++ items) views h port u at can))
 
 -- An owner to whose pass all others are joined takes the next entry of the feed.
-pub takes_next : (port : ℕ) (u : Log) → CanTake u → u.owns ≡ true → share u ≡ u.seats → Takes Lawful port u 1 (TookNext u)
+pub takes_next : (port : ℕ) (u : Log) → CanTake u → u.owns ≡ true → share u ≡ u.seats →
+    Takes Lawful port u 1 (TookNext u)
 takes_next port u can owns whole xs items views some_x few h at =
-    let r = takes port u can xs items views some_x few h at in (r.0, r.1, (r.2, next_is xs items views h port u at can owns whole))
+    let r = takes port u can xs items views some_x few h at in
+    (r.0, r.1, (r.2, next_is xs items views h port u at can owns whole))

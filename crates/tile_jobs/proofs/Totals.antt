@@ -5,29 +5,37 @@ use lib.ListN.{get_elem?}
 use Rattle.tile_jobs.specs.declared.deque.Log.{Log}
 use Rattle.tile_jobs.specs.Rule.{total}
 
-pub total_set : (f : Log → ℕ) (views : List Log) (port : ℕ) (v w : Log) → get_elem? views port ≡ some v → total f (set views port w) + f v ≡ total f views + f w
+pub total_set : (f : Log → ℕ) (views : List Log) (port : ℕ) (v w : Log) →
+    get_elem? views port ≡ some v → total f (set views port w) + f v ≡ total f views + f w
 total_set f [] port v w e = absurd (some-ne-none v (sym e))
 total_set f (u ∷ us) zero v w e = let same : f u ≡ f v = cc in omega arith
 total_set f (u ∷ us) (suc port) v w e = let h = total_set f us port v w e in omega arith
 
-pub total_at : (f : Log → ℕ) (views : List Log) (port : ℕ) (v : Log) → get_elem? views port ≡ some v → f v ≤ total f views
+pub total_at : (f : Log → ℕ) (views : List Log) (port : ℕ) (v : Log) →
+    get_elem? views port ≡ some v → f v ≤ total f views
 total_at f [] port v e = absurd (some-ne-none v (sym e))
 total_at f (u ∷ us) zero v e = let same : f u ≡ f v = cc in omega arith
 total_at f (u ∷ us) (suc port) v e = let h = total_at f us port v e in omega arith
 
-pub total_snoc : (f : Log → ℕ) (views : List Log) (w : Log) → total f (views ++ w ∷ []) ≡ total f views + f w
+pub total_snoc : (f : Log → ℕ) (views : List Log) (w : Log) →
+    total f (views ++ w ∷ []) ≡ total f views + f w
 total_snoc f [] w = omega arith
 total_snoc f (u ∷ us) w = let h = total_snoc f us w in omega arith
 
-pub total_plus : (f g : Log → ℕ) (views : List Log) → total (λ u. f u + g u) views ≡ total f views + total g views
+pub total_plus : (f g : Log → ℕ) (views : List Log) →
+    total (λ u. f u + g u) views ≡ total f views + total g views
 total_plus f g [] = refl
 total_plus f g (u ∷ us) = let h = total_plus f g us in omega arith
 
-pub total_none : (f g : Log → ℕ) (views : List Log) → ((j : ℕ) (u : Log) → get_elem? views j ≡ some u → g u ≡ 0 → f u ≡ 0) → total g views ≡ 0 → total f views ≡ 0
+pub total_none : (f g : Log → ℕ) (views : List Log) → ((j : ℕ) (u : Log) →
+    get_elem? views j ≡ some u → g u ≡ 0 → f u ≡ 0) → total g views ≡ 0 → total f views ≡ 0
 total_none f g [] h e = refl
-total_none f g (u ∷ us) h e = let here = h zero u refl (omega arith) in let rest = total_none f g us (λ j. h (suc j)) (omega arith) in omega arith
+total_none f g (u ∷ us) h e = let here = h zero u refl (omega arith) in let rest =
+    total_none f g us (λ j. h (suc j)) (omega arith) in omega arith
 
-pub total_alone : (f g : Log → ℕ) (views : List Log) (port : ℕ) (v : Log) → ((j : ℕ) (u : Log) → get_elem? views j ≡ some u → g u ≡ 0 → f u ≡ 0) → get_elem? views port ≡ some v → total g views ≡ g v
+pub total_alone : (f g : Log → ℕ) (views : List Log) (port : ℕ) (v : Log) →
+    ((j : ℕ) (u : Log) → get_elem? views j ≡ some u → g u ≡ 0 → f u ≡ 0) →
+    get_elem? views port ≡ some v → total g views ≡ g v
     → total f views ≡ f v
 total_alone f g [] port v h e s = absurd (some-ne-none v (sym e))
 total_alone f g (u ∷ us) zero v h e s =

@@ -13,55 +13,71 @@ use Rattle.tiles.proofs.TileOrder.{index_in_below, index_in_tile_is, tile_entry-
 use Rattle.tile_maps.specs.Maps.{AreMadeBelow, IsMadeTile}
 
 -- places with one index in the row order of bounds are equal
-pub within_injective : (b : Bounds) (p q : Place) → IsInBounds b p → IsInBounds b q → index_in b p ≡ index_in b q → p ≡ q
+pub within_injective : (b : Bounds) (p q : Place) → IsInBounds b p → IsInBounds b q →
+    index_in b p ≡ index_in b q → p ≡ q
 within_injective b p q i j e =
-    let one = index_injective b.cols (make_place (p.row - b.top) (p.col - b.left)) (make_place (q.row - b.top) (q.col - b.left)) (omega (arith, i.2, i.3)) (omega (arith, j.2, j.3)) e in
+    let one = index_injective b.cols (make_place (p.row - b.top) (p.col - b.left)) (make_place
+    (q.row - b.top) (q.col - b.left)) (omega (arith, i.2, i.3)) (omega (arith, j.2, j.3)) e in
     let row : p.row - b.top ≡ q.row - b.top = ap (λ (r : Place). r.row) one in
     let col : p.col - b.left ≡ q.col - b.left = ap (λ (r : Place). r.col) one in
     same_place p q (omega (arith, i.0, j.0)) (omega (arith, i.2, j.2))
 
 -- the list with one more entry, for place p
-pub made_push : {X : Type 0} (b : Bounds) (Has : Place → X → Type 0) (p : Place) (list : List X) (x : X) → IsInBounds b p →
-    AreMadeBelow b Has (index_in b p) list → Has p x → AreMadeBelow b Has (index_in b p + 1) (list ++ x ∷ [])
+pub made_push : {X : Type 0} (b : Bounds) (Has : Place → X → Type 0) (p : Place) (list : List X)
+    (x : X) → IsInBounds b p →
+    AreMadeBelow b Has (index_in b p) list → Has p x →
+    AreMadeBelow b Has (index_in b p + 1) (list ++ x ∷ [])
 made_push {X} b Has p list x inside before here = record {
   size = length_push list x ∙ ap (λ n. n + 1) before.size;
   each = λ q within below entry is. elim (cases_eq (index_in b q) (index_in b p)) [
     | inl e ↦ (let one : p ≡ q = within_injective b p q inside within (sym e) in
-        let same : x ≡ entry = same_Some x entry (sym (slice_get-append_right list (x ∷ []) (index_in b q) 0 (omega (arith, e, before.size))) ∙ is) in
+        let same : x ≡ entry = same_Some x entry (sym (slice_get-append_right list (x ∷ [])
+        (index_in b q) 0 (omega (arith, e, before.size))) ∙ is) in
         subst (λ (r : Place). Has r entry) one (subst (λ (y : X). Has p y) same here))
     | inr ne ↦ (let lower : index_in b q < index_in b p = omega arith in
-        before.each q within lower entry (sym (slice_get-append_left list (x ∷ []) (index_in b q) (omega (arith, before.size))) ∙ is))
+        before.each q within lower entry (sym
+        (slice_get-append_left list (x ∷ []) (index_in b q) (omega (arith, before.size))) ∙ is))
   ];
 }
 
 -- the list with one more entry, for a row and a column counted from the bounds' first
-pub made_next : {X : Type 0} (b : Bounds) (Has : Place → X → Type 0) (row col : ℕ) (list : List X) (x : X) → row < b.rows → col < b.cols →
-    AreMadeBelow b Has (row * b.cols + col) list → Has (make_place (b.top + row) (b.left + col)) x → AreMadeBelow b Has (row * b.cols + (col + 1)) (list ++ x ∷ [])
+pub made_next : {X : Type 0} (b : Bounds) (Has : Place → X → Type 0) (row col : ℕ) (list : List X)
+    (x : X) → row < b.rows → col < b.cols →
+    AreMadeBelow b Has (row * b.cols + col) list → Has (make_place (b.top + row) (b.left + col)) x →
+    AreMadeBelow b Has (row * b.cols + (col + 1)) (list ++ x ∷ [])
 made_next {X} b Has row col list x below beside before here =
     let p = make_place (b.top + row) (b.left + col) in
     let row_is : b.top + row - b.top ≡ row = omega arith in
     let col_is : b.left + col - b.left ≡ col = omega arith in
-    let at : index_in b p ≡ row * b.cols + col = ap (λ (n : ℕ). n * b.cols + (b.left + col - b.left)) row_is ∙ ap (λ (n : ℕ). row * b.cols + n) col_is in
+    let at : index_in b p ≡ row * b.cols + col = ap (λ (n : ℕ). n * b.cols
+    + (b.left + col - b.left)) row_is ∙ ap (λ (n : ℕ). row * b.cols + n) col_is in
     let next : index_in b p + 1 ≡ row * b.cols + (col + 1) = omega (arith, at) in
     subst (λ (n : ℕ). AreMadeBelow b Has n (list ++ x ∷ [])) next
-    (made_push b Has p list x (omega arith, omega arith, omega arith, omega arith) (subst (λ (n : ℕ). AreMadeBelow b Has n list) (sym at) before) here)
+    (made_push b Has p list x (omega arith, omega arith, omega arith, omega arith)
+    (subst (λ (n : ℕ). AreMadeBelow b Has n list) (sym at) before) here)
 
 -- a list is a tile's if it has an entry for each place of the tile's bounds
-pub made_tile : {X : Type 0} (c : Cutting) (tile : ℕ) (b : Bounds) (Has : Place → X → Type 0) (list : List X) → IsCutting c → b ≡ bounds_of c tile →
+pub made_tile : {X : Type 0} (c : Cutting) (tile : ℕ) (b : Bounds) (Has : Place → X → Type 0)
+    (list : List X) → IsCutting c → b ≡ bounds_of c tile →
     AreMadeBelow b Has (b.rows * b.cols) list → IsMadeTile c tile Has list
 made_tile c tile b Has list lawful e made = record {
   size = made.size ∙ ap (λ (z : Bounds). z.rows * z.cols) e;
   each = λ p inside entry is.
-      let within = subst (λ (z : Bounds). IsInBounds z p) (sym e) (in_bounds c tile p lawful inside) in
-      let at : index_in b p ≡ index_in_tile c p = ap (λ (z : Bounds). index_in z p) e ∙ sym (index_in_tile_is c tile p inside.1) in
+      let within =
+      subst (λ (z : Bounds). IsInBounds z p) (sym e) (in_bounds c tile p lawful inside) in
+      let at : index_in b p ≡ index_in_tile c p = ap (λ (z : Bounds). index_in z p) e
+      ∙ sym (index_in_tile_is c tile p inside.1) in
       made.each p within (index_in_below b p within) entry (ap (slice_get list) at ∙ is);
 }
 
 -- `Has` holds of the entry of a tile's list at each place of the tile
-pub entry_of_tile : {X : Type 0} (c : Cutting) (tile : ℕ) (Has : Place → Option X → Type 0) (list : List (Option X)) → IsCutting c → IsMadeTile c tile Has list →
+pub entry_of_tile : {X : Type 0} (c : Cutting) (tile : ℕ) (Has : Place → Option X → Type 0)
+    (list : List (Option X)) → IsCutting c → IsMadeTile c tile Has list →
     (p : Place) → IsInTile c tile p → Has p (tile_entry c tile list p)
 entry_of_tile {X} c tile Has list lawful made p inside =
     let at = index_in_tile_is c tile p inside.1 in
     let below = index_in_below (bounds_of c tile) p (in_bounds c tile p lawful inside) in
-    subst (λ (o : Option X). Has p o) (ap (λ n. get_or list n None) at ∙ sym (tile_entry-in c tile list p inside))
-    (made.each p inside (get_or list (index_in_tile c p) None) (slice_get-get_or list (index_in_tile c p) None (omega (arith, below, at, made.size))))
+    subst (λ (o : Option X). Has p o) (ap (λ n. get_or list n None) at
+    ∙ sym (tile_entry-in c tile list p inside))
+    (made.each p inside (get_or list (index_in_tile c p) None)
+    (slice_get-get_or list (index_in_tile c p) None (omega (arith, below, at, made.size))))

@@ -18,7 +18,8 @@ piece_counts n s k p h =
     elim (cases_lt k (div_ceil n s)) [
       | inl l ↦ l
       | inr g ↦
-          let a = div_ceil_times n s p in let b = mul-le (div_ceil n s) s k s g (omega arith) in absurd (omega (arith, a.0, b))
+          let a = div_ceil_times n s p in let b = mul-le (div_ceil n s) s k s g (omega arith) in
+          absurd (omega (arith, a.0, b))
     ]
 
 -- each number lies in a piece
@@ -36,4 +37,5 @@ piece_is s k x a b =
     ap (λ n. n / s) (sym e) ∙ div-mul-add k s (x - k * s) (omega arith)
 
 pub piece_from : (s x : ℕ) → 0 < s → (x / s * s ≤ x) × (x < x / s * s + s)
-piece_from s x p = (omega (arith, div-add-mod' x s), omega (arith, div-add-mod' x s, mod_below x s p))
+piece_from s x p =
+    (omega (arith, div-add-mod' x s), omega (arith, div-add-mod' x s, mod_below x s p))

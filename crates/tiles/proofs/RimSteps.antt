@@ -18,55 +18,71 @@ abbrev pub rows_from : Bounds → ℕ → ℕ → List Place
 rows_from b r n = flat_map (λ s. row_from s b.left b.cols) (range_with_len r n)
 
 -- a filter keeps a first place that passes
-pub filter_first : (test : Place → Bool) (r c n : ℕ) (rest : List Place) → test (make_place r c) ≡ true → filter test (row_from r c (suc n) ++ rest) ≡ make_place r c ∷ filter test (row_from r (c + 1) n ++ rest)
+pub filter_first : (test : Place → Bool) (r c n : ℕ) (rest : List Place) →
+    test (make_place r c) ≡ true → filter test (row_from r c (suc n) ++ rest) ≡ make_place r c
+    ∷ filter test (row_from r (c + 1) n ++ rest)
 filter_first test r c n rest e = cond-true _ _ _ e
 
 -- a filter drops the first k places if none passes
-pub filter_skip : (test : Place → Bool) (r c k m n d : ℕ) (rest : List Place) → n ≡ k + m → d ≡ c + k → ((j : ℕ) → j < k → test (make_place r (c + j)) ≡ false) → filter test (row_from r c n ++ rest) ≡ filter test (row_from r d m ++ rest)
+pub filter_skip : (test : Place → Bool) (r c k m n d : ℕ) (rest : List Place) →
+    n ≡ k + m → d ≡ c + k → ((j : ℕ) → j < k → test (make_place r (c + j)) ≡ false) →
+    filter test (row_from r c n ++ rest) ≡ filter test (row_from r d m ++ rest)
 filter_skip test r c zero m n d rest e f none =
     let e' : n ≡ m = omega arith in
     let f' : c ≡ d = omega arith in
-    ap (λ i. filter test (row_from r c i ++ rest)) e' ∙ ap (λ i. filter test (row_from r i m ++ rest)) f'
+    ap (λ i. filter test (row_from r c i ++ rest)) e'
+    ∙ ap (λ i. filter test (row_from r i m ++ rest)) f'
 filter_skip test r c (suc k) m n d rest e f none =
     let e' : n ≡ suc (k + m) = omega arith in
     let c' : c + 0 ≡ c = omega arith in
-    let first : test (make_place r c) ≡ false = subst (λ i. test (make_place r i) ≡ false) c' (none 0 (omega arith)) in
+    let first : test (make_place r c) ≡ false =
+    subst (λ i. test (make_place r i) ≡ false) c' (none 0 (omega arith)) in
     let others : (j : ℕ) → j < k → test (make_place r (c + 1 + j)) ≡ false =
     λ j h.
-    let at : c + (j + 1) ≡ c + 1 + j = omega arith in subst (λ i. test (make_place r i) ≡ false) at (none (j + 1) (omega arith)) in
+    let at : c + (j + 1) ≡ c + 1 + j = omega arith in
+    subst (λ i. test (make_place r i) ≡ false) at (none (j + 1) (omega arith)) in
     ap (λ i. filter test (row_from r c i ++ rest)) e'
     ∙ cond-false _ _ _ first
     ∙ filter_skip test r (c + 1) k m (k + m) d rest refl (omega arith) others
 
 -- from the first place on, `rim_from` is the whole rim
-pub rim_start : (b : Bounds) → 1 ≤ b.rows → rim_from b (make_place b.top b.left) ≡ filter (is_first_or_last b) (places_in b)
+pub rim_start : (b : Bounds) → 1 ≤ b.rows →
+    rim_from b (make_place b.top b.left) ≡ filter (is_first_or_last b) (places_in b)
 rim_start b h =
     let test = is_first_or_last b in
     let n : b.left + b.cols - b.left ≡ b.cols = omega arith in
     let m : b.top + b.rows - (b.top + 1) ≡ b.rows - 1 = omega arith in
     let e : suc (b.rows - 1) ≡ b.rows = omega arith in
-    ap (λ i. filter test (row_from b.top b.left i ++ rows_from b (b.top + 1) (b.top + b.rows - (b.top + 1)))) n
+    ap (λ i. filter test
+    (row_from b.top b.left i ++ rows_from b (b.top + 1) (b.top + b.rows - (b.top + 1)))) n
     ∙ ap (λ i. filter test (row_from b.top b.left b.cols ++ rows_from b (b.top + 1) i)) m
     ∙ ap (λ i. filter test (rows_from b b.top i)) e
 
 -- after the last place of a row the rim goes on with the first of the next row
-pub rim_row_end : (b : Bounds) (p : Place) → p.col + 1 ≡ b.left + b.cols → p.row + 1 < b.top + b.rows → is_first_or_last b p ≡ true → rim_from b p ≡ p ∷ rim_from b (make_place (p.row + 1) b.left)
+pub rim_row_end : (b : Bounds) (p : Place) →
+    p.col + 1 ≡ b.left + b.cols → p.row + 1 < b.top + b.rows → is_first_or_last b p ≡ true →
+    rim_from b p ≡ p ∷ rim_from b (make_place (p.row + 1) b.left)
 rim_row_end b p h l e =
     let test = is_first_or_last b in
     let n : b.left + b.cols - p.col ≡ suc 0 = omega arith in
     let m : b.top + b.rows - (p.row + 1) ≡ suc (b.top + b.rows - (p.row + 1 + 1)) = omega arith in
     let w : b.cols ≡ b.left + b.cols - b.left = omega arith in
-    ap (λ i. filter test (row_from p.row p.col i ++ rows_from b (p.row + 1) (b.top + b.rows - (p.row + 1)))) n
+    ap (λ i. filter test
+    (row_from p.row p.col i ++ rows_from b (p.row + 1) (b.top + b.rows - (p.row + 1)))) n
     ∙ filter_first test p.row p.col 0 (rows_from b (p.row + 1) (b.top + b.rows - (p.row + 1))) e
     ∙ ap (λ i. p ∷ filter test (rows_from b (p.row + 1) i)) m
-    ∙ ap (λ i. p ∷ filter test (row_from (p.row + 1) b.left i ++ rows_from b (p.row + 1 + 1) (b.top + b.rows - (p.row + 1 + 1)))) w
+    ∙ ap (λ i. p ∷ filter test (row_from (p.row + 1) b.left i
+    ++ rows_from b (p.row + 1 + 1) (b.top + b.rows - (p.row + 1 + 1)))) w
 
 -- a place in no first or last row or column is not on the rim
-pub inside_fails : (b : Bounds) (r c : ℕ) → r ≢ b.top → r + 1 ≢ b.top + b.rows → c ≢ b.left → c + 1 ≢ b.left + b.cols → is_first_or_last b (make_place r c) ≡ false
+pub inside_fails : (b : Bounds) (r c : ℕ) → r ≢ b.top → r + 1 ≢ b.top + b.rows → c ≢ b.left →
+    c + 1 ≢ b.left + b.cols → is_first_or_last b (make_place r c) ≡ false
 inside_fails b r c h i j k = grind (arith, nat_tests, h, i, j, k)
 
 -- after the first place of an inner row the rim goes on with the last of that row
-pub rim_across : (b : Bounds) (p : Place) (last : ℕ) → p.col ≡ b.left → last + 1 ≡ b.left + b.cols → p.col < last → p.row ≢ b.top → p.row + 1 ≢ b.top + b.rows → is_first_or_last b p ≡ true → rim_from b p ≡ p ∷ rim_from b (make_place p.row last)
+pub rim_across : (b : Bounds) (p : Place) (last : ℕ) → p.col ≡ b.left → last + 1 ≡ b.left + b.cols →
+    p.col < last → p.row ≢ b.top → p.row + 1 ≢ b.top + b.rows → is_first_or_last b p ≡ true →
+    rim_from b p ≡ p ∷ rim_from b (make_place p.row last)
 rim_across b p last left l h top bottom e =
     let test = is_first_or_last b in
     let rest = rows_from b (p.row + 1) (b.top + b.rows - (p.row + 1)) in
@@ -77,12 +93,15 @@ rim_across b p last left l h top bottom e =
     let none : (j : ℕ) → j < last - (p.col + 1) → test (make_place p.row (p.col + 1 + j)) ≡ false =
     λ j s.
     let a : p.col + 1 + j ≢ b.left = omega arith in
-    let z : p.col + 1 + j + 1 ≢ b.left + b.cols = omega arith in inside_fails b p.row (p.col + 1 + j) top bottom a z in
+    let z : p.col + 1 + j + 1 ≢ b.left + b.cols = omega arith in
+    inside_fails b p.row (p.col + 1 + j) top bottom a z in
     ap (λ i. filter test (row_from p.row p.col i ++ rest)) n
     ∙ filter_first test p.row p.col (last - p.col) rest e
-    ∙ ap (λ xs. p ∷ xs) (filter_skip test p.row (p.col + 1) (last - (p.col + 1)) 1 (last - p.col) last rest skipped end none)
+    ∙ ap (λ xs. p ∷ xs) (filter_skip test p.row (p.col + 1) (last - (p.col + 1)) 1
+    (last - p.col) last rest skipped end none)
     ∙ ap (λ i. p ∷ filter test (row_from p.row last i ++ rest)) (sym m)
 
 -- a rim place in neither the first nor last row nor the last column is in the first column
-pub in_first_col : (b : Bounds) (p : Place) → is_first_or_last b p ≡ true → p.row ≢ b.top → p.row + 1 ≢ b.top + b.rows → p.col + 1 ≢ b.left + b.cols → p.col ≡ b.left
+pub in_first_col : (b : Bounds) (p : Place) → is_first_or_last b p ≡ true → p.row ≢ b.top →
+    p.row + 1 ≢ b.top + b.rows → p.col + 1 ≢ b.left + b.cols → p.col ≡ b.left
 in_first_col b p e h i j = grind (arith, nat_tests, e, h, i, j)

@@ -10,7 +10,8 @@ use Rattle.tiles.specs.declared.bounds.Bounds.{Bounds}
 use Rattle.tiles.specs.Cutting.{Cutting, IsWithin, View, IsView, AreBounds, bounds_of, is_shown, row_shown}
 
 -- each row of a tile ends within the grid's list
-pub row_end : (t : Cutting) (b : Bounds) (i : ℕ) → AreBounds t b → i < b.rows → (b.top + i) * t.cols + b.left + b.cols ≤ t.cols * t.rows
+pub row_end : (t : Cutting) (b : Bounds) (i : ℕ) → AreBounds t b → i < b.rows →
+    (b.top + i) * t.cols + b.left + b.cols ≤ t.cols * t.rows
 row_end t b i h l =
     let r = h.rows_inside in
     let c = h.cols_inside in
@@ -27,16 +28,21 @@ shown_within t tile p e =
     let w = and_parts _ _ d.0 in (ltb-true _ _ w.0, ltb-true _ _ w.1)
 
 -- a shown place has an index in the grid's list
-pub shown_index : {X : Type 0} (v : View X) (p : Place) → IsView v → is_shown v.cutting v.tile p ≡ true → index_of v.cutting.cols p < length v.cells
+pub shown_index : {X : Type 0} (v : View X) (p : Place) → IsView v →
+    is_shown v.cutting v.tile p ≡ true → index_of v.cutting.cols p < length v.cells
 shown_index v p h e =
     let w = shown_within v.cutting v.tile p e in
-    let l = mul-add-lt p.row v.cutting.cols p.col v.cutting.rows w.0 w.1 in let s = h.size in omega (arith, l, s)
+    let l = mul-add-lt p.row v.cutting.cols p.col v.cutting.rows w.0 w.1 in let s = h.size in
+    omega (arith, l, s)
 
 -- row i of a view has in column j of the tile the grid's cell at that place
-pub get_or-row_shown : {X : Type 0} (v : View X) (i j : ℕ) (d : X) → j < (bounds_of v.cutting v.tile).cols →
-    get_or (row_shown v i) j d ≡ get_or v.cells (index_of v.cutting.cols (make_place ((bounds_of v.cutting v.tile).top + i) ((bounds_of v.cutting v.tile).left + j))) d
+pub get_or-row_shown : {X : Type 0} (v : View X) (i j : ℕ) (d : X) →
+    j < (bounds_of v.cutting v.tile).cols →
+    get_or (row_shown v i) j d ≡ get_or v.cells (index_of v.cutting.cols
+    (make_place ((bounds_of v.cutting v.tile).top + i) ((bounds_of v.cutting v.tile).left + j))) d
 get_or-row_shown v i j d h =
     let b = bounds_of v.cutting v.tile in
     let from = (b.top + i) * v.cutting.cols + b.left in
     let at : from + j ≡ (b.top + i) * v.cutting.cols + (b.left + j) = omega arith in
-    get_or-take (from + b.cols - from) (drop from v.cells) j d (omega (arith, h)) ∙ get_or-drop from v.cells j d ∙ ap (λ n. get_or v.cells n d) at
+    get_or-take (from + b.cols - from) (drop from v.cells) j d (omega (arith, h))
+    ∙ get_or-drop from v.cells j d ∙ ap (λ n. get_or v.cells n d) at

@@ -5,9 +5,12 @@ use Rattle.tiles.specs.declared.bounds.Bounds.{Bounds}
 use Rattle.tiles.specs.Cutting.{View, bounds_of, row_shown}
 
 -- row i of a view has in column k of the tile the grid's cell there
-pub row_has : {X : Type 0} (v : View X) (none : X) (b : Bounds) (i k : ℕ) → b ≡ bounds_of v.cutting v.tile → k < b.cols →
+pub row_has : {X : Type 0} (v : View X) (none : X) (b : Bounds) (i k : ℕ) →
+    b ≡ bounds_of v.cutting v.tile → k < b.cols →
     get_or (row_shown v i) k none ≡ get_or v.cells ((b.top + i) * v.cutting.cols + b.left + k) none
 row_has {X = X} v none b i k e below =
-    ap (λ (z : Bounds). get_or (slice_range v.cells ((z.top + i) * v.cutting.cols + z.left) ((z.top + i) * v.cutting.cols + z.left + z.cols)) k none) (sym e)
-    ∙ get_or-take ((b.top + i) * v.cutting.cols + b.left + b.cols - ((b.top + i) * v.cutting.cols + b.left)) (drop ((b.top + i) * v.cutting.cols + b.left) v.cells) k none (omega arith)
+    ap (λ (z : Bounds). get_or (slice_range v.cells ((z.top + i) * v.cutting.cols + z.left)
+    ((z.top + i) * v.cutting.cols + z.left + z.cols)) k none) (sym e)
+    ∙ get_or-take ((b.top + i) * v.cutting.cols + b.left + b.cols - ((b.top + i) * v.cutting.cols
+    + b.left)) (drop ((b.top + i) * v.cutting.cols + b.left) v.cells) k none (omega arith)
     ∙ get_or-drop ((b.top + i) * v.cutting.cols + b.left) v.cells k none

@@ -8,7 +8,8 @@ returns-in_default g c = record {
   bytes = [];
   fed = Ok tt;
   feeds = Feeds-none c.args.grid_reader.now c.requires.faultless;
-  read = read_none _ c.args.reader.now c.read.new.self c.in_default.ensures.bytes c.in_default.ensures.moved;
+  read = read_none _ c.args.reader.now c.read.new.self c.in_default.ensures.bytes
+      c.in_default.ensures.moved;
   within = omega arith;
   answered = (refl, c.in_default.ensures.count.err);
 }

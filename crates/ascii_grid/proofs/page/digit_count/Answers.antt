@@ -16,7 +16,9 @@ returns-then-number-limit-clause-value c =
     omega (
       arith,
       c.loop-count.invariant.long,
-      length-decimal-le c.loop-count.count c.args.number c.loop-count.invariant.some (omega (arith, c.if-number-limit.true, c.loop-count.invariant.limit)) (omega (arith, c.ranges.number.fits)),
+      length-decimal-le c.loop-count.count c.args.number c.loop-count.invariant.some
+          (omega (arith, c.if-number-limit.true, c.loop-count.invariant.limit))
+          (omega (arith, c.ranges.number.fits)),
     )
 
 pub overflow_mul-limit : goal.overflow_mul-limit
@@ -27,11 +29,16 @@ overflow_mul-limit c =
 
 pub loop-count-preserved : goal.loop-count-preserved
 loop-count-preserved c =
-    let limit : c.loop-count.limit * 10 ≡ 10 ^ (c.loop-count.count + 1) = rw (add-one, pow-succ', c.loop-count.invariant.limit) (omega arith) in
+    let limit : c.loop-count.limit * 10 ≡ 10 ^ (c.loop-count.count + 1) =
+    rw (add-one, pow-succ', c.loop-count.invariant.limit) (omega arith) in
     record {
       limit = limit;
       some = omega arith;
-      long = omega (arith, many_digits c.args.number (omega (arith, c.ranges.number.fits)) c.loop-count.count (omega (arith, c.if-number-limit.false, c.loop-count.invariant.limit)));
+      long = omega (
+        arith,
+        many_digits c.args.number (omega (arith, c.ranges.number.fits)) c.loop-count.count
+            (omega (arith, c.if-number-limit.false, c.loop-count.invariant.limit)),
+      );
     }
 
 pub returns-clause-value : goal.returns-clause-value
@@ -40,7 +47,8 @@ returns-clause-value c =
       arith,
       c.loop-count-test.false,
       c.loop-count.invariant.long,
-      length-decimal-le 19 c.args.number (omega arith) (omega (arith, c.requires)) (omega (arith, c.ranges.number.fits)),
+      length-decimal-le 19 c.args.number (omega arith) (omega (arith, c.requires))
+          (omega (arith, c.ranges.number.fits)),
       c.loop-count.auto.count,
       c.loop-count.auto.count-end,
     )

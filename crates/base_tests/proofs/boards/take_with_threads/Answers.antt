@@ -16,10 +16,18 @@ close-requires g c =
     let whole : take n (new ++ drop (length new) old) ≡ new = grind (arith, common_steps) in
     let count : n ≡ c.args.seats = sym size ∙ reported.deal.count in
     let deal : IsDeal c.args.jobs n old = rw count reported.deal in
-    let same : (s : ℕ) (d : SeatState) → s < n → SameSeat (get_or old s d) (get_or new s d) = (λ s d low.
+    let same : (s : ℕ) (d : SeatState) → s < n → SameSeat (get_or old s d) (get_or new s d) =
+    (λ s d low.
     let e = (c.for_each_mut.ensures s d (omega (arith, ap length c.deref_mut.ensures.value))).1 in
     let taken : SameSeat e.argument.now e.after_call.now = (let call = e.call in search rules) in
-    let was : e.argument.now ≡ get_or old s d = e.argument_is ∙ ap (λ l. get_or l s d) c.deref_mut.ensures.value in
+    let was : e.argument.now ≡ get_or old s d = e.argument_is
+    ∙ ap (λ l. get_or l s d) c.deref_mut.ensures.value in
     let is : e.after_call.now ≡ get_or new s d = e.left in
     rw (← was, ← is) taken) in
-    record { board = (c.args.jobs, omega (arith, reported.some.0, count), rw whole (deal_same c.args.jobs n old new deal (same_size ∙ size) same)) }
+    record {
+      board = (
+        c.args.jobs,
+        omega (arith, reported.some.0, count),
+        rw whole (deal_same c.args.jobs n old new deal (same_size ∙ size) same),
+      );
+    }

@@ -8,4 +8,5 @@ loop-preserved c =
     ∙ ap (λ (x : Option ℤ). c.loop.list.items ++ x ∷ []) c.no_data.ensures
     ∙ ap (λ (xs : List (Option ℤ)). xs ++ None ∷ []) c.loop.invariant
     ∙ append_assoc c.args.list.now.items (replicate c.loop.counter None) (None ∷ [])
-    ∙ ap (λ (xs : List (Option ℤ)). c.args.list.now.items ++ xs) (replicate-append-replicate c.loop.counter 1 None)
+    ∙ ap (λ (xs : List (Option ℤ)). c.args.list.now.items
+    ++ xs) (replicate-append-replicate c.loop.counter 1 None)

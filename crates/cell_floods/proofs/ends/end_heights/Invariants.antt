@@ -7,5 +7,6 @@ use Rattle.cell_floods.proofs.EndCells.{AreFirstEnds}
 use Rattle.cell_floods.proofs.ends.end_heights.Given as goal
 
 abbrev pub invariant-loop-place : goal.invariant-loop-place
-invariant-loop-place l = (named : List Place) → HasSinks (bounds_of l.view.cutting l.view.tile) named l.sinks
+invariant-loop-place l = (named : List Place) →
+    HasSinks (bounds_of l.view.cutting l.view.tile) named l.sinks
     → AreFirstEnds (with_sinks (terrain_of l.view) named) l.places l.place-index l.heights.items

@@ -15,14 +15,24 @@ returns-in_default c =
     let gap : HasGapAround t cell = elim c.in_default.ensures.none [
       | inl low ↦ inr (inr (
         make_place row cell.col,
-        record { row_down = omega arith; row_up = omega arith; col_right = omega arith; col_left = omega arith },
+        record {
+          row_down = omega arith;
+          row_up = omega arith;
+          col_right = omega arith;
+          col_left = omega arith;
+        },
         none_outside t _ (inl low),
       ))
       | inr side ↦ elim side [
         | inl first ↦ inr (inl first)
         | inr last ↦ inr (inr (
           make_place row (cell.col + 1),
-          record { row_down = omega arith; row_up = omega arith; col_right = omega arith; col_left = omega arith },
+          record {
+            row_down = omega arith;
+            row_up = omega arith;
+            col_right = omega arith;
+            col_left = omega arith;
+          },
           none_outside t _ (inr last),
         ))
       ]
@@ -32,7 +42,8 @@ returns-in_default c =
 pub returns-then-not-have_data : goal.returns-then-not-have_data
 returns-then-not-have_data c =
     let cell = c.args.cell in
-    let gap = gap_beside c.args.view.now cell (make_place c.loop-row.row cell.col) c.in-Some.cells.now
+    let gap =
+    gap_beside c.args.view.now cell (make_place c.loop-row.row cell.col) c.in-Some.cells.now
     c.in-Some.ensures.size c.in-Some.ensures.value refl (omega arith) (omega arith) (omega arith)
     (λ all. absurd (cc (c.have_data.ensures.1 all, c.if-not-have_data.true))) in
     (λ _. gap, λ _. refl)

@@ -12,7 +12,8 @@ pub returns : goal.returns
 returns c named sinks =
     let b = bounds_of c.args.view.now.cutting c.args.view.now.tile in
     let at : c.is_sink.result ≡ is_sink c.args.sinks.now (node_at b c.args.place) =
-    c.is_sink.ensures ∙ ap (is_sink c.args.sinks.now) (c.node_in-node.ensures.value ∙ ap (λ (x : Bounds). node_at x c.args.place) c.bounds.ensures.value) in (
+    c.is_sink.ensures ∙ ap (is_sink c.args.sinks.now) (c.node_in-node.ensures.value
+    ∙ ap (λ (x : Bounds). node_at x c.args.place) c.bounds.ensures.value) in (
       λ sink. inr ((sinks c.args.place c.requires).0 (sym at ∙ sink)),
       λ end. elim end [
         | inl gap ↦ absurd (false≢true (sym c.if-has_gap.false ∙ c.has_gap.ensures.1 gap))

@@ -9,5 +9,6 @@ invariant-loop-node l = record {
   table : IsTable l.places.items l.indexes.items;
   met : AreMet l.bounds l.met.items l.places.items;
   size : length l.met.items ≡ (l.bounds.rows + 2) * (l.bounds.cols + 2);
-  labels : labels_by l.places.items l.indexes.items ≡ map (label_of_node l.bounds) (take l.node-index (numbered_labels l.nodes));
+  labels : labels_by l.places.items l.indexes.items
+      ≡ map (label_of_node l.bounds) (take l.node-index (numbered_labels l.nodes));
 }

@@ -10,7 +10,11 @@ loop-place-preserved c =
     let places = c.args.places.now in
     let s = c.loop-place.invariant in
     elim c.if-contains.branch [
-      | then-contains w ↦ rw w.sinks-is (one_more b places c.loop-place.place-index w.node_in.result _ _ c.loop-place.sinks.items c.loop-place-test.true refl
-          (in_bounds_parts b _ (sym c.contains.ensures ∙ w.if-contains.true)) w.node_in.ensures.value (omega (arith, w.node_in.ensures.below, s.size)) s)
-      | else-contains w ↦ rw w.sinks-is (one_outside b places c.loop-place.place-index _ _ c.loop-place.sinks.items c.loop-place-test.true refl (sym c.contains.ensures ∙ w.if-contains.false) s)
+      | then-contains w ↦ rw w.sinks-is (one_more b places c.loop-place.place-index w.node_in.result
+          _ _ c.loop-place.sinks.items c.loop-place-test.true refl
+          (in_bounds_parts b _ (sym c.contains.ensures ∙ w.if-contains.true))
+          w.node_in.ensures.value (omega (arith, w.node_in.ensures.below, s.size)) s)
+      | else-contains w ↦
+          rw w.sinks-is (one_outside b places c.loop-place.place-index _ _ c.loop-place.sinks.items
+          c.loop-place-test.true refl (sym c.contains.ensures ∙ w.if-contains.false) s)
     ]

@@ -76,7 +76,13 @@ invariant_of-result c =
 pub invariant_of-result-2 : goal.invariant_of-result-2
 invariant_of-result-2 c =
     let are = levels (goal.at.invariant_of-result-2 c).After-places in
-    record { labels = refl; table = c.in_ok-labels.ensures.table; limits = are.limits; levels_size = are.levels_size; labels_size = are.labels_size }
+    record {
+      labels = refl;
+      table = c.in_ok-labels.ensures.table;
+      limits = are.limits;
+      levels_size = are.levels_size;
+      labels_size = are.labels_size;
+    }
 
 pub returns : goal.returns
 returns c =
@@ -94,15 +100,28 @@ pub without_border-requires : goal.without_border-requires
 without_border-requires c =
     let b = c.bounds-bounds.result in
     let size = net_size c in
-    let limits = bounds_limits c.args.view.now.cutting b c.bounds-bounds.ensures.lawful.cutting c.bounds-bounds.ensures.inside in
-    record { size = ap length c.heights.ensures ∙ length-map c.in_ok-levels.field-0.levels height_or_lack ∙ c.in_ok-levels.ensures.levels_size ∙ size; few_cols = omega (arith, limits); few_rows = omega (arith, limits) }
+    let limits = bounds_limits c.args.view.now.cutting b c.bounds-bounds.ensures.lawful.cutting
+    c.bounds-bounds.ensures.inside in
+    record {
+      size = ap length c.heights.ensures ∙ length-map c.in_ok-levels.field-0.levels height_or_lack
+          ∙ c.in_ok-levels.ensures.levels_size ∙ size;
+      few_cols = omega (arith, limits);
+      few_rows = omega (arith, limits);
+    }
 
 pub without_border-requires-2 : goal.without_border-requires-2
 without_border-requires-2 c =
     let b = c.bounds-bounds.result in
     let size = net_size (goal.at.without_border-requires-2 c).After-heights in
-    let limits = bounds_limits c.args.view.now.cutting b c.bounds-bounds.ensures.lawful.cutting c.bounds-bounds.ensures.inside in
-    record { size = sym (length-map c.numbers.result.now label_of) ∙ sym (ap length c.numbers.ensures) ∙ c.in_ok-levels.ensures.labels_size ∙ size; few_cols = omega (arith, limits); few_rows = omega (arith, limits) }
+    let limits = bounds_limits c.args.view.now.cutting b c.bounds-bounds.ensures.lawful.cutting
+    c.bounds-bounds.ensures.inside in
+    record {
+      size = sym (length-map c.numbers.result.now label_of) ∙ sym (ap length c.numbers.ensures)
+          ∙ c.in_ok-levels.ensures.labels_size ∙ size;
+      few_cols = omega (arith, limits);
+      few_rows = omega (arith, limits);
+    }
 
 pub labels_of-requires-clause-limits : goal.labels_of-requires-clause-limits
-labels_of-requires-clause-limits c = bounds_limits c.args.view.now.cutting _ c.bounds-bounds.ensures.lawful.cutting c.bounds-bounds.ensures.inside
+labels_of-requires-clause-limits c = bounds_limits c.args.view.now.cutting _
+    c.bounds-bounds.ensures.lawful.cutting c.bounds-bounds.ensures.inside

@@ -4,10 +4,12 @@ use Rattle.decimals.proofs.decimal.leading_digits.Goals as goal
 
 pub overflow_mul-number : goal.overflow_mul-number
 overflow_mul-number c =
-    let few = below_power c.loop-at.number c.loop-at.at 15 c.loop-at.invariant.small (search rules) in
+    let few =
+    below_power c.loop-at.number c.loop-at.at 15 c.loop-at.invariant.small (search rules) in
     grind (arith, few)
 
 pub overflow_add-number : goal.overflow_add-number
 overflow_add-number c =
-    let few = below_power c.loop-at.number c.loop-at.at 15 c.loop-at.invariant.small (search rules) in
+    let few =
+    below_power c.loop-at.number c.loop-at.at 15 c.loop-at.invariant.small (search rules) in
     grind (arith, few)

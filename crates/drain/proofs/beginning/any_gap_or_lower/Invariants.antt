@@ -5,5 +5,6 @@ use Rattle.drain.proofs.beginning.any_gap_or_lower.Given as goal
 abbrev pub invariant-loop-way : goal.invariant-loop-way
 invariant-loop-way l = record {
   eight : length l.at ≡ 8;
-  none : (way : ℕ) → way < l.way → IsGapOrLower l.level (slice_index_or l.cells (slice_index_or l.at way 0) None) → ⊥;
+  none : (way : ℕ) → way < l.way →
+      IsGapOrLower l.level (slice_index_or l.cells (slice_index_or l.at way 0) None) → ⊥;
 }

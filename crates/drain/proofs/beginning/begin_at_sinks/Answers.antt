@@ -5,11 +5,13 @@ use Rattle.drain.proofs.beginning.begin_at_sinks.Goals.{then-is_some, else-is_so
 use Rattle.drain.proofs.beginning.begin_at_sinks.Goals as goal
 
 pub loop-sink-init : goal.loop-sink-init
-loop-sink-init c = before_any c.args.grid.now.terrain c.sinks-sink-items.result.now c.args.window.now.bounds c.args.counts.now c.requires.counts
+loop-sink-init c = before_any c.args.grid.now.terrain c.sinks-sink-items.result.now
+    c.args.window.now.bounds c.args.counts.now c.requires.counts
 
 pub loop-sink-preserved-in_default : goal.loop-sink-preserved-in_default
 loop-sink-preserved-in_default c =
-    sink_passed c.args.grid.now.terrain c.sinks-sink-items.result.now c.loop-sink.sink-index c.args.window.now.bounds c.loop-sink.counts c.loop-sink-test.true c.loop-sink.invariant
+    sink_passed c.args.grid.now.terrain c.sinks-sink-items.result.now c.loop-sink.sink-index
+    c.args.window.now.bounds c.loop-sink.counts c.loop-sink-test.true c.loop-sink.invariant
     (λ s spot shows here. c.in_default.ensures s spot shows)
 
 pub loop-sink-preserved : goal.loop-sink-preserved
@@ -20,12 +22,20 @@ loop-sink-preserved c =
     let b = c.args.window.now.bounds in
     let at = c.in-Some.ensures in
     elim c.if-is_some.branch [
-      | then-is_some w ↦ subst (λ (xs : List ℕ). AreBegunBefore t sinks (i + 1) b xs) (sym (w.counts-is ∙ ap (λ (n : ℕ). slice_set c.loop-sink.counts n 0) w.index.ensures.value))
-          (sink_put t sinks i b c.loop-sink.counts c.loop-sink-test.true c.loop-sink.invariant c.in-Some.spot at.0 at.1 (sym (ap is_some c.at.ensures) ∙ sym c.is_some.ensures ∙ w.if-is_some.true))
-      | else-is_some w ↦ subst (λ (xs : List ℕ). AreBegunBefore t sinks (i + 1) b xs) (sym w.counts-is)
-          (sink_passed t sinks i b c.loop-sink.counts c.loop-sink-test.true c.loop-sink.invariant (λ s spot shows here. false≢true (sym w.if-is_some.false ∙ c.is_some.ensures ∙ ap is_some c.at.ensures ∙ here)))
+      | then-is_some w ↦ subst (λ (xs : List ℕ). AreBegunBefore t sinks (i + 1) b xs) (sym
+          (w.counts-is ∙ ap (λ (n : ℕ). slice_set c.loop-sink.counts n 0) w.index.ensures.value))
+          (sink_put t sinks i b c.loop-sink.counts c.loop-sink-test.true c.loop-sink.invariant
+          c.in-Some.spot at.0 at.1 (sym (ap is_some c.at.ensures) ∙ sym c.is_some.ensures
+          ∙ w.if-is_some.true))
+      | else-is_some w ↦
+          subst (λ (xs : List ℕ). AreBegunBefore t sinks (i + 1) b xs) (sym w.counts-is)
+          (sink_passed t sinks i b c.loop-sink.counts c.loop-sink-test.true c.loop-sink.invariant
+          (λ s spot shows here.
+          false≢true (sym w.if-is_some.false ∙ c.is_some.ensures ∙ ap is_some c.at.ensures ∙ here)))
     ]
 
 pub returns : goal.returns
 returns c =
-    before_all c.args.grid.now.terrain c.sinks-sink-items.result.now c.loop-sink.sink-index c.args.window.now.bounds c.loop-sink.counts c.sinks-sink-items.ensures.value (omega (arith, c.loop-sink-test.false)) c.loop-sink.invariant
+    before_all c.args.grid.now.terrain c.sinks-sink-items.result.now c.loop-sink.sink-index
+    c.args.window.now.bounds c.loop-sink.counts c.sinks-sink-items.ensures.value
+    (omega (arith, c.loop-sink-test.false)) c.loop-sink.invariant

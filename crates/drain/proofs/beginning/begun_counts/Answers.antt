@@ -8,12 +8,21 @@ begin_at_sinks-requires-clause-counts c =
     let inv = c.loop-row.invariant in
     let last : c.loop-row.row ≡ b.rows + 2 = omega arith in
     let end = ap (λ (n : ℕ). n * (b.cols + 2)) last in
-    rw c.deref_mut.ensures.value record { size = omega (arith, inv.size, end); each = λ s spot below. inv.each s spot (omega (arith, below, end)) }
+    rw c.deref_mut.ensures.value record {
+      size = omega (arith, inv.size, end);
+      each = λ s spot below. inv.each s spot (omega (arith, below, end));
+    }
 
 pub returns : goal.returns
 returns c =
     let b = c.args.window.now.bounds in
     let last : c.loop-row.row ≡ b.rows + 2 = omega arith in
     let end = ap (λ (n : ℕ). n * (b.cols + 2)) last in
-    let size : length c.begin_at_sinks.new.counts ≡ c.loop-row.counts.len = omega (arith, c.begin_at_sinks.ensures.size, c.loop-row.counts.ok.0, c.loop-row.invariant.size, end) in
+    let size : length c.begin_at_sinks.new.counts ≡ c.loop-row.counts.len = omega (
+      arith,
+      c.begin_at_sinks.ensures.size,
+      c.loop-row.counts.ok.0,
+      c.loop-row.invariant.size,
+      end,
+    ) in
     rw (take_at c.begin_at_sinks.new.counts _ c.loop-row.counts.len size) c.begin_at_sinks.ensures

@@ -4,4 +4,5 @@ use Rattle.drain.specs.Window.{AreMadeSpots}
 use Rattle.drain.proofs.beginning.begun_counts.Given as goal
 
 abbrev pub invariant-loop-row : goal.invariant-loop-row
-invariant-loop-row l = AreMadeSpots (IsBegunSpot (IsEdgeOrHasLower l.grid.terrain) l.bounds) l.bounds (l.row * (l.bounds.cols + 2)) 0 l.counts.items
+invariant-loop-row l = AreMadeSpots (IsBegunSpot (IsEdgeOrHasLower l.grid.terrain) l.bounds)
+    l.bounds (l.row * (l.bounds.cols + 2)) 0 l.counts.items

@@ -15,7 +15,8 @@ invariant_of-map_tiles g c =
     let same = sym c.grid-grid.ensures.value in
     record {
       lawful = subst (λ (x : Raster). IsTerrain x.terrain) same c.in_ok-steps.ensures.lawful;
-      steps = subst (λ (x : Raster). AreSteps x.terrain c.in_ok-steps.steps.items) same c.in_ok-steps.ensures.steps;
+      steps = subst (λ (x : Raster).
+          AreSteps x.terrain c.in_ok-steps.steps.items) same c.in_ok-steps.ensures.steps;
       cuts = subst (λ (x : Raster). Cuts c.args.tiling.now x.terrain) same c.requires;
     }
 
@@ -23,25 +24,39 @@ pub new-requires : goal.new-requires
 new-requires g c =
     let t = c.args.filled.now.terrain in
     let steps = c.of-reported.result.value.items in
-    let stepped = subst (λ v. AreSteps t v.items) (sym c.of-reported.ensures) c.in_ok-steps.ensures.steps in
+    let stepped =
+    subst (λ v. AreSteps t v.items) (sym c.of-reported.ensures) c.in_ok-steps.ensures.steps in
     let codes = c.in_ok-codes.codes.items in
-    let all = coded_map t c.args.tiling.now codes c.requires (subst (λ (x : Raster). IsMadeMap c.args.tiling.now (IsCodeAt x.terrain) codes) c.grid-grid.ensures.value c.in_ok-codes.ensures.made) in
-    subst (λ (x : Raster). IsDraining (record { terrain = x.terrain; steps = steps; codes = codes })) (sym c.grid-grid.ensures.value) (are_draining t steps codes stepped all)
+    let all = coded_map t c.args.tiling.now codes c.requires
+    (subst (λ (x : Raster). IsMadeMap c.args.tiling.now (IsCodeAt x.terrain) codes)
+    c.grid-grid.ensures.value c.in_ok-codes.ensures.made) in
+    subst (λ (x : Raster).
+    IsDraining (record { terrain = x.terrain; steps = steps; codes = codes }))
+    (sym c.grid-grid.ensures.value) (are_draining t steps codes stepped all)
 
 pub returns-clause-codes : goal.returns-clause-codes
 returns-clause-codes g c =
     let t = c.args.filled.now.terrain in
     let codes = c.in_ok-codes.codes.items in
-    let all = coded_map t c.args.tiling.now codes c.requires (subst (λ (x : Raster). IsMadeMap c.args.tiling.now (IsCodeAt x.terrain) codes) c.grid-grid.ensures.value c.in_ok-codes.ensures.made) in
+    let all = coded_map t c.args.tiling.now codes c.requires
+    (subst (λ (x : Raster). IsMadeMap c.args.tiling.now (IsCodeAt x.terrain) codes)
+    c.grid-grid.ensures.value c.in_ok-codes.ensures.made) in
     subst (λ (x : Drained). AreDirections t x.codes) (sym c.new.ensures) all
 
 pub returns-clause-ends : goal.returns-clause-ends
 returns-clause-ends g c =
     let t = c.args.filled.now.terrain in
     let steps = c.of-reported.result.value.items in
-    let stepped = subst (λ v. AreSteps t v.items) (sym c.of-reported.ensures) c.in_ok-steps.ensures.steps in
+    let stepped =
+    subst (λ v. AreSteps t v.items) (sym c.of-reported.ensures) c.in_ok-steps.ensures.steps in
     let codes = c.in_ok-codes.codes.items in
-    let all = coded_map t c.args.tiling.now codes c.requires (subst (λ (x : Raster). IsMadeMap c.args.tiling.now (IsCodeAt x.terrain) codes) c.grid-grid.ensures.value c.in_ok-codes.ensures.made) in
-    let d : Drained = record { terrain = c.grid-grid.result.now.terrain; steps = steps; codes = codes } in
-    let draining = subst (λ (x : Raster). IsDraining (record { terrain = x.terrain; steps = steps; codes = codes })) (sym c.grid-grid.ensures.value) (are_draining t steps codes stepped all) in
-    subst (λ (x : Drained). AllFlowEnds (directed_of x)) (sym c.new.ensures) (falling_ends d draining)
+    let all = coded_map t c.args.tiling.now codes c.requires
+    (subst (λ (x : Raster). IsMadeMap c.args.tiling.now (IsCodeAt x.terrain) codes)
+    c.grid-grid.ensures.value c.in_ok-codes.ensures.made) in
+    let d : Drained =
+    record { terrain = c.grid-grid.result.now.terrain; steps = steps; codes = codes } in
+    let draining = subst (λ (x : Raster).
+    IsDraining (record { terrain = x.terrain; steps = steps; codes = codes }))
+    (sym c.grid-grid.ensures.value) (are_draining t steps codes stepped all) in
+    subst (λ (x : Drained). AllFlowEnds (directed_of x)) (sym c.new.ensures)
+    (falling_ends d draining)

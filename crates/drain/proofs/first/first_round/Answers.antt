@@ -10,10 +10,12 @@ put_back-requires g c =
     let v = c.args.tiling.now in
     let t = c.args.grid.now.terrain in
     let lists = c.in_ok-lists.lists in
-    let count : length lists.items ≡ tile_count v = omega (arith, lists.ok.0, c.in_ok-lists.ensures.len) ∙ c.tiles.ensures.value in
+    let count : length lists.items ≡ tile_count v =
+    omega (arith, lists.ok.0, c.in_ok-lists.ensures.len) ∙ c.tiles.ensures.value in
     let first = some_begun t in
     subst (λ (xs : List (Vec (Option ℕ) Global)). AreTileLists v xs) (sym c.deref.ensures.value)
-    (first_lists v t.cells first.0 lists.items count (λ j d below. c.in_ok-lists.ensures.given j d (subst (λ (n : ℕ). j < n) (sym c.tiles.ensures.value) below) first.0 first.1))
+    (first_lists v t.cells first.0 lists.items count (λ j d below. c.in_ok-lists.ensures.given j d
+    (subst (λ (n : ℕ). j < n) (sym c.tiles.ensures.value) below) first.0 first.1))
 
 pub returns-in-Ok : goal.returns-in-Ok
 returns-in-Ok g c =

@@ -7,5 +7,6 @@ use Rattle.drain.proofs.interior.onward.Given as goal
 abbrev pub invariant-loop-way : goal.invariant-loop-way
 invariant-loop-way l = record {
   eight : length l.at ≡ 8;
-  before : (a : Around) → HasCells a l.cells l.steps l.at l.level l.own → (k : ℕ) → k < l.way → leads_on a (get_or a.ways k None) ≡ false;
+  before : (a : Around) → HasCells a l.cells l.steps l.at l.level l.own → (k : ℕ) → k < l.way →
+      leads_on a (get_or a.ways k None) ≡ false;
 }

@@ -4,4 +4,5 @@ use Rattle.drain.specs.Window.{IsCopied}
 use Rattle.drain.proofs.loading.copy_counts.Given as goal
 
 abbrev pub invariant-loop-row : goal.invariant-loop-row
-invariant-loop-row l = AreMadeBelow l.window.bounds (IsCopied l.window.bounds l.counts) (l.row * l.window.bounds.cols) l.list.items
+invariant-loop-row l = AreMadeBelow l.window.bounds (IsCopied l.window.bounds l.counts)
+    (l.row * l.window.bounds.cols) l.list.items

@@ -13,5 +13,6 @@ returns g c =
     let v = c.args.view.now in
     let none = c.args.none in
     let b = c.bounds-bounds.result in
-    shown_whole v.cutting.cols v.cutting.rows v.cells none b (bounds_of v.cutting v.tile) ((b.rows + 1 + 1) * (b.cols + 2)) c.load_row_beside-2.new.list.items
+    shown_whole v.cutting.cols v.cutting.rows v.cells none b (bounds_of v.cutting v.tile)
+    ((b.rows + 1 + 1) * (b.cols + 2)) c.load_row_beside-2.new.list.items
     c.bounds-bounds.ensures.value (omega arith) c.in_ok-load_row_beside-2.ensures

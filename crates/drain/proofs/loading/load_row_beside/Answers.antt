@@ -10,11 +10,15 @@ loop-col-preserved g c =
     let none = c.args.none in
     let b = c.args.bounds in
     let s = make_place c.args.row c.loop-col.col in
-    let more = shown_push v.cutting.cols v.cutting.rows v.cells none b s c.loop-col.list.items c.spot_value.result
+    let more = shown_push v.cutting.cols v.cutting.rows v.cells none b s c.loop-col.list.items
+    c.spot_value.result
     (c.requires.row, c.loop-col-test.true) c.loop-col.invariant c.spot_value.ensures in
-    let next : spot_index b s + 1 ≡ c.args.row * (b.cols + 2) + (c.loop-col.col + 1) = omega arith in
-    subst (λ (n : ℕ). AreShownBelow {X = g.row.T.Denot} v.cutting.cols v.cutting.rows v.cells none b n c.push.new.self.items) next
-    (subst (λ (xs : List g.row.T.Denot). AreShownBelow v.cutting.cols v.cutting.rows v.cells none b (spot_index b s + 1) xs) (sym c.in_ok-push.ensures.items) more)
+    let next : spot_index b s + 1 ≡ c.args.row * (b.cols + 2) + (c.loop-col.col + 1) =
+    omega arith in
+    subst (λ (n : ℕ). AreShownBelow {X =
+    g.row.T.Denot} v.cutting.cols v.cutting.rows v.cells none b n c.push.new.self.items) next
+    (subst (λ (xs : List g.row.T.Denot). AreShownBelow v.cutting.cols v.cutting.rows v.cells none b
+    (spot_index b s + 1) xs) (sym c.in_ok-push.ensures.items) more)
 
 pub loop-col-init : goal.loop-col-init
 loop-col-init g c =

@@ -10,9 +10,11 @@ invariant-loop-next l =
     let t = sinkless_terrain c l.input.levels.now in
     let tile = l.run.tile in
     record {
-      lowered : IsLowered t c tile l.input.steps.now (counts_in c tile l.input.steps.now l.lowered) l.lowered.changes.items;
+      lowered : IsLowered t c tile l.input.steps.now
+          (counts_in c tile l.input.steps.now l.lowered) l.lowered.changes.items;
       even : IsEvenButReported t c tile l.input.steps.now l.lowered l.done;
-      entered : IsEntered c l.entries l.run.from l.next (counts_in c tile l.input.steps.now l.lowered);
+      entered :
+          IsEntered c l.entries l.run.from l.next (counts_in c tile l.input.steps.now l.lowered);
       rows : length l.lowered.rows.items ≡ l.bounds.rows;
       done : l.done ≤ length l.lowered.changes.items;
       after : l.run.from ≤ l.next;
@@ -23,4 +25,5 @@ abbrev pub decreases-loop-next : goal.decreases-loop-next
 decreases-loop-next l =
     let c = l.input.tiling.now in
     let tile = l.run.tile in
-    (l.run.end - l.next) + ((length l.lowered.changes.items - l.done) + total (c.cols * c.rows) (counts_in c tile l.input.steps.now l.lowered))
+    (l.run.end - l.next) + ((length l.lowered.changes.items - l.done)
+    + total (c.cols * c.rows) (counts_in c tile l.input.steps.now l.lowered))

@@ -13,10 +13,12 @@ use Rattle.drain.proofs.Lowered.{small, low_own, reached_same, reached_all, reac
 use Rattle.drain.proofs.lowering.reach.Goals as goal
 
 pub lower-requires-clause-bounds : goal.lower-requires-clause-bounds
-lower-requires-clause-bounds c = c.requires.ready.bounds ∙ ap (λ (k : ℕ). bounds_of c.args.input.now.tiling.now k) (sym c.requires.to.0.1)
+lower-requires-clause-bounds c = c.requires.ready.bounds
+    ∙ ap (λ (k : ℕ). bounds_of c.args.input.now.tiling.now k) (sym c.requires.to.0.1)
 
 pub lower-requires-clause-low : goal.lower-requires-clause-low
-lower-requires-clause-low c = low_own c.args.input.now.tiling.now _ c.args.input.now.steps.now c.args.lowered.now c.args.to c.requires.to.0.1 c.requires.ready.low
+lower-requires-clause-low c = low_own c.args.input.now.tiling.now _ c.args.input.now.steps.now
+    c.args.lowered.now c.args.to c.requires.to.0.1 c.requires.ready.low
 
 pub lower-requires-clause-walked : goal.lower-requires-clause-walked
 lower-requires-clause-walked c = λ less.
@@ -27,13 +29,27 @@ lower-requires-clause-walked c = λ less.
     let to = c.args.to in
     let tile = tile_of_place v from.place in
     let below : from.count + 1 < counts_in v tile steps c.args.lowered.now (index_of v.cols to) =
-    subst (λ (k : ℕ). from.count + 1 < counts_in v k steps c.args.lowered.now (index_of v.cols to)) c.requires.to.0.1 less in
+    subst (λ (k : ℕ). from.count
+    + 1 < counts_in v k steps c.args.lowered.now (index_of v.cols to)) c.requires.to.0.1 less in
     let level : height_at t to ≡ height_at t from.place = c.is_level.ensures.0 c.if-is_level.true in
-    let is_data = data_on_level_walk (IsSource t steps) t (λ p input. input.0) from.place c.requires.ready.change.walked.1 c.requires.ready.change.walked.2 in
-    let differ : to ≢ from.place = λ e. (let same = ap (λ (q : Place). counts_in v tile steps c.args.lowered.now (index_of v.cols q)) e in omega (arith, same, below, c.requires.ready.change.least)) in
+    let is_data = data_on_level_walk (IsSource t steps) t (λ p input.
+    input.0) from.place c.requires.ready.change.walked.1 c.requires.ready.change.walked.2 in
+    let differ : to ≢ from.place = λ e. (let same =
+    ap (λ (q : Place). counts_in v tile steps c.args.lowered.now (index_of v.cols q)) e in
+    omega (arith, same, below, c.requires.ready.change.least)) in
     walked_on t steps from.place to from.count (from.count + 1)
-    (record { different = differ; touches = touches_back from.place to c.requires.to.1; from_data = ap is_some level ∙ is_data; to_data = is_data }) (sym level) c.requires.ready.change.walked refl
-    (omega (arith, below, c.requires.ready.low (index_of v.cols to), small t steps (index_of v.cols to) c.requires.ready.counting))
+    (record {
+      different = differ;
+      touches = touches_back from.place to c.requires.to.1;
+      from_data = ap is_some level ∙ is_data;
+      to_data = is_data;
+    }) (sym level) c.requires.ready.change.walked refl
+    (omega (
+      arith,
+      below,
+      c.requires.ready.low (index_of v.cols to),
+      small t steps (index_of v.cols to) c.requires.ready.counting,
+    ))
 
 pub returns-in_ok-lower : goal.returns-in_ok-lower
 returns-in_ok-lower c =

@@ -10,4 +10,6 @@ invariant-loop-col l =
     let c = l.input.tiling.now in
     let t = sinkless_terrain c l.input.levels.now in
     IsLoweredTo t c (tile_of_place c l.from.place) l.input.steps.now
-    (λ p. IsInTile c (tile_of_place c l.from.place) p × Touches l.from.place p × (height_at t p ≡ height_at t l.from.place) × (p.row ≡ l.row) × (p.col < l.col)) (l.from.count + 1) l.initial.lowered l.lowered
+    (λ p. IsInTile c (tile_of_place c l.from.place) p
+    × Touches l.from.place p × (height_at t p ≡ height_at t l.from.place) × (p.row ≡ l.row)
+    × (p.col < l.col)) (l.from.count + 1) l.initial.lowered l.lowered

@@ -10,4 +10,5 @@ invariant-loop-row l =
     let c = l.input.tiling.now in
     let t = sinkless_terrain c l.input.levels.now in
     IsLoweredTo t c (tile_of_place c l.from.place) l.input.steps.now
-    (λ p. IsInTile c (tile_of_place c l.from.place) p × Touches l.from.place p × (height_at t p ≡ height_at t l.from.place) × (p.row < l.row)) (l.from.count + 1) l.initial.lowered l.lowered
+    (λ p. IsInTile c (tile_of_place c l.from.place) p × Touches l.from.place p × (height_at t p
+    ≡ height_at t l.from.place) × (p.row < l.row)) (l.from.count + 1) l.initial.lowered l.lowered

@@ -7,9 +7,15 @@ use Rattle.drain.proofs.rounds.changes_here.Given as goal
 
 abbrev pub invariant-loop-from : goal.invariant-loop-from
 invariant-loop-from l =
-    let r : Rounding = record { cutting = l.input.tiling.now; levels = l.input.levels.now; steps = l.input.steps.now; entries = l.entries } in
+    let r : Rounding = record {
+      cutting = l.input.tiling.now;
+      levels = l.input.levels.now;
+      steps = l.input.steps.now;
+      entries = l.entries;
+    } in
     record {
-      each : (list : Vec Change Global) → IsAmong l.outs.items list → (run : Run) × IsRunAnswer r run list.items;
+      each : (list : Vec Change Global) → IsAmong l.outs.items list →
+          (run : Run) × IsRunAnswer r run list.items;
       covered : (k : ℕ) → k < l.from → IsAnsweredAt r l.outs.items k;
       below : l.from ≤ length l.entries;
     }

@@ -25,5 +25,17 @@ loop-changes-preserved c =
 
 pub returns : goal.returns
 returns c =
-    noted_all _ _ _ _ _ _ _ (λ p q done side.
-    (done.0, done.1.0, done.1.1, omega (arith, slice_get_within c.args.outs.now done.1.0 done.1.1 done.1.2, c.loop-changes-test.false), done.1.2, done.1.3, done.2, done.3)) c.loop-changes.invariant
+    noted_all _ _ _ _ _ _ _ (λ p q done side. (
+      done.0,
+      done.1.0,
+      done.1.1,
+      omega (
+        arith,
+        slice_get_within c.args.outs.now done.1.0 done.1.1 done.1.2,
+        c.loop-changes-test.false,
+      ),
+      done.1.2,
+      done.1.3,
+      done.2,
+      done.3,
+    )) c.loop-changes.invariant

@@ -12,6 +12,8 @@ returns-then-not-is_empty-clause-some c = λ yes.
     let outs = c.args.outs.now in
     let i = c.loop-changes.changes-index in
     let list = c.changes-item.result in
-    let at = slice_get_read outs (length outs) i list refl c.loop-changes-test.true c.changes-item.is in
-    let some : 0 < length list.items = omega (arith, eqb-false _ _ (sym c.if-not-is_empty.ensures), list.ok.0) in
+    let at =
+    slice_get_read outs (length outs) i list refl c.loop-changes-test.true c.changes-item.is in
+    let some : 0 < length list.items =
+    omega (arith, eqb-false _ _ (sym c.if-not-is_empty.ensures), list.ok.0) in
     (get_or list.items 0 none, (i, list, at, (0, slice_get-get_or list.items 0 none some)))

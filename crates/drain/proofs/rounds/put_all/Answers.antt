@@ -27,4 +27,11 @@ loop-changes-preserved c =
     c.loop-changes.invariant c.put_changes.ensures
 
 pub returns : goal.returns
-returns c = put_all _ _ _ _ _ (λ x given. (given.0, given.1, omega (arith, slice_get_within c.args.outs.now given.0 given.1 given.2, c.loop-changes-test.false), given.2, given.3)) (λ x first. (first.0, first.1, first.3, first.4)) c.loop-changes.invariant
+returns c = put_all _ _ _ _ _ (λ x given. (
+  given.0,
+  given.1,
+  omega
+      (arith, slice_get_within c.args.outs.now given.0 given.1 given.2, c.loop-changes-test.false),
+  given.2,
+  given.3,
+)) (λ x first. (first.0, first.1, first.3, first.4)) c.loop-changes.invariant

@@ -7,7 +7,8 @@ pub invariant_of-entries_of_all : goal.invariant_of-entries_of_all
 invariant_of-entries_of_all g c = record {
   lawful = c.requires.lawful;
   levels_size = c.requires.size;
-  steps_size = ap (λ (xs : List (Option ℕ)). length xs) c.deref.ensures.value ∙ c.requires.counting.size;
+  steps_size = ap (λ (xs : List (Option ℕ)). length xs) c.deref.ensures.value
+      ∙ c.requires.counting.size;
 }
 
 pub loop-counting-init : goal.loop-counting-init
@@ -16,8 +17,15 @@ loop-counting-init g c =
     record {
       tiling = refl;
       levels = refl;
-      rounding = first_rounding (rounding_of (record { tiling = c.args.tiling; levels = c.args.levels; steps = c.args.steps; entries = c.sort.new.entries })) c.in_ok-entries.entries.items
-          c.requires.lawful c.requires.size c.requires.counting c.requires.even c.in_ok-sort.ensures.same c.in_ok-sort.ensures.sorted notes;
+      rounding =
+          first_rounding (rounding_of (record {
+            tiling = c.args.tiling;
+            levels = c.args.levels;
+            steps = c.args.steps;
+            entries = c.sort.new.entries;
+          })) c.in_ok-entries.entries.items
+          c.requires.lawful c.requires.size c.requires.counting c.requires.even
+          c.in_ok-sort.ensures.same c.in_ok-sort.ensures.sorted notes;
       same_sources = λ p. (λ input. input, λ input. input);
     }
 
@@ -26,8 +34,13 @@ returns-clause-finished g c =
     let inv = c.loop-counting.invariant in
     let next = c.in_ok-full_round.ensures.next in
     let same = rw (inv.tiling, inv.levels) at next.same_sources in
-    final_at (rounding_of c.full_round.new.self) c.args.tiling.now c.args.levels.now c.args.steps.items (next.same_cutting ∙ inv.tiling) (next.same_levels ∙ inv.levels) next.rounding
-    (c.in_ok-full_round.ensures.last c.if-branch.false) (λ p. (λ input. (same p).0 ((inv.same_sources p).0 input), λ input. (inv.same_sources p).1 ((same p).1 input)))
+    final_at (rounding_of c.full_round.new.self)
+    c.args.tiling.now c.args.levels.now c.args.steps.items (next.same_cutting
+    ∙ inv.tiling) (next.same_levels ∙ inv.levels) next.rounding
+    (c.in_ok-full_round.ensures.last c.if-branch.false) (λ p. (
+      λ input. (same p).0 ((inv.same_sources p).0 input),
+      λ input. (inv.same_sources p).1 ((same p).1 input),
+    ))
 
 pub loop-counting-preserved : goal.loop-counting-preserved
 loop-counting-preserved g c =
@@ -38,8 +51,12 @@ loop-counting-preserved g c =
       tiling = next.same_cutting ∙ inv.tiling;
       levels = next.same_levels ∙ inv.levels;
       rounding = next.rounding;
-      same_sources = λ p. (λ input. (same p).0 ((inv.same_sources p).0 input), λ input. (inv.same_sources p).1 ((same p).1 input));
+      same_sources = λ p. (
+        λ input. (same p).0 ((inv.same_sources p).0 input),
+        λ input. (inv.same_sources p).1 ((same p).1 input),
+      );
     }
 
 pub loop-counting-smaller : goal.loop-counting-smaller
-loop-counting-smaller g c = (let less = c.in_ok-full_round.ensures.less c.if-branch.true in let low = c.in_ok-run_small_rounds.ensures.low in omega (arith, less, low))
+loop-counting-smaller g c = (let less = c.in_ok-full_round.ensures.less c.if-branch.true in
+    let low = c.in_ok-run_small_rounds.ensures.low in omega (arith, less, low))

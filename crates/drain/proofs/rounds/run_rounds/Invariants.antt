@@ -9,7 +9,8 @@ invariant-loop-counting g l = record {
   tiling : l.counting.tiling.now ≡ l.tiling;
   levels : l.counting.levels.now ≡ l.levels;
   rounding : IsRounding (rounding_of l.counting);
-  same_sources : HaveSameSources (sinkless_terrain l.tiling l.levels) l.fn.steps.items l.counting.steps.items;
+  same_sources :
+      HaveSameSources (sinkless_terrain l.tiling l.levels) l.fn.steps.items l.counting.steps.items;
 }
 
 abbrev pub decreases-loop-counting : goal.decreases-loop-counting

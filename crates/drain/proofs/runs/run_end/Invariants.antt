@@ -3,4 +3,5 @@ use Rattle.drain.specs.declared.changes.Entry.{Entry}
 use Rattle.drain.proofs.runs.run_end.Given as goal
 
 abbrev pub invariant-loop-k : goal.invariant-loop-k
-invariant-loop-k l = (k : ℕ) (e : Entry) → l.from ≤ k → k < l.k → slice_get l.entries k ≡ Some e → e.tile ≡ l.tile
+invariant-loop-k l = (k : ℕ) (e : Entry) → l.from ≤ k → k < l.k → slice_get l.entries k ≡ Some e →
+    e.tile ≡ l.tile

@@ -14,13 +14,16 @@ abbrev none : Entry
 none = record { tile = 0; change = record { place = record { row = 0; col = 0 }; count = 0 } }
 
 -- entries after those of a tile are for later tiles
-later_more : (entries : List Entry) (tile from end : ℕ) → IsNonDecreasingBy (λ e. e.tile) entries → from ≤ end →
-    ((k : ℕ) (e : Entry) → from ≤ k → slice_get entries k ≡ Some e → tile ≤ e.tile) → ((e : Entry) → slice_get entries end ≡ Some e → e.tile ≢ tile) →
+later_more : (entries : List Entry) (tile from end : ℕ) → IsNonDecreasingBy (λ e. e.tile) entries →
+    from ≤ end →
+    ((k : ℕ) (e : Entry) → from ≤ k → slice_get entries k ≡ Some e → tile ≤ e.tile) →
+    ((e : Entry) → slice_get entries end ≡ Some e → e.tile ≢ tile) →
     (k : ℕ) (e : Entry) → end ≤ k → slice_get entries k ≡ Some e → tile + 1 ≤ e.tile
 later_more entries tile from end sorted ordered later other k e past at =
     let inside = slice_get_within entries k e at in
     let first = get_or entries end none in
-    let at_first : slice_get entries end ≡ Some first = slice_get-get_or entries end none (omega (arith, past, inside)) in
+    let at_first : slice_get entries end ≡ Some first =
+    slice_get-get_or entries end none (omega (arith, past, inside)) in
     let least = later end first ordered at_first in
     let differ = other first at_first in
     let is : get_or entries k none ≡ e = get_or_from_slice_get entries k e none at in
@@ -39,22 +42,31 @@ loop-tile-preserved c =
     let old = c.loop-tile.runs.items in
     let inv = c.loop-tile.invariant in
     record {
-      size = ap (λ (xs : List Run). length xs) pushed ∙ length_push old run ∙ ap (λ (n : ℕ). n + 1) inv.size;
+      size = ap (λ (xs : List Run). length xs) pushed ∙ length_push old run
+          ∙ ap (λ (n : ℕ). n + 1) inv.size;
       each = λ k r at. elim (at_push old _ run pushed k r at) [
         | inl before ↦ inv.each k r before
-        | inr new ↦ subst (λ (x : Run). (x.tile ≡ k) × IsRun entries x) new.1
-            (sym inv.size ∙ sym new.0, record { ordered = c.run_end-end.ensures.ordered.0; below = c.run_end-end.ensures.ordered.1; own = c.run_end-end.ensures.own })
+        | inr new ↦ subst (λ (x : Run). (x.tile ≡ k) × IsRun entries x) new.1 (
+          sym inv.size ∙ sym new.0,
+          record {
+            ordered = c.run_end-end.ensures.ordered.0;
+            below = c.run_end-end.ensures.ordered.1;
+            own = c.run_end-end.ensures.own;
+          },
+        )
       ];
       covered = covered_more old _ run pushed inv.covered;
       below = c.run_end-end.ensures.ordered.1;
-      later = later_more entries tile from end c.requires.sorted c.run_end-end.ensures.ordered.0 inv.later c.run_end-end.ensures.other;
+      later = later_more entries tile from end c.requires.sorted c.run_end-end.ensures.ordered.0
+          inv.later c.run_end-end.ensures.other;
     }
 
 pub returns : goal.returns
 returns c =
     let entries = c.args.entries.now in
     let inv = c.loop-tile.invariant in
-    let all : c.loop-tile.tile ≡ c.args.tiles = omega (arith, c.loop-tile-test.false, c.loop-tile.auto.tile-end) in
+    let all : c.loop-tile.tile ≡ c.args.tiles =
+    omega (arith, c.loop-tile-test.false, c.loop-tile.auto.tile-end) in
     record {
       size = inv.size ∙ all;
       each = inv.each;

@@ -15,5 +15,11 @@ returns-clause-value c =
     let least : IsHeight low = c.lowest-lowest.ensures.height in
     let own : IsHeight c.args.level = c.requires.level in
     let down : pos 0 ≤ℤ (c.args.level -ℤ low) = omega (arith, ints, rw level at under) in
-    let fits_drop = drop_fits (c.args.level -ℤ low) down (omega (arith, ints, least.0, least.1, own.0, own.1)) in
-    rw (level, here, to_z-of_z height_width (c.args.level -ℤ low) fits_drop, abs_part (c.args.level -ℤ low) down) (rw (level, here) at c.first_lowest.ensures)
+    let fits_drop =
+    drop_fits (c.args.level -ℤ low) down (omega (arith, ints, least.0, least.1, own.0, own.1)) in
+    rw (
+      level,
+      here,
+      to_z-of_z height_width (c.args.level -ℤ low) fits_drop,
+      abs_part (c.args.level -ℤ low) down,
+    ) (rw (level, here) at c.first_lowest.ensures)

@@ -4,4 +4,5 @@ use Rattle.tile_maps.specs.Maps.{AreMadeBelow}
 use Rattle.drain.proofs.surroundings.codes_along.Given as goal
 
 abbrev pub invariant-loop-col : goal.invariant-loop-col
-invariant-loop-col l = AreMadeBelow l.bounds (IsCodeAt l.grid.terrain) (l.row * l.bounds.cols + l.col) l.codes.items
+invariant-loop-col l =
+    AreMadeBelow l.bounds (IsCodeAt l.grid.terrain) (l.row * l.bounds.cols + l.col) l.codes.items

@@ -4,4 +4,5 @@ use Rattle.tile_maps.specs.Maps.{AreMadeBelow}
 use Rattle.drain.proofs.surroundings.codes_of_tile.Given as goal
 
 abbrev pub invariant-loop-row : goal.invariant-loop-row
-invariant-loop-row l = AreMadeBelow l.bounds (IsCodeAt l.grid.terrain) (l.row * l.bounds.cols) l.codes.items
+invariant-loop-row l =
+    AreMadeBelow l.bounds (IsCodeAt l.grid.terrain) (l.row * l.bounds.cols) l.codes.items

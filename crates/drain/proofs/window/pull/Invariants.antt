@@ -6,7 +6,8 @@ use Rattle.drain.proofs.window.pull.Given as goal
 abbrev pub invariant-loop-row : goal.invariant-loop-row
 invariant-loop-row l = record {
   spread : IsSpread l.window.bounds l.window.levels.items l.old l.counts;
-  near : (s : Place) → IsInner l.window.bounds s → s.row < l.row → IsNear l.window.bounds l.window.levels.items l.old l.counts s;
+  near : (s : Place) → IsInner l.window.bounds s → s.row < l.row →
+      IsNear l.window.bounds l.window.levels.items l.old l.counts s;
   noted : AreNoted l.window.bounds l.old l.counts [] l.reached.items;
   inner : All (IsInner l.window.bounds) l.reached.items;
 }

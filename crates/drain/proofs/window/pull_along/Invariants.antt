@@ -7,7 +7,9 @@ abbrev pub invariant-loop-col : goal.invariant-loop-col
 invariant-loop-col l = record {
   spread : IsSpread l.window.bounds l.window.levels.items l.old l.counts;
   kept : IsNotAbove l.counts l.initial.counts;
-  near : (s : Place) → IsInner l.window.bounds s → s.row ≡ l.row → s.col < l.col → IsNear l.window.bounds l.window.levels.items l.old l.counts s;
-  noted : AreNoted l.window.bounds l.initial.counts l.counts l.initial.reached.items l.reached.items;
+  near : (s : Place) → IsInner l.window.bounds s → s.row ≡ l.row → s.col < l.col →
+      IsNear l.window.bounds l.window.levels.items l.old l.counts s;
+  noted :
+      AreNoted l.window.bounds l.initial.counts l.counts l.initial.reached.items l.reached.items;
   inner : All (IsInner l.window.bounds) l.reached.items;
 }

@@ -11,7 +11,9 @@ returns-else-next-counts c = reached_same (λ r one level.
     let b = c.args.window.now.bounds in
     let counts = c.args.counts.now in
     elim c.else-next-counts.branch [
-      | else-next-counts-via-then-next-counts+else-is_level w ↦ absurd (false≢true (sym w.if-is_level.false ∙ w.is_level.ensures.1 (level ∙ ap (λ (p : Place). level_on b c.args.window.now.levels.items p) one)))
+      | else-next-counts-via-then-next-counts+else-is_level w ↦
+          absurd (false≢true (sym w.if-is_level.false ∙ w.is_level.ensures.1 (level
+          ∙ ap (λ (p : Place). level_on b c.args.window.now.levels.items p) one)))
       | else-next-counts-via-else-next-counts w ↦ omega (
         arith,
         w.if-next-counts.false,
@@ -23,9 +25,17 @@ returns-else-next-counts c = reached_same (λ r one level.
 
 pub returns-after-is_inner : goal.returns-after-is_inner
 returns-after-is_inner c =
-    reached_set c.args.window.now.bounds c.args.window.now.levels.items c.args.counts.now c.args.from c.args.to c.index.result c.index-index.result c.args.reached.now.items _
-    c.index.ensures.value c.index-index.ensures.value c.requires.from c.requires.to c.requires.size (c.is_level.ensures.0 c.if-is_level.true) c.if-next-counts.true
+    reached_set c.args.window.now.bounds c.args.window.now.levels.items c.args.counts.now
+    c.args.from c.args.to c.index.result c.index-index.result c.args.reached.now.items _
+    c.index.ensures.value c.index-index.ensures.value c.requires.from c.requires.to c.requires.size
+    (c.is_level.ensures.0 c.if-is_level.true) c.if-next-counts.true
     (elim c.if-is_inner.branch [
-      | then-is_inner+in_ok-push w ↦ inl (c.is_inner.ensures.0 w.if-is_inner.true, ap (λ (v : Vec Place Global). v.items) w.reached-is ∙ w.in_ok-push.ensures.items)
-      | else-is_inner w ↦ inr (λ inner. false≢true (sym w.if-is_inner.false ∙ c.is_inner.ensures.1 inner), ap (λ (v : Vec Place Global). v.items) w.reached-is)
+      | then-is_inner+in_ok-push w ↦ inl (
+        c.is_inner.ensures.0 w.if-is_inner.true,
+        ap (λ (v : Vec Place Global). v.items) w.reached-is ∙ w.in_ok-push.ensures.items,
+      )
+      | else-is_inner w ↦ inr (
+        λ inner. false≢true (sym w.if-is_inner.false ∙ c.is_inner.ensures.1 inner),
+        ap (λ (v : Vec Place Global). v.items) w.reached-is,
+      )
     ])

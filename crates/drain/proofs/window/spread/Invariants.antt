@@ -4,4 +4,5 @@ use Rattle.drain.specs.Window.{IsReached}
 use Rattle.drain.proofs.window.spread.Given as goal
 
 abbrev pub invariant-loop-row : goal.invariant-loop-row
-invariant-loop-row l = IsReached l.window.bounds l.window.levels.items l.spot (λ r. Touches l.spot r × (r.row < l.row)) l.initial.counts l.counts l.initial.reached.items l.reached.items
+invariant-loop-row l = IsReached l.window.bounds l.window.levels.items l.spot (λ r. Touches l.spot r
+    × (r.row < l.row)) l.initial.counts l.counts l.initial.reached.items l.reached.items

@@ -4,4 +4,6 @@ use Rattle.drain.specs.Window.{IsReached}
 use Rattle.drain.proofs.window.spread_along.Given as goal
 
 abbrev pub invariant-loop-col : goal.invariant-loop-col
-invariant-loop-col l = IsReached l.window.bounds l.window.levels.items l.spot (λ r. Touches l.spot r × (r.row ≡ l.row) × (r.col < l.col)) l.initial.counts l.counts l.initial.reached.items l.reached.items
+invariant-loop-col l =
+    IsReached l.window.bounds l.window.levels.items l.spot (λ r. Touches l.spot r × (r.row ≡ l.row)
+    × (r.col < l.col)) l.initial.counts l.counts l.initial.reached.items l.reached.items

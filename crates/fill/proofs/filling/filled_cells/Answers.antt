@@ -9,7 +9,8 @@ invariant_of-tiles g c = rw (c.deref-2.ensures.value, c.deref-3.ensures.value) (
 })
 
 pub label_levels-requires-clause-floods : goal.label_levels-requires-clause-floods
-label_levels-requires-clause-floods g c = (c.requires.floods.0, rw c.deref-2.ensures.value c.requires.floods.1)
+label_levels-requires-clause-floods g c =
+    (c.requires.floods.0, rw c.deref-2.ensures.value c.requires.floods.1)
 
 pub invariant_of-map_tiles : goal.invariant_of-map_tiles
 invariant_of-map_tiles g c = record {
@@ -25,5 +26,6 @@ returns-clause-filled g c t heights are =
     let floods = c.args.floods.items in
     let numbers = rw c.deref.ensures.value at c.in_ok-firsts.ensures in
     let x = (rw c.deref-2.ensures.value at c.in-Ok.ensures.levels) t are in
-    filled_map t k floods x.arcs x.sources c.in-Ok.levels _ heights are numbers.lawful x.graph x.least
+    filled_map t k floods x.arcs x.sources c.in-Ok.levels _ heights are numbers.lawful x.graph
+    x.least
     c.in_ok-cells.ensures.made

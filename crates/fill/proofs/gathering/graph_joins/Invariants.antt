@@ -6,4 +6,5 @@ use Rattle.fill.proofs.gathering.graph_joins.Given as goal
 abbrev pub invariant-loop-tile : goal.invariant-loop-tile
 invariant-loop-tile l =
     let t = l.tiles.tiling.now in
-    Adds (mark_among t l.tiles.floods.now) l.left_out (λ p q. IsWithin t p × (tile_of_place t p < l.tile)) [] l.joins.items
+    Adds (mark_among t l.tiles.floods.now) l.left_out (λ p q. IsWithin t p
+    × (tile_of_place t p < l.tile)) [] l.joins.items

@@ -15,11 +15,16 @@ loop-join-preserved c =
     let x = get_or inner index none in
     let fits : SFits height_width x.height = search rules in
     c.in_ok-push.ensures.items
-    ∙ ap (λ h. c.loop-join.joins.items ++ record { from = c.args.first + x.from; to = c.args.first + x.to; height = h } ∷ []) (to_z-of_z height_width x.height fits)
+    ∙ ap (λ h. c.loop-join.joins.items
+    ++ record { from = c.args.first + x.from; to = c.args.first + x.to; height = h }
+    ∷ []) (to_z-of_z height_width x.height fits)
     ∙ ap (λ z. z ++ shifted c.args.first x ∷ []) c.loop-join.invariant
-    ∙ append_assoc c.args.joins.now.items (map (shifted c.args.first) (take index inner)) (shifted c.args.first x ∷ [])
+    ∙ append_assoc c.args.joins.now.items (map (shifted c.args.first) (take index inner))
+    (shifted c.args.first x ∷ [])
     ∙ ap (λ z. c.args.joins.now.items ++ z)
-    (sym (map-append (shifted c.args.first) (take index inner) (x ∷ [])) ∙ ap (map (shifted c.args.first)) (sym (take_more inner index none c.loop-join-test.true)))
+    (sym (map-append (shifted c.args.first) (take index inner) (x ∷ []))
+    ∙ ap (map (shifted c.args.first)) (sym (take_more inner index none c.loop-join-test.true)))
 
 pub returns : goal.returns
-returns c = c.loop-join.invariant ∙ ap (λ z. c.args.joins.now.items ++ map (shifted c.args.first) z) (take_all c.loop-join.join-index c.args.inner.now c.loop-join-test.false)
+returns c = c.loop-join.invariant ∙ ap (λ z. c.args.joins.now.items ++ map (shifted c.args.first) z)
+    (take_all c.loop-join.join-index c.args.inner.now c.loop-join-test.false)

@@ -9,18 +9,32 @@ use Rattle.fill.proofs.inner_joins.push_corner.Goals as goal
 
 pub returns-then-has_same_label : goal.returns-then-has_same_label
 returns-then-has_same_label c =
-    inr (same_label_adds c.args.flood.now c.args.left_out.now.sources c.args.index c.args.near c.args.from _ c.requires.from (OnTrue_at c.if-has_same_label.true c.has_same_label.ensures))
+    inr (same_label_adds c.args.flood.now c.args.left_out.now.sources c.args.index c.args.near
+    c.args.from _ c.requires.from (OnTrue_at c.if-has_same_label.true c.has_same_label.ensures))
 
 pub returns-then-is_left_out : goal.returns-then-is_left_out
-returns-then-is_left_out c = inl (inl (rw (c.mark_of_entry-to.ensures, c.mark_of_entry.ensures) at (OnTrue_at c.if-is_left_out.true c.is_left_out.ensures)), refl)
+returns-then-is_left_out c = inl (
+  inl (rw (c.mark_of_entry-to.ensures, c.mark_of_entry.ensures) at
+      (OnTrue_at c.if-is_left_out.true c.is_left_out.ensures)),
+  refl,
+)
 
 pub returns-then-is_left_out-2 : goal.returns-then-is_left_out-2
-returns-then-is_left_out-2 c = inl (inr (rw (c.mark_of_entry-to.ensures, c.mark_of_entry-2.ensures) at (OnTrue_at c.if-is_left_out-2.true c.is_left_out-2.ensures)), refl)
+returns-then-is_left_out-2 c = inl (
+  inr (rw (c.mark_of_entry-to.ensures, c.mark_of_entry-2.ensures) at
+      (OnTrue_at c.if-is_left_out-2.true c.is_left_out-2.ensures)),
+  refl,
+)
 
 pub returns-in_default : goal.returns-in_default
-returns-in_default c = inr (adds_nothing _ _ (rw (ap (λ (z : LeftOutJoins). z.sources) c.left_out.view_is, c.mark_of_entry-to.ensures) at c.in_default.ensures))
+returns-in_default c = inr (adds_nothing _ _
+    (rw (ap (λ (z : LeftOutJoins). z.sources) c.left_out.view_is, c.mark_of_entry-to.ensures)
+    at c.in_default.ensures))
 
 pub returns : goal.returns
 returns c =
-    let join = rw (ap (λ (z : LeftOutJoins). z.sources) c.left_out.view_is, c.mark_of_entry-to.ensures) at c.in-Some.ensures in
-    on_ok_weaker _ (λ added. inr (subst (λ (z : List Join). AddsCovered c.args.table.now z c.add.new.self) (sym join) added)) c.add.ensures
+    let join =
+    rw (ap (λ (z : LeftOutJoins). z.sources) c.left_out.view_is, c.mark_of_entry-to.ensures)
+    at c.in-Some.ensures in
+    on_ok_weaker _ (λ added. inr (subst (λ (z : List Join).
+    AddsCovered c.args.table.now z c.add.new.self) (sym join) added)) c.add.ensures

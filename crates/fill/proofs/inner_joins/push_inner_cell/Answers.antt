@@ -10,7 +10,11 @@ pub push_after-requires-clause-few : goal.push_after-requires-clause-few
 push_after-requires-clause-few c =
     let f = c.bounds-width.ensures.lawful in
     let b = c.args.flood.now.bounds in
-    omega (arith, f.labels_size, mul-le b.rows b.cols 4096 4096 (omega (arith, f.limits)) (omega (arith, f.limits)))
+    omega (
+      arith,
+      f.labels_size,
+      mul-le b.rows b.cols 4096 4096 (omega (arith, f.limits)) (omega (arith, f.limits)),
+    )
 
 pub are_equal_after-requires-clause-after : goal.are_equal_after-requires-clause-after
 are_equal_after-requires-clause-after c =
@@ -23,12 +27,16 @@ are_equal_after-requires-clause-after c =
       lawful.levels_size,
       lawful.labels_size,
       c.requires.after,
-      cells_size c.args.flood.now c.labels.result.now.places c.labels.result.now.indexes c.labels.ensures.labels lawful,
+      cells_size c.args.flood.now c.labels.result.now.places c.labels.result.now.indexes
+          c.labels.ensures.labels lawful,
     )
 
 pub returns-then-are_equal_after : goal.returns-then-are_equal_after
 returns-then-are_equal_after c =
     let f = c.args.flood.now in
-    let equal = rw (c.indexes.ensures, c.labels.ensures.value) at (OnTrue_at {P = AreEqualAfter c.indexes.result.now c.args.index c.bounds-width.result.cols} c.if-are_equal_after.true c.are_equal_after.ensures) in
+    let equal = rw (c.indexes.ensures, c.labels.ensures.value) at
+    (OnTrue_at {P = AreEqualAfter c.indexes.result.now c.args.index c.bounds-width.result.cols}
+    c.if-are_equal_after.true c.are_equal_after.ensures) in
     equal_after_adds f c.args.left_out.now c.args.index f.bounds.cols c.args.table.now
-    (subst (λ (b : Bounds). AreEqualAfter f.table.indexes c.args.index b.cols) c.bounds-width.ensures.value equal)
+    (subst (λ (b : Bounds). AreEqualAfter f.table.indexes c.args.index b.cols)
+    c.bounds-width.ensures.value equal)

@@ -3,4 +3,5 @@ use Rattle.fill.specs.Numbers.{node_of_label}
 use Rattle.fill.proofs.placing.push_nodes.Given as goal
 
 abbrev pub invariant-loop-label : goal.invariant-loop-label
-invariant-loop-label l = l.nodes.items ≡ l.initial.nodes.items ++ map (node_of_label l.tiling.cols) (take l.label-index l.labels)
+invariant-loop-label l = l.nodes.items ≡ l.initial.nodes.items
+    ++ map (node_of_label l.tiling.cols) (take l.label-index l.labels)

@@ -11,8 +11,11 @@ loop-index-preserved c =
     let height = get_or c.args.heights.now c.loop-index.index (pos 0) in
     let spill = get_or c.args.spills.now (get_or c.args.labels.now c.loop-index.index 0) None in
     let fits : SFits height_width height = search rules in
-    let is = c.greater.ensures ∙ ap (λ (z : ℤ). greater_of (Some z) spill) (to_z-of_z height_width height fits) in
-    one_entry _ c.loop-index.index _ _ c.greater.result c.in_ok-push.ensures.items is c.loop-index.invariant
+    let is = c.greater.ensures
+    ∙ ap (λ (z : ℤ). greater_of (Some z) spill) (to_z-of_z height_width height fits) in
+    one_entry _ c.loop-index.index _ _ c.greater.result c.in_ok-push.ensures.items is
+    c.loop-index.invariant
 
 pub returns : goal.returns
-returns c = all_entries _ c.loop-index.index _ _ c.loop-index.auto.index-end c.loop-index-test.false c.loop-index.invariant
+returns c = all_entries _ c.loop-index.index _ _ c.loop-index.auto.index-end c.loop-index-test.false
+    c.loop-index.invariant

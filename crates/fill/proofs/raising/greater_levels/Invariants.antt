@@ -4,5 +4,6 @@ use Rattle.fill.proofs.raising.greater_levels.Given as goal
 
 abbrev pub invariant-loop-index : goal.invariant-loop-index
 invariant-loop-index l =
-    AreEntries (λ i. greater_of (Some (get_or l.heights i (pos 0))) (get_or l.spills (get_or l.labels i 0) None))
+    AreEntries (λ i.
+    greater_of (Some (get_or l.heights i (pos 0))) (get_or l.spills (get_or l.labels i 0) None))
     l.index l.raised.items

@@ -13,6 +13,9 @@ returns-clause-filled c =
     let flood = c.args.flood.now in
     let levels = c.args.levels.now in
     IfOk-weaker c.raised_by.result (λ (v : Vec (Option ℤ) Global). IsRaised k flood levels v.items)
-    (λ (v : Vec (Option ℤ) Global). (t : Terrain) (floods : List Flood) (tile : ℕ) → AreFloods t k floods → slice_get floods tile ≡ Some flood → AreSpillLevels t k floods levels → IsFilledTile t k tile v.items)
-    (λ v raised t floods tile are there spill. filled_tile t k floods tile flood levels v.items are there spill raised)
+    (λ (v : Vec (Option ℤ) Global). (t : Terrain) (floods : List Flood) (tile : ℕ) →
+    AreFloods t k floods → slice_get floods tile ≡ Some flood → AreSpillLevels t k floods levels →
+    IsFilledTile t k tile v.items)
+    (λ v raised t floods tile are there spill.
+    filled_tile t k floods tile flood levels v.items are there spill raised)
     c.raised_by.ensures

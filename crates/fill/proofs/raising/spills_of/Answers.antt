@@ -6,7 +6,10 @@ use Rattle.fill.proofs.raising.spills_of.Goals as goal
 
 pub loop-label-preserved : goal.loop-label-preserved
 loop-label-preserved c =
-    mapped_more (spill_of c.args.tiling.now c.args.levels.now) c.args.labels.now c.loop-label.label-index None _ _ c.spill.result c.loop-label-test.true c.loop-label.invariant c.in_ok-push.ensures.items c.spill.ensures
+    mapped_more (spill_of c.args.tiling.now c.args.levels.now)
+    c.args.labels.now c.loop-label.label-index None _ _ c.spill.result c.loop-label-test.true
+    c.loop-label.invariant c.in_ok-push.ensures.items c.spill.ensures
 
 pub returns : goal.returns
-returns c = c.loop-label.invariant ∙ ap (map (spill_of c.args.tiling.now c.args.levels.now)) (take_all _ c.args.labels.now c.loop-label-test.false)
+returns c = c.loop-label.invariant ∙ ap (map (spill_of c.args.tiling.now c.args.levels.now))
+    (take_all _ c.args.labels.now c.loop-label-test.false)

@@ -11,34 +11,46 @@ use Rattle.fill.proofs.rim_cells.push_on_way.Goals as goal
 
 pub returns-in_default : goal.returns-in_default
 returns-in_default g c =
-    adds_none (g.C.MarkedCells.marks c.args.cells.now) c.args.left_out.now (IsPairOn c.args.way c.args.place (g.C.MarkedCells.wanted c.args.cells.now)) _ _ refl
-    (λ q r at. none_some (place_on c.args.way c.args.place) r (sym c.place_on.ensures ∙ c.in_default.is) at.1)
+    adds_none (g.C.MarkedCells.marks c.args.cells.now) c.args.left_out.now
+    (IsPairOn c.args.way c.args.place (g.C.MarkedCells.wanted c.args.cells.now)) _ _ refl
+    (λ q r at.
+    none_some (place_on c.args.way c.args.place) r (sym c.place_on.ensures ∙ c.in_default.is) at.1)
 
 pub returns-then-not-is_wanted : goal.returns-then-not-is_wanted
 returns-then-not-is_wanted g c =
-    adds_none (g.C.MarkedCells.marks c.args.cells.now) c.args.left_out.now (IsPairOn c.args.way c.args.place (g.C.MarkedCells.wanted c.args.cells.now)) _ _ refl
+    adds_none (g.C.MarkedCells.marks c.args.cells.now) c.args.left_out.now
+    (IsPairOn c.args.way c.args.place (g.C.MarkedCells.wanted c.args.cells.now)) _ _ refl
     (λ q r at.
     let same = same_Some c.in-Some.near r (sym (sym c.place_on.ensures ∙ c.in-Some.is) ∙ at.1) in
-    absurd (cc (c.if-not-is_wanted.ensures ∙ ap (g.C.MarkedCells.wanted c.args.cells.now) same ∙ at.2)))
+    absurd (cc (c.if-not-is_wanted.ensures ∙ ap (g.C.MarkedCells.wanted c.args.cells.now) same
+    ∙ at.2)))
 
 -- The neighbour is the cell below.
 pub returns-then-near-place : goal.returns-then-near-place
 returns-then-near-place g c =
     let on = sym c.place_on.ensures ∙ c.in-Some.is in
-    let is_below = same_col c.args.place c.in-Some.near c.args.way c.requires.after on c.if-near-place.true in
+    let is_below =
+    same_col c.args.place c.in-Some.near c.args.way c.requires.after on c.if-near-place.true in
     on_ok_weaker _ (λ added.
-    adds_on_way (g.C.MarkedCells.marks c.args.cells.now) c.args.left_out.now c.args.place c.in-Some.near c.args.way (g.C.MarkedCells.wanted c.args.cells.now) c.args.from _ _ _
-    c.requires.from (ap (g.C.MarkedCells.marks c.args.cells.now) is_below ∙ sym c.requires.below) (omega (arith, c.requires.after)) on
-    (sym c.is_wanted.ensures ∙ cc c.if-not-is_wanted.false) added) (rw (ap (λ (z : LeftOutJoins). z.sources) c.left_out.view_is) at c.push_join.ensures)
+    adds_on_way (g.C.MarkedCells.marks c.args.cells.now) c.args.left_out.now c.args.place
+    c.in-Some.near c.args.way (g.C.MarkedCells.wanted c.args.cells.now) c.args.from _ _ _
+    c.requires.from (ap (g.C.MarkedCells.marks c.args.cells.now) is_below
+    ∙ sym c.requires.below) (omega (arith, c.requires.after)) on
+    (sym c.is_wanted.ensures ∙ cc c.if-not-is_wanted.false) added) (rw
+    (ap (λ (z : LeftOutJoins). z.sources) c.left_out.view_is) at c.push_join.ensures)
 
 -- The cell below or the one beside bypasses the join.
 pub returns-then-is_left_out : goal.returns-then-is_left_out
 returns-then-is_left_out g c =
     let marks = g.C.MarkedCells.marks c.args.cells.now in
     let on = sym c.place_on.ensures ∙ c.in-Some.is in
-    let row = next_row c.args.place c.in-Some.near c.args.way c.requires.after on (λ e. c.if-near-place-2.true (sym e)) in
-    adds_left_out marks c.args.left_out.now c.args.place c.in-Some.near c.args.way (g.C.MarkedCells.wanted c.args.cells.now) _ on
-    (left_out_corner marks c.args.left_out.now c.args.place c.in-Some.near (record { row = c.args.place.row + 1; col = c.args.place.col }) c.args.from c.args.below c.mark-to.result
+    let row = next_row c.args.place c.in-Some.near c.args.way c.requires.after on (λ e.
+    c.if-near-place-2.true (sym e)) in
+    adds_left_out marks c.args.left_out.now c.args.place c.in-Some.near c.args.way
+    (g.C.MarkedCells.wanted c.args.cells.now) _ on
+    (left_out_corner marks c.args.left_out.now c.args.place c.in-Some.near
+    (record { row = c.args.place.row + 1; col = c.args.place.col })
+    c.args.from c.args.below c.mark-to.result
     (inl (sym row, refl)) c.requires.from c.requires.below c.mark-to.ensures row
     (λ e. c.if-near-place.false (sym e)) (OnTrue_at c.if-is_left_out.true c.is_left_out.ensures))
 
@@ -46,16 +58,25 @@ pub returns-then-is_left_out-2 : goal.returns-then-is_left_out-2
 returns-then-is_left_out-2 g c =
     let marks = g.C.MarkedCells.marks c.args.cells.now in
     let on = sym c.place_on.ensures ∙ c.in-Some.is in
-    let row = next_row c.args.place c.in-Some.near c.args.way c.requires.after on (λ e. c.if-near-place-2.true (sym e)) in
-    adds_left_out marks c.args.left_out.now c.args.place c.in-Some.near c.args.way (g.C.MarkedCells.wanted c.args.cells.now) _ on
-    (left_out_corner marks c.args.left_out.now c.args.place c.in-Some.near (record { row = c.args.place.row; col = c.in-Some.near.col }) c.args.from c.mark-beside.result c.mark-to.result
+    let row = next_row c.args.place c.in-Some.near c.args.way c.requires.after on (λ e.
+    c.if-near-place-2.true (sym e)) in
+    adds_left_out marks c.args.left_out.now c.args.place c.in-Some.near c.args.way
+    (g.C.MarkedCells.wanted c.args.cells.now) _ on
+    (left_out_corner marks c.args.left_out.now c.args.place c.in-Some.near
+    (record { row = c.args.place.row; col = c.in-Some.near.col })
+    c.args.from c.mark-beside.result c.mark-to.result
     (inr (refl, refl)) c.requires.from c.mark-beside.ensures c.mark-to.ensures row
-    (λ e. c.if-near-place.false (sym e)) (OnTrue_at c.if-is_left_out-2.true c.is_left_out-then-near-place-2.ensures))
+    (λ e. c.if-near-place.false (sym e))
+    (OnTrue_at c.if-is_left_out-2.true c.is_left_out-then-near-place-2.ensures))
 
 pub returns : goal.returns
 returns g c =
-    let join = rw (ap (λ (z : LeftOutJoins). z.sources) c.left_out.view_is) at c.in-Some-join_of.ensures in
+    let join =
+    rw (ap (λ (z : LeftOutJoins). z.sources) c.left_out.view_is) at c.in-Some-join_of.ensures in
     on_ok_weaker _ (λ added.
-    adds_on_way (g.C.MarkedCells.marks c.args.cells.now) c.args.left_out.now c.args.place c.in-Some.near c.args.way (g.C.MarkedCells.wanted c.args.cells.now) c.args.from _ _ _
-    c.requires.from (sym c.mark-to.ensures) (omega (arith, c.requires.after)) (sym c.place_on.ensures ∙ c.in-Some.is) (sym c.is_wanted.ensures ∙ cc c.if-not-is_wanted.false)
-    (subst (λ (z : List Join). AddsCovered (g.J.JoinList.joins c.args.joins.now) z (g.J.JoinList.joins c.add.new.self)) (sym join) added)) c.add.ensures
+    adds_on_way (g.C.MarkedCells.marks c.args.cells.now) c.args.left_out.now c.args.place
+    c.in-Some.near c.args.way (g.C.MarkedCells.wanted c.args.cells.now) c.args.from _ _ _
+    c.requires.from (sym c.mark-to.ensures) (omega (arith, c.requires.after))
+    (sym c.place_on.ensures ∙ c.in-Some.is) (sym c.is_wanted.ensures ∙ cc c.if-not-is_wanted.false)
+    (subst (λ (z : List Join). AddsCovered (g.J.JoinList.joins c.args.joins.now) z
+    (g.J.JoinList.joins c.add.new.self)) (sym join) added)) c.add.ensures

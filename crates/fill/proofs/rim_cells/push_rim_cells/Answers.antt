@@ -9,21 +9,38 @@ use Rattle.fill.specs.Gathering.{IsOnRimRow, IsPairFrom}
 use Rattle.fill.proofs.Adding.{adds_as, adds_then}
 use Rattle.fill.proofs.rim_cells.push_rim_cells.Goals as goal
 
-first_in : (b : Bounds) (row : ℕ) → b.top ≤ row → row < b.top + b.rows → 1 ≤ b.cols → (p : Place) → p ≡ record { row = row; col = b.left } → IsOnRimRow b row p
+first_in : (b : Bounds) (row : ℕ) → b.top ≤ row → row < b.top + b.rows → 1 ≤ b.cols → (p : Place) →
+    p ≡ record { row = row; col = b.left } → IsOnRimRow b row p
 first_in b row above below some p same =
-    subst (IsOnRimRow b row) (sym same) ((omega (arith, above), omega (arith, below), omega arith, omega (arith, some)), refl, λ inner. omega (arith, inner.2))
+    subst (IsOnRimRow b row) (sym same) (
+      (omega (arith, above), omega (arith, below), omega arith, omega (arith, some)),
+      refl,
+      λ inner. omega (arith, inner.2),
+    )
 
-last_in : (b : Bounds) (row : ℕ) → b.top ≤ row → row < b.top + b.rows → 1 ≤ b.cols → (p : Place) → p ≡ record { row = row; col = b.left + b.cols - 1 } → IsOnRimRow b row p
+last_in : (b : Bounds) (row : ℕ) → b.top ≤ row → row < b.top + b.rows → 1 ≤ b.cols → (p : Place) →
+    p ≡ record { row = row; col = b.left + b.cols - 1 } → IsOnRimRow b row p
 last_in b row above below some p same =
-    subst (IsOnRimRow b row) (sym same) ((omega (arith, above), omega (arith, below), omega (arith, some), omega (arith, some)), refl, λ inner. omega (arith, inner.3, some))
+    subst (IsOnRimRow b row) (sym same) (
+      (omega (arith, above), omega (arith, below), omega (arith, some), omega (arith, some)),
+      refl,
+      λ inner. omega (arith, inner.3, some),
+    )
 
 -- Above the last row, a cell on the rim is the first or the last cell of its row.
-ends : (b : Bounds) (row : ℕ) → row + 1 < b.top + b.rows → (p : Place) → IsOnRimRow b row p → (p ≡ record { row = row; col = b.left }) ⊎ (p ≡ record { row = row; col = b.left + b.cols - 1 })
+ends : (b : Bounds) (row : ℕ) → row + 1 < b.top + b.rows → (p : Place) → IsOnRimRow b row p →
+    (p ≡ record { row = row; col = b.left }) ⊎ (p ≡ record { row = row; col = b.left + b.cols - 1 })
 ends b row below p at = elim (cases_eq p.col b.left) [
   | inl first ↦ inl (same_place p (record { row = row; col = b.left }) at.1 first)
   | inr other ↦ elim (cases_eq (p.col + 1) (b.left + b.cols)) [
-    | inl last ↦ inr (same_place p (record { row = row; col = b.left + b.cols - 1 }) at.1 (omega (arith, last)))
-    | inr between ↦ absurd (at.2 (omega (arith, at.0), omega (arith, below, at.1), omega (arith, other, at.0), omega (arith, between, at.0)))
+    | inl last ↦ inr (same_place p (record { row = row; col = b.left + b.cols - 1 }) at.1
+        (omega (arith, last)))
+    | inr between ↦ absurd (at.2 (
+      omega (arith, at.0),
+      omega (arith, below, at.1),
+      omega (arith, other, at.0),
+      omega (arith, between, at.0),
+    ))
   ]
 ]
 
@@ -50,15 +67,19 @@ returns-in_ok-push_cell-2 g c =
     (λ p q. IsPairFrom first wanted p q ⊎ IsPairFrom last wanted p q)
     (λ p q. IsOnRimRow b row p × (wanted q ≡ true)) _ _
     (λ p q at. elim at [
-      | inl here ↦ (first_in b row c.requires.row.0 c.requires.row.1 c.requires.some p here.0, here.1)
-      | inr here ↦ (last_in b row c.requires.row.0 c.requires.row.1 c.requires.some p here.0, here.1)
+      | inl here ↦
+          (first_in b row c.requires.row.0 c.requires.row.1 c.requires.some p here.0, here.1)
+      | inr here ↦
+          (last_in b row c.requires.row.0 c.requires.row.1 c.requires.some p here.0, here.1)
     ])
-    (λ p q touch after m m_is n n_is at. elim (ends b row (omega (arith, c.requires.row, c.if-row-top.false)) p at.0) [
+    (λ p q touch after m m_is n n_is at.
+    elim (ends b row (omega (arith, c.requires.row, c.if-row-top.false)) p at.0) [
       | inl here ↦ inl (here, at.1)
       | inr here ↦ inr (here, at.1)
     ])
     (adds_then marks c.args.left_out.now (IsPairFrom first wanted) (IsPairFrom last wanted)
-    (λ p q. IsPairFrom first wanted p q ⊎ IsPairFrom last wanted p q) _ _ _ (λ p q. (λ at. at, λ at. at))
+    (λ p q. IsPairFrom first wanted p q ⊎ IsPairFrom last wanted p q) _ _ _ (λ p q.
+    (λ at. at, λ at. at))
     c.in_ok-push_cell.ensures c.in_ok-push_cell-2.ensures)
 
 pub returns-else-cols-gt1 : goal.returns-else-cols-gt1
@@ -70,5 +91,6 @@ returns-else-cols-gt1 g c =
     adds_as (g.C.MarkedCells.marks c.args.cells.now) c.args.left_out.now
     (IsPairFrom first wanted) (λ p q. IsOnRimRow b row p × (wanted q ≡ true)) _ _
     (λ p q at. (first_in b row c.requires.row.0 c.requires.row.1 c.requires.some p at.0, at.1))
-    (λ p q touch after m m_is n n_is at. (same_place p first at.0.1 (omega (arith, at.0.0, c.if-cols-gt1.false, c.requires.some)), at.1))
+    (λ p q touch after m m_is n n_is at.
+    (same_place p first at.0.1 (omega (arith, at.0.0, c.if-cols-gt1.false, c.requires.some)), at.1))
     c.in_ok-push_cell.ensures

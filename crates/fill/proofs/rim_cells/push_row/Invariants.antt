@@ -6,5 +6,6 @@ use Rattle.fill.proofs.rim_cells.push_row.Given as goal
 abbrev pub invariant-loop-col : goal.invariant-loop-col
 invariant-loop-col g l =
     Adds (g.C.MarkedCells.marks l.cells) l.left_out
-    (λ p q. (IsInBounds l.fn.bounds p × (p.row ≡ l.row) × (p.col < l.col)) × (g.C.MarkedCells.wanted l.cells q ≡ true))
+    (λ p q. (IsInBounds l.fn.bounds p × (p.row ≡ l.row) × (p.col < l.col))
+    × (g.C.MarkedCells.wanted l.cells q ≡ true))
     (g.J.JoinList.joins l.initial.joins) (g.J.JoinList.joins l.joins)

@@ -15,15 +15,27 @@ not_both false e f = absurd (cc)
 
 -- A later neighbour of an inner cell lies in the bounds.
 after_inner : (b : Bounds) (p q : Place) → IsInner b p → Touches p q → IsAfter p q → IsInBounds b q
-after_inner b p q inner touch (inl down) = (omega (arith, inner, down), omega (arith, touch.row_down, inner), omega (arith, touch.col_left, inner), omega (arith, touch.col_right, inner))
-after_inner b p q inner touch (inr beside) = (omega (arith, inner, beside.0), omega (arith, inner, beside.0), omega (arith, inner, beside.1), omega (arith, touch.col_right, inner))
+after_inner b p q inner touch (inl down) = (
+  omega (arith, inner, down),
+  omega (arith, touch.row_down, inner),
+  omega (arith, touch.col_left, inner),
+  omega (arith, touch.col_right, inner),
+)
+after_inner b p q inner touch (inr beside) = (
+  omega (arith, inner, beside.0),
+  omega (arith, inner, beside.0),
+  omega (arith, inner, beside.1),
+  omega (arith, touch.col_right, inner),
+)
 
 pub loop-row-init : goal.loop-row-init
 loop-row-init c =
     let t = c.args.tiles.now.tiling.now in
     adds_none (mark_among t c.args.tiles.now.floods.now) c.args.left_out.now
-    (λ p q. (IsInTile t c.args.tile p × (p.row < c.bounds-bounds.result.top)) × IsOutside t c.args.tile q) _ _ refl
-    (λ p q at. let inside = (c.bounds-bounds.ensures.places p).0 at.0.0 in omega (arith, inside.0, at.0.1))
+    (λ p q. (IsInTile t c.args.tile p × (p.row < c.bounds-bounds.result.top))
+    × IsOutside t c.args.tile q) _ _ refl
+    (λ p q at. let inside = (c.bounds-bounds.ensures.places p).0 at.0.0 in
+    omega (arith, inside.0, at.0.1))
 
 pub loop-row-preserved : goal.loop-row-preserved
 loop-row-preserved c =
@@ -45,13 +57,25 @@ loop-row-preserved c =
         | inl early ↦ inl ((at.0.0, early), at.1)
         | inr late ↦ inr ((at.0.0, omega (arith, at.0.1, late)), at.1)
       ],
-      λ at. elim at [ inl early ↦ ((early.0.0, omega (arith, early.0.1)), early.1) | inr late ↦ ((late.0.0, omega (arith, late.0.1)), late.1) ],
+      λ at. elim at [
+        | inl early ↦ ((early.0.0, omega (arith, early.0.1)), early.1)
+        | inr late ↦
+            ((late.0.0, omega (arith, late.0.1)), late.1)
+      ],
     ))
     c.loop-row.invariant
-    (adds_as marks out (λ p q. IsOnRimRow b row p × beyond q) (λ p q. (inside p × (p.row ≡ row)) × outside q) _ _
-    (λ p q at. (((places p).1 at.0.0, at.0.1), λ i. not_both (is_in_bounds b q) at.1 (in_bounds_from b q ((places q).0 i))))
+    (adds_as marks out (λ p q. IsOnRimRow b row p × beyond q) (λ p q. (inside p × (p.row ≡ row))
+    × outside q) _ _
+    (λ p q at. (
+      ((places p).1 at.0.0, at.0.1),
+      λ i. not_both (is_in_bounds b q) at.1 (in_bounds_from b q ((places q).0 i)),
+    ))
     (λ p q touch after m m_is n n_is at. (
-      ((places p).0 at.0.0, at.0.1, λ inner. at.1 ((places q).1 (after_inner b p q inner touch after))),
+      (
+        (places p).0 at.0.0,
+        at.0.1,
+        λ inner. at.1 ((places q).1 (after_inner b p q inner touch after)),
+      ),
       elim (cases_Bool (is_in_bounds b q)) [
         | inl in_it ↦ absurd (at.1 ((places q).1 (in_bounds_parts b q in_it)))
         | inr out_of_it ↦ ap not out_of_it
@@ -68,5 +92,6 @@ returns c =
     (λ p q. (inside p × (p.row < c.loop-row.row)) × outside q)
     (λ p q. inside p × outside q) _ _
     (λ p q at. (at.0.0, at.1))
-    (λ p q touch after m m_is n n_is at. let within = (c.bounds-bounds.ensures.places p).0 at.0 in ((at.0, omega (arith, within.1, c.loop-row-test.false)), at.1))
+    (λ p q touch after m m_is n n_is at. let within = (c.bounds-bounds.ensures.places p).0 at.0 in
+    ((at.0, omega (arith, within.1, c.loop-row-test.false)), at.1))
     c.loop-row.invariant

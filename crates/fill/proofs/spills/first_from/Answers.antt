@@ -10,7 +10,8 @@ loop-low-preserved-then-joins-middle c =
     record {
       low = omega (arith, c.loop-low-test.true);
       high = i.high;
-      below = below_more c.args.joins.now c.args.node middle _ c.requires inside c.if-joins-middle.true;
+      below =
+          below_more c.args.joins.now c.args.node middle _ c.requires inside c.if-joins-middle.true;
       above = i.above;
     }
 
@@ -23,5 +24,6 @@ loop-low-preserved c =
       low = omega (arith, c.loop-low-test.true);
       high = omega (arith, i.high, c.loop-low-test.true);
       below = i.below;
-      above = above_more c.args.joins.now c.args.node middle _ c.requires inside c.if-joins-middle.false;
+      above = above_more c.args.joins.now c.args.node middle _ c.requires inside
+          c.if-joins-middle.false;
     }

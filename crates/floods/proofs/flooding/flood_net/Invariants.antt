@@ -7,7 +7,8 @@ use Rattle.floods.proofs.flooding.flood_net.Given as goal
 abbrev pub invariant-loop-waiting : goal.invariant-loop-waiting
 invariant-loop-waiting g l = record {
   order : InOrder l.queue;
-  state : IsFlooding (g.N.Net.joins l.net) (g.N.Net.source_height l.net) (g.N.Net.node_count l.net) l.levels l.labels (candidates_in l.queue);
+  state : IsFlooding (g.N.Net.joins l.net) (g.N.Net.source_height l.net)
+      (g.N.Net.node_count l.net) l.levels l.labels (candidates_in l.queue);
   noted : AreNoted l.labels l.levels (candidates_in l.queue);
   own : AreOwn (g.N.Net.source_height l.net) l.labels l.levels (candidates_in l.queue);
 }

@@ -2,11 +2,18 @@ use Rattle.std.proofs.Common.{◌≡◌, ◌+◌, ◌<◌, ◌≤◌, ℕ, ℤ, 
 use Rattle.std.proofs.lemmas.List.{take_more, take_all}
 use Rattle.floods.proofs.flooding.list_of_levels.Goals as goal
 
-level_more : (levels : List (Option ℤ)) (i len : ℕ) (now next : List (Option ℤ)) (level : Option ℤ) → i < len → len ≡ length levels → now ≡ take i levels → next ≡ now ++ level ∷ [] → level ≡ get_or levels i None → next ≡ take (i + 1) levels
-level_more levels i len now next level low size is more here = more ∙ ap (λ z. z ++ level ∷ []) is ∙ ap (λ z. take i levels ++ z ∷ []) here ∙ sym (take_more levels i None (subst (λ n. i < n) size low))
+level_more : (levels : List (Option ℤ)) (i len : ℕ) (now next : List (Option ℤ))
+    (level : Option ℤ) → i < len → len ≡ length levels → now ≡ take i levels →
+    next ≡ now ++ level ∷ [] → level ≡ get_or levels i None → next ≡ take (i + 1) levels
+level_more levels i len now next level low size is more here =
+    more ∙ ap (λ z. z ++ level ∷ []) is ∙ ap (λ z. take i levels ++ z ∷ []) here
+    ∙ sym (take_more levels i None (subst (λ n. i < n) size low))
 
 pub loop-index-preserved : goal.loop-index-preserved
-loop-index-preserved c = level_more c.args.levels.now c.loop-index.index _ _ _ c.at.result c.loop-index-test.true c.len-index-end.ensures c.loop-index.invariant c.in_ok-push.ensures.items c.at.ensures
+loop-index-preserved c =
+    level_more c.args.levels.now c.loop-index.index _ _ _ c.at.result c.loop-index-test.true
+    c.len-index-end.ensures c.loop-index.invariant c.in_ok-push.ensures.items c.at.ensures
 
 pub returns : goal.returns
-returns c = c.loop-index.invariant ∙ take_all c.loop-index.index c.args.levels.now (subst (λ n. n ≤ c.loop-index.index) c.len-index-end.ensures c.loop-index-test.false)
+returns c = c.loop-index.invariant ∙ take_all c.loop-index.index c.args.levels.now
+    (subst (λ n. n ≤ c.loop-index.index) c.len-index-end.ensures c.loop-index-test.false)

@@ -10,4 +10,5 @@ loop-arc-init c = none_relaxed _ _ _ _ c.requires.order c.requires.noted
 pub loop-arc-preserved : goal.loop-arc-preserved
 loop-arc-preserved c =
     let none : Spill = record { to = 0; height = pos 0 } in
-    rw (take_more c.args.arcs.now c.loop-arc.arc-index none c.loop-arc-test.true) (more_relaxed _ _ _ _ _ _ _ _ _ _ c.loop-arc.invariant c.in_ok-queue_neighbour.ensures)
+    rw (take_more c.args.arcs.now c.loop-arc.arc-index none c.loop-arc-test.true)
+    (more_relaxed _ _ _ _ _ _ _ _ _ _ c.loop-arc.invariant c.in_ok-queue_neighbour.ensures)

@@ -13,33 +13,43 @@ use Rattle.flow.proofs.basin.basins.Goals as goal
 pub of_codes-requires-clause-few : goal.of_codes-requires-clause-few
 of_codes-requires-clause-few g c κs within =
     let t = c.args.tiling.now in
-    let most : t.cols * t.rows ≤ 4096 * 4096 = mul-le-mul c.tiles.ensures.lawful.few_cols c.tiles.ensures.lawful.few_rows in
-    let flow = grid_flow c.args.d.now t c.codes-codes.result.now c.codes-codes.ensures.draining c.requires c.codes-codes.ensures.value in
+    let most : t.cols * t.rows ≤ 4096 * 4096 =
+    mul-le-mul c.tiles.ensures.lawful.few_cols c.tiles.ensures.lawful.few_rows in
+    let flow = grid_flow c.args.d.now t c.codes-codes.result.now c.codes-codes.ensures.draining
+    c.requires c.codes-codes.ensures.value in
     omega (arith, most, flow.size)
 
 pub number_cells-requires-clause-grid : goal.number_cells-requires-clause-grid
 number_cells-requires-clause-grid g c κs within =
-    grid_flow c.args.d.now c.args.tiling.now c.codes-codes.result.now c.codes-codes.ensures.draining c.requires c.codes-codes.ensures.value
+    grid_flow c.args.d.now c.args.tiling.now c.codes-codes.result.now c.codes-codes.ensures.draining
+    c.requires c.codes-codes.ensures.value
 
 pub number_cells-requires-clause-size : goal.number_cells-requires-clause-size
 number_cells-requires-clause-size g c κs within =
     ap length c.in_ok-numbers.ensures.codes
-    ∙ (grid_flow c.args.d.now c.args.tiling.now c.codes-codes.result.now c.codes-codes.ensures.draining c.requires c.codes-codes.ensures.value).size
+    ∙ (grid_flow c.args.d.now c.args.tiling.now c.codes-codes.result.now
+    c.codes-codes.ensures.draining c.requires c.codes-codes.ensures.value).size
 
 pub number_cells-requires-clause-few : goal.number_cells-requires-clause-few
 number_cells-requires-clause-few g c κs within i below =
     let t = c.args.tiling.now in
-    let most : t.cols * t.rows ≤ 4096 * 4096 = mul-le-mul c.tiles.ensures.lawful.few_cols c.tiles.ensures.lawful.few_rows in
-    let flow = grid_flow c.args.d.now t c.codes-codes.result.now c.codes-codes.ensures.draining c.requires c.codes-codes.ensures.value in
-    outlet_number_few c.in_ok-numbers.numbers (omega (arith, most, flow.size, ap length c.in_ok-numbers.ensures.codes)) i
+    let most : t.cols * t.rows ≤ 4096 * 4096 =
+    mul-le-mul c.tiles.ensures.lawful.few_cols c.tiles.ensures.lawful.few_rows in
+    let flow = grid_flow c.args.d.now t c.codes-codes.result.now c.codes-codes.ensures.draining
+    c.requires c.codes-codes.ensures.value in
+    outlet_number_few c.in_ok-numbers.numbers
+    (omega (arith, most, flow.size, ap length c.in_ok-numbers.ensures.codes)) i
 
 pub returns-clause-values : goal.returns-clause-values
 returns-clause-values g c =
     let t = c.args.tiling.now in
     let codes = c.codes-codes.result.now in
     let d = make_directed t.cols t.rows codes in
-    IfOk-weaker c.number_cells.result (λ (v : Vec (Option ℕ) Global). IsMapOf d (end_number d (outlet_numbers c.in_ok-numbers.numbers)) v.items)
+    IfOk-weaker c.number_cells.result (λ (v : Vec (Option ℕ) Global).
+    IsMapOf d (end_number d (outlet_numbers c.in_ok-numbers.numbers)) v.items)
     (λ (v : Vec (Option ℕ) Global). AreBasins (directed_of c.args.d.now) v.items)
-    (λ v made. subst (λ (x : Directed). AreBasins x v.items) (directed_same c.args.d.now t codes c.requires c.codes-codes.ensures.value)
-    (subst (λ (l : List (Option ℕ)). IsMapOf d (end_number d (outlet_numbers l)) v.items) c.in_ok-numbers.ensures.codes made))
+    (λ v made. subst (λ (x : Directed). AreBasins x v.items)
+    (directed_same c.args.d.now t codes c.requires c.codes-codes.ensures.value)
+    (subst (λ (l : List (Option ℕ)). IsMapOf d (end_number d (outlet_numbers l)) v.items)
+    c.in_ok-numbers.ensures.codes made))
     c.number_cells.ensures.values

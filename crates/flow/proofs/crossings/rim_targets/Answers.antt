@@ -8,4 +8,5 @@ use Rattle.flow.proofs.crossings.rim_targets.Goals as goal
 pub returns : goal.returns
 returns c =
     mapped_all (target_by c.args.tiling.now c.args.flows.now) _ _ _ c.loop-tile.invariant
-    (ap (λ n. n * stride (bounds_of c.args.tiling.now 0)) (omega (arith, c.loop-tile-test.false, c.loop-tile.auto.tile-end, c.tiles-tile-end.ensures.value)))
+    (ap (λ n. n * stride (bounds_of c.args.tiling.now 0)) (omega
+    (arith, c.loop-tile-test.false, c.loop-tile.auto.tile-end, c.tiles-tile-end.ensures.value)))

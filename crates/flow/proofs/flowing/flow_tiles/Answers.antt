@@ -9,15 +9,19 @@ pub returns-clause-flows : goal.returns-clause-flows
 returns-clause-flows g c =
     let t = c.args.tiling.now in
     let d = make_directed t.cols t.rows c.args.codes.now in
-    jobs_gave (IsFound d t c.args.counted) c.run.result _ _ (AreFlowsOf d t) c.tiles.ensures.value (λ outs count each. record {
+    jobs_gave (IsFound d t c.args.counted) c.run.result _ _ (AreFlowsOf d t) c.tiles.ensures.value
+    (λ outs count each. record {
       cutting = c.tiles.ensures.lawful;
       ends = c.requires.grid.ends;
-      of_tiles = record { size = (refl, refl); count = count; each = λ k x there. (each k x there).0 };
+      of_tiles =
+          record { size = (refl, refl); count = count; each = λ k x there. (each k x there).0 };
     }) c.run.ensures.len c.run.ensures.given
 
 pub returns-clause-counts : goal.returns-clause-counts
 returns-clause-counts g c =
     let t = c.args.tiling.now in
     let d = make_directed t.cols t.rows c.args.codes.now in
-    jobs_gave (IsFound d t c.args.counted) c.run.result _ _ (λ (outs : List Flow). c.args.counted ≡ true → AreTileCounts d t outs) c.tiles.ensures.value
-    (λ outs count each counted. record { each = λ k x there. (each k x there).1 counted }) c.run.ensures.len c.run.ensures.given
+    jobs_gave (IsFound d t c.args.counted) c.run.result _ _ (λ (outs : List Flow).
+    c.args.counted ≡ true → AreTileCounts d t outs) c.tiles.ensures.value
+    (λ outs count each counted.
+    record { each = λ k x there. (each k x there).1 counted }) c.run.ensures.len c.run.ensures.given

@@ -5,4 +5,10 @@ use Rattle.flow.proofs.inflows.rim_weights.Goals as goal
 
 pub returns : goal.returns
 returns c =
-    mapped_all (rim_weight c.args.tiling.now c.args.flows.now) _ _ _ c.loop-number.invariant (omega (arith, c.loop-number-test.false, c.loop-number.auto.number-end, c.number_count-count.ensures.value))
+    mapped_all (rim_weight c.args.tiling.now c.args.flows.now) _ _ _ c.loop-number.invariant
+    (omega (
+      arith,
+      c.loop-number-test.false,
+      c.loop-number.auto.number-end,
+      c.number_count-count.ensures.value,
+    ))

@@ -10,8 +10,10 @@ send-requires-clause-fits c = λ k h.
     omega (
       arith,
       c.loop-number.invariant.each k h,
-      sum_more (entering c.args.tiling.now c.args.targets.now c.args.weights.now c.args.upstream.now k) c.loop-number.number,
-      sum_below-part (entering c.args.tiling.now c.args.targets.now c.args.weights.now c.args.upstream.now k) (c.loop-number.number + 1) (number_count c.args.tiling.now)
+      sum_more (entering c.args.tiling.now c.args.targets.now c.args.weights.now c.args.upstream.now
+          k) c.loop-number.number,
+      sum_below-part (entering c.args.tiling.now c.args.targets.now c.args.weights.now
+          c.args.upstream.now k) (c.loop-number.number + 1) (number_count c.args.tiling.now)
           (omega (arith, c.loop-number-test.true, c.number_count-number-end.ensures.value)),
       c.requires.few k,
     )
@@ -23,14 +25,22 @@ loop-number-preserved c = record {
     arith,
     c.send.ensures.each k h,
     c.loop-number.invariant.each k h,
-    sum_more (entering c.args.tiling.now c.args.targets.now c.args.weights.now c.args.upstream.now k) c.loop-number.number,
+    sum_more (entering c.args.tiling.now c.args.targets.now c.args.weights.now c.args.upstream.now
+        k) c.loop-number.number,
   );
 }
 
 pub returns : goal.returns
 returns c =
-    let all : c.loop-number.number ≡ number_count c.args.tiling.now = omega (arith, c.loop-number-test.false, c.loop-number.auto.number-end, c.number_count-number-end.ensures.value) in
+    let all : c.loop-number.number ≡ number_count c.args.tiling.now =
+    omega (
+      arith,
+      c.loop-number-test.false,
+      c.loop-number.auto.number-end,
+      c.number_count-number-end.ensures.value,
+    ) in
     record {
       size = c.loop-number.invariant.size;
-      each = λ k h. c.loop-number.invariant.each k h ∙ ap (sum_below (entering c.args.tiling.now c.args.targets.now c.args.weights.now c.args.upstream.now k)) all;
+      each = λ k h. c.loop-number.invariant.each k h ∙ ap (sum_below (entering c.args.tiling.now
+          c.args.targets.now c.args.weights.now c.args.upstream.now k)) all;
     }

@@ -7,5 +7,6 @@ use Rattle.flow.proofs.inflows.send_all.Given as goal
 abbrev pub invariant-loop-number : goal.invariant-loop-number
 invariant-loop-number l = record {
   size : length l.listed ≡ number_count l.tiling;
-  each : (k : ℕ) → k < number_count l.tiling → get_or l.listed k 0 ≡ sum_below (entering l.tiling l.targets l.weights l.upstream k) l.number;
+  each : (k : ℕ) → k < number_count l.tiling →
+      get_or l.listed k 0 ≡ sum_below (entering l.tiling l.targets l.weights l.upstream k) l.number;
 }

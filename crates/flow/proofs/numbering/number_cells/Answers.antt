@@ -10,8 +10,10 @@ use Rattle.flow.proofs.numbering.number_cells.Goals as goal
 
 pub invariant_of-map_tiles : goal.invariant_of-map_tiles
 invariant_of-map_tiles g c = record {
-  ready = ready _ _ _ _ _ (numbering_of c.args.tiling.now c.args.codes.now _ _ _ (g.N.EndNumbering.numbers c.args.numbers)
-      c.in_ok-flows.ensures.flows c.deref-2.ensures.value c.in_ok-outlets.ensures.cutting c.in_ok-outlets.ensures.outlets c.requires.size c.requires.few);
+  ready = ready _ _ _ _ _ (numbering_of c.args.tiling.now c.args.codes.now _ _ _
+      (g.N.EndNumbering.numbers c.args.numbers)
+      c.in_ok-flows.ensures.flows c.deref-2.ensures.value c.in_ok-outlets.ensures.cutting
+      c.in_ok-outlets.ensures.outlets c.requires.size c.requires.few);
 }
 
 pub returns-clause-values : goal.returns-clause-values
@@ -19,12 +21,15 @@ returns-clause-values g c =
     let t = c.args.tiling.now in
     let d = make_directed t.cols t.rows c.args.codes.now in
     let n = g.N.EndNumbering.numbers c.args.numbers in
-    let numbering = numbering_of t c.args.codes.now _ _ _ n c.in_ok-flows.ensures.flows c.deref-2.ensures.value c.in_ok-outlets.ensures.cutting
+    let numbering = numbering_of t c.args.codes.now _ _ _ n c.in_ok-flows.ensures.flows
+    c.deref-2.ensures.value c.in_ok-outlets.ensures.cutting
     c.in_ok-outlets.ensures.outlets c.requires.size c.requires.few in
-    IfOk-weaker c.map_tiles.result (λ (v : Vec (Option ℕ) Global). IsMadeMap t (IsEndNumberAt t c.in_ok-flows.flows.items c.in_ok-outlets.outlets n) v.items)
+    IfOk-weaker c.map_tiles.result (λ (v : Vec (Option ℕ) Global).
+    IsMadeMap t (IsEndNumberAt t c.in_ok-flows.flows.items c.in_ok-outlets.outlets n) v.items)
     (λ (v : Vec (Option ℕ) Global). IsMapOf d (end_number d n) v.items)
     (λ v made. record {
       size = made.size;
-      each = λ p i. entry_of_map t (IsEndNumberAt t c.in_ok-flows.flows.items c.in_ok-outlets.outlets n) v.items made p i d numbering;
+      each = λ p i. entry_of_map t (IsEndNumberAt t c.in_ok-flows.flows.items
+          c.in_ok-outlets.outlets n) v.items made p i d numbering;
     })
     c.map_tiles.ensures.made

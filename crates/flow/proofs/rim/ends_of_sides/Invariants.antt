@@ -9,5 +9,6 @@ use Rattle.flow.proofs.rim.ends_of_sides.Given as goal
 abbrev pub invariant-loop-side : goal.invariant-loop-side
 invariant-loop-side l = record {
   found : AreFound l.links l.found;
-  ends : l.ends.items ≡ map (λ side. end_of l.links (index_in l.bounds (side_place l.bounds l.bounds side))) (range_with_len 0 l.side);
+  ends : l.ends.items ≡ map (λ side. end_of l.links
+      (index_in l.bounds (side_place l.bounds l.bounds side))) (range_with_len 0 l.side);
 }

@@ -10,12 +10,16 @@ use Rattle.flow.proofs.streams.count_donors.Goals.{then-next-node, else-next-nod
 
 pub overflow_add-counts : goal.overflow_add-counts
 overflow_add-counts c =
-    let fits : get_or c.loop-node.counts (get_or c.args.links.now c.loop-node.node 0) 0 + 1 < 2 ^ 32 =
+    let fits : get_or c.loop-node.counts (get_or c.args.links.now c.loop-node.node 0) 0
+    + 1 < 2 ^ 32 =
     omega (
       arith,
-      c.loop-node.invariant.each (get_or c.args.links.now c.loop-node.node 0) (c.requires.streams.inside c.loop-node.node c.loop-node-test.true),
-      sum_below-few (donor c.args.links.now (get_or c.args.links.now c.loop-node.node 0)) c.loop-node.node
-          (λ j l. bit_le (leads_to c.args.links.now j (get_or c.args.links.now c.loop-node.node 0))),
+      c.loop-node.invariant.each (get_or c.args.links.now c.loop-node.node 0)
+          (c.requires.streams.inside c.loop-node.node c.loop-node-test.true),
+      sum_below-few
+          (donor c.args.links.now (get_or c.args.links.now c.loop-node.node 0)) c.loop-node.node
+          (λ j l.
+          bit_le (leads_to c.args.links.now j (get_or c.args.links.now c.loop-node.node 0))),
       c.requires.few,
     ) in
     search rules
@@ -28,8 +32,13 @@ loop-node-preserved c = record {
       arith,
       ap (λ (xs : List ℕ). get_or xs i 0) w.counts-is,
       added_at c.loop-node.counts (get_or c.args.links.now c.loop-node.node 0) 1 i
-          (omega (arith, c.requires.streams.inside c.loop-node.node c.loop-node-test.true, c.loop-node.invariant.size)),
-      ap (λ b. cond {A = ℕ} b 1 0) (leads_test c.args.links.now c.loop-node.node i w.if-next-node.true),
+          (omega (
+            arith,
+            c.requires.streams.inside c.loop-node.node c.loop-node-test.true,
+            c.loop-node.invariant.size,
+          )),
+      ap (λ b.
+          cond {A = ℕ} b 1 0) (leads_test c.args.links.now c.loop-node.node i w.if-next-node.true),
       c.loop-node.invariant.each i l,
       sum_more (donor c.args.links.now i) c.loop-node.node,
     )

@@ -9,4 +9,5 @@ loop-node-init c = record {
 }
 
 pub returns : goal.returns
-returns c = upstream_from _ _ _ _ c.requires.streams c.loop-node.invariant.sending (λ i h. c.loop-node.invariant.early i (omega arith))
+returns c = upstream_from _ _ _ _ c.requires.streams c.loop-node.invariant.sending (λ i h.
+    c.loop-node.invariant.early i (omega arith))

@@ -3,21 +3,33 @@ use Rattle.horizons.proofs.Pieces.{inside, passed, ends_above}
 use Rattle.horizons.proofs.horizon.first_above.Goals as goal
 
 pub offset_bounds-pieces-piece : goal.offset_bounds-pieces-piece
-offset_bounds-pieces-piece c = omega (arith, inside c.args.pieces.now c.loop-piece.piece c.args.index c.loop-piece.invariant c.requires.index)
+offset_bounds-pieces-piece c = omega (
+  arith,
+  inside c.args.pieces.now c.loop-piece.piece c.args.index c.loop-piece.invariant c.requires.index,
+)
 
 pub bounds-pieces-piece : goal.bounds-pieces-piece
-bounds-pieces-piece c = inside c.args.pieces.now c.loop-piece.piece c.args.index c.loop-piece.invariant c.requires.index
+bounds-pieces-piece c =
+    inside c.args.pieces.now c.loop-piece.piece c.args.index c.loop-piece.invariant c.requires.index
 
 pub overflow_add-piece : goal.overflow_add-piece
-overflow_add-piece c = omega (arith, inside c.args.pieces.now c.loop-piece.piece c.args.index c.loop-piece.invariant c.requires.index)
+overflow_add-piece c = omega (
+  arith,
+  inside c.args.pieces.now c.loop-piece.piece c.args.index c.loop-piece.invariant c.requires.index,
+)
 
 pub loop-piece-smaller : goal.loop-piece-smaller
-loop-piece-smaller c = omega (arith, inside c.args.pieces.now c.loop-piece.piece c.args.index c.loop-piece.invariant c.requires.index)
+loop-piece-smaller c = omega (
+  arith,
+  inside c.args.pieces.now c.loop-piece.piece c.args.index c.loop-piece.invariant c.requires.index,
+)
 
 pub loop-piece-preserved : goal.loop-piece-preserved
 loop-piece-preserved c =
     passed c.args.pieces.now c.loop-piece.piece c.args.index _ c.loop-piece.invariant
-    (inside c.args.pieces.now c.loop-piece.piece c.args.index c.loop-piece.invariant c.requires.index) c.loop-piece-test.true
+    (inside c.args.pieces.now c.loop-piece.piece c.args.index c.loop-piece.invariant
+    c.requires.index) c.loop-piece-test.true
 
 pub returns-clause-above : goal.returns-clause-above
-returns-clause-above c p at = ends_above c.args.pieces.now c.loop-piece.piece c.args.index _ p c.loop-piece-test.false at
+returns-clause-above c p at =
+    ends_above c.args.pieces.now c.loop-piece.piece c.args.index _ p c.loop-piece-test.false at

@@ -9,8 +9,11 @@ returns c =
     let some = c.cols-cols.ensures.lawful.terrain.some_col in
     record {
       inside = (
-        subst (λ (n : ℕ). c.args.index / n < t.rows) (sym same) (div_below c.args.index t.cols t.rows some (omega arith)),
-        subst (λ (n : ℕ). c.args.index % n < t.cols) (sym same) (mod_below c.args.index t.cols some),
+        subst (λ (n : ℕ). c.args.index / n < t.rows) (sym same)
+            (div_below c.args.index t.cols t.rows some (omega arith)),
+        subst (λ (n : ℕ). c.args.index % n < t.cols) (sym same)
+            (mod_below c.args.index t.cols some),
       );
-      index = subst (λ (n : ℕ). c.args.index / n * t.cols + c.args.index % n ≡ c.args.index) (sym same) (div-add-mod' c.args.index t.cols);
+      index = subst (λ (n : ℕ). c.args.index / n * t.cols + c.args.index % n ≡ c.args.index)
+          (sym same) (div-add-mod' c.args.index t.cols);
     }

@@ -13,13 +13,20 @@ flat_steps-requires g c =
     let cut = c.args.tiling.now in
     let counts = c.view-steps.result.cells in
     let same = c.cells.ensures.value ∙ sym (ap (λ (x : Terrain). x.cells) c.requires.0) in
-    let begun = subst (λ (xs : List (Option ℕ)). AreBegun t xs) (sym (ap (λ (v : View (Option ℕ)). v.cells) c.view-steps.ensures)) c.requires.1.1.0 in (
-      ap (λ (v : View (Option ℤ)). terrain_of v) c.view-levels.ensures ∙ sym (same_terrain t cut.cols cut.rows c.cells.result.now c.requires.1.0.0 c.requires.1.0.1 same),
+    let begun = subst (λ (xs : List (Option ℕ)). AreBegun t xs)
+    (sym (ap (λ (v : View (Option ℕ)). v.cells) c.view-steps.ensures)) c.requires.1.1.0 in (
+      ap (λ (v : View (Option ℤ)). terrain_of v) c.view-levels.ensures ∙ sym (same_terrain t
+          cut.cols cut.rows c.cells.result.now c.requires.1.0.0 c.requires.1.0.1 same),
       (
-        ap (λ (v : View (Option ℕ)). v.cutting) c.view-steps.ensures ∙ sym (ap (λ (v : View (Option ℤ)). v.cutting) c.view-levels.ensures),
+        ap (λ (v : View (Option ℕ)). v.cutting) c.view-steps.ensures
+            ∙ sym (ap (λ (v : View (Option ℤ)). v.cutting) c.view-levels.ensures),
         (
-          ap (λ (v : View (Option ℕ)). v.tile) c.view-steps.ensures ∙ sym (ap (λ (v : View (Option ℤ)). v.tile) c.view-levels.ensures),
-          (λ p drains. (begun_input t counts begun p drains).1, begun_walked (DrainsAtOnce t) t counts begun (λ p drains. drains)),
+          ap (λ (v : View (Option ℕ)). v.tile) c.view-steps.ensures
+              ∙ sym (ap (λ (v : View (Option ℤ)). v.tile) c.view-levels.ensures),
+          (
+            λ p drains. (begun_input t counts begun p drains).1,
+            begun_walked (DrainsAtOnce t) t counts begun (λ p drains. drains),
+          ),
         ),
       ),
     )

@@ -6,5 +6,6 @@ use Rattle.map_tests.proofs.flows.flows_of.Given as goal
 abbrev pub invariant-loop-tile : goal.invariant-loop-tile
 invariant-loop-tile l = record {
   size : length l.flows.items ≡ l.tile;
-  each : (k : ℕ) (f : Flow) → slice_get l.flows.items k ≡ Some f → IsTileFlow (directed_of l.ways) l.tiling k f;
+  each : (k : ℕ) (f : Flow) → slice_get l.flows.items k ≡ Some f →
+      IsTileFlow (directed_of l.ways) l.tiling k f;
 }

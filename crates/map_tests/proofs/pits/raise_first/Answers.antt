@@ -5,4 +5,5 @@ use Rattle.map_tests.proofs.pits.raise_first.Goals as goal
 
 pub raise-requires-clause-labels : goal.raise-requires-clause-labels
 raise-requires-clause-labels c =
-    labels_within _ _ _ 0 _ c.requires.floods (slice_get_read _ _ 0 _ refl c.requires.some c.index-floods-0.is)
+    labels_within _ _ _ 0 _ c.requires.floods
+    (slice_get_read _ _ 0 _ refl c.requires.some c.index-floods-0.is)

@@ -12,18 +12,21 @@ status_small : (number : ℕ) → status_of number ≤ 4
 status_small number = one_of_three (number == 12 || number == 32) (number == 51 || number == 52)
 
 pub returns-in-Err-clause-small : goal.returns-in-Err-clause-small
-returns-in-Err-clause-small g c = rw c.end_with.ensures.status (status_small (telling c.in-Err.fault).number)
+returns-in-Err-clause-small g c =
+    rw c.end_with.ensures.status (status_small (telling c.in-Err.fault).number)
 
 pub returns-in-Ok-clause-ends : goal.returns-in-Ok-clause-ends
 returns-in-Ok-clause-ends g c = record {
   result = c.run_reported.result;
   runs = c.run_reported.ensures;
-  ends = subst (λ r. EndsAs g.E.Write.contents c.args.errors.now c.args.errors.now r 0) (sym c.in-Ok.is) (refl, refl);
+  ends = subst (λ r. EndsAs g.E.Write.contents c.args.errors.now c.args.errors.now r 0)
+      (sym c.in-Ok.is) (refl, refl);
 }
 
 pub returns-in-Err-clause-ends : goal.returns-in-Err-clause-ends
 returns-in-Err-clause-ends g c = record {
   result = c.run_reported.result;
   runs = c.run_reported.ensures;
-  ends = subst (λ r. EndsAs g.E.Write.contents c.args.errors.now c.end_with.new.errors r c.end_with.result) (sym c.in-Err.is) (c.end_with.ensures.status, c.end_with.ensures.line);
+  ends = subst (λ r. EndsAs g.E.Write.contents c.args.errors.now c.end_with.new.errors r
+      c.end_with.result) (sym c.in-Err.is) (c.end_with.ensures.status, c.end_with.ensures.line);
 }

@@ -12,7 +12,8 @@ returns-in_err-write_all g c =
 
 pub returns-in_err-write_all-2 : goal.returns-in_err-write_all-2
 returns-in_err-write_all-2 g c =
-    let p = err_from_is_err_and c.from_residual-in_err-write_all-2.result c.from_residual-in_err-write_all-2.ensures.1 in
+    let p = err_from_is_err_and c.from_residual-in_err-write_all-2.result
+    c.from_residual-in_err-write_all-2.ensures.1 in
     let text = c.as_bytes.result.now in
     rw (p.1, p.2) (text ++ codes "\n", (text, refl), then _ _ _ _ text (codes "\n") _ _ c.in_ok-write_all.ensures c.in_err-write_all-2.ensures)
 

@@ -17,70 +17,114 @@ use Rattle.relief.specs.MapText.{IsMapText}
 use Rattle.relief.proofs.making.make_map.Goals as goal
 
 -- filling keeps the grid's header
-same_text : (g f : Raster) (values : List (Option ℕ)) → IsFilledGrid g f → counts_text f values ≡ counts_text g values
+same_text : (g f : Raster) (values : List (Option ℕ)) → IsFilledGrid g f →
+    counts_text f values ≡ counts_text g values
 same_text g f values is = ap (λ (r : Raster). counts_text r values) is.rest
 
 pub returns-in_ok-filled-in-Fill-clause-map : goal.returns-in_ok-filled-in-Fill-clause-map
 returns-in_ok-filled-in-Fill-clause-map g c =
-    subst (λ (m : Map). IsMapText c.args.grid m (heights_text c.into_grid.result)) (sym (sym c.map.ensures ∙ c.in-Fill.is))
-    (c.into_grid.result, subst (λ (f : Raster). IsFilledGrid c.args.grid f) (sym c.into_grid.ensures) c.in_ok-filled-in-Fill.ensures.filled, refl)
+    subst (λ (m : Map). IsMapText c.args.grid m (heights_text c.into_grid.result))
+    (sym (sym c.map.ensures ∙ c.in-Fill.is)) (
+      c.into_grid.result,
+      subst (λ (f : Raster). IsFilledGrid c.args.grid f)
+          (sym c.into_grid.ensures) c.in_ok-filled-in-Fill.ensures.filled,
+      refl,
+    )
 
 pub returns-in_ok-frame-in-Flow-clause-map : goal.returns-in_ok-frame-in-Flow-clause-map
 returns-in_ok-frame-in-Flow-clause-map g c =
     let grid = c.in_ok-frame-in-Flow.frame in
     let d = c.in_ok-frame-in-Flow.directions in
-    subst (λ (m : Map). IsMapText c.args.grid m (counts_text grid d.codes)) (sym (sym c.map.ensures ∙ c.in-Flow.is))
-    (directed_of d, c.in_ok-frame-in-Flow.ensures.drainage, same_text c.args.grid grid d.codes c.in_ok-frame-in-Flow.ensures.filled)
+    subst (λ (m : Map). IsMapText c.args.grid m (counts_text grid d.codes))
+    (sym (sym c.map.ensures ∙ c.in-Flow.is)) (
+      directed_of d,
+      c.in_ok-frame-in-Flow.ensures.drainage,
+      same_text c.args.grid grid d.codes c.in_ok-frame-in-Flow.ensures.filled,
+    )
 
-pub returns-in_ok-counts-in-Accumulate-clause-map : goal.returns-in_ok-counts-in-Accumulate-clause-map
+pub returns-in_ok-counts-in-Accumulate-clause-map :
+    goal.returns-in_ok-counts-in-Accumulate-clause-map
 returns-in_ok-counts-in-Accumulate-clause-map g c =
     let grid = c.in_ok-frame-in-Accumulate.frame in
     let values = c.in_ok-counts-in-Accumulate.counts.items in
-    subst (λ (m : Map). IsMapText c.args.grid m (counts_text grid values)) (sym (sym c.map.ensures ∙ c.in-Accumulate.is))
-    (directed_of c.in_ok-frame-in-Accumulate.directions, values, c.in_ok-frame-in-Accumulate.ensures.drainage, c.in_ok-counts-in-Accumulate.ensures.values, same_text c.args.grid grid values c.in_ok-frame-in-Accumulate.ensures.filled)
+    subst (λ (m : Map). IsMapText c.args.grid m (counts_text grid values))
+    (sym (sym c.map.ensures ∙ c.in-Accumulate.is)) (
+      directed_of c.in_ok-frame-in-Accumulate.directions,
+      values,
+      c.in_ok-frame-in-Accumulate.ensures.drainage,
+      c.in_ok-counts-in-Accumulate.ensures.values,
+      same_text c.args.grid grid values c.in_ok-frame-in-Accumulate.ensures.filled,
+    )
 
 pub returns-in_ok-numbers-in-Basins-clause-map : goal.returns-in_ok-numbers-in-Basins-clause-map
 returns-in_ok-numbers-in-Basins-clause-map g c =
     let grid = c.in_ok-frame-in-Basins.frame in
     let values = c.in_ok-numbers-in-Basins.numbers.items in
-    subst (λ (m : Map). IsMapText c.args.grid m (counts_text grid values)) (sym (sym c.map.ensures ∙ c.in-Basins.is))
-    (directed_of c.in_ok-frame-in-Basins.directions, values, c.in_ok-frame-in-Basins.ensures.drainage, c.in_ok-numbers-in-Basins.ensures.values, same_text c.args.grid grid values c.in_ok-frame-in-Basins.ensures.filled)
+    subst (λ (m : Map). IsMapText c.args.grid m (counts_text grid values))
+    (sym (sym c.map.ensures ∙ c.in-Basins.is)) (
+      directed_of c.in_ok-frame-in-Basins.directions,
+      values,
+      c.in_ok-frame-in-Basins.ensures.drainage,
+      c.in_ok-numbers-in-Basins.ensures.values,
+      same_text c.args.grid grid values c.in_ok-frame-in-Basins.ensures.filled,
+    )
 
-pub returns-in_ok-numbers-in-Catchments-clause-map : goal.returns-in_ok-numbers-in-Catchments-clause-map
+pub returns-in_ok-numbers-in-Catchments-clause-map :
+    goal.returns-in_ok-numbers-in-Catchments-clause-map
 returns-in_ok-numbers-in-Catchments-clause-map g c =
     let grid = c.in_ok-frame-in-Catchments.frame in
     let values = c.in_ok-numbers-in-Catchments.numbers.items in
-    subst (λ (m : Map). IsMapText c.args.grid m (counts_text grid values)) (sym (sym c.map.ensures ∙ c.in-Catchments.is))
-    (directed_of c.in_ok-frame-in-Catchments.directions, values, c.in_ok-frame-in-Catchments.ensures.drainage, rw c.deref.ensures.value at c.in_ok-numbers-in-Catchments.ensures.values, same_text c.args.grid grid values c.in_ok-frame-in-Catchments.ensures.filled)
+    subst (λ (m : Map). IsMapText c.args.grid m (counts_text grid values))
+    (sym (sym c.map.ensures ∙ c.in-Catchments.is)) (
+      directed_of c.in_ok-frame-in-Catchments.directions,
+      values,
+      c.in_ok-frame-in-Catchments.ensures.drainage,
+      rw c.deref.ensures.value at c.in_ok-numbers-in-Catchments.ensures.values,
+      same_text c.args.grid grid values c.in_ok-frame-in-Catchments.ensures.filled,
+    )
 
-pub returns-in_err-numbers-in-Catchments-clause-fault : goal.returns-in_err-numbers-in-Catchments-clause-fault
+pub returns-in_err-numbers-in-Catchments-clause-fault :
+    goal.returns-in_err-numbers-in-Catchments-clause-fault
 returns-in_err-numbers-in-Catchments-clause-fault g c =
-    let p = err_from_is_err_and c.from_residual-in_err-numbers-in-Catchments.result c.from_residual-in_err-numbers-in-Catchments.ensures.1 in
+    let p = err_from_is_err_and c.from_residual-in_err-numbers-in-Catchments.result
+    c.from_residual-in_err-numbers-in-Catchments.ensures.1 in
     let w = c.args.options.now in
     let grid = c.args.grid in
     let gauges = c.in-Catchments.gauges.items in
     let is : w.map ≡ Catchments c.in-Catchments.gauges = sym c.map.ensures ∙ c.in-Catchments.is in
-    let asked : gauge_fault grid w.map ≡ gauges_fault grid.terrain gauges = ap (λ m. gauge_fault grid m) is in
+    let asked : gauge_fault grid w.map ≡ gauges_fault grid.terrain gauges =
+    ap (λ m. gauge_fault grid m) is in
     let unseen : observer_fault grid w.map ≡ None = ap (λ m. observer_fault grid m) is in
     let sound = c.in_ok-frame-in-Catchments.ensures.gauges gauges ∙ sym asked ∙ c.requires.gauges in
-    let refusals = rw (c.deref.ensures.value, c.workers-workers.ensures.value) at c.in_err-numbers-in-Catchments.ensures.refusals in
-    rw (p.1, p.2) (catchments_refused w grid _ c.in_err-numbers-in-Catchments.field-0.0 c.workers-workers.ensures.limits.2 c.workers-workers.ensures.limits.3 sound
+    let refusals = rw (c.deref.ensures.value, c.workers-workers.ensures.value)
+    at c.in_err-numbers-in-Catchments.ensures.refusals in
+    rw (p.1, p.2) (catchments_refused w grid _ c.in_err-numbers-in-Catchments.field-0.0
+    c.workers-workers.ensures.limits.2 c.workers-workers.ensures.limits.3 sound
     (c.requires.sound ∙ ap (λ o. option_map Sight o) unseen) refusals)
 
 pub returns-in_ok-counts-in-View-clause-map : goal.returns-in_ok-counts-in-View-clause-map
 returns-in_ok-counts-in-View-clause-map g c =
     let values = c.in_ok-counts-in-View.counts.items in
-    subst (λ (m : Map). IsMapText c.args.grid m (counts_text c.into_frame.result values)) (sym (sym c.map.ensures ∙ c.in-View.is))
-    (values, rw c.deref-in-View.ensures.value at c.in_ok-counts-in-View.ensures.values, ap (λ (r : Raster). counts_text r values) c.into_frame.ensures)
+    subst (λ (m : Map). IsMapText c.args.grid m (counts_text c.into_frame.result values))
+    (sym (sym c.map.ensures ∙ c.in-View.is)) (
+      values,
+      rw c.deref-in-View.ensures.value at c.in_ok-counts-in-View.ensures.values,
+      ap (λ (r : Raster). counts_text r values) c.into_frame.ensures,
+    )
 
 pub returns-in_err-counts-in-View-clause-fault : goal.returns-in_err-counts-in-View-clause-fault
 returns-in_err-counts-in-View-clause-fault g c =
-    let p = err_from_is_err_and c.from_residual-in_err-counts-in-View.result c.from_residual-in_err-counts-in-View.ensures.1 in
+    let p = err_from_is_err_and c.from_residual-in_err-counts-in-View.result
+    c.from_residual-in_err-counts-in-View.ensures.1 in
     let w = c.args.options.now in
     let grid = c.args.grid in
-    let asked : observer_fault grid w.map ≡ observers_fault grid.terrain c.in-View.observers.items c.in-View.target c.in-View.radius = ap (λ m. observer_fault grid m) (sym c.map.ensures ∙ c.in-View.is) in
-    let refusals = rw (c.deref-in-View.ensures.value, c.workers-workers.ensures.value) at c.in_err-counts-in-View.ensures.refusals in
-    rw (p.1, p.2) (view_refused w grid _ c.in_err-counts-in-View.field-0.0 c.workers-workers.ensures.limits.2 c.workers-workers.ensures.limits.3
+    let asked : observer_fault grid w.map
+    ≡ observers_fault grid.terrain c.in-View.observers.items c.in-View.target c.in-View.radius =
+    ap (λ m. observer_fault grid m) (sym c.map.ensures ∙ c.in-View.is) in
+    let refusals = rw (c.deref-in-View.ensures.value, c.workers-workers.ensures.value)
+    at c.in_err-counts-in-View.ensures.refusals in
+    rw (p.1, p.2) (view_refused w grid _ c.in_err-counts-in-View.field-0.0
+    c.workers-workers.ensures.limits.2 c.workers-workers.ensures.limits.3
     (λ x. not_jobs x grid.terrain c.in-View.observers.items c.in-View.target c.in-View.radius)
     (c.requires.sound ∙ ap (λ o. option_map Sight o) asked) refusals)
 
@@ -88,5 +132,8 @@ pub returns-in_ok-counts-in-View-clause-ready : goal.returns-in_ok-counts-in-Vie
 returns-in_ok-counts-in-View-clause-ready g c =
     let w = c.args.options.now in
     let grid = c.args.grid in
-    let asked : observer_fault grid w.map ≡ observers_fault grid.terrain c.in-View.observers.items c.in-View.target c.in-View.radius = ap (λ m. observer_fault grid m) (sym c.map.ensures ∙ c.in-View.is) in
-    c.requires.sound ∙ ap (λ o. option_map Sight o) (asked ∙ no_fault _ _ _ (rw c.deref-in-View.ensures.value at c.in_ok-counts-in-View.ensures.refusals))
+    let asked : observer_fault grid w.map
+    ≡ observers_fault grid.terrain c.in-View.observers.items c.in-View.target c.in-View.radius =
+    ap (λ m. observer_fault grid m) (sym c.map.ensures ∙ c.in-View.is) in
+    c.requires.sound ∙ ap (λ o. option_map Sight o) (asked
+    ∙ no_fault _ _ _ (rw c.deref-in-View.ensures.value at c.in_ok-counts-in-View.ensures.refusals))

@@ -5,5 +5,6 @@ use Rattle.relief.proofs.running.write_map.Goals as goal
 
 pub returns-in-Heights : goal.returns-in-Heights
 returns-in-Heights g c =
-    let text : made_text c.args.made.now ≡ heights_text c.in-Heights.grid = ap made_text c.in-Heights.is in
+    let text : made_text c.args.made.now ≡ heights_text c.in-Heights.grid =
+    ap made_text c.in-Heights.is in
     rw text c.write_heights.ensures

@@ -9,5 +9,16 @@ pub returns : goal.returns
 returns c =
     let range : ValueRange = record { start_inclusive = 1; end_inclusive = usize_max } in
     let ranged : c.num_args.result.num_vals ≡ Some range = search rules in
-    rw (c.help.ensures, c.num_args.ensures.0, ranged, c.action.ensures, c.required.ensures, c.value_name.ensures)
-    (ap (λ (r : Rule). record r { action = Some Append; range = Some range; value_names = 1; required = true }) c.new.ensures.rule, c.new.ensures.optional.1)
+    rw (
+      c.help.ensures,
+      c.num_args.ensures.0,
+      ranged,
+      c.action.ensures,
+      c.required.ensures,
+      c.value_name.ensures,
+    ) (
+      ap (λ (r : Rule).
+          record r { action = Some Append; range = Some range; value_names = 1; required = true })
+          c.new.ensures.rule,
+      c.new.ensures.optional.1,
+    )

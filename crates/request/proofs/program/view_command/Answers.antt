@@ -4,6 +4,9 @@ use Rattle.request.proofs.program.view_command.Goals as goal
 
 pub returns : goal.returns
 returns c =
-    let with_target = leaf_with _ _ _ _ _ c.in_ok-map_command.ensures c.target_option.ensures c.in_ok-arg.ensures in
-    let with_radius = leaf_with _ _ _ _ _ with_target c.radius_option.ensures c.in_ok-arg-2.ensures in
-    IfOk-weaker c.arg-3.result _ _ (λ r h. leaf_with _ r _ _ _ with_radius c.required_words.ensures h) c.arg-3.ensures
+    let with_target =
+    leaf_with _ _ _ _ _ c.in_ok-map_command.ensures c.target_option.ensures c.in_ok-arg.ensures in
+    let with_radius =
+    leaf_with _ _ _ _ _ with_target c.radius_option.ensures c.in_ok-arg-2.ensures in
+    IfOk-weaker c.arg-3.result _ _ (λ r h.
+    leaf_with _ r _ _ _ with_radius c.required_words.ensures h) c.arg-3.ensures

@@ -9,13 +9,17 @@ use Rattle.request.proofs.words.catchments_of.Goals as goal
 
 pub returns-in_err-gauges-clause-none : goal.returns-in_err-gauges-clause-none
 returns-in_err-gauges-clause-none c =
-    let words = given_words (found_of c.args.found.now) (codes "gauges") _ _ _ c.unwrap_or-words.ensures refl c.get_strs.ensures in
+    let words = given_words (found_of c.args.found.now)
+    (codes "gauges") _ _ _ c.unwrap_or-words.ensures refl c.get_strs.ensures in
     let same : IfErr c.from_residual.result (λ y. y ≡ c.in_err-gauges.field-0.0) = search rules in
-    IfErr-weaker c.from_residual.result _ _ (λ y e. subst (IsMapFault (codes "catchments") (rows_of (found_of c.args.found.now))) (sym e) (fault_weaker c.in_err-gauges.field-0.0
-    (λ place never. absurd never) (λ place bad. (refl, subst (λ ws. IsFirstBad sink_of ws place) words bad)) (λ never. absurd never)
+    IfErr-weaker c.from_residual.result _ _ (λ y e. subst (IsMapFault (codes "catchments")
+    (rows_of (found_of c.args.found.now))) (sym e) (fault_weaker c.in_err-gauges.field-0.0
+    (λ place never. absurd never) (λ place bad.
+    (refl, subst (λ ws. IsFirstBad sink_of ws place) words bad)) (λ never. absurd never)
     c.in_err-gauges.ensures.none)) same
 
 pub returns-clause-some : goal.returns-clause-some
 returns-clause-some c =
-    let words = given_words (found_of c.args.found.now) (codes "gauges") _ _ _ c.unwrap_or-words.ensures refl c.get_strs.ensures in
+    let words = given_words (found_of c.args.found.now)
+    (codes "gauges") _ _ _ c.unwrap_or-words.ensures refl c.get_strs.ensures in
     (refl, rw words at c.in_ok-gauges.ensures.some)

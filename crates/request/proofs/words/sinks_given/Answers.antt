@@ -8,14 +8,18 @@ use Rattle.request.specs.WordsFaults.{IsFaultBy}
 use Rattle.request.proofs.Given.{given_words}
 use Rattle.request.proofs.words.sinks_given.Goals as goal
 
-same : (c : goal.After-sinks_of) → map (λ w. w.now) c.unwrap_or-words.result.now ≡ sink_words c.args.name.now (rows_of (found_of c.args.found.now))
+same : (c : goal.After-sinks_of) → map (λ w. w.now) c.unwrap_or-words.result.now
+    ≡ sink_words c.args.name.now (rows_of (found_of c.args.found.now))
 same c =
     let found = found_of c.args.found.now in
     let other : bytes_eq c.args.name.now (codes "view") ≡ false = search rules in
-    given_words found (codes "sinks") _ _ _ c.unwrap_or-words.ensures refl c.get_strs.ensures ∙ sym (cond-false _ _ _ other)
+    given_words found (codes "sinks") _ _ _ c.unwrap_or-words.ensures refl c.get_strs.ensures
+    ∙ sym (cond-false _ _ _ other)
 
 pub returns-clause-some : goal.returns-clause-some
-returns-clause-some c = subst (λ (words : List Text). IfOk c.sinks_of.result (λ v. Spell sink_of words v.items)) (same c) c.sinks_of.ensures.some
+returns-clause-some c = subst (λ (words : List Text).
+    IfOk c.sinks_of.result (λ v. Spell sink_of words v.items)) (same c) c.sinks_of.ensures.some
 
 pub returns-clause-none : goal.returns-clause-none
-returns-clause-none c = subst (λ (words : List Text). IfErr c.sinks_of.result (IsFaultBy (λ _. ⊥) (λ _. ⊥) (IsFirstBad sink_of words) ⊥)) (same c) c.sinks_of.ensures.none
+returns-clause-none c = subst (λ (words : List Text). IfErr c.sinks_of.result
+    (IsFaultBy (λ _. ⊥) (λ _. ⊥) (IsFirstBad sink_of words) ⊥)) (same c) c.sinks_of.ensures.none

@@ -9,16 +9,21 @@ use Rattle.request.proofs.words.view_of.Goals as goal
 
 pub returns-in_err-observers-clause-none : goal.returns-in_err-observers-clause-none
 returns-in_err-observers-clause-none c =
-    let words = given_words (found_of c.args.found.now) (codes "observers") _ _ _ c.unwrap_or-words.ensures refl c.get_strs.ensures in
-    let same : IfErr c.from_residual.result (λ y. y ≡ c.in_err-observers.field-0.0) = search rules in
-    IfErr-weaker c.from_residual.result _ _ (λ y e. subst (IsMapFault (codes "view") (rows_of (found_of c.args.found.now))) (sym e) (fault_weaker c.in_err-observers.field-0.0
-    (λ place bad. (refl, subst (λ ws. IsFirstBad observer_of ws place) words bad)) (λ place never. absurd never) (λ never. absurd never)
+    let words = given_words (found_of c.args.found.now)
+    (codes "observers") _ _ _ c.unwrap_or-words.ensures refl c.get_strs.ensures in
+    let same : IfErr c.from_residual.result (λ y. y ≡ c.in_err-observers.field-0.0) =
+    search rules in
+    IfErr-weaker c.from_residual.result _ _ (λ y e. subst (IsMapFault (codes "view")
+    (rows_of (found_of c.args.found.now))) (sym e) (fault_weaker c.in_err-observers.field-0.0
+    (λ place bad. (refl, subst (λ ws. IsFirstBad observer_of ws place) words bad)) (λ place never.
+    absurd never) (λ never. absurd never)
     c.in_err-observers.ensures.none)) same
 
 pub returns-in_default-clause-none : goal.returns-in_default-clause-none
 returns-in_default-clause-none c =
     let found = found_of c.args.found.now in
-    let words = given_words found (codes "observers") _ _ _ c.unwrap_or-words.ensures refl c.get_strs.ensures in
+    let words =
+    given_words found (codes "observers") _ _ _ c.unwrap_or-words.ensures refl c.get_strs.ensures in
     let has : HasObservers (rows_of found) _ = rw words at c.in_ok-observers.ensures.some in (
       only_view (rows_of found) (λ os t r others target radius. c.in_default.ensures.none t target),
       λ place. no_bad _ (rows_of found) _ place has,
@@ -28,14 +33,21 @@ returns-in_default-clause-none c =
 pub returns-in_default-number_given-clause-none : goal.returns-in_default-number_given-clause-none
 returns-in_default-number_given-clause-none c =
     let found = found_of c.args.found.now in
-    let words = given_words found (codes "observers") _ _ _ c.unwrap_or-words.ensures refl c.get_strs.ensures in
+    let words =
+    given_words found (codes "observers") _ _ _ c.unwrap_or-words.ensures refl c.get_strs.ensures in
     let has : HasObservers (rows_of found) _ = rw words at c.in_ok-observers.ensures.some in (
-      only_view (rows_of found) (λ os t r others target radius. c.in_default-number_given.ensures.none r radius),
+      only_view (rows_of found) (λ os t r others target radius.
+          c.in_default-number_given.ensures.none r radius),
       λ place. no_bad _ (rows_of found) _ place has,
       λ place. view_without_gauges (rows_of found) place,
     )
 
 pub returns-clause-some : goal.returns-clause-some
 returns-clause-some c =
-    let words = given_words (found_of c.args.found.now) (codes "observers") _ _ _ c.unwrap_or-words.ensures refl c.get_strs.ensures in
-    (refl, rw words at c.in_ok-observers.ensures.some, c.in-Some.ensures.some, c.in-Some-number_given.ensures.some)
+    let words = given_words (found_of c.args.found.now)
+    (codes "observers") _ _ _ c.unwrap_or-words.ensures refl c.get_strs.ensures in (
+      refl,
+      rw words at c.in_ok-observers.ensures.some,
+      c.in-Some.ensures.some,
+      c.in-Some-number_given.ensures.some,
+    )

@@ -3,4 +3,5 @@ use Rattle.tile_maps.specs.Maps.{AreMadeBelow}
 use Rattle.sight.proofs.by_place.entries.Given as goal
 
 abbrev pub invariant-loop-row : goal.invariant-loop-row
-invariant-loop-row g l = AreMadeBelow l.fn.bounds (g.M.PlaceMap.has l.map) ((l.row - l.fn.bounds.top) * l.fn.bounds.cols) l.list.items
+invariant-loop-row g l = AreMadeBelow l.fn.bounds (g.M.PlaceMap.has l.map)
+    ((l.row - l.fn.bounds.top) * l.fn.bounds.cols) l.list.items

@@ -9,11 +9,14 @@ overflow_mul-result c =
 
 pub overflow_mul-result-2 : goal.overflow_mul-result-2
 overflow_mul-result-2 c =
-    let is = times_short c.args.offset c.args.target.line c.requires.offset (omega (arith, c.requires.target.line)) in
+    let is = times_short c.args.offset c.args.target.line c.requires.offset
+    (omega (arith, c.requires.target.line)) in
     rw is.1 is.0
 
 pub returns : goal.returns
 returns c =
     let one = times_short c.args.target.offset c.args.line c.requires.target.offset (omega arith) in
-    let two = times_short c.args.offset c.args.target.line c.requires.offset (omega (arith, c.requires.target.line)) in
-    rw (one.1, two.1) (same_short (c.args.target.offset *ℤ pos c.args.line) (c.args.offset *ℤ pos c.args.target.line) one.0 two.0)
+    let two = times_short c.args.offset c.args.target.line c.requires.offset
+    (omega (arith, c.requires.target.line)) in
+    rw (one.1, two.1) (same_short (c.args.target.offset *ℤ pos c.args.line)
+    (c.args.offset *ℤ pos c.args.target.line) one.0 two.0)

@@ -13,47 +13,69 @@ use Rattle.sight.proofs.hiding.hide.Goals.{then-hides, else-hides}
 pub rank-requires-clause-each : goal.rank-requires-clause-each
 rank-requires-clause-each c i t at =
     let here = ap (λ (xs : List Target). slice_get xs i) (sym c.deref.ensures.value) ∙ at in
-    ray_is_target c.args.family c.args.window c.args.marks.now t c.requires.family c.requires.window (c.in_ok-rays.ensures.rays.each i t here).0
+    ray_is_target c.args.family c.args.window c.args.marks.now t c.requires.family c.requires.window
+    (c.in_ok-rays.ensures.rays.each i t here).0
 
 pub loop-number-init : goal.loop-number-init
 loop-number-init c =
-    let first = rw c.deref-2.ensures.value at (c.in_ok-look.ensures c.args.cells.now c.args.family) in
+    let first =
+    rw c.deref-2.ensures.value at (c.in_ok-look.ensures c.args.cells.now c.args.family) in
     record {
-      looks = subst (λ (k : ℕ). LooksFrom c.args.cells.now c.args.family c.in_ok-ranked.ranked.targets.items k c.in_ok-look.look) (sym first.line) first;
+      looks = subst (λ (k : ℕ). LooksFrom c.args.cells.now c.args.family
+          c.in_ok-ranked.ranked.targets.items k c.in_ok-look.look) (sym first.line) first;
       some = omega (arith, first.line);
       line = λ u t after at.
-          let here = ap (λ (xs : List Target). slice_get xs u) (sym c.deref-ray-items.ensures.value) ∙ at in
+          let here = ap (λ (xs : List Target). slice_get xs u) (sym c.deref-ray-items.ensures.value)
+          ∙ at in
           let ray = (c.in_ok-rays.ensures.rays.each u t here).0 in
           omega (arith, first.line, ray.crosses.later);
-      marks = none_asked c.args.cells.now c.args.family c.args.window c.args.height c.deref-ray-items.result.now c.args.marks.now;
+      marks = none_asked c.args.cells.now c.args.family c.args.window c.args.height
+          c.deref-ray-items.result.now c.args.marks.now;
     }
 
 pub go_to-requires-clause-line : goal.go_to-requires-clause-line
 go_to-requires-clause-line c =
-    (ray_at c.args.family c.args.window c.args.marks.now c.in_ok-rays.rays.items c.deref-ray-items.result.now c.loop-number.number c.deref-ray-items.ensures.value c.loop-number-test.true c.in_ok-rays.ensures.rays).crosses.line
+    (ray_at c.args.family c.args.window c.args.marks.now c.in_ok-rays.rays.items
+    c.deref-ray-items.result.now c.loop-number.number c.deref-ray-items.ensures.value
+    c.loop-number-test.true c.in_ok-rays.ensures.rays).crosses.line
 
 pub go_to-requires-clause-range : goal.go_to-requires-clause-range
-go_to-requires-clause-range c =
-    (c.loop-number.invariant.some, c.loop-number.invariant.line c.loop-number.number _ (omega arith) (slice_get-get_or c.deref-ray-items.result.now c.loop-number.number (record { offset = pos 0; line = 0 }) c.loop-number-test.true))
+go_to-requires-clause-range c = (
+  c.loop-number.invariant.some,
+  c.loop-number.invariant.line c.loop-number.number _ (omega arith)
+      (slice_get-get_or c.deref-ray-items.result.now c.loop-number.number
+      (record { offset = pos 0; line = 0 }) c.loop-number-test.true),
+)
 
 pub go_to-requires-clause-before : goal.go_to-requires-clause-before
-go_to-requires-clause-before c = rw c.deref-in-loop-number.ensures.value c.loop-number.invariant.looks
+go_to-requires-clause-before c =
+    rw c.deref-in-loop-number.ensures.value c.loop-number.invariant.looks
 
 pub rise-rise-requires-clause-line : goal.rise-rise-requires-clause-line
 rise-rise-requires-clause-line c =
-    (ray_at c.args.family c.args.window c.args.marks.now c.in_ok-rays.rays.items c.deref-ray-items.result.now c.loop-number.number c.deref-ray-items.ensures.value c.loop-number-test.true c.in_ok-rays.ensures.rays).crosses.line
+    (ray_at c.args.family c.args.window c.args.marks.now c.in_ok-rays.rays.items
+    c.deref-ray-items.result.now c.loop-number.number c.deref-ray-items.ensures.value
+    c.loop-number-test.true c.in_ok-rays.ensures.rays).crosses.line
 
 pub rise-rise-requires-clause-target : goal.rise-rise-requires-clause-target
 rise-rise-requires-clause-target c =
-    let ray = ray_at c.args.family c.args.window c.args.marks.now c.in_ok-rays.rays.items c.deref-ray-items.result.now c.loop-number.number c.deref-ray-items.ensures.value c.loop-number-test.true c.in_ok-rays.ensures.rays in
-    ray_is_target c.args.family c.args.window c.args.marks.now _ c.requires.family c.requires.window ray
+    let ray = ray_at c.args.family c.args.window c.args.marks.now c.in_ok-rays.rays.items
+    c.deref-ray-items.result.now c.loop-number.number c.deref-ray-items.ensures.value
+    c.loop-number-test.true c.in_ok-rays.ensures.rays in
+    ray_is_target c.args.family c.args.window c.args.marks.now _ c.requires.family c.requires.window
+    ray
 
 pub hides-requires : goal.hides-requires
 hides-requires c =
     let look = rw c.deref-in-loop-number.ensures.value at c.in_ok-go_to.ensures in
-    let ranked = rw (c.deref.ensures.value, sym c.deref-ray-items.ensures.value) at c.in_ok-ranked.ensures in
-    let at = rank_at c.deref-ray-items.result.now c.in_ok-ranked.ranked.targets.items c.in_ok-ranked.ranked.ranks.items c.loop-number.number c.index.result.now c.loop-number-test.true ranked c.index.ensures in
-    let ray = ray_at c.args.family c.args.window c.args.marks.now c.in_ok-rays.rays.items c.deref-ray-items.result.now c.loop-number.number c.deref-ray-items.ensures.value c.loop-number-test.true c.in_ok-rays.ensures.rays in
+    let ranked =
+    rw (c.deref.ensures.value, sym c.deref-ray-items.ensures.value) at c.in_ok-ranked.ensures in
+    let at = rank_at c.deref-ray-items.result.now c.in_ok-ranked.ranked.targets.items
+    c.in_ok-ranked.ranked.ranks.items c.loop-number.number c.index.result.now
+    c.loop-number-test.true ranked c.index.ensures in
+    let ray = ray_at c.args.family c.args.window c.args.marks.now c.in_ok-rays.rays.items
+    c.deref-ray-items.result.now c.loop-number.number c.deref-ray-items.ensures.value
+    c.loop-number-test.true c.in_ok-rays.ensures.rays in
     record {
       rank = omega (arith, look.hides.over.whole, slice_get_within _ c.index.result.now _ at);
       cursor = look.cursor;
@@ -63,11 +85,14 @@ hides-requires c =
     }
 
 pub unmark-requires-clause-window : goal.unmark-requires-clause-window
-unmark-requires-clause-window c = window_kept c.args.family c.args.window c.args.marks.now c.loop-number.marks c.loop-number.invariant.marks.size c.requires.window
+unmark-requires-clause-window c = window_kept c.args.family c.args.window c.args.marks.now
+    c.loop-number.marks c.loop-number.invariant.marks.size c.requires.window
 
 pub unmark-requires-clause-ray : goal.unmark-requires-clause-ray
 unmark-requires-clause-ray c =
-    ray_at c.args.family c.args.window c.args.marks.now c.in_ok-rays.rays.items c.deref-ray-items.result.now c.loop-number.number c.deref-ray-items.ensures.value c.loop-number-test.true c.in_ok-rays.ensures.rays
+    ray_at c.args.family c.args.window c.args.marks.now c.in_ok-rays.rays.items
+    c.deref-ray-items.result.now c.loop-number.number c.deref-ray-items.ensures.value
+    c.loop-number-test.true c.in_ok-rays.ensures.rays
 
 pub loop-number-preserved : goal.loop-number-preserved
 loop-number-preserved c =
@@ -81,34 +106,51 @@ loop-number-preserved c =
     let targets = c.in_ok-ranked.ranked.targets.items in
     let marks = c.loop-number.marks in
     let t = get_or rays n (record { offset = pos 0; line = 0 }) in
-    let at_t : slice_get rays n ≡ Some t = slice_get-get_or rays n (record { offset = pos 0; line = 0 }) c.loop-number-test.true in
-    let are : AreRays f w old 4097 0 rays = rw c.deref-ray-items.ensures.value c.in_ok-rays.ensures.rays in
+    let at_t : slice_get rays n ≡ Some t =
+    slice_get-get_or rays n (record { offset = pos 0; line = 0 }) c.loop-number-test.true in
+    let are : AreRays f w old 4097 0 rays =
+    rw c.deref-ray-items.ensures.value c.in_ok-rays.ensures.rays in
     let ray = (are.each n t at_t).0 in
-    let look : LooksFrom cells f targets t.line c.go_to.new.self = rw c.deref-in-loop-number.ensures.value at c.in_ok-go_to.ensures in
-    let ranked = rw (c.deref.ensures.value, sym c.deref-ray-items.ensures.value) at c.in_ok-ranked.ensures in
-    let at_rank = rank_at rays targets c.in_ok-ranked.ranked.ranks.items n c.index.result.now c.loop-number-test.true ranked c.index.ensures in
+    let look : LooksFrom cells f targets t.line c.go_to.new.self =
+    rw c.deref-in-loop-number.ensures.value at c.in_ok-go_to.ensures in
+    let ranked =
+    rw (c.deref.ensures.value, sym c.deref-ray-items.ensures.value) at c.in_ok-ranked.ensures in
+    let at_rank = rank_at rays targets c.in_ok-ranked.ranked.ranks.items n c.index.result.now
+    c.loop-number-test.true ranked c.index.ensures in
     let answer = rw (to_z-of_z w64 c.rise-rise.result (search rules)) at c.hides.ensures.answer in
-    let reported : c.hides.result ≡ is_blocked_before cells f t.line ray.cell (rise_at cells f height t.line ray.cell) t.line =
-    answer ∙ look.hides.hides c.index.result.now t ray.cell c.rise-rise.result at_rank ray.stands (omega arith) c.rise-rise.ensures.small
-    ∙ ap (λ z. is_blocked_before cells f t.line ray.cell z t.line) (c.rise-rise.ensures.value ray.cell ray.stands) in
+    let reported : c.hides.result
+    ≡ is_blocked_before cells f t.line ray.cell (rise_at cells f height t.line ray.cell) t.line =
+    answer ∙ look.hides.hides c.index.result.now t ray.cell c.rise-rise.result at_rank ray.stands
+    (omega arith) c.rise-rise.ensures.small
+    ∙ ap (λ z. is_blocked_before cells f t.line ray.cell z t.line)
+    (c.rise-rise.ensures.value ray.cell ray.stands) in
     let line : c.hides.new.self.line ≡ t.line = c.hides.ensures.line ∙ look.line in
     record {
-      looks = looked_on cells f targets t.line c.go_to.new.self c.hides.new.self look c.hides.ensures.line c.hides.ensures.highest c.hides.ensures.cursor;
+      looks = looked_on cells f targets t.line c.go_to.new.self c.hides.new.self look
+          c.hides.ensures.line c.hides.ensures.highest c.hides.ensures.cursor;
       some = omega (arith, line, ray.crosses.later);
       line = λ u s after at_s. omega (arith, line, are.sorted n u t s (omega arith) at_t at_s);
       marks = elim c.if-hides.branch [
         | then-hides w' ↦
-            subst (λ (ms : List Bool). AreHiddenBelow cells f w height rays (n + 1) old ms) (sym (w'.marks-is ∙ w'.unmark.ensures ray.cell ray.stands))
-            (blocked_asked cells f w height rays n old marks t ray.cell c.requires.apart (window_kept f w old marks c.loop-number.invariant.marks.size c.requires.window) at_t ray.stands ray.within ray.crosses (sym reported ∙ w'.if-hides.true) c.loop-number.invariant.marks)
+            subst (λ (ms : List Bool). AreHiddenBelow cells f w height rays (n + 1) old ms)
+            (sym (w'.marks-is ∙ w'.unmark.ensures ray.cell ray.stands))
+            (blocked_asked cells f w height rays n old marks t ray.cell c.requires.apart
+            (window_kept f w old marks c.loop-number.invariant.marks.size c.requires.window)
+            at_t ray.stands ray.within ray.crosses (sym reported
+            ∙ w'.if-hides.true) c.loop-number.invariant.marks)
         | else-hides w' ↦
-            subst (λ (ms : List Bool). AreHiddenBelow cells f w height rays (n + 1) old ms) (sym w'.marks-is)
-            (open_asked cells f w height rays n old marks t ray.cell at_t ray.stands (sym reported ∙ w'.if-hides.false) c.loop-number.invariant.marks)
+            subst (λ (ms : List Bool). AreHiddenBelow cells f w height rays (n + 1) old ms)
+            (sym w'.marks-is)
+            (open_asked cells f w height rays n old marks t ray.cell at_t ray.stands (sym reported
+            ∙ w'.if-hides.false) c.loop-number.invariant.marks)
       ];
     }
 
 pub returns : goal.returns
 returns c =
     let rays = c.deref-ray-items.result.now in
-    let are : AreRays c.args.family c.args.window c.args.marks.now 4097 0 rays = rw c.deref-ray-items.ensures.value c.in_ok-rays.ensures.rays in
+    let are : AreRays c.args.family c.args.window c.args.marks.now 4097 0 rays =
+    rw c.deref-ray-items.ensures.value c.in_ok-rays.ensures.rays in
     let end : c.loop-number.number ≡ length rays = omega arith in
-    all_asked c.args.cells.now c.args.family c.args.window c.args.height rays c.args.marks.now c.loop-number.marks are (rw end at c.loop-number.invariant.marks)
+    all_asked c.args.cells.now c.args.family c.args.window c.args.height rays c.args.marks.now
+    c.loop-number.marks are (rw end at c.loop-number.invariant.marks)

@@ -15,11 +15,14 @@ loop-leap-preserved c =
     rw back (record {
       range = (omega arith, omega arith);
       leap = (omega arith, omega arith);
-      before = before_to targets c.args.line next c.args.offset _ c.requires.targets at (reported.0 c.if-not-is_before.false);
+      before = before_to targets c.args.line next c.args.offset _ c.requires.targets at
+          (reported.0 c.if-not-is_before.false);
     })
 
 pub returns-then-not-is_before-clause-before : goal.returns-then-not-is_before-clause-before
-returns-then-not-is_before-clause-before c = rw (back_short c.args.offset (omega (arith, c.requires.offset))) at c.bisect.ensures.before
+returns-then-not-is_before-clause-before c =
+    rw (back_short c.args.offset (omega (arith, c.requires.offset))) at c.bisect.ensures.before
 
 pub returns-clause-before : goal.returns-clause-before
-returns-clause-before c = rw (back_short c.args.offset (omega (arith, c.requires.offset))) at c.bisect-2.ensures.before
+returns-clause-before c =
+    rw (back_short c.args.offset (omega (arith, c.requires.offset))) at c.bisect-2.ensures.before

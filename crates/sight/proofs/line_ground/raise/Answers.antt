@@ -6,9 +6,16 @@ use Rattle.sight.proofs.line_ground.raise.Goals as goal
 
 pub loop-from-init : goal.loop-from-init
 loop-from-init c =
-    let raised = low_raised c.args.cells.now c.args.family c.args.targets.now c.args.line c.count_before_side-from.result c.args.highest.now c.passed.result c.clear.new.self c.push.new.self c.clear.ensures c.requires.family c.requires.targets c.in_ok-push.ensures
+    let raised = low_raised c.args.cells.now c.args.family c.args.targets.now
+    c.args.line c.count_before_side-from.result c.args.highest.now c.passed.result c.clear.new.self
+    c.push.new.self c.clear.ensures c.requires.family c.requires.targets c.in_ok-push.ensures
     c.count_before_side-from.ensures.before c.passed.ensures in
-    record { within = c.count_before_side-from.ensures.range; extent = raised.0; cursor = c.start-cursor.ensures c.args.highest.now c.count_before_side-from.result; raises = raised.1 }
+    record {
+      within = c.count_before_side-from.ensures.range;
+      extent = raised.0;
+      cursor = c.start-cursor.ensures c.args.highest.now c.count_before_side-from.result;
+      raises = raised.1;
+    }
 
 pub loop-from-preserved-in_ok-push-2 : goal.loop-from-preserved-in_ok-push-2
 loop-from-preserved-in_ok-push-2 c =
@@ -16,11 +23,17 @@ loop-from-preserved-in_ok-push-2 c =
     let highest = c.args.highest.now in
     let piece = c.piece-piece.result in
     let hidden = OnTrue_at c.if-is_too_low.true c.is_too_low.ensures in
-    let raised = more_raised c.args.cells.now c.args.family c.args.targets.now c.args.line l.from piece.end highest piece.ramp l.raised c.push-then-is_too_low.new.self l.invariant.extent c.piece-piece.ensures.range.0 c.in_ok-push-2.ensures l.invariant.raises
-    (λ i t low high at. hidden_raised c.args.cells.now c.args.family c.args.targets.now c.args.line i l.from piece.end highest piece.ramp t c.requires.highest (c.piece-piece.ensures.ramp i low high) hidden low high at) in
+    let raised = more_raised c.args.cells.now c.args.family c.args.targets.now c.args.line
+    l.from piece.end highest piece.ramp l.raised c.push-then-is_too_low.new.self l.invariant.extent
+    c.piece-piece.ensures.range.0 c.in_ok-push-2.ensures l.invariant.raises
+    (λ i t low high at. hidden_raised c.args.cells.now c.args.family
+    c.args.targets.now c.args.line i l.from piece.end highest piece.ramp t c.requires.highest
+    (c.piece-piece.ensures.ramp i low high) hidden low high at) in
     record {
       within = omega (arith, c.piece-piece.ensures.range, c.requires.highest.whole);
       extent = raised.0;
-      cursor = later highest c.piece-piece.new.cursor.piece l.from piece.end c.piece-piece.ensures.cursor (omega (arith, c.piece-piece.ensures.range));
+      cursor =
+          later highest c.piece-piece.new.cursor.piece l.from piece.end c.piece-piece.ensures.cursor
+          (omega (arith, c.piece-piece.ensures.range));
       raises = raised.1;
     }

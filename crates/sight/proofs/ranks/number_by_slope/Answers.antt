@@ -10,7 +10,8 @@ use Rattle.sight.proofs.ranks.number_by_slope.Goals as goal
 
 pub slope_of-requires : goal.slope_of-requires
 slope_of-requires c =
-    c.requires.each c.loop-number.number _ (slice_get-get_or c.args.rays.now c.loop-number.number (record { offset = pos 0; line = 0 }) (omega arith))
+    c.requires.each c.loop-number.number _ (slice_get-get_or c.args.rays.now c.loop-number.number
+    (record { offset = pos 0; line = 0 }) (omega arith))
 
 pub loop-number-preserved : goal.loop-number-preserved
 loop-number-preserved c =
@@ -36,6 +37,8 @@ returns c =
     record {
       size = omega (arith, length_permutation old new moved, c.loop-number.invariant.size);
       each = All-permutation (IsNumbered rays) old new moved c.loop-number.invariant.each;
-      sorted = IsNonDecreasingBy-from_sort_by_key (λ (o : RaySlope). o.slope) _ c.sort_unstable_by_key.ensures.sorted (λ a r q k. search rules);
-      whole = rw (← n_is) (numbers_moved c.loop-number.number old new moved c.loop-number.invariant.whole);
+      sorted = IsNonDecreasingBy-from_sort_by_key (λ (o : RaySlope).
+          o.slope) _ c.sort_unstable_by_key.ensures.sorted (λ a r q k. search rules);
+      whole = rw (← n_is)
+          (numbers_moved c.loop-number.number old new moved c.loop-number.invariant.whole);
     }

@@ -13,8 +13,11 @@ returns c =
     let f = family_of c.args.lines c.args.side c.args.eye in
     let w = window_of c.args.lines c.args.side in
     let back = to_z-of_z w64 c.args.eye (search rules) in
-    let one : AreHidden cells f w c.args.height c.args.marks.now c.hide.new.marks = rw (back, c.min.ensures, c.max.ensures) at c.in_ok-hide.ensures in
+    let one : AreHidden cells f w c.args.height c.args.marks.now c.hide.new.marks =
+    rw (back, c.min.ensures, c.max.ensures) at c.in_ok-hide.ensures in
     on_ok_weaker c.hide-2.result
-    (λ (hidden : AreHidden cells (facing f true) w c.args.height c.hide.new.marks c.hide-2.new.marks).
-    both_sides cells f w c.args.height c.args.marks.now c.hide.new.marks c.hide-2.new.marks c.requires.lines.at c.requires.lines.tile one hidden)
+    (λ (hidden : AreHidden cells (facing f true) w c.args.height c.hide.new.marks
+    c.hide-2.new.marks).
+    both_sides cells f w c.args.height c.args.marks.now c.hide.new.marks c.hide-2.new.marks
+    c.requires.lines.at c.requires.lines.tile one hidden)
     (rw (c.reverse.ensures, back, c.min.ensures, c.max.ensures) at c.hide-2.ensures)

@@ -4,4 +4,5 @@ use Rattle.sight.proofs.tops.shared_tops.Given as goal
 abbrev pub invariant-loop-list : goal.invariant-loop-list
 invariant-loop-list g l =
     let t = ground_of l.fn.blocks.cols l.fn.blocks.rows l.fn.blocks.cells.now in
-    AreTopsBetween l.fn.blocks.size t 0 (share_start (block_count l.fn.blocks.size t) l.share l.list-index) l.tops.items
+    AreTopsBetween l.fn.blocks.size t 0
+    (share_start (block_count l.fn.blocks.size t) l.share l.list-index) l.tops.items

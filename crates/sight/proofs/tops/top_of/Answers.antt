@@ -13,10 +13,12 @@ loop-index-preserved c =
         | inr new ↦ c.requires index h (sym c.height_at.ensures ∙ sym new ∙ is)
       ];
       above = λ i h below is. elim (cases_lt i index) [
-        | inl before ↦ c.greater_height-top.ensures.kept h (c.loop-index.invariant.above i h before is)
+        | inl before ↦
+            c.greater_height-top.ensures.kept h (c.loop-index.invariant.above i h before is)
         | inr last ↦
             let same : index ≡ i = omega arith in
-            c.greater_height-top.ensures.raised h (c.height_at.ensures ∙ ap (λ n. get_or cells n None) same ∙ is)
+            c.greater_height-top.ensures.raised h (c.height_at.ensures
+            ∙ ap (λ n. get_or cells n None) same ∙ is)
       ];
     }
 

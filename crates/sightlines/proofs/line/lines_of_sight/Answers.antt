@@ -12,12 +12,14 @@ use Rattle.sightlines.proofs.line.lines_of_sight.Goals as goal
 pub level-eye_level-requires-clause-height : goal.level-eye_level-requires-clause-height
 level-eye_level-requires-clause-height c =
     let ground = c.in_ok-eye_ground.eye_ground in
-    kept ground (height_in c.args.grid.now.terrain (place_of c.args.observer.now) ground c.cols-stride.ensures.lawful.terrain (sym c.at.ensures ∙ c.in_ok-eye_ground.was))
+    kept ground (height_in c.args.grid.now.terrain (place_of c.args.observer.now)
+    ground c.cols-stride.ensures.lawful.terrain (sym c.at.ensures ∙ c.in_ok-eye_ground.was))
 
 pub level-target_level-requires-clause-height : goal.level-target_level-requires-clause-height
 level-target_level-requires-clause-height c =
     let ground = c.in_ok-target_ground.target_ground in
-    kept ground (height_in c.args.grid.now.terrain c.args.target ground c.cols-stride.ensures.lawful.terrain (sym c.at-2.ensures ∙ c.in_ok-target_ground.was))
+    kept ground (height_in c.args.grid.now.terrain c.args.target ground
+    c.cols-stride.ensures.lawful.terrain (sym c.at-2.ensures ∙ c.in_ok-target_ground.was))
 
 pub returns : goal.returns
 returns c =
@@ -31,10 +33,14 @@ returns c =
     rw (to_z-of_z w64 ground (search rules)) at c.level-target_level.ensures.value in
     let eye_back = to_z-of_z w64 c.level-eye_level.result (search rules) in
     let target_back = to_z-of_z w64 c.level-target_level.result (search rules) in
-    let near : is_near (place_of o) q c.args.radius ≡ true = sym c.is_in_reach.ensures ∙ c.if-not-is_in_reach.false in
+    let near : is_near (place_of o) q c.args.radius ≡ true = sym c.is_in_reach.ensures
+    ∙ c.if-not-is_in_reach.false in
     let eye_is : height_at t (place_of o) ≡ Some eye = sym c.at.ensures ∙ c.in_ok-eye_ground.was in
     let ground_is : height_at t q ≡ Some ground = sym c.at-2.ensures ∙ c.in_ok-target_ground.was in
     let e_level : IsLevel (eye +ℤ pos o.eye) = rw eye_level at c.level-eye_level.ensures.small in
-    let f_level : IsLevel (ground +ℤ pos c.args.target_height) = rw target_level at c.level-target_level.ensures.small in
+    let f_level : IsLevel (ground +ℤ pos c.args.target_height) =
+    rw target_level at c.level-target_level.ensures.small in
     rw (c.cols-stride.ensures.value, eye_back, target_back, eye_level, target_level)
-    (lines_are t o q c.args.target_height c.args.radius eye ground c.cols-stride.ensures.lawful.terrain c.requires.observer c.requires.target eye_is ground_is near e_level f_level)
+    (lines_are t o q c.args.target_height c.args.radius eye ground
+    c.cols-stride.ensures.lawful.terrain c.requires.observer c.requires.target eye_is ground_is near
+    e_level f_level)

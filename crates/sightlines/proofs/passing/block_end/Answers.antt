@@ -6,7 +6,8 @@ use Rattle.sightlines.proofs.passing.block_end.Goals as goal
 use Rattle.sightlines.proofs.passing.block_end.Goals.{then-line, else-line}
 
 -- a number in the same block as x has the same quotient by the block's size
-same_block : (x y size : ℕ) → 0 < size → x / size * size ≤ y → y < x / size * size + size → y / size ≡ x / size
+same_block : (x y size : ℕ) → 0 < size → x / size * size ≤ y → y < x / size * size + size →
+    y / size ≡ x / size
 same_block x y size some low high =
     let split : y ≡ x / size * size + (y - x / size * size) = omega arith in
     rw split (div-mul-add (x / size) size (y - x / size * size) (omega arith))
@@ -23,11 +24,17 @@ returns-clause-same c k low high =
     let below = mod_below x size (omega arith) in
     elim c.if-line.branch [
       | then-line w ↦
-          let here = lead_up_is line.lead.from line.lead.to n c.args.step (omega arith) (omega arith) (omega arith) in
-          let there = lead_up_is line.lead.from line.lead.to n k (omega arith) (omega arith) (omega arith) in
-          same_block x y size (omega arith) (omega (arith, here, there, parts)) (omega (arith, here, there, at, parts, below, w.left-is))
+          let here = lead_up_is line.lead.from line.lead.to n c.args.step (omega arith)
+          (omega arith) (omega arith) in
+          let there =
+          lead_up_is line.lead.from line.lead.to n k (omega arith) (omega arith) (omega arith) in
+          same_block x y size (omega arith) (omega (arith, here, there, parts))
+          (omega (arith, here, there, at, parts, below, w.left-is))
       | else-line w ↦
-          let here = lead_down_is line.lead.from line.lead.to n c.args.step (omega arith) (omega arith) (omega arith) in
-          let there = lead_down_is line.lead.from line.lead.to n k (omega arith) (omega arith) (omega arith) in
-          same_block x y size (omega arith) (omega (arith, here, there, at, parts, w.left-is)) (omega (arith, here, there, parts, below))
+          let here = lead_down_is line.lead.from line.lead.to n c.args.step (omega arith)
+          (omega arith) (omega arith) in
+          let there =
+          lead_down_is line.lead.from line.lead.to n k (omega arith) (omega arith) (omega arith) in
+          same_block x y size (omega arith) (omega (arith, here, there, at, parts, w.left-is))
+          (omega (arith, here, there, parts, below))
     ]

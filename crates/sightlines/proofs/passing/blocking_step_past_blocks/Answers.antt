@@ -14,23 +14,33 @@ use Rattle.sightlines.proofs.LowBlocks.{step_above, step_passed}
 use Rattle.sightlines.proofs.passing.blocking_step_past_blocks.Goals as goal
 
 -- if the line is nowhere below the peak from step k on, none of the steps left blocks
-none_above : (cells tops : List (Option ℤ)) (line : Sightline) (s : BlockStrides) (peak : ℤ) (k : ℕ) (here : Step) → 0 < steps_of line → k ≤ steps_of line → IsAt line k here → AreTopsAlong 128 cells tops line s → IsPeak tops peak
-    → (peak ≤ℤ line.to_level) × ((pos (steps_of line) *ℤ peak) ≤ℤ here.sight) → step_range_blocks cells line k (steps_of line - k) ≡ false
+none_above : (cells tops : List (Option ℤ)) (line : Sightline) (s : BlockStrides) (peak : ℤ)
+    (k : ℕ) (here : Step) → 0 < steps_of line → k ≤ steps_of line → IsAt line k here →
+    AreTopsAlong 128 cells tops line s → IsPeak tops peak
+    → (peak ≤ℤ line.to_level) × ((pos (steps_of line) *ℤ peak) ≤ℤ here.sight) →
+    step_range_blocks cells line k (steps_of line - k) ≡ false
 none_above cells tops line s peak k here some within at are is_peak clear =
-    none_from (step_blocks cells line.lead line.side line.from_level line.to_level (steps_of line)) k (steps_of line - k) (λ j low high. step_above 128 cells tops line s peak k j here some low (omega arith) at are is_peak clear.1 clear.0)
+    none_from (step_blocks cells line.lead line.side line.from_level line.to_level (steps_of line))
+    k (steps_of line - k) (λ j low high. step_above 128 cells tops line s peak k j here some low
+    (omega arith) at are is_peak clear.1 clear.0)
 
 pub returns-then-is_clear-clause-answer : goal.returns-then-is_clear-clause-answer
 returns-then-is_clear-clause-answer c =
     let tops = c.args.tops.now in
     let peak_is = to_z-of_z w64 tops.peak (height_fits tops.peak c.requires.peak.0) in
-    sym (none_above c.args.cells.now tops.far.items c.args.line c.args.far tops.peak 1 c.at-begin.result (omega arith) (omega arith) c.at-begin.ensures c.requires.far_tops c.requires.peak.1 (rw peak_is at (OnTrue_at c.if-is_clear.true c.is_clear.ensures)))
+    sym
+    (none_above c.args.cells.now tops.far.items c.args.line c.args.far tops.peak 1 c.at-begin.result
+    (omega arith) (omega arith) c.at-begin.ensures c.requires.far_tops c.requires.peak.1
+    (rw peak_is at (OnTrue_at c.if-is_clear.true c.is_clear.ensures)))
 
 pub returns-in-Some-clause-answer : goal.returns-in-Some-clause-answer
 returns-in-Some-clause-answer c =
     let line = c.args.line in
     let first = c.block_end-first.result in
-    let p = step_blocks c.args.cells.now line.lead line.side line.from_level line.to_level (steps_of line) in
-    sym (any_within p 1 (steps_of line - 1) 1 (first - 1) (omega arith) (omega arith) (sym c.blocking_step.ensures.answer ∙ ap is_some c.in-Some.is))
+    let p = step_blocks c.args.cells.now line.lead line.side line.from_level line.to_level
+    (steps_of line) in
+    sym (any_within p 1 (steps_of line - 1) 1 (first - 1) (omega arith) (omega arith)
+    (sym c.blocking_step.ensures.answer ∙ ap is_some c.in-Some.is))
 
 pub returns-then-is_clear-2-clause-answer : goal.returns-then-is_clear-2-clause-answer
 returns-then-is_clear-2-clause-answer c =
@@ -41,9 +51,12 @@ returns-then-is_clear-2-clause-answer c =
     let p = step_blocks c.args.cells.now line.lead line.side line.from_level line.to_level n in
     let all : n - 1 ≡ (first - 1) + (n - first) = omega arith in
     let peak_is = to_z-of_z w64 tops.peak (height_fits tops.peak c.requires.peak.0) in
-    let none = none_above c.args.cells.now tops.far.items line c.args.far tops.peak first c.loop-first.start (omega arith) (omega arith) c.loop-first.invariant.start c.requires.far_tops c.requires.peak.1
+    let none =
+    none_above c.args.cells.now tops.far.items line c.args.far tops.peak first c.loop-first.start
+    (omega arith) (omega arith) c.loop-first.invariant.start c.requires.far_tops c.requires.peak.1
     (rw peak_is at (OnTrue_at c.if-is_clear-2.true c.is_clear-in-loop-first.ensures)) in
-    sym (rw all (none_joined p 1 (first - 1) first (n - first) (omega arith) c.loop-first.invariant.clear none))
+    sym (rw all
+    (none_joined p 1 (first - 1) first (n - first) (omega arith) c.loop-first.invariant.clear none))
 
 pub is_above_blocks-requires-clause-heights : goal.is_above_blocks-requires-clause-heights
 is_above_blocks-requires-clause-heights c = rw c.deref.ensures.value c.requires.far_tops.heights
@@ -51,17 +64,29 @@ is_above_blocks-requires-clause-heights c = rw c.deref.ensures.value c.requires.
 pub is_above_blocks-requires-clause-lead : goal.is_above_blocks-requires-clause-lead
 is_above_blocks-requires-clause-lead c =
     let line = c.args.line in
-    omega (arith, c.lead_at-block.ensures, whole_le line.lead (steps_of line) c.loop-first.first (omega arith) (omega arith))
+    omega (
+      arith,
+      c.lead_at-block.ensures,
+      whole_le line.lead (steps_of line) c.loop-first.first (omega arith) (omega arith),
+    )
 
 pub is_above_blocks-requires-clause-start : goal.is_above_blocks-requires-clause-start
 is_above_blocks-requires-clause-start c =
     let line = c.args.line in
-    omega (arith, c.loop-first.invariant.start.whole, whole_le line.side (steps_of line) c.loop-first.first (omega arith) (omega arith))
+    omega (
+      arith,
+      c.loop-first.invariant.start.whole,
+      whole_le line.side (steps_of line) c.loop-first.first (omega arith) (omega arith),
+    )
 
 pub is_above_blocks-requires-clause-end : goal.is_above_blocks-requires-clause-end
 is_above_blocks-requires-clause-end c =
     let line = c.args.line in
-    omega (arith, c.at-next.ensures.whole, whole_le line.side (steps_of line) c.block_end-end.result (omega arith) (omega arith))
+    omega (
+      arith,
+      c.at-next.ensures.whole,
+      whole_le line.side (steps_of line) c.block_end-end.result (omega arith) (omega arith),
+    )
 
 pub returns-in-Some-blocking_step_past_near_blocks-clause-answer :
     goal.returns-in-Some-blocking_step_past_near_blocks-clause-answer
@@ -69,9 +94,11 @@ returns-in-Some-blocking_step_past_near_blocks-clause-answer c =
     let line = c.args.line in
     let first = c.loop-first.first in
     let end = c.block_end-end.result in
-    let p = step_blocks c.args.cells.now line.lead line.side line.from_level line.to_level (steps_of line) in
+    let p = step_blocks c.args.cells.now line.lead line.side line.from_level line.to_level
+    (steps_of line) in
     sym (any_within p 1 (steps_of line - 1) first (end - first) (omega arith) (omega arith)
-    (sym c.blocking_step_past_near_blocks.ensures.answer ∙ ap is_some c.in-Some-blocking_step_past_near_blocks.is))
+    (sym c.blocking_step_past_near_blocks.ensures.answer
+    ∙ ap is_some c.in-Some-blocking_step_past_near_blocks.is))
 
 pub loop-first-preserved-in_default-blocking_step_past_near_blocks :
     goal.loop-first-preserved-in_default-blocking_step_past_near_blocks
@@ -79,14 +106,17 @@ loop-first-preserved-in_default-blocking_step_past_near_blocks c =
     let line = c.args.line in
     let first = c.loop-first.first in
     let end = c.block_end-end.result in
-    let p = step_blocks c.args.cells.now line.lead line.side line.from_level line.to_level (steps_of line) in
+    let p = step_blocks c.args.cells.now line.lead line.side line.from_level line.to_level
+    (steps_of line) in
     let all : end - 1 ≡ (first - 1) + (end - first) = omega arith in
     record {
       begun = omega arith;
       within = omega arith;
       start = c.at-next.ensures;
-      clear = rw all (none_joined p 1 (first - 1) first (end - first) (omega arith) c.loop-first.invariant.clear
-          (sym c.blocking_step_past_near_blocks.ensures.answer ∙ ap is_some c.in_default-blocking_step_past_near_blocks.is));
+      clear = rw all (none_joined p 1 (first - 1) first (end - first)
+          (omega arith) c.loop-first.invariant.clear
+          (sym c.blocking_step_past_near_blocks.ensures.answer
+          ∙ ap is_some c.in_default-blocking_step_past_near_blocks.is));
     }
 
 pub loop-first-preserved : goal.loop-first-preserved
@@ -95,18 +125,24 @@ loop-first-preserved c =
     let first = c.loop-first.first in
     let end = c.block_end-end.result in
     let block = c.lead_at-block.result / 128 in
-    let p = step_blocks c.args.cells.now line.lead line.side line.from_level line.to_level (steps_of line) in
+    let p = step_blocks c.args.cells.now line.lead line.side line.from_level line.to_level
+    (steps_of line) in
     let all : end - 1 ≡ (first - 1) + (end - first) = omega arith in
-    let here : whole_at line.lead (steps_of line) first / 128 ≡ block = ap (λ x. x / 128) (sym c.lead_at-block.ensures) in
-    let low = rw c.deref.ensures.value at (OnTrue_at c.if-not-is_above_blocks.false c.is_above_blocks.ensures) in
-    let none = none_from p first (end - first) (λ k above below. step_passed 128 c.args.cells.now c.args.tops.now.far.items line c.args.far first end k block c.loop-first.start c.at-next.result
-    (omega arith) above (omega arith) (omega arith) c.loop-first.invariant.start c.at-next.ensures c.requires.far_tops
+    let here : whole_at line.lead (steps_of line) first / 128 ≡ block =
+    ap (λ x. x / 128) (sym c.lead_at-block.ensures) in
+    let low = rw c.deref.ensures.value at
+    (OnTrue_at c.if-not-is_above_blocks.false c.is_above_blocks.ensures) in
+    let none = none_from p first (end - first) (λ k above below. step_passed 128 c.args.cells.now
+    c.args.tops.now.far.items line c.args.far first end k block c.loop-first.start c.at-next.result
+    (omega arith) above (omega arith)
+    (omega arith) c.loop-first.invariant.start c.at-next.ensures c.requires.far_tops
     (c.block_end-end.ensures.same k above (omega arith) ∙ here) low) in
     record {
       begun = omega arith;
       within = omega arith;
       start = c.at-next.ensures;
-      clear = rw all (none_joined p 1 (first - 1) first (end - first) (omega arith) c.loop-first.invariant.clear none);
+      clear = rw all (none_joined p 1 (first - 1) first (end - first)
+          (omega arith) c.loop-first.invariant.clear none);
     }
 
 pub is_above_blocks-requires-clause-over : goal.is_above_blocks-requires-clause-over

@@ -9,25 +9,39 @@ use Rattle.sightlines.proofs.passing.blocking_step_past_near_blocks.Goals as goa
 pub is_above_blocks-requires-clause-lead : goal.is_above_blocks-requires-clause-lead
 is_above_blocks-requires-clause-lead c =
     let line = c.args.line in
-    omega (arith, c.lead_at-block.ensures, whole_le line.lead (steps_of line) c.loop-step.step (omega arith) (omega arith))
+    omega (
+      arith,
+      c.lead_at-block.ensures,
+      whole_le line.lead (steps_of line) c.loop-step.step (omega arith) (omega arith),
+    )
 
 pub is_above_blocks-requires-clause-start : goal.is_above_blocks-requires-clause-start
 is_above_blocks-requires-clause-start c =
     let line = c.args.line in
-    omega (arith, c.loop-step.invariant.start.whole, whole_le line.side (steps_of line) c.loop-step.step (omega arith) (omega arith))
+    omega (
+      arith,
+      c.loop-step.invariant.start.whole,
+      whole_le line.side (steps_of line) c.loop-step.step (omega arith) (omega arith),
+    )
 
 pub is_above_blocks-requires-clause-end : goal.is_above_blocks-requires-clause-end
 is_above_blocks-requires-clause-end c =
     let line = c.args.line in
-    omega (arith, c.to-next.ensures.whole, whole_le line.side (steps_of line) c.block_end-past.result (omega arith) (omega arith))
+    omega (
+      arith,
+      c.to-next.ensures.whole,
+      whole_le line.side (steps_of line) c.block_end-past.result (omega arith) (omega arith),
+    )
 
 pub returns-in-Some-clause-answer : goal.returns-in-Some-clause-answer
 returns-in-Some-clause-answer c =
     let line = c.args.line in
     let step = c.loop-step.step in
     let past = c.block_end-past.result in
-    let p = step_blocks c.args.cells.now line.lead line.side line.from_level line.to_level (steps_of line) in
-    sym (any_within p c.args.first (c.args.end - c.args.first) step (past - step) (omega arith) (omega arith) (sym c.blocking_step.ensures.answer ∙ ap is_some c.in-Some.is))
+    let p = step_blocks c.args.cells.now line.lead line.side line.from_level line.to_level
+    (steps_of line) in
+    sym (any_within p c.args.first (c.args.end - c.args.first) step (past - step) (omega arith)
+    (omega arith) (sym c.blocking_step.ensures.answer ∙ ap is_some c.in-Some.is))
 
 pub loop-step-preserved-in_default : goal.loop-step-preserved-in_default
 loop-step-preserved-in_default c =
@@ -35,13 +49,16 @@ loop-step-preserved-in_default c =
     let first = c.args.first in
     let step = c.loop-step.step in
     let past = c.block_end-past.result in
-    let p = step_blocks c.args.cells.now line.lead line.side line.from_level line.to_level (steps_of line) in
+    let p = step_blocks c.args.cells.now line.lead line.side line.from_level line.to_level
+    (steps_of line) in
     let all : past - first ≡ (step - first) + (past - step) = omega arith in
     record {
       begun = omega arith;
       within = omega arith;
       start = c.to-next.ensures;
-      clear = rw all (none_joined p first (step - first) step (past - step) (omega arith) c.loop-step.invariant.clear (sym c.blocking_step.ensures.answer ∙ ap is_some c.in_default.is));
+      clear = rw all (none_joined p first (step - first) step (past - step)
+          (omega arith) c.loop-step.invariant.clear (sym c.blocking_step.ensures.answer
+          ∙ ap is_some c.in_default.is));
     }
 
 pub loop-step-preserved : goal.loop-step-preserved
@@ -51,16 +68,21 @@ loop-step-preserved c =
     let step = c.loop-step.step in
     let past = c.block_end-past.result in
     let block = c.lead_at-block.result / 16 in
-    let p = step_blocks c.args.cells.now line.lead line.side line.from_level line.to_level (steps_of line) in
+    let p = step_blocks c.args.cells.now line.lead line.side line.from_level line.to_level
+    (steps_of line) in
     let all : past - first ≡ (step - first) + (past - step) = omega arith in
-    let here : whole_at line.lead (steps_of line) step / 16 ≡ block = ap (λ x. x / 16) (sym c.lead_at-block.ensures) in
+    let here : whole_at line.lead (steps_of line) step / 16 ≡ block =
+    ap (λ x. x / 16) (sym c.lead_at-block.ensures) in
     let low = OnTrue_at c.if-not-is_above_blocks.false c.is_above_blocks.ensures in
-    let none = none_from p step (past - step) (λ k above below. step_passed 16 c.args.cells.now c.args.tops.now line c.args.strides step past k block c.loop-step.here c.to-next.result
-    (omega arith) above (omega arith) (omega arith) c.loop-step.invariant.start c.to-next.ensures c.requires.tops
+    let none = none_from p step (past - step) (λ k above below. step_passed 16 c.args.cells.now
+    c.args.tops.now line c.args.strides step past k block c.loop-step.here c.to-next.result
+    (omega arith) above (omega arith)
+    (omega arith) c.loop-step.invariant.start c.to-next.ensures c.requires.tops
     (c.block_end-past.ensures.same k above (omega arith) ∙ here) low) in
     record {
       begun = omega arith;
       within = omega arith;
       start = c.to-next.ensures;
-      clear = rw all (none_joined p first (step - first) step (past - step) (omega arith) c.loop-step.invariant.clear none);
+      clear = rw all (none_joined p first (step - first) step (past - step)
+          (omega arith) c.loop-step.invariant.clear none);
     }

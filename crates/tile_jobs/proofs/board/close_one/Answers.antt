@@ -12,7 +12,8 @@ returns-clause-left c =
     let d = c.empty_into.ensures.left in
     let p : List ℕ = d.0 in
     let n = g.names in
-    let deal_is : deal_of s ≡ deal c.args.own.jobs c.args.own.seats c.args.own.deque = rw (n.0, n.1, n.2) refl in (
+    let deal_is : deal_of s ≡ deal c.args.own.jobs c.args.own.seats c.args.own.deque =
+    rw (n.0, n.1, n.2) refl in (
       p,
       d.1,
       record {

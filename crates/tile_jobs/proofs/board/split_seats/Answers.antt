@@ -18,18 +18,36 @@ loop-seat-preserved c =
     let r = c.into_parts-own.result in
     let len : vec_len c.put.new.list ≡ suc n = c.put.ensures.len in
     let s1 : length c.loop-seat.owns.items ≡ n = search rules in
-    let s2 : length c.loop-seat.rows.items ≡ n = (let q : length c.loop-seat.rows.items ≡ vec_len c.loop-seat.rows = search rules in q ∙ inv.same.0) in
-    let s3 : length c.loop-seat.taken.items ≡ n = (let q : length c.loop-seat.taken.items ≡ vec_len c.loop-seat.taken = search rules in q ∙ inv.same.1) in
+    let s2 : length c.loop-seat.rows.items ≡ n = (let q : length c.loop-seat.rows.items
+    ≡ vec_len c.loop-seat.rows = search rules in q ∙ inv.same.0) in
+    let s3 : length c.loop-seat.taken.items ≡ n = (let q : length c.loop-seat.taken.items
+    ≡ vec_len c.loop-seat.taken = search rules in q ∙ inv.same.1) in
     let O : ℕ → EndState → Type 0 = λ j x. (d : SeatState) → x ≡ (get_or all j d).own in
     record {
       rest = rw len (cut_drop all n seat _ held);
       count = omega (arith, inv.count, ap length inv.rest, ap length held, len);
-      same = (c.put-in-loop-seat.ensures.len ∙ ap suc inv.same.0 ∙ sym len, c.put-in-loop-seat-2.ensures.len ∙ ap suc inv.same.1 ∙ sym len);
-      capacity = (omega (arith, inv.capacity.0, c.put.ensures.capacity), omega (arith, inv.capacity.1, c.put-in-loop-seat.ensures.capacity), omega (arith, inv.capacity.2, c.put-in-loop-seat-2.ensures.capacity));
-      seats = λ s d low. below_more (λ j. IsSeat (get_or all j d)) n (λ j l. inv.seats j d l) (subst IsSeat (at d) c.into_parts-own.ensures.seat) s (omega (arith, len));
-      owns = λ s d o low. rw c.put.ensures.items (get_snoc O c.loop-seat.owns.items r.0 (λ j x l e. inv.owns j e x (omega (arith, s1))) (λ e. rw s1 (sym (ap (λ (x : SeatState). x.own) parts) ∙ ap (λ (x : SeatState). x.own) (at e))) s o (omega (arith, s1, len)) d);
+      same = (
+        c.put-in-loop-seat.ensures.len ∙ ap suc inv.same.0 ∙ sym len,
+        c.put-in-loop-seat-2.ensures.len ∙ ap suc inv.same.1 ∙ sym len,
+      );
+      capacity = (
+        omega (arith, inv.capacity.0, c.put.ensures.capacity),
+        omega (arith, inv.capacity.1, c.put-in-loop-seat.ensures.capacity),
+        omega (arith, inv.capacity.2, c.put-in-loop-seat-2.ensures.capacity),
+      );
+      seats = λ s d low. below_more (λ j. IsSeat (get_or all j d)) n (λ j l. inv.seats j d l)
+          (subst IsSeat (at d) c.into_parts-own.ensures.seat) s (omega (arith, len));
+      owns = λ s d o low. rw c.put.ensures.items (get_snoc O c.loop-seat.owns.items r.0 (λ j x l e.
+          inv.owns j e x (omega (arith, s1))) (λ e. rw s1 (sym (ap (λ (x : SeatState). x.own) parts)
+          ∙ ap (λ (x : SeatState). x.own) (at e))) s o (omega (arith, s1, len)) d);
       rows = λ s d o low. rw c.put-in-loop-seat.ensures.items
-          (get_snoc (λ j x. (d : SeatState) → x.items ≡ (get_or all j d).others) c.loop-seat.rows.items r.1 (λ j x l e. inv.rows j e x (omega (arith, s2))) (λ e. rw s2 (sym (ap (λ (x : SeatState). x.others) parts) ∙ ap (λ (x : SeatState). x.others) (at e))) s o (omega (arith, s2, len)) d);
+          (get_snoc (λ j x. (d : SeatState) → x.items ≡ (get_or all j d).others)
+          c.loop-seat.rows.items r.1 (λ j x l e. inv.rows j e x (omega (arith, s2)))
+          (λ e. rw s2 (sym (ap (λ (x : SeatState). x.others) parts)
+          ∙ ap (λ (x : SeatState). x.others) (at e))) s o (omega (arith, s2, len)) d);
       taken = λ s d o low. rw c.put-in-loop-seat-2.ensures.items
-          (get_snoc (λ j x. (d : SeatState) → x.items ≡ (get_or all j d).taken) c.loop-seat.taken.items r.2 (λ j x l e. inv.taken j e x (omega (arith, s3))) (λ e. rw s3 (sym (ap (λ (x : SeatState). x.taken) parts) ∙ ap (λ (x : SeatState). x.taken) (at e))) s o (omega (arith, s3, len)) d);
+          (get_snoc (λ j x. (d : SeatState) → x.items ≡ (get_or all j d).taken)
+          c.loop-seat.taken.items r.2 (λ j x l e. inv.taken j e x (omega (arith, s3)))
+          (λ e. rw s3 (sym (ap (λ (x : SeatState). x.taken) parts)
+          ∙ ap (λ (x : SeatState). x.taken) (at e))) s o (omega (arith, s3, len)) d);
     }

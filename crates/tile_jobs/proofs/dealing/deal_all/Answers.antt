@@ -16,7 +16,10 @@ loop-v-preserved c =
     record {
       count = grind (arith, common_steps);
       size = grind (arith, common_steps);
-      owns = rw items (fresh_more c.args.jobs c.args.seats was e c.loop-v.invariant.owns (rw own_is (made.0, made.1, made.2 ∙ sym size, refl, refl)));
+      owns = rw items (fresh_more c.args.jobs c.args.seats was e c.loop-v.invariant.owns
+          (rw own_is (made.0, made.1, made.2 ∙ sym size, refl, refl)));
       rows = λ s d low. rw (items, own_is)
-          (let row = c.in_ok-split_for_all.ensures.rows s d (omega (arith, c.loop-v.invariant.size)) in (rw (c.loop-v.invariant.rows s d low) at row) ∙ without_cond was s c.loop-v.v x (sym size));
+          (let row = c.in_ok-split_for_all.ensures.rows s d
+          (omega (arith, c.loop-v.invariant.size)) in (rw (c.loop-v.invariant.rows s d low) at row)
+          ∙ without_cond was s c.loop-v.v x (sym size));
     }

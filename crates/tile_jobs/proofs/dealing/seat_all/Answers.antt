@@ -31,7 +31,8 @@ loop-own-preserved c =
     let seat : SeatState = c.in_ok-new.field-0 in
     let items : c.push.new.self.items ≡ seats ++ seat ∷ [] = grind (arith, common_steps) in
     let size : length seats ≡ n = grind (arith, common_steps) in
-    let P : ℕ → SeatState → Type 0 = λ s x. (e : EndState) → x ≡ seat_of s (get_or all s e) (without s all) [] in
+    let P : ℕ → SeatState → Type 0 = λ s x. (e : EndState) →
+    x ≡ seat_of s (get_or all s e) (without s all) [] in
     let made : seat ≡ seat_of n own c.remove-others.result.items [] = c.in_ok-new.ensures in
     let last : P (length seats) seat = λ e.
     let own_is : own ≡ get_or all n e = grind (arith, common_steps) in
@@ -41,6 +42,9 @@ loop-own-preserved c =
       count = grind (arith, common_steps);
       size = omega (arith, c.loop-own.invariant.size, c.remove-others.ensures.len);
       len = grind (arith, common_steps);
-      rows = λ i d low. ap (λ v. v.items) (ap (λ l. get_or l i d) c.remove-others.ensures.items ∙ get_or-drop 1 c.loop-own.rows.items i d) ∙ c.loop-own.invariant.rows (1 + i) d (omega (arith, c.remove-others.ensures.len)) ∙ ap (λ k. without k all) (omega arith);
-      each = λ s d e low. rw items (get_snoc P seats seat (λ j x l e'. c.loop-own.invariant.each j x e' (omega (arith, size))) last s d (omega (arith, size)) e);
+      rows = λ i d low. ap (λ v. v.items) (ap (λ l. get_or l i d) c.remove-others.ensures.items
+          ∙ get_or-drop 1 c.loop-own.rows.items i d) ∙ c.loop-own.invariant.rows (1 + i) d
+          (omega (arith, c.remove-others.ensures.len)) ∙ ap (λ k. without k all) (omega arith);
+      each = λ s d e low. rw items (get_snoc P seats seat (λ j x l e'.
+          c.loop-own.invariant.each j x e' (omega (arith, size))) last s d (omega (arith, size)) e);
     }

@@ -9,6 +9,8 @@ invariant-loop-own l = let all = l.fn.ends.owns.items in record {
   count : length (into_iter_items l.own-iterator) + l.number ≡ length all;
   size : vec_len l.rows + l.number ≡ length all;
   len : vec_len l.seats ≡ l.number;
-  rows : (i : ℕ) (d : _) → i < vec_len l.rows → (get_or l.rows.items i d).items ≡ without (l.number + i) all;
-  each : (s : ℕ) (d : SeatState) (e : EndState) → s < l.number → get_or l.seats.items s d ≡ seat_of s (get_or all s e) (without s all) [];
+  rows : (i : ℕ) (d : _) → i < vec_len l.rows →
+      (get_or l.rows.items i d).items ≡ without (l.number + i) all;
+  each : (s : ℕ) (d : SeatState) (e : EndState) → s < l.number →
+      get_or l.seats.items s d ≡ seat_of s (get_or all s e) (without s all) [];
 }

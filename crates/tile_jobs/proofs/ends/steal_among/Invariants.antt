@@ -7,6 +7,8 @@ invariant-loop-k l = record {
   len : vec_len l.others ≡ vec_len l.initial.others;
   kept : AllKept l.initial.others.items l.others.items;
   elsewhere : SameElsewhere l.from l.k l.initial.others.items l.others.items;
-  lost : l.lost ≡ true → (i : ℕ) × (l.from ≤ i) × (i < l.k) × ((d : EndState) → LostSteal (get_or l.initial.others.items i d) (get_or l.others.items i d));
-  marked : l.lost ≡ false → (i : ℕ) (d : EndState) → l.from ≤ i → i < l.k → (get_or l.others.items i d).marked ≡ true;
+  lost : l.lost ≡ true → (i : ℕ) × (l.from ≤ i) × (i < l.k) × ((d : EndState) →
+      LostSteal (get_or l.initial.others.items i d) (get_or l.others.items i d));
+  marked : l.lost ≡ false → (i : ℕ) (d : EndState) → l.from ≤ i → i < l.k →
+      (get_or l.others.items i d).marked ≡ true;
 }

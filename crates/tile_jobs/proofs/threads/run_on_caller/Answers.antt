@@ -24,7 +24,10 @@ loop-seat-preserved g c =
     record {
       rest = rw len (cut_drop all n seat rest held);
       count = omega (arith, inv.count, ap length inv.rest, ap length held, len);
-      each = λ s r d low. rw items (get_snoc (λ j x. (d : SeatState) → IsOutcome gives (get_or all j d) x) was out (λ j x l e. inv.each j x e (omega (arith, size))) (λ e. rw size (subst (λ q. IsOutcome gives q out) (get_drop all n seat e rest held) c.work_seat.ensures)) s r (omega (arith, size, len)) d);
+      each = λ s r d low. rw items (get_snoc
+          (λ j x. (d : SeatState) → IsOutcome gives (get_or all j d) x) was out (λ j x l e.
+          inv.each j x e (omega (arith, size))) (λ e. rw size (subst (λ q. IsOutcome gives q out)
+          (get_drop all n seat e rest held) c.work_seat.ensures)) s r (omega (arith, size, len)) d);
     }
 
 pub returns-clause-outcomes : goal.returns-clause-outcomes

@@ -26,5 +26,9 @@ loop-seat-preserved g c =
       count = omega (arith, inv.count, ap length inv.rest, ap length held, len);
       started = omega (arith, len);
       capacity = omega (arith, inv.capacity, c.put.ensures.capacity);
-      each = λ s h d low. rw items (get_snoc (λ j x. (d : SeatState) → (x.promise.work.now ≡ c.args.work.now) × (x.promise.seat.value ≡ get_or all j d)) was child (λ j x l e. inv.each j x e (omega (arith, size))) (λ e. (same_work, rw size (same_seat ∙ get_drop all n seat e rest held))) s h (omega (arith, size, len)) d);
+      each = λ s h d low. rw items (get_snoc (λ j x. (d : SeatState) →
+          (x.promise.work.now ≡ c.args.work.now) × (x.promise.seat.value ≡ get_or all j d))
+          was child (λ j x l e. inv.each j x e (omega (arith, size)))
+          (λ e. (same_work, rw size (same_seat ∙ get_drop all n seat e rest held))) s h
+          (omega (arith, size, len)) d);
     }

@@ -9,5 +9,6 @@ invariant-loop-seat g l = let all = l.fn.seats.items in let n = vec_len l.childr
   started : n ≤ l.starts;
   capacity : length all ≤ vec_capacity l.children;
   count : length (into_iter_items l.seat-iterator) + n ≡ length all;
-  each : (s : ℕ) (h : _) (d : SeatState) → s < n → ((get_or l.children.items s h).promise.work.now ≡ l.work) × ((get_or l.children.items s h).promise.seat.value ≡ get_or all s d);
+  each : (s : ℕ) (h : _) (d : SeatState) → s < n → ((get_or l.children.items s h).promise.work.now
+      ≡ l.work) × ((get_or l.children.items s h).promise.seat.value ≡ get_or all s d);
 }

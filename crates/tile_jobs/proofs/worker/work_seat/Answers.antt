@@ -23,7 +23,8 @@ loop-preserved-in-Continue-branch-2 g c =
     let taken : t.taken ≡ s.taken ++ job ∷ [] = took.taken in
     record {
       same = seat_trans s0 s t inv.same c.in-Job.ensures.same;
-      right = rw items (answer_more (g.W.Work.gives c.args.work.now) s0.own.jobs was a inv.right (omega arith) c.in_ok-out-in-Job.ensures.given);
+      right = rw items (answer_more (g.W.Work.gives c.args.work.now) s0.own.jobs was a inv.right
+          (omega arith) c.in_ok-out-in-Job.ensures.given);
       whole = λ j n. rw items (whole_more j job s.taken was a refl (inv.whole j) (rw taken at n));
     }
 

@@ -8,54 +8,78 @@ use Rattle.ascii_grid.proofs.Judging.{HasBegun-more}
 use Rattle.ascii_grid.proofs.JudgedWords.{is_memory, not_memory_slot, not_memory_bad_value, word_fault, judged-key, fault-key, judged-value, fault-value, long_fault, height_word, no_first_height, at_key, at_heights, same_header}
 use Rattle.ascii_grid.proofs.builder.GridBuilder.add_word.Goals as goal
 
-pub returns-then-word-gt-MOST_WORD_BYTES-clause-word : goal.returns-then-word-gt-MOST_WORD_BYTES-clause-word
-returns-then-word-gt-MOST_WORD_BYTES-clause-word c = λ ws h. long_fault c.args.self.now ws c.args.word.now h c.if-word-gt-MOST_WORD_BYTES.true
+pub returns-then-word-gt-MOST_WORD_BYTES-clause-word :
+    goal.returns-then-word-gt-MOST_WORD_BYTES-clause-word
+returns-then-word-gt-MOST_WORD_BYTES-clause-word c =
+    λ ws h. long_fault c.args.self.now ws c.args.word.now h c.if-word-gt-MOST_WORD_BYTES.true
 
-pub returns-in_err-begin_heights-in-AtKey-clause-word : goal.returns-in_err-begin_heights-in-AtKey-clause-word
+pub returns-in_err-begin_heights-in-AtKey-clause-word :
+    goal.returns-in_err-begin_heights-in-AtKey-clause-word
 returns-in_err-begin_heights-in-AtKey-clause-word c = λ ws h.
-    let p = err_from_is_err_and c.from_residual-in_err-begin_heights-in-AtKey.result c.from_residual-in_err-begin_heights-in-AtKey.ensures.1 in
+    let p = err_from_is_err_and c.from_residual-in_err-begin_heights-in-AtKey.result
+    c.from_residual-in_err-begin_heights-in-AtKey.ensures.1 in
     let letter = sym c.begins_with_letter.ensures ∙ c.if-begins_with_letter.false in
-    rw (p.1, p.2) (no_first_height c.args.self.now ws c.args.word.now _ h c.in-AtKey.is letter (omega arith) (c.in_err-begin_heights-in-AtKey.ensures.none h.pairs h.header))
+    rw (p.1, p.2) (no_first_height c.args.self.now ws c.args.word.now _ h c.in-AtKey.is letter
+    (omega arith) (c.in_err-begin_heights-in-AtKey.ensures.none h.pairs h.header))
 
 pub returns-in_ok-put-in-AtValue-clause-word : goal.returns-in_ok-put-in-AtValue-clause-word
 returns-in_ok-put-in-AtValue-clause-word c = λ ws h.
     let put = c.in_ok-put-in-AtValue.ensures.ok in
-    judged-value c.args.self.now _ ws c.args.word.now c.in-AtValue.key c.in-AtValue.centre h c.in-AtValue.is (omega arith) put.0 put.1 refl
+    judged-value c.args.self.now _ ws c.args.word.now c.in-AtValue.key c.in-AtValue.centre h
+    c.in-AtValue.is (omega arith) put.0 put.1 refl
 
 pub returns-in_err-put-in-AtValue-clause-word : goal.returns-in_err-put-in-AtValue-clause-word
 returns-in_err-put-in-AtValue-clause-word c = λ ws h.
     let p = err_from_is_err_and c.from_residual.result c.from_residual.ensures.1 in
     let bad = c.in_err-put-in-AtValue.ensures.err in
-    rw (p.1, p.2) (word_fault c.args.self.now.scale (ws ++ c.args.word.now ∷ []) _ (ap (λ g. is_memory (Some g)) bad.1 ∙ not_memory_bad_value c.in-AtValue.key) (fault-value c.args.self.now ws c.args.word.now c.in-AtValue.key c.in-AtValue.centre h c.in-AtValue.is (omega arith) bad.0 ∙ ap Some (sym bad.1)))
+    rw (p.1, p.2) (word_fault c.args.self.now.scale (ws ++ c.args.word.now ∷ []) _
+    (ap (λ g. is_memory (Some g)) bad.1 ∙ not_memory_bad_value c.in-AtValue.key)
+    (fault-value c.args.self.now ws c.args.word.now c.in-AtValue.key c.in-AtValue.centre h
+    c.in-AtValue.is (omega arith) bad.0 ∙ ap Some (sym bad.1)))
 
 pub returns-then-begins_with_letter-clause-word : goal.returns-then-begins_with_letter-clause-word
 returns-then-begins_with_letter-clause-word c = λ ws h.
     let letter = sym c.begins_with_letter.ensures ∙ c.if-begins_with_letter.true in
     let slot = c.in_ok-key-in-AtKey.ensures.ok in
-    judged-key c.args.self.now _ ws c.args.word.now c.in_ok-key-in-AtKey.key h c.in-AtKey.is (omega arith) letter slot.0 slot.1 refl (ap (AtValue c.in_ok-key-in-AtKey.key) c.names_centre-centre.ensures)
+    judged-key c.args.self.now _ ws c.args.word.now c.in_ok-key-in-AtKey.key h c.in-AtKey.is
+    (omega arith) letter slot.0 slot.1 refl
+    (ap (AtValue c.in_ok-key-in-AtKey.key) c.names_centre-centre.ensures)
 
 pub returns-in_err-key-in-AtKey-clause-word : goal.returns-in_err-key-in-AtKey-clause-word
 returns-in_err-key-in-AtKey-clause-word c = λ ws h.
-    let p = err_from_is_err_and c.from_residual-in_err-key-in-AtKey.result c.from_residual-in_err-key-in-AtKey.ensures.1 in
+    let p = err_from_is_err_and c.from_residual-in_err-key-in-AtKey.result
+    c.from_residual-in_err-key-in-AtKey.ensures.1 in
     let letter = sym c.begins_with_letter.ensures ∙ c.if-begins_with_letter.true in
     let bad = c.in_err-key-in-AtKey.ensures.err in
-    rw (p.1, p.2) (word_fault c.args.self.now.scale (ws ++ c.args.word.now ∷ []) _ (not_memory_slot _ _ _ bad) (fault-key c.args.self.now ws c.args.word.now _ h c.in-AtKey.is (omega arith) letter bad))
+    rw (p.1, p.2)
+    (word_fault c.args.self.now.scale (ws ++ c.args.word.now ∷ []) _ (not_memory_slot _ _ _ bad)
+    (fault-key c.args.self.now ws c.args.word.now _ h c.in-AtKey.is (omega arith) letter bad))
 
 pub returns-in-AtHeights-clause-word : goal.returns-in-AtHeights-clause-word
 returns-in-AtHeights-clause-word c = λ ws h.
     let there = at_heights c.args.self.now ws h c.in-AtHeights.is in
     let kept = c.add_height.ensures.kept in
-    height_word c.args.self.now c.add_height.new.self ws h.pairs h.rest c.args.word.now c.add_height.result h.header h.words (HasBegun-more h.rest (c.args.word.now ∷ []) there.0) there.1 (omega arith)
-    (ap (λ (j : GridBuilder). j.header) kept) (ap (λ (j : GridBuilder). j.stage) kept ∙ c.in-AtHeights.is) (c.add_height.ensures.word h.pairs h.rest there.1)
+    height_word c.args.self.now c.add_height.new.self
+    ws h.pairs h.rest c.args.word.now c.add_height.result h.header h.words
+    (HasBegun-more h.rest (c.args.word.now ∷ []) there.0) there.1 (omega arith)
+    (ap (λ (j : GridBuilder). j.header) kept) (ap (λ (j : GridBuilder). j.stage) kept
+    ∙ c.in-AtHeights.is) (c.add_height.ensures.word h.pairs h.rest there.1)
 
-pub returns-in_ok-begin_heights-in-AtKey-clause-word : goal.returns-in_ok-begin_heights-in-AtKey-clause-word
+pub returns-in_ok-begin_heights-in-AtKey-clause-word :
+    goal.returns-in_ok-begin_heights-in-AtKey-clause-word
 returns-in_ok-begin_heights-in-AtKey-clause-word c = λ ws h.
     let letter = sym c.begins_with_letter.ensures ∙ c.if-begins_with_letter.false in
     let begun = c.in_ok-begin_heights-in-AtKey.ensures.none h.pairs h.header in
     let began = c.in_ok-begin_heights-in-AtKey.ensures.kept in
     let kept = c.add_height-in-AtKey.ensures.kept in
-    let header = same_header c.args.self.now.header c.begin_heights.new.self.header h.pairs (ap (λ (j : GridBuilder). j.header) began) h.header in
+    let header = same_header c.args.self.now.header c.begin_heights.new.self.header h.pairs
+    (ap (λ (j : GridBuilder). j.header) began) h.header in
     let words = at_key c.args.self.now ws h c.in-AtKey.is ∙ sym (append-nil (flat h.pairs)) in
-    let more = height_word c.begin_heights.new.self c.add_height-in-AtKey.new.self ws h.pairs [] c.args.word.now c.add_height-in-AtKey.result header words letter begun (omega arith)
-    (ap (λ (j : GridBuilder). j.header) kept) (ap (λ (j : GridBuilder). j.stage) kept ∙ c.in_ok-begin_heights-in-AtKey.ensures.stage) (c.add_height-in-AtKey.ensures.word h.pairs [] begun) in
-    subst (λ d. MatchResult c.add_height-in-AtKey.result (λ _. HasJudged c.add_height-in-AtKey.new.self (ws ++ c.args.word.now ∷ [])) (IsWordFault d (ws ++ c.args.word.now ∷ []))) (ap (λ (j : GridBuilder). j.scale) began) more
+    let more = height_word c.begin_heights.new.self c.add_height-in-AtKey.new.self ws h.pairs []
+    c.args.word.now c.add_height-in-AtKey.result header words letter begun (omega arith)
+    (ap (λ (j : GridBuilder). j.header) kept) (ap (λ (j : GridBuilder). j.stage) kept
+    ∙ c.in_ok-begin_heights-in-AtKey.ensures.stage)
+    (c.add_height-in-AtKey.ensures.word h.pairs [] begun) in
+    subst (λ d. MatchResult c.add_height-in-AtKey.result
+    (λ _. HasJudged c.add_height-in-AtKey.new.self (ws ++ c.args.word.now ∷ []))
+    (IsWordFault d (ws ++ c.args.word.now ∷ []))) (ap (λ (j : GridBuilder). j.scale) began) more

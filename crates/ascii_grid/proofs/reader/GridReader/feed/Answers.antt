@@ -10,8 +10,11 @@ returns-in-Some c = Feeds-taken _ _ _ _ (search rules) (λ text h. rw (← c.sel
 pub invariant_of-self : goal.invariant_of-self
 invariant_of-self c =
     let taken = c.self.invariant.1 in
-    let fed = fed_fault _ taken.0 c.args.piece.now c.min-within.result c.in-Err.fault c.min-within.ensures c.in_default.is taken.1 c.in-Err.ensures.words in
-    (omega (arith, c.in-Err.ensures.scale, c.self.invariant.0), (taken.0 ++ c.args.piece.now, rw c.in-Err.ensures.scale fed))
+    let fed = fed_fault _ taken.0 c.args.piece.now c.min-within.result c.in-Err.fault
+    c.min-within.ensures c.in_default.is taken.1 c.in-Err.ensures.words in (
+      omega (arith, c.in-Err.ensures.scale, c.self.invariant.0),
+      (taken.0 ++ c.args.piece.now, rw c.in-Err.ensures.scale fed),
+    )
 
 pub returns-in-Err : goal.returns-in-Err
 returns-in-Err c = Feeds-taken _ _ _ _ (search rules) (λ text h. rw c.in-Err.ensures.scale
@@ -21,8 +24,15 @@ returns-in-Err c = Feeds-taken _ _ _ _ (search rules) (λ text h. rw c.in-Err.en
 
 pub invariant_of-self-then-within-piece : goal.invariant_of-self-then-within-piece
 invariant_of-self-then-within-piece c =
-    let taken = c.self.invariant.1 in
-    (omega (arith, c.in_default-take_all.ensures.scale, c.self.invariant.0), (taken.0 ++ c.args.piece.now, fed_long _ c.take_all.new.self taken.0 c.args.piece.now c.min-within.result c.min-within.ensures c.in_default.is taken.1 (omega arith) c.in_default-take_all.ensures.words))
+    let taken = c.self.invariant.1 in (
+      omega (arith, c.in_default-take_all.ensures.scale, c.self.invariant.0),
+      (
+        taken.0 ++ c.args.piece.now,
+        fed_long _ c.take_all.new.self taken.0
+            c.args.piece.now c.min-within.result c.min-within.ensures c.in_default.is taken.1
+            (omega arith) c.in_default-take_all.ensures.words,
+      ),
+    )
 
 pub returns-then-within-piece : goal.returns-then-within-piece
 returns-then-within-piece c = Feeds-taken _ _ _ _ (search rules) (λ text h. fed_long _
@@ -32,8 +42,15 @@ returns-then-within-piece c = Feeds-taken _ _ _ _ (search rules) (λ text h. fed
 
 pub invariant_of-self-else-within-piece : goal.invariant_of-self-else-within-piece
 invariant_of-self-else-within-piece c =
-    let taken = c.self.invariant.1 in
-    (omega (arith, c.in_default-take_all.ensures.scale, c.self.invariant.0), (taken.0 ++ c.args.piece.now, rw c.in_default.is (fed_whole _ _ taken.0 c.args.piece.now c.min-within.result c.min-within.ensures c.in_default.is taken.1 (omega arith) c.in_default-take_all.ensures.words refl (omega arith))))
+    let taken = c.self.invariant.1 in (
+      omega (arith, c.in_default-take_all.ensures.scale, c.self.invariant.0),
+      (
+        taken.0 ++ c.args.piece.now,
+        rw c.in_default.is (fed_whole _ _ taken.0 c.args.piece.now
+            c.min-within.result c.min-within.ensures c.in_default.is taken.1
+            (omega arith) c.in_default-take_all.ensures.words refl (omega arith)),
+      ),
+    )
 
 pub returns : goal.returns
 returns c = Feeds-taken _ _ _ _ (search rules) (λ text h. rw c.in_default.is (fed_whole _ _ text

@@ -10,15 +10,37 @@ pub returns-in_err-add_word-clause-words : goal.returns-in_err-add_word-clause-w
 returns-in_err-add_word-clause-words c = λ text h.
     let p = err_from_is_err_and c.from_residual.result c.from_residual.ensures.1 in
     let same = c.as_bytes-2.ensures in
-    let some : 0 < length c.args.self.now.word = omega (arith, eqb-false (length c.as_bytes.result.now) 0 (sym c.is_empty.ensures ∙ c.if-is_empty.false), ap length c.as_bytes.ensures) in
-    let long : 64 < length c.args.self.now.word → c.in_err-add_word.field-0.0 ≡ TooLong = λ far. (let far' : 64 < length c.as_bytes-2.result.now = omega (arith, ap length same) in let e = c.in_err-add_word.ensures.long far' in cc) in
-    let fault = subst (λ w. IsWordFault c.args.self.now.builder.scale (h.ended ++ w ∷ []) c.in_err-add_word.field-0.0) same (c.in_err-add_word.ensures.word h.ended h.judged) in
+    let some : 0 < length c.args.self.now.word =
+    omega (
+      arith,
+      eqb-false (length c.as_bytes.result.now) 0 (sym c.is_empty.ensures ∙ c.if-is_empty.false),
+      ap length c.as_bytes.ensures,
+    ) in
+    let long : 64 < length c.args.self.now.word → c.in_err-add_word.field-0.0 ≡ TooLong =
+    λ far. (let far' : 64 < length c.as_bytes-2.result.now = omega (arith, ap length same) in
+    let e = c.in_err-add_word.ensures.long far' in cc) in
+    let fault = subst (λ w. IsWordFault c.args.self.now.builder.scale (h.ended ++ w ∷ [])
+    c.in_err-add_word.field-0.0) same (c.in_err-add_word.ensures.word h.ended h.judged) in
     rw (p.1, p.2) (ended_fault c.args.self.now text c.in_err-add_word.field-0.0 h some long fault)
 
 pub returns-clause-words : goal.returns-clause-words
 returns-clause-words c = λ text h.
     let same = c.as_bytes-2.ensures in
-    let some : 0 < length c.args.self.now.word = omega (arith, eqb-false (length c.as_bytes.result.now) 0 (sym c.is_empty.ensures ∙ c.if-is_empty.false), ap length c.as_bytes.ensures) in
-    let short : length c.as_bytes-2.result.now ≤ 64 = elim (cases_lt 64 (length c.as_bytes-2.result.now)) [ inl far ↦ (let e = c.in_ok-add_word.ensures.long far in absurd (cc)) | inr near ↦ near ] in
-    let judged = subst (λ w. HasJudged c.add_word.new.self (h.ended ++ w ∷ [])) same (c.in_ok-add_word.ensures.word h.ended h.judged) in
-    (c.clear.ensures, ended_ok c.args.self.now c.add_word.new.self text h some (omega (arith, short, ap length same)) judged)
+    let some : 0 < length c.args.self.now.word =
+    omega (
+      arith,
+      eqb-false (length c.as_bytes.result.now) 0 (sym c.is_empty.ensures ∙ c.if-is_empty.false),
+      ap length c.as_bytes.ensures,
+    ) in
+    let short : length c.as_bytes-2.result.now ≤ 64 =
+    elim (cases_lt 64 (length c.as_bytes-2.result.now)) [
+      | inl far ↦
+          (let e = c.in_ok-add_word.ensures.long far in absurd (cc))
+      | inr near ↦ near
+    ] in
+    let judged = subst (λ w. HasJudged c.add_word.new.self (h.ended ++ w ∷ [])) same
+    (c.in_ok-add_word.ensures.word h.ended h.judged) in (
+      c.clear.ensures,
+      ended_ok c.args.self.now c.add_word.new.self text h some
+          (omega (arith, short, ap length same)) judged,
+    )

@@ -6,7 +6,8 @@ abbrev pub invariant-loop-at : goal.invariant-loop-at
 invariant-loop-at l = record {
   within : l.at ≤ length l.bytes;
   scale : l.self.builder.scale ≡ l.initial.self.builder.scale;
-  words : (text : List ℕ) → HasWords l.initial.self text → HasWords l.self (text ++ take l.at l.bytes);
+  words : (text : List ℕ) → HasWords l.initial.self text →
+      HasWords l.self (text ++ take l.at l.bytes);
 }
 
 abbrev pub decreases-loop-at : goal.decreases-loop-at

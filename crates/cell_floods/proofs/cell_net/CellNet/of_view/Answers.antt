@@ -11,8 +11,14 @@ invariant_of-result c =
     let v = c.args.view.now in
     let lawful = c.bounds-bounds.ensures.lawful in
     let inside = bounds_inside v.cutting v.tile lawful.cutting lawful.tile in
-    bordered_list (with_sinks (terrain_of v) c.args.sinks.now) (bounds_of v.cutting v.tile) _ (omega (arith, inside.rows_inside, lawful.cutting.few_rows)) (omega (arith, inside.cols_inside, lawful.cutting.few_cols))
-    (net_of_view v c.bounds-bounds.result c.in_ok-cells.cells.items c.args.sinks.now c.in_ok-sinks.sinks.items lawful c.bounds-bounds.ensures.value c.in_ok-cells.ensures c.in_ok-sinks.ensures)
+    bordered_list (with_sinks (terrain_of v) c.args.sinks.now)
+    (bounds_of v.cutting v.tile) _ (omega (arith, inside.rows_inside, lawful.cutting.few_rows))
+    (omega (arith, inside.cols_inside, lawful.cutting.few_cols))
+    (net_of_view v c.bounds-bounds.result c.in_ok-cells.cells.items c.args.sinks.now
+    c.in_ok-sinks.sinks.items lawful c.bounds-bounds.ensures.value c.in_ok-cells.ensures
+    c.in_ok-sinks.ensures)
 
 pub returns : goal.returns
-returns c = net_of_view c.args.view.now c.bounds-bounds.result c.in_ok-cells.cells.items c.args.sinks.now c.in_ok-sinks.sinks.items c.bounds-bounds.ensures.lawful c.bounds-bounds.ensures.value c.in_ok-cells.ensures c.in_ok-sinks.ensures
+returns c = net_of_view c.args.view.now c.bounds-bounds.result c.in_ok-cells.cells.items
+    c.args.sinks.now c.in_ok-sinks.sinks.items c.bounds-bounds.ensures.lawful
+    c.bounds-bounds.ensures.value c.in_ok-cells.ensures c.in_ok-sinks.ensures

@@ -3,7 +3,8 @@ use Rattle.terrain.specs.declared.place.Place.{Place}
 use Rattle.cell_floods.proofs.Where.{level_shown}
 use Rattle.cell_floods.proofs.tile.TileFlood.label_at.Goals as goal
 
-none_mapped : (label : Option Place) (height : ℤ) → is_none (option_map (λ _. height) label) ≡ is_none label
+none_mapped : (label : Option Place) (height : ℤ) →
+    is_none (option_map (λ _. height) label) ≡ is_none label
 none_mapped None height = refl
 none_mapped (Some label) height = refl
 

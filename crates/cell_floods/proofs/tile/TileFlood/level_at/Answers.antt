@@ -17,7 +17,8 @@ returns-then-has-clause-value c =
     let shown = level_shown x.bounds heights x.labels x.ends.items _ i c.self.view_is x.whole in
     let low : c.args.index < length heights = omega (arith, c.requires, shown.0) in
     let fits : SFits height_width c.index.result.now = search rules in
-    let read : c.index.result.now ≡ get_or heights c.args.index (pos 0) = get_or_read heights c.args.index c.index.result.now low c.index.ensures (pos 0) in
+    let read : c.index.result.now ≡ get_or heights c.args.index (pos 0) =
+    get_or_read heights c.args.index c.index.result.now low c.index.ensures (pos 0) in
     rw (to_z-of_z height_width c.index.result.now fits) (elim (cases_option label) [
       | inl none ↦ absurd (cc (c.if-has.true, c.has.ensures, ap is_some none))
       | inr found ↦

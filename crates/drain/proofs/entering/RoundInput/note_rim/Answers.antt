@@ -11,8 +11,10 @@ use Rattle.drain.proofs.entering.RoundInput.note_rim.Goals as goal
 pub note_around-requires-clause-place : goal.note_around-requires-clause-place
 note_around-requires-clause-place c =
     let input = c.args.self.now in
-    let one = c.loop-place.invariant.left c.in-Some.place (taken c.in-Some.place _ _ c.in-Some.ensures.steps) in
-    (Contains-from_rim_places input.tiling.now c.args.tile c.in-Some.place input.lawful c.requires.tile one).0.0
+    let one = c.loop-place.invariant.left c.in-Some.place
+    (taken c.in-Some.place _ _ c.in-Some.ensures.steps) in
+    (Contains-from_rim_places input.tiling.now c.args.tile c.in-Some.place input.lawful
+    c.requires.tile one).0.0
 
 pub loop-place-preserved : goal.loop-place-preserved
 loop-place-preserved c =
@@ -22,7 +24,8 @@ loop-place-preserved c =
       left = λ p has. c.loop-place.invariant.left p (left_of x _ _ p e has);
       noted = noted_then _ _ _ _ _ _ _ _ _ (λ p q done side. elim (cases_place x q) [
         | inl one ↦ inr (sym one)
-        | inr ne ↦ inl (done.0, λ has. done.1 (Contains-tail x _ q ne (subst (λ zs. Contains zs q) e has)))
+        | inr ne ↦
+            inl (done.0, λ has. done.1 (Contains-tail x _ q ne (subst (λ zs. Contains zs q) e has)))
       ]) c.loop-place.invariant.noted c.in_ok-note_around.ensures;
     }
 
@@ -31,5 +34,8 @@ returns c =
     let v = c.args.self.now.tiling.now in
     let none = c.in-None.ensures.steps.0 in
     noted_all _ _ _ _ _ _ _ (λ p q done side.
-    let rim = on_rim v q p c.args.self.now.lawful done.0.0 (λ i. done.1 (i.1 ∙ done.0.1)) (touches_back p q side.next.touches) in
-    (Contains-rim_places v c.args.tile q c.args.self.now.lawful done.0 rim, λ has. (let at = subst (λ zs. Contains zs q) none has in absurd (omega (arith, at.1))))) c.loop-place.invariant.noted
+    let rim = on_rim v q p c.args.self.now.lawful done.0.0 (λ i.
+    done.1 (i.1 ∙ done.0.1)) (touches_back p q side.next.touches) in (
+      Contains-rim_places v c.args.tile q c.args.self.now.lawful done.0 rim,
+      λ has. (let at = subst (λ zs. Contains zs q) none has in absurd (omega (arith, at.1))),
+    )) c.loop-place.invariant.noted

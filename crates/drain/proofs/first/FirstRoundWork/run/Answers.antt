@@ -10,13 +10,20 @@ pub begun_counts-requires : goal.begun_counts-requires
 begun_counts-requires c =
     let cut = c.args.self.now.tiling.now in
     let b = c.in_ok-window.window.bounds in
-    let lawful = subst (λ (z : View (Option ℤ)). IsCutting z.cutting) c.view-levels.ensures c.in_ok-window.ensures.lawful in
-    let bounds = c.in_ok-window.ensures.bounds ∙ ap (λ (z : View (Option ℤ)). bounds_of z.cutting z.tile) c.view-levels.ensures in
-    record { inside = part_of c.args.self.now.grid.now.terrain cut b lawful c.args.self.now.cuts (inside_from_value cut c.args.job b lawful c.requires bounds) }
+    let lawful = subst (λ (z : View (Option ℤ)).
+    IsCutting z.cutting) c.view-levels.ensures c.in_ok-window.ensures.lawful in
+    let bounds = c.in_ok-window.ensures.bounds
+    ∙ ap (λ (z : View (Option ℤ)). bounds_of z.cutting z.tile) c.view-levels.ensures in
+    record {
+      inside = part_of c.args.self.now.grid.now.terrain cut b lawful c.args.self.now.cuts
+          (inside_from_value cut c.args.job b lawful c.requires bounds);
+    }
 
 pub round-requires-clause-counts : goal.round-requires-clause-counts
 round-requires-clause-counts c =
-    subst (λ (xs : List ℕ). AreCounts xs) (sym c.deref.ensures.value) (begun_small c.args.self.now.grid.now.terrain c.in_ok-window.window.bounds c.in_ok-begun.begun.items [] c.in_ok-begun.ensures)
+    subst (λ (xs : List ℕ). AreCounts xs) (sym c.deref.ensures.value)
+    (begun_small c.args.self.now.grid.now.terrain c.in_ok-window.window.bounds
+    c.in_ok-begun.begun.items [] c.in_ok-begun.ensures)
 
 pub returns-clause-given : goal.returns-clause-given
 returns-clause-given c = λ begun first.
@@ -24,7 +31,11 @@ returns-clause-given c = λ begun first.
     let cut = c.args.self.now.tiling.now in
     let window = c.in_ok-window.window in
     let round = c.in_ok-list.ensures in
-    let finished = subst (λ (xs : List ℕ). IsSearched window.bounds window.levels.items xs round.0) c.deref.ensures.value round.1 in
-    begun_round t c.view-levels.result cut c.args.job window.bounds window.levels.items c.in_ok-begun.begun.items round.0 c.in_ok-list.list.items begun
-    (c.view-levels.ensures ∙ ap (λ (xs : List (Option ℤ)). record { cutting = cut; tile = c.args.job; cells = xs }) c.cells.ensures.value)
-    c.args.self.now.cuts c.in_ok-window.ensures.lawful c.in_ok-window.ensures.bounds c.in_ok-window.ensures.shown c.in_ok-begun.ensures first finished round.2
+    let finished = subst (λ (xs : List ℕ).
+    IsSearched window.bounds window.levels.items xs round.0) c.deref.ensures.value round.1 in
+    begun_round t c.view-levels.result cut c.args.job window.bounds window.levels.items
+    c.in_ok-begun.begun.items round.0 c.in_ok-list.list.items begun
+    (c.view-levels.ensures ∙ ap (λ (xs : List (Option ℤ)).
+    record { cutting = cut; tile = c.args.job; cells = xs }) c.cells.ensures.value)
+    c.args.self.now.cuts c.in_ok-window.ensures.lawful c.in_ok-window.ensures.bounds
+    c.in_ok-window.ensures.shown c.in_ok-begun.ensures first finished round.2

@@ -7,10 +7,15 @@ use Rattle.drain.proofs.rounds.Counting.round_here.Goals as goal
 pub put_round-requires-clause-answered : goal.put_round-requires-clause-answered
 put_round-requires-clause-answered c =
     let answered = rw (c.deref.ensures.value, c.deref-2.ensures.value) at c.in_ok-outs.ensures in
-    subst (λ (xs : List (Vec Change Global)). AreAnswered (rounding_of c.args.self.now) xs) (sym c.deref-3.ensures.value) answered
+    subst (λ (xs : List (Vec Change Global)). AreAnswered (rounding_of c.args.self.now) xs)
+    (sym c.deref-3.ensures.value) answered
 
 pub put_round-requires-clause-some : goal.put_round-requires-clause-some
 put_round-requires-clause-some c =
     let answered = rw (c.deref.ensures.value, c.deref-2.ensures.value) at c.in_ok-outs.ensures in
-    let x = some_given (rounding_of c.args.self.now) c.in_ok-outs.outs.items answered c.requires.rounding (omega (arith, c.requires.some, c.args.self.now.entries.ok.0)) in
-    (x.0, subst (λ (xs : List (Vec Change Global)). IsGiven xs x.0) (sym c.deref-3.ensures.value) x.1)
+    let x =
+    some_given (rounding_of c.args.self.now) c.in_ok-outs.outs.items answered c.requires.rounding
+    (omega (arith, c.requires.some, c.args.self.now.entries.ok.0)) in (
+      x.0,
+      subst (λ (xs : List (Vec Change Global)). IsGiven xs x.0) (sym c.deref-3.ensures.value) x.1,
+    )

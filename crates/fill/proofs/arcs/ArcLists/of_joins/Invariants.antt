@@ -8,5 +8,6 @@ invariant-loop-join l = record {
   size : length l.previous.items ≡ l.join-index;
   labels : length l.lasts.items ≡ l.labels;
   linked : AreLinked l.lasts.items l.join-items l.previous.items;
-  added : AddsArcs (take l.join-index l.join-items) (replicate l.labels []) (arcs_by l.lasts.items l.join-items l.previous.items);
+  added : AddsArcs (take l.join-index l.join-items) (replicate l.labels [])
+      (arcs_by l.lasts.items l.join-items l.previous.items);
 }

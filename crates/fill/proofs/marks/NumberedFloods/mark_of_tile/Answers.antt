@@ -11,7 +11,8 @@ use Rattle.fill.proofs.marks.NumberedFloods.mark_of_tile.Goals as goal
 
 pub bounds-self-own : goal.bounds-self-own
 bounds-self-own c =
-    let below = tile_of_place_below c.args.self.now.tiling.now c.args.place c.requires.lawful c.requires.place.0 in
+    let below = tile_of_place_below c.args.self.now.tiling.now c.args.place c.requires.lawful
+    c.requires.place.0 in
     omega (arith, below, c.requires.place.1, c.args.self.now.fit.count)
 
 pub returns-in_err-mark : goal.returns-in_err-mark
@@ -21,13 +22,17 @@ returns-in_err-mark c =
     let own = c.args.own in
     let f = get_or floods own c.index-self-own.result in
     let below = tile_of_place_below t c.args.place c.requires.lawful c.requires.place.0 in
-    let there = slice_get-get_or floods own c.index-self-own.result (omega (arith, below, c.requires.place.1, c.args.self.now.fit.count)) in
-    c.from_residual.ensures ∙ sym (among_shift t floods own f c.args.place there c.requires.place.1 ∙ ap (option_map (shift (first_of floods own))) (sym c.mark_in.ensures ∙ c.in_err-mark.was))
+    let there = slice_get-get_or floods own c.index-self-own.result
+    (omega (arith, below, c.requires.place.1, c.args.self.now.fit.count)) in
+    c.from_residual.ensures ∙ sym (among_shift t floods own f c.args.place there c.requires.place.1
+    ∙ ap (option_map (shift (first_of floods own))) (sym c.mark_in.ensures ∙ c.in_err-mark.was))
 
 pub bounds-self-own-2 : goal.bounds-self-own-2
 bounds-self-own-2 c =
-    let below = tile_of_place_below c.args.self.now.tiling.now c.args.place c.requires.lawful c.requires.place.0 in
-    omega (arith, below, c.requires.place.1, c.args.self.now.fit.count, c.args.self.now.numbers.size)
+    let below = tile_of_place_below c.args.self.now.tiling.now c.args.place c.requires.lawful
+    c.requires.place.0 in
+    omega
+    (arith, below, c.requires.place.1, c.args.self.now.fit.count, c.args.self.now.numbers.size)
 
 pub overflow_add-result : goal.overflow_add-result
 overflow_add-result c =
@@ -35,10 +40,13 @@ overflow_add-result c =
     let floods = c.args.self.now.floods.now in
     let own = c.args.own in
     let f = get_or floods own c.index-self-own.result in
-    let below = tile_of_place_below c.args.self.now.tiling.now c.args.place c.requires.lawful c.requires.place.0 in
-    let low : own < length floods = omega (arith, below, c.requires.place.1, c.args.self.now.fit.count) in
+    let below = tile_of_place_below c.args.self.now.tiling.now c.args.place c.requires.lawful
+    c.requires.place.0 in
+    let low : own < length floods =
+    omega (arith, below, c.requires.place.1, c.args.self.now.fit.count) in
     let there = slice_get-get_or floods own c.index-self-own.result low in
-    let inside = index_inside f c.args.place c.in_ok-mark.mark (numbers.lawful own f there) (sym c.mark_in.ensures ∙ c.in_ok-mark.was) in
+    let inside = index_inside f c.args.place c.in_ok-mark.mark (numbers.lawful own f there)
+    (sym c.mark_in.ensures ∙ c.in_ok-mark.was) in
     omega (arith, numbers.few own f there, numbers.each own low, inside)
 
 pub returns : goal.returns
@@ -49,8 +57,10 @@ returns c =
     let f = get_or floods own c.index-self-own.result in
     let m = c.in_ok-mark.mark in
     let below = tile_of_place_below t c.args.place c.requires.lawful c.requires.place.0 in
-    let low : own < length floods = omega (arith, below, c.requires.place.1, c.args.self.now.fit.count) in
+    let low : own < length floods =
+    omega (arith, below, c.requires.place.1, c.args.self.now.fit.count) in
     let there = slice_get-get_or floods own c.index-self-own.result low in
     let fits : SFits height_width m.level = search rules in
-    let known = among_shift t floods own f c.args.place there c.requires.place.1 ∙ ap (option_map (shift (first_of floods own))) (sym c.mark_in.ensures ∙ c.in_ok-mark.was) in
+    let known = among_shift t floods own f c.args.place there c.requires.place.1
+    ∙ ap (option_map (shift (first_of floods own))) (sym c.mark_in.ensures ∙ c.in_ok-mark.was) in
     rw (to_z-of_z height_width m.level fits, c.args.self.now.numbers.each own low) (sym known)

@@ -20,7 +20,8 @@ new-requires c =
     ∙ get_or_default m.firsts.items tile _ 0 (omega (arith, below, m.numbers.size))
     ∙ m.numbers.each tile below in
     let all = length-flat_map-take (λ (g : Flood). g.table.places) floods tile f below in
-    omega (arith, first, all, ap (λ (g : Flood). length g.table.places) c.index.ensures, m.levels_size)
+    omega
+    (arith, first, all, ap (λ (g : Flood). length g.table.places) c.index.ensures, m.levels_size)
 
 pub cells-requires-clause-size : goal.cells-requires-clause-size
 cells-requires-clause-size c =
@@ -44,7 +45,8 @@ returns c =
     let tile = c.args.tile in
     let f = c.index.result.now in
     let below : tile < length floods = omega (arith, c.requires, m.fit.count) in
-    let there : slice_get floods tile ≡ Some f = slice_get_read floods (length floods) tile f refl below c.index.ensures in
+    let there : slice_get floods tile ≡ Some f =
+    slice_get_read floods (length floods) tile f refl below c.index.ensures in
     let first : c.index-first.result.now ≡ first_of floods tile =
     c.index-first.ensures
     ∙ get_or_default m.firsts.items tile _ 0 (omega (arith, below, m.numbers.size))

@@ -5,14 +5,26 @@ use Rattle.fill.proofs.rim_joins.CellsAroundMarkedCells.mark.Goals.{then-place-r
 
 pub returns-then-place-rows : goal.returns-then-place-rows
 returns-then-place-rows c =
-    sym (mark_outside c.args.self.now.tiles.now.tiling.now c.args.self.now.tiles.now.floods.now c.args.place c.rows.ensures.lawful c.args.self.now.tiles.now.fit (λ within. elim c.then-place-rows.branch [
-      | then-place-rows-via-then-place-rows w ↦ omega (arith, within, w.if-place-rows.true, c.rows.ensures.value)
-      | then-place-rows-via-else-place-rows+then-place-cols w ↦ omega (arith, within, w.if-place-cols.true, w.cols.ensures.value)
+    sym (mark_outside c.args.self.now.tiles.now.tiling.now c.args.self.now.tiles.now.floods.now
+    c.args.place c.rows.ensures.lawful c.args.self.now.tiles.now.fit
+    (λ within. elim c.then-place-rows.branch [
+      | then-place-rows-via-then-place-rows w ↦
+          omega (arith, within, w.if-place-rows.true, c.rows.ensures.value)
+      | then-place-rows-via-else-place-rows+then-place-cols w ↦
+          omega (arith, within, w.if-place-cols.true, w.cols.ensures.value)
     ]))
 
 pub tile_of-requires : goal.tile_of-requires
-tile_of-requires c = (omega (arith, c.if-place-rows.false, c.rows.ensures.value), omega (arith, c.if-place-cols.false, c.cols.ensures.value))
+tile_of-requires c = (
+  omega (arith, c.if-place-rows.false, c.rows.ensures.value),
+  omega (arith, c.if-place-cols.false, c.cols.ensures.value),
+)
 
 pub mark_of_tile-requires-clause-place : goal.mark_of_tile-requires-clause-place
-mark_of_tile-requires-clause-place c =
-    ((omega (arith, c.if-place-rows.false, c.rows.ensures.value), omega (arith, c.if-place-cols.false, c.cols.ensures.value)), sym c.tile_of.ensures)
+mark_of_tile-requires-clause-place c = (
+  (
+    omega (arith, c.if-place-rows.false, c.rows.ensures.value),
+    omega (arith, c.if-place-cols.false, c.cols.ensures.value),
+  ),
+  sym c.tile_of.ensures,
+)

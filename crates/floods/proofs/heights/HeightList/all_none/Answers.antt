@@ -3,4 +3,7 @@ use Rattle.floods.proofs.heights.HeightList.all_none.Goals as goal
 
 pub returns : goal.returns
 returns c =
-    rw (c.in_ok-heights.ensures.items_if_clones_equal (λ y same. same), c.in_ok-greatest.ensures.items_if_clones_equal (λ y same. same)) (where-lacking c.args.count)
+    rw (
+      c.in_ok-heights.ensures.items_if_clones_equal (λ y same. same),
+      c.in_ok-greatest.ensures.items_if_clones_equal (λ y same. same),
+    ) (where-lacking c.args.count)

@@ -10,37 +10,56 @@ use Rattle.floods.proofs.heights.HeightList.at.Goals.{then-not-is_lack, else-not
 use Rattle.std.specs.Ordering.{int_eq}
 
 pub index-height-requires : goal.index-height-requires
-index-height-requires c = omega (arith, c.requires, ap length c.self.view_is, length-where _ _ c.self.inside.size)
+index-height-requires c =
+    omega (arith, c.requires, ap length c.self.view_is, length-where _ _ c.self.inside.size)
 
 pub index-requires : goal.index-requires
-index-requires c = omega (arith, c.requires, ap length c.self.view_is, length-where _ _ c.self.inside.size, c.self.inside.size)
+index-requires c = omega (
+  arith,
+  c.requires,
+  ap length c.self.view_is,
+  length-where _ _ c.self.inside.size,
+  c.self.inside.size,
+)
 
 pub returns-then-index : goal.returns-then-index
 returns-then-index c =
     let heights = c.self.inside.heights.items in
     let marks = c.self.inside.greatest.items in
     let i = c.args.index in
-    let inside : i < length heights = omega (arith, c.requires, ap length c.self.view_is, length-where _ _ c.self.inside.size) in
+    let inside : i < length heights =
+    omega (arith, c.requires, ap length c.self.view_is, length-where _ _ c.self.inside.size) in
     let fits : SFits height_width c.index-height.result.now = search rules in
-    let here = to_z-of_z height_width _ fits ∙ get_or_read heights i c.index-height.result.now inside c.index-height.ensures lack in
+    let here = to_z-of_z height_width _ fits
+    ∙ get_or_read heights i c.index-height.result.now inside c.index-height.ensures lack in
     let lacks = c.is_lack.ensures ∙ ap (λ z. int_eq z lack) here in
-    let is : noted (get_or marks i false) (get_or heights i lack) ≡ Some (get_or heights i lack) = elim c.if-not-is_lack.branch [
+    let is : noted (get_or marks i false) (get_or heights i lack) ≡ Some (get_or heights i lack) =
+    elim c.if-not-is_lack.branch [
       | then-not-is_lack w ↦ noted_other _ _ (sym lacks ∙ w.if-not-is_lack.true)
-      | else-not-is_lack w ↦ noted_marked _ _ (sym (get_or_read marks i w.index.result.now (omega (arith, inside, c.self.inside.size)) w.index.ensures false) ∙ sym w.value-is ∙ c.if-index.true)
+      | else-not-is_lack w ↦ noted_marked _ _ (sym (get_or_read marks i w.index.result.now
+          (omega (arith, inside, c.self.inside.size)) w.index.ensures false) ∙ sym w.value-is
+          ∙ c.if-index.true)
     ] in
-    ap Some here ∙ sym (where-at marks heights i c.self.inside.size ∙ is) ∙ ap (λ (l : List (Option ℤ)). get_or l i None) c.self.view_is
+    ap Some here ∙ sym (where-at marks heights i c.self.inside.size ∙ is)
+    ∙ ap (λ (l : List (Option ℤ)). get_or l i None) c.self.view_is
 
 pub returns-else-index : goal.returns-else-index
 returns-else-index c =
     let heights = c.self.inside.heights.items in
     let marks = c.self.inside.greatest.items in
     let i = c.args.index in
-    let inside : i < length heights = omega (arith, c.requires, ap length c.self.view_is, length-where _ _ c.self.inside.size) in
+    let inside : i < length heights =
+    omega (arith, c.requires, ap length c.self.view_is, length-where _ _ c.self.inside.size) in
     let fits : SFits height_width c.index-height.result.now = search rules in
-    let here = to_z-of_z height_width _ fits ∙ get_or_read heights i c.index-height.result.now inside c.index-height.ensures lack in
+    let here = to_z-of_z height_width _ fits
+    ∙ get_or_read heights i c.index-height.result.now inside c.index-height.ensures lack in
     let lacks = c.is_lack.ensures ∙ ap (λ z. int_eq z lack) here in
-    let is : noted (get_or marks i false) (get_or heights i lack) ≡ None = elim c.if-not-is_lack.branch [
+    let is : noted (get_or marks i false) (get_or heights i lack) ≡ None =
+    elim c.if-not-is_lack.branch [
       | then-not-is_lack w ↦ absurd (cc w.if-not-is_lack.true)
-      | else-not-is_lack w ↦ noted_none _ _ (sym lacks ∙ w.if-not-is_lack.false) (sym (get_or_read marks i w.index.result.now (omega (arith, inside, c.self.inside.size)) w.index.ensures false) ∙ sym w.value-is ∙ c.if-index.false)
+      | else-not-is_lack w ↦ noted_none _ _ (sym lacks ∙ w.if-not-is_lack.false)
+          (sym (get_or_read marks i w.index.result.now (omega (arith, inside, c.self.inside.size))
+          w.index.ensures false) ∙ sym w.value-is ∙ c.if-index.false)
     ] in
-    sym (where-at marks heights i c.self.inside.size ∙ is) ∙ ap (λ (l : List (Option ℤ)). get_or l i None) c.self.view_is
+    sym (where-at marks heights i c.self.inside.size ∙ is)
+    ∙ ap (λ (l : List (Option ℤ)). get_or l i None) c.self.view_is

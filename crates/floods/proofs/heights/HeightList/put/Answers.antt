@@ -7,10 +7,17 @@ use Rattle.floods.proofs.HeightLists.{length-where, where-set, where-marked}
 use Rattle.floods.proofs.heights.HeightList.put.Goals as goal
 
 pub index_mut-requires : goal.index_mut-requires
-index_mut-requires c = omega (arith, c.requires, ap length c.self.view_is, length-where _ _ c.self.inside.size)
+index_mut-requires c =
+    omega (arith, c.requires, ap length c.self.view_is, length-where _ _ c.self.inside.size)
 
 pub index_mut-requires-then-is_lack : goal.index_mut-requires-then-is_lack
-index_mut-requires-then-is_lack c = omega (arith, c.requires, ap length c.self.view_is, length-where _ _ c.self.inside.size, c.self.inside.size)
+index_mut-requires-then-is_lack c = omega (
+  arith,
+  c.requires,
+  ap length c.self.view_is,
+  length-where _ _ c.self.inside.size,
+  c.self.inside.size,
+)
 
 pub returns-then-is_lack : goal.returns-then-is_lack
 returns-then-is_lack c =
@@ -20,4 +27,5 @@ returns-then-is_lack c =
 pub returns-else-is_lack : goal.returns-else-is_lack
 returns-else-is_lack c =
     let height = to_z-of_z height_width c.args.height (search rules) in
-    rw (height, ← c.self.view_is) (where-set _ _ c.args.index c.args.height c.self.inside.size (sym (c.is_lack.ensures ∙ ap (λ z. int_eq z lack) height) ∙ c.if-is_lack.false))
+    rw (height, ← c.self.view_is) (where-set _ _ c.args.index c.args.height c.self.inside.size
+    (sym (c.is_lack.ensures ∙ ap (λ z. int_eq z lack) height) ∙ c.if-is_lack.false))

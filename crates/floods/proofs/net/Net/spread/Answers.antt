@@ -9,5 +9,8 @@ queue_neighbours-requires g c =
     record {
       order = c.requires.order;
       noted = c.requires.noted;
-      inside = rw c.as_slice.ensures (All-weaker (λ arc. g.Self.Net.joins c.args.self.now c.args.from.now.node arc.to arc.height) (λ (arc : Spill). arc.to < length c.args.labels.now) (λ arc joined. subst (λ n. arc.to < n) (sym c.requires.size) (inside arc.to arc.height joined)) c.in_ok-arcs.arcs.items c.in_ok-arcs.ensures.only);
+      inside = rw c.as_slice.ensures (All-weaker (λ arc. g.Self.Net.joins
+          c.args.self.now c.args.from.now.node arc.to arc.height) (λ (arc : Spill). arc.to
+          < length c.args.labels.now) (λ arc joined. subst (λ n. arc.to < n) (sym c.requires.size)
+          (inside arc.to arc.height joined)) c.in_ok-arcs.arcs.items c.in_ok-arcs.ensures.only);
     }

@@ -9,14 +9,21 @@ use Rattle.floods.proofs.QueueOrder.{entries_at, entries_set, put_in_list, put_i
 use Rattle.floods.proofs.queue.Queue.put.Goals as goal
 
 pub returns-in_default-clause-puts : goal.returns-in_default-clause-puts
-returns-in_default-clause-puts c = put_in_heap c.args.waiting (entries_of c.args.self.now.lists.items) _ _ c.in_ok-push.ensures.permutation
+returns-in_default-clause-puts c = put_in_heap c.args.waiting
+    (entries_of c.args.self.now.lists.items) _ _ c.in_ok-push.ensures.permutation
 
 -- The entry is the last of its height's list.
-added : (c : goal.After-self-2-1) → (c.in-Some.index < length (entries_of c.args.self.now.lists.items)) × (c.push-2.new.self.items ≡ get_or (entries_of c.args.self.now.lists.items) c.in-Some.index [] ++ c.args.waiting ∷ [])
+added : (c : goal.After-self-2-1) →
+    (c.in-Some.index < length (entries_of c.args.self.now.lists.items)) × (c.push-2.new.self.items
+    ≡ get_or (entries_of c.args.self.now.lists.items) c.in-Some.index [] ++ c.args.waiting ∷ [])
 added c =
     let lists = c.args.self.now.lists.items in
-    let held = entries_at lists c.in-Some.index c.index_mut.result.now c.in-Some.ensures.inside c.index_mut.ensures.value in
-    (omega (arith, length-map lists (λ l. l.items), c.in-Some.ensures.inside), c.in_ok-push-2.ensures.items ∙ ap (λ (z : List Candidate). z ++ c.args.waiting ∷ []) (sym held))
+    let held = entries_at lists c.in-Some.index c.index_mut.result.now c.in-Some.ensures.inside
+    c.index_mut.ensures.value in (
+      omega (arith, length-map lists (λ l. l.items), c.in-Some.ensures.inside),
+      c.in_ok-push-2.ensures.items
+          ∙ ap (λ (z : List Candidate). z ++ c.args.waiting ∷ []) (sym held),
+    )
 
 pub returns-clause-order : goal.returns-clause-order
 returns-clause-order c =
@@ -24,11 +31,16 @@ returns-clause-order c =
     let fits : SFits height_width c.args.waiting.height.0 = search rules in
     let is = added c in
     rw (entries_set lists c.in-Some.index c.push-2.new.self)
-    (list_put_ordered c.args.self.now.base c.args.self.now.first c.args.self.now.end c.max-self.result c.in-Some.index c.args.waiting (entries_of lists) _ (heap_items c.args.self.now.others) c.requires is.0 is.1 (rw (to_z-of_z height_width c.args.waiting.height.0 fits) at c.in-Some.ensures.level)
-    c.in-Some.ensures.from (omega (arith, c.max-self.ensures)) (omega (arith, c.max-self.ensures)) (omega (arith, c.max-self.ensures, c.requires.end_inside, is.0)))
+    (list_put_ordered c.args.self.now.base
+    c.args.self.now.first c.args.self.now.end c.max-self.result c.in-Some.index c.args.waiting
+    (entries_of lists) _ (heap_items c.args.self.now.others) c.requires is.0 is.1
+    (rw (to_z-of_z height_width c.args.waiting.height.0 fits) at c.in-Some.ensures.level)
+    c.in-Some.ensures.from (omega (arith, c.max-self.ensures)) (omega (arith, c.max-self.ensures))
+    (omega (arith, c.max-self.ensures, c.requires.end_inside, is.0)))
 
 pub returns-clause-puts : goal.returns-clause-puts
 returns-clause-puts c =
     let lists = c.args.self.now.lists.items in
     let is = added c in
-    rw (entries_set lists c.in-Some.index c.push-2.new.self) (put_in_list c.args.waiting (entries_of lists) c.in-Some.index _ (heap_items c.args.self.now.others) is.0 is.1)
+    rw (entries_set lists c.in-Some.index c.push-2.new.self) (put_in_list c.args.waiting
+    (entries_of lists) c.in-Some.index _ (heap_items c.args.self.now.others) is.0 is.1)

@@ -18,53 +18,74 @@ send_all-requires-clause-targets c =
 
 pub send_all-requires-clause-within : goal.send_all-requires-clause-within
 send_all-requires-clause-within c i h =
-    subst (λ (o : Option Place). IfSome o (IsWithin c.args.tiling.now)) (sym (target_listed _ _ _ (c.deref-4.ensures.value ∙ c.requires.targets) i h))
+    subst (λ (o : Option Place). IfSome o (IsWithin c.args.tiling.now))
+    (sym (target_listed _ _ _ (c.deref-4.ensures.value ∙ c.requires.targets) i h))
     (targets_within _ _ _ c.requires.flows.1 i)
 
 pub upstream_weights-requires-clause-streams : goal.upstream_weights-requires-clause-streams
-upstream_weights-requires-clause-streams c = rim_streams _ _ _ c.requires.flows.1 _ (c.deref-2.ensures.value ∙ c.requires.links)
+upstream_weights-requires-clause-streams c =
+    rim_streams _ _ _ c.requires.flows.1 _ (c.deref-2.ensures.value ∙ c.requires.links)
 
 pub upstream_weights-requires-clause-few : goal.upstream_weights-requires-clause-few
-upstream_weights-requires-clause-few c = omega (arith, links_size _ _ _ c.requires.flows.1 _ (c.deref-2.ensures.value ∙ c.requires.links), few_numbers _ c.requires.flows.1.cutting)
+upstream_weights-requires-clause-few c = omega (
+  arith,
+  links_size _ _ _ c.requires.flows.1 _ (c.deref-2.ensures.value ∙ c.requires.links),
+  few_numbers _ c.requires.flows.1.cutting,
+)
 
 pub upstream_weights-requires-clause-same : goal.upstream_weights-requires-clause-same
 upstream_weights-requires-clause-same c =
     let made = c.deref-2.ensures.value ∙ c.requires.links in
-    weights_size _ _ _ c.requires.flows.1 c.requires.flows.2 _ made _ (c.deref-3.ensures.value ∙ c.in_ok-weights.ensures) ∙ sym (links_size _ _ _ c.requires.flows.1 _ made)
+    weights_size _ _ _ c.requires.flows.1 c.requires.flows.2 _ made _ (c.deref-3.ensures.value
+    ∙ c.in_ok-weights.ensures) ∙ sym (links_size _ _ _ c.requires.flows.1 _ made)
 
 pub upstream_weights-requires-clause-fits : goal.upstream_weights-requires-clause-fits
 upstream_weights-requires-clause-fits c i h =
     let made = c.deref-2.ensures.value ∙ c.requires.links in
     let weighed = c.deref-3.ensures.value ∙ c.in_ok-weights.ensures in
-    omega (arith, total_few _ _ _ c.requires.flows.1 c.requires.flows.2 _ made _ weighed i (omega (arith, h, links_size _ _ _ c.requires.flows.1 _ made)))
+    omega (
+      arith,
+      total_few _ _ _ c.requires.flows.1 c.requires.flows.2 _ made _ weighed i
+          (omega (arith, h, links_size _ _ _ c.requires.flows.1 _ made)),
+    )
 
 pub send_all-requires-clause-weights : goal.send_all-requires-clause-weights
 send_all-requires-clause-weights c =
-    ap length c.deref-5.ensures.value ∙ weights_size _ _ _ c.requires.flows.1 c.requires.flows.2 _ (c.deref-2.ensures.value ∙ c.requires.links) _ c.in_ok-weights.ensures
+    ap length c.deref-5.ensures.value ∙ weights_size _ _ _ c.requires.flows.1 c.requires.flows.2 _
+    (c.deref-2.ensures.value ∙ c.requires.links) _ c.in_ok-weights.ensures
 
 pub send_all-requires-clause-upstream : goal.send_all-requires-clause-upstream
 send_all-requires-clause-upstream c =
-    ap length c.deref-6.ensures.value ∙ c.in_ok-upstream.ensures.size ∙ links_size _ _ _ c.requires.flows.1 _ (c.deref-2.ensures.value ∙ c.requires.links)
+    ap length c.deref-6.ensures.value ∙ c.in_ok-upstream.ensures.size
+    ∙ links_size _ _ _ c.requires.flows.1 _ (c.deref-2.ensures.value ∙ c.requires.links)
 
 pub send_all-requires-clause-amounts : goal.send_all-requires-clause-amounts
 send_all-requires-clause-amounts c i h =
     let made = c.deref-2.ensures.value ∙ c.requires.links in
     omega (
       arith,
-      c.in_ok-upstream.ensures.each i (omega (arith, h, links_size _ _ _ c.requires.flows.1 _ made)),
-      total_few _ _ _ c.requires.flows.1 c.requires.flows.2 _ made _ (c.deref-3.ensures.value ∙ c.in_ok-weights.ensures) i h,
+      c.in_ok-upstream.ensures.each i
+          (omega (arith, h, links_size _ _ _ c.requires.flows.1 _ made)),
+      total_few _ _ _ c.requires.flows.1 c.requires.flows.2 _ made _ (c.deref-3.ensures.value
+          ∙ c.in_ok-weights.ensures) i h,
       ap (λ (l : List ℕ). get_or l i 0) c.deref-6.ensures.value,
       ap (λ (l : List ℕ). get_or l i 0) (c.deref-5.ensures.value ∙ sym c.deref-3.ensures.value),
     )
 
 pub send_all-requires-clause-few : goal.send_all-requires-clause-few
 send_all-requires-clause-few c k =
-    let up = subst (λ (w : List ℕ). AreUpstream c.deref-2.result.now w c.in_ok-upstream.upstream.items) c.deref-3.ensures.value c.in_ok-upstream.ensures in
+    let up = subst (λ (w : List ℕ). AreUpstream c.deref-2.result.now w
+    c.in_ok-upstream.upstream.items) c.deref-3.ensures.value c.in_ok-upstream.ensures in
     omega (
       arith,
-      entering_few _ _ _ c.requires.flows.1 c.requires.flows.2 _ _ _ _ (c.deref-4.ensures.value ∙ c.requires.targets) (c.deref-2.ensures.value ∙ c.requires.links) c.in_ok-weights.ensures up k,
-      ap (λ (w : List ℕ). sum_below (entering c.args.tiling.now c.deref-4.result.now w c.deref-6.result.now k) (number_count c.args.tiling.now)) c.deref-5.ensures.value,
-      ap (λ (w : List ℕ). sum_below (entering c.args.tiling.now c.deref-4.result.now c.in_ok-weights.weights.items w k) (number_count c.args.tiling.now)) c.deref-6.ensures.value,
+      entering_few _ _ _ c.requires.flows.1 c.requires.flows.2 _ _ _ _ (c.deref-4.ensures.value
+          ∙ c.requires.targets) (c.deref-2.ensures.value
+          ∙ c.requires.links) c.in_ok-weights.ensures up k,
+      ap (λ (w : List ℕ). sum_below (entering c.args.tiling.now c.deref-4.result.now w
+          c.deref-6.result.now k) (number_count c.args.tiling.now)) c.deref-5.ensures.value,
+      ap (λ (w : List ℕ). sum_below
+          (entering c.args.tiling.now c.deref-4.result.now c.in_ok-weights.weights.items w k)
+          (number_count c.args.tiling.now)) c.deref-6.ensures.value,
     )
 
 pub send_all-requires-clause-none : goal.send_all-requires-clause-none
@@ -77,7 +98,8 @@ pub returns-clause-inflows : goal.returns-clause-inflows
 returns-clause-inflows c d f counts =
     let t = c.args.tiling.now in
     let targets = c.deref-4.result.now in
-    let up = subst (λ (w : List ℕ). AreUpstream c.deref-2.result.now w c.in_ok-upstream.upstream.items) c.deref-3.ensures.value c.in_ok-upstream.ensures in
+    let up = subst (λ (w : List ℕ). AreUpstream c.deref-2.result.now w
+    c.in_ok-upstream.upstream.items) c.deref-3.ensures.value c.in_ok-upstream.ensures in
     let sent = c.send_all.new.listed in
     let all = take_at sent (drop (length sent) c.in_ok-listed.listed.items)
     c.in_ok-listed.listed.len (c.send_all.auto.listed ∙ c.deref_mut.ensures.len) in

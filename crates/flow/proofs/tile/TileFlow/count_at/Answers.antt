@@ -11,11 +11,15 @@ returns-then-index-len c =
     let i = c.args.index in
     let seen = ap (λ (f : Flow). length f.codes) c.self.view_is in
     let below : c.args.index < length c.self.inside.codes.items = omega (arith, c.requires, seen) in
-    let there : c.args.index < length c.self.inside.upstream.items = omega (arith, c.if-index-len.true, c.len.ensures, c.self.inside.upstream.ok.0) in
+    let there : c.args.index < length c.self.inside.upstream.items =
+    omega (arith, c.if-index-len.true, c.len.ensures, c.self.inside.upstream.ok.0) in
     subst (λ (f : Flow). c.where_data.result ≡ get_or f.through c.args.index None) c.self.view_is
-    (c.where_data.ensures ∙ made_at cells (λ i. get_or upstream i 0) (length upstream) i _ _ below there c.index.ensures (c.index-then-index-len.ensures ∙ get_or_default upstream i c.index-then-index-len.result.now 0 there))
+    (c.where_data.ensures ∙ made_at cells (λ i. get_or upstream i 0)
+    (length upstream) i _ _ below there c.index.ensures (c.index-then-index-len.ensures
+    ∙ get_or_default upstream i c.index-then-index-len.result.now 0 there))
 
 pub returns-else-index-len : goal.returns-else-index-len
 returns-else-index-len c =
     subst (λ (f : Flow). None ≡ get_or f.through c.args.index None) c.self.view_is
-    (sym (through_past c.self.inside.codes.items c.self.inside.upstream.items c.args.index (omega (arith, c.if-index-len.false, c.len.ensures, c.self.inside.upstream.ok.0))))
+    (sym (through_past c.self.inside.codes.items c.self.inside.upstream.items c.args.index
+    (omega (arith, c.if-index-len.false, c.len.ensures, c.self.inside.upstream.ok.0))))

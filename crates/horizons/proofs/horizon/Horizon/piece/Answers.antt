@@ -6,18 +6,28 @@ use Rattle.horizons.proofs.Pieces.{ramp_of_piece, within_extent, later}
 use Rattle.horizons.proofs.horizon.Horizon.piece.Goals as goal
 
 -- The piece returned is the horizon's piece at the position found.
-found : (c : goal.After-result-1) → slice_get c.self.inside.pieces.items c.first_above-cursor.result ≡ Some c.index.result.now
+found : (c : goal.After-result-1) →
+    slice_get c.self.inside.pieces.items c.first_above-cursor.result ≡ Some c.index.result.now
 found c =
-    let few : c.first_above-cursor.result < length c.self.inside.pieces.items = rw c.deref.ensures.value at c.first_above-cursor.ensures.inside in
-    slice_get_read c.self.inside.pieces.items (length c.self.inside.pieces.items) c.first_above-cursor.result c.index.result.now refl few c.index.ensures
+    let few : c.first_above-cursor.result < length c.self.inside.pieces.items =
+    rw c.deref.ensures.value at c.first_above-cursor.ensures.inside in
+    slice_get_read c.self.inside.pieces.items (length c.self.inside.pieces.items)
+    c.first_above-cursor.result c.index.result.now refl few c.index.ensures
 
 pub returns-clause-range : goal.returns-clause-range
 returns-clause-range c =
-    let above = rw c.deref.ensures.value at (c.first_above-cursor.ensures.above c.index.result.now) in
-    rw (← c.self.view_is) (above (found c), within_extent c.self.inside.pieces.items c.first_above-cursor.result c.index.result.now (found c))
+    let above =
+    rw c.deref.ensures.value at (c.first_above-cursor.ensures.above c.index.result.now) in
+    rw (← c.self.view_is) (
+      above (found c),
+      within_extent c.self.inside.pieces.items c.first_above-cursor.result c.index.result.now
+          (found c),
+    )
 
 pub returns-clause-ramp : goal.returns-clause-ramp
 returns-clause-ramp c i low high =
-    let before : AreUpTo c.self.inside.pieces.items c.first_above-cursor.result c.args.index = rw c.deref.ensures.value at c.first_above-cursor.ensures.before in
-    rw (← c.self.view_is) (ramp_of_piece c.self.inside.pieces.items c.first_above-cursor.result c.index.result.now i (found c)
+    let before : AreUpTo c.self.inside.pieces.items c.first_above-cursor.result c.args.index =
+    rw c.deref.ensures.value at c.first_above-cursor.ensures.before in
+    rw (← c.self.view_is) (ramp_of_piece c.self.inside.pieces.items c.first_above-cursor.result
+    c.index.result.now i (found c)
     (later c.self.inside.pieces.items c.first_above-cursor.result c.args.index i before low) high)

@@ -17,23 +17,37 @@ loop-cell-preserved c =
     let old = c.loop-cell.rays.items in
     let lead = c.lead_of-lead.ensures in
     let Q : ℕ → Type 0 = λ x. IsInRun window.lines x in
-    let crosses : Crosses f window n = record { later = c.requires.later; line = c.requires.line; within = subst Q lead (c.has.ensures.0 c.if-not-has.false) } in
+    let crosses : Crosses f window n = record {
+      later = c.requires.later;
+      line = c.requires.line;
+      within = subst Q lead (c.has.ensures.0 c.if-not-has.false);
+    } in
     let P : List Target → Type 0 = λ rays. AreRays f window marks n (cell + 1) rays in
     elim c.if-marks-row.branch [
       | then-marks-row+in_ok-push w ↦
-          let items : c.if-marks-row.rays.items ≡ old ++ target_at f n cell ∷ [] = ap (λ v. v.items) w.rays-is ∙ w.in_ok-push.ensures.items ∙ ap (λ t. old ++ t ∷ []) w.target_at.ensures in
-          subst P (sym items) (cell_taken f window marks n cell old c.requires.family c.requires.window crosses (omega arith, omega arith) c.loop-cell.invariant)
+          let items : c.if-marks-row.rays.items ≡ old ++ target_at f n cell ∷ [] = ap (λ v. v.items)
+          w.rays-is ∙ w.in_ok-push.ensures.items ∙ ap (λ t. old ++ t ∷ []) w.target_at.ensures in
+          subst P (sym items) (cell_taken f window marks n cell old c.requires.family
+          c.requires.window crosses (omega arith, omega arith) c.loop-cell.invariant)
       | else-marks-row w ↦
           let unmarked : mark_in_window window (lead_of f n) cell marks ≡ false =
-          ap (λ x. get_or marks ((x - window.lines.first) * window.lines.stride + (cell - window.side.first) * window.side.stride) false) (sym lead) ∙ w.if-marks-row.false in
-          subst P (ap (λ v. v.items) (sym w.rays-is)) (cell_passed f window marks n cell old unmarked c.loop-cell.invariant)
+          ap (λ x. get_or marks ((x - window.lines.first) * window.lines.stride + (cell
+          - window.side.first) * window.side.stride) false) (sym lead) ∙ w.if-marks-row.false in
+          subst P (ap (λ v. v.items) (sym w.rays-is))
+          (cell_passed f window marks n cell old unmarked c.loop-cell.invariant)
     ]
 
 pub returns-then-not-has : goal.returns-then-not-has
 returns-then-not-has c =
-    let out : Crosses c.args.self c.args.window c.args.line → ⊥ = λ crosses. both_ways c.has.result c.if-not-has.true (c.has.ensures.1 (subst (λ (x : ℕ). IsInRun c.args.window.lines x) (sym c.lead_of-lead.ensures) crosses.within)) in
-    line_passed c.args.self c.args.window c.args.marks.now c.args.line c.args.rays.now.items out c.requires.rays
+    let out : Crosses c.args.self c.args.window c.args.line →
+    ⊥ = λ crosses. both_ways c.has.result c.if-not-has.true (c.has.ensures.1 (subst
+    (λ (x : ℕ). IsInRun c.args.window.lines x) (sym c.lead_of-lead.ensures) crosses.within)) in
+    line_passed c.args.self c.args.window c.args.marks.now c.args.line c.args.rays.now.items out
+    c.requires.rays
 
 pub returns : goal.returns
 returns c =
-    line_ended c.args.self c.args.window c.args.marks.now c.args.line c.loop-cell.cell c.loop-cell.rays.items (omega arith) (omega (arith, c.loop-cell.auto.cell-end, c.requires.window.side, c.requires.family.cells)) c.loop-cell.invariant
+    line_ended c.args.self
+    c.args.window c.args.marks.now c.args.line c.loop-cell.cell c.loop-cell.rays.items (omega arith)
+    (omega (arith, c.loop-cell.auto.cell-end, c.requires.window.side, c.requires.family.cells))
+    c.loop-cell.invariant

@@ -12,25 +12,33 @@ use Rattle.sight.proofs.family.Family.has_ramp.Goals as goal
 
 pub ramp-requires-clause-heights : goal.ramp-requires-clause-heights
 ramp-requires-clause-heights c = (
-  kept c.in-Some-height_at.near (c.requires.heights c.in-Some.index c.in-Some-height_at.near (sym c.height_at.ensures ∙ c.in-Some-height_at.is)),
-  kept c.in-Some-height_at-2.far (c.requires.heights (c.in-Some.index + c.args.self.side.stride) c.in-Some-height_at-2.far (sym c.height_at-2.ensures ∙ c.in-Some-height_at-2.is)),
+  kept c.in-Some-height_at.near (c.requires.heights c.in-Some.index c.in-Some-height_at.near
+      (sym c.height_at.ensures ∙ c.in-Some-height_at.is)),
+  kept c.in-Some-height_at-2.far (c.requires.heights (c.in-Some.index + c.args.self.side.stride)
+      c.in-Some-height_at-2.far (sym c.height_at-2.ensures ∙ c.in-Some-height_at-2.is)),
 )
 
 pub returns-clause-inside : goal.returns-clause-inside
 returns-clause-inside c =
     let offset = c.args.offset in
     let back = back_short offset (omega (arith, c.requires.offset)) in
-    let cell : IsCell c.args.self c.args.line offset c.in-Some.index = rw back at c.in-Some.ensures in
-    OnTrue_from c.eq.result (offset ≤ℤ pos 4096) (λ yes. omega (arith, ints, cell.1, cell.2, c.requires.family))
+    let cell : IsCell c.args.self c.args.line offset c.in-Some.index =
+    rw back at c.in-Some.ensures in
+    OnTrue_from c.eq.result (offset ≤ℤ pos 4096) (λ yes.
+    omega (arith, ints, cell.1, cell.2, c.requires.family))
 
-ramp_is : (a b c d : ℤ) (m n : ℕ) → a ≡ b → c ≡ d → m ≡ n → (let r : Ramp = record { gain = a; level = c; lines = m } in r) ≡ record { gain = b; level = d; lines = n }
+ramp_is : (a b c d : ℤ) (m n : ℕ) → a ≡ b → c ≡ d → m ≡ n → (let r : Ramp =
+    record { gain = a; level = c; lines = m } in r) ≡ record { gain = b; level = d; lines = n }
 ramp_is a b c d m n p q r = rw (p, q, r) refl
 
-same_ramp : (r s : Ramp) → (int_eq r.gain s.gain && (int_eq r.level s.level && eqb r.lines s.lines)) ≡ true → r ≡ s
+same_ramp : (r s : Ramp) →
+    (int_eq r.gain s.gain && (int_eq r.level s.level && eqb r.lines s.lines)) ≡ true → r ≡ s
 same_ramp r s e =
-    let first = and_parts (int_eq r.gain s.gain) (int_eq r.level s.level && eqb r.lines s.lines) e in
+    let first =
+    and_parts (int_eq r.gain s.gain) (int_eq r.level s.level && eqb r.lines s.lines) e in
     let rest = and_parts (int_eq r.level s.level) (eqb r.lines s.lines) first.1 in
-    ramp_is r.gain s.gain r.level s.level r.lines s.lines (int_same r.gain s.gain first.0) (int_same r.level s.level rest.0) (eqb-true r.lines s.lines rest.1)
+    ramp_is r.gain s.gain r.level s.level r.lines s.lines (int_same r.gain s.gain first.0)
+    (int_same r.level s.level rest.0) (eqb-true r.lines s.lines rest.1)
   where
     int_same : (x y : ℤ) → int_eq x y ≡ true → x ≡ y
     int_same x y e = grind (arith, ints)
@@ -47,14 +55,21 @@ returns-clause-shows c =
     let near_back = to_z-of_z w64 near (search rules) in
     let far_back = to_z-of_z w64 far (search rules) in
     let cell : IsCell f k offset c.in-Some.index = rw back at c.in-Some.ensures in
-    let here : get_or cells (near_index f k cell.0) None ≡ Some near = ap (λ n. get_or cells n None) (sym cell.3) ∙ sym c.height_at.ensures ∙ c.in-Some-height_at.is in
-    let next : get_or cells (near_index f k cell.0 + f.side.stride) None ≡ Some far = ap (λ n. get_or cells (n + f.side.stride) None) (sym cell.3) ∙ sym c.height_at-2.ensures ∙ c.in-Some-height_at-2.is in
-    let ramp : c.ramp.result ≡ ramp_of f k offset near far = rw (back, near_back, far_back) at c.ramp.ensures.ramp in
+    let here : get_or cells (near_index f k cell.0) None ≡ Some near =
+    ap (λ n. get_or cells n None) (sym cell.3) ∙ sym c.height_at.ensures ∙ c.in-Some-height_at.is in
+    let next : get_or cells (near_index f k cell.0 + f.side.stride) None ≡ Some far =
+    ap (λ n. get_or cells (n + f.side.stride) None) (sym cell.3) ∙ sym c.height_at-2.ensures
+    ∙ c.in-Some-height_at-2.is in
+    let ramp : c.ramp.result ≡ ramp_of f k offset near far =
+    rw (back, near_back, far_back) at c.ramp.ensures.ramp in
     let at = rw back at c.ramp.ensures.at in
-    OnTrue_from c.eq.result ((t : Target) → IsTarget t → Passes k offset t → Shows cells f k t c.args.ramp) (λ yes.
+    OnTrue_from c.eq.result ((t : Target) → IsTarget t → Passes k offset t →
+    Shows cells f k t c.args.ramp) (λ yes.
     let same = same_ramp c.ramp.result c.args.ramp (sym c.eq.ensures ∙ yes) in
-    let P : Ramp → Type 0 = λ r. (t : Target) → IsTarget t → Passes k offset t → Shows cells f k t r in
+    let P : Ramp → Type 0 = λ r. (t : Target) → IsTarget t → Passes k offset t →
+    Shows cells f k t r in
     subst P same (λ t is_t passes. record {
       at = at t is_t passes;
-      hides = λ y rise stands later is. ap (λ r. hides_by r t rise) ramp ∙ shows_ramp cells f k cell.0 y offset near far rise t stands later passes cell.2 here next;
+      hides = λ y rise stands later is. ap (λ r. hides_by r t rise) ramp ∙ shows_ramp cells f k
+          cell.0 y offset near far rise t stands later passes cell.2 here next;
     }))

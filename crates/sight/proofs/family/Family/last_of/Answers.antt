@@ -4,7 +4,8 @@ use Rattle.horizons.proofs.Sizes.{back_short}
 use Rattle.sight.specs.Sweep.{Passes}
 use Rattle.sight.proofs.family.Family.last_of.Goals as goal
 
-next_small : (first last : ℤ) → unsigned_abs first ≤ 4096 → first ≤ℤ last → last ≤ℤ pos 4096 → unsigned_abs (last +ℤ pos 1) < 2 ^ 31
+next_small : (first last : ℤ) → unsigned_abs first ≤ 4096 → first ≤ℤ last → last ≤ℤ pos 4096 →
+    unsigned_abs (last +ℤ pos 1) < 2 ^ 31
 next_small first last few low high = omega (arith, ints, few, low, high)
 
 pub loop-self-preserved : goal.loop-self-preserved
@@ -13,7 +14,8 @@ loop-self-preserved c =
     let last = to_z w32 l.last-bits in
     let first_back = back_short c.args.first (omega (arith, c.requires.first)) in
     let range : (c.args.first ≤ℤ last) × (last ≤ℤ pos 4096) = rw first_back at l.invariant.range in
-    let next = back_short (last +ℤ pos 1) (next_small c.args.first last c.requires.first range.0 range.1) in
+    let next =
+    back_short (last +ℤ pos 1) (next_small c.args.first last c.requires.first range.0 range.1) in
     let inside = rw next at c.loop-self-test.ensures.inside in
     let shows = rw next at c.loop-self-test.ensures.shows in
     rw next (record {

@@ -7,7 +7,8 @@ use Rattle.sight.proofs.family.Family.last_of.Given as goal
 abbrev pub invariant-loop-self : goal.invariant-loop-self
 invariant-loop-self l = record {
   range : (l.fn.first ≤ℤ l.last) × (l.last ≤ℤ pos 4096);
-  shows : (b : ℤ) (t : Target) → l.fn.first <ℤ b → b ≤ℤ l.last → IsTarget t → Passes l.line b t → Shows l.cells l.self l.line t l.ramp;
+  shows : (b : ℤ) (t : Target) → l.fn.first <ℤ b → b ≤ℤ l.last → IsTarget t → Passes l.line b t →
+      Shows l.cells l.self l.line t l.ramp;
 }
 
 abbrev pub decreases-loop-self : goal.decreases-loop-self

@@ -13,7 +13,8 @@ overflow_mul-result c =
     let heights = c.requires.heights in
     let step = back (far -ℤ near) (omega (arith, step_small near far heights.0 heights.1)) in
     let line = to_z_pos w64 c.args.line (omega (arith, c.requires.line)) in
-    rw (near_is, far_is, step, line) (fits_signed_from_abs w64 ((far -ℤ near) *ℤ pos c.args.line) (gain_small near far c.args.line heights.0 heights.1 c.requires.line.1))
+    rw (near_is, far_is, step, line) (fits_signed_from_abs w64 ((far -ℤ near) *ℤ pos c.args.line)
+    (gain_small near far c.args.line heights.0 heights.1 c.requires.line.1))
 
 pub overflow_mul-result-2 : goal.overflow_mul-result-2
 overflow_mul-result-2 c =
@@ -26,7 +27,8 @@ overflow_mul-result-2 c =
     let offset_short = to_z-of_z w32 offset c.ranges.offset in
     let offset_is = back offset (omega (arith, c.requires.offset)) in
     let step = back (far -ℤ near) (omega (arith, step_small near far heights.0 heights.1)) in
-    rw (near_is, far_is, step, offset_short, offset_is) (fits_signed_from_abs w64 ((far -ℤ near) *ℤ offset) (tilt_small near far offset heights.0 heights.1 c.requires.offset))
+    rw (near_is, far_is, step, offset_short, offset_is) (fits_signed_from_abs w64
+    ((far -ℤ near) *ℤ offset) (tilt_small near far offset heights.0 heights.1 c.requires.offset))
 
 pub overflow_sub-result-2 : goal.overflow_sub-result-2
 overflow_sub-result-2 c =
@@ -41,10 +43,13 @@ overflow_sub-result-2 c =
     let offset_is = back offset (omega (arith, c.requires.offset)) in
     let eye_is = back eye (omega (arith, c.requires.family.eye)) in
     let step = back (far -ℤ near) (omega (arith, step_small near far heights.0 heights.1)) in
-    let tilt = back ((far -ℤ near) *ℤ offset) (tilt_small near far offset heights.0 heights.1 c.requires.offset) in
-    let base = back (near -ℤ eye) (omega (arith, base_small near eye heights.0 c.requires.family.eye)) in
+    let tilt = back ((far -ℤ near) *ℤ offset)
+    (tilt_small near far offset heights.0 heights.1 c.requires.offset) in
+    let base =
+    back (near -ℤ eye) (omega (arith, base_small near eye heights.0 c.requires.family.eye)) in
     rw (near_is, far_is, step, offset_short, offset_is, eye_is, base, tilt)
-    (fits_signed_from_abs w64 ((near -ℤ eye) -ℤ ((far -ℤ near) *ℤ offset)) (level_small near far eye offset heights.0 heights.1 c.requires.family.eye c.requires.offset))
+    (fits_signed_from_abs w64 ((near -ℤ eye) -ℤ ((far -ℤ near) *ℤ offset))
+    (level_small near far eye offset heights.0 heights.1 c.requires.family.eye c.requires.offset))
 
 pub returns : goal.returns
 returns c =
@@ -61,11 +66,17 @@ returns c =
     let eye_is = back eye (omega (arith, c.requires.family.eye)) in
     let step = back (far -ℤ near) (omega (arith, step_small near far heights.0 heights.1)) in
     let line_is = to_z_pos w64 line (omega (arith, c.requires.line)) in
-    let tilt = back ((far -ℤ near) *ℤ offset) (tilt_small near far offset heights.0 heights.1 c.requires.offset) in
-    let base = back (near -ℤ eye) (omega (arith, base_small near eye heights.0 c.requires.family.eye)) in
-    let gain = back ((far -ℤ near) *ℤ pos line) (gain_small near far line heights.0 heights.1 c.requires.line.1) in
-    let level = back ((near -ℤ eye) -ℤ ((far -ℤ near) *ℤ offset)) (level_small near far eye offset heights.0 heights.1 c.requires.family.eye c.requires.offset) in
-    rw (near_is, far_is, step, offset_short, offset_is, eye_is, line_is, base, tilt, gain, level) (record {
+    let tilt = back ((far -ℤ near) *ℤ offset)
+    (tilt_small near far offset heights.0 heights.1 c.requires.offset) in
+    let base =
+    back (near -ℤ eye) (omega (arith, base_small near eye heights.0 c.requires.family.eye)) in
+    let gain = back ((far -ℤ near) *ℤ pos line)
+    (gain_small near far line heights.0 heights.1 c.requires.line.1) in
+    let level = back ((near -ℤ eye) -ℤ ((far -ℤ near) *ℤ offset))
+    (level_small near far eye offset heights.0 heights.1 c.requires.family.eye c.requires.offset) in
+    rw (near_is, far_is, step, offset_short, offset_is, eye_is, line_is, base, tilt, gain, level)
+    (record {
       ramp = refl;
-      at = λ t is_t passes. ramp_is c.args.self line offset near far t c.requires.family c.requires.line heights.0 heights.1 is_t passes;
+      at = λ t is_t passes. ramp_is c.args.self line offset near far t c.requires.family
+          c.requires.line heights.0 heights.1 is_t passes;
     })

@@ -26,7 +26,8 @@ returns-in_default-height_at-clause-shows c t is_t slope among alone =
     let cells = c.args.cells.now in
     let cell = c.in-Some.ensures in
     let passes = passes_one k _ t among in
-    let none : get_or cells (near_index f k cell.0) None ≡ None = ap (λ n. get_or cells n None) (sym cell.3) ∙ sym c.height_at.ensures ∙ c.in_default-height_at.is in
+    let none : get_or cells (near_index f k cell.0) None ≡ None = ap (λ n.
+    get_or cells n None) (sym cell.3) ∙ sym c.height_at.ensures ∙ c.in_default-height_at.is in
     record {
       at = c.nothing.ensures.at t is_t;
       hides = λ y rise stands later is. c.nothing.ensures.below t rise is_t is
@@ -44,11 +45,15 @@ returns-in-Some-height_at-2-clause-shows c t is_t slope among alone =
     let near_back = to_z-of_z w64 near (search rules) in
     let far_back = to_z-of_z w64 far (search rules) in
     let cell = c.in-Some.ensures in
-    let here : get_or cells (near_index f k cell.0) None ≡ Some near = ap (λ n. get_or cells n None) (sym cell.3) ∙ sym c.height_at.ensures ∙ c.in-Some-height_at.is in
-    let next : get_or cells (near_index f k cell.0 + f.side.stride) None ≡ Some far = ap (λ n. get_or cells (n + f.side.stride) None) (sym cell.3) ∙ sym c.height_at-2.ensures ∙ c.in-Some-height_at-2.is in
+    let here : get_or cells (near_index f k cell.0) None ≡ Some near =
+    ap (λ n. get_or cells n None) (sym cell.3) ∙ sym c.height_at.ensures ∙ c.in-Some-height_at.is in
+    let next : get_or cells (near_index f k cell.0 + f.side.stride) None ≡ Some far =
+    ap (λ n. get_or cells (n + f.side.stride) None) (sym cell.3) ∙ sym c.height_at-2.ensures
+    ∙ c.in-Some-height_at-2.is in
     let ramp = rw (near_back, far_back) at c.ramp-ramp.ensures.ramp in
     let last = c.last_of.result in
-    let last_back = back_short last (omega (arith, ints, c.last_of.ensures.range, c.offset_at-offset.ensures.small)) in
+    let last_back = back_short last
+    (omega (arith, ints, c.last_of.ensures.range, c.offset_at-offset.ensures.small)) in
     among_shows cells f k offset last c.ramp-ramp.result t is_t.line.0 (rw last_back at among)
     (λ passes. record {
       at = c.ramp-ramp.ensures.at t is_t passes;
@@ -67,9 +72,13 @@ returns-then-not-is_at_centre-clause-shows c t is_t slope among alone =
     let offset = to_z w32 (of_z w32 c.offset_at-offset.result) in
     let back = back_short c.offset_at-offset.result (omega arith) in
     let cell = c.in-Some.ensures in
-    let here : get_or cells (near_index f k cell.0) None ≡ Some near = ap (λ n. get_or cells n None) (sym cell.3) ∙ sym c.height_at.ensures ∙ c.in-Some-height_at.is in
-    let next : get_or cells (near_index f k cell.0 + f.side.stride) None ≡ None = ap (λ n. get_or cells (n + f.side.stride) None) (sym cell.3) ∙ sym c.height_at-2.ensures ∙ c.in_default-height_at-2.is in
-    let beyond : (offset *ℤ pos target.line) <ℤ (target.offset *ℤ pos k) = by_lt_z (offset *ℤ pos target.line) (target.offset *ℤ pos k) (λ less. less) (λ not.
+    let here : get_or cells (near_index f k cell.0) None ≡ Some near =
+    ap (λ n. get_or cells n None) (sym cell.3) ∙ sym c.height_at.ensures ∙ c.in-Some-height_at.is in
+    let next : get_or cells (near_index f k cell.0 + f.side.stride) None ≡ None =
+    ap (λ n. get_or cells (n + f.side.stride) None) (sym cell.3) ∙ sym c.height_at-2.ensures
+    ∙ c.in_default-height_at-2.is in
+    let beyond : (offset *ℤ pos target.line) <ℤ (target.offset *ℤ pos k) =
+    by_lt_z (offset *ℤ pos target.line) (target.offset *ℤ pos k) (λ less. less) (λ not.
     let passed = rw (← back) at c.offset_at-offset.ensures.passes in
     let yes = c.is_at_centre.ensures.1 (omega (arith, ints, passed.low, not)) in
     let no = c.if-not-is_at_centre.true in
@@ -85,13 +94,16 @@ returns-then-not-is_at_centre-clause-shows c t is_t slope among alone =
 
 pub ramp-ramp-requires-clause-heights : goal.ramp-ramp-requires-clause-heights
 ramp-ramp-requires-clause-heights c = (
-  kept c.in-Some-height_at.near (c.requires.heights c.in-Some.index c.in-Some-height_at.near (sym c.height_at.ensures ∙ c.in-Some-height_at.is)),
-  kept c.in-Some-height_at-2.far (c.requires.heights (c.in-Some.index + c.args.self.side.stride) c.in-Some-height_at-2.far (sym c.height_at-2.ensures ∙ c.in-Some-height_at-2.is)),
+  kept c.in-Some-height_at.near (c.requires.heights c.in-Some.index c.in-Some-height_at.near
+      (sym c.height_at.ensures ∙ c.in-Some-height_at.is)),
+  kept c.in-Some-height_at-2.far (c.requires.heights (c.in-Some.index + c.args.self.side.stride)
+      c.in-Some-height_at-2.far (sym c.height_at-2.ensures ∙ c.in-Some-height_at-2.is)),
 )
 
 pub ramp-requires-clause-heights : goal.ramp-requires-clause-heights
 ramp-requires-clause-heights c =
-    let is = kept c.in-Some-height_at.near (c.requires.heights c.in-Some.index c.in-Some-height_at.near (sym c.height_at.ensures ∙ c.in-Some-height_at.is)) in
+    let is = kept c.in-Some-height_at.near (c.requires.heights c.in-Some.index
+    c.in-Some-height_at.near (sym c.height_at.ensures ∙ c.in-Some-height_at.is)) in
     (is, is)
 
 pub last_of-requires-clause-first : goal.last_of-requires-clause-first
@@ -112,7 +124,8 @@ returns-clause-shows c t is_t slope among alone =
     let near = c.in-Some-height_at.near in
     let near_back = to_z-of_z w64 near (search rules) in
     let cell = c.in-Some.ensures in
-    let here : get_or cells (near_index f k cell.0) None ≡ Some near = ap (λ n. get_or cells n None) (sym cell.3) ∙ sym c.height_at.ensures ∙ c.in-Some-height_at.is in
+    let here : get_or cells (near_index f k cell.0) None ≡ Some near =
+    ap (λ n. get_or cells n None) (sym cell.3) ∙ sym c.height_at.ensures ∙ c.in-Some-height_at.is in
     let ramp = rw near_back at c.ramp.ensures.ramp in
     let centred = c.is_at_centre.ensures.0 c.if-not-is_at_centre.false in
     let same : t ≡ target = alone refl in
@@ -129,6 +142,8 @@ overflow_add-index c =
     let f = c.args.self in
     let cell = c.in-Some.ensures in
     let lead : lead_of f c.args.line ≤ 8192 = grind arith in
-    let lines = mul-le (lead_of f c.args.line) f.lines.stride 8192 4096 lead (omega (arith, c.requires.family.strides)) in
-    let side = mul-le cell.0 f.side.stride 4096 4096 (omega (arith, cell.1, c.requires.family.cells)) (omega (arith, c.requires.family.strides)) in
+    let lines = mul-le (lead_of f c.args.line) f.lines.stride 8192 4096 lead
+    (omega (arith, c.requires.family.strides)) in
+    let side = mul-le cell.0 f.side.stride 4096 4096
+    (omega (arith, cell.1, c.requires.family.cells)) (omega (arith, c.requires.family.strides)) in
     omega (arith, cell.3, lines, side, c.requires.family.strides)

@@ -6,6 +6,7 @@ use Rattle.sight.proofs.family.Family.top_between.Given as goal
 
 abbrev pub invariant-loop-cell : goal.invariant-loop-cell
 invariant-loop-cell l = record {
-  tops : (c : ℕ) (h : ℤ) → l.first ≤ c → c < l.cell → height_at l.cells l.self l.line c ≡ Some h → IsTopOf l.top h;
+  tops : (c : ℕ) (h : ℤ) → l.first ≤ c → c < l.cell → height_at l.cells l.self l.line c ≡ Some h →
+      IsTopOf l.top h;
   height : (h : ℤ) → l.top ≡ Some h → IsHeight h;
 }

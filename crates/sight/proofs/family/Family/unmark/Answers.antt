@@ -8,7 +8,10 @@ bounds-marks-row c =
     let w = c.args.window in
     let ray = c.requires.ray in
     let cell = cell_back c.args.self ray.cell c.args.ray c.requires.family ray.stands in
-    rw (cell, c.lead_of.ensures) (c.requires.window.inside (lead_of c.args.self c.args.ray.line - w.lines.first) (ray.cell - w.side.first) (omega (arith, ray.crosses.within)) (omega (arith, ray.within)))
+    rw (cell, c.lead_of.ensures)
+    (c.requires.window.inside (lead_of c.args.self c.args.ray.line - w.lines.first)
+    (ray.cell - w.side.first) (omega (arith, ray.crosses.within)) (omega (arith, ray.within)))
 
 pub returns : goal.returns
-returns c = λ y stands. rw (cell_back c.args.self y c.args.ray c.requires.family stands, c.lead_of.ensures) refl
+returns c = λ y stands.
+    rw (cell_back c.args.self y c.args.ray c.requires.family stands, c.lead_of.ensures) refl

@@ -11,6 +11,9 @@ returns g c =
     let b = c.bounds-bounds.result in
     let Has = HasValue self.grid.now.terrain self.observers.now self.target_height self.radius in
     let old = c.in_ok-values.values in
-    let whole = with_items_is old c.count_observers.new.values (omega (arith, c.in_ok-count_observers.ensures.size, c.in_ok-values.ensures.size, old.ok.0)) in
-    subst (λ (values : List (Option ℕ)). IsMadeTile self.tiling.now c.args.tile Has values) (sym whole)
-    (made_tile self.tiling.now c.args.tile b Has c.count_observers.new.values c.bounds-bounds.ensures.lawful c.bounds-bounds.ensures.value c.in_ok-count_observers.ensures)
+    let whole = with_items_is old c.count_observers.new.values
+    (omega (arith, c.in_ok-count_observers.ensures.size, c.in_ok-values.ensures.size, old.ok.0)) in
+    subst (λ (values : List (Option ℕ)). IsMadeTile self.tiling.now c.args.tile Has values)
+    (sym whole)
+    (made_tile self.tiling.now c.args.tile b Has c.count_observers.new.values
+    c.bounds-bounds.ensures.lawful c.bounds-bounds.ensures.value c.in_ok-count_observers.ensures)

@@ -12,23 +12,29 @@ use Rattle.sight.proofs.tile.Viewing.count_observers.Goals.{then-reaches+in_ok-l
 pub reaches-requires-clause-observer : goal.reaches-requires-clause-observer
 reaches-requires-clause-observer g c =
     let self = c.args.self.now in
-    (lawful_from self.grid.now.terrain self.observers.now self.target_height self.radius self.faultless).inside c.loop-observer.observer-index _ c.loop-observer-test.true
+    (lawful_from self.grid.now.terrain self.observers.now self.target_height self.radius
+    self.faultless).inside c.loop-observer.observer-index _ c.loop-observer-test.true
 
 pub look-requires-clause-observer : goal.look-requires-clause-observer
 look-requires-clause-observer g c =
     let self = c.args.self.now in
-    (lawful_from self.grid.now.terrain self.observers.now self.target_height self.radius self.faultless).inside c.loop-observer.observer-index _ c.loop-observer-test.true
+    (lawful_from self.grid.now.terrain self.observers.now self.target_height self.radius
+    self.faultless).inside c.loop-observer.observer-index _ c.loop-observer-test.true
 
 pub look-requires-clause-eye : goal.look-requires-clause-eye
 look-requires-clause-eye g c =
     let self = c.args.self.now in
-    (lawful_from self.grid.now.terrain self.observers.now self.target_height self.radius self.faultless).eyes_low c.loop-observer.observer-index _ c.loop-observer-test.true
+    (lawful_from self.grid.now.terrain self.observers.now self.target_height self.radius
+    self.faultless).eyes_low c.loop-observer.observer-index _ c.loop-observer-test.true
 
 pub count_seen-requires-clause-few : goal.count_seen-requires-clause-few
 count_seen-requires-clause-few g c k n e =
     let self = c.args.self.now in
-    let lawful = lawful_from self.grid.now.terrain self.observers.now self.target_height self.radius self.faultless in
-    let before = few self.grid.now.terrain self.observers.now self.target_height self.radius c.loop-observer.observer-index c.args.bounds c.loop-observer.values c.loop-observer.invariant k n e in
+    let lawful = lawful_from self.grid.now.terrain self.observers.now self.target_height self.radius
+    self.faultless in
+    let before = few self.grid.now.terrain self.observers.now self.target_height self.radius
+    c.loop-observer.observer-index c.args.bounds c.loop-observer.values c.loop-observer.invariant k
+    n e in
     omega (arith, before, lawful.few)
 
 pub loop-observer-preserved : goal.loop-observer-preserved
@@ -37,13 +43,18 @@ loop-observer-preserved g c =
     let t = self.grid.now.terrain in
     let i = c.loop-observer.observer-index in
     let nobody : Observer = record { row = 0; col = 0; eye = 0 } in
-    let Made : List (Option ℕ) → Type 0 = λ values. AreMadeBelow c.args.bounds (HasValue t (take (i + 1) self.observers.now) self.target_height self.radius) (c.args.bounds.rows * c.args.bounds.cols) values in
+    let Made : List (Option ℕ) →
+    Type 0 = λ values. AreMadeBelow c.args.bounds (HasValue t (take (i + 1) self.observers.now)
+    self.target_height self.radius) (c.args.bounds.rows * c.args.bounds.cols) values in
     elim c.if-reaches.branch [
       | then-reaches+in_ok-look w ↦ subst Made (sym w.values-is)
-          (looked t self.observers.now self.target_height self.radius i nobody c.args.bounds c.loop-observer.values w.count_seen.new.values w.look.new.seen c.loop-observer-test.true
-          c.loop-observer.invariant w.in_ok-look.ensures w.count_seen.auto.values w.count_seen.ensures)
+          (looked t self.observers.now self.target_height self.radius i nobody c.args.bounds
+          c.loop-observer.values w.count_seen.new.values w.look.new.seen c.loop-observer-test.true
+          c.loop-observer.invariant w.in_ok-look.ensures w.count_seen.auto.values
+          w.count_seen.ensures)
       | else-reaches w ↦ subst Made (sym w.values-is)
-          (passed t self.observers.now self.target_height self.radius i nobody c.args.bounds c.loop-observer.values c.loop-observer-test.true c.loop-observer.invariant
+          (passed t self.observers.now self.target_height self.radius i nobody c.args.bounds
+          c.loop-observer.values c.loop-observer-test.true c.loop-observer.invariant
           (OnFalse_at w.if-reaches.false c.reaches.ensures))
     ]
 
@@ -51,5 +62,8 @@ pub returns : goal.returns
 returns g c =
     let self = c.args.self.now in
     let b = c.args.bounds in
-    let all : take c.loop-observer.observer-index self.observers.now ≡ self.observers.now = take_all c.loop-observer.observer-index self.observers.now (omega arith) in
-    subst (λ (os : List Observer). AreMadeBelow b (HasValue self.grid.now.terrain os self.target_height self.radius) (b.rows * b.cols) c.loop-observer.values) all c.loop-observer.invariant
+    let all : take c.loop-observer.observer-index self.observers.now ≡ self.observers.now =
+    take_all c.loop-observer.observer-index self.observers.now (omega arith) in
+    subst (λ (os : List Observer).
+    AreMadeBelow b (HasValue self.grid.now.terrain os self.target_height self.radius)
+    (b.rows * b.cols) c.loop-observer.values) all c.loop-observer.invariant

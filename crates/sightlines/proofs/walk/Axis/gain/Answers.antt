@@ -7,7 +7,12 @@ use Rattle.sightlines.proofs.walk.Axis.gain.Goals as goal
 rounded_le : (x n q : ℕ) → 0 < n → q * n < x + n → q ≤ x
 rounded_le x n q some low =
     elim (cases_lt x q) [
-      | inl past ↦ absurd (omega (arith, low, mul-le (x + 1) n q n (omega arith) (omega arith), mul-le x 1 x n (omega arith) (omega arith)))
+      | inl past ↦ absurd (omega (
+        arith,
+        low,
+        mul-le (x + 1) n q n (omega arith) (omega arith),
+        mul-le x 1 x n (omega arith) (omega arith),
+      ))
       | inr few ↦ few
     ]
 
@@ -19,9 +24,11 @@ returns-else-self c =
     let fall = (from - to) * c.args.count in
     let behind = c.div_ceil-behind.result in
     let split : from ≡ (from - to) + to = omega arith in
-    let all : c.args.count * from ≡ fall + c.args.count * to = omega (arith, ap (λ z. c.args.count * z) split) in
+    let all : c.args.count * from ≡ fall + c.args.count * to =
+    omega (arith, ap (λ z. c.args.count * z) split) in
     let reported : behind ≡ fall / n + min 1 (fall % n) = c.div_ceil-behind.ensures in
-    let bounds : (fall ≤ behind * n) × (behind * n < fall + n) = rw reported (div_ceil_times fall n (omega arith)) in
+    let bounds : (fall ≤ behind * n) × (behind * n < fall + n) =
+    rw reported (div_ceil_times fall n (omega arith)) in
     let few = rounded_le fall n behind (omega arith) bounds.1 in
     record {
       sum = omega (arith, all, bounds);

@@ -8,18 +8,26 @@ use Rattle.sightlines.proofs.walk.Leap.to.Goals as goal
 pub overflow_add-whole : goal.overflow_add-whole
 overflow_add-whole c =
     let line = c.args.line in
-    omega (arith, c.requires.leap.gains.few_ahead, c.requires.start.whole, whole_le line.side (steps_of line) c.args.first (omega arith) (omega arith))
+    omega (
+      arith,
+      c.requires.leap.gains.few_ahead,
+      c.requires.start.whole,
+      whole_le line.side (steps_of line) c.args.first (omega arith) (omega arith),
+    )
 
 pub overflow_add-sight : goal.overflow_add-sight
 overflow_add-sight c =
     let line = c.args.line in
-    (leapt_level line.from_level line.to_level c.args.start.sight c.args.self.rise (steps_of line) c.args.first 16
-    c.requires.line.from_level c.requires.line.to_level (omega arith) (omega arith) c.requires.start.sight c.requires.leap.rise).0
+    (leapt_level line.from_level line.to_level c.args.start.sight c.args.self.rise
+    (steps_of line) c.args.first 16
+    c.requires.line.from_level c.requires.line.to_level (omega arith)
+    (omega arith) c.requires.start.sight c.requires.leap.rise).0
 
 pub overflow_sub-result : goal.overflow_sub-result
 overflow_sub-result c =
     let line = c.args.line in
-    let is = step_stays line.side.from line.side.to (steps_of line) c.args.first 16 c.args.self.ahead c.args.self.behind c.args.self.part (omega arith) c.requires.leap.gains.sum
+    let is = step_stays line.side.from line.side.to (steps_of line) c.args.first 16
+    c.args.self.ahead c.args.self.behind c.args.self.part (omega arith) c.requires.leap.gains.sum
     (omega (arith, c.requires.start.part)) in
     omega (arith, is.0, c.requires.start.whole)
 
@@ -27,10 +35,13 @@ pub returns-then-part-steps : goal.returns-then-part-steps
 returns-then-part-steps c =
     let line = c.args.line in
     let end : c.args.first + 16 ≡ c.args.end = omega arith in
-    let is = rw end at (step_stays line.side.from line.side.to (steps_of line) c.args.first 16 c.args.self.ahead c.args.self.behind c.args.self.part (omega arith) c.requires.leap.gains.sum
+    let is = rw end at (step_stays line.side.from line.side.to (steps_of line) c.args.first 16
+    c.args.self.ahead c.args.self.behind c.args.self.part (omega arith) c.requires.leap.gains.sum
     (omega (arith, c.requires.start.part))) in
-    let level = rw end at (leapt_level line.from_level line.to_level c.args.start.sight c.args.self.rise (steps_of line) c.args.first 16
-    c.requires.line.from_level c.requires.line.to_level (omega arith) (omega arith) c.requires.start.sight c.requires.leap.rise) in
+    let level = rw end at (leapt_level line.from_level line.to_level c.args.start.sight
+    c.args.self.rise (steps_of line) c.args.first 16
+    c.requires.line.from_level c.requires.line.to_level (omega arith)
+    (omega arith) c.requires.start.sight c.requires.leap.rise) in
     record {
       whole = omega (arith, is.0, c.requires.start.whole);
       part = omega (arith, is.1, c.requires.start.part);
@@ -40,13 +51,20 @@ returns-then-part-steps c =
 pub overflow_add-result : goal.overflow_add-result
 overflow_add-result c =
     let line = c.args.line in
-    omega (arith, c.requires.leap.gains.few_ahead, c.requires.start.whole, whole_le line.side (steps_of line) c.args.first (omega arith) (omega arith))
+    omega (
+      arith,
+      c.requires.leap.gains.few_ahead,
+      c.requires.start.whole,
+      whole_le line.side (steps_of line) c.args.first (omega arith) (omega arith),
+    )
 
 pub overflow_sub-result-2 : goal.overflow_sub-result-2
 overflow_sub-result-2 c =
     let line = c.args.line in
     let gains = c.requires.leap.gains in
-    let is = step_passes line.side.from line.side.to (steps_of line) c.args.first 16 c.args.self.ahead c.args.self.behind c.args.self.part (omega arith) (omega arith) gains.sum gains.below
+    let is = step_passes line.side.from line.side.to
+    (steps_of line) c.args.first 16 c.args.self.ahead c.args.self.behind c.args.self.part
+    (omega arith) (omega arith) gains.sum gains.below
     (omega (arith, c.requires.start.part)) in
     omega (arith, is.0, c.requires.start.whole)
 
@@ -55,10 +73,14 @@ returns c =
     let line = c.args.line in
     let gains = c.requires.leap.gains in
     let end : c.args.first + 16 ≡ c.args.end = omega arith in
-    let is = rw end at (step_passes line.side.from line.side.to (steps_of line) c.args.first 16 c.args.self.ahead c.args.self.behind c.args.self.part (omega arith) (omega arith) gains.sum gains.below
+    let is = rw end at (step_passes line.side.from line.side.to
+    (steps_of line) c.args.first 16 c.args.self.ahead c.args.self.behind c.args.self.part
+    (omega arith) (omega arith) gains.sum gains.below
     (omega (arith, c.requires.start.part))) in
-    let level = rw end at (leapt_level line.from_level line.to_level c.args.start.sight c.args.self.rise (steps_of line) c.args.first 16
-    c.requires.line.from_level c.requires.line.to_level (omega arith) (omega arith) c.requires.start.sight c.requires.leap.rise) in
+    let level = rw end at (leapt_level line.from_level line.to_level c.args.start.sight
+    c.args.self.rise (steps_of line) c.args.first 16
+    c.requires.line.from_level c.requires.line.to_level (omega arith)
+    (omega arith) c.requires.start.sight c.requires.leap.rise) in
     record {
       whole = omega (arith, is.0, c.requires.start.whole);
       part = omega (arith, is.1, c.requires.start.part);

@@ -8,4 +8,5 @@ with_parts-requires c =
     let cells = c.in_ok-cells.ensures.items ∙ c.cells.ensures.value in
     let sinks = c.in_ok-sinks.ensures.named in
     let named = c.in_ok-sinks.ensures.sound in
-    rw (c.self.view_is, cells, sinks) (lawful_with_sinks g c.args.sinks.now c.cells.ensures.lawful named)
+    rw (c.self.view_is, cells, sinks)
+    (lawful_with_sinks g c.args.sinks.now c.cells.ensures.lawful named)

@@ -11,11 +11,13 @@ returns-clause-deal c =
     let owns : vec_len c.in_ok-ends.ends.owns ≡ c.args.seats = c.in_ok-ends.ensures.count.0 in
     let size : length all ≡ c.args.seats = grind (arith, common_steps) in
     let sizes : length ss ≡ c.args.seats = grind (arith, common_steps) in
-    deal_ends c.args.jobs c.args.seats all ss c.in_ok-ends.ensures.owns size sizes (λ s d e low. c.in_ok-seat_all.ensures.each s d e (omega (arith, owns)))
+    deal_ends c.args.jobs c.args.seats all ss c.in_ok-ends.ensures.owns size sizes (λ s d e low.
+    c.in_ok-seat_all.ensures.each s d e (omega (arith, owns)))
 
 pub returns-clause-new : goal.returns-clause-new
 returns-clause-new c = λ s d low.
     let all = c.in_ok-ends.ends.owns.items in
     let owns : vec_len c.in_ok-ends.ends.owns ≡ c.args.seats = c.in_ok-ends.ensures.count.0 in
     let size : length all ≡ c.args.seats = grind (arith, common_steps) in
-    subst IsNew (sym (c.in_ok-seat_all.ensures.each s d d.own (omega (arith, owns)))) (new_seat c.args.jobs c.args.seats s all d.own c.in_ok-ends.ensures.owns (omega (arith, size)))
+    subst IsNew (sym (c.in_ok-seat_all.ensures.each s d d.own (omega (arith, owns))))
+    (new_seat c.args.jobs c.args.seats s all d.own c.in_ok-ends.ensures.owns (omega (arith, size)))

@@ -19,7 +19,19 @@ returns c =
     let is : IsOther c.args.other.marked w = c.into_pass-pass.ensures.other.0 in
     let parts = c.into_pass-pass.ensures.parts in
     let took : c.args.other.took ≡ w.took = ap (λ (e : EndState). e.took) parts in
-    let lists : concat (u.gathered ++ w.took ∷ w.gathered) ≡ concat u.gathered ++ w.took = concat-append u.gathered (w.took ∷ w.gathered) ∙ ap (λ l. concat u.gathered ++ (w.took ++ concat l)) is.0.0 ∙ ap (λ l. concat u.gathered ++ l) (append-nil w.took) in
+    let lists : concat (u.gathered ++ w.took ∷ w.gathered) ≡ concat u.gathered ++ w.took =
+    concat-append u.gathered (w.took ∷ w.gathered) ∙ ap (λ l. concat u.gathered
+    ++ (w.took ++ concat l)) is.0.0 ∙ ap (λ l. concat u.gathered ++ l) (append-nil w.took) in
     let one = one_share c.args.other.marked w is.0 in
-    rw (← c.self.view_is, c.absorb.ensures.rule, c.absorb.ensures.same.0.0, took)
-    (refl, refl, refl, refl, refl, lists, omega arith, omega arith, (λ m. let s = mark_shows c.args.other.marked w is.0 m in omega arith), refl)
+    rw (← c.self.view_is, c.absorb.ensures.rule, c.absorb.ensures.same.0.0, took) (
+      refl,
+      refl,
+      refl,
+      refl,
+      refl,
+      lists,
+      omega arith,
+      omega arith,
+      (λ m. let s = mark_shows c.args.other.marked w is.0 m in omega arith),
+      refl,
+    )

@@ -23,9 +23,11 @@ loop-closing-preserved-in-Some c =
     let low : length p + position_of s0 ≡ position_of s = inv.low in (
       p ++ j ∷ [],
       record {
-        left = c.put.ensures.items ∙ ap (λ l. l ++ j ∷ []) inv.left ∙ append_assoc c.args.left.now.items p (j ∷ []);
+        left = c.put.ensures.items ∙ ap (λ l. l ++ j ∷ []) inv.left
+            ∙ append_assoc c.args.left.now.items p (j ∷ []);
         now = now_more s0 s p inv.now n j t.0;
-        part = rw place (part_more (deal_of s0) p (position_of s0) (position_of s) j (omega arith) inv.part (rw (now_deal s0 s p inv.now) at t.2));
+        part = rw place (part_more (deal_of s0) p (position_of s0) (position_of s) j
+            (omega arith) inv.part (rw (now_deal s0 s p inv.now) at t.2));
         low = omega arith;
         some = λ m. (let k = inv.same unmarked in let z = t.1 in absurd (omega arith));
         same = λ _. marks ∙ inv.same unmarked;
@@ -43,7 +45,8 @@ returns-clause-left c =
     let marked : s.marked ≡ true = grind (arith, common_steps) in (
       p,
       inv.left,
-      part_ends (deal_of s0) p (position_of s0) (position_of s) s0.marks inv.part (inv.ended marked) inv.some,
+      part_ends (deal_of s0) p (position_of s0) (position_of s) s0.marks inv.part
+          (inv.ended marked) inv.some,
       inv.some,
       (λ y. now_times s0 s p inv.now y (c.finish.ensures y)),
     )

@@ -24,4 +24,5 @@ returns-in-End c =
     let leave : 0 < u.marks_due = c.self.invariant.0.3 unmarked in
     let back : u.marks_due - 1 + suc u.marks ≡ u.marks_due + u.marks = omega arith in
     let past = feed_end_at u.jobs u.seats u.deque (taken u) t.1.0 t.1.1 in
-    rw (← c.self.view_is, t.0, c.pop_next.ensures.same.0) (rw back refl, λ z. omega (arith, past, z))
+    rw (← c.self.view_is, t.0, c.pop_next.ensures.same.0)
+    (rw back refl, λ z. omega (arith, past, z))

@@ -17,9 +17,14 @@ invariant_of-result g c =
     let V = g.D.DequeKey.deque in
     let n = worker_index c.push_marks.new.worker in
     let seats : S ≡ c.args.seats = c.requires.place.1 in
-    let size : n ≡ length (deal J S V) + S = subst (λ m. n ≡ length (deal J m V) + m) (sym seats) c.push_marks.ensures.index in
-    let view : worker_view c.push_marks.new.worker ≡ dealing J S V n = subst (λ m. worker_view c.push_marks.new.worker ≡ dealing J m V n) (sym seats) c.push_marks.ensures.view in
+    let size : n ≡ length (deal J S V) + S =
+    subst (λ m. n ≡ length (deal J m V) + m) (sym seats) c.push_marks.ensures.index in
+    let view : worker_view c.push_marks.new.worker ≡ dealing J S V n = subst (λ m.
+    worker_view c.push_marks.new.worker ≡ dealing J m V n) (sym seats) c.push_marks.ensures.view in
     let some_entry : 0 < n = omega (arith, size, seats, c.requires.seat) in
     let all = feed_length J S V in
-    let flavor : worker_flavor c.push_marks.new.worker ≡ 0 = grind (arith, common_steps) in
-    (rw (view, once_more n J some_entry, once_more n S some_entry, once_more n V some_entry) (refl, size ∙ sym all, refl, refl, refl), flavor)
+    let flavor : worker_flavor c.push_marks.new.worker ≡ 0 = grind (arith, common_steps) in (
+      rw (view, once_more n J some_entry, once_more n S some_entry, once_more n V some_entry)
+          (refl, size ∙ sym all, refl, refl, refl),
+      flavor,
+    )

@@ -20,6 +20,9 @@ loop-way-preserved c =
       few = omega (arith, few, few');
       found = c.push_if_outer.ensures.items
           ∙ ap (λ xs. xs ++ filter test (option_to_list c.place_on.result)) before.found
-          ∙ ap (λ (o : Option Place). filter test (filter_map (λ (x : Option Place). x) (take c.loop-way.way (ways_from c.args.place))) ++ filter test (option_to_list o)) c.place_on.ensures
-          ∙ sym (filter_ways_more test (ways_from c.args.place) c.loop-way.way c.loop-way-test.true);
+          ∙ ap (λ (o : Option Place). filter test
+          (filter_map (λ (x : Option Place). x) (take c.loop-way.way (ways_from c.args.place)))
+          ++ filter test (option_to_list o)) c.place_on.ensures
+          ∙ sym
+          (filter_ways_more test (ways_from c.args.place) c.loop-way.way c.loop-way-test.true);
     }

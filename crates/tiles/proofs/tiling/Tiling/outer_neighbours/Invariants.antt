@@ -10,5 +10,6 @@ invariant-loop-way l = record {
   tile : l.tile ≡ tile_of_place l.self l.place;
   capacity : l.found.capacity ≡ 8;
   few : length l.found.items ≤ l.way;
-  found : l.found.items ≡ filter (is_in_other_tile l.self l.tile) (filter_map (λ o. o) (take l.way (ways_from l.place)));
+  found : l.found.items ≡ filter (is_in_other_tile l.self l.tile)
+      (filter_map (λ o. o) (take l.way (ways_from l.place)));
 }

@@ -8,5 +8,6 @@ abbrev pub invariant-loop-column : goal.invariant-loop-column
 invariant-loop-column g l = record {
   first : l.first ≡ l.row / l.self.side * across l.self;
   end : l.column-end ≡ across l.self;
-  crossed_length : IsPutBackBelow l.self l.results (crossed_length l.self l.row l.column) l.whole.items;
+  crossed_length :
+      IsPutBackBelow l.self l.results (crossed_length l.self l.row l.column) l.whole.items;
 }

@@ -7,6 +7,8 @@ pub returns : goal.returns
 returns g c =
     let t = c.args.self.now in
     let end = c.loop-row.invariant.end in
-    let last : c.loop-row.row ≡ t.rows = omega (arith, end, c.loop-row-test.false, c.loop-row.auto.row-end) in
+    let last : c.loop-row.row ≡ t.rows =
+    omega (arith, end, c.loop-row-test.false, c.loop-row.auto.row-end) in
     IsPutBack-from_below t c.args.results.now c.loop-row.whole.items
-    (subst (λ (n : ℕ). IsPutBackBelow t c.args.results.now (n * t.cols) c.loop-row.whole.items) last c.loop-row.invariant.put)
+    (subst (λ (n : ℕ). IsPutBackBelow t c.args.results.now (n * t.cols) c.loop-row.whole.items)
+    last c.loop-row.invariant.put)
