@@ -131,7 +131,7 @@ IsParted-bytes text ws w (b ∷ more) h none =
     subst (λ t. IsParted t ws (w ++ b ∷ more)) (append_assoc text (b ∷ []) more)
     (subst (λ z. IsParted ((text ++ b ∷ []) ++ more) ws z) (append_assoc w (b ∷ []) more) next)
 
--- a whole word in a piece and the separator after it are one more ended word
+-- where no word is unfinished, a piece's first word and its separator are one more ended word
 pub parted_word : (text bytes : List ℕ) (ws : List Word) (len b : ℕ) →
     IsParted text ws [] → list_any is_separator (take len bytes) ≡ false →
     0 < len → len < length bytes → b ≡ get_or bytes len 0 → is_separator b ≡ true →
@@ -147,7 +147,7 @@ parted_word text bytes ws len b begun none some inside at ends =
     subst (λ t. IsParted t (ws ++ w ∷ []) []) bytes_are (subst (λ z.
     IsParted ((text ++ w) ++ b ∷ []) z []) all (IsParted-separator (text ++ w) ws w b whole ends))
 
--- without an unfinished word, all words have ended
+-- where no byte of an unfinished word is stored, the last part of the split text is empty
 pub parted_ended : (p : Tokenizer) (text : List ℕ) (h : HasWords p text) → p.word ≡ [] →
     IsParted text h.ended []
 parted_ended p text h e =
@@ -155,7 +155,7 @@ parted_ended p text h e =
     nil_from_length h.last (omega (arith, ap length (sym h.front ∙ e), length-take 65 h.last)) in
     subst (λ z. IsParted text h.ended z) last h.parted
 
--- a plain height in a piece, and the separator after it, are read as one more ended word
+-- between heights, a piece's plain height and separator give one more ended word, or its fault
 pub plain_word : {T : Type 0} (p : Tokenizer) (j : GridBuilder) (text bytes : List ℕ)
     (len b : ℕ) (value : ℤ) (r : Result T GridFault) → HasWords p text → p.word ≡ [] →
     p.builder.stage ≡ AtHeights → IsPlain p.builder.scale bytes len value → len < length bytes →

@@ -39,7 +39,7 @@ many_fault : (d : ℕ) (text : List ℕ) → most_bytes < length text →
     text_fault d text ≡ fault_so_far d text
 many_fault d text h = rw (lt-leb (length text) most_bytes h) refl
 
--- the fault so far: that of the words ended within the first 2^29 bytes, or else TooLong
+-- the fault so far: that of the words ended in the first 2^29 bytes, else `TooLong` past them
 so_far : (d : ℕ) (text : List ℕ) → fault_so_far d text ≡ option_or (words_fault d (ended_words
     (take most_bytes text))) (cond (nat_le (length text) most_bytes) None (Some TooLong))
 so_far d text =
@@ -49,7 +49,7 @@ so_far d text =
           (sym (option_or-none (words_fault d (ended_words text))))
     ]
 
--- the first 2^29 bytes of a longer text begin with those of the text
+-- the first 2^29 bytes of `front ++ more` begin with those of `front`
 front_of : (front more : List ℕ) → (rest : List ℕ)
     × (take most_bytes (front ++ more) ≡ take most_bytes front ++ rest)
 front_of front more =
@@ -68,7 +68,7 @@ front_of front more =
           )
     ]
 
--- words that ended within the first 2^29 bytes are the first such words of a longer text
+-- words ended in the first 2^29 bytes of `front` are the first such words of `front ++ more`
 in_time-more : (front more : List ℕ) → (others : List Word) × (ended_words
     (take most_bytes (front ++ more)) ≡ ended_words (take most_bytes front) ++ others)
 in_time-more front more =
@@ -129,7 +129,7 @@ pub fault_stays : (d : ℕ) (front more : List ℕ) (f : GridFault) → fault_so
     text_fault d (front ++ more) ≡ Some f
 fault_stays d front more f h = shown d (front ++ more) f (so_far_stays d front more f h)
 
--- a refusal of a front is a refusal of the text so far
+-- a refusal so far of a text's front is a refusal so far of the text
 pub refusal_stays : (d : ℕ) (front more : List ℕ) (f : GridFault) → IsRefusalSoFar d front f →
     IsRefusalSoFar d (front ++ more) f
 refusal_stays d front more f h =
@@ -183,7 +183,7 @@ end_refused d text f short h =
     (λ asks. asked text short asks.0)
     (λ g e. few_fault d text short ∙ ap (λ o. option_or o (end_fault (words text))) e) h
 
--- where no word has a fault, the result at the end is the grid of the text or a refusal of it
+-- where a text is not too long and no word has a fault, its words' grid or end fault is its own
 pub finished : (d : ℕ) (text : List ℕ) (r : Result Raster GridFault) → length text ≤ most_bytes →
     words_fault d (words text) ≡ None → MatchResult r (λ g. (end_fault (words text) ≡ None)
     × (g ≡ grid_of d (words text))) (IsEndFault (words text)) →
@@ -194,7 +194,7 @@ finished d text r short none m =
     (λ f k. reported_further _ _ (end_fault (words text)) (text_fault d text) f (asked text short)
     (λ g e. reported ∙ e) k)
 
--- a grid that a text spells is lawful
+-- a grid that a text spells at a scale of at most 6 is lawful
 pub lawful_text : (d : ℕ) (text : List ℕ) (g : Raster) → d ≤ 6 → IsGridText d text g → IsLawful g
 lawful_text d text g few h =
     elim (cases_lt most_bytes (length text)) [
@@ -215,7 +215,7 @@ pub answered : (r : Reader) (text : List ℕ) (f : GridFault) → r.fault ≡ So
     IsRefusalSoFar r.scale text f
 answered r text f e h = MatchOption-at_some (IsReading r text) (IsRefusalSoFar r.scale text) f e h
 
--- after a fault, more of the text changes nothing
+-- a reader that has returned a fault of a text has taken each longer text too
 pub answered_more : (r : Reader) (text more : List ℕ) (f : GridFault) → r.fault ≡ Some f →
     HasTaken r text → HasTaken r (text ++ more)
 answered_more r text more f e h =
@@ -269,7 +269,7 @@ fed_long r p text piece within cut none h over next =
     ∙ ap (λ o. option_or o (Some TooLong)) (ap (λ z. words_fault p.builder.scale (ended_words z))
     in_time ∙ read_none p (text ++ take within piece) (next text k.words_of))
 
--- after a piece without a fault, the reader holds the words of the text with the piece
+-- after a piece that fits and has no fault, the reader holds the words of the text and the piece
 pub fed_all : (r r' : Reader) (text piece : List ℕ) →
     r.fault ≡ None → HasTaken r text → length piece ≤ most_bytes - r.count →
     ((t : List ℕ) → HasWords r.words t → HasWords r'.words (t ++ piece)) → r'.words.builder.scale
@@ -299,14 +299,14 @@ faultless r text h = rw (← h.same_scale) (few_so_far r.words.builder.scale tex
 
 -- ---- one piece after another
 
--- If a result is the reader's fault, then `Ok` means no fault of the text so far, `Err` a refusal.
+-- If a result's fault is the reader's, `Ok` means no fault of its text so far, `Err` a refusal.
 has_fault : {T : Type 0} (b : Reader) (text : List ℕ) (r : Result T GridFault)
     → b.fault ≡ result_err r → HasTaken b text
     → OnOk r (fault_so_far b.scale text ≡ None) × IfErr r (λ f. IsRefusalSoFar b.scale text f)
 has_fault b text (Ok x) e h = (faultless b text (reading b text e h), tt)
 has_fault b text (Err f) e h = (tt, answered b text f e h)
 
--- A reader is fed a piece if it has taken the piece and returns its own fault.
+-- `Feeds` holds if scale and old fault stay, the piece is taken, and the result has b's fault.
 pub Feeds-taken : {T : Type 0} (a b : Reader) (piece : List ℕ) (r : Result T GridFault)
     → b.scale ≡ a.scale → ((text : List ℕ) → HasTaken a text → HasTaken b (text ++ piece))
     → b.fault ≡ result_err r → ((f : GridFault) → a.fault ≡ Some f → r ≡ Err f) → Feeds a b piece r

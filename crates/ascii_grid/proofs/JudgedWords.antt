@@ -90,7 +90,7 @@ judged-key j j' ws w slot h e short letter s free same stage =
       at = rw stage (w, refl, awaits);
     }
 
--- with one more word in a key's place, the first fault is that of the key
+-- with one more word, which is in a key's place and begins with a letter, the fault is the key's
 pub next-key : (j : GridBuilder) (ws : List Word) (w : Word) (h : HasJudged j ws) →
     j.stage ≡ AtKey → begins_with_letter w ≡ true →
     words_fault j.scale (ws ++ w ∷ []) ≡ key_fault (keys_before h.pairs []) w
@@ -184,7 +184,7 @@ asks h ps hs k begun whole first =
       first = ap (λ z. list_any is_long (take 1 z)) are.1 ∙ first;
     }
 
--- if the heights so far have no fault, the first is not too long
+-- if the heights so far have no fault and the next is not too long, the first is not too long
 first_short : (d : ℕ) (header hs : List Word) (w : Word) → length w ≤ 64 →
     heights_fault d header 0 hs ≡ None → list_any is_long (take 1 (hs ++ w ∷ [])) ≡ false
 first_short d header [] w short none = rw (is_short w short) refl
@@ -213,7 +213,7 @@ next-height d ws ps hs w h k e begun none =
     ∙ ap (λ o. option_or o (height_fault d (flat ps) (0 + length hs) w)) none
     ∙ ap (λ n. height_fault d (flat ps) n w) (omega arith)
 
--- a whole header and heights, the last of at most 64 bytes, ask for the list of cells
+-- a whole header, faultless heights and one more of at most 64 bytes ask for the list of cells
 pub memory-height : (j : GridBuilder) (ws : List Word) (ps : Pairs) (hs : List Word) (w : Word)
     (h : Header) → IsHeaderOf h ps → ws ≡ flat ps ++ hs → HasBegun (hs ++ w ∷ []) →
     missing_fault (flat ps) ≡ None → heights_fault j.scale (flat ps) 0 hs ≡ None → length w ≤ 64 →
@@ -343,7 +343,7 @@ long_fault j ws w h far = by_stage j.stage refl
         next-height j.scale ws h.pairs h.rest w j.header h.header h.words
         (HasBegun-more h.rest (w ∷ []) there.0) there.1.faultless ∙ rw long refl
 
--- one more height is judged: its cell is stored, or its fault or want of memory is returned
+-- a stored cell makes the next height a judged word; a returned fault is a fault of the words
 pub height_word : {T : Type 0} (j j' : GridBuilder) (ws : List Word) (ps : Pairs) (hs : List Word)
     (w : Word) (r : Result T GridFault) → IsHeaderOf j.header ps → ws ≡ flat ps ++ hs →
     HasBegun (hs ++ w ∷ []) → AreHeights j ps hs → length w ≤ 64 → j'.header ≡ j.header →

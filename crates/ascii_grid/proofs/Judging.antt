@@ -39,7 +39,7 @@ pub is_some-option_map : {X Y : Type 0} (f : X → Y) (o : Option X) →
 is_some-option_map f None = refl
 is_some-option_map f (Some x) = refl
 
--- if there is no first fault of two, there is no fault
+-- where `option_or` of two options is `None`, both options are `None`
 pub or_none : {X : Type 0} (o p : Option X) → option_or o p ≡ None → (o ≡ None) × (p ≡ None)
 or_none None p h = (refl, h)
 or_none (Some x) p h = cc
@@ -140,7 +140,7 @@ given-push : (s : Key) (ps : Pairs) (k v : Word) →
     given s (ps ++ (k, v) ∷ []) ≡ option_or (given s ps) (cond (fills s k) (Some (k, v)) None)
 given-push s ps k v = find-append (λ (p : Word × Word). fills s p.0) ps ((k, v) ∷ [])
 
--- two lists of pairs that differ in this slot alone, which the second fills with `p`
+-- two lists of pairs that agree on all other slots, where the second gives `p` for this slot
 abbrev FilledAt : Key → Word × Word → Pairs → Pairs → Type 0
 FilledAt slot p ps qs = (given slot qs ≡ Some p)
     × ((s : Key) → (s ≡ slot → ⊥) → given s qs ≡ given s ps)

@@ -1,4 +1,4 @@
--- The bytes and the byte counts of two calls, one after the other.
+-- The bytes moved and counted by two calls one after the other, or by one call.
 use Rattle.std.proofs.Common.{ℕ, List, [], ◌++◌, ◌≡◌, ◌≤◌, length, take, Option, None, Some, sym, ap, ◌∙◌, arith}
 use Rattle.std.specs.Io.KnownBytes.{Appends, Consumes, Keeps}
 use Rattle.std.proofs.lemmas.List.{append_assoc, length-append, length-take-le}

@@ -41,7 +41,7 @@ header_and x y g rest =
     ∷ xll_key x ∷ g.xll.word ∷ yll_key y ∷ g.yll.word
     ∷ codes "cellsize" ∷ g.cellsize ∷ codes "NODATA_value" ∷ g.nodata ∷ rest
 
--- a written value is one word and a value of its slot
+-- a written value is one word, of at most 64 bytes, and a value of its slot
 record IsWritten (slot : Key) (w : Word) : Type 0 where
   value : is_value slot w ≡ true
   short : is_long w ≡ false

@@ -50,7 +50,7 @@ after_first-step p b bs h =
     let e : position_or_len p (b ∷ bs) + 1 ≡ suc (position_or_len p bs + 1) = rw h (omega arith) in
     ap (λ n. drop n (b ∷ bs)) e
 
--- no byte passes q if none does before and after the first that passes p
+-- if no byte passes both p and q, none passes q where none does around the first that passes p
 list_any-around : (p q : ℕ → Bool) → ((b : ℕ) → p b ≡ true → q b ≡ false) →
     (xs : List ℕ) → list_any q (before_first p xs) ≡ false → list_any q (after_first p xs) ≡ false →
     list_any q xs ≡ false
@@ -95,7 +95,7 @@ exponent_of_unsigned (b ∷ bs) = elim (cases_Bool (is_sign b)) [
 digits_all : (bs : List ℕ) → are_digits bs ≡ true → list_all is_ascii_digit bs ≡ true
 digits_all bs h = (and_parts (is_word bs) (list_all is_ascii_digit bs) h).1
 
--- no byte after the exponent's mark passes
+-- if the exponent, where there is one, is digits with or without a sign, none of its bytes passes
 exponent_bytes : (q : ℕ → Bool) → PassesNoByte q → (w : List ℕ) →
     (not (has_exponent w) || are_digits (without_sign (after_first is_exponent_mark w))) ≡ true →
     list_any q (after_first is_exponent_mark w) ≡ false

@@ -123,7 +123,7 @@ cell_ok d nodata w h =
       | inr some ↦ some_ok d nodata w (scaled_value d w) refl some h
     ]
 
--- a word among the heights without a fault spells a cell
+-- a word among the heights without a fault is not one too many, and spells a cell
 height_ok : (d : ℕ) (header : List Word) (place : ℕ) (w : Word) → height_fault d header place w
     ≡ None → (place < cells_wanted header) × (is_cell d (nodata_for header) w ≡ true)
 height_ok d header place w h =
@@ -261,7 +261,7 @@ nodata_ok header none = go (value_for Nodata header) (valid [] header Nodata non
     go None ok = (lit≤ tt, refl)
     go (Some w) ok = (ok.1, ok.0)
 
--- words without a fault spell a lawful grid
+-- at a scale of at most 6, words without a fault, also at their end, spell a lawful grid
 pub lawful_words : (d : ℕ) (ws : List Word) → d ≤ 6 → words_fault d ws ≡ None →
     end_fault ws ≡ None → IsLawful (grid_of d ws)
 lawful_words d ws few faultless end =

@@ -1,4 +1,4 @@
--- A fault of a text stays its fault when bytes are added.
+-- Ended words stay as bytes follow; a fault of words, or want of memory, stays as words follow.
 use Rattle.std.proofs.Common.{◌≡◌, ℕ, ◌+◌, ◌<◌, true, false, List, [], ◌∷◌, ◌++◌, length, take, Option, None, Some, arith, refl, ap, sym, ◌∙◌, subst, inl, inr}
 use Rattle.std.specs.Prelude.{filter}
 use Rattle.std.specs.Option.{option_or}

@@ -1,4 +1,4 @@
--- The length of a written grid.
+-- A lawful grid with a NODATA word of at most 30 bytes has a text of at most 2^29 bytes.
 use Rattle.std.proofs.Common.{◌≡◌, ℕ, zero, suc, ◌+◌, ◌*◌, ◌<◌, ◌≤◌, cond, List, [], ◌∷◌, ◌++◌, length, take, drop, map, get_or, Option, None, Some, ℤ, refl, ◌∙◌, arith}
 use Rattle.std.specs.Prelude.{codes, decimal, IfSome}
 use Rattle.std.specs.List.{All, join_with_byte}
@@ -12,7 +12,7 @@ use Rattle.ascii_grid.specs.GridText.{most_bytes}
 use Rattle.ascii_grid.specs.Text.{height_text, cell_text, row_text, rows_text, line_text, anchor_text, header_text, heights_text}
 use Rattle.ascii_grid.proofs.ReadBackCells.{height_short, size_of_height}
 
--- a row whose cells have at most 30 bytes each has at most 31 bytes a cell
+-- the line of a nonempty row whose cells have at most 30 bytes each has at most 31 bytes a cell
 line_short : {X : Type 0} (f : X → List ℕ) (cells : List X) → 0 < length cells → All (λ c.
     length (f c) ≤ 30) cells → length (join_with_byte 32 (map f cells)) + 1 ≤ 31 * length cells
 line_short f [] h short = absurd (omega arith)

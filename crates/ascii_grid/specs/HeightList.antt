@@ -15,7 +15,7 @@ pub record IsHeightWord (parser : ParserSettings) (w : Word) : Type 0 where
   pub short : length w ≤ 64
   pub cell : is_cell parser.scale parser.nodata w ≡ true
 
--- A separator follows each word of these bytes, each word spells a cell, and these are the cells.
+-- A separator follows each word, each has at most 64 bytes and spells a cell; these are the cells.
 pub record AreCells (parser : ParserSettings) (bytes : List ℕ)
     (cells : List (Option ℤ)) : Type 0 where
   pub ended : ended_words bytes ≡ words bytes

@@ -20,7 +20,7 @@ pub record Takes {R : Type 0} (remaining : R → Option (List ℕ)) (old new : D
 pub record ReadsGrid {R : Type 0} (remaining : R → Option (List ℕ)) (scale : ℕ) (old new : Device R)
     (result : Result Raster InputFault) : Type 0 where
   pub taken : Takes remaining old new
-  -- The bytes read spell the grid, and none is left. A fault is one of the device's whole text.
+  -- The bytes read spell the grid, and none is left. A fault refuses the device's whole text.
   pub grid : IfOk result (λ g. IsGridText scale taken.bytes g × IsAtEnd (remaining new.device))
   pub fault : (text : List ℕ) (f : GridFault) → remaining old.device ≡ Some text →
       result ≡ Err (Grid f) → IsRefusal scale text f

@@ -7,7 +7,7 @@ use Rattle.ascii_grid.specs.Reading.{HasWords}
 use Rattle.ascii_grid.specs.declared.fault.GridFault.{GridFault}
 use Rattle.ascii_grid.specs.declared.tokenizer.Tokenizer.{Tokenizer}
 
--- The reader's scale, the fault that it has returned, its words so far, and the count of bytes fed.
+-- A reader's scale, the fault that it has returned, if any, its words, and its count of bytes read.
 pub record Reader : Type 0 where
   pub scale : ℕ
   pub fault : Option GridFault

@@ -1,6 +1,6 @@
 //! Checks the words of a text in their order: keys, values, heights.
 //!
-//! `GridBuilder::add_word` fills a slot of the header, adds a cell or returns the word's fault.
+//! `GridBuilder::add_word` finds a key's slot, fills it, adds a cell or returns the word's fault.
 ghost use Rattle.std.specs.Prelude.{◌↔◌, IsTrue, ◌≡◌, ◌≤◌, ◌<◌, ◌⊎◌, ◌++◌, [], ◌∷◌, List, map, length, false, Option, Some, None, Err, IfOk, MatchResult};
 ghost use Rattle.terrain.specs.Words.{Word};
 ghost use Rattle.terrain.specs.Decimal.{scaled_value};
@@ -62,7 +62,7 @@ impl GridBuilder {
         }
     }
 
-    /// Checks the next word: fills a slot, adds a cell or returns the word's fault.
+    /// Finds a key's slot, fills it, adds a cell or returns the next word's fault.
     pub(crate) fn add_word(&mut self, word: &[u8]) -> Result<(), GridFault>
         ensures scale { self.new.scale ≡ self.old.scale }
         ensures long { MOST_WORD_BYTES < length word.now → result ≡ Err GridFault.TooLong }
@@ -93,7 +93,7 @@ impl GridBuilder {
         }
     }
 
-    /// Returns the grid that the words spell, or the fault at the text's end.
+    /// Returns the grid that the words spell, or the fault at their end, or `Memory`.
     pub(crate) fn finish(mut self) -> Result<Grid, GridFault>
         requires judged { (ws : List Word) × HasJudged self ws }
         requires scale { self.scale ≤ 6 }

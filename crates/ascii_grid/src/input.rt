@@ -11,7 +11,7 @@ use std::alloc::Global;
 use std::io::Read;
 use terrain::Grid;
 
-/// The most bytes that one read asks for.
+/// The most bytes that one read of [`read_grid`] asks for.
 pub const PIECE_BYTES: usize = 4_096;
 
 /// Why no grid was read.
@@ -122,7 +122,7 @@ fn read_piece<R: Read>(
     Ok(Some(count))
 }
 
-/// Returns the grid of the pieces that were fed, or the fault of their text.
+/// Returns the grid of the pieces that were fed, or their text's fault or `Memory`.
 fn finish_grid(grid_reader: GridReader) -> Result<Grid, InputFault>
     ensures grid { (text : List ℕ) → HasTaken grid_reader text →
         IfOk result (λ g. IsGridText grid_reader.scale text g) }

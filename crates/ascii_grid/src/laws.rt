@@ -7,7 +7,7 @@ ghost use Rattle.ascii_grid.specs.Text.{heights_text};
 ghost use Rattle.ascii_grid.specs.declared.fault.GridFault.{GridFault};
 ghost use Rattle.ascii_grid.specs.declared.fault.GridFault.TheVariants.{Memory};
 
-/// Every grid that a text spells is lawful.
+/// Every grid that a text spells at a scale of at most 6 is lawful.
 pub fn grids_are_lawful()
     ensures { (d : ℕ) (text : List ℕ) (g : Raster) → d ≤ 6 → IsGridText d text g → IsLawful g }
 {}
@@ -24,20 +24,20 @@ pub fn wants_stay()
         IsRefusal d (text ++ more) Memory }
 {}
 
-/// A text spells at most one grid.
+/// A text spells at most one grid at each scale.
 pub fn grids_are_one()
     ensures { (d : ℕ) (text : List ℕ) (g h : Raster) → IsGridText d text g → IsGridText d text h →
         g ≡ h }
 {}
 
-/// A grid's text of at most 2^29 bytes reads back as the grid without its sinks.
+/// A lawful grid's text of up to 2^29 bytes reads back as the grid without sinks.
 #[tactic(auto, using(crate::proofs::ReadBack::read_back))]
 pub fn grids_read_back()
     ensures { (g : Raster) → IsLawful g → length (heights_text g) ≤ most_bytes →
         IsGridText g.scale (heights_text g) (raster_with_sinks g []) }
 {}
 
-/// A grid's text has at most 2^29 bytes if its NODATA word has at most 30.
+/// A lawful grid's text has at most 2^29 bytes if its NODATA word has at most 30.
 #[tactic(auto, using(crate::proofs::TextLength::text_short))]
 pub fn grid_texts_fit()
     ensures { (g : Raster) → IsLawful g → length g.nodata ≤ 30 →

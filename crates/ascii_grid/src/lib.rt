@@ -3,7 +3,7 @@
 //! Begin with [`GridReader`] or [`read_grid`] to read, and with [`write_heights`] to write.
 //! [`Counted`] counts the bytes and failures of a device. `docs/grid-text.md` defines the text.
 //!
-//! Modules, callers first:
+//! Modules, reading before writing:
 //!
 //! - `read`: reads a whole text
 //! - `input`: reads a grid from a device

@@ -1,7 +1,7 @@
 //! Reads a text in pieces: [`GridReader`].
 //!
-//! A fault is returned once its word has ended, and again by every later call. `tokenizer` splits
-//! the text into words.
+//! A word's fault is returned once the word has ended, and again by later feeds and by `finish`.
+//! `tokenizer` splits the text into words.
 ghost use Rattle.std.specs.Prelude.{◌≡◌, ◌≤◌, [], ℕ, List, None, Some, Ok, Err, IfOk, IfErr, IfSome, OnSome, IsTrue, false};
 ghost use Rattle.terrain.specs.Words.{ended_words};
 ghost use Rattle.ascii_grid.specs.Header.{header_words, nodata_for};
@@ -78,7 +78,7 @@ impl GridReader {
     ///
     /// The first fault of a word, once a separator has ended the word; [`GridFault::TooLong`] past
     /// [`MOST_TEXT_BYTES`]; [`GridFault::Memory`] at the first height, if the list of cells is
-    /// refused. Every later call returns the fault again.
+    /// refused. Later feeds and [`finish`](Self::finish) return the fault again.
     pub fn feed(&mut self, piece: &[u8]) -> Result<(), GridFault>
         ensures { Feeds self.old self.new piece.now result }
     {

@@ -1,7 +1,7 @@
 //! Splits a text into words, and passes each to `GridBuilder`.
 //!
-//! A word is judged once a separator ends it. Therefore the result does not depend on where the
-//! text is cut into pieces.
+//! A word is judged once a separator or the text's end follows it. Therefore the result does not
+//! depend on where the text is cut into pieces.
 ghost use Rattle.std.specs.Prelude.{◌≡◌, ℕ, ◌≤◌, ◌++◌, [], ◌∷◌, ◌<◌, List, length, take, IfOk, IfSome, IsTrue, ◌↔◌, false, MatchResult};
 ghost use Rattle.terrain.specs.Words.{is_separator, words, ended_words};
 ghost use Rattle.ascii_grid.specs.Header.{header_words, nodata_for};
@@ -75,7 +75,7 @@ impl Tokenizer {
 
     /// Fast path for a height that [`plain_number`] parses, and its separator.
     ///
-    /// Returns their length, or 0 if anything else comes next.
+    /// Returns their length, or 0 if anything else comes next or no height has ended yet.
     #[inline(always)]
     fn take_plain(&mut self, rest: &[u8]) -> Result<usize, GridFault>
         requires { self.old.builder.scale ≤ 6 }
@@ -143,7 +143,7 @@ impl Tokenizer {
         self.builder.add_cells(parser, cells)
     }
 
-    /// Whether the next word is a height, and no byte of it has been read.
+    /// Whether a height has ended, and no byte of the next word has been read.
     #[inline(always)]
     fn is_between_heights(&self) -> bool
         ensures { IsTrue result

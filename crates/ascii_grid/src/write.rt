@@ -141,7 +141,7 @@ fn write_row<E: MapCell, W: Write>(
     write_cell(cells[last], b'\n', scale, nodata, page, out)
 }
 
-/// Writes the rows of cells as lines, by way of the page.
+/// Writes the whole rows of cells as lines, by way of the page.
 fn write_rows<E: MapCell, W: Write>(
     cells: &[E],
     cols: usize,
@@ -164,7 +164,7 @@ fn write_rows<E: MapCell, W: Write>(
     Ok(())
 }
 
-/// Writes the page and then the rows of cells, and flushes the device.
+/// Writes the page and then the whole rows of cells, and flushes the device.
 fn write_page_and_rows<E: MapCell, W: Write>(
     page: &mut Page,
     cells: &[E],
@@ -260,7 +260,7 @@ pub fn write_cells<E: MapCell, W: Write>(
     write_page_and_rows(&mut page, cells, cols, frame.scale(), nodata, out)
 }
 
-/// Returns the text of the rows of cells, one line for each row.
+/// Returns the text of the whole rows of cells, one line for each row.
 ///
 /// # Errors
 ///
@@ -336,7 +336,7 @@ pub fn write_lines<W: Write>(
 pub fn write_heights<W: Write>(grid: &Grid, out: &mut Counted<W>) -> Result<(), WriteFailed>
     requires { out.old.failures < 2 ^ 64 - 1 }
     ensures text { Writes W.contents out.old out.new (heights_text grid.now) result }
-    // The text reads back as this grid without its sinks.
+    // A text of at most 2^29 bytes reads back as this grid without its sinks.
     ensures again { length (heights_text grid.now) ≤ most_bytes →
         IsGridText grid.now.scale (heights_text grid.now) (raster_with_sinks grid.now []) }
 {
@@ -344,7 +344,7 @@ pub fn write_heights<W: Write>(grid: &Grid, out: &mut Counted<W>) -> Result<(), 
     write_cells(frame, grid.cells(), frame.nodata().as_bytes(), out)
 }
 
-/// Writes a map of whole numbers, with its grid's header. Allocates nothing.
+/// Writes whole numbers, with a grid's header and NODATA -9999. Allocates nothing.
 ///
 /// # Errors
 ///
@@ -361,7 +361,7 @@ pub fn write_counts<W: Write>(
     write_framed_counts(grid.frame(), values, out)
 }
 
-/// Writes a map of whole numbers, with the header of a frame. Allocates nothing.
+/// Writes whole numbers, with a frame's header and NODATA -9999. Allocates nothing.
 ///
 /// Unlike [`write_counts`], it does not need the grid's cells, which may be freed before.
 ///
@@ -380,7 +380,7 @@ pub fn write_framed_counts<W: Write>(
     write_cells(frame, values, COUNTS_NODATA, out)
 }
 
-/// Writes a map of direction codes, with the header of a frame. Allocates nothing.
+/// Writes direction codes, a frame's header and NODATA -9999. Allocates nothing.
 ///
 /// # Errors
 ///

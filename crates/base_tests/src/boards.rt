@@ -295,7 +295,7 @@ fn take_with_threads<R: Threads + Wait + Sync>(
     Board::close(alloc, dealt).map_err(|_| JobFault::Memory)
 }
 
-/// Returns whether the list begins with the jobs of the seat's own deque, in rising order.
+/// Returns whether the list has jobs of the seat's own deque first, in rising order.
 fn own_come_first(list: &[u32], seat: u32, seats: u32) -> bool {
     let mut stolen = false;
     let mut least = seat;

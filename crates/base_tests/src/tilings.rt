@@ -221,7 +221,7 @@ fn neighbours_in_other_tiles(rt: HostRuntime) {
     has_outer(&rt, alloc, 1, 1, 1, around);
 }
 
-/// Asserts that the view has this cell at a place.
+/// Asserts that the view has this cell at a place, or no cell there for `None`.
 fn shows(rt: &impl Abort, view: &TileView<'_, u32>, row: u32, col: u32, cell: Option<u32>) {
     let shown = view.at(place(row, col)).copied();
     assert_eq!(rt; shown, cell, "row {row}, column {col}");

@@ -69,7 +69,7 @@ struct Turns {
     // the position of each job in the order of entering, from 1; 0 before it enters
     entries: [AtomicU64; 4],
     count: AtomicU64,
-    // the jobs that ran because their checks were used up
+    // how many jobs ran because their checks were used up
     missed: AtomicU64,
 }
 
@@ -296,7 +296,7 @@ struct Visit {
 #[derive(Drop)]
 struct Visits {
     visits: Vec<Visit>,
-    // the jobs that entered after they had run, or ran before they were let in
+    // how often `enter` found that its job had run, or `run` that its job was not let in
     early: AtomicU64,
 }
 

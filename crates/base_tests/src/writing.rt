@@ -13,7 +13,7 @@ use std::test::Fail;
 const ALL: usize = 20_000;
 
 /// A writer that takes at most `each` bytes a call, until `capacity` bytes are used up.
-/// The call with number `interrupted_at` fails as interrupted; later calls write on.
+/// Call number `interrupted_at`, from 0, fails as interrupted; later calls write on.
 #[derive(Drop)]
 struct Taker {
     taken: Vec<u8>,
@@ -71,7 +71,7 @@ const LENIENT_WRITTEN: &[u8] =
 const LENIENT_FLOW: &[u8] =
     b"ncols         2\nnrows         2\nxllcenter     100.5\nyllcorner     -2E1\ncellsize      30.0\nNODATA_value  -9999\n1 0\n-9999 64\n";
 
-/// A header in mixed order and case, with a corner, a centre and no line feeds.
+/// A text whose header has mixed order and case, a corner, a centre and no line feeds.
 const MIXED: &[u8] = b"CELLSIZE 1 NROWS 1 yllCenter +.5 NCOLS 2 XLLCORNER 0 7 8";
 
 const MIXED_WRITTEN: &[u8] =

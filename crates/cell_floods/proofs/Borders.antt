@@ -22,7 +22,7 @@ fewer : (row : ℕ → List (Option ℤ)) (cols count : ℕ) → AreRows row col
     AreRows row cols count
 fewer row cols count h r below = h r (omega arith)
 
--- Adding one row, and then the last row of the border.
+-- First rows with the next row are first rows; with the border's last row, the bordered rows.
 pub row_more : (row : ℕ → List (Option ℤ)) (stride count : ℕ) (cells now next : List (Option ℤ)) →
     now ≡ first_rows row stride count → next ≡ now ++ (None ∷ cells ++ None ∷ []) →
     cells ≡ row count → next ≡ first_rows row stride (count + 1)
@@ -48,7 +48,7 @@ length-first_rows row cols (suc count) h =
     let inner = length-append (row count) (None ∷ []) in
     omega (arith, was, here, joined, inner)
 
--- The entry of a column in one bordered row.
+-- Entry c + 1 of one bordered row is entry c of the row.
 row_at : (xs : List (Option ℤ)) (c : ℕ) → c < length xs →
     get_or (None ∷ xs ++ None ∷ []) (suc c) None ≡ get_or xs c None
 row_at xs c below = get_or_append_left xs (None ∷ []) None c below
@@ -198,7 +198,7 @@ bordered_list t w n few_rows few_cols net = record {
       (omega (arith, stride, low, p.2), omega (arith, stride, size, room, p.2));
 }
 
--- The entries of a row of a list in row order.
+-- Entry c of row r of a list in row order is the list's entry r * cols + c.
 row_cell : (cols : ℕ) (xs : List (Option ℤ)) (r c : ℕ) → c < cols →
     get_or (row_of cols xs r) c None ≡ get_or xs (r * cols + c) None
 row_cell cols xs r c below =

@@ -20,7 +20,7 @@ use Rattle.terrain.proofs.Orders.{trans, le_of_same}
 use Rattle.terrain.proofs.Options.{cases_option}
 use Rattle.floods.proofs.Heaps.{cons_head, cons_tail, cons_cases, all_by_contains}
 
--- The items that `filter_map` keeps, and the items from which it makes them.
+-- `cons_option o ys` contains just the item of `o`, if there is one, and the items of `ys`.
 put_first : {Y : Type 0} (o : Option Y) (ys : List Y) (y : Y) → o ≡ Some y →
     Contains (cons_option o ys) y
 put_first None ys y e = absurd (cc)
@@ -98,7 +98,7 @@ all_eight P a b c d e f g h pa pb pc pd pe pf pg ph = All-cons P a (b ∷ c ∷ 
     (All-cons P d (e ∷ f ∷ g ∷ h ∷ []) pd (All-cons P e (f ∷ g ∷ h ∷ []) pe
     (All-cons P f (g ∷ h ∷ []) pf (All-cons P g (h ∷ []) pg (All-cons P h [] ph (All-nil P))))))))
 
--- The eight cells around a cell are its neighbours.
+-- A node with a number above the stride is beside the eight nodes around it, and beside no other.
 pub all_beside : (s a : ℕ) → s < a → All (IsBeside s a) (cells_around s a)
 all_beside s a h =
     let nw : a ≡ (a - s - 1) + s + 1 = omega arith in
@@ -121,7 +121,7 @@ beside_around s a b h (inr (inr (inl e))) = (2, omega arith, omega arith)
 beside_around s a b h (inr (inr (inr (inl e)))) = (1, omega arith, omega arith)
 beside_around s a b h (inr (inr (inr (inr e)))) = (0, omega arith, omega arith)
 
--- An arc leads to a data cell.
+-- An arc leads to a data cell, at the greater of the two heights.
 arc_found : (cells : List (Option ℤ)) (x : ℤ) (b : ℕ) (arc : Spill) → arc_to cells x b ≡ Some arc →
     (y : ℤ) × (get_or cells b None ≡ Some y) × (record { to = b; height = int_max y x } ≡ arc)
 arc_found cells x b arc e = elim (cases_option (get_or cells b None)) [
@@ -129,7 +129,7 @@ arc_found cells x b arc e = elim (cases_option (get_or cells b None)) [
   | inr found ↦ (found.0, found.1, same_Some _ arc (sym (arc_some cells x b found.0 found.1) ∙ e))
 ]
 
--- The arcs from a data cell are its joins.
+-- The arcs from a data cell are just its joins, if its number is above the stride.
 pub just_arcs : (n : Cells) (a : ℕ) (x : ℤ) → cell_at n a ≡ Some x → n.stride < a →
     HasJust (IsCellJoin n a) (filter_map (arc_to n.cells x) (cells_around n.stride a))
 just_arcs n a x here above = record {
@@ -164,7 +164,7 @@ pub crest_by : (other height level : ℤ) →
     int_max other (int_max height level) ≡ int_max (int_max other height) level
 crest_by other height level = omega (arith, ints, clamps)
 
--- A cell whose noted crest is as low needs no new entry.
+-- An arc to a cell whose noted crest is no greater than the arc's crest adds nothing to the queue.
 no_higher_arc : (cells : List (Option ℤ)) (labels : List (Option ℕ)) (levels : List (Option ℤ))
     (from : Candidate) (to : ℕ) (height crest : ℤ) (waiting : List Candidate) →
     AreNoted labels levels waiting → ((h : ℤ) → get_or cells to None ≡ Some h →
@@ -181,7 +181,7 @@ no_higher_arc cells labels levels from to height crest waiting noted is low =
           (le_of_same _ _ (is found.0 found.1 ∙ crest_by found.0 height from.height.0))))
     ]
 
--- A skipped cell needs no new entry.
+-- An arc to a cell of which `IsPassed` holds adds nothing to the queue.
 pub passed_arc : (cells : List (Option ℤ)) (labels : List (Option ℕ)) (levels : List (Option ℤ))
     (heights : List ℤ) (from : Candidate) (to : ℕ) (height : ℤ) (waiting : List Candidate)
     → AreNoted labels levels waiting → heights ≡ map height_or_lack levels → to < length levels

@@ -93,7 +93,7 @@ all_ends t places count ends below above s = record {
   ];
 }
 
--- The end height of a cell, by whether it is an end cell.
+-- `end` says whether a place has a gap around it or is a sink: its end height is its cell, or None.
 pub end_found : (t : Terrain) (p : Place) (end : Bool) (cell : Option ℤ) → height_at t p ≡ cell
     → (IsTrue end → HasGapAround t p ⊎ Contains t.sinks p) → end ≡ true → IsEndHeight t p cell
 end_found t p end None is found holds =
@@ -124,7 +124,7 @@ abbrev pub AreBeside : View (Option ℤ) → Place → List (Option ℤ) → Typ
 AreBeside v p cells = (k : ℕ) (d : Option ℤ) → k < 3
     → get_or cells k d ≡ get_or v.cells (index_of v.cutting.cols p + k - 1) d
 
--- The height at a place is that of one of the three cells.
+-- In p's row, the height at a place of the grid at most one column from p is among the three cells.
 beside_shown : (v : View (Option ℤ)) (p q : Place) (cells : List (Option ℤ)) → IsWithin v.cutting q
     → q.row ≡ p.row → p.col ≤ q.col + 1 → q.col ≤ p.col + 1 → AreBeside v p cells
     → height_at (terrain_of v) q ≡ get_or cells (q.col + 1 - p.col) None
@@ -156,7 +156,7 @@ some_gap cells size not_all = elim (cases_Bool (is_some (get_or cells 0 None))) 
   all (suc (suc zero)) a b c low = c
   all (suc (suc (suc k))) a b c low = absurd (omega (arith, low))
 
--- A gap among the three cells of a row at or around a cell is a gap around that cell.
+-- Past column 0, a gap among three places of one row at or around a cell is a gap around the cell.
 pub gap_beside : (v : View (Option ℤ)) (cell p : Place) (cells : List (Option ℤ))
     → length cells ≡ 3 → AreBeside v p cells → p.col ≡ cell.col → 0 < cell.col
     → cell.row ≤ p.row + 1 → p.row ≤ cell.row + 1

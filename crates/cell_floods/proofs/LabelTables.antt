@@ -55,7 +55,7 @@ listed_before index label old new at k p other e = elim at.only [
       ]
 ]
 
--- A table is also one for one more cell, if the index of that cell is listed.
+-- If a cell's label is listed in a table that is not empty, the new table is one for that cell too.
 pub cell_listed : (index : ℕ) (label : Option Place) (old new : List (Option Place))
     (cells more : List ℕ) → 0 < length old → IsTable old cells → IsListedAt index label old new →
     more ≡ cells ++ index ∷ [] → IsTable new more

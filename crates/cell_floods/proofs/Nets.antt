@@ -23,7 +23,7 @@ use Rattle.tiles.proofs.Cut.{bounds_inside}
 use Rattle.tiles.proofs.Shown.{row_end, get_or-row_shown}
 use Rattle.cell_floods.proofs.Borders.{AreRows, ShowRows, net_of_rows}
 
--- A row inside the border lies in the list, and its indexes are small.
+-- A row inside the border lies in the list, which has at most 4098 by 4098 entries.
 pub inner_row_ends : (rows cols row len : ℕ) → len ≡ (rows + 2) * (cols + 2) → cols ≤ 4096 →
     rows ≤ 4096 → row < rows → ((row + 1) * (cols + 2) + 1 + cols ≤ len) × (len ≤ 16793604)
 inner_row_ends rows cols row len size few_cols few_rows below = (

@@ -110,7 +110,7 @@ place_back b p i =
     (ap (λ n. b.left + n - 1)
     (mod-mul-add (p.row - b.top + 1) (b.cols + 2) (p.col - b.left + 1) col) ∙ omega (arith, i))
 
--- An entry of a tile's list, by the list of its net.
+-- At a place, the inner rows of a bordered list have the list's entry at the place's node.
 inner_entry : {X : Type 0} (b : Bounds) (list : List (Option X)) (p : Place) →
     length list ≡ (b.rows + 2) * (b.cols + 2) → IsInBounds b p →
     entry_in b (inner_rows list b.cols b.rows) p ≡ get_or list (node_at b p) None
@@ -138,7 +138,7 @@ pub record AreTileLevels (t : Terrain) (c : Cutting) (tile : ℕ) (b : Bounds)
       (λ _. (level : ℤ) × (label : Place) × (entry_in b levels p ≡ Some level)
       × (entry_in b labels p ≡ Some label) × IsTileLevel t c p level label)
 
--- A tile is small, and lies within the limits of a grid.
+-- The bounds of a cutting's tile lie within a grid of the greatest size.
 pub bounds_limits : (t : Cutting) (b : Bounds) → IsCutting t → AreBounds t b → IsWithinLimits b
 bounds_limits t b h inside = (omega arith, omega arith)
 
@@ -197,7 +197,7 @@ pub tile_flood_is : (t : Terrain)
 tile_flood_is t c tile n b levels levels_in labels labels_in h l cuts net flooded same x y =
     rw (y, x, same) (tile_flooded t c tile n levels labels h l cuts net flooded)
 
--- A label of a net's flood is a node of the net.
+-- A walk from a node of the net ends at a node of the net, so each label of its flood is one.
 walk_end_below : (n : Cells) (a : ℕ) (walk : List Spill) → a < length n.cells →
     IsWalk (IsCellJoin n) (source_of n) a walk → end_of a walk < length n.cells
 walk_end_below n a [] low walk = low
@@ -264,7 +264,7 @@ inner_labels b n levels labels size flooded =
       length-inner_rows labels b.cols b.rows (omega (arith, long)),
     )
 
--- The lists of heights and numbers inside the border, by the levels and labels of the net.
+-- Heights that stand for levels, and numbers that stand for labels, do so inside the border too.
 pub inner_lists : (b : Bounds) (levels : List (Option ℤ)) (labels : List (Option ℕ))
     (raw heights : List ℤ) (numbers nodes : List ℕ) → raw ≡ map height_or_lack levels →
     labels ≡ numbered_labels numbers → heights ≡ inner_rows raw b.cols b.rows →

@@ -1,4 +1,4 @@
--- A cell has a level exactly if it has a label.
+-- A tile's cells have levels exactly where they have labels, and labels are data cells of the tile.
 use Rattle.std.proofs.Common.{◌≡◌, ◌==◌, ℕ, zero, suc, ◌+◌, ◌*◌, ◌<◌, inl, inr, ℤ, pos, List, [], ◌∷◌, map, length, get_or, Option, None, Some, is_some, option_map, sym, ap, subst, ◌∙◌, refl, arith}
 use Rattle.std.proofs.lemmas.Bool.{cases_lt, eqb-true}
 use Rattle.std.proofs.lemmas.List.{get_or-map, get_or_past, length-map}
@@ -46,7 +46,7 @@ one_back None (Some z) e = absurd (cc)
 one_back (Some p) None e = absurd (cc)
 one_back (Some p) (Some z) e = refl
 
--- Levels of labelled cells are the `levels_where` of their heights.
+-- If just the cells with labels have levels, `levels_where` of their heights gives these levels.
 pub levels_back : (labels : List (Option Place)) (levels : List (Option ℤ)) → length labels
     ≡ length levels → ((i : ℕ) → is_some (get_or labels i None) ≡ is_some (get_or levels i None)) →
     levels_where labels (map height_or_lack levels) ≡ levels
@@ -91,7 +91,7 @@ both_or_neither t c tile b levels labels h l is i = elim (cases_lt i (b.rows * b
       sym (ap is_some label) ∙ both ∙ ap is_some level
 ]
 
--- The levels of a tile are those of its heights and labels.
+-- `levels_where` of a tile's labels and heights gives the tile's levels.
 pub levels_where_are : (t : Terrain) (c : Cutting) (tile : ℕ) (b : Bounds)
     (levels : List (Option ℤ)) (labels : List (Option Place)) (heights : List ℤ) → IsCutting c →
     tile < tile_count c → heights ≡ map height_or_lack levels
@@ -170,7 +170,7 @@ all_inside P places inside = All-from_get_or (λ (o : Option Place).
           subst (λ (o : Option Place). IfSome o P) (sym found.1) (inside k found.0 found.1)
     ])
 
--- The level of a cell, by its label and height.
+-- A cell with a label has its height as level, and a cell without a label has no level.
 pub level_shown : (b : Bounds) (heights : List ℤ) (t : LabelTable) (ends : List (Option ℤ))
     (f : Flood) (i : ℕ) → flood_of b heights t ends ≡ f → length heights ≡ length t.indexes →
     (length f.labels ≡ length heights) × (get_or f.levels i None
@@ -182,7 +182,7 @@ level_shown b heights t ends f i is whole =
           (sym is) ∙ levels_where-at (labels_by t.places t.indexes) heights i fit,
     )
 
--- There is a height for each cell.
+-- There are as many heights inside the border as label indexes, one for each cell.
 pub heights_whole : (b : Bounds) (levels : List (Option ℤ))
     (nodes : List (Option ℕ)) (places : List (Option Place)) (cells : List ℕ) (heights : List ℤ) →
     length levels ≡ (b.rows + 2) * (b.cols + 2) → length nodes ≡ (b.rows + 2) * (b.cols + 2)

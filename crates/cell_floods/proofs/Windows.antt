@@ -52,7 +52,7 @@ abbrev pub IsWindowPath : Terrain → Bounds → Place → List Place → Type 0
 IsWindowPath t w p [] = IsWindowSource t w p
 IsWindowPath t w p (q ∷ rest) = IsNeighbour t p q × IsInBounds w q × IsWindowPath t w q rest
 
--- Nodes of neighbouring rows and columns.
+-- Two nodes are beside each other if they differ, by at most 1 in row and at most 1 in column.
 next_row : (s r c d : ℕ) → d ≤ c + 1 → c ≤ d + 1 → IsAfter s (r * s + c) ((r + 1) * s + d)
 next_row s r c d up down = elim (cases_order c d) [
   | inl same ↦ inr (inr (inl (omega arith)))
@@ -80,7 +80,7 @@ rows_beside s r c q d up down right left differ = elim (cases_order r q) [
   ]
 ]
 
--- Rows and columns of two neighbouring nodes, the first node before the second.
+-- (q, d) is one column after (r, c) in the same row, or in the next row and at most one column off.
 abbrev AreNear : ℕ → ℕ → ℕ → ℕ → Type 0
 AreNear r c q d = ((q ≡ r) × (d ≡ c + 1)) ⊎ ((q ≡ r + 1) × (d ≤ c + 1) × (c ≤ d + 1))
 
@@ -170,7 +170,7 @@ beside_touch w p q a b (inl h) = near_touch w p q a b (after_rows (w.cols + 2) (
 beside_touch w p q a b (inr h) = turn q p (near_touch w q p b a (after_rows (w.cols + 2)
     (row_in w q) (col_in w q) (row_in w p) (col_in w p) (omega (arith, b)) (omega (arith, a)) h))
 
--- A node has one place.
+-- A node has at most one place of the window.
 pub node_injective : (w : Bounds) (p q : Place) → IsInBounds w p → IsInBounds w q →
     node_at w p ≡ node_at w q → p ≡ q
 node_injective w p q a b e =
@@ -186,7 +186,7 @@ pub data_is : {X : Type 0} (o : Option X) → IsSome o → (x : X) × (o ≡ Som
 data_is None e = absurd (cc)
 data_is (Some x) e = (x, refl)
 
--- A place of the window is on its rim or away from it.
+-- A place of the window is on its rim, or the window has rows and columns on all four sides of it.
 pub cases_rim : (w : Bounds) (p : Place) → IsInBounds w p → IsOnRim w p ⊎ ((w.top + 1 ≤ p.row)
     × (p.row + 2 ≤ w.top + w.rows) × (w.left + 1 ≤ p.col) × (p.col + 2 ≤ w.left + w.cols))
 cases_rim w p a = elim (cases_eq p.row w.top) [
@@ -241,7 +241,7 @@ border_none t w n net r c narrow outside = elim (cases_option (cell_at n (r * (w
       (omega (arith, p.1, both.1)) (omega (arith, p.1, both.1)))
 ]
 
--- A cell of the window with a gap beside it is a source of the window.
+-- A data cell of the window beside a node without data is a gap source of the window.
 pub gap_is_source : (t : Terrain) (w : Bounds) (n : Cells) → IsNetOf t w n → (p : Place) →
     IsInBounds w p → IsDataCell t p → (b : ℕ) → IsBeside (w.cols + 2) (node_at w p) b →
     cell_at n b ≡ None → IsGapSource t w p
@@ -276,7 +276,7 @@ gap_is_source t w n net p a some b beside none = (
   ],
 )
 
--- A cell on the rim of the window has a gap beside it.
+-- A place on the rim of the window is beside a node without data.
 rim_gap : (t : Terrain) (w : Bounds) (n : Cells) → IsNetOf t w n → (p : Place) → IsInBounds w p →
     IsOnRim w p → (b : ℕ) × IsBeside (w.cols + 2) (node_at w p) b × (cell_at n b ≡ None)
 rim_gap t w n net p a (inl e) =
@@ -383,7 +383,7 @@ path_end t w p (q ∷ rest) inside path = path_end t w q rest path.1 path.2
 joined_crest : (h k c : ℤ) → k ≤ℤ c → int_max (int_max k h) c ≡ int_max h c
 joined_crest h k c low = omega (arith, ints, clamps)
 
--- A path in the window is a walk of its net.
+-- A path in the window is a walk of its net, of equal crest and to the same end.
 pub walk_of : (t : Terrain) (w : Bounds) (n : Cells) → IsNetOf t w n →
     (p : Place) (rest : List Place) → IsInBounds w p → IsWindowPath t w p rest → (walk : List Spill)
     × IsWalk (IsCellJoin n) (source_of n) (node_at w p) walk × (walk_crest (source_of n)
@@ -418,7 +418,7 @@ walk_of t w n net p (q ∷ rest) inside path =
       further.3,
     )
 
--- A walk of the net is a path in the window.
+-- A walk of the net is a path in the window, of equal crest and to the same end.
 pub path_of : (t : Terrain) (w : Bounds) (n : Cells) → IsNetOf t w n → (walk : List Spill)
     (p : Place) → IsInBounds w p → IsWalk (IsCellJoin n) (source_of n) (node_at w p) walk →
     (rest : List Place) × IsWindowPath t w p rest × (crest t p rest ≡ walk_crest (source_of n)
@@ -460,7 +460,7 @@ path_of t w n net (step ∷ steps) p inside walk =
       ap (λ a. end_of a steps) (sym q.2) ∙ further.3,
     )
 
--- A path to an end cell gives a path in the window, at no greater crest.
+-- A path from a place of the window gives a path in the window, at no greater crest.
 pub path_in_window : (t : Terrain) (w : Bounds) (p : Place) (rest : List Place) →
     IsInBounds w p → IsPath t p rest → (inner : List Place) × IsWindowPath t w p inner
     × (crest t p inner ≤ℤ crest t p rest)
@@ -548,7 +548,7 @@ window_none t w n levels labels net flooded p inside none below =
           none_done (height_at t p) none (path_data t w p path.0 path.1)
     ]
 
--- `HasSinks` of the first places.
+-- Each sink of the window is one of the places; each of the first `count` in the window is a sink.
 pub record HasFirstSinks (w : Bounds) (places : List Place) (count : ℕ) (sinks : List Bool) :
     Type 0 where
   pub size : length sinks ≡ (w.rows + 2) * (w.cols + 2)

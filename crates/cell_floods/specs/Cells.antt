@@ -23,11 +23,11 @@ pub record Cells : Type 0 where
 abbrev pub cell_at : Cells → ℕ → Option ℤ
 cell_at n a = slice_index_or n.cells a None
 
--- The second node is east, south-west, south or south-east of the first.
+-- By their numbers, the second node is east, south-west, south or south-east of the first.
 abbrev pub IsAfter : ℕ → ℕ → ℕ → Type 0
 IsAfter stride a b = (b ≡ a + 1) ⊎ (b + 1 ≡ a + stride) ⊎ (b ≡ a + stride) ⊎ (b ≡ a + stride + 1)
 
--- The two nodes are neighbours.
+-- One of the two nodes is after the other, by `IsAfter`.
 abbrev pub IsBeside : ℕ → ℕ → ℕ → Type 0
 IsBeside stride a b = IsAfter stride a b ⊎ IsAfter stride b a
 
@@ -46,7 +46,7 @@ cells_around stride a =
     (a - stride - 1) ∷ (a - stride) ∷ (a - stride + 1) ∷ (a - 1) ∷ (a + 1) ∷ (a + stride - 1)
     ∷ (a + stride) ∷ (a + stride + 1) ∷ []
 
--- One of the eight nodes around has no data.
+-- At least one of the eight nodes around the node has no data.
 abbrev pub has_gap_around : Cells → ℕ → Bool
 has_gap_around n a = list_any (λ b. is_none (cell_at n b)) (cells_around n.stride a)
 
@@ -54,7 +54,7 @@ has_gap_around n a = list_any (λ b. is_none (cell_at n b)) (cells_around n.stri
 abbrev pub is_sink : List Bool → ℕ → Bool
 is_sink sinks a = slice_index_or sinks a false
 
--- The height of a source: a data cell that has a gap around it or is a sink.
+-- The height of a source, a data cell with a gap around it or a sink; None at any other node.
 abbrev pub source_of : Cells → ℕ → Option ℤ
 source_of n a = if has_gap_around n a || is_sink n.sinks a then cell_at n a else None
 

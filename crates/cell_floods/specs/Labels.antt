@@ -16,7 +16,7 @@ pub record LabelTable : Type 0 where
 abbrev pub labels_by : List (Option Place) → List ℕ → List (Option Place)
 labels_by places cells = map (λ k. slice_index_or places k None) cells
 
--- None, then places. Each index lies in the table, and each place is the label of a cell.
+-- None, then at most one place a cell. Each index lies in the table; each place is a cell's label.
 pub record IsTable (places : List (Option Place)) (cells : List ℕ) : Type 0 where
   pub few : length places ≤ length cells + 1
   pub first : slice_index_or places 0 None ≡ None

@@ -41,8 +41,8 @@ pub record AreEndHeights (t : Terrain) (places : List (Option Place)) (ends : Li
   pub each : (k : ℕ) (p : Place)
       → slice_index_or places k None ≡ Some p → IsEndHeight t p (slice_index_or ends k None)
 
--- A tile's bounds; its levels and labels in row order; the table of labels; the heights of those
--- that are end cells.
+-- A tile's bounds; its levels and labels in row order; the table of labels. `ends` has the heights
+-- of labels that are end cells, and None for other entries of the table.
 pub record Flood : Type 0 where
   pub bounds : Bounds
   pub levels : List (Option ℤ)
@@ -77,7 +77,7 @@ level_in f p = entry_in f.bounds f.levels p
 abbrev pub label_in : Flood → Place → Option Place
 label_in f p = entry_in f.bounds f.labels p
 
--- The invariant of a `TileFlood`: a table of labels, and levels and labels for all cells.
+-- The invariant of a `TileFlood`: bounds in the limits, labels by a table, an entry for each cell.
 pub record IsFlood (f : Flood) : Type 0 where
   pub labels : f.labels ≡ labels_by f.table.places f.table.indexes
   pub table : IsTable f.table.places f.table.indexes
@@ -85,7 +85,7 @@ pub record IsFlood (f : Flood) : Type 0 where
   pub levels_size : length f.levels ≡ f.bounds.rows * f.bounds.cols
   pub labels_size : length f.labels ≡ f.bounds.rows * f.bounds.cols
 
--- The flood of a tile: each data cell has its level and label, and a cell without data has neither.
+-- A tile's flood: levels and labels at its data cells, none at others, and `AreEndHeights`.
 pub record IsTileFlood (t : Terrain) (c : Cutting) (tile : ℕ) (f : Flood) : Type 0 where
   pub bounds : f.bounds ≡ bounds_of c tile
   pub levels_size : length f.levels ≡ cell_count c tile

@@ -476,7 +476,7 @@ impl CellNet {
     }
 }
 
-/// Returns the entries inside the border of a [`CellNet`]'s list, in row order.
+/// Returns the entries inside the border of a list over a [`CellNet`]'s nodes, in row order.
 /// `cols` and `rows` are the size of the rectangle without its border.
 pub(crate) fn without_border<T: Copy>(
     alloc: Global,

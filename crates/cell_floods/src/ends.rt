@@ -16,7 +16,7 @@ use std::alloc::{AllocError, Global};
 use terrain::{Cell, Place};
 use tiles::TileView;
 
-/// Returns whether a place around a cell is off the grid or has no data.
+/// Returns whether a cell, or a place around it, is off the grid or has no data.
 fn has_gap(view: &TileView<'_, Cell>, cell: Place) -> bool
     requires cell { IsInBounds (bounds_of view.now.cutting view.now.tile) cell }
     requires few { (cell.row < 4096) × (cell.col < 4096) }
@@ -74,7 +74,7 @@ fn end_height(view: &TileView<'_, Cell>, sinks: &[bool], label: Option<Place>) -
     }
 }
 
-/// Returns the height of each label that is an end cell, in table order.
+/// Returns each label's height if it is an end cell, else no data, in table order.
 pub(crate) fn end_heights(
     alloc: Global,
     view: &TileView<'_, Cell>,

@@ -6,10 +6,10 @@
 //!
 //! - `tile`: the flood of one tile
 //! - `whole`: the flood of a whole grid
-//! - `cell_net`: a rectangle of cells as a net
-//! - `sinks`: the sinks in a rectangle of cells
 //! - `labels`: the table of a tile's labels
 //! - `ends`: which labels are end cells
+//! - `cell_net`: a rectangle of cells as a net
+//! - `sinks`: the sinks in a rectangle of cells
 #![tactic(auto)]
 
 mod cell_net;

@@ -37,7 +37,7 @@ pub(crate) fn node_in(bounds: Bounds, place: Place) -> usize
 }
 
 /// Returns for each node whether it is one of these places.
-/// The nodes are the cells of the bounds and their border. The list is empty without sinks.
+/// The nodes are the cells of the bounds and their border. The list is empty if none is a sink.
 pub(crate) fn window_sinks(
     alloc: Global,
     bounds: Bounds,

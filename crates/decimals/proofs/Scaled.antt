@@ -20,7 +20,7 @@ pub are_digits_joined : (a b : List ℕ) → 0 < length a →
 are_digits_joined [] b h = absurd (omega arith)
 are_digits_joined (x ∷ xs) b h = list_all-append is_ascii_digit (x ∷ xs) b
 
--- the first d bytes of a fraction padded with zeros are the fraction's own, and zeros up to d
+-- the first d bytes of a fraction with d or more zeros appended are its own, and zeros up to d
 take-padded : (d k : ℕ) (xs : List ℕ) → d ≤ k →
     take d (xs ++ replicate k 48) ≡ take d xs ++ replicate (d - min d (length xs)) 48
 take-padded zero k xs h =
@@ -84,7 +84,7 @@ option_map-cond : (t : Bool) (n : ℕ) (g : ℕ → ℤ) →
 option_map-cond true n g = refl
 option_map-cond false n g = refl
 
--- the scaled value of a word without an exponent is its scaled size, with its sign
+-- a word without an exponent whose parts are digits has its scaled size, with its sign, as value
 pub scaled_value-digits : (d : ℕ) (w a b : Word) (size : Option ℕ) → has_exponent w ≡ false →
     a ≡ before_first is_point (without_sign w) → b ≡ after_first is_point (without_sign w) →
     are_digits (a ++ b) ≡ true → size ≡ cond (list_all (λ x. x == 48) (drop d b)
@@ -97,7 +97,7 @@ scaled_value-digits d w a b size h p q e k =
     rw (k, digits, h, m, ← p, ← q)
     (option_map-cond _ _ (λ n. cond (is_negative w) (neg_ℤ (pos n)) (pos n)))
 
--- a size saturated at 10^18 + 1 is kept exactly if the size itself is at most 10^18
+-- a number saturated at 10^18 + 1 is kept exactly if the number itself is at most 10^18
 pub size-kept : (x : Bool) (n size : ℕ) → x ≡ true → size ≡ min n 1000000000000000001 →
     then_some (nat_lt size 1000000000000000001) size ≡ cond (x && nat_le n (10 ^ 18)) (Some n) None
 size-kept x n size h e =
@@ -182,7 +182,7 @@ bare_digits (x ∷ xs) rest h k =
       ne_eqb x 45 (λ e. omega arith),
     )
 
--- up to 16 digits at the front are a plain number, if their value at the scale is at most 10^18
+-- 1 to 16 digits at the front are a plain number, if their value at the scale is at most 10^18
 pub IsPlain-positive : (d : ℕ) (bytes : List ℕ) (len : ℕ) → 0 < len → len ≤ 16 → len
     ≤ length bytes → list_all is_ascii_digit (take len bytes) ≡ true → number_of (take len bytes)
     * 10 ^ d ≤ 10 ^ 18 → IsPlain d bytes len (pos (number_of (take len bytes) * 10 ^ d))

@@ -25,7 +25,7 @@ pub fn is_decimal(word: &[u8]) -> bool
         && (!has_exponent(word) || are_digits(without_sign(exponent)))
 }
 
-/// Whether a decimal text is above 0: no `-`, and not all digits before `e` are 0.
+/// Whether a decimal text is above 0: no `-`, and a digit before the exponent is not 0.
 pub fn is_above_zero(word: &[u8]) -> bool
     ensures { result ≡ is_above_zero word.now }
 {
@@ -78,7 +78,7 @@ pub fn plain_number(scale: u8, bytes: &[u8]) -> Option<(usize, i64)>
     Some((len, signed(false, size)))
 }
 
-/// Returns the length of the digits at the front, and their value times 10^scale.
+/// Returns the length and the value of [`plain_number`] for a text without `-`.
 #[inline(always)]
 fn plain_size(scale: u8, bytes: &[u8]) -> Option<(usize, u64)>
     requires { scale ≤ 6 }
@@ -254,7 +254,7 @@ fn signed(negative: bool, size: u64) -> i64
     if negative { -value } else { value }
 }
 
-/// Returns a number with zeros appended, at most [`OVER`].
+/// Returns the number with zeros appended, or [`OVER`] if that is less.
 fn zeros_after(number: u64, zeros: usize) -> u64
     requires { number ≤ OVER }
     ensures small { result ≤ OVER }

@@ -48,7 +48,7 @@ pub(crate) fn all_digits(bytes: &[u8]) -> bool
     bytes.iter().all(|b| b.is_ascii_digit())
 }
 
-/// Returns a number with digits appended, at most [`OVER`].
+/// Returns the number with digits appended, or [`OVER`] if that is less.
 pub(crate) fn digits_after(number: u64, digits: &[u8]) -> u64
     requires { number ≤ OVER }
     ensures small { result ≤ OVER }

@@ -18,7 +18,7 @@ use Rattle.drain.proofs.Counted.{height_is}
 use Rattle.drainage.proofs.Reach.{data_inside}
 use Rattle.terrain.proofs.EightWays.{eight, zip_some}
 
--- height and steps on a way are those of a neighbour
+-- height and steps on a way, if known, are those of the place on it
 pub on_way : (t : Terrain) (steps : List (Option ℕ)) (p : Place) (a : Around) (way : ℕ)
     (w : ℤ × ℕ) → IsLaidAround t steps p a → way < 8 → get_or a.ways way None ≡ Some w →
     (q : Place) × (place_on way p ≡ Some q) × (height_at t q ≡ Some w.0)

@@ -30,7 +30,7 @@ use Rattle.drain.proofs.Spreading.{spot_below}
 use Rattle.drain.proofs.TileRound.{round_from}
 use Rattle.drain.proofs.Unique.{at_place, place_at-index_of}
 
--- the initial count of a place is that of its spot
+-- the initial count of a place is that of each spot that shows it
 pub begun_shown : (t : Terrain) (b : Bounds) (s q : Place) (n : ℕ) → Shows b s q → n ≤ no_count →
     IsBegun (IsEdgeOrHasLower t) q (known n) → IsBegunSpot (IsEdgeOrHasLower t) b s n
 begun_shown t b s q n there few here = (
@@ -119,7 +119,7 @@ module _ (t : Terrain) (sinks : List Place) (index : ℕ) (b : Bounds) (counts :
     | inr ne ↦ inr (one.0, one.1, omega (arith, one.2, ne), one.3, one.4)
   ]
 
-  -- a sink outside the window or without data changes no count
+  -- with a sink outside the window or without data, the counts stay as they are
   pub sink_passed : ((s : Place) → IsSpot b s → Shows b s (sink_at sinks index) →
       IsDataCell t (sink_at sinks index) → ⊥) → AreBegunBefore t sinks (index + 1) b counts
   sink_passed out =
@@ -128,7 +128,7 @@ module _ (t : Terrain) (sinks : List Place) (index : ℕ) (b : Bounds) (counts :
       (λ s p spot shows. earlier p (λ same is. out s spot (subst (λ (q : Place). Shows b s q)
       same shows) (subst (λ (q : Place). IsDataCell t q) same is))) before
 
-  -- a sink with data in the window sets the count of its spot
+  -- for a sink with data in the window, the count of its spot is set to 0
   pub sink_put : (r : Place) →
       IsSpot b r → Shows b r (sink_at sinks index) → IsDataCell t (sink_at sinks index) →
       AreBegunBefore t sinks (index + 1) b (slice_set counts (spot_index b r) 0)

@@ -28,7 +28,7 @@ everywhere cols rows xs ys same p = elim (cases_lt p.row rows) [
       ∙ sym (ap is_some (entry-below cols rows ys p past))
 ]
 
--- a list with a number at each data cell alone has values where the terrain has data
+-- a list with numbers at data cells and `None` at other cells has values just where there is data
 same_where : (t : Terrain) (Is : Place → ℕ → Type 0) (xs : List (Option ℕ)) →
     ((p : Place) → IsInside t p → MatchOption (height_at t p) (entry_at t.cols t.rows xs p ≡ None)
     (λ _. (n : ℕ) × (entry_at t.cols t.rows xs p ≡ Some n) × Is p n)) →

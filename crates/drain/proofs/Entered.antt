@@ -1,4 +1,4 @@
--- Places on the rim of a tile, and places inside it.
+-- Places on the rim of a tile and inside it; places that a list contains.
 use Rattle.std.proofs.Common.{◌≡◌, ℕ, suc, ◌<◌, ◌∙◌, inl, inr, true, List, ◌∷◌, sym, subst, refl, arith, ◌+◌}
 use Rattle.std.specs.Prelude.{Contains}
 use Rattle.std.proofs.lemmas.Bool.{cases_eq, eq-eqb, or_left, or_right}
@@ -8,7 +8,7 @@ use Rattle.tiles.specs.Cutting.{Cutting, IsCutting, IsWithin, IsInTile, bounds_o
 use Rattle.drain.specs.Entering.{IsInterior}
 use Rattle.tiles.proofs.Cut.{in_bounds, in_tile, tile_of_place_below}
 
--- a place that touches another tile lies on the rim of its own tile
+-- a place that touches one outside its tile lies on the rim of the tile
 pub on_rim : (c : Cutting) (p q : Place) → IsCutting c → IsWithin c p →
     (IsInTile c (tile_of_place c p) q → ⊥) → Touches p q → is_on_rim c p ≡ true
 on_rim c p q lawful within other touch =

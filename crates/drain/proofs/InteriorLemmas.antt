@@ -24,7 +24,7 @@ use Rattle.terrain.proofs.Options.{cases_option}
 use Rattle.drain.proofs.Laid.{with_steps, without_steps, leads as leads_by_steps, is_down, is_outlet, is_onward, code_is}
 use Rattle.drain.proofs.Quiet.{if_some}
 
--- the drop on a way, by the heights and by the surroundings
+-- the drop on a way by the heights is that by the surroundings
 pub drop_is : (a : Around) (level : ℤ) (heights : List (Option ℤ)) (way : ℕ) →
     HasHeights a level heights → way < 8 →
     drop_on level heights way ≡ drop_to a.level (get_or a.ways way None)
@@ -143,7 +143,7 @@ zip_heights t steps q are = elim (cases_option (height_at t q)) [
       ∙ sym some.1)
 ]
 
--- the surroundings of a cell of this height and these steps, with `edge` unset
+-- the surroundings of a cell of this height and these steps, with `edge` false
 abbrev pub around_of : Terrain → List (Option ℕ) → Place → ℤ → ℕ → Around
 around_of t steps p level own = around_with t steps p level own false
 

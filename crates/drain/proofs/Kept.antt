@@ -11,7 +11,7 @@ use Rattle.drain.specs.Lowering.{count_of, counts_in, kept_at, kept_of, place_at
 use Rattle.drain.specs.declared.lowering.Lowered.{Lowered}
 use Rattle.drain.proofs.Unique.{index-place_at, place_at-index_of}
 
--- the count kept for a cell of the tile, by row and column of the tile
+-- the count kept for an index in the tile is that at its row and column of the tile
 kept_inside : (c : Cutting) (tile : ℕ) (l : Lowered) (k : ℕ) →
     is_in_bounds (bounds_of c tile) (place_at c.cols k) ≡ true →
     kept_of c tile l k

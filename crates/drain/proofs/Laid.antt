@@ -164,7 +164,7 @@ module _ (t : Terrain) (steps : List (Option ℕ)) (p : Place) (a : Around) (are
     onward = λ stays. absurd (stays drains);
   }
 
-  -- the way to an equal neighbour with one step fewer leads on
+  -- the way to a level neighbour with one step fewer leads on
   leads_to : (q : Place) (way : ℕ) → way < 8 → place_on way p ≡ Some q → IsNeighbour t p q →
       height_at t q ≡ height_at t p → (n : ℕ) → IsSteps t q n → n + 1 ≡ a.steps →
       leads_on a (get_or a.ways way None) ≡ true

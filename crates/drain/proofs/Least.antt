@@ -1,4 +1,4 @@
--- The least of the counts in a row, at one height.
+-- 1 plus the least count at one height along a row of a window, spot by spot.
 use Rattle.std.proofs.Common.{◌≡◌, ℕ, ◌+◌, ◌<◌, ◌≤◌, ◌⊎◌, inl, inr, List, ℤ, Option, sym, subst, refl, ◌∙◌, arith}
 use Rattle.std.proofs.lemmas.Bool.{cases_eq}
 use Rattle.terrain.proofs.Places.{make_place, same_place}

@@ -151,7 +151,7 @@ module _ (t : Terrain) (c : Cutting) (tile : ℕ) (steps : List (Option ℕ)) wh
     left = omega (arith, f.left, g.left);
   }
 
-  -- lowering one cell to its change is a part of a search
+  -- lowering one cell to the count of a change is a search to that cell
   pub reached_put : (old new : Lowered) (x : Change) →
       IsInTile c tile x.place → IsWalked (IsSource t steps) t x.place x.count →
       x.count < counts_in c tile steps old (index_of c.cols x.place) →
@@ -220,7 +220,7 @@ module _ (t : Terrain) (c : Cutting) (tile : ℕ) (steps : List (Option ℕ)) wh
         );
       }
 
-  -- the counts stay lowered by the changes alone
+  -- after a search went on, the counts differ from the input by the changes alone
   pub lowered_then : (Done : Place → Type 0) (bound : ℕ) (old new : Lowered) →
       IsLowered t c tile steps (counts_in c tile steps old) old.changes.items →
       IsLoweredTo t c tile steps Done bound old new →
@@ -242,7 +242,7 @@ module _ (t : Terrain) (c : Cutting) (tile : ℕ) (steps : List (Option ℕ)) wh
     ];
   }
 
-  -- after an entry is applied, the tile is even but for changes that wait
+  -- after an entry is applied, the tile stays even but for changes that wait
   pub even_enter : (Done : Place → Type 0) (bound : ℕ) (old new : Lowered) (done : ℕ) →
       done ≤ length old.changes.items → IsEvenButReported t c tile steps old done →
       IsLoweredTo t c tile steps Done bound old new →

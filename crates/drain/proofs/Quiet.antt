@@ -1,4 +1,4 @@
--- If a round over all tiles changes nothing, the counts are the steps.
+-- If a round over all tiles of a filled terrain changes nothing, the counts are the steps.
 use Rattle.std.proofs.Common.{◌≡◌, inl, inr, ℕ, ◌*◌, ◌^◌, ◌<◌, ◌≤◌, List, [], ◌∷◌, length, Option, None, Some, is_some, IfSome, MatchOption, sym, ap, subst, refl, ◌∙◌, arith}
 use Rattle.std.proofs.lemmas.Bool.{false≢true}
 use Rattle.std.proofs.lemmas.Option.{MatchOption-at_some}
@@ -68,7 +68,7 @@ module _ (t : Terrain) (steps : List (Option ℕ)) (zeros : HasZeros t steps)
     (all_walked : AreWalked (DrainsAtOnce t) t steps)
     (near : (p q : Place) → IsNeighbour t p q → height_at t q ≡ height_at t p →
     IsOneAbove (entry_at t.cols t.rows steps p) (entry_at t.cols t.rows steps q)) where
-  -- a walk bounds the count of its first cell
+  -- a flat walk of fewer than 2^24 moves bounds the count of its first cell
   count_steps : (rest : List Place) (p : Place) → IsFlatWalk t p rest → length rest < 2 ^ 24 →
       (n : ℕ) × (entry_at t.cols t.rows steps p ≡ Some n) × (n ≤ length rest)
   count_steps [] p w few = (0, zeros p w, omega arith)

@@ -320,7 +320,7 @@ module _ (c : Cutting) (levels : List (Option ℤ)) (old : List (Option ℕ))
   pub first_lists : AreTileLists c lists
   first_lists = record { count = count; each = λ tile list at. (round_at tile list at).size }
 
-  -- the list of a place's tile
+  -- each place of the grid has a list of its tile
   list_of : (p : Place) → IsCutting c → IsWithin c p → (list : Vec (Option ℕ) Global)
       × (slice_get lists (tile_of_place c p) ≡ Some list)
   list_of p lawful within = elim (slice_get_cases lists (tile_of_place c p)).1 [
@@ -404,7 +404,7 @@ next_then first second third one next = record {
   low = (let a = one.low in let b = next.low in omega (arith, a, b));
 }
 
--- the state after the first round, with the entries of all tiles
+-- the state after the first round, with the sorted entries of all tiles, is lawful
 pub first_rounding : (r : Rounding) (noted : List Entry) → IsCutting r.cutting →
     length r.levels ≡ r.cutting.cols * r.cutting.rows → AreCounting (levels_of r) r.steps →
     ((tile : ℕ) → IsEvenInside (levels_of r) r.cutting tile (count_of r.steps)) →

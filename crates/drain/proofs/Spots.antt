@@ -16,7 +16,7 @@ use Rattle.drain.proofs.Spreading.{spot_below}
 use Rattle.tile_maps.proofs.TileLists.{made_next}
 use Rattle.tiles.proofs.TileRows.{row_has}
 
--- a view has the place of each spot on the grid
+-- a view of the tile has each place of the grid that a spot shows
 shows_within : (c : Cutting) (tile : ℕ) (b : Bounds) (s p : Place) → b ≡ bounds_of c tile →
     IsSpot b s → Shows b s p → is_within c p ≡ true → is_shown c tile p ≡ true
 shows_within c tile b s p e spot shows within =

@@ -36,7 +36,7 @@ no_further_down level low h le = elim (part_of (level -ℤ h)) [
   | inr is ↦ omega arith
 ]
 
--- a lower height has a greater drop
+-- of two heights not above `level`, the lower has the greater drop
 further_down : (level low h : ℤ) → h <ℤ low → low ≤ℤ level →
     drop_by level (Some low) < drop_by level (Some h)
 further_down level low h lt le = elim (part_of (level -ℤ h)) [
@@ -141,7 +141,7 @@ module _ (level : ℤ) (heights : List (Option ℤ)) (parity : ℕ) (lowest : �
         ]
       ]
 
--- Of the ways seen, of one parity, `turns` come before the first lowest one.
+-- Of `turn` ways of a parity, the first `turns` lie above `lowest`: all, or the next one does not.
 pub record ArePast (level : ℤ) (heights : List (Option ℤ)) (parity : ℕ) (lowest : ℤ)
     (turns turn : ℕ) (is_past : Bool) : Type 0 where
   pub past : (other : ℕ) → other < turns → lowest <ℤ height_on level heights parity other
@@ -343,7 +343,7 @@ module _ (a : Around) (level : ℤ) (heights : List (Option ℤ))
               );
         }
 
-    -- if the greatest drop across is above 0, the two greatest weights are not equal
+    -- if the greatest weight across is above 0 and no less than the greatest straight, it is more
     across_heavier : 2 * (o * o) ≤ d * d → 0 < d → 2 * (o * o) < d * d
     across_heavier much some =
         elim (cases_eq (2 * (o * o)) (d * d)) [

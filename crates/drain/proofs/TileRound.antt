@@ -22,7 +22,7 @@ use Rattle.drain.proofs.Spots.{shows_same}
 use Rattle.drain.proofs.Unique.{at_place}
 use Rattle.drain.proofs.Few.{data_on_level_walk}
 
--- a spot with a value shows a place
+-- a spot with a value shows a place that has it in the list
 is_on : {X : Type 0} (cols rows : ℕ) (entries : List (Option X)) (b : Bounds) (s : Place)
     (o : Option X) (x : X) → IsShown cols rows entries None b s o → o ≡ Some x →
     (p : Place) × Shows b s p × (entry_at cols rows entries p ≡ Some x)

@@ -31,13 +31,13 @@ pub record AreBegun (t : Terrain) (counts : List (Option ℕ)) : Type 0 where
   pub each : (p : Place) → IsInside t p →
       IsBegun (DrainsAtOnce t) p (entry_at t.cols t.rows counts p)
 
--- The initial count at a spot of a window: that of its place, and unknown off the grid.
+-- The initial count of the place that a spot shows, unknown for a spot north or west of the grid.
 abbrev pub IsBegunSpot : (Place → Type 0) → Bounds → Place → ℕ → Type 0
 IsBegunSpot Drains b s count = (count ≤ no_count)
     × ((p : Place) → Shows b s p → IsBegun Drains p (known count))
     × (IsOff b s → known count ≡ None)
 
--- The initial counts of a tile and the places around it: 0 where `Drains` holds.
+-- The initial counts of a tile and the places around it: 0 where `Drains` holds, else unknown.
 abbrev pub AreBegunSpots : (Place → Type 0) → Bounds → List ℕ → Type 0
 AreBegunSpots Drains b counts = AreMadeSpots (IsBegunSpot Drains b) b (area_of b) 0 counts
 

@@ -20,7 +20,7 @@ IsInterior b p = (b.top < p.row) × (p.row + 1 < b.top + b.rows) × (b.left < p.
 abbrev pub sinkless_terrain : Cutting → List (Option ℤ) → Terrain
 sinkless_terrain c levels = record { cols = c.cols; rows = c.rows; cells = levels; sinks = [] }
 
--- An entry is for a cell of its tile. Its count is a walk's length, below the cell's own count.
+-- The entry lowers the count of a cell of its tile to the length of a level walk to a source.
 pub record IsEntry (t : Terrain) (c : Cutting) (steps : List (Option ℕ)) (e : Entry) : Type 0 where
   pub inside : IsInTile c e.tile e.change.place
   pub walked : IsWalked (IsSource t steps) t e.change.place e.change.count
@@ -37,7 +37,7 @@ IsEvenOrEntered c steps entries p q =
     ⊎ ((e : Entry) × IsAmong entries e × (e.change.place ≡ p)
     × (e.change.count ≤ count_of steps (index_of c.cols q) + 1))
 
--- The new list keeps the old entries, and covers each pair of level neighbours in `Done`.
+-- The new list keeps the old one and adds only entries; level pairs in `Done` are even or entered.
 pub record AreEntered (t : Terrain) (c : Cutting) (steps : List (Option ℕ))
     (Done : Place → Place → Type 0) (old new : List Entry) : Type 0 where
   pub kept : (e : Entry) → IsAmong old e → IsAmong new e

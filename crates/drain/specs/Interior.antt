@@ -17,7 +17,7 @@ pub record HasHeights (a : Around) (level : ℤ) (heights : List (Option ℤ)) :
   pub each : (way : ℕ) → way < 8 →
       slice_index_or heights way None ≡ option_map (λ w. w.0) (slice_index_or a.ways way None)
 
--- The drop from height `level` on a way.
+-- The drop from height `level` to that on a way; 0 if that one is not lower or there is none.
 abbrev pub drop_on : ℤ → List (Option ℤ) → ℕ → ℕ
 drop_on level heights way = drop_by level (slice_index_or heights way None)
 

@@ -1,4 +1,4 @@
--- How a tile's entries lower its counts. Counts are functions of row-order indexes here.
+-- How a tile's entries lower its counts. A parameter `counts` is a function of row-order indexes.
 -- Private.
 use Rattle.std.specs.Prelude.{◌≡◌, ℕ, zero, suc, ◌+◌, ◌-◌, ◌*◌, ◌/◌, ◌%◌, ◌^◌, ◌<◌, ◌≤◌, ◌⊎◌, List, Vec, length, Option, None, Some, if◌then◌else◌, option_and_then, slice_get, slice_index_or, unwrap_or}
 use Rattle.std.specs.declared.alloc.Global.{Global}
@@ -55,8 +55,8 @@ pub record IsEvenInside (t : Terrain) (c : Cutting) (tile : ℕ) (counts : ℕ �
   pub within : (p q : Place) → IsInTile c tile p → IsInTile c tile q → AreLevel t p q →
       counts (index_of c.cols p) ≤ counts (index_of c.cols q) + 1
 
--- A change lowers a cell of the tile below its input count, to the length of a walk; the cell's
--- current count is no greater.
+-- A change lowers a tile's cell below its input count, to the length of a level walk to a source.
+-- The cell's current count is no greater than the change's.
 pub record IsChange (t : Terrain) (c : Cutting) (tile : ℕ) (steps : List (Option ℕ))
     (counts : ℕ → ℕ) (x : Change) : Type 0 where
   pub inside : IsInTile c tile x.place

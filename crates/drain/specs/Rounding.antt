@@ -15,7 +15,7 @@ use Rattle.drain.specs.declared.changes.Entry.{Entry}
 use Rattle.drain.specs.declared.changes.Run.{Run}
 use Rattle.drain.specs.declared.rounds.Counting.{Counting}
 
--- The state between rounds: heights, counts so far, and entries sorted by tile.
+-- The state between rounds: cutting, heights, counts so far, and entries into tiles.
 pub record Rounding : Type 0 where
   pub cutting : Cutting
   pub levels : List (Option ℤ)
@@ -35,7 +35,7 @@ rounding_of c = record {
 abbrev pub levels_of : Rounding → Terrain
 levels_of r = sinkless_terrain r.cutting r.levels
 
--- Each tile is even inside, and the entries cover each cell that a neighbouring tile would lower.
+-- Tiles are even inside. Entries, sorted by tile, cover each cell that another tile would lower.
 pub record IsRounding (r : Rounding) : Type 0 where
   pub cutting : IsCutting r.cutting
   pub size : length r.levels ≡ r.cutting.cols * r.cutting.rows
@@ -47,7 +47,7 @@ pub record IsRounding (r : Rounding) : Type 0 where
       tile_of_place r.cutting p ≢ tile_of_place r.cutting q →
       IsEvenOrEntered r.cutting r.steps r.entries p q
 
--- The jobs of a round: job k lowers tile k by its run of entries, which may be empty.
+-- The jobs of a round: job k applies its run of entries, which may be empty, to tile k.
 pub record Jobs : Type 0 where
   pub rounding : Rounding
   pub runs : List Run
@@ -83,7 +83,7 @@ abbrev pub IsGiven : List (Vec Change Global) → Change → Type 0
 IsGiven outs x =
     (j : ℕ) × (list : Vec Change Global) × (slice_get outs j ≡ Some list) × IsAmong list.items x
 
--- The new counts are the old ones lowered by these changes.
+-- The new counts are the old ones with these changes applied, each where it is lower.
 pub record ArePut (cols : ℕ) (old new : List (Option ℕ)) (Given : Change → Type 0) : Type 0 where
   pub size : length new ≡ length old
   pub low : (k : ℕ) → count_of new k ≤ count_of old k

@@ -12,7 +12,7 @@ use Rattle.drain.specs.Steps.{IsLevelWalk}
 abbrev pub IsSource : Terrain → List (Option ℕ) → Place → Type 0
 IsSource t steps p = IsDataCell t p × (entry_at t.cols t.rows steps p ≡ Some 0)
 
--- The two lists of counts have 0 at the same cells.
+-- The two lists of counts have 0 at the same data cells.
 abbrev pub HaveSameSources : Terrain → List (Option ℕ) → List (Option ℕ) → Type 0
 HaveSameSources t old new = (p : Place) → IsSource t old p ↔ IsSource t new p
 
@@ -36,10 +36,10 @@ pub record IsRound (Ends : Place → Type 0) (t : Terrain) (c : Cutting) (tile :
   pub size : length new ≡ cell_count c tile
   pub walked : (p : Place) → IsInTile c tile p →
       IfSome (tile_entry c tile new p) (IsWalked Ends t p)
-  -- a new count is at most one above the old count of a neighbour on the flat
+  -- a new count is at most one above each known old count of a neighbour on the flat
   pub near : (p q : Place) → IsInTile c tile p → IsNeighbour t p q → height_at t q ≡ height_at t p →
       IsOneAbove (tile_entry c tile new p) (entry_at t.cols t.rows old q)
-  -- inside the tile a new count is at most one above that of a neighbour on the flat
+  -- inside the tile a new count is at most one above each known one of a neighbour on the flat
   pub within : (p q : Place) → IsInTile c tile p → IsInTile c tile q → IsNeighbour t p q →
       height_at t q ≡ height_at t p →
       IsOneAbove (tile_entry c tile new p) (tile_entry c tile new q)

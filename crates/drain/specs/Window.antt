@@ -101,8 +101,8 @@ pub record IsReached (b : Bounds) (levels : List (Option ℤ)) (spot : Place) (D
   -- each added spot lowered the sum of the counts
   pub left : length after + sum new ≤ length before + sum old
 
--- Each count of the tile is at most one above that of an adjacent spot of its height, unless the
--- adjacent spot waits in the list from index `from` on.
+-- Each count of the tile is at most one above those of the tile's adjacent spots of its height.
+-- Adjacent spots that wait in the list, from index `from` on, are excepted.
 pub record IsEvenBut (b : Bounds) (levels : List (Option ℤ)) (counts : List ℕ)
     (waiting : List Place) (from : ℕ) : Type 0 where
   pub each : (s r : Place) → IsInner b s → IsInner b r → Touches s r →

@@ -1,4 +1,4 @@
-//! Types of lower counts: a cell's new one, and one offered by an adjacent tile.
+//! Types: a lower count of a cell, an entry from an adjacent tile, a run of entries.
 
 use terrain::Place;
 

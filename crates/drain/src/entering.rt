@@ -132,7 +132,7 @@ impl<'a> RoundInput<'a> {
     }
 
     /// Appends entries for the cells around a tile that its rim's counts would lower.
-    /// Cells of the tile get none: its own search has left no count there to lower.
+    /// Cells of the tile get none if its own search has left no count there to lower.
     pub(crate) fn note_rim(&self, tile: u32, entries: &mut Vec<Entry>) -> Result<(), AllocError>
         requires counting { AreCounting (sinkless_terrain self.now.tiling.now self.now.levels.now)
             self.now.steps.now }
@@ -161,7 +161,7 @@ impl<'a> RoundInput<'a> {
             && place.col + 1 < bounds.left + bounds.cols
     }
 
-    /// Appends entries for the cells whose counts these changed cells would lower.
+    /// Appends entries for cells of other tiles that these changed cells would lower.
     /// A job's changes lie in one tile, and only those on its rim can lower other tiles.
     pub(crate) fn note_changes(
         &self,

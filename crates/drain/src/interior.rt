@@ -62,7 +62,7 @@ fn leads_on(level: Height, own: u32, height: Option<Height>, steps: Option<u32>)
     }
 }
 
-/// Returns the first direction to a neighbour on the flat with one step fewer.
+/// Returns the first way to a neighbour on the flat with one step fewer.
 #[inline(always)]
 fn onward(cells: &[Cell], steps: &[StepCount], at: &[usize; 8], level: Height, own: u32) -> usize
     requires cells { (way : ℕ) → way < 8 → slice_index_or at.now way 0 < length cells.now }

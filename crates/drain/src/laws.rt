@@ -52,7 +52,7 @@ pub fn directions_are_one()
         AreDirections t others → codes ≡ others }
 {}
 
-/// If a round over all tiles changes no count, the counts are the steps.
+/// In a filled terrain, counts that a round over all tiles keeps are the steps.
 /// Each cell that drains at once must have the count 0.
 #[tactic(auto, using(crate::proofs::Quiet::counts_are_steps))]
 pub fn quiet_is_counted()

@@ -1,9 +1,9 @@
 //! Steps of flats and D8 directions over a filled grid.
 //!
 //! Begin with [`directions`]. [`direction`] is the rule at one cell; [`flat_steps`] runs one round
-//! of counting over one tile. Depends on `drainage` and `tile_maps`.
+//! of counting over one tile. Depends on `terrain`, `tiles`, `tile_jobs`, `tile_maps`, `drainage`.
 //!
-//! Modules, callers first:
+//! Modules by stage, each stage's main module first:
 //!
 //! - `draining`: `directions`, which runs all stages
 //! - `first`: the first round

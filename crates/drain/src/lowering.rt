@@ -217,7 +217,7 @@ fn is_entry_due(entry: Entry, changes: &[Change], done: usize) -> bool
     }
 }
 
-/// Lowers a tile's counts by the entries of its run and returns the changes.
+/// Applies the entries of a run to its tile's counts and returns the changes.
 pub(crate) fn lower_tile(
     alloc: Global,
     input: &RoundInput<'_>,

@@ -1,6 +1,6 @@
 //! Later rounds: they carry steps over rims until a round changes nothing.
 //!
-//! A round runs a job for each tile, or with few entries (lower counts) on the caller's thread.
+//! The first ones, and those with many or no entries, run as jobs; others on the caller's thread.
 ghost use Rattle.std.specs.Prelude.{◌≡◌, ◌≢◌, ℕ, ◌*◌, ◌<◌, ◌≤◌, ◌↔◌, [], true, false, IsTrue, Vec, length, vec_len, OnOk, IfOk};
 ghost use Rattle.tile_jobs.specs.Fault.{RefusesWorkers};
 ghost use Rattle.tiles.specs.Cutting.{IsCutting, IsWithin, tile_of_place};
@@ -106,7 +106,7 @@ fn put(tiling: &Tiling, steps: &mut [StepCount], change: Change)
     }
 }
 
-/// Lowers the counts of the grid by the changes of one job.
+/// Applies one job's changes to the counts of the grid, each where it is lower.
 fn put_changes(tiling: &Tiling, steps: &mut [StepCount], changes: &[Change])
     requires steps { length steps.old ≡ tiling.now.cols * tiling.now.rows }
     requires changes { (x : Change) → IsAmong changes.now x → IsWithin tiling.now x.place }
@@ -117,7 +117,7 @@ fn put_changes(tiling: &Tiling, steps: &mut [StepCount], changes: &[Change])
     }
 }
 
-/// Lowers the counts of the grid by the changes of all jobs.
+/// Applies all jobs' changes to the counts of the grid, each where it is lower.
 fn put_all(tiling: &Tiling, steps: &mut [StepCount], outs: &[Vec<Change>])
     requires steps { length steps.old ≡ tiling.now.cols * tiling.now.rows }
     requires changes { (x : Change) → IsGiven outs.now x → IsWithin tiling.now x.place }
@@ -262,7 +262,7 @@ struct Counting<'a> {
 impl<'a> Counting<'a> {
     ghost use Rattle.drain.specs.Rounding.{rounding_of};
 
-    /// Lowers the counts by a round's changes and finds the next round's entries.
+    /// Applies a round's changes to the counts and finds the next round's entries.
     fn put_round(&mut self, alloc: Global, outs: &[Vec<Change>]) -> Result<(), AllocError>
         requires rounding { IsRounding (rounding_of self.old) }
         requires answered { AreAnswered (rounding_of self.old) outs.now }

@@ -15,7 +15,7 @@ use crate::around::Around;
 use drainage::Code;
 use terrain::Height;
 
-/// The greatest drop on some ways, and the way with it; 0 if no way leads down.
+/// The greatest drop on some ways, 0 if none leads down; if above 0, the first way with it.
 #[derive(Clone, Copy)]
 struct Fall {
     drop: u64,
@@ -57,8 +57,8 @@ fn is_above(height: Height, lowest: Height) -> bool
     height > lowest
 }
 
-/// Returns the first way of one parity that has the lowest height.
-// Sums instead of branches: a processor seldom predicts which way is lowest.
+/// Returns the first way of one parity that has the lowest height, the last way if none has it.
+// Without an early return: a processor seldom predicts which way is lowest.
 #[inline(always)]
 fn first_lowest(
     level: Height,
@@ -81,7 +81,7 @@ fn first_lowest(
     2 * turns + parity
 }
 
-/// Returns the greatest drop on the ways of one parity, and the first way with it.
+/// Returns the greatest drop on the ways of one parity and, if it is above 0, the first with it.
 #[inline(always)]
 fn furthest(level: Height, heights: &[Option<Height>; 8], parity: usize) -> Fall
     requires parity { parity < 2 }

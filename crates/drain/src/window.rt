@@ -81,7 +81,7 @@ fn lesser(window: &Window, counts: &[u32], spot: Place, level: Cell, bound: u32)
 }
 
 /// Returns 1 plus the least count on three spots of one row, at most `bound`.
-/// Only spots of height `level` count.
+/// Spots of another height than `level` are left out.
 #[inline(always)]
 #[tactic(auto, using(crate::proofs::Least::least_of_none))]
 fn least_of_three(window: &Window, counts: &[u32], from: Place, level: Cell, bound: u32) -> u32
@@ -99,7 +99,7 @@ fn least_of_three(window: &Window, counts: &[u32], from: Place, level: Cell, bou
     least
 }
 
-/// Returns 1 plus the least count of level spots around one, at most `bound`.
+/// Returns 1 plus the least count of level spots around `spot`, at most `bound`.
 #[inline(always)]
 fn least_around(window: &Window, counts: &[u32], spot: Place, bound: u32) -> u32
     requires size { length counts.now ≡ area_of window.now.bounds }
@@ -151,7 +151,7 @@ fn reach(
     Ok(())
 }
 
-/// Lowers level spots of one row around `spot` to its count plus 1; queues them.
+/// Lowers a row's level spots around `spot` to its count + 1; queues inner ones.
 #[inline(always)]
 #[tactic(auto, using(crate::proofs::Spreading::spread_counts))]
 fn spread_along(
@@ -175,7 +175,7 @@ fn spread_along(
     Ok(())
 }
 
-/// Lowers level spots around `spot` to its count plus 1, and queues them.
+/// Lowers level spots around `spot` to its count plus 1; queues those in the tile.
 #[tactic(auto, using(crate::proofs::Spreading::spread_counts))]
 fn spread(
     window: &Window,
@@ -254,7 +254,7 @@ fn pull_at(
     Ok(())
 }
 
-/// Lowers the spots of one row of the tile by the old counts around them.
+/// Lowers a tile row's spots to 1 plus the least old count of level spots around.
 #[tactic(auto, using(crate::proofs::Spreading::not_above_itself, crate::proofs::Noted::noted_none))]
 fn pull_along(
     window: &Window,
@@ -284,7 +284,7 @@ fn pull_along(
     Ok(())
 }
 
-/// Lowers spots of the tile by the old counts around them; returns those that fell.
+/// Applies [`pull_at`] to each spot of the tile; returns the spots that fell.
 #[tactic(auto, using(crate::proofs::Spreading::spread_none, crate::proofs::Spreading::near_after, crate::proofs::Noted::noted_none, crate::proofs::Noted::noted_then))]
 fn pull(
     alloc: Global,

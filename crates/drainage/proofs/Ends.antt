@@ -1,4 +1,4 @@
--- Every flow path ends at an outlet, if each code leads lower, or as high with fewer steps.
+-- Every flow path ends at an outlet, if codes but 0 lead lower, or as high with fewer steps.
 use Rattle.std.proofs.Common.{◌≡◌, ◌≢◌, ℕ, zero, suc, ◌+◌, ◌<◌, ◌≤◌, ◌<ℤ◌, true, ◌⊎◌, inl, inr, Option, None, Some, is_some, unwrap_or, pos, sym, ap, subst, refl, ◌∙◌, arith}
 use Rattle.std.proofs.lemmas.Int.{ints}
 use Rattle.std.proofs.lemmas.Bool.{cases_eq}

@@ -14,7 +14,7 @@ use Rattle.terrain.proofs.Places.{make_place}
 use Rattle.drainage.proofs.Heights.{first_is_data, height_below_crest}
 use Rattle.drainage.proofs.Reach.{field, any_place, data_inside, is_data, reaches, IsStable, HasLowPath, reaches_true, reaches_more, true_reaches}
 
--- where a implies b: 1 for b is 1 for a, or else 1 for b without a
+-- where a implies b, b counts as much as a and `b && not a` together
 one_more : (a b : Bool) → (a ≡ true → b ≡ true) → cond b 1 0 ≡ cond a 1 0 + cond (b && not a) 1 0
 one_more true true h = refl
 one_more true false h = let e = h refl in absurd (cc)
@@ -46,7 +46,7 @@ some_counted P (x ∷ xs) any = elim (or_cases (P x) (list_any P xs) any) [
   | inr later ↦ omega (arith, count_by_cons P x xs, some_counted P xs later)
 ]
 
--- if one more step reaches no greater number of cells, it reaches no other cell
+-- if no more cells reach an end cell in k + 1 moves than in k, no cell needs k + 1 moves
 stable_at : (t : Terrain) (c : ℤ) (k : ℕ) →
     count_by (reaches t c (suc k)) (field t) ≤ count_by (reaches t c k) (field t) → IsStable t c k
 stable_at t c k h p more = elim (cases_Bool (reaches t c k p)) [

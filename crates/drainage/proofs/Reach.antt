@@ -16,7 +16,7 @@ use Rattle.terrain.proofs.Places.{make_place, same_place, index_below, inside_fr
 use Rattle.terrain.proofs.Listed.{place_is, is_place_from, listed_from_any, any_from_listed}
 use Rattle.drainage.proofs.Heights.{known, first_is_data}
 
--- the field: the places of the grid, and of one more row and column
+-- the place of index n in rows of `cols`; `field` has the grid's and one more row and column
 abbrev pub place_at : ℕ → ℕ → Place
 place_at cols n = make_place (n / cols) (n % cols)
 
@@ -148,7 +148,7 @@ true_end t p (inr sink) =
 abbrev pub is_low : Terrain → ℤ → Place → Bool
 is_low t c p = is_data t p && int_le (height_of t p) c
 
--- the cell reaches an end cell in at most k steps over cells at or below c
+-- the cell reaches an end cell in at most k moves over cells at or below c
 abbrev pub reaches : Terrain → ℤ → ℕ → Place → Bool
 reaches t c zero p = is_low t c p && is_end_cell t p
 reaches t c (suc k) p =
@@ -193,7 +193,7 @@ reaches_true t c (suc k) p h =
           )
     ]
 
--- one more step keeps every cell reached
+-- a cell that reaches an end cell in at most k moves does so in at most k + 1
 pub reaches_more : (t : Terrain) (c : ℤ) (k : ℕ) (p : Place) → reaches t c k p ≡ true →
     reaches t c (suc k) p ≡ true
 reaches_more t c zero p h =
@@ -226,7 +226,7 @@ reaches_end t c (suc k) p low e = and_from (is_low t c p) (is_end_cell t p
     || list_any (λ q. is_next t p q && reaches t c k q) (field t)) low
     (or_left (is_end_cell t p) (list_any (λ q. is_next t p q && reaches t c k q) (field t)) e)
 
--- one more step reaches no more cells
+-- each cell that reaches an end cell in at most k + 1 moves does so in at most k
 abbrev pub IsStable : Terrain → ℤ → ℕ → Type 0
 IsStable t c k = (p : Place) → reaches t c (suc k) p ≡ true → reaches t c k p ≡ true
 

@@ -16,7 +16,7 @@ pub record Directed : Type 0 where
 abbrev pub code_at : Directed → Place → Option ℕ
 code_at d p = entry_at d.cols d.rows d.codes p
 
--- The cell that a cell's direction points to; an outlet's next cell is itself.
+-- The cell that a cell's direction points to; for an outlet or without data, the cell itself.
 abbrev pub next : Directed → Place → Place
 next d p = unwrap_or (option_and_then (λ code. place_toward code p) (code_at d p)) p
 
@@ -29,7 +29,7 @@ follow d p (suc k) = next d (follow d p k)
 abbrev pub moves : Directed → ℕ
 moves d = d.cols * d.rows
 
--- The cell at which the flow path of p ends.
+-- The cell reached from p after `moves` moves. If the flow path of p ends, it ends there.
 abbrev pub last_of : Directed → Place → Place
 last_of d p = follow d p (moves d)
 

@@ -10,7 +10,7 @@ use std::marker::Model;
 use std::snapshot::Snapshot;
 use terrain::{Grid, Place};
 
-/// The code of each cell of a grid; ghosts hold its filled heights and steps.
+/// The code of each data cell of a grid; ghosts hold filled heights and steps.
 /// Each code but 0 leads to a lower cell, or to one as high with fewer steps.
 #[derive(Drop)]
 pub struct Directions {

@@ -63,7 +63,7 @@ joins_of_is sources from (Some to) j h = elim (cases_eq from.node to.node) [
 pub covered_itself : (joins : List Join) (j : Join) → Contains joins j → Covered joins j
 covered_itself joins j h = (j, h, refl, refl, ≤ℤ_refl j.height)
 
--- A covered join stays covered.
+-- If `new` covers each join of `now`, it covers each join that `now` covers.
 covered_still : (now new : List Join) → ((j : Join) → Contains now j → Covered new j) → (j : Join) →
     Covered now j → Covered new j
 covered_still now new kept j c = let d = kept c.0 c.1 in
@@ -120,7 +120,7 @@ left_out_still marks out p q now new kept j (inl spared) = inl spared
 left_out_still marks out p q now new kept j (inr covered) =
     inr (covered_still now new kept j covered)
 
--- The join of two cells at a corner is left out if a cell between is no higher.
+-- The join of two cells at a corner is left out, if `IsLowBetween` holds of a cell between.
 pub left_out_corner : (marks : Marks) (out : LeftOutJoins) (p q middle : Place) (from : CellLabel)
     (between to : Option CellLabel)
     → IsBetween p q middle → marks p ≡ Some from → between ≡ marks middle → to ≡ marks q
@@ -167,11 +167,11 @@ after_way p q t (inl down) =
       ]
     ]
 
--- A place in one of the first four directions is in the same row or in the next.
 west_row : (row n : ℕ) (q : Place) → place_if_both (Some row) (before n) ≡ Some q → row ≡ q.row
 west_row row zero q on = none_some (place_if_both (Some row) None) q refl on
 west_row row (suc n) q on = ap (λ (z : Place). z.row) (same_Some _ q on)
 
+-- A place in one of the first four directions, if in another row, is in the next.
 pub next_row : (p q : Place) (way : ℕ) → way < 4 → place_on way p ≡ Some q → p.row ≢ q.row →
     q.row ≡ p.row + 1
 next_row p q zero few on differ = absurd (differ (ap (λ (z : Place). z.row) (same_Some _ q on)))
@@ -180,11 +180,11 @@ next_row p q (suc (suc zero)) few on differ = sym (ap (λ (z : Place). z.row) (s
 next_row p q (suc (suc (suc zero))) few on differ = sym (west_row (p.row + 1) p.col q on)
 next_row p q (suc (suc (suc (suc way)))) few on differ = absurd (omega (arith, few))
 
--- A place in one of the first four directions, if in the same column, is the place below.
 west_col : (row n : ℕ) (q : Place) → place_if_both (Some row) (before n) ≡ Some q → q.col ≢ n
 west_col row zero q on same = none_some (place_if_both (Some row) None) q refl on
 west_col row (suc n) q on same = omega (arith, ap (λ (z : Place). z.col) (same_Some _ q on), same)
 
+-- A place in one of the first four directions, if in the same column, is the place below.
 pub same_col : (p q : Place) (way : ℕ) → way < 4 → place_on way p ≡ Some q → q.col ≡ p.col →
     q ≡ record { row = p.row + 1; col = p.col }
 same_col p q zero few on same =
@@ -195,7 +195,7 @@ same_col p q (suc (suc zero)) few on same = sym (same_Some _ q on)
 same_col p q (suc (suc (suc zero))) few on same = absurd (west_col (p.row + 1) p.col q on same)
 same_col p q (suc (suc (suc (suc way)))) few on same = absurd (omega (arith, few))
 
--- The cell in a direction has no mark, or the join with it has been added.
+-- If the join with the cell in a direction, if any, has been added, `Adds` holds of that pair.
 pub adds_on_way : (marks : Marks) (out : LeftOutJoins) (p q : Place) (way : ℕ) (wanted : Place →
     Bool) (from : CellLabel) (o : Option CellLabel) (old new : List Join) → marks p ≡ Some from →
     marks q ≡ o → way < 8 → place_on way p ≡ Some q → wanted q ≡ true → AddsCovered old
@@ -240,7 +240,7 @@ adds_on_way marks out p q way wanted from o old new here there few on want s = r
       (sym m.greater) (cons_head j []))))));
 }
 
--- The join with the cell in a direction is left out.
+-- If the join with the cell in a direction is left out, `Adds` of that pair holds with no change.
 pub adds_left_out : (marks : Marks) (out : LeftOutJoins) (p q : Place) (way : ℕ)
     (wanted : Place → Bool) (old : List Join) → place_on way p ≡ Some q → IsLeftOut marks out p q →
     Adds marks out (IsPairOn way p wanted) old old
@@ -291,7 +291,7 @@ adds_then marks out first later both old now new split a b = record {
   ];
 }
 
--- Only pairs of cells that have marks and touch matter.
+-- `Adds` of some pairs is `Adds` of more, if no later pair of the others touches and has marks.
 pub adds_as : (marks : Marks) (out : LeftOutJoins) (first both : Place → Place → Type 0)
     (old new : List Join) → ((p q : Place) → first p q → both p q) → ((p q : Place) → Touches p q →
     IsAfter p q → (m : CellLabel) → marks p ≡ Some m → (n : CellLabel) → marks q ≡ Some n →
@@ -307,7 +307,7 @@ adds_as marks out first both old new wider narrower a = record {
       a.every p q j (narrower p q m.touches after _ m.from_is _ m.to_is at) after m;
 }
 
--- The joins of a cell are those in its first four directions.
+-- Adding a cell's wanted joins in the first four directions, one by one, adds all its wanted joins.
 pub adds_four : (marks : Marks) (out : LeftOutJoins) (p : Place) (wanted : Place → Bool)
     (old first second third new : List Join)
     → Adds marks out (IsPairOn 0 p wanted) old first →

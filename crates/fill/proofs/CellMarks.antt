@@ -124,7 +124,7 @@ pub held : (c : Cutting) (floods : List Flood) (tile : ℕ) (f : Flood) (p : Pla
 held c floods tile f p b h fit below e same inside = in_tile c tile p h below
     (subst (λ b. IsInBounds b p) (same ∙ fit.bounds tile f e) (in_bounds_parts b p inside))
 
--- The mark of a cell, by its index in its tile.
+-- A cell's mark among the floods is that at its index in the flood of its tile.
 pub entry_mark : (c : Cutting) (floods : List Flood) (tile : ℕ) (f : Flood) (q : Place) (i : ℕ) →
     IsCutting c → tile < tile_count c →
     slice_get floods tile ≡ Some f → f.bounds ≡ bounds_of c tile → IsInBounds (bounds_of c tile) q →
@@ -194,7 +194,7 @@ pub adds_anywhere : (marks : Marks) (out : LeftOutJoins) (p : Place) (old new : 
 adds_anywhere marks out p old new s = adds_as marks out (IsPairFrom p anywhere) (λ q r.
     q ≡ p) old new (λ q r at. at.0) (λ q r touch after m m_is n n_is at. (at, refl)) s
 
--- The joins of a cell with its four later neighbours have been added.
+-- `AddsAfter` of an inner cell gives `Adds` of all pairs from it.
 pub inner_adds : (f : Flood) (out : LeftOutJoins) (p : Place) (i : ℕ) (from : CellLabel) (old new :
     List Join) → IsInner f.bounds p → i ≡ index_in f.bounds p → mark_with 0 f i ≡ Some from →
     AddsAfter f out from i f.bounds.cols old new → Adds (mark_in 0 f) out (λ q r. q ≡ p) old new
@@ -308,7 +308,7 @@ inner_cell_adds f out p i old new inner at s = elim (cases_option (mark_with 0 f
       (MatchOption-at_some _ _ found.0 found.1 s)
 ]
 
--- A cell of an inner row has a row of the tile after it.
+-- The south-east neighbour of a cell before the last row and column has an index in the tile.
 pub inner_row_index : (b : Bounds) (row index : ℕ) → b.top ≤ row → row + 1 < b.top + b.rows →
     index + 1 < (row - b.top) * b.cols + b.cols → index + b.cols + 1 < b.rows * b.cols
 inner_row_index b row index above below last =
@@ -318,7 +318,7 @@ inner_row_index b row index above below last =
       mul-le (row - b.top + 2) b.cols b.rows b.cols (omega (arith, above, below)) (omega arith),
     )
 
--- The inner cells of a row up to an index, and the one at it.
+-- The inner cells of a row up to an index are those before it and the one at it.
 pub inner_so_far : (b : Bounds) (row start index : ℕ) → b.top ≤ row → row + 1 < b.top + b.rows →
     start < index → index + 1 < start + b.cols → (p : Place) →
     (IsInner b p × (p.row ≡ row) × (p.col + start < b.left + (index + 1)))
@@ -347,7 +347,7 @@ inner_so_far b row start index above below first last p = (
   ],
 )
 
--- The places of a row up to a column, and the one in it.
+-- The places of a row up to a column are those before it and the one in it.
 pub row_so_far : (Inside : Place → Type 0) (row col : ℕ) →
     Inside (record { row = row; col = col }) → (p : Place) →
     (Inside p × (p.row ≡ row) × (p.col < col + 1))
@@ -365,7 +365,7 @@ row_so_far Inside row col inside p = (
   ],
 )
 
--- An index with an entry lies in the list.
+-- An index whose entry is not None lies in the list.
 pub some_below : {X : Type 0} (xs : List (Option X)) (i : ℕ) (x : X) → get_or xs i None ≡ Some x →
     i < length xs
 some_below xs i x e = elim (cases_lt i (length xs)) [
@@ -400,14 +400,14 @@ pub shift_back : (first : ℕ) (o : Option CellLabel) (m : CellLabel) →
 shift_back first None m e = absurd (cc)
 shift_back first (Some n) m e = (n, refl, same_Some _ m e)
 
--- The mark of a place of a tile, by its mark in the flood.
+-- The mark of a place of a tile is its mark by the tile's flood, shifted by the first number.
 pub among_shift : (c : Cutting) (floods : List Flood) (tile : ℕ) (f : Flood) (p : Place) →
     slice_get floods tile ≡ Some f → tile_of_place c p ≡ tile →
     mark_among c floods p ≡ option_map (shift (first_of floods tile)) (mark_in 0 f p)
 among_shift c floods tile f p there here = sym (mark_from_tile c floods tile f p there here)
     ∙ in_shift (first_of floods tile) f p
 
--- The label of a mark is an index into the table.
+-- In marks with first number 0, the number of a label is an index into the flood's table.
 pub index_inside : (f : Flood) (p : Place) (m : CellLabel) → IsFlood f → mark_in 0 f p ≡ Some m →
     m.node < length f.table.places
 index_inside f p m lawful is =

@@ -15,7 +15,7 @@ use Rattle.fill.specs.declared.arcs.PreviousJoins.{PreviousJoins}
 use Rattle.fill.specs.declared.arcs.Link.{Link}
 use Rattle.fill.proofs.Adding.{no_join}
 
--- A chain from the last join.
+-- A chain from the last join is its arc, and then the chain from the join before it.
 chain_here : (link : ℕ → Link) (n : ℕ) →
     chain link (suc n) (suc n) ≡ (link n).arc ∷ chain link n (link n).before
 chain_here link n = cond-true _ _ _ (eq-eqb (suc n) (suc n) refl)
@@ -76,7 +76,7 @@ arcs_length lasts joins previous =
     length-map (range_with_len 0 (length lasts)) (λ a. chain (link_at joins previous a)
     (length previous) (get_or lasts a 0)) ∙ length-range_with_len 0 (length lasts)
 
--- The lists before any join.
+-- Before any join, the lists have no arcs and are linked.
 module _ (labels : ℕ) (lasts : List ℕ) (joins : List Join) (previous : List PreviousJoins)
     (is : lasts ≡ replicate labels 0) (none : previous ≡ []) where
   size : length lasts ≡ labels
@@ -112,7 +112,7 @@ make_arc to height = record { to = to; height = height }
 one : (x k : Join) → Contains (x ∷ []) k → k ≡ x
 one x k h = elim (cons_cases x [] k h) [ inl same ↦ same | inr none ↦ absurd (no_join k none) ]
 
--- One more arc from a label is that of one more join.
+-- A list with one more arc, which is that of join `j`, has just the old arcs and that of `j`.
 one_arc : (j : Join) (w : Spill) (old new : List Spill) (a b : ℕ) (h : ℤ) → new ≡ w ∷ old →
     (make_arc b h ≡ w ↔ IsJoinOf (j ∷ []) a b h)
     → Contains new (make_arc b h) ↔ (Contains old (make_arc b h) ⊎ IsJoinOf (j ∷ []) a b h)
@@ -128,7 +128,7 @@ one_arc j w old new a b h is same = (
   ]),
 )
 
--- The lists after one more join.
+-- The lists after one more join, `j`: they are linked, and the arcs of `j` have been added.
 module _ (lasts : List ℕ) (joins : List Join) (previous : List PreviousJoins) (j : Join)
     (linked : AreLinked lasts joins previous) (more : length previous < length joins)
     (is : get_or joins (length previous) (record { from = 0; to = 0; height = pos 0 }) ≡ j)
@@ -152,7 +152,7 @@ module _ (lasts : List ℕ) (joins : List Join) (previous : List PreviousJoins) 
   same_length = length-set (set lasts j.from (length after)) j.to (length after)
       ∙ length-set lasts j.from (length after)
 
-  -- The links of earlier joins, and of the new join.
+  -- The links of earlier joins stay as they were.
   old_link : (label i : ℕ) → i < count →
       link_at joins after label i ≡ link_at joins previous label i
   old_link label i low =
@@ -242,7 +242,7 @@ module _ (lasts : List ℕ) (joins : List Join) (previous : List PreviousJoins) 
   abbrev new : List (List Spill)
   new = arcs_by lasts_after joins after
 
-  -- The arcs from either label of the new join.
+  -- A label of the new join has one arc more, before its old ones.
   here : (label : ℕ) (arc : Spill) → label < length lasts →
       get_or lasts_after label 0 ≡ length after
       → link_from label j both ≡ record { arc = arc; before = get_or lasts label 0 } →
@@ -335,7 +335,7 @@ module _ (lasts : List ℕ) (joins : List Join) (previous : List PreviousJoins) 
     back a b h is_to arc = ap (λ n. record { from = j.from; to = n; height = j.height }) (sym is_to)
         ∙ ap (λ (w : Spill). record { from = w.to; to = a; height = w.height }) (sym arc)
 
--- Whether there is an arc from a label.
+-- There is an arc from a label if its last join is not 0, and none if it is 0.
 pub some_arc : (lasts : List ℕ) (joins : List Join) (previous : List PreviousJoins) (label : ℕ) →
     AreLinked lasts joins previous → label < length lasts
     → (0 < get_or lasts label 0 → has_arcs (arcs_by lasts joins previous) label ≡ true)

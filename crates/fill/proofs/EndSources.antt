@@ -131,7 +131,7 @@ no_tile t c floods places heights size is = record {
   every = λ tile f k p h low. absurd (omega (arith, low));
 }
 
--- An entry of an end cell has its height.
+-- The height that `IsEndAt` gives is that of an end cell with this node.
 end_is : (t : Terrain) (c : Cutting) (f : Flood) (a : ℕ) (o : Option ℤ)
     → AreEndHeights t f.table.places f.ends → IsEndAt c f a o
     → (h : ℤ) × (o ≡ Some h) × IsEndNode t c a h

@@ -1,4 +1,4 @@
--- The number of the first entry of each tile's table, and the heights of end cells by number.
+-- The number of the first entry of each tile's table; all numbers of entries fit in 32 bits.
 use Rattle.std.proofs.Common.{◌≡◌, ℕ, ◌+◌, ◌-◌, ◌*◌, ◌<◌, ◌≤◌, inl, inr, List, [], ◌∷◌, ◌++◌, length, get_or, take, None, Some, ◌∙◌, sym, ap, subst, refl, arith}
 use Rattle.std.proofs.Math.Nat.{mul-mul-mul_comm}
 use Rattle.std.proofs.lemmas.Nat.{mul-le}
@@ -85,7 +85,7 @@ one_first floods i f firsts new next after low is flood more sum small s =
       ];
     })
 
--- A tile has at most one label for each cell, and the entry None.
+-- A tile's table has at most one entry more than a full tile has cells.
 pub few_labels : (t : Terrain) (c : Cutting) (floods : List Flood) (tile : ℕ) (f : Flood) →
     AreFloods t c floods → slice_get floods tile ≡ Some f → IsFlood f →
     length f.table.places ≤ c.side * c.side + 1

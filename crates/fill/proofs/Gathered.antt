@@ -165,7 +165,7 @@ module _ (t : Terrain) (c : Cutting) (floods : List Flood) (are : AreFloods t c 
         greater = m.greater;
       }
 
-  -- A pass by number is two cells that meet, unless both labels are sources.
+  -- A pass by number is two cells that meet, unless the labels are equal or both sources.
   number_meets : (out : LeftOutJoins) (a b : ℕ) (h : ℤ) →
       a ≢ b → are_both_sources out.sources a b ≡ false → (x : IsNumberPass t c floods a b h) →
       Meets (mark_among c floods) out x.from x.to (record { from = a; to = b; height = h })
@@ -180,7 +180,7 @@ module _ (t : Terrain) (c : Cutting) (floods : List Flood) (are : AreFloods t c 
     greater = x.greater;
   }
 
-  -- Labels that meet are joined as low, in one order or the other, or a third cell bypasses them.
+  -- Labels of a pass, not equal or both sources, have a join as low, or its cells are bypassed.
   number_cover : (out : LeftOutJoins) (joins : List Join) → AreGathered c floods out joins →
       (a b : ℕ) (h : ℤ) → a ≢ b → are_both_sources out.sources a b ≡ false →
       (x : IsNumberPass t c floods a b h) → ((out.bypassed ≡ true) × (IsBypassed
@@ -241,7 +241,7 @@ module _ (t : Terrain) (c : Cutting) (floods : List Flood) (are : AreFloods t c 
         number_below c floods x.to _ lawful x.to_is,
       ))
 
-  -- The spill graph by number.
+  -- The arcs of the gathered joins are those of the spill graph by number.
   pub is_number_graph : (out : LeftOutJoins) (sources : List (Option ℤ)) (joins : List Join)
       (arcs : List (List Spill)) → AreGathered c floods out joins → out.sources ≡ sources →
       sources ≡ ends_of floods → length arcs ≡ length sources → HasArcsOf joins arcs →
@@ -269,7 +269,7 @@ module _ (t : Terrain) (c : Cutting) (floods : List Flood) (are : AreFloods t c 
     ];
   }
 
-  -- The node of a label, by its number.
+  -- The entry of `nodes_of` at the number of a cell's label is the node of that label.
   node_is : (p : Place) (m : CellLabel) (x : IsNumbered c floods p m) →
       get_or (nodes_of c.cols floods) m.node 0 ≡ index_of c.cols x.label
   node_is p m x = get_or-map (node_of_label c.cols) (places_of floods) m.node None 0
@@ -334,7 +334,7 @@ module _ (t : Terrain) (c : Cutting) (floods : List Flood) (are : AreFloods t c 
     greater = max_comm x.to_level x.from_level ∙ x.greater;
   }
 
-  -- The number of the label that a cell carries.
+  -- A cell with a level and the label at node `a` has a mark, and `a` is the node of its number.
   carried : (p : Place) (a : ℕ) (level : ℤ) → Carries c floods p a →
       level_among c floods p ≡ Some level → IsWithin c p → (n : ℕ) × (mark_among c floods p
       ≡ Some (record { level = level; node = n })) × (get_or (nodes_of c.cols floods) n 0 ≡ a)

@@ -24,7 +24,7 @@ up joins rise m n d low below = elim (cases_eq m n) [
   first_up x y (inl a) = omega arith
   first_up x y (inr a) = omega (arith, a.0)
 
--- One step of the binary search.
+-- If the join at `middle` begins before the node, so do all joins before it.
 pub below_more : (joins : List Join) (node middle : ℕ) (e : Join) → AreRising joins →
     middle < length joins → (get_or joins middle e).from < node → (k : ℕ) (d : Join) →
     k < middle + 1 → (get_or joins k d).from < node
@@ -39,7 +39,7 @@ above_more joins node middle e rise inside high k d above below =
     let same = ap (λ (j : Join). j.from) (get_or_default joins middle d e inside) in
     omega (arith, up joins rise middle k d above below, same, high)
 
--- Past a join of a later node all joins are of later nodes.
+-- From a join that begins at a later node on, all joins begin at later nodes.
 pub past_node : (joins : List Join) (node end : ℕ) (e : Join) → AreRising joins →
     end < length joins → node ≤ (get_or joins end e).from → (get_or joins end e).from ≢ node →
     (k : ℕ) (d : Join) → end ≤ k → k < length joins → node < (get_or joins k d).from
@@ -48,7 +48,7 @@ past_node joins node end e rise inside low differ k d above below =
     above_more joins (node + 1) end e rise inside (omega (arith, low, differ)) k d above below in
     omega (arith, far)
 
--- The arcs of the joins between the two indexes are those of the node.
+-- If the joins from `start` up to `end` are those that begin at a node, their arcs are its arcs.
 pub just_node : (g : Graph) (joins : List Join) (node start end : ℕ) → IsGraph g → joins ≡ g.joins →
     start ≤ end → end ≤ length joins
     → ((k : ℕ) (d : Join) → k < start → (get_or joins k d).from < node) →

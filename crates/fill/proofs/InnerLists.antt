@@ -13,7 +13,7 @@ use Rattle.fill.specs.Spills.{AreFloods}
 use Rattle.fill.specs.declared.filling.FloodWithJoins.{FloodWithJoins}
 use Rattle.fill.specs.declared.spills.Join.{Join}
 
--- The item from which `map` makes an item.
+-- `map` makes the item at an index from the item at that index.
 image_at : {X Y : Type 0} (g : X → Y) (xs : List X) (ys : List Y) (i : ℕ) (y : Y) → ys ≡ map g xs →
     slice_get ys i ≡ Some y → (x : X) × (slice_get xs i ≡ Some x) × (g x ≡ y)
 image_at {Y = Y} g xs ys i y is there =
@@ -39,7 +39,7 @@ module _ (t : Terrain) (c : Cutting) (tiles : List FloodWithJoins) (n : ℕ) (si
       × IsInnerOf true y.flood y.joins.items) (get_or_from_slice_get tiles tile x x e)
       (given tile x (omega (arith, size, slice_get_within tiles tile x e)))
 
-  -- The floods that the jobs return.
+  -- The floods that the jobs return are those of the tiles.
   pub floods_given : IsCutting c → Cuts c t → n ≡ tile_count c → AreFloods t c floods
   floods_given h cuts same = record {
     lawful = h;
@@ -55,7 +55,7 @@ module _ (t : Terrain) (c : Cutting) (tiles : List FloodWithJoins) (n : ℕ) (si
         tiles floods tile f floods_are e in subst (IsTileFlood t c tile) x.2 (here tile x.0 x.1).0;
   }
 
-  -- The joins inside tiles that the jobs return.
+  -- The lists of joins that the jobs return are those inside the tiles.
   pub inner_given : (inner : List (Vec Join Global)) →
       inner ≡ map (λ (x : FloodWithJoins). x.joins) tiles → AreInner floods true inner
   inner_given inner inner_are = record {

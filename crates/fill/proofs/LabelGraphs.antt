@@ -29,7 +29,7 @@ arc_inside arcs a w h = elim (cases_lt a (length arcs)) [
       absurd (no_arc w (subst (λ (z : List Spill). Contains z w) (get_or_past arcs a [] past) h))
 ]
 
--- Adding no joins, and one more join.
+-- Adding no joins changes no arcs.
 pub no_arcs_added : (arcs : List (List Spill)) → AddsArcs [] arcs arcs
 no_arcs_added arcs = record {
   size = refl;
@@ -43,7 +43,7 @@ no_arcs_added arcs = record {
   );
 }
 
--- The joins of two lists.
+-- A join of two lists together is a join of the first or of the second.
 join_of_both : (first second : List Join) (a b : ℕ) (h : ℤ) → IsJoinOf (first ++ second) a b h
     ↔ (IsJoinOf first a b h ⊎ IsJoinOf second a b h)
 join_of_both first second a b h = (
@@ -91,7 +91,7 @@ arcs_then first second old now new s t = record {
   );
 }
 
--- The arcs of all joins.
+-- Arcs of joins that were added to empty lists are just those of the joins.
 pub arcs_of_all : (joins : List Join) (labels : ℕ) (old arcs : List (List Spill)) →
     old ≡ replicate labels [] → AddsArcs joins old arcs → HasArcsOf joins arcs
 arcs_of_all joins labels old arcs none s a b h = (
@@ -144,7 +144,7 @@ levels_or-at (x ∷ xs) (y ∷ ys) zero low same = refl
 levels_or-at (x ∷ xs) (y ∷ ys) (suc a) low same =
     levels_or-at xs ys a (omega (arith, low)) (omega (arith, same))
 
--- The level of a label is the same by joined sources as by all sources.
+-- `levels_or` turns the levels by joined sources into the levels by all sources.
 module _ (arcs : List (List Spill)) (sources : List (Option ℤ)) where
   some_has : (a b : ℕ) (h : ℤ) → HasArc arcs a b h → has_arcs arcs a ≡ true
   some_has a b h arc = by (get_or arcs a []) arc.there where
@@ -156,7 +156,7 @@ module _ (arcs : List (List Spill)) (sources : List (Option ℤ)) where
       joined_source arcs sources a ≡ source_number sources a
   source_is a has = cond-true _ _ _ has
 
-  -- Walks from a label with an arc.
+  -- From a label with an arc, a walk by all sources is one by joined sources, of the same crest.
   walk_forth : (walk : List Spill) (a : ℕ) → has_arcs arcs a ≡ true →
       IsWalk (HasArc arcs) (source_number sources) a walk
       → IsWalk (HasArc arcs) (joined_source arcs sources) a walk
@@ -225,7 +225,7 @@ module _ (arcs : List (List Spill)) (sources : List (Option ℤ)) where
         low h some [] is = le_of_same _ _ (sym (ap (λ (o : Option ℤ). unwrap_or o (pos 0)) some))
         low h some (step ∷ rest) is = absurd (alone a none step.to step.height is.0)
 
-  -- `IsNodeLevel` of a label with an arc, by the flood of joined sources.
+  -- A label with an arc has by all sources the level and label that it has by joined sources.
   linked_level : (a : ℕ) (level : Option ℤ) (label : Option ℕ) → has_arcs arcs a ≡ true
       → MatchOption level (HasNoWalk (HasArc arcs) (joined_source arcs sources) a
       × (label ≡ None)) (λ h. (end : ℕ) × (label ≡ Some end)

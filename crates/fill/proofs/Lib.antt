@@ -11,8 +11,8 @@ mod Shifting
 mod InnerLists
 mod Chains
 mod LabelGraphs
-mod GraphParts
 -- The spill graph by place.
+mod GraphParts
 mod Lowest
 mod Placed
 pub mod Gathered

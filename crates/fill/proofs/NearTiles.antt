@@ -25,7 +25,7 @@ module _ (t : Cutting) (tile : ℕ) (b : Bounds) (lawful : IsCutting t)
   short_cols : b.cols ≤ t.side
   short_cols = omega (arith, ap (λ (z : Bounds). z.cols) of_tile)
 
-  -- A tile has its own rows, and the tile below it the row after them.
+  -- For each of a tile's own rows, the tile with that row is the tile itself.
   pub row_of_tile : (row : ℕ) → b.top ≤ row → row < b.top + b.rows → IsTileWithRow t tile row tile
   row_of_tile row top bottom =
       let same : row / t.side ≡ tile / across t = piece_is t.side (tile / across t) row
@@ -40,7 +40,7 @@ module _ (t : Cutting) (tile : ℕ) (b : Bounds) (lawful : IsCutting t)
       is (omega (arith, at, inside)) ∙ ap (λ k. (b.top + b.rows) / t.side * across t + k) col
       ∙ ap (λ k. k / t.side * across t + tile_col) (sym at)
 
-  -- The tile of a place, by the tile with its row.
+  -- The tile of a place is the tile with its row, `first`, or the one after or before that.
   module _ (p : Place) (first : ℕ) (within : IsWithin t p)
       (is : IsTileWithRow t tile p.row first) where
     pub tile_there : b.left ≤ p.col → p.col < b.left + b.cols → first ≡ tile_of_place t p

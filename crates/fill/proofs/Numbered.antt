@@ -29,7 +29,7 @@ use Rattle.floods.specs.declared.net.Spill.{Spill}
 use Rattle.fill.proofs.CellMarks.{some_below, marked, marked_within, mark_from_tile, mark_some}
 use Rattle.fill.proofs.Rims.{IsLabelNet, LeadsRound, neighbour_back, level_has_data, has_tile_level, among_is, list_there}
 
--- Lists of equal lengths begin at equal indexes.
+-- If `g` and `h` give lists of equal lengths for each item, so they do together for the first `i`.
 flat_same : {X Y Z : Type 0} (g : X → List Y) (h : X → List Z) (xs : List X) (i : ℕ) →
     i ≤ length xs →
     ((k : ℕ) (d : X) → k < length xs → length (g (get_or xs k d)) ≡ length (h (get_or xs k d)))
@@ -44,7 +44,7 @@ flat_same g h (x ∷ xs) (suc i) low same =
     length-append (g x) (flat_map g (take i xs)) ∙ omega (arith, here, rest)
     ∙ sym (length-append (h x) (flat_map h (take i xs)))
 
--- The place of a label, by its number.
+-- In `places_of`, the place at the number of a tile's entry is that of the entry.
 pub place_at : (floods : List Flood) (tile k : ℕ) (f : Flood) →
     slice_get floods tile ≡ Some f → k < length f.table.places →
     get_or (places_of floods) (first_of floods tile + k) None ≡ get_or f.table.places k None
@@ -54,7 +54,7 @@ place_at floods tile k f there inside =
     tile f there) (subst (λ (g : Flood). k < length g.table.places) (sym is) inside)
     ∙ ap (λ (g : Flood). get_or g.table.places k None) is
 
--- The height of a label that is an end cell, by its number.
+-- In `ends_of`, the height at the number of a tile's entry is that of the entry.
 pub end_at : (t : Terrain) (c : Cutting) (floods : List Flood) (tile k : ℕ) (f : Flood) →
     AreFloods t c floods → slice_get floods tile ≡ Some f → k < length f.table.places →
     get_or (ends_of floods) (first_of floods tile + k) None ≡ get_or f.ends k None
@@ -146,7 +146,7 @@ numbered c floods p m lawful e =
       node = x.node_is;
     }
 
--- The label of a cell, by its number.
+-- In `places_of`, the place at the number of a cell's label is that label.
 pub number_label : (c : Cutting) (floods : List Flood) (p : Place) (m : CellLabel)
     (x : IsNumbered c floods p m) → get_or (places_of floods) m.node None ≡ Some x.label
 number_label c floods p m x =

@@ -46,7 +46,7 @@ use Rattle.tile_maps.specs.Maps.{IsMadeMap, IsMadeTile}
 use Rattle.tile_maps.proofs.Whole.{map_of_size, tile_of_entries}
 use Rattle.drainage.proofs.FilledTwice.{filled_twice}
 
--- `AreEntries` of no entries, and of one more.
+-- `AreEntries` holds of an empty list.
 pub no_entries : (entry : ℕ → Option ℤ) (list : List (Option ℤ)) → list ≡ [] →
     AreEntries entry 0 list
 no_entries entry list none = record {
@@ -71,7 +71,7 @@ pub all_entries : (entry : ℕ → Option ℤ) (i count : ℕ) (list : List (Opt
 all_entries entry i count list below past s =
     subst (λ n. AreEntries entry n list) (omega (arith, below, past)) s
 
--- A cell has a level, and is raised, only if it has a label.
+-- A cell is raised alike by its height and by its level, which is None without a label.
 raised_where : (c : Cutting) (levels : List (Option ℤ)) (height : ℤ) (label : Option Place) →
     greater_of (Some height) (spill_of c levels label)
     ≡ raised_by c levels (option_map (λ _. height) label) label
@@ -134,7 +134,7 @@ raised_by_table c f places cells heights levels spills raised are table where_is
           ∙ by.each i (omega (arith, low, same));
     }
 
--- A raised height, with the level of the label stored as a cell.
+-- A raised height, as a cell, is the same if the label's level is stored as a cell first.
 greater_stored : (h : ℤ) (spill : Option ℤ) → h ≤ℤ no_data →
     cell_of (greater_of (Some h) (cell_of spill)) ≡ cell_of (greater_of (Some h) spill)
 greater_stored h None low = refl
@@ -147,7 +147,7 @@ greater_stored h (Some z) low = elim (cases_Bool (int_eq z no_data)) [
   | inr other ↦ ap (λ (o : Option ℤ). cell_of (greater_of (Some h) o)) (cond-false _ _ _ other)
 ]
 
--- A raised height of a tile, with the levels of its labels stored as cells.
+-- A tile's raised height, as a cell, is the same if its labels' levels are stored as cells first.
 pub raised_stored : (first : ℕ) (f : Flood) (levels : List (Option ℤ)) (x : RaisedTile) (i : ℕ) →
     IsRaisedTile first f levels x → i < length f.labels → get_or x.heights.now i (pos 0) ≤ℤ no_data
     → cell_of (greater_of
@@ -200,7 +200,7 @@ abbrev placed_among : Cutting → List Flood → List (Option ℤ) → Place →
 placed_among c floods levels p =
     raised_by c levels (level_among c floods p) (label_among c floods p)
 
--- The raised height of a place, by its index in its tile.
+-- By levels by place, the raised height at a place's index in its tile is `placed_among` of it.
 pub raised_here : (c : Cutting) (floods : List Flood)
     (tile k : ℕ) (f : Flood) (levels : List (Option ℤ)) (p : Place) → IsCutting c → Fit c floods →
     slice_get floods tile ≡ Some f → IsInTile c tile p
@@ -221,7 +221,7 @@ raised_here c floods tile k f levels p h fit there i at =
     sym (ap (λ z. raised_by c levels z (get_or f.labels k None)) own_level)
     ∙ sym (ap (raised_by c levels (level_among c floods p)) own_label)
 
--- The raised height of a place, by its index and the levels of labels by number.
+-- By levels by number, the raised height at a place's index in its tile is `raised_among` of it.
 number_here : (c : Cutting) (floods : List Flood) (tile k : ℕ)
     (f : Flood) (levels : List (Option ℤ)) (p : Place) → IsCutting c → Fit c floods →
     slice_get floods tile ≡ Some f → IsInTile c tile p
@@ -259,7 +259,7 @@ raised_tile c floods tile f levels raised h fit there is =
           ∙ raised_here c floods tile k f levels p h fit there i refl,
     )
 
--- The raised cells of a tile, by the levels of labels by number.
+-- `AreRaisedCells` of a tile are the raised heights of its places, as cells.
 pub raised_cells : (c : Cutting) (floods : List Flood) (tile : ℕ) (f : Flood)
     (levels cells : List (Option ℤ)) → IsCutting c → Fit c floods → slice_get floods tile ≡ Some f
     → AreRaisedCells (first_of floods tile) f levels cells
@@ -354,7 +354,7 @@ place_net t c floods g are graph = record {
       let x = from_option (label_among c floods p) a e in
       (x.0, x.1, x.2, label_inside t c floods p x.0 are x.1)
 
--- A cell is raised to its filled height, by the levels of a net of labels.
+-- If `spill` raises the level of a data cell to its filled height, the place is raised to that.
 raised_filled : (t : Terrain) (c : Cutting) (floods : List Flood) (p : Place) →
     AreFloods t c floods → IsWithin c p → (spill : Option ℤ)
     → ((l : HasTileLevel t c floods p) → IsDataCell t p → (n : ℤ) × (spill ≡ Some n)

@@ -75,7 +75,7 @@ level_has_data t c floods h are p l within e = elim (cases_option (height_at t p
       none_some _ l (among_is (λ f. level_in f p) floods tile f.0 f.1 ∙ here.0) e
 ]
 
--- A low path stays low with one more low step, and below a higher bound.
+-- A low path from a neighbour gives one from a cell whose height is low.
 low_step : (t : Terrain) (m : ℤ) (p q : Place) → IsNeighbour t p q → height_of t p ≤ℤ m →
     HasLowPath t m q → HasLowPath t m p
 low_step t m p q next low way =
@@ -97,7 +97,7 @@ neighbour_back t p q n = record {
   to_data = n.from_data;
 }
 
--- The first and last cell of a tile path below the bound both have a low path, or neither has.
+-- If the first cell of a tile path of low crest has a low path, so has the last.
 low_at_last : (t : Terrain) (c : Cutting) (m : ℤ) (p : Place) (rest : List Place) →
     IsTilePath t c p rest → crest t p rest ≤ℤ m → HasLowPath t m p → HasLowPath t m (last_of p rest)
 low_at_last t c m p [] path low way = way
@@ -115,7 +115,7 @@ low_at_first t c m p (q ∷ rest) path low way =
     (low_at_first t c m q rest path.2 (trans _ _ _ (max_right (height_of t p) (crest t q rest)) low)
     way)
 
--- A cell with a level below the bound has a low path exactly if its label has one.
+-- If a cell whose level is at most the bound has a low path, so has its label.
 low_at_label : (t : Terrain) (c : Cutting) (p label : Place) (level m : ℤ) →
     IsTileLevel t c p level label → level ≤ℤ m → HasLowPath t m p → HasLowPath t m label
 low_at_label t c p label level m l le way =
@@ -145,7 +145,7 @@ level_low t c floods h are p l rest path =
     trans _ _ _ (l.right.least inner.0 (tile_path t c tile h
     (tile_of_place_below c p h within) p inner.0 (within, refl) inner.1)) inner.2
 
--- A source has its own height as level, and is its own label.
+-- A source of a tile has its own height as level.
 pub source_level : (t : Terrain) (c : Cutting) (p label : Place) (level : ℤ) →
     IsTileLevel t c p level label → IsTileSource t c p → level ≡ height_of t p
 source_level t c p label level l source =
@@ -183,7 +183,7 @@ pub record AreMeeting (t : Terrain) (c : Cutting) (floods : List Flood) (number 
 abbrev IsStraight : Place → Place → Type 0
 IsStraight p q = (p.row ≡ q.row) ⊎ (p.col ≡ q.col)
 
--- A third cell, no higher than this, bypasses two cells that touch at a corner.
+-- A third cell, whose level is at most this height, bypasses two cells that touch at a corner.
 pub record LeadsRound (t : Terrain) (c : Cutting) (floods : List Flood) (p q : Place) (height : ℤ) :
     Type 0 where
   pub middle : Place
@@ -218,7 +218,7 @@ pub record IsLabelNet (t : Terrain) (c : Cutting) (floods : List Flood) (number 
 module _ (t : Terrain) (c : Cutting) (floods : List Flood) (h : IsCutting c)
     (are : AreFloods t c floods) (number : Place → Option ℕ) (joins : Joins) (source : Sources)
     (net : IsLabelNet t c floods number joins source) where
-  -- A label that is a source has a walk of no steps.
+  -- If a cell's label is a source, it has a walk of crest at most any bound on the cell's level.
   source_walk : (p : Place) (a : ℕ) (l : HasTileLevel t c floods p) (m : ℤ) →
       IsDataCell t p → number p ≡ Some a → l.level ≤ℤ m → IsSome (source a) → (walk : List Spill)
       × IsWalk joins source a walk × (walk_crest source a walk ≤ℤ m)
@@ -242,7 +242,7 @@ module _ (t : Terrain) (c : Cutting) (floods : List Flood) (h : IsCutting c)
   HasLowWalk a m = (walk : List Spill) × IsWalk joins source a walk
       × (walk_crest source a walk ≤ℤ m)
 
-  -- A low walk from a neighbour's label gives one from a cell's label, if both levels are low.
+  -- At low levels, a low walk from a neighbour's label gives one from a cell's, if bypasses do.
   walk_over : (p q : Place) (a b : ℕ) (m : ℤ) (l : HasTileLevel t c floods p)
       (k : HasTileLevel t c floods q) → IsNeighbour t p q → number p ≡ Some a → number q ≡ Some b →
       l.level ≤ℤ m → k.level ≤ℤ m

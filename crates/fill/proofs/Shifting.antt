@@ -163,7 +163,7 @@ module _ (t : Terrain) (c : Cutting) (floods : List Flood)
             (omega (arith, few, from), omega (arith, few, to))
       ])
 
-  -- The joins inside the tile have been added.
+  -- Appending the shifted joins inside the tile adds the joins of its pairs of cells.
   pub shift_adds : (inner old new : List Join) → IsInnerOf spare f inner →
       new ≡ old ++ map (shifted first) inner → Adds (mark_among c floods) (left_out_of spare floods)
       (λ p q. IsInTile c tile p × IsInTile c tile q) old new
@@ -203,7 +203,7 @@ module _ (t : Terrain) (c : Cutting) (floods : List Flood)
             ];
       })
 
-  -- The joins inside the tile and those over its rim have been added.
+  -- Adding the joins inside the tile and then those over its rim adds all that begin in it.
   pub tile_adds : (old now new : List Join) → Adds (mark_among c floods) (left_out_of spare floods)
       (λ p q. IsInTile c tile p × IsInTile c tile q) old now → Adds (mark_among c floods)
       (left_out_of spare floods) (λ p q. IsInTile c tile p × IsOutside c tile q) now new →

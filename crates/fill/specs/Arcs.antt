@@ -1,5 +1,5 @@
--- The arcs of each label, as linked lists over one list of joins. Each join has the joins before it
--- in the lists of its two labels. Joins are numbered from 1, and 0 is none.
+-- The arcs of each label, as linked lists over one list of joins. For each join, `previous` has the
+-- numbers of the joins before it in its two labels' lists. Numbers count from 1, and 0 is none.
 -- Private.
 use Rattle.std.specs.Prelude.{ℕ, zero, suc, ◌≤◌, ◌<◌, ◌==◌, if◌then◌else◌, Bool, true, false, pos, List, [], ◌∷◌, map, length, slice_index_or}
 use Rattle.std.specs.List.{range_with_len}
@@ -15,13 +15,13 @@ link_from label j b =
     if j.from == label then record { arc = arc_of j; before = b.from }
     else record { arc = arc_of (turned j); before = b.to }
 
--- The link of the join at an index.
+-- The link of the join at index `i`, which counts from 0, in the list of `label`.
 abbrev pub link_at : List Join → List PreviousJoins → ℕ → ℕ → Link
 link_at joins previous label i =
     link_from label (slice_index_or joins i (record { from = 0; to = 0; height = pos 0 }))
     (slice_index_or previous i (record { from = 0; to = 0 }))
 
--- The arcs of a label from join `at` on, by the links of its list.
+-- The arcs of a label's list from join `at` on; none if `at` is 0 or above the count.
 abbrev pub chain : (ℕ → Link) → ℕ → ℕ → List Spill
 chain link zero at = []
 chain link (suc count) at =
@@ -34,7 +34,7 @@ arcs_by lasts joins previous =
     map (λ label. chain (link_at joins previous label) (length previous)
     (slice_index_or lasts label 0)) (range_with_len 0 (length lasts))
 
--- Each join is linked to earlier joins.
+-- Each label's last join has a link or is none. Each link leads to an earlier join or to none.
 pub record AreLinked (lasts : List ℕ) (joins : List Join)
     (previous : List PreviousJoins) : Type 0 where
   pub fit : length previous ≤ length joins

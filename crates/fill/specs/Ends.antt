@@ -1,4 +1,4 @@
--- The heights of labels that are end cells, by node.
+-- The heights of labels that are end cells, by node: a place's index in row order of the grid.
 -- Private.
 use Rattle.std.specs.Prelude.{◌≡◌, ℕ, ◌⊎◌, ℤ, List, length, set, Option, None, Some, IsSome, slice_index_or}
 use Rattle.terrain.specs.Neighbours.{index_of}
@@ -6,13 +6,13 @@ use Rattle.terrain.specs.declared.place.Place.{Place}
 use Rattle.tiles.specs.Cutting.{Cutting, IsWithin}
 use Rattle.cell_floods.specs.TileFlood.{Flood}
 
--- The list with the height of an end cell written at the node of its label.
+-- The list with a height written at the node of a place, unchanged if either is None.
 abbrev pub put_end : ℕ → Option Place → Option ℤ → List (Option ℤ) → List (Option ℤ)
 put_end cols (Some p) (Some h) heights = set heights (index_of cols p) (Some h)
 put_end cols (Some p) None heights = heights
 put_end cols None end heights = heights
 
--- An end cell of the flood has this node and this height.
+-- A label of the flood that is an end cell has this node and this height.
 pub record IsEndAt (c : Cutting) (f : Flood) (a : ℕ) (height : Option ℤ) : Type 0 where
   pub entry : ℕ
   pub place : Place
@@ -22,7 +22,7 @@ pub record IsEndAt (c : Cutting) (f : Flood) (a : ℕ) (height : Option ℤ) : T
   pub some : IsSome (slice_index_or f.ends entry None)
   pub is : height ≡ slice_index_or f.ends entry None
 
--- The heights of the flood's labels that are end cells have been written at their nodes.
+-- The flood's labels that are end cells have heights written at their nodes; the rest is kept.
 pub record PutsEnds (c : Cutting) (f : Flood) (old new : List (Option ℤ)) : Type 0 where
   pub size : length new ≡ length old
   pub only : (a : ℕ)

@@ -20,7 +20,7 @@ abbrev pub LabelsInside : Cutting → Flood → Type 0
 LabelsInside c f =
     (i : ℕ) (label : Place) → slice_index_or f.labels i None ≡ Some label → IsWithin c label
 
--- The floods have the bounds and sizes of this cutting's tiles.
+-- One flood for each tile: it has the tile's bounds, and lists of levels and labels of its size.
 pub record Fit (c : Cutting) (floods : List Flood) : Type 0 where
   pub count : length floods ≡ tile_count c
   pub bounds : (tile : ℕ) (f : Flood) → slice_get floods tile ≡ Some f → f.bounds ≡ bounds_of c tile
@@ -29,7 +29,7 @@ pub record Fit (c : Cutting) (floods : List Flood) : Type 0 where
   pub levels : (tile : ℕ) (f : Flood) → slice_get floods tile ≡ Some f →
       length f.levels ≡ f.bounds.rows * f.bounds.cols
 
--- A cell's mark: its level, and the number of its label.
+-- A cell's mark: its level, and the number of its label; None if it lacks either.
 abbrev pub mark_of : ℕ → Option ℤ → Option Place → Option CellLabel
 mark_of node (Some level) (Some label) = Some (record { level = level; node = node })
 mark_of node (Some level) None = None
@@ -40,7 +40,7 @@ abbrev pub mark_with : ℕ → Flood → ℕ → Option CellLabel
 mark_with first f index = mark_of (first + slice_index_or f.table.indexes index 0)
     (slice_index_or f.levels index None) (slice_index_or f.labels index None)
 
--- The mark of a place, None outside the tile.
+-- The mark of a place; None outside the tile, or where level or label is missing.
 abbrev pub mark_in : ℕ → Flood → Place → Option CellLabel
 mark_in first f p =
     if is_in_bounds f.bounds p then mark_with first f (index_in f.bounds p) else None
@@ -50,7 +50,7 @@ abbrev pub mark_among : Cutting → List Flood → Place → Option CellLabel
 mark_among c floods p = option_and_then (λ f. mark_in (first_of floods (tile_of_place c p)) f p)
     (slice_get floods (tile_of_place c p))
 
--- The marks of some places.
+-- A function from a place to its mark, None if it has none.
 abbrev pub Marks : Type 0
 Marks = Place → Option CellLabel
 
@@ -59,12 +59,12 @@ pub record LeftOutJoins : Type 0 where
   pub sources : List (Option ℤ)
   pub bypassed : Bool
 
--- The third place lies between two that touch at a corner: it touches both at a side.
+-- The third place is in the row of one of the two, and in the column of the other.
 abbrev pub IsBetween : Place → Place → Place → Type 0
 IsBetween p q r = ((r.row ≡ q.row) × (r.col ≡ p.col)) ⊎ ((r.row ≡ p.row) × (r.col ≡ q.col))
 
--- The second cell touches the first from below at a corner. The level of a cell between is at most
--- that of one of the two, so its joins with both are as low.
+-- The second cell is in the row after the first, in another column. A cell between has at most the
+-- greater of their levels, so its joins with both are as low as the join of the two.
 pub record IsBypassed (marks : Marks) (p q : Place) : Type 0 where
   pub middle : Place
   pub from : CellLabel
@@ -95,7 +95,7 @@ pub record Meets (marks : Marks) (out : LeftOutJoins) (p q : Place) (j : Join) :
   pub apart : are_both_sources out.sources j.from j.to ≡ false
   pub greater : int_max from_level to_level ≡ j.height
 
--- The cells of one of these pairs of places give the join.
+-- The join is that of two cells which are one of these pairs of places.
 abbrev pub IsMeetingAt : Marks → LeftOutJoins → (Place → Place → Type 0) → Join → Type 0
 IsMeetingAt marks out pairs j = (p q : Place) × pairs p q × Meets marks out p q j
 
@@ -103,7 +103,7 @@ IsMeetingAt marks out pairs j = (p q : Place) × pairs p q × Meets marks out p 
 abbrev pub IsLeftOut : Marks → LeftOutJoins → Place → Place → Type 0
 IsLeftOut marks out p q = (out.bypassed ≡ true) × IsBypassed marks p q
 
--- The join of two marks: none if their labels are equal or both sources, else one.
+-- The join of two marks; none if the second is None, or the labels are equal or both sources.
 abbrev pub joins_of : List (Option ℤ) → CellLabel → Option CellLabel → List Join
 joins_of sources from None = []
 joins_of sources from (Some to) =
@@ -151,7 +151,7 @@ abbrev pub AddsNear : Flood → LeftOutJoins → CellLabel → ℕ → List Join
 AddsNear f out from near old new =
     AddsCovered old (joins_of out.sources from (mark_with 0 f near)) new
 
--- The join at a corner has been added, or a cell at one of two other indexes bypasses it.
+-- The join at a corner, if any, has been added; or none has, as a cell at an index bypasses it.
 abbrev pub AddsCorner : Flood → LeftOutJoins → CellLabel → ℕ → ℕ → ℕ → List Join → List Join →
     Type 0
 AddsCorner f out from below beside near old new =
@@ -159,7 +159,7 @@ AddsCorner f out from below beside near old new =
     ⊎ IsLowBetween out from (mark_with 0 f beside) (mark_with 0 f near)) × (new ≡ old))
     ⊎ AddsNear f out from near old new
 
--- The joins of a cell with its four neighbours after it have been added.
+-- The joins of a cell with its four neighbours after it have been added, except bypassed ones.
 pub record AddsAfter (f : Flood) (out : LeftOutJoins) (from : CellLabel) (i width : ℕ)
     (old new : List Join) : Type 0 where
   pub after_first : List Join
@@ -209,7 +209,7 @@ pub record Adds (marks : Marks) (out : LeftOutJoins) (pairs : Place → Place �
 abbrev pub turned : Join → Join
 turned j = record { from = j.to; to = j.from; height = j.height }
 
--- The labels of the first join come before those of the second.
+-- The labels of the first join come before those of the second: by `from`, then by `to`.
 abbrev pub IsBefore : Join → Join → Type 0
 IsBefore j k = (j.from < k.from) ⊎ ((j.from ≡ k.from) × (j.to < k.to))
 
@@ -233,12 +233,12 @@ pub record AreGathered (c : Cutting) (floods : List Flood) (out : LeftOutJoins)
       Meets (mark_among c floods) out p q j →
       IsLeftOut (mark_among c floods) out p q ⊎ Covered joins j
 
--- The joins to leave out over all tiles: if `spare`, those that lower no level, else none.
+-- The joins to leave out over all tiles: if `spare`, two kinds that lower no level, else none.
 abbrev pub left_out_of : Bool → List Flood → LeftOutJoins
 left_out_of spare floods =
     record { sources = if spare then ends_of floods else []; bypassed = spare }
 
--- The joins to leave out inside a tile: if `spare`, those that lower no level, else none.
+-- The joins to leave out inside a tile: if `spare`, two kinds that lower no level, else none.
 abbrev pub left_out_in : Bool → Flood → LeftOutJoins
 left_out_in spare f = record { sources = if spare then f.ends else []; bypassed = spare }
 

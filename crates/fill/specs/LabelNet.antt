@@ -28,7 +28,7 @@ pub record NumberNet : Type 0 where
   pub arcs : List (List Spill)
   pub sources : List (Option ℤ)
 
--- For each arc there is one back.
+-- Each label has an entry of `sources`, numbers fit in 32 bits, and for each arc there is one back.
 pub record IsNumberNet (g : NumberNet) : Type 0 where
   pub size : length g.sources ≡ length g.arcs
   pub few : length g.arcs ≤ 4294967295
@@ -51,27 +51,27 @@ abbrev pub HasArcsOf : List Join → List (List Spill) → Type 0
 HasArcsOf joins arcs = (a b : ℕ) (h : ℤ) →
     Contains (slice_index_or arcs a []) (record { to = b; height = h }) ↔ IsJoinOf joins a b h
 
--- The height of a source, by its number.
+-- The height of the label with this number if it is a source, else None.
 abbrev pub source_number : List (Option ℤ) → ℕ → Option ℤ
 source_number sources a = slice_index_or sources a None
 
--- The height of a source that has an arc.
+-- The height of the label with this number if it is a source that has an arc, else None.
 abbrev pub joined_source : List (List Spill) → List (Option ℤ) → ℕ → Option ℤ
 joined_source arcs sources a = if has_arcs arcs a then source_number sources a else None
 
--- The least crest from each label to a source.
+-- The least crest of the walks from each label to a source, None for a label without a walk.
 abbrev pub AreNumberLevels : List (List Spill) → List (Option ℤ) → List (Option ℤ) → Type 0
 AreNumberLevels arcs sources levels = (labels : List (Option ℕ))
     × IsFlooded (HasArc arcs) (source_number sources) (length arcs) levels labels
 
--- The levels of a flood, or else the heights of sources.
+-- For each label its level in a flood or, where that is None, its height as a source.
 abbrev pub levels_or : List (Option ℤ) → List (Option ℤ) → List (Option ℤ)
 levels_or [] sources = []
 levels_or (height ∷ heights) [] = []
 levels_or (height ∷ heights) (source ∷ sources) =
     option_or height source ∷ levels_or heights sources
 
--- Two neighbouring cells have these labels, and the greater of their levels is this height.
+-- Two neighbouring cells have labels of these numbers; the greater of their levels is this height.
 pub record IsNumberPass (t : Terrain) (c : Cutting) (floods : List Flood) (a b : ℕ)
     (height : ℤ) : Type 0 where
   pub from : Place

@@ -6,11 +6,11 @@ use Rattle.terrain.specs.Neighbours.{index_of}
 use Rattle.terrain.specs.declared.place.Place.{Place}
 use Rattle.cell_floods.specs.TileFlood.{Flood, IsFlood}
 
--- The places of the labels.
+-- The place of each number's label, and None for a number whose entry has no label.
 abbrev pub places_of : List Flood → List (Option Place)
 places_of floods = flat_map (λ f. f.table.places) floods
 
--- The heights of the labels that are end cells.
+-- The height of each number's label if it is an end cell, else None.
 abbrev pub ends_of : List Flood → List (Option ℤ)
 ends_of floods = flat_map (λ f. f.ends) floods
 
@@ -18,7 +18,7 @@ ends_of floods = flat_map (λ f. f.ends) floods
 abbrev pub first_of : List Flood → ℕ → ℕ
 first_of floods tile = length (places_of (take tile floods))
 
--- The number of the first entry of each tile's table. All numbers fit in 32 bits.
+-- The number of each table's first entry. All numbers fit in 32 bits; each flood is an `IsFlood`.
 pub record AreFirsts (floods : List Flood) (firsts : List ℕ) : Type 0 where
   pub size : length firsts ≡ length floods
   pub each : (tile : ℕ) → tile < length floods → slice_index_or firsts tile 0 ≡ first_of floods tile
@@ -32,6 +32,6 @@ abbrev pub node_of_label : ℕ → Option Place → ℕ
 node_of_label cols (Some p) = index_of cols p
 node_of_label cols None = 0
 
--- The nodes of all labels.
+-- The node of each number's label, 0 for a number without a label.
 abbrev pub nodes_of : ℕ → List Flood → List ℕ
 nodes_of cols floods = map (node_of_label cols) (places_of floods)

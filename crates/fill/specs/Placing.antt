@@ -5,7 +5,7 @@ use Rattle.std.specs.List.{Contains}
 use Rattle.fill.specs.Gathering.{turned}
 use Rattle.fill.specs.declared.spills.Join.{Join}
 
--- The join of the places of two labels.
+-- The join of two labels, with the nodes of their places for their numbers.
 abbrev pub join_at : List ℕ → Join → Join
 join_at nodes j = record {
   from = slice_index_or nodes j.from 0;
@@ -18,13 +18,13 @@ abbrev pub placed_joins_of : List ℕ → Join → List Join
 placed_joins_of nodes j =
     if (join_at nodes j).from == (join_at nodes j).to then [] else join_at nodes j ∷ []
 
--- The join is that of the places of one of these joins, in either direction.
+-- The join is one of these by the places of its labels, which differ, in either direction.
 abbrev pub IsPlacedOf : List ℕ → List Join → Join → Type 0
 IsPlacedOf nodes joins j = (k : Join) × Contains joins k
     × ((join_at nodes k).from ≢ (join_at nodes k).to)
     × ((j ≡ join_at nodes k) ⊎ (j ≡ turned (join_at nodes k)))
 
--- These joins have been added by the places of their labels, in both directions.
+-- These joins, where the places of their labels differ, have been added by them in both directions.
 pub record AddsPlaced (nodes : List ℕ) (joins old new : List Join) : Type 0 where
   pub kept : (j : Join) → Contains old j → Contains new j
   pub only : (j : Join) → Contains new j → Contains old j ⊎ IsPlacedOf nodes joins j

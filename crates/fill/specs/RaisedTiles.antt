@@ -1,4 +1,4 @@
--- Tiles whose cells are raised to the levels of their labels.
+-- Tiles whose cells are raised to the greater of their level and their label's level.
 -- Private.
 use Rattle.std.specs.Prelude.{◌≡◌, ℕ, ◌+◌, ℤ, List, length, Option, None, slice_index_or, option_and_then}
 use Rattle.terrain.specs.StoredCells.{cell_of}

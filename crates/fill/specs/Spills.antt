@@ -12,7 +12,7 @@ use Rattle.cell_floods.specs.TileFlood.{Flood, IsTileFlood, level_in, label_in}
 use Rattle.floods.specs.Walk.{IsFlooded}
 use Rattle.fill.specs.declared.spills.Join.{Join}
 
--- One flood for each tile, in tile order.
+-- The cutting is one of the terrain; the list has the flood of each tile, in tile order.
 pub record AreFloods (t : Terrain) (c : Cutting) (floods : List Flood) : Type 0 where
   pub lawful : IsCutting c
   pub cuts : Cuts c t
@@ -32,7 +32,7 @@ abbrev pub Carries : Cutting → List Flood → Place → ℕ → Type 0
 Carries c floods p a =
     (label : Place) × (label_among c floods p ≡ Some label) × (index_of c.cols label ≡ a)
 
--- Two neighbouring cells have these labels, and the greater of their levels is this height.
+-- Two neighbouring cells have the labels at these nodes; the greater of their levels is the height.
 pub record IsPass (t : Terrain) (c : Cutting) (floods : List Flood) (a b : ℕ)
     (height : ℤ) : Type 0 where
   pub from : Place
@@ -66,7 +66,7 @@ pub record HasJoin (g : Graph) (a b : ℕ) (height : ℤ) : Type 0 where
   pub there : Contains g.joins (record { from = a; to = b; height = height })
   pub back : Contains g.joins (record { from = b; to = a; height = height })
 
--- The height of a source.
+-- The height of a node that is a source, else None.
 abbrev pub source_in : Graph → ℕ → Option ℤ
 source_in g a = slice_index_or g.sources a None
 
@@ -93,7 +93,7 @@ pub record IsGraphOf (t : Terrain) (c : Cutting) (floods : List Flood) (g : Grap
   pub joined_only : (a b : ℕ) (h : ℤ) → HasJoin g a b h → IsJoined t c floods a b h
   pub sources : AreSpillSources t c floods g
 
--- The least crest from each node of the graph.
+-- The least crest of the walks from each node of the graph, None for a node without a walk.
 abbrev pub AreLevelsOf : Graph → List (Option ℤ) → Type 0
 AreLevelsOf g levels =
     (labels : List (Option ℕ)) × IsFlooded (HasJoin g) (source_in g) g.nodes levels labels
@@ -102,7 +102,7 @@ AreLevelsOf g levels =
 abbrev pub AreSpillLevels : Terrain → Cutting → List Flood → List (Option ℤ) → Type 0
 AreSpillLevels t c floods levels = (g : Graph) × IsGraphOf t c floods g × AreLevelsOf g levels
 
--- The level of a label in the graph.
+-- The level of a label in the graph, None without a label.
 abbrev pub spill_of : Cutting → List (Option ℤ) → Option Place → Option ℤ
 spill_of c levels label =
     option_and_then (λ p. slice_index_or levels (index_of c.cols p) None) label
@@ -113,7 +113,7 @@ greater_of (Some level) (Some spill) = Some (int_max level spill)
 greater_of (Some level) None = None
 greater_of None spill = None
 
--- A data cell is raised to the greater of its level in its tile and its label's level.
+-- A cell's raised height: the greater of its level and its label's level, None if one is missing.
 abbrev pub raised_by : Cutting → List (Option ℤ) → Option ℤ → Option Place → Option ℤ
 raised_by c levels level label = greater_of level (spill_of c levels label)
 
@@ -122,7 +122,7 @@ pub record AreEntries (entry : ℕ → Option ℤ) (count : ℕ) (list : List (O
   pub size : length list ≡ count
   pub each : (k : ℕ) → k < count → slice_index_or list k None ≡ entry k
 
--- The greater of each height and the level of its label. `labels` has indexes into `spills`.
+-- The greater of each height and its label's level, None without one. `labels` indexes `spills`.
 abbrev pub AreGreater : List ℤ → List ℕ → List (Option ℤ) → List (Option ℤ) → Type 0
 AreGreater heights labels spills raised =
     AreEntries (λ i. greater_of (Some (slice_index_or heights i (pos 0)))

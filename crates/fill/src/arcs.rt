@@ -55,7 +55,7 @@ fn link_at(joins: &[Join], previous: &[PreviousJoins], label: u32, at: usize) ->
 /// The arcs from each label, the last join first.
 #[derive(Drop)]
 pub(crate) struct ArcLists {
-    /// The last join of each label.
+    /// The last join of each label, or [`NO_JOIN`].
     lasts: Vec<usize>,
     joins: Vec<Join>,
     previous: Vec<PreviousJoins>,

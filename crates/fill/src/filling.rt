@@ -110,7 +110,7 @@ fn tile_floods<R: Threads + Wait + Sync, G: Gate + Sync>(
     Ok((floods, inner))
 }
 
-/// Makes the spill graph of the floods, without joins that lower no level.
+/// Makes the spill graph of the floods, without the joins that [`LeftOut`] names.
 fn spill_graph(
     alloc: Global,
     tiles: &NumberedFloods<'_>,

@@ -26,7 +26,7 @@ fn push_shifted(joins: &mut Vec<Join>, first: u32, inner: &[Join]) -> Result<(),
     Ok(())
 }
 
-/// Returns the joins of all labels: those inside tiles and those over rims.
+/// Returns the joins inside tiles and over rims, except those left out.
 pub(crate) fn graph_joins(
     alloc: Global,
     tiles: &NumberedFloods<'_>,

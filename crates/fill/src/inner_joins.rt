@@ -70,7 +70,7 @@ fn push_near(
 }
 
 /// Adds the join of two cells that touch at a corner, if there is one.
-/// Leaves the join out if a path by one of the two cells between is as low.
+/// With `bypassed`, leaves the join out if a path by one of the two cells between is as low.
 #[inline(always)]
 fn push_corner(
     table: &mut JoinTable,

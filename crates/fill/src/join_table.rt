@@ -8,7 +8,7 @@ use crate::spills::Join;
 use std::alloc::{AllocError, Global};
 use std::marker::Model;
 
-/// The first number of slots, for each row and column of a tile.
+/// Slots at first for each row and column; the sum is rounded up to a power of two.
 ///
 /// Enough for most tiles, and no more, since the job of each tile clears all slots.
 const SLOTS_A_LINE: usize = 16;
@@ -41,7 +41,7 @@ impl Model for JoinTable {
 }
 
 /// Returns the slot of two labels at a probe: first their own, then those after.
-/// Fibonacci hashing mixes all bits: labels along a side often differ by multiples of 2^k.
+/// Fibonacci hashing spreads labels, which along a side often differ by multiples of 2^k.
 #[inline(always)]
 fn slot_of(from: u32, to: u32, probe: usize, slots: usize) -> usize
     requires { 0 < slots }
@@ -86,8 +86,8 @@ fn fill_slots(joins: &[Join], slots: &mut [usize])
     }
 }
 
-/// Lowers the join at an index to `join`, if both have the same labels.
-/// Returns whether they have.
+/// Lowers the join at an index to `join`, if that is lower and has its labels.
+/// Returns whether the labels are the same; `false` if there is no join at the index.
 #[inline(always)]
 fn lowers(joins: &mut Vec<Join>, at: usize, join: Join) -> bool
     ensures lowered { OnTrue result (AddsCovered joins.old.items (join ∷ []) joins.new.items) }
@@ -145,7 +145,7 @@ impl JoinTable {
         self.grow()
     }
 
-    /// Returns the joins without spare capacity: they live until the graph is made.
+    /// Returns the joins without spare capacity: those of all tiles live at once.
     pub(crate) fn into_joins(self) -> Vec<Join>
         ensures { result.items ≡ self }
     {

@@ -14,7 +14,7 @@ use terrain::Cell;
 /// joins of cells that touch at a corner, where a path by a third cell is as low.
 #[derive(Drop)]
 pub(crate) struct LeftOut<'a> {
-    /// The heights of end cells by label number. Other labels have no data or no entry.
+    /// The heights of end cells by label number; for other labels no data, or no entry.
     pub(crate) sources: &'a [Cell],
     pub(crate) bypassed: bool,
 }
@@ -58,7 +58,7 @@ fn are_both_sources(sources: &[Cell], from: u32, to: u32) -> bool
     is_source(sources, from) && is_source(sources, to)
 }
 
-/// Returns the join of two marks, unless their labels are equal or both sources.
+/// Returns the join of two marks with different labels, unless both are sources.
 #[inline(always)]
 pub(crate) fn join_of(sources: &[Cell], from: CellLabel, to: Option<CellLabel>) -> Option<Join>
     ensures { joins_of sources.now from to ≡ option_to_list result }

@@ -31,7 +31,7 @@ pub(crate) fn first_numbers(
     Ok(firsts)
 }
 
-/// Returns the heights of end cells by label number; other labels have no data.
+/// Returns the heights of end cells by label number; other entries are cells without data.
 pub(crate) fn label_ends(alloc: Global, floods: &[TileFlood]) -> Result<Vec<Cell>, AllocError>
     ensures { IfOk result (λ v. v.items ≡ ends_of floods.now) }
 {

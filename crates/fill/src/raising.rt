@@ -44,7 +44,7 @@ fn spills_of(
     Ok(spills)
 }
 
-/// Returns the greater of a cell's level and its label's level, if it has one.
+/// Returns the greater of a cell's level and its label's, `None` without the latter.
 #[inline(always)]
 fn greater(height: Height, spill: Option<Height>) -> Option<Height>
     ensures { result ≡ greater_of (Some height) spill }

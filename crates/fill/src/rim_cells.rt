@@ -1,4 +1,4 @@
-//! The joins of rim cells with later cells in row order: [`push_rim_cells`].
+//! The joins of cells that have a later neighbour off the tile: [`push_rim_cells`].
 //!
 //! A [`MarkedCells`] has the marks of cells, and selects the cells to join with.
 ghost use Rattle.std.specs.Prelude.{◌≡◌, ◌+◌, ◌<◌, ◌≤◌, ◌∷◌, [], List, Bool, Some, true, OnOk};
@@ -20,7 +20,7 @@ pub(crate) trait MarkedCells {
 
     ghost wanted: { Self → Place → Bool };
 
-    /// Returns the mark of a cell, `None` without data.
+    /// Returns the mark of a place, `None` without data or outside these cells.
     fn mark(&self, place: Place) -> Option<CellLabel>
         ensures { result ≡ marks self.now place };
 
@@ -38,7 +38,7 @@ pub(crate) trait JoinList {
         ensures { OnOk result (AddsCovered (joins self.old) (join ∷ []) (joins self.new)) };
 }
 
-/// Adds the join of two marks, unless their labels are equal or both sources.
+/// Adds the join of two marks with different labels, unless both are sources.
 #[inline(always)]
 pub(crate) fn push_join<J: JoinList>(
     joins: &mut J,
@@ -58,7 +58,7 @@ pub(crate) fn push_join<J: JoinList>(
 
 /// Adds the join of a cell with its neighbour in direction `way`, if wanted.
 /// `way` is 0 for E, 1 for SE, 2 for S or 3 for SW; `below` is the mark to the south.
-/// Leaves out the join at a corner if a path by a cell between is as low.
+/// With `bypassed`, leaves out the join at a corner if a path by a cell between is as low.
 #[inline(always)]
 fn push_on_way<C: MarkedCells, J: JoinList>(
     joins: &mut J,

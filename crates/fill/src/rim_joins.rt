@@ -16,7 +16,7 @@ use terrain::Place;
 use tiles::Bounds;
 
 /// The cells of all tiles, as seen from one tile.
-/// Joins are wanted with cells of other tiles alone.
+/// Only joins with cells of other tiles are wanted.
 #[derive(Drop)]
 struct CellsAround<'a> {
     tiles: &'a NumberedFloods<'a>,
@@ -97,7 +97,7 @@ impl<'a> CellsAround<'a> {
     }
 
     /// Returns the tile of a place of the grid.
-    /// Near this tile, where all neighbours of its rim lie, it does not divide.
+    /// Near this tile, where all later neighbours of its cells lie, it does not divide.
     #[inline(always)]
     fn tile_of(&self, place: Place) -> u32
         requires { IsWithin self.now.tiles.now.tiling.now place }

@@ -19,8 +19,8 @@ HasWalk joins source w =
     (walk : List Spill) × IsWalk joins source w.node walk × (crest source w.node walk ≡ w.height.0)
     × (end_of w.node walk ≡ w.label)
 
--- The invariant of a flood: nodes with labels have their final levels. Of the others, each source
--- and each neighbour of a node with a label has an entry low enough.
+-- The invariant of a flood: nodes with labels have final levels, and each entry has a walk. Of the
+-- other nodes, each source and each neighbour of a node with a label has an entry low enough.
 pub record IsFlooding (joins : Joins) (source : Sources) (nodes : ℕ) (levels : List (Option ℤ))
     (labels : List (Option ℕ)) (waiting : List Candidate) : Type 0 where
   pub levels_size : length levels ≡ nodes
@@ -33,7 +33,7 @@ pub record IsFlooding (joins : Joins) (source : Sources) (nodes : ℕ) (levels :
   pub frontier : (a b : ℕ) (l h : ℤ) → a < nodes → joins a b h → IsSome (entry_of labels b) →
       entry_of levels b ≡ Some l → entry_of labels a ≡ None → HasCandidate waiting a (int_max h l)
 
--- Only entries with labels left the queue.
+-- Only entries with labels left the queue, and none was added.
 pub record OnlyDoneLeft (labels : List (Option ℕ)) (old new : List Candidate) : Type 0 where
   pub left : All (Contains old) new
   pub kept : All (λ x. IsDone labels x ⊎ Contains new x) old
@@ -64,7 +64,7 @@ replicated x zero k = refl
 replicated x (suc n) zero = refl
 replicated x (suc n) (suc k) = replicated x n k
 
--- After entry x is added, the entries are x and the old ones.
+-- After entry x is added, the queue contains x and each old entry.
 pub held_in : {x : Candidate} {old new : List Candidate} → PutsIn x old new → (y : Candidate) →
     Contains (x ∷ old) y → Contains new y
 held_in {x} {old} {new} perm y h = Contains-permutation (x ∷ old) new y perm h
@@ -119,7 +119,7 @@ first_open labels old now rest x s perm bound is_open =
           ]);
     }
 
--- If only entries with labels left, and none remains, all have labels.
+-- If only entries with labels left the queue and it is empty, all its old entries have labels.
 pub all_done : (labels : List (Option ℕ)) (old now : List Candidate) → OnlyDoneLeft labels old now →
     HasNone now → All (IsDone labels) old
 all_done labels old now s none = all_by_contains (IsDone labels) old (λ y h.
@@ -159,7 +159,7 @@ sources_passed source n m waiting s up none = record {
   ];
 }
 
--- One more source is queued.
+-- If the queue has the sources below n, it has those below n + 1 after source n is added.
 pub source_more : (source : Sources) (n : ℕ) (h : ℤ) (now new : List Candidate) (w : Candidate) →
     AreSourcesQueued n source now → source n ≡ Some h → w.node ≡ n → w.label ≡ n → w.height.0 ≡ h →
     PutsIn w now new → AreSourcesQueued (n + 1) source new
@@ -185,7 +185,7 @@ source_more source n h now new w s is node label height perm = record {
   ];
 }
 
--- The heights of sources are noted as levels one by one.
+-- Levels that are all `None` note the sources below node 0, which are none.
 pub none_noted : (source : Sources) (nodes : ℕ) → HasSourcesNoted 0 source (replicate nodes None)
 none_noted source nodes = record {
   each = λ a below. absurd (omega (arith, below));

@@ -25,7 +25,7 @@ where-at (m ∷ marks) [] i e = absurd (omega (arith, e))
 where-at (m ∷ marks) (h ∷ heights) zero e = refl
 where-at (m ∷ marks) (h ∷ heights) (suc i) e = where-at marks heights i (omega (arith, e))
 
--- A marked number is a height, and so is one other than `lack`.
+-- A marked number is a height, also if it is `lack`.
 pub noted_marked : (m : Bool) (h : ℤ) → m ≡ true → noted m h ≡ Some h
 noted_marked m h is = cond-true _ _ _ is
 
@@ -65,7 +65,7 @@ pub where-lacking : (n : ℕ) →
 where-lacking zero = refl
 where-lacking (suc n) = ap (λ z. None ∷ z) (where-lacking n)
 
--- Facts from comparisons of stored numbers.
+-- A truth value of which `T` holds is `true`.
 true_from : (b : Bool) → T b → b ≡ true
 true_from true h = refl
 true_from false h = absurd h
@@ -76,7 +76,7 @@ is_low a b e = record { le = T_from_true _ e }
 pub low_is : (a b : ℤ) → a ≤ℤ b → le_z a b ≡ true
 low_is a b h = true_from _ h.le
 
--- A stored number that is a height at most h is an entry at most h.
+-- Where the number stored at index i is a height at most h, entry i is a height at most h.
 pub no_higher : (marks : List Bool) (heights : List ℤ) (seen : List (Option ℤ)) (i : ℕ) (h : ℤ) →
     length marks ≡ length heights → heights_where marks heights ≡ seen →
     noted (get_or marks i false) (get_or heights i lack) ≡ Some (get_or heights i lack) →
@@ -105,7 +105,7 @@ no_higher_is marks heights seen i h size view s =
     ∙ ap (λ (l : List (Option ℤ)). get_or l i None) view ∙ s.1 in
     (ap is_some here, subst (λ z. z ≤ℤ h) (sym (from_noted _ _ s.0 here)) s.2)
 
--- The stored numbers of all entries.
+-- A stored number is also the number stored for its entry, marked or not.
 stored_number : (m : Bool) (h : ℤ) → h ≡ height_or_lack (noted m h)
 stored_number true h = refl
 stored_number false h = elim (cases_Bool (int_eq h lack)) [

@@ -143,7 +143,7 @@ keeps_done labels levels a level none = λ b done. elim (cases_eq b a) [
   | inr n ↦ get_or-set_other levels a b level None n
 ]
 
--- The crest as a number of 64 bits.
+-- The crest, computed with numbers of 64 bits, is the greater of height and level.
 pub kept_crest : (height level greater : ℤ) → SFits height_width height →
     SFits height_width level → SFits height_width greater → greater ≡ int_max
     (to_z height_width (of_z height_width height)) (to_z height_width (of_z height_width level)) →
@@ -160,7 +160,7 @@ no_arcs labels from waiting = record {
   reached = λ k d below. absurd (omega (arith, below));
 }
 
--- Some arcs followed after others.
+-- Where some arcs were followed, and then others, all of them were followed.
 pub more_arcs : (labels : List (Option ℕ)) (from : Candidate)
     (arcs last : List Spill) (old now new : List Candidate) → Queues labels from arcs old now →
     Queues labels from last now new → Queues labels from (arcs ++ last) old new
@@ -188,7 +188,7 @@ more_arcs labels from arcs last old now new s t = record {
       ]);
 }
 
--- No neighbour needs an entry.
+-- Where no neighbour needs an entry, arcs are relaxed without a change of levels or queue.
 pub stays : (labels : List (Option ℕ)) (levels : List (Option ℤ))
     (from : Candidate) (arcs : List Spill) (queue : Queue) → InOrder queue → AreNoted labels levels
     (candidates_in queue) → Queues labels from arcs (candidates_in queue) (candidates_in queue) →

@@ -18,7 +18,7 @@ use Rattle.floods.proofs.Heaps.{HasWalk, IsFlooding, all_by_contains, replicated
 max_below : (h x y : ℤ) → x ≤ℤ y → int_max h x ≤ℤ int_max h y
 max_below h x y e = omega (arith, ints, clamps)
 
--- A walk from a node without a label meets one that has an entry at most at the walk's crest.
+-- If a node without a label has a walk, an entry without a label is at most at the walk's crest.
 pub open_walk : (joins : Joins) (source : Sources) (nodes : ℕ) (levels : List (Option ℤ))
     (labels : List (Option ℕ)) (waiting : List Candidate) → ((a b : ℕ) (h : ℤ) → joins a b h →
     b < nodes) → IsFlooding joins source nodes levels labels waiting → (walk : List Spill) (a : ℕ) →
@@ -176,7 +176,7 @@ other_open labels n label a below none e = none_some (entry_of (set labels n (So
     (subst (λ (k : ℕ). entry_of (set labels n (Some label)) k ≡ None) e none)
     (get_or-set_same labels n (Some label) None below)
 
--- One step: the lowest node gets its level and label, and its neighbours are queued.
+-- `IsFlooding` is kept when the lowest node gets level and label and its neighbours are queued.
 pub settle : (joins : Joins) (source : Sources) (nodes : ℕ) (levels after : List (Option ℤ))
     (labels : List (Option ℕ)) (old new more : List Candidate) (w : Candidate) (arcs : List Spill) →
     ((a b : ℕ) (h : ℤ) → joins a b h → b < nodes) → ((a b : ℕ) (h : ℤ) → joins a b h →

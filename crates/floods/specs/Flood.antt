@@ -35,7 +35,7 @@ pub record IsListed (base : ℤ) (first end k : ℕ) (w : Candidate) : Type 0 wh
   pub from : first ≤ k
   pub below : k < end
 
--- The heap is in order, and each entry of a list is at that list's height.
+-- The heap is in order. Lists outside `first..end` are empty; entries are at their list's height.
 pub record AreOrdered (base : ℤ) (first end : ℕ) (lists : List (List Candidate))
     (others : List Candidate) : Type 0 where
   pub heap : IsHeap candidate_order others
@@ -58,11 +58,11 @@ HasNone waiting = (w : Candidate) → Contains waiting w → ⊥
 abbrev pub entry_of : {X : Type 0} → List (Option X) → ℕ → Option X
 entry_of xs a = slice_index_or xs a None
 
--- The entry's node has a label, so its level is final. Before, its level is the least crest found.
+-- The entry's node has a label: its level is final. Until then a level is the least crest found.
 abbrev pub IsDone : List (Option ℕ) → Candidate → Type 0
 IsDone labels w = IsSome (entry_of labels w.node)
 
--- Entry w, a lowest one without a label, left the queue. Entries with labels may have left too.
+-- Entry w is a lowest one without a label. At most w and entries with labels left, none was added.
 pub record TakesLowest (labels : List (Option ℕ)) (old : List Candidate) (w : Candidate)
     (new : List Candidate) : Type 0 where
   pub was_open : entry_of labels w.node ≡ None
@@ -107,8 +107,8 @@ HasCandidate waiting a h = (w : Candidate) × Contains waiting w × (w.node ≡ 
 abbrev pub IsCandidateBy : Candidate → List Spill → Candidate → Type 0
 IsCandidateBy from arcs w = (arc : Spill) × Contains arcs arc × (w ≡ candidate_by from arc)
 
--- These arcs of `from` were followed: each new entry is of one of their neighbours. Each of these
--- without a label has an entry at most at its crest by that arc.
+-- These arcs of `from` were followed: old entries stay, each new one is of some arc's neighbour.
+-- Each such neighbour without a label has an entry at most at its crest by that arc.
 pub record Queues (labels : List (Option ℕ)) (from : Candidate) (arcs : List Spill)
     (old : List Candidate) (new : List Candidate) : Type 0 where
   pub kept : All (Contains new) old
@@ -127,7 +127,7 @@ pub record AreNoted (labels : List (Option ℕ)) (levels : List (Option ℤ))
 abbrev pub KeepsDone : List (Option ℕ) → List (Option ℤ) → List (Option ℤ) → Type 0
 KeepsDone labels old new = (a : ℕ) → IsSome (entry_of labels a) → entry_of new a ≡ entry_of old a
 
--- These arcs of `from` were relaxed, as in Dijkstra's algorithm, and all invariants hold.
+-- These arcs of `from` were relaxed as in Dijkstra's algorithm. `AreOwn` holds if it held before.
 pub record Relaxes (labels : List (Option ℕ)) (from : Candidate) (arcs : List Spill)
     (levels after : List (Option ℤ)) (old new : Queue) : Type 0 where
   pub order : InOrder new

@@ -34,8 +34,8 @@ abbrev pub end_of : ℕ → List Spill → ℕ
 end_of a [] = a
 end_of a (step ∷ rest) = end_of step.to rest
 
--- The level of node a is the least crest of its walks, and its label the source of such a walk.
--- A source whose level is its own height is its own label.
+-- The level of node a is the least crest of its walks. Its label is the source where a walk of that
+-- crest ends. A source whose level is its own height is its own label.
 pub record IsLevel (joins : Joins) (source : Sources) (a : ℕ) (level : ℤ) (label : ℕ) : Type 0 where
   pub reached : (walk : List Spill) × IsWalk joins source a walk × (crest source a walk ≡ level)
       × (end_of a walk ≡ label)

@@ -1,6 +1,6 @@
 //! The trait of nets, whose nodes are joined at spill heights: [`Net`].
 //!
-//! A net may write [`Net::spread`] to queue neighbours without listing them, and
+//! A net may override [`Net::spread`] to queue neighbours without listing them, and
 //! [`Net::next_candidate`] to skip runs of nodes without sources.
 ghost use Rattle.std.specs.Prelude.{◌≡◌, ◌<◌, ◌≤◌, ℕ, ℤ, Option, IfOk, OnOk, length};
 ghost use Rattle.floods.specs.Walk.{HasJust, HasNoSource};

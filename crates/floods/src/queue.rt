@@ -1,6 +1,6 @@
 //! The priority queue of a flood: the lowest node first.
 //!
-//! Nodes at some consecutive heights are in lists, one for each height. A heap has all others.
+//! Lists have nodes at consecutive heights, one list for each height. A heap has all other nodes.
 //! [`queue_neighbour`] queues a node again only at a lower crest.
 ghost use Rattle.std.specs.Prelude.{◌≡◌, ◌<◌, ◌≤◌, pos, ◌+ℤ◌, ◌≤ℤ◌, ◌∷◌, [], ℕ, ℤ, IfOk, OnOk, IfSome, IfNone, length, All, replicate, slice_index_or};
 ghost use Rattle.std.specs.BinaryHeap.{heap_items, heap_len};
@@ -30,7 +30,7 @@ pub struct Candidate {
 /// A tile of 256 by 256 cells mostly spans fewer heights.
 const MOST_LISTS: usize = 512;
 
-/// The least number of lists. A smaller net has none: there the heap is as fast.
+/// The least number of lists. A net too small for so many has none: there the heap is as fast.
 const LEAST_LISTS: usize = 16;
 
 /// The least number of nodes for each list, so that making the lists is cheap.
@@ -145,7 +145,7 @@ impl Queue {
         }
     }
 
-    /// Returns the number of lists, before `end`, below the heap's lowest node.
+    /// Returns the number of lists, before `end`, below all nodes of the heap.
     #[inline(always)]
     fn lists_below_heap(&self) -> usize
         requires { InOrder self.now }
@@ -163,7 +163,7 @@ impl Queue {
         self.lists_below(height)
     }
 
-    /// Takes the heap's lowest entry. Its height becomes `base` if all lists are empty.
+    /// Takes a lowest entry of the heap. If `end <= first`, its height becomes `base`.
     #[inline]
     fn pop_heap(&mut self) -> Option<Candidate>
         requires order { InOrder self.old }
@@ -187,7 +187,7 @@ impl Queue {
         Some(waiting)
     }
 
-    /// Takes a lowest entry.
+    /// Takes a lowest entry. Returns `None` if the queue is empty.
     #[inline(always)]
     fn take(&mut self) -> Option<Candidate>
         requires { InOrder self.old }
@@ -226,7 +226,7 @@ impl Queue {
     }
 }
 
-/// Takes the lowest node without a label; drops nodes with labels before it.
+/// Takes a lowest node without a label, if any; drops labelled nodes before it.
 #[inline(always)]
 pub(crate) fn next_unlabelled(queue: &mut Queue, labels: &NodeLabels) -> Option<Candidate>
     requires order { InOrder queue.old }

@@ -1,4 +1,4 @@
--- Consequences of the definition of catchments.
+-- Catchments: how many cells have a gauge's number, and what one more gauge changes.
 use Rattle.std.proofs.Common.{◌≡◌, ◌≢◌, ℕ, zero, suc, ◌+◌, ◌-◌, ◌<◌, ◌≤◌, inl, inr, Bool, true, false, cond, not, ◌&&◌, ◌||◌, List, [], ◌∷◌, ◌++◌, length, map, get_or, count_by, Option, None, Some, is_some, unwrap_or, sym, ap, refl, ◌∙◌, arith}
 use Rattle.std.specs.Prelude.{◌==◌}
 use Rattle.std.specs.Option.{option_or, option_map_or}
@@ -72,7 +72,7 @@ pub some_number : (gauges : List Place) (p : Place) → list_any (is_place p) ga
 some_number gauges p a = let u = position_of (is_place p) 1 gauges a in
     omega (arith, ap (λ (o : Option ℕ). unwrap_or o 0) u.found)
 
--- A gauge without gauges upstream.
+-- A gauge g on a data cell, through which no other gauge drains.
 module _ (d : Directed) (s : IsEnding d) (gauges : List Place) (g : Place) (is : IsCoded d g)
     (named : list_any (is_place g) gauges ≡ true)
     (alone : (h : Place) → list_any (is_place h) gauges ≡ true → h ≢ g →

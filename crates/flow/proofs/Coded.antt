@@ -1,4 +1,4 @@
--- If every flow path ends, flow paths contain only data cells.
+-- If every flow path ends, those from data cells contain only data cells.
 use Rattle.std.proofs.Common.{◌≡◌, ℕ, zero, suc, ◌+◌, ◌<◌, ◌≤◌, ◌⊎◌, inl, inr, true, Option, None, Some, is_some, unwrap_or, sym, ap, ◌∙◌, arith}
 use Rattle.std.specs.Option.{option_and_then}
 use Rattle.std.proofs.lemmas.Bool.{cases_lt}
@@ -74,7 +74,7 @@ coded_along d ends p c k = elim (cases_coded d (follow d p k)) [
   ]
 ]
 
--- A data cell whose water stays is an outlet.
+-- If every flow path ends, a data cell whose water stays is an outlet.
 pub outlet_from_stays : (d : Directed) → AllFlowEnds d → (p : Place) → IsCoded d p → next d p ≡ p →
     IsOutlet d p
 outlet_from_stays d ends p c e = sym (ap (code_at d) (follow_stays d p 0 (moves d) (omega arith) e))

@@ -218,7 +218,7 @@ module _ (t : Cutting) (codes : List (Option ℕ)) (flows : List Flow) (inflows 
           );
         }
 
-    -- The count at each place is its accumulation.
+    -- The count at each place of the tile is its accumulation, `None` at NODATA.
     pub entry_counted : (values : List (Option ℕ)) → AreCounts inflows tile f values → (p : Place) →
         IsInTile t tile p →
         IsValueAt (make_directed t.cols t.rows codes)

@@ -32,7 +32,7 @@ entry_set_other cols rows xs x p g col apart = elim (cases_lt p.row rows) [
   ]
 ]
 
--- One gauge more becomes an outlet.
+-- Codes cut at the first k gauges become, with 0 at gauge k, codes cut at the first k + 1.
 pub cut_next : (cols rows : ℕ) (codes : List (Option ℕ)) (gauges : List Place) (k : ℕ)
     (cut new : List (Option ℕ)) (d : Place) →
     length codes ≡ cols * rows → k < length gauges → let g = get_or gauges k d in
@@ -83,14 +83,14 @@ gauge_inside cols rows codes gauges k d below coded =
     some_inside cols rows codes g (entry_at cols rows codes g) refl
     (coded g (list_any_at (is_place g) gauges k d below (is_place_from g g refl)))
 
--- The index of gauge k, by the width of the grid.
+-- The index of gauge k by width n is its index by `cols`, if n is `cols`, with any defaults.
 pub index_at : (cols n : ℕ) (gauges : List Place) (k i : ℕ) (d e : Place) → k < length gauges →
     n ≡ cols → i ≡ index_of n (get_or gauges k d) → i ≡ index_of cols (get_or gauges k e)
 index_at cols n gauges k i d e below same read =
     read ∙ ap (λ m. index_of m (get_or gauges k d)) same
     ∙ ap (λ (q : Place). index_of cols q) (get_or_default gauges k d e below)
 
--- The numbers of gauges, with one gauge more.
+-- The number among k + 1 gauges is that among k, or else k + 1 if gauge k has index i.
 pub number_next : (cols : ℕ) (gauges : List Place) (k i : ℕ) (d : Place) → k < length gauges →
     number_of_index cols (take (k + 1) gauges) i ≡ option_or (number_of_index cols
     (take k gauges) i) (cond (index_of cols (get_or gauges k d) == i) (Some (k + 1)) None)

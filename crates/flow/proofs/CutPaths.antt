@@ -23,7 +23,7 @@ use Rattle.flow.proofs.Piece.{match_none, match_some}
 use Rattle.flow.proofs.Reaching.{IsEnding, reached_early}
 use Rattle.flow.proofs.Windows.{mapped_next}
 
--- The first value of f that passes a test, or no value below n that does.
+-- The first of n values of f that passes the test. In `IsAbsent` none of them does.
 pub record IsFirst {X : Type 0} (test : X → Bool) (f : ℕ → X) (n : ℕ) : Type 0 where
   pub at : ℕ
   pub below : at < n
@@ -74,7 +74,7 @@ module _ {X : Type 0} (test : X → Bool) (f : ℕ → X) where
     ]
   ]
 
--- The position of the first match: with one more entry, without a match, and for equal tests.
+-- With y appended, the first match is the first in xs, or else y if y matches.
 pub position_push : {X : Type 0} (p : X → Bool) (i : ℕ) (xs : List X) (y : X) → position_from p i
     (xs ++ y ∷ []) ≡ option_or (position_from p i xs) (cond (p y) (Some (i + length xs)) None)
 position_push p i [] y = let z : i ≡ i + 0 = omega arith in
@@ -147,7 +147,7 @@ module _ (d : Directed) (s : IsEnding d)
   follows p (suc k) clear = ap (next cut_d) (follows p k
       (λ j below. clear j (omega (arith, below)))) ∙ goes_on (follow d p k) (clear k (omega arith))
 
-  -- The path in the cut map ends at the first gauge of the path of p.
+  -- If the path of p meets a gauge, p's path in the cut map ends at the first.
   last_first : (p : Place) → (w : IsFirst is_gauge (follow d p) (moves d)) →
       last_of cut_d p ≡ follow d p w.at
   last_first p w =
@@ -164,7 +164,7 @@ module _ (d : Directed) (s : IsEnding d)
   no_gauge_last p is w = let m = reached_early d s p (last_of d p) is (moves d) refl in
       ap is_gauge (sym m.3) ∙ w.fails m.0 m.1
 
-  -- The number of the cut path's end is the catchment.
+  -- For a data cell, the gauge number of the end of its path in the cut map is the catchment.
   pub caught : (p : Place) → IsCoded d p →
       gauge_number gauges (last_of cut_d p) ≡ catchment d gauges p
   caught p is = elim (cases_first is_gauge (follow d p) (moves d)) [
@@ -224,7 +224,7 @@ module _ (d : Directed) (s : IsEnding d)
       agree q there is (coded_gauge there
       (list_any_at (is_place there) gauges k g below (is_place_from there there refl)))))
 
-  -- The numbers of the ends are the catchments.
+  -- If `values` maps the numbers of ends in the cut map, it maps the catchments.
   pub catchments_are : (n : EndNumbers) → ((i : ℕ) →
       n.number i ≡ unwrap_or (number_of_index d.cols gauges i) 0) → (values : List (Option ℕ)) →
       IsMapOf cut_d (end_number cut_d n) values → IsMapOf d (catchment d gauges) values

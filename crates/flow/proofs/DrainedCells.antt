@@ -23,21 +23,21 @@ use Rattle.flow.proofs.Reaching.{IsEnding, cell_below, cell_back, enters}
 abbrev pub cell : Directed → ℕ → Place
 cell d i = place_in (whole_bounds d.cols d.rows) i
 
--- 1 if the flow path of q contains p, else 0.
+-- 1 if q is a data cell whose flow path contains p, else 0.
 abbrev pub drained : Directed → Place → Place → ℕ
 drained d p q = cond {A = ℕ} (is_some (code_at d q) && drains_through d p q) 1 0
 
 abbrev pub all_drained : Directed → Place → ℕ
 all_drained d p = sum_below (λ j. drained d p (cell d j)) (d.rows * d.cols)
 
--- 1 if the flow path of q reaches p without leaving the tile, else 0.
+-- 1 if q is a data cell whose flow path reaches p without leaving q's tile, else 0.
 abbrev pub drained_inside : Directed → Cutting → Place → Place → ℕ
 drained_inside d t p q = cond {A = ℕ} (is_some (code_at d q) && reaches_inside d t p q) 1 0
 
 abbrev pub all_drained_inside : Directed → Cutting → Place → ℕ
 all_drained_inside d t p = sum_below (λ j. drained_inside d t p (cell d j)) (d.rows * d.cols)
 
--- 1 if the flow path of q enters p from another tile, else 0.
+-- 1 if q is a data cell whose flow path enters p from another tile, else 0.
 abbrev pub entered : Directed → Cutting → Place → Place → ℕ
 entered d t p q = cond {A = ℕ} (is_some (code_at d q)
     && list_any (enters d t p q) (range_with_len 0 (moves d - 1))) 1 0
@@ -46,7 +46,7 @@ pub inflow_sum : (d : Directed) (t : Cutting) (p : Place) →
     inflow_of d t p ≡ sum_below (λ c. entered d t p (cell d c)) (d.rows * d.cols)
 inflow_sum d t p = sum_of_cells (entered d t p) d.cols d.rows
 
--- A data cell counts 1 if it passes the test, and 0 otherwise.
+-- A data cell that passes the test counts 1.
 pub counted_on : (d : Directed) (q : Place) (b : Bool) → IsCoded d q → b ≡ true →
     cond {A = ℕ} (is_some (code_at d q) && b) 1 0 ≡ 1
 counted_on d q b is y =
@@ -69,7 +69,7 @@ module _ (d : Directed) (s : IsEnding d) where
   other_cell p is j ne e = ne (sym (index_in-place_in (whole_bounds d.cols d.rows) j)
       ∙ ap (index_in (whole_bounds d.cols d.rows)) e)
 
-  -- f counts one cell more than g, the cell p.
+  -- If f is 1 and g is 0 at p, and they agree elsewhere, f's sum over all cells is g's plus 1.
   pub one_more : (f g : Place → ℕ) (p : Place) → IsCoded d p → ((q : Place) → q ≢ p → f q ≡ g q) →
       f p ≡ 1 → g p ≡ 0 →
       sum_below (λ j. f (cell d j)) (d.rows * d.cols) ≡ sum_by g (places d.cols d.rows) + 1

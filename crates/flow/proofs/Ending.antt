@@ -26,7 +26,7 @@ module _ (x : ℕ → ℕ) (step : (a b : ℕ) → x a ≡ x b → x (suc a) ≡
       omega arith in
       ap x p ∙ step (a + t) (b + t) (again a b same t) ∙ sym (ap x q)
 
-  -- A sequence that repeats a value before it stops never stops.
+  -- A sequence that repeats a value by index n, and does not stop before n, never stops.
   never : (n a b : ℕ) → a < b → b ≤ n → x a ≡ x b → ((k : ℕ) → k < n → x (suc k) ≡ x k → ⊥) →
       (fuel m : ℕ) → m ≤ fuel → x (suc m) ≡ x m → ⊥
   never n a b lt le same none zero m few stop = none m (omega arith) stop

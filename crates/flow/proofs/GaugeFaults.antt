@@ -33,7 +33,7 @@ not_not : (b : Bool) → not (not b) ≡ b
 not_not true = refl
 not_not false = refl
 
--- A code is `None` exactly where the terrain has no data.
+-- If `none` says whether p lacks a code, it says whether p lacks a height.
 pub none_of_code : (d : Drained) → IsDraining d → (p : Place) (code : Option ℕ) (none : Bool) →
     code ≡ code_at (directed_of d) p → is_some code ≡ not none →
     is_none (height_at d.terrain p) ≡ none

@@ -1,4 +1,4 @@
--- Inflows and outlets together, for `RimLinks`.
+-- Right inflows and outlets together are the links of `RimLinks`.
 use Rattle.std.proofs.Common.{◌≡◌, true, inl, inr, List, Option, None, sym, ap, ◌∙◌}
 use Rattle.std.proofs.lemmas.Bool.{cases_Bool, and_from, and_parts, lt-ltb, ltb-true, cond-true, cond-false}
 use Rattle.terrain.specs.declared.place.Place.{Place}

@@ -65,7 +65,7 @@ exit_index_is b cells ends i h = index_of_placed b (get_or cells i None) (get_or
     ∙ ap (option_map (index_in b)) (sym (exit_at b cells ends i h))
 
 module _ (o : Outlets) (flows : List Flow) (n : EndNumbers) (b : Bounds) where
-  -- The place at the index of an exit is that exit.
+  -- The place q at the index of an exit x of the tile is an exit of the tile.
   pub exit_placed : (exit : ℕ) (x : Option Place) (q : Place) → q ≡ place_in b exit → Some exit
       ≡ option_map (index_in b) x → IfSome x (IsExitOfTile o flows n b) → IsExitOfTile o flows n b q
   exit_placed exit None q at some is = absurd (none-some exit (sym some))
@@ -97,7 +97,7 @@ module _ (o : Outlets) (flows : List Flow) (n : EndNumbers) (b : Bounds) where
       sym (cond-false {A = ℕ} _ (number_at o.cutting.cols n (listed_outlet o flows e)) 0
       (ne_eqb (index_in b e) i (λ own. other (same_Some exit (index_in b e) some ∙ own))))
 
--- The place at an index, by its row and column.
+-- Index r * b.cols + k has the place in row r and column k of the bounds, if k < b.cols.
 pub place_in_row : (b : Bounds) (r k : ℕ) → k < b.cols →
     place_in b (r * b.cols + k) ≡ make_place (b.top + r) (b.left + k)
 place_in_row b r k h =
@@ -105,7 +105,7 @@ place_in_row b r k h =
     (ap (λ n. b.top + n) (div-mul-add r b.cols k h))
     (ap (λ n. b.left + n) (mod-mul-add r b.cols k h))
 
--- The cells of the first rows of a tile.
+-- `cells` has the codes of the first `rows` rows of the bounds.
 pub record AreFirstRows (v : View (Option ℕ)) (b : Bounds) (rows : ℕ) (cells : List (Option ℕ)) :
     Type 0 where
   pub size : length cells ≡ rows * b.cols

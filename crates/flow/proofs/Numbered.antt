@@ -24,7 +24,7 @@ use Rattle.flow.proofs.Coded.{IsCoded, cases_coded, coded_along, coded_inside}
 use Rattle.flow.proofs.Piece.{match_none, match_some}
 use Rattle.flow.proofs.RimFlows.{within_of, last_same, exit_in_tile, exit_of_exit}
 
--- An outlet's number is below `uncounted`, the stored count of NODATA.
+-- With at most 2^24 codes, each outlet number is below `uncounted`, the stored count of NODATA.
 pub outlet_number_few : (codes : List (Option ℕ)) → length codes ≤ 4096 * 4096 → (i : ℕ) →
     (outlet_numbers codes).number i < uncounted
 outlet_number_few codes few i =
@@ -53,7 +53,7 @@ module _ (d : Directed) (t : Cutting) (flows : List Flow) (o : Outlets) (n : End
   same_cols : o.cutting.cols ≡ d.cols
   same_cols = ap (λ (c : Cutting). c.cols) s.same_cutting ∙ sym s.are_flows.of_tiles.size.0
 
-  -- The number of the outlet of p is the number of the end of its flow path.
+  -- `number_at` gives the last cell of p's flow path the number that `end_number` gives p.
   number_of_last : (p : Place) → number_at o.cutting.cols n (Some (last_of d p)) ≡ end_number d n p
   number_of_last p = ap (λ cols. n.number (index_of cols (last_of d p))) same_cols
 
@@ -169,7 +169,7 @@ module _ (d : Directed) (t : Cutting) (flows : List Flow) (o : Outlets) (n : End
         ∙ ap (λ (q : Place). n.number (index_of d.cols q))
         (last_same d t flows s.are_flows p h.exit (h.leads).0 is (h.leads).3)
 
-    -- The value at each place is the number of the end of its flow path.
+    -- The value at each place of the tile is the number of its path's end, `None` at NODATA.
     pub entry_numbered : (values : List (Option ℕ)) →
         values ≡ cell_numbers_by f.bounds (exit_numbers_by o flows n f) f.exits → (p : Place) →
         IsInTile t tile p → IsValueAt d (end_number d n) p (tile_entry t tile values p)

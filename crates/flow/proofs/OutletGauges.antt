@@ -25,7 +25,7 @@ use Rattle.flow.proofs.Reaching.{IsEnding, cell_back, cell_below, reached_early}
 use Rattle.flow.proofs.Sums.{sum_more}
 use Rattle.flow.proofs.Windows.{whole_bounds}
 
--- The list of a grid's places, from lists of its rows.
+-- The values of f over two adjoining ranges, joined, are those over the whole range.
 map_ranges : {X : Type 0} (f : ℕ → X) (a n m : ℕ) → map f (range_with_len a n)
     ++ map f (range_with_len (a + n) m) ≡ map f (range_with_len a (n + m))
 map_ranges f a zero m =
@@ -74,7 +74,7 @@ module _ (cols rows : ℕ) where
   pub places_at : places cols rows ≡ map at (range_with_len 0 (rows * cols))
   places_at = rows_places 0 rows ∙ ap (λ k. map at (range_with_len k (rows * cols))) (zero-mul cols)
 
--- The first place that passes test p, among those that pass test t.
+-- f j passes the tests p and t, and no earlier value of f passes p.
 module _ {X : Type 0} (f : ℕ → X) (p t : X → Bool) (j : ℕ) (here : p (f j) ≡ true)
     (kept : t (f j) ≡ true) (before : (k : ℕ) → k < j → p (f k) ≡ false) where
   abbrev count : ℕ → ℕ
@@ -125,7 +125,7 @@ module _ {X : Type 0} (f : ℕ → X) (p t : X → Bool) (j : ℕ) (here : p (f 
         ]
   ]
 
--- A place that passes p in a list filtered by t passes both.
+-- If some place in a list filtered by t passes p, some place passes both.
 any_filtered : (p t : Place → Bool) (xs : List Place) → list_any p (filter t xs) ≡ true →
     (x : Place) × (p x ≡ true) × (t x ≡ true)
 any_filtered p t [] some = absurd (false≢true some)

@@ -60,7 +60,7 @@ few_cells b rows cols =
     let most : b.rows * b.cols ≤ 4096 * 4096 = mul-le-mul r k in
     omega arith
 
--- Sizes and entries of the lists of one flow.
+-- In the lists of one flow each cell has a link, and `ends_by` lists the ends of paths.
 module _ (b : Bounds) (cells : List (Option ℕ)) (links upstream rim_ends : List ℕ)
     (s : AreFlowLists b cells links upstream rim_ends) where
   pub as_many_links : length links ≡ length cells
@@ -290,7 +290,7 @@ codes_from d t tile f cutting below right = record {
       sym entry ∙ right.same_codes (place_in (bounds_of t tile) i) inside;
 }
 
--- The lists of a tile's flow are those made for the tile.
+-- If the flow by these lists has the exits of a tile, the lists are those made for the tile.
 pub lists_seen : (v : View (Option ℕ)) (b : Bounds) (cells : List (Option ℕ))
     (upstream ends links : List ℕ) (f : Flow) → flow_by b cells upstream ends ≡ f →
     IsTileExits (directed_by v) v.cutting v.tile f →

@@ -1,4 +1,4 @@
--- If every flow path ends, none returns to a cell, and each ends within `moves d` moves.
+-- If every flow path ends, a data cell's path repeats no cell, and ends within `moves d` moves.
 use Rattle.std.proofs.Common.{◌≡◌, ◌≢◌, ℕ, zero, suc, ◌+◌, ◌-◌, ◌*◌, ◌<◌, ◌≤◌, ◌⊎◌, Bool, true, ◌&&◌, not, eqb, inl, inr, sym, ap, subst, ◌∙◌, arith}
 use Rattle.std.specs.List.{list_any, range_with_len}
 use Rattle.std.proofs.lemmas.Bool.{cases_eq, cases_lt, cases_order, and_from, and_parts, eq-eqb, ne_eqb, eqb-true, not-true, not_from_false, false≢true}
@@ -152,7 +152,7 @@ module _ (d : Directed) (s : IsEnding d) where
         ]
 
     module _ (q : Place) (is : IsCoded d q) where
-      -- A path that has left the region does not return to a place of it.
+      -- No place is reached by a path both without leaving the region and after entering it.
       no_return : (f k a m : ℕ) → ((l : ℕ) → f ≤ l → l ≤ k → In (follow d q l)) → f ≤ k → f ≤ a →
           (In (follow d q a) → ⊥) → a < m → follow d q k ≡ follow d q m → ⊥
       no_return f k a m way some from out lt same = elim (cases_lt k a) [

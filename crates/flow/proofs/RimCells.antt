@@ -41,7 +41,7 @@ module _ (l b : Bounds) where
       ∙ and_from _ _ (in_bounds_from b p i) (eq-eqb _ _ refl))
       ∙ ap Some back
 
--- The rim number of a cell, from its side number.
+-- A cell's rim number is its tile times the stride, plus its side number.
 pub number_from_side : (t : Cutting) (tile side : ℕ) (p : Place) → IsInTile t tile p →
     side_number (bounds_of t 0) (bounds_of t tile) p ≡ side →
     rim_number t p ≡ tile * stride (bounds_of t 0) + side

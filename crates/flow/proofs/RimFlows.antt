@@ -82,7 +82,7 @@ target_listed t flows targets made i h =
     ap (λ l. get_or l i None) made
     ∙ get_or-map-range_with_len (target_by t flows) 0 (number_count t) i i None h (omega arith)
 
--- The target of a rim number, from its side number.
+-- The target of rim number tile * stride + side is `target_in` of the tile's flow and side.
 pub target_in_tile : (t : Cutting) (flows : List Flow) (tile side : ℕ) (f : Flow) →
     side < stride (bounds_of t 0) → slice_get flows tile ≡ Some f →
     target_by t flows (tile * stride (bounds_of t 0) + side) ≡ target_in (bounds_of t 0) f side
@@ -497,7 +497,7 @@ module _ (d : Directed) (t : Cutting) (flows : List Flow) (s : AreFlowsOf d t fl
         (on_way i h q e k)
 
     module _ (ends : List ℕ) (found : AreEnds links ends) where
-      -- The end of the links of i gives the outlet of its water.
+      -- If water leaves its tile at i, the end of i's path along links gives the water's outlet.
       pub outlet_of : (i : ℕ) → i < number_count t → (q : Place) → target_by t flows i ≡ Some q →
           rim_outlet t flows ends i ≡ Some (last_of d (rim_place t i))
       outlet_of i h q e =

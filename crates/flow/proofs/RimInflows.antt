@@ -78,7 +78,7 @@ module _ (d : Directed) (t : Cutting) (flows : List Flow) (s : AreFlowsOf d t fl
         };
       }
 
-  -- A flow path enters p from one cell at most.
+  -- A flow path enters p from at most one cell of another tile.
   enters_once : (p q : Place) → IsCoded d q → (a b : ℕ) → Crosses d t flows s (follow d q a) →
       next d (follow d q a) ≡ p → Crosses d t flows s (follow d q b) → next d (follow d q b) ≡ p →
       follow d q a ≡ follow d q b
@@ -93,7 +93,7 @@ module _ (d : Directed) (t : Cutting) (flows : List Flow) (s : AreFlowsOf d t fl
   piece p c i =
       sent_to t (rim_number t p) (target_by t flows i) (drained d (rim_place t i) (cell d c))
 
-  -- Rim number i is an exit that leads to p, which lies on the rim.
+  -- Rim number i has an exit into another tile, whose direction leads to p.
   record LeadsTo (p : Place) (i : ℕ) : Type 0 where
     pub crosses : Crosses d t flows s (rim_place t i)
     pub number : rim_number t (rim_place t i) ≡ i
@@ -186,7 +186,7 @@ module _ (d : Directed) (t : Cutting) (flows : List Flow) (s : AreFlowsOf d t fl
   module _ (links weights upstream : List ℕ) (targets : List (Option Place))
       (asked : targets ≡ targets_by t flows) (made : links ≡ rim_links_by t flows)
       (weighed : weights ≡ rim_weights_by t flows) (up : AreUpstream links weights upstream) where
-    -- Each exit sends all the water that its cell drains.
+    -- Each exit sends to its target the number of all cells that drain through its cell.
     sends : (k i : ℕ) → i < number_count t → entering t targets weights upstream k i
         ≡ sent_to t k (target_by t flows i) (all_drained d (rim_place t i))
     sends k i h =

@@ -91,7 +91,7 @@ module _ (d : Directed) (t : Cutting) (flows : List Flow) (s : AreFlowsOf d t fl
           ]
         ]
 
-    -- An exit is linked to the exit of the place that its water enters.
+    -- An exit is linked to the exit of the place that its water enters, if that leaves its tile.
     link_on : (e : Place) → Crosses d t flows s e → (is : IsCoded d (next d e)) →
         Crosses d t flows s (exit_here d t flows s (next d e) is).0 →
         onward links (rim_number t e) ≡ rim_number t (exit_here d t flows s (next d e) is).0
@@ -258,7 +258,7 @@ module _ (d : Directed) (t : Cutting) (flows : List Flow) (s : AreFlowsOf d t fl
                     is (drains_at d ending c _ is x.from (sym place)),
               )
 
-    -- No number is linked to one that is no exit into another tile.
+    -- No other number is linked to one that is no exit into another tile.
     none_leads : (i j : ℕ) → target_by t flows i ≡ None → j < number_count t →
         leads_to links j i ≡ false
     none_leads i j none h = false_from_ne_true _ (λ y. (let o = leads_out i j h y in

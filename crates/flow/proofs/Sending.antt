@@ -50,7 +50,7 @@ leads_test links node i ne = elim (cases_Bool (eqb (onward links node) i)) [
   | inr n ↦ and_left _ _ n ∙ sym n
 ]
 
--- The entries of a list after entry k was raised by v.
+-- Raising entry k by v adds v to entry k and nothing to any other.
 pub added_at : (xs : List ℕ) (k v i : ℕ) → k < length xs →
     get_or (set xs k (get_or xs k 0 + v)) i 0 ≡ get_or xs i 0 + cond {A = ℕ} (eqb k i) v 0
 added_at xs k v i h = elim (cases_eq k i) [

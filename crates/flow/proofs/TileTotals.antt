@@ -161,7 +161,7 @@ module _ (d : Directed) (e : IsEnding d) (t : Cutting) (tile : ℕ) (b : Bounds)
                   )
             ]
 
-  -- Over all cells: the water at i is its own weight, what enters, and what its donors pass on.
+  -- If each cell's water at i is its own, what enters and what donors pass on, so is the sum.
   tallied : (R : Place → Place → Bool) (over : Place → Place → ℕ) (i : ℕ) → i < length links →
       ((q : Place) → IsCoded d q → cond {A = ℕ} (is_some (code_at d q) && R (place_in b i) q) 1 0
       ≡ own (place_in b i) q + over (place_in b i) q + sum_below (λ j. cond {A = ℕ} (leads_to links
@@ -242,7 +242,7 @@ module _ (d : Directed) (e : IsEnding d) (t : Cutting) (tile : ℕ) (b : Bounds)
   AreWeights weights = (j : ℕ) → j < length links →
       get_or weights j 0 ≡ weight_in d b j + inflow_of d t (place_in b j)
 
-  -- With the inflows added, totals count all cells upstream.
+  -- With the inflows added, totals count all cells that drain through a cell, itself included.
   pub all_totals : (weights : List ℕ) → AreWeights weights →
       AreTotals links weights (λ i. all_drained d (place_in b i))
   all_totals weights weighed = record {
@@ -268,7 +268,7 @@ module _ (d : Directed) (e : IsEnding d) (t : Cutting) (tile : ℕ) (b : Bounds)
     );
   }
 
-  -- Without the inflows, totals count the cells upstream in the tile.
+  -- Without the inflows, totals count the cell itself and the cells upstream in the tile.
   pub own_totals : (weights : List ℕ) → AreTileWeights d b weights →
       AreTotals links weights (λ i. all_drained_inside d t (place_in b i))
   own_totals weights weighed = record {

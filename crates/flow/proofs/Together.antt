@@ -1,4 +1,4 @@
--- The codes of a map of directions, and the results of all tiles.
+-- From the codes and the results of all tiles to the map of a drained terrain.
 use Rattle.std.proofs.Common.{◌≡◌, ℕ, ◌*◌, List, length, Option, subst, sym, ap, ◌∙◌, Some, Vec, Global, vec_len, slice_get, arith}
 use Rattle.std.specs.Prelude.{Result, Ok, Err, IfOk}
 use Rattle.std.proofs.lemmas.Option.{get_or_from_slice_get, slice_get_within}
@@ -55,7 +55,7 @@ jobs_gave P (Ok v) n m Q same made len given = made v.items (omega (arith, v.ok.
     (given k x (omega (arith, v.ok.0, len, slice_get_within v.items k x there))))
 jobs_gave P (Err e) n m Q same made len given = len
 
--- The map over the whole grid, from its value at each place of the cutting.
+-- A list with its value at each place of the cutting is the map of the drained terrain.
 pub whole_map : (d : Drained) (t : Cutting) (codes : List (Option ℕ)) →
     Cuts t d.terrain → codes ≡ d.codes → (value : Directed → Place → ℕ) (whole : List (Option ℕ)) →
     length whole ≡ t.cols * t.rows →

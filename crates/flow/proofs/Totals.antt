@@ -13,7 +13,7 @@ leads_parts links j i y = let w = and_parts _ _ y in
 pub leads_from : (links : List ℕ) (j i : ℕ) → onward links j ≡ i → j ≢ i → leads_to links j i ≡ true
 leads_from links j i e ne = and_from _ _ (eq-eqb _ _ e) (not_from_false _ (ne_eqb _ _ ne))
 
--- An end leads to no other node, and no node leads to itself.
+-- A node that is linked to itself leads to no node.
 pub leads_end : (links : List ℕ) (node i : ℕ) → onward links node ≡ node →
     leads_to links node i ≡ false
 leads_end links node i e =

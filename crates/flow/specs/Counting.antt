@@ -20,7 +20,7 @@ pub record IsCounting (t : Cutting) (codes : List (Option ℕ)) (flows : List Fl
   pub are_flows : AreFlowsOf (make_directed t.cols t.rows codes) t flows
   pub are_inflows : AreInflows (make_directed t.cols t.rows codes) t inflows
 
--- The entry is the accumulation of p in every map of directions with these flows and inflows.
+-- In every map with these flows and inflows, the entry is p's accumulation; `None` at NODATA.
 abbrev pub IsCountAt : Cutting → List Flow → Inflows → Place → Option ℕ → Type 0
 IsCountAt t flows inflows p entry = (codes : List (Option ℕ)) → IsCounting t codes flows inflows →
     IsValueAt (make_directed t.cols t.rows codes) (accumulation (make_directed t.cols t.rows codes))
@@ -34,7 +34,7 @@ pub record AreRimWeights (inflows : Inflows) (b : Bounds) (cells : List (Option 
       slice_index weights (index_in b p)
       ≡ slice_index (weights_by cells) (index_in b p) + listed_inflow inflows p
 
--- The premises of a tile's job: links whose paths end, and sums that fit 32 bits.
+-- The premises of a tile's job: its bounds and size, links whose paths end, sums of 32 bits.
 pub record IsCountable (inflows : Inflows) (tile : ℕ) (f : Flow) : Type 0 where
   pub bounds : f.bounds ≡ bounds_of inflows.cutting tile
   pub size : length f.codes ≡ cell_count inflows.cutting tile
@@ -53,7 +53,7 @@ pub record AreCountable (t : Cutting) (flows : List Flow) (inflows : Inflows) : 
   pub count : length flows ≡ tile_count t
   pub each : (tile : ℕ) (f : Flow) → slice_get flows tile ≡ Some f → IsCountable inflows tile f
 
--- The sum of the weights upstream of each data cell and its own, less 1 for the cell itself.
+-- The sum of each data cell's weight and those upstream, less 1 for itself; `None` at NODATA.
 abbrev pub counts_by : List (Option ℕ) → List ℕ → List ℕ → List (Option ℕ)
 counts_by cells weights upstream =
     map (λ i. where_data (slice_index_or cells i None)

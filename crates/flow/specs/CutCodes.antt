@@ -1,4 +1,4 @@
--- Codes in which each gauge is an outlet, and the numbers of gauges.
+-- Codes with 0, an outlet's code, at each gauge; and the numbers of gauges.
 -- Private.
 use Rattle.std.specs.Prelude.{◌≡◌, ℕ, ◌==◌, nat_eq, true, false, List, length, Option, Some, IsSome, unwrap_or}
 use Rattle.std.specs.HashMap as hash
@@ -13,7 +13,7 @@ abbrev pub HaveCodes : ℕ → ℕ → List (Option ℕ) → List Place → Type
 HaveCodes cols rows codes gauges =
     (p : Place) → list_any (is_place p) gauges ≡ true → IsSome (entry_at cols rows codes p)
 
--- In `cut` each gauge is an outlet, and any other place has its code of `codes`.
+-- `cut` has code 0 at each gauge, and at any other place the entry of `codes`.
 pub record AreCutCodes (cols rows : ℕ) (codes : List (Option ℕ)) (gauges : List Place)
     (cut : List (Option ℕ)) : Type 0 where
   pub size : length cut ≡ length codes
@@ -27,6 +27,6 @@ abbrev pub gauge_numbers : {S : Type 0} → ℕ → HashMap ℕ ℕ S → EndNum
 gauge_numbers cells numbers =
     record { cells = cells; number = λ i. unwrap_or (hash.get nat_eq numbers i) 0 }
 
--- The position, from 1, of the first entry that names the cell at row-order index i.
+-- The position, from 1, of the first entry with row-order index i; `None` if there is none.
 abbrev pub number_of_index : ℕ → List Place → ℕ → Option ℕ
 number_of_index cols gauges i = position_from (λ (g : Place). index_of cols g == i) 1 gauges

@@ -11,7 +11,7 @@ use Rattle.flow.specs.TileFlow.{Flow, through_in, inflow_of}
 use Rattle.tiles.specs.RimNumbers.{stride, number_count, rim_number, rim_place}
 use Rattle.flow.specs.RimGraph.{side_cell, target_by}
 
--- How many other cells' flow paths reach a place inside its tile.
+-- How many other cells' flow paths reach a place without leaving its tile, by the tile's flow.
 abbrev pub through_by : Cutting → List Flow → Place → Option ℕ
 through_by t flows p = option_and_then (λ f. through_in f p) (slice_get flows (tile_of_place t p))
 
@@ -56,7 +56,7 @@ inflow_by t listed p =
 abbrev pub listed_inflow : Inflows → Place → ℕ
 listed_inflow l p = inflow_by l.cutting l.listed p
 
--- Each place has its inflow.
+-- Each place of the grid has its inflow.
 pub record AreInflows (d : Directed) (t : Cutting) (l : Inflows) : Type 0 where
   pub cutting : l.cutting ≡ t
   pub size : length l.listed ≡ number_count t

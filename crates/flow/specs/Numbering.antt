@@ -27,7 +27,7 @@ outlet_numbers codes =
 abbrev pub end_number : Directed → EndNumbers → Place → ℕ
 end_number d n p = n.number (index_of d.cols (last_of d p))
 
--- The flows and outlets are those of a map of directions, and its cells have numbers.
+-- The flows and outlets are those of a map; its cells' numbers are below `uncounted`.
 pub record IsNumbering (d : Directed) (t : Cutting) (flows : List Flow) (outlets : Outlets)
     (n : EndNumbers) : Type 0 where
   pub are_flows : AreFlowsOf d t flows
@@ -36,12 +36,12 @@ pub record IsNumbering (d : Directed) (t : Cutting) (flows : List Flow) (outlets
   pub size : n.cells ≡ d.cols * d.rows
   pub few : (i : ℕ) → i < n.cells → n.number i < uncounted
 
--- The entry is the number of the end of p's flow path, in every map with these flows and outlets.
+-- In every map with these flows and outlets, the entry is p's end number; `None` at NODATA.
 abbrev pub IsEndNumberAt : Cutting → List Flow → Outlets → EndNumbers → Place → Option ℕ → Type 0
 IsEndNumberAt t flows outlets n p entry =
     (d : Directed) → IsNumbering d t flows outlets n → IsValueAt d (end_number d n) p entry
 
--- An exit in the bounds, with an outlet that has a number.
+-- An exit in the bounds and in the grid; its outlet, if it has one, has a number.
 pub record IsExitOfTile (outlets : Outlets) (flows : List Flow) (n : EndNumbers) (b : Bounds)
     (e : Place) : Type 0 where
   pub inside : IsInBounds b e
@@ -49,7 +49,7 @@ pub record IsExitOfTile (outlets : Outlets) (flows : List Flow) (n : EndNumbers)
   pub numbered : IfSome (listed_outlet outlets flows e)
       (λ q. index_of outlets.cutting.cols q < n.cells)
 
--- The premises of a tile's job: all its exits are in the tile and have numbered outlets.
+-- The premises of a tile's job: an entry for each cell, and exits with `IsExitOfTile`.
 pub record IsReady (t : Cutting) (flows : List Flow) (outlets : Outlets) (n : EndNumbers) (tile : ℕ)
     (f : Flow) : Type 0 where
   pub size : length f.exits ≡ cell_count t tile
@@ -81,7 +81,7 @@ exit_numbers_by outlets flows n f =
     map (λ i. exit_number_by outlets flows n f.bounds i (slice_index_or f.exits i None))
     (range_with_len 0 (length f.exits))
 
--- The number of a cell: the exit number at the index of its exit.
+-- The number of a cell: the exit number at the index of its exit; `None` without an exit.
 abbrev pub cell_number : Bounds → List ℕ → Option Place → Option ℕ
 cell_number b by_exit None = None
 cell_number b by_exit (Some e) = stored_count (slice_index by_exit (index_in b e))

@@ -17,7 +17,7 @@ pub record AreCodeRuns (r : CodeRuns) : Type 0 where
   pub some : 0 < r.run_length
   pub short : r.run_length ≤ 2 ^ 32
 
--- The length of a run, if runs share all groups of 16 codes evenly: at least one group.
+-- The length of a full run: its share of the groups of 16 codes, rounded up, at least one group.
 abbrev pub run_share : ℕ → ℕ → ℕ
 run_share codes runs = max 1 (div_ceil (div_ceil codes 16) runs) * 16
 

@@ -38,12 +38,12 @@ side_cell largest b side =
     let p = side_place largest b side in
     if is_in_bounds b p && side_number largest b p == side then Some p else None
 
--- The next place downstream, by the tile's flow; the place itself if its water stays.
+-- The next place downstream, by the flow's codes; the place itself if there is none.
 abbrev pub next_in : Flow → Place → Place
 next_in f p =
     unwrap_or (option_and_then (λ code. place_toward code p) (entry_in f.bounds f.codes p)) p
 
--- The place in another tile that a rim cell flows into: by side number, then by rim number.
+-- The place outside its tile that the cell of this side number flows into, if any.
 abbrev pub target_in : Bounds → Flow → ℕ → Option Place
 target_in largest f side =
     option_and_then (λ p. if is_in_bounds f.bounds (next_in f p) then None else Some (next_in f p))
@@ -61,7 +61,7 @@ first_targets t flows count = map (target_by t flows) (range_with_len 0 count)
 abbrev pub targets_by : Cutting → List Flow → List (Option Place)
 targets_by t flows = first_targets t flows (number_count t)
 
--- The exit that leads water from a place out of the tile; `None` if its path ends in the tile.
+-- The exit by which the water of a place leaves the tile; `None` if no water of it leaves.
 abbrev pub next_exit_in : Flow → Place → Option Place
 next_exit_in f p = option_and_then
     (λ e. if is_outlet_code (entry_in f.bounds f.codes e) then None else Some e) (exit_in f p)
@@ -82,7 +82,7 @@ rim_link t flows i =
 abbrev pub rim_links_by : Cutting → List Flow → List ℕ
 rim_links_by t flows = map (rim_link t flows) (range_with_len 0 (number_count t))
 
--- The outlet of the water at a rim number: in the tile that the last exit on its path leads into.
+-- The outlet of the water that leaves its tile at rim number i; `None` if none leaves there.
 abbrev pub rim_outlet : Cutting → List Flow → List ℕ → ℕ → Option Place
 rim_outlet t flows ends i = option_and_then
     (λ _. option_and_then (λ q. exit_by t flows q) (target_by t flows (slice_index ends i)))
@@ -91,7 +91,7 @@ rim_outlet t flows ends i = option_and_then
 abbrev pub rim_outlets_by : Cutting → List Flow → List ℕ → List (Option Place)
 rim_outlets_by t flows ends = map (rim_outlet t flows ends) (range_with_len 0 (number_count t))
 
--- The outlet of an exit: the exit itself, or the outlet listed for its rim number.
+-- The outlet of an exit: the exit itself, or the outlet listed for its rim number, if any.
 abbrev pub outlet_by : Cutting → List Flow → List (Option Place) → Place → Option Place
 outlet_by t flows outlets p =
     if is_outlet_code (code_in t flows p) then Some p

@@ -1,4 +1,4 @@
--- Sums sent along links: a node sends its sum once all its donors have sent theirs.
+-- Sums sent along links: a node sends its sum and weight once all its donors have sent theirs.
 -- Private.
 use Rattle.std.specs.Prelude.{◌≡◌, ℕ, ◌+◌, ◌<◌, Bool, true, false, not, ◌&&◌, ◌==◌, if◌then◌else◌, List, length, slice_index}
 use Rattle.flow.specs.Streams.{leads_to, sum_below}
@@ -24,7 +24,7 @@ sent_on links weights waits upstream i j =
     if leads_to links j i && has_sent waits j then slice_index upstream j + slice_index weights j
     else 0
 
--- A node's sum is what its donors have sent. Until it sends, `waits` has its donors yet to send.
+-- A node's sum is what its donors sent. Until it sends, `waits` counts its donors yet to send.
 pub record IsSending (links weights waits upstream : List ℕ) : Type 0 where
   pub waits_size : length waits ≡ length links
   pub upstream_size : length upstream ≡ length links

@@ -12,7 +12,7 @@ abbrev pub node_after : List ℕ → ℕ → ℕ → ℕ
 node_after links i zero = i
 node_after links i (suc k) = onward links (node_after links i k)
 
--- The end of a node's path.
+-- The end of a node's path: the node after as many moves as there are nodes.
 abbrev pub end_of : List ℕ → ℕ → ℕ
 end_of links i = node_after links i (length links)
 
@@ -34,7 +34,7 @@ leads_to links j i = onward links j == i && not (j == i)
 abbrev pub upstream_sum : List ℕ → (ℕ → ℕ) → ℕ → ℕ
 upstream_sum links f i = sum_below (λ j. if leads_to links j i then f j else 0) (length links)
 
--- The sum of the weights of node i and of the nodes that reach it in fewer than k moves.
+-- The sum of the weights of nodes that reach node i in fewer than k moves; i does so in 0.
 abbrev pub total_within : List ℕ → List ℕ → ℕ → ℕ → ℕ
 total_within links weights zero i = 0
 total_within links weights (suc k) i =

@@ -29,14 +29,14 @@ pub record AreTileCodes (d : Directed) (b : Bounds) (cells : List (Option ℕ)) 
   pub size : length cells ≡ b.rows * b.cols
   pub each : (i : ℕ) → i < b.rows * b.cols → slice_index_or cells i None ≡ code_at d (place_in b i)
 
--- The link of cell i with this code: the index downstream, or i if the water stays or leaves.
+-- The link of cell i with this code: the index downstream; i where none is in the bounds.
 abbrev pub link_by : Bounds → ℕ → Option ℕ → ℕ
 link_by b i code =
     let p = place_in b i in
     let q = unwrap_or (option_and_then (λ c. place_toward c p) code) p in
     if is_in_bounds b q then index_in b q else i
 
--- The links of the first `count` cells, then of all cells.
+-- The links of the first `count` cells; `links_by` has those of all cells.
 abbrev pub first_links : Bounds → List (Option ℕ) → ℕ → List ℕ
 first_links b cells count =
     map (λ i. link_by b i (slice_index_or cells i None)) (range_with_len 0 count)
@@ -79,7 +79,7 @@ flow_by b cells upstream ends = record {
   exits = exits_by b cells ends;
 }
 
--- The lists are those of one flow: links by its codes, and the ends of rim cells' paths.
+-- Lists of one flow: links by its codes, whose paths all end, and the ends of rim cells' paths.
 pub record AreFlowLists (b : Bounds) (cells : List (Option ℕ))
     (links upstream rim_ends : List ℕ) : Type 0 where
   pub linked : links ≡ links_by b cells

@@ -29,7 +29,7 @@ pub(crate) fn tile_codes(
 }
 
 /// Returns each cell's link: the index of the next cell downstream.
-/// A cell whose water stays or leaves the tile is linked to itself.
+/// A cell without data, or whose water stays or leaves the tile, is linked to itself.
 pub(crate) fn tile_links(
     alloc: Global,
     bounds: Bounds,
@@ -150,7 +150,7 @@ fn link_of(bounds: Bounds, index: u32, place: Place, code: Option<Code>) -> u32
     }
 }
 
-/// Returns the place downstream of `place`, or `place` if its water stays.
+/// Returns the place downstream of `place`, or `place` if there is none.
 #[inline(always)]
 pub(crate) fn next_of(code: Option<Code>, place: Place) -> Place
     requires row { place.row < 2 ^ 32 - 1 }

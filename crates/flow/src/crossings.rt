@@ -1,7 +1,7 @@
 //! Where water crosses from tile to tile.
 //!
-//! For each rim cell: the place in another tile that its water enters, and the exit by which it
-//! leaves that tile.
+//! For each rim cell: the place in another tile that its water enters, if any, and the exit by
+//! which the water leaves that tile, if it does.
 ghost use Rattle.std.specs.Prelude.{◌≡◌, ◌+◌, ◌*◌, ◌<◌, ◌≤◌, length, IfOk, OnOk};
 ghost use Rattle.tiles.specs.Cutting.{IsCutting, IsWithin, IsWithinLimits, bounds_of, tile_count};
 ghost use Rattle.drainage.specs.Following.{Directed};
@@ -16,7 +16,7 @@ use std::alloc::{AllocError, Global};
 use terrain::Place;
 use tiles::{Bounds, Tiling};
 
-/// For each rim number, the place that its water enters and the next exit's number.
+/// For each rim number, the place that its water enters, if any, and the next exit's number.
 /// A number without a next exit is linked to itself.
 #[derive(Drop)]
 pub(crate) struct Crossings {
@@ -25,7 +25,7 @@ pub(crate) struct Crossings {
 }
 
 impl Crossings {
-    /// Finds the crossings between all tiles, by their flows in tile order.
+    /// Finds the targets and links of all rim numbers, by the tiles' flows in tile order.
     pub(crate) fn of(
         alloc: Global,
         tiling: &Tiling,
@@ -78,7 +78,7 @@ fn target_of(largest: Bounds, flow: &TileFlow, side: u32) -> Option<Place>
     }
 }
 
-/// Appends, for each side number of a tile, the place entered in another tile.
+/// Appends, for each side number of a tile, the place entered in another tile, if any.
 fn push_targets(
     targets: &mut Vec<Option<Place>>,
     tiling: &Tiling,

@@ -2,9 +2,9 @@
 ghost use Rattle.std.specs.Prelude.{◌≡◌, ◌<◌};
 ghost use Rattle.flow.specs.Numbering.{EndNumbers};
 
-/// Gives a number to each cell of a grid where flow paths end. Threads share it.
+/// Numbers for the cells of a grid where flow paths end. Jobs read them on several threads.
 pub(crate) trait EndNumbering {
-    // The number of each cell.
+    // The number of cells of the grid, and the number that each cell has.
     ghost numbers: { Self → EndNumbers };
 
     /// Returns the number of the cell at this index in the grid's row order.

@@ -1,6 +1,6 @@
 //! Finds where paths along links end: at nodes that are linked to themselves.
 //!
-//! The loops have labels, by which proofs name them.
+//! The `while` loops have labels, by which proofs name them.
 ghost use Rattle.std.specs.Prelude.{◌≡◌, ◌^◌, ◌<◌, ◌≤◌, ℕ, length, IfOk};
 ghost use Rattle.flow.specs.Streams.{AreStreams, AreEnds, end_of};
 ghost use Rattle.flow.specs.Finding.{AreFound, IsKnown};
@@ -40,7 +40,7 @@ fn find_ends(links: &[u32], ends: &mut [u32])
     }
 }
 
-/// Returns the end of a node's path, and notes it for each node on the path.
+/// Returns the end of a node's path, and notes it up to the first known end.
 pub(crate) fn find_end(links: &[u32], ends: &mut [u32], node: usize) -> u32
     requires streams { AreStreams links.now }
     requires few { length links.now ≤ 2 ^ 30 }
@@ -70,7 +70,7 @@ pub(crate) fn end_of(links: &[u32], from: usize) -> u32
     node as u32
 }
 
-/// Returns the end of a node's path, along links to the end or to a known end.
+/// Returns the end of a node's path, along links to it or to a node with a known end.
 #[inline]
 fn end_from(links: &[u32], ends: &[u32], from: usize) -> u32
     requires streams { AreStreams links.now }

@@ -68,7 +68,7 @@ fn fault_of_gauge(fault: SinkFault) -> GaugeFault
 }
 
 /// Returns the first fault of gauges on a grid, or `None` if they have none.
-/// Reports more than [`MOST_GAUGES`] entries first, then a gauge outside the grid or without data.
+/// More than [`MOST_GAUGES`] entries come first, then the first gauge outside or without data.
 pub fn gauges_fault(grid: &Grid, gauges: &[Place]) -> Option<GaugeFault>
     ensures { result ≡ gauges_fault grid.now.terrain gauges.now }
 {

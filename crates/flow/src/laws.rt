@@ -21,7 +21,7 @@ pub fn highest_gauges_have_all_upstream_cells()
         ≡ accumulation (directed_of d) g + 1 }
 {}
 
-/// With all outlets as gauges in row order, each cell's catchment is its basin.
+/// With all outlets as gauges in row order, each data cell's catchment is its basin.
 pub fn catchments_of_outlets_are_basins()
     ensures { (d : Drained) (p : Place) → IsTerrain d.terrain → IsDraining d →
         IsDataCell d.terrain p

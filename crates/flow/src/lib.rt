@@ -1,9 +1,9 @@
 //! Flow accumulation and catchments over a map of directions.
 //!
 //! Begin with [`accumulation`], [`basins`] and [`catchments`]. Callers with jobs of their own use
-//! [`tile_flow`] inside tiles and [`RimLinks`] between them. Depends on `drainage` and `tile_maps`.
+//! [`tile_flow`] inside tiles and [`RimLinks`] between them. Uses `drainage` and `tile_maps`.
 //!
-//! Modules, callers first:
+//! Modules: the maps, then flow inside a tile, then between tiles, then outlet numbers and laws:
 //!
 //! - `counting`: `accumulation`
 //! - `basin`: `basins`

@@ -26,7 +26,7 @@ use tile_jobs::{Gate, JobFault};
 use tile_maps::{Runner, TileMap};
 use tiles::Tiling;
 
-/// Input of the jobs that number cells: flows, outlets of exits, outlet numbers.
+/// Input of the jobs that number cells: flows, outlets of exits, numbers of path ends.
 #[derive(Drop)]
 struct Numbering<'a, N: EndNumbering> {
     tiling: &'a Tiling,
@@ -118,7 +118,7 @@ impl<'a, N: EndNumbering> Numbering<'a, N> {
     }
 }
 
-/// Numbers each cell of a grid of codes by the end of its flow path.
+/// Numbers each data cell of a grid of codes by the end of its flow path.
 ///
 /// Each tile has two jobs: one finds its exits, and a later one numbers its cells.
 pub(crate) fn number_cells<R: Threads + Wait + Sync, G: Gate + Sync, N: EndNumbering + Sync + Drop>(

@@ -31,7 +31,7 @@ impl<'a> Model for Runs<'a> {
 }
 
 impl<'a> Runs<'a> {
-    /// Cuts a list into `count` runs, each of equally many groups, at least one.
+    /// Cuts a list into `count` runs; full ones have equally many groups, at least one.
     pub(crate) fn cut(codes: &'a [Option<Code>], count: u32) -> Runs<'a>
         requires few { length codes.now < 2 ^ 32 - 1 }
         requires some { 1 ≤ count }

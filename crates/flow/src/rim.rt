@@ -17,7 +17,7 @@ use terrain::Place;
 use tiles::Bounds;
 
 /// Returns the cell of a tile with this side number, if there is one.
-/// A cell on two sides has only the first number; a tile below the largest does not use all.
+/// A cell on two sides has only the first number; a tile smaller than the largest skips numbers.
 #[inline(always)]
 pub(crate) fn side_cell(largest: Bounds, bounds: Bounds, side: u32) -> Option<Place>
     requires largest { IsWithinLimits largest }

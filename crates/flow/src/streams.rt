@@ -67,7 +67,7 @@ fn send_all(links: &[u32], weights: &[u32], waits: &mut [u32], upstream: &mut [u
     }
 }
 
-/// Sends sums downstream from `from`, up to a node with donors yet to send.
+/// Sends sums from `from` on, up to an end or a node that awaits donors or has sent.
 fn send_from(links: &[u32], weights: &[u32], waits: &mut [u32], upstream: &mut [u32], from: usize)
     requires streams { AreStreams links.now }
     requires few { length links.now ≤ 2 ^ 30 }

@@ -1,6 +1,6 @@
 //! The flow inside one tile: [`tile_flow`].
 //!
-//! A flow has each cell's link downstream, its count of cells upstream, and its exit.
+//! A flow has each cell's link and exit and, if counted, how many of the tile's cells are upstream.
 ghost use Rattle.std.specs.Prelude.{◌≡◌, ◌<◌, length, slice_index_or, IfOk, IfSome, None};
 ghost use Rattle.std.specs.Option.{option_map};
 ghost use Rattle.terrain.specs.StoredCells.{uncounted};
@@ -22,7 +22,7 @@ use std::marker::Model;
 use terrain::{Count, NoMemory, Place};
 use tiles::{Bounds, TileView};
 
-/// The flow inside one tile: each cell's count of cells upstream, and its exit.
+/// The flow inside one tile: each cell's exit, and its count if the flow has counts.
 #[derive(Drop)]
 pub struct TileFlow {
     bounds: Bounds,

@@ -2,6 +2,6 @@
 pub mod Sizes
 pub mod Straight
 pub mod Hiding
--- Horizons.
+-- Horizons, and ramps over runs of targets.
 pub mod Pieces
 pub mod Merged

@@ -1,4 +1,4 @@
--- Values at a target fit their machine types.
+-- Numbers within limits, and products of such numbers, fit their machine types.
 use Rattle.std.proofs.Common.{◌≡◌, ℕ, ◌^◌, ◌<◌, ◌≤◌, ℤ, pos, ◌*ℤ◌, unsigned_abs, arith, FitsSigned, to_z, of_z, w32, w64}
 use mir.Syntax.{w128}
 use Rattle.std.proofs.lemmas.Int.{ints, to_z-of_z, fits_signed_mul, fits_signed_from_abs}
@@ -18,12 +18,12 @@ back_count n h = back_long (pos n) (omega arith)
 pub value_abs : (z : ℤ) → FitsSigned w64 z → unsigned_abs z ≤ 2 ^ 63
 value_abs z fits = omega (arith, ints, fits)
 
--- A number of 64 bits times one of at most 4096 fits in 128 bits.
+-- A number of 64 bits times one from -4096 to 4096 fits in 128 bits.
 pub product_fits : (z x : ℤ) → unsigned_abs z ≤ 2 ^ 63 → unsigned_abs x ≤ 4096 →
     FitsSigned w128 (z *ℤ x)
 product_fits z x h few = fits_signed_mul w128 z x (2 ^ 63) 4096 h few (omega arith)
 
--- The product, as the code computes it, of a number of 64 bits and one of at most 4096.
+-- The product of a number of 64 bits and another, as the code computes it in 128 bits.
 abbrev pub long_product : ℤ → ℤ → ℤ
 long_product z x = to_z w128 (of_z w128 (to_z w64 (of_z w64 z))) *ℤ to_z w128 (of_z w128 x)
 

@@ -40,7 +40,7 @@ pub record IsRampAt (r : Ramp) (t : Target) : Type 0 where
   pub lines : (0 < r.lines) × (r.lines ≤ 4096)
   pub value : unsigned_abs (value_at r t) < 2 ^ 63
 
--- A horizon's ramp at a target's index: that of the first piece that ends above the index.
+-- A horizon's ramp at a target's index: that of the first piece that ends above it, if any.
 unfoldable pub ramp_at : List Piece → ℕ → Option Ramp
 ramp_at [] i = None
 ramp_at (p ∷ ps) i = if nat_lt i p.end then Some p.ramp else ramp_at ps i
@@ -60,7 +60,7 @@ pub record IsOver (targets : List Target) (ps : List Piece) : Type 0 where
   pub each : (i : ℕ) (t : Target) (r : Ramp) → slice_get targets i ≡ Some t →
       ramp_at ps i ≡ Some r → IsRampAt r t
 
--- The horizon was extended up to `end` by this ramp.
+-- The horizon was extended up to `end` by this ramp, or is as it was if it reached `end` already.
 pub record IsPushed (old : List Piece) (end : ℕ) (ramp : Ramp) (new : List Piece) : Type 0 where
   pub reach : extent new ≡ max (extent old) end
   pub kept : (i : ℕ) → i < extent old → ramp_at new i ≡ ramp_at old i

@@ -1,8 +1,8 @@
 //! Horizons: how high ground rises between an observer and each of many targets.
 //!
-//! Targets are sorted by the slopes of the lines of sight to them. A [`Horizon`] is a function of
-//! a target's index, made of pieces that are straight over the slope. [`push_greater`] adds the
-//! greater of two ramps. All is computed in whole numbers, at the slopes of targets only.
+//! Targets are sorted by slope: cells aside per line away from the observer. A [`Horizon`] is a
+//! function of a target's index, made of pieces that are straight over the slope. [`push_greater`]
+//! adds the greater of two ramps. All is computed in whole numbers, at the slopes of targets only.
 //! Each `end` is exclusive.
 //!
 //! Modules, callers first:

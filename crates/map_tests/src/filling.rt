@@ -65,7 +65,7 @@ fn expect_floods(rt: &impl Abort, alloc: Global, floods: &[TileFlood]) {
     assert_eq!(rt; floods[1].level(west), None);
 }
 
-/// Returns the filled heights at the labels of all tiles, in row order.
+/// Returns the filled height at each label, `None` at other cells, in row order.
 pub(crate) fn label_levels(
     rt: &impl Abort,
     alloc: Global,

@@ -79,7 +79,7 @@ fn one_gauge_in_a_valley(rt: HostRuntime) {
     );
 }
 
-/// Each cell has the number of the first gauge on its flow path.
+/// Each cell has the number of the first gauge on its flow path, 0 where none is.
 #[test]
 fn nested_gauges(rt: HostRuntime) {
     let pits = land(&rt, rt.alloc(), 4, 4, PIT_OF_TWO);

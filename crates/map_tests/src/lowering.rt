@@ -1,4 +1,4 @@
-//! Compares filled heights of rough ground with those by lowering, cell by cell.
+//! Compares filled heights of rough ground with those found by lowering levels.
 use crate::ground::heights_of;
 use ascii_grid::read_text;
 use fill::filled_heights;
@@ -25,7 +25,7 @@ impl Numbers {
 
 const NEAR: [&str; 8] = [" 0", " 0", " 1", " 1", " 2", " 2", " 3", " 3"];
 
-/// Heights that are far apart, up to the limits of a height.
+/// Heights of which some are far apart, up to the limits of a height.
 const FAR: [&str; 8] = [
     " -1000000000000000",
     " -70",
@@ -104,7 +104,7 @@ fn sweep(heights: &[Option<Height>], levels: &mut [Option<Height>], cols: u8, ro
 }
 
 /// Returns filled heights by lowering, in as many sweeps as there are cells.
-/// Levels begin at the heights of edge cells, and elsewhere at the greatest height.
+/// Edge cells begin at their height, inner cells at [`HIGHEST`]; NODATA has no level.
 fn lowered(
     alloc: Global,
     heights: &[Option<Height>],
@@ -143,7 +143,7 @@ fn compare_one<R: Abort>(
     Ok(levels.as_slice() != ground.as_slice())
 }
 
-/// Compares grids of these heights with lowering, and counts those with a pit.
+/// Compares grids of these heights with lowering; counts the small ones with a pit.
 /// Grids of up to 6 by 6 cells are flooded by a heap alone, the large one by lists of levels too.
 fn compare<R: Abort>(rt: &R, alloc: Global, heights: &[&'static str; 8]) -> Result<u32, Fail> {
     let mut numbers = Numbers { state: 1 };

@@ -1,6 +1,6 @@
 //! Compares a terrain's drainage maps, without catchments, with expected maps.
 //!
-//! Each comparison takes many tile sides and numbers of workers.
+//! `Maps::expect` takes many tile sides and numbers of workers, `Maps::expect_cut` one of each.
 use crate::ground::{cut, expect_cells, expect_heights, land};
 use crate::stages::{directions_of, filled_grid};
 use drain::Code;
@@ -106,7 +106,7 @@ impl Maps {
         assert_eq!(rt; agreed, [true; 3], "side {side}, {workers} workers");
     }
 
-    /// Returns whether the values are the numbers of a map.
+    /// Returns whether the values are these numbers; -9999 is NODATA.
     fn agrees(
         &self,
         rt: &impl Abort,

@@ -184,7 +184,7 @@ const HEIGHTS: &str = "-5 -8 -9999 2 7 -7 -7 8 -2\n\
     3 2 -9999 -4 6 -9999 -5 0 6\n\
     5 5 4 -1 2 3 -5 -5 -2";
 
-/// The values come from a separate program, which uses signed quotients.
+/// The expected values come from a separate program, not from this code.
 #[test]
 fn rough_land(rt: HostRuntime) {
     let rough = land(&rt, rt.alloc(), 9, 7, HEIGHTS);
@@ -204,7 +204,7 @@ const ROUGH_COLS: u32 = 53;
 
 const ROUGH_ROWS: u32 = 37;
 
-/// Returns pseudorandom heights from 0 to 39; one cell in 23 is NODATA.
+/// Returns pseudorandom heights from 0 to 39; about one cell in 23 is NODATA.
 fn rough_heights(rt: &impl Abort, alloc: Global, seed: u32) -> String {
     let mut text = String::new(alloc);
     let mut state = seed;
@@ -222,7 +222,7 @@ fn rough_heights(rt: &impl Abort, alloc: Global, seed: u32) -> String {
     text
 }
 
-/// Appends the results of `sees` for a row of cells.
+/// Appends for each cell of a row the result of `sees`, or NODATA where there is no data.
 fn push_plain_row(
     rt: &impl Abort,
     land: &Grid,
@@ -247,7 +247,7 @@ fn push_plain_row(
     }
 }
 
-/// Asserts that one observer's viewshed has the result of `sees` at each cell.
+/// Asserts that one observer's viewshed has the result of `sees` at each data cell.
 fn expect_plain<R: Abort + Threads + Wait + Sync>(
     rt: &R,
     alloc: Global,

@@ -183,7 +183,7 @@ fn level_ground(rt: HostRuntime) {
     maps.expect(&rt, rt.alloc());
 }
 
-/// The first block of 16 codes is all outlets; then, on other ground, it has none:
+/// The first group of 16 codes is all outlets; then, on other ground, it has none:
 /// a river along row 0 to its end, a ridge, and pairs of cells whose second is an outlet.
 #[test]
 fn outlets_of_several_runs(rt: HostRuntime) {

@@ -1,4 +1,4 @@
--- A grid text has one map for each request.
+-- Two texts that are the same map of one grid text, at one scale with one list of sinks, are equal.
 use Rattle.std.proofs.Common.{◌≡◌, ℕ, List, Option, Some, ℤ, sym, ap, subst, ◌∙◌, inl, inr}
 use Rattle.std.proofs.lemmas.Option.{MatchOption-at_none, MatchOption-at_some}
 use Rattle.terrain.specs.Raster.{Raster, Terrain}
@@ -94,7 +94,7 @@ one_map_of_grid g (View observers target radius) text other a b =
     a.2 ∙ ap (λ vs. counts_text g vs)
     (viewsheds_are_one g.terrain observers.items target radius a.0 b.0 a.1 b.1) ∙ sym b.2
 
--- maps with equal observers and gauges have equal texts
+-- a text of one map is a text of each map that is the same by `AreSame`
 same_text : (g : Raster) (m n : Map) (text : List ℕ) → AreSame m n → IsMapText g n text →
     IsMapText g m text
 same_text g Fill n text same h = subst (λ (k : Map). IsMapText g k text) (sym same) h

@@ -27,7 +27,7 @@ pub no_fault : {T : Type 0} (fault : Option SightFault) (workers : ℕ) (x : T) 
 no_fault None workers x h = refl
 no_fault (Some f) workers x h = let bad = h.reported f refl in absurd (cc)
 
--- a fault of the observers is a work refusal
+-- a viewshed's fault that forbids the map, and is not of jobs, is a work refusal
 sight_refused : (w : Request) (g : Raster) (f : SightFault) → ((x : JobFault) → f ≡ sight.Jobs x →
     ⊥) → request_fault w g ≡ Some (Sight f) → IsWorkRefusal w g (of_sight f)
 sight_refused w g (sight.Outside i) other h = h
@@ -77,7 +77,7 @@ catchments_refused w g fault f some few sound is h =
     (job_refused w g some few is reported.0 (λ e. (h.bad_workers sound).0 (ap Err (reported.1
     ∙ ap gauges.Jobs e))) (λ e. h.no_thread (ap Err (reported.1 ∙ ap gauges.Jobs e))))
 
--- only tiles, sinks, gauges and observers forbid a map
+-- only faults of tiles, sinks, gauges and viewsheds forbid a map
 abbrev pub Forbids : RunFault → Type 0
 Forbids (Tiling fault) = ⊤
 Forbids (Sight fault) = ⊤

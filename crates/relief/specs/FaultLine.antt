@@ -49,7 +49,7 @@ plain number name = record { number = number; name = name; detail = None }
 abbrev pub detailed : ℕ → List ℕ → List ℕ → FaultParts
 detailed number name detail = record { number = number; name = name; detail = Some detail }
 
--- Faults of the grid text.
+-- The parts of the line for faults of the grid text.
 abbrev pub grid_telling : GridFault → FaultParts
 grid_telling grid.UnknownKey = plain 1 (codes "UnknownKey")
 grid_telling (grid.RepeatedKey slot) = detailed 2 (codes "RepeatedKey") (slot_text slot)
@@ -64,18 +64,18 @@ grid_telling (grid.NoValue slot) = detailed 10 (codes "NoValue") (slot_text slot
 grid_telling grid.TooLong = plain 11 (codes "TooLong")
 grid_telling grid.Memory = plain 12 (codes "Memory")
 
--- Faults of the tiling.
+-- The parts of the line for faults of the tiling.
 abbrev pub tiling_telling : TilingFault → FaultParts
 tiling_telling tiling.BadSide = plain 21 (codes "BadSide")
 tiling_telling tiling.TooManyTiles = plain 22 (codes "TooManyTiles")
 
--- Faults of memory, workers and threads.
+-- The parts of the line for faults of memory, workers and threads.
 abbrev pub jobs_telling : JobFault → FaultParts
 jobs_telling jobs.Memory = plain 12 (codes "Memory")
 jobs_telling jobs.BadWorkers = plain 31 (codes "BadWorkers")
 jobs_telling jobs.NoThread = plain 32 (codes "NoThread")
 
--- Faults of a viewshed.
+-- The parts of the line for faults of a viewshed.
 abbrev pub sight_telling : SightFault → FaultParts
 sight_telling (sight.Outside i) = detailed 41 (codes "Outside") (decimal i)
 sight_telling (sight.OnNodata i) = detailed 42 (codes "OnNodata") (decimal i)
@@ -85,21 +85,21 @@ sight_telling (sight.BadEye (Some i)) = detailed 44 (codes "BadEye") (decimal i)
 sight_telling sight.BadRadius = plain 45 (codes "BadRadius")
 sight_telling (sight.Jobs fault) = jobs_telling fault
 
--- Faults of named sinks.
+-- The parts of the line for faults of named sinks.
 abbrev pub sinks_telling : SinkFault → FaultParts
 sinks_telling (sinks.Outside i) = detailed 46 (codes "SinkOutside") (decimal i)
 sinks_telling (sinks.OnNodata i) = detailed 47 (codes "SinkOnNodata") (decimal i)
 sinks_telling sinks.TooManySinks = plain 48 (codes "TooManySinks")
 sinks_telling sinks.Memory = jobs_telling jobs.Memory
 
--- Faults of gauges.
+-- The parts of the line for faults of gauges.
 abbrev pub gauges_telling : GaugeFault → FaultParts
 gauges_telling (gauges.Outside i) = detailed 61 (codes "GaugeOutside") (decimal i)
 gauges_telling (gauges.OnNodata i) = detailed 62 (codes "GaugeOnNodata") (decimal i)
 gauges_telling gauges.TooManyGauges = plain 63 (codes "TooManyGauges")
 gauges_telling (gauges.Jobs fault) = jobs_telling fault
 
--- All faults of a run.
+-- The parts of the line for each fault of a run.
 abbrev pub telling : RunFault → FaultParts
 telling (Grid fault) = grid_telling fault
 telling (Tiling fault) = tiling_telling fault

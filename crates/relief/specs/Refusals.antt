@@ -1,5 +1,5 @@
--- Which fault a run returns: the first that applies of a fault of the text, too many tiles, a fault
--- of the sinks, a fault of the gauges or observers, memory or a thread refused, a failed write.
+-- Which fault a run may return: the first of these. A text fault or failed read; too many tiles; a
+-- fault of sinks, then of gauges or observers; refused memory or threads; a failed write.
 -- Trust base.
 use Rattle.std.specs.Prelude.{◌≡◌, ℕ, ◌<◌, nat_lt, ⊤, if◌then◌else◌, List, Option, None, Some, option_map}
 use Rattle.std.specs.Option.{option_or}
@@ -46,8 +46,8 @@ request_fault w g =
     if nat_lt most_tiles (tiles_of g w.tile) then Some (Tiling TooManyTiles)
     else option_or (named_place_fault w g) (option_map Sight (observer_fault g w.map))
 
--- A run may return the fault for this grid. Memory and threads are refused only where nothing
--- forbids the map, and threads only with more than one worker.
+-- A run may return the fault for this grid: the one that forbids the map. If none does, memory may
+-- be refused, or a thread if there is more than one worker.
 abbrev pub IsWorkRefusal : Request → Raster → RunFault → Type 0
 IsWorkRefusal w g (Jobs jobs.Memory) = request_fault w g ≡ None
 IsWorkRefusal w g (Jobs jobs.NoThread) = (request_fault w g ≡ None) × (1 < w.workers)

@@ -22,7 +22,7 @@ use tile_jobs::{Gate, NoGate};
 
 /// A [`Gate`] that reports the progress of a run.
 pub trait Progress: Gate {
-    /// Called once when the run has ended, before the line of its fault is written.
+    /// With `--progress`, called once after the run, before the line of its fault is written.
     fn finish(&self);
 }
 
@@ -57,7 +57,7 @@ fn show<W: Write>(text: &str, out: &mut Counted<W>, status: u8) -> u8
 }
 
 /// Writes the text of an error of `clap`, and returns the exit status.
-/// Help and the version go to `writer`, refusals to `errors`.
+/// Help and the version go to `writer`, refusals to `errors`. Refused memory writes nothing.
 fn show_error<W: Write, E: Write>(
     alloc: Global,
     error: &Error,

@@ -8,8 +8,8 @@
 //! - `command`: `run_words`, from a command line to an exit status
 //! - `running`: `run`, from bytes to bytes
 //! - `making`: cuts tiles, adds sinks and makes the map
-//! - `fault`: faults with their numbers, names and exit statuses
 //! - `telling`: writes the line of a fault
+//! - `fault`: faults with their numbers, names and exit statuses
 //! - `laws`: theorems about the definitions
 #![tactic(auto)]
 

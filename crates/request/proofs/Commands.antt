@@ -1,4 +1,4 @@
--- Adding an argument or a subcommand to a command.
+-- A command with one more argument or subcommand has the shape with it added.
 use Rattle.std.proofs.Common.{◌≡◌, ◌++◌, ◌∷◌, [], ◌||◌, ap, ap₂, ◌∙◌}
 use Rattle.clap.specs.Words.{App, Rule, Shape, app_of, with_rule, with_subcommand}
 use Rattle.clap.specs.Built.{AddsArg, AddsSubcommand}

@@ -196,7 +196,7 @@ Names name rows (View observers target radius) =
 abbrev pub sink_words : Text → List Row → List Text
 sink_words name rows = if bytes_eq name (codes "view") then [] else words_of (codes "sinks") rows
 
--- The options that all maps share have these values.
+-- The options that all maps share, except the flag, have these values.
 abbrev pub HasOptions : List Row → ℕ → ℕ → ℕ → Type 0
 HasOptions rows tile workers scale =
     HasNumber rows (codes "tile") tile × HasNumber rows (codes "workers") workers

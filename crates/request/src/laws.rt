@@ -11,7 +11,7 @@ pub fn requests_are_accepted()
     ensures { RequestsAreAccepted }
 {}
 
-/// Proves that `relief fill` means tile side 256, one worker, scale 0 and no sinks.
+/// Proves that `relief fill` requests filled heights with the default options.
 #[tactic(auto, using(crate::proofs::Requests::fill_alone))]
 pub fn fill_alone()
     ensures { FillAlone }
@@ -23,7 +23,7 @@ pub fn basins_of_sinks()
     ensures { BasinsOfSinks }
 {}
 
-/// Proves that `catchments` takes sinks by `--sink` and gauges as words.
+/// Proves of one command line that `--sink` names sinks and words name gauges.
 #[tactic(auto, using(crate::proofs::Requests::catchments_of_a_gauge))]
 pub fn catchments_of_a_gauge()
     ensures { CatchmentsOfAGauge }

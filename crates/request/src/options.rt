@@ -31,7 +31,7 @@ pub struct Options {
     tile: u32,
     workers: u32,
     scale: u8,
-    // `None` for no sinks, as `new` has no allocator.
+    // `None` until sinks are given, as `new` has no allocator.
     sinks: Option<Vec<Place>>,
     progress: bool,
 }

@@ -8,13 +8,13 @@ use std::test::Fail;
 use std::thread;
 use std::thread::Threads;
 
-/// How often a held job checks whether another job has entered.
+/// How often at most a held job checks whether another job has entered.
 const MOST_LOOKS: u32 = 10_000_000;
 
 /// The side of the tiles of a level strip, in cells.
 const SIDE: u32 = 2;
 
-/// A gate that holds each of the first jobs of a stage until all have entered.
+/// A gate that holds a stage's first jobs until all have entered, or gives up.
 #[derive(Drop)]
 struct Crowd {
     // how often each of the first jobs has entered

@@ -38,10 +38,10 @@ const CORRIDORS: &[u8] = b"ncols 10\nnrows 5\nxllcorner 0\nyllcorner 0\ncellsize
 const LEVEL: &[u8] =
     b"ncols 5\nnrows 2\nxllcorner 0\nyllcorner 0\ncellsize 1\n5 5 5 5 5\n5 5 5 5 5\n";
 
-/// How often a held job checks whether the other job has entered.
+/// How often at most a held job checks whether the other job has entered.
 const MOST_LOOKS: u32 = 10_000_000;
 
-/// A gate that holds each of a stage's first two jobs until the other has entered.
+/// A gate that holds a stage's first two jobs until both have entered, or gives up.
 #[derive(Drop)]
 struct Meeting {
     // how often each of the two has entered: once at each stage
@@ -116,7 +116,7 @@ fn cut(rt: &impl Abort, alloc: Global, text: &[u8], side: u32) -> (Grid, Tiling)
     (grid, tiling)
 }
 
-/// Each stage has one job for each tile.
+/// Each stage has as many jobs as there are tiles.
 /// `viewshed`: greatest heights of blocks, values. `filled`: floods, raising. `accumulation` and
 /// `catchments`: flow in tiles, values. `basins`: outlets, flow in tiles, values.
 #[test]
@@ -166,7 +166,7 @@ fn tiles_meet_in_each_round(rt: HostRuntime) {
     gate.expect(&rt, 4, 2, "directions");
 }
 
-/// A round has a job for each tile, though only the first tile gets new steps.
+/// A round has a job for each tile, though in round 2 only one tile gets steps.
 #[test]
 fn idle_tiles_have_a_job_in_each_round(rt: HostRuntime) {
     let alloc = rt.alloc();

@@ -20,7 +20,7 @@ const HEADER: &[u8] = b"ncols 1000 nrows 1000 xllcorner 0 yllcorner 0 cellsize 1
 /// The number of cells of [`HEADER`].
 const CELLS: u32 = 1_000_000;
 
-/// Returns a text of 3 MB whose words are ` 47`, but ` /7` at one cell.
+/// Returns [`HEADER`] and then ` 47` for each cell, but ` /7` at `bad_cell`: 3 MB.
 fn long_text(alloc: Global, bad_cell: u32) -> Result<Vec<u8>, AllocError> {
     let mut text = Vec::from_slice(alloc, HEADER)?;
     for cell in 0..CELLS {

@@ -50,7 +50,7 @@ impl Read for Endless {
     }
 }
 
-/// A writer of `each` bytes a call and `room` in all; then it fails, or writes 0.
+/// A writer of `each` bytes a call, `room` in all; then an error, or 0 if `stuck`.
 #[derive(Drop)]
 struct Short {
     taken: Vec<u8>,
@@ -183,7 +183,7 @@ fn a_flush_that_fails(rt: HostRuntime) -> Result<(), Fail> {
     Ok(())
 }
 
-/// A reader of seven bytes a call that fails once, after `calls` calls.
+/// A reader of up to seven bytes a call that fails once, after `calls` calls.
 #[derive(Drop)]
 struct Sevens<'a> {
     bytes: &'a [u8],

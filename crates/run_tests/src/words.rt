@@ -13,7 +13,7 @@ use std::thread::Threads;
 const BOWL: &[u8] =
     b"ncols 3\nnrows 3\nxllcorner 0\nyllcorner 0\ncellsize 1\n9 9 9\n9 1 9\n9 9 9\n";
 
-/// The exit status and the output of the program on the bowl.
+/// The exit status, the output and the error lines of the program on the bowl.
 #[derive(Drop)]
 struct Outcome {
     status: u8,
@@ -74,7 +74,7 @@ fn words_and_statuses(rt: HostRuntime) {
     }
 }
 
-/// Returns whether these words are refused, with a message on the errors.
+/// Whether these words are refused with status 1 and a message on standard error.
 fn are_refused<R: Threads + Wait + Sync>(rt: &R, alloc: Global, words: &[&str]) -> bool {
     let outcome = outcome_of(rt, alloc, words);
     outcome.status == 1 && !outcome.errors.is_empty()
@@ -243,7 +243,7 @@ fn options_in_their_limits(rt: HostRuntime) {
     }
 }
 
-/// A gate that counts the calls of a run.
+/// A gate that counts the calls of a run, except those of `enter`.
 #[derive(Drop)]
 struct Tally {
     stages: AtomicU64,
@@ -257,7 +257,7 @@ struct Tally {
     ends: AtomicU64,
 }
 
-/// The number of observers.
+/// The number of observers in the words of `progress_of_a_view`.
 const OBSERVERS: u64 = 3;
 
 /// The number of tiles of the bowl, of side 2.
@@ -292,7 +292,7 @@ impl Progress for Tally {
     }
 }
 
-/// Runs the program on the bowl, and returns the calls of its gate.
+/// Runs the program on the bowl, and returns its gate with the counts of its calls.
 fn reported<R: Threads + Wait + Sync>(rt: &R, alloc: Global, words: &[&str]) -> Tally {
     let tally = Tally {
         stages: AtomicU64::new(0),

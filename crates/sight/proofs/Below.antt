@@ -1,4 +1,4 @@
--- A line whose cells near some rays are not above one height.
+-- What a line blocks, a level ramp hides that no cell of the line near the rays exceeds.
 use Rattle.std.proofs.Common.{arith, refl, sym, ap, ◌∙◌, ◌≡◌, ◌+◌, ◌-◌, ◌<◌, ◌≤◌, ◌⊎◌, ℕ, ℤ, pos, ◌+ℤ◌, ◌-ℤ◌, ◌*ℤ◌, ◌≤ℤ◌, ◌<ℤ◌, true, List, length, Option, None, Some, get_or, inl, inr}
 use borrow.Author.Differences.{true_is_lt}
 use Rattle.std.specs.Int.{int_div_euclid}
@@ -22,7 +22,7 @@ smaller : (a b : ℤ) (n : ℕ) → (a *ℤ pos n) <ℤ ((b +ℤ pos 1) *ℤ pos
 smaller a b n less = by_lt_z b a (λ past. absurd
     (omega (arith, ints, less, grows (b +ℤ pos 1) a n (omega (arith, ints, past))))) (λ is. is)
 
--- rays of greater slopes cross a line at no lower offset
+-- a ray of no smaller slope crosses a line at no lower offset
 offsets_rise : (k : ℕ) (a b : ℤ) (s t : Target) → 0 < s.line → 0 < t.line → IsSlopeUpTo s t →
     Passes k a s → Passes k b t → a ≤ℤ b
 offsets_rise k a b s t some more slope low high =
@@ -56,7 +56,7 @@ among_shows cells f k first last ramp t some among here onward =
       );
     }))
 
--- the ray to a target crosses a line between those to the first and last targets around it
+-- of targets `from` to below `end`, each ray crosses a line between the first ray and the last
 pub passes_between : (targets : List Target) (none : Target)
     (k from end i : ℕ) (low high : ℤ) (t : Target) → AreTargets targets → end ≤ length targets →
     Passes k low (get_or targets from none) → Passes k high (get_or targets (end - 1) none)
@@ -83,7 +83,7 @@ passes_between targets none k from end i low high t are few first last a b at =
           (slope_up targets i (end - 1) t u are (omega arith) at at_u) passes last,
     )
 
--- the two cells between which a line blocks a ray, with the ramp of their ground
+-- two neighbours, or one cell twice, whose ground's ramp on line k hides the target
 record Blocker (cells : List (Option ℤ)) (f : Family) (k : ℕ) (offset rise : ℤ) (t : Target) :
     Type 0 where
   pub cell : ℕ
@@ -178,7 +178,7 @@ level_hides f k offset near far top rise t passes a b hides =
     joined : (e j : ℤ) (r m : ℕ) → (e *ℤ pos r) +ℤ (e *ℤ pos m) ≡ (pos 0 *ℤ j) +ℤ (e *ℤ pos (r + m))
     joined e j r m = omega (arith, ints)
 
--- no cell near the rays is above `top`
+-- no cell of line k from offset `low` to `high + 1` is above `top`
 abbrev pub IsTopNear : List (Option ℤ) → Family → ℕ → ℤ → ℤ → Option ℤ → Type 0
 IsTopNear cells f k low high top = (c : ℕ) (h : ℤ) → c < f.side.cells → low ≤ℤ offset_of f c →
     offset_of f c ≤ℤ (high +ℤ pos 1) → height_at cells f k c ≡ Some h → IsTopOf top h

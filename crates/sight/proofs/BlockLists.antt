@@ -49,7 +49,7 @@ few_blocks size cells some = elim (cases_lt cells (blocks_in size cells)) [
   | inr few ↦ few
 ]
 
--- the list of the blocks' heights is a ground
+-- block heights of a terrain of permitted size are the cells of a ground, one for each block
 pub ground_of_tops : (size : ℕ) (t : Terrain) (tops : List (Option ℤ)) → 0 < size →
     (1 ≤ t.cols) × (t.cols ≤ 4096) → (1 ≤ t.rows) × (t.rows ≤ 4096) → AreTops size t tops
     → IsGround (blocks_in size t.cols) (blocks_in size t.rows) tops
@@ -66,13 +66,13 @@ ground_of_tops size t tops some cols rows are = record {
   heights = are.heights;
 }
 
--- the greatest heights of a terrain without its sinks are those of the terrain
+-- block heights right for a terrain without its sinks are right for the terrain
 pub tops_of_ground : (size : ℕ) (t : Terrain) (tops : List (Option ℤ)) →
     AreTops size (ground_of t.cols t.rows t.cells) tops → AreTops size t tops
 tops_of_ground size t tops are =
     record { count = are.count; heights = are.heights; above = are.above }
 
--- blocks of 8 by 8 near blocks are far blocks
+-- cells fill as many blocks of 8 near blocks as far blocks
 in_blocks : (cells : ℕ) → blocks_in 8 (blocks_in 16 cells) ≡ blocks_in 128 cells
 in_blocks cells = omega arith
 
@@ -110,7 +110,7 @@ no_tops size t from = record {
   above = λ p h low high is. absurd (omega arith);
 }
 
--- the list of one block has its greatest height
+-- a list with the height of block k alone has the heights of blocks k to below k + 1
 pub one_top : (size k : ℕ) (t : Terrain) (top : Option ℤ) → 0 < size
     → IsBlockTop size t (make_place (k / blocks_in size t.cols) (k % blocks_in size t.cols)) top
     → AreTopsBetween size t k (k + 1) (top ∷ [])

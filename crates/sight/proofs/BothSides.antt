@@ -32,7 +32,7 @@ lines_block cells f height n x y at away =
     walk_is_blocked cells f n y (rise_at cells f height n y) (sightline_to cells f height x y)
     (ap axis (sym at)) refl refl high away
 
--- no crossing is between the observer and the next line
+-- nothing blocks a walk to the observer's own line or the next, which meets no crossing
 none_between : (cells : List (Option ℤ)) (l : Sightline) → steps_of l ≤ 1 →
     walk_blocks cells l ≡ false
 none_between cells l few =

@@ -1,4 +1,4 @@
--- A family removes the marks of a window's cells, ray by ray.
+-- A family removes the marks of the window's cells that it hides, ray by ray.
 use Rattle.std.proofs.Common.{arith, refl, sym, ap, subst, ◌∙◌, ◌≡◌, ◌≢◌, ◌⊎◌, ℕ, ◌+◌, ◌-◌, ◌*◌, ◌<◌, ◌≤◌, Bool, true, false, not, ◌&&◌, ℤ, pos, ◌+ℤ◌, unsigned_abs, to_z, of_z, w32, List, length, get_or, set, Option, Some, inl, inr}
 use Rattle.std.specs.Prelude.{slice_get, if◌then◌else◌}
 use Rattle.std.proofs.lemmas.Bool.{cases_lt, cases_eq, cases_Bool, and_left, and_right}
@@ -99,7 +99,7 @@ rank_at rays targets ranks n rank within are at =
     ap (slice_get targets) (sym (get_or_from_slice_get ranks n rank 0 has))
     ∙ are.each n t (slice_get-get_or rays n (record { offset = pos 0; line = 0 }) within)
 
--- a lookup at line k stays one if only its cursor and its last rank change
+-- a lookup stays right if only cursor and last rank change and the cursor may be used there
 pub looked_on : (cells : List (Option ℤ)) (f : Family) (targets : List Target) (k : ℕ) (old new :
     SweepLookup) → LooksFrom cells f targets k old → new.line ≡ old.line → new.sweep ≡ old.sweep
     → IsUpTo new.sweep.highest new.cursor new.last → LooksFrom cells f targets new.line new
@@ -125,7 +125,7 @@ and_true : (a b : Bool) → b ≡ true → (a && b) ≡ a
 and_true true b h = h
 and_true false b h = refl
 
--- the new mark of a cell that is blocked, and of one that is not
+-- the new mark of a blocked cell is false; `left_open`: that of any other cell is the old one
 left_blocked : (cells : List (Option ℤ)) (f : Family) (w : Window) (height : ℕ) (old : List Bool)
     (n y : ℕ) → is_blocked_before cells f n y (rise_at cells f height n y) n ≡ true →
     mark_left cells f w height old n y ≡ false
@@ -138,13 +138,13 @@ left_open : (cells : List (Option ℤ)) (f : Family) (w : Window) (height : ℕ)
 left_open cells f w height old n y is =
     and_true (mark_in_window w (lead_of f n) y old) _ (ap not is)
 
--- a target of the family is at one line and cell
+-- a target is at only one cell of one line
 same_target : (f : Family) (t : Target) (m z y : ℕ) → IsAtCell f y t → t ≡ target_at f m z →
     (m ≡ t.line) × (z ≡ y)
 same_target f t m z y stands e =
     (ap (λ q. q.line) (sym e), omega (arith, ints, stands.offset, ap (λ q. q.offset) e))
 
--- the marks after a check of the cells of the rays below index `end`
+-- cells of rays below index `end` have their new mark; other cells have the old or the new one
 pub record AreHiddenBelow (cells : List (Option ℤ)) (f : Family) (w : Window) (height : ℕ)
     (rays : List Target) (end : ℕ) (old new : List Bool) : Type 0 where
   pub size : length new ≡ length old
@@ -268,7 +268,7 @@ all_asked cells f w height rays old new are asked = record {
   kept = asked.kept;
 }
 
--- the cell of a ray, as the code computes it
+-- the code's 32-bit sum of the observer's coordinate and a ray's offset is the ray's cell
 pub cell_back : (f : Family) (y : ℕ) (ray : Target) → IsFamily f → IsAtCell f y ray →
     unsigned_abs (to_z w32 (of_z w32 (to_z w32 f.side.at +ℤ to_z w32 (of_z w32 ray.offset)))) ≡ y
 cell_back f y ray is stands =

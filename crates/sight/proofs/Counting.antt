@@ -35,7 +35,7 @@ value_counted t os target radius i d p false less e =
     ap (λ n. option_map (λ _. n) (height_at t p))
     (sym (count_by_more_no (λ (o : Observer). is_seen t o p target radius) os i d less e))
 
--- the values after an observer whose view was marked
+-- counting the marks of observer i turns the values of the first i into those of the first i + 1
 pub looked : (t : Terrain) (os : List Observer) (target radius i : ℕ) (d : Observer) (b : Bounds)
     (old new : List (Option ℕ)) (seen : List Bool) → i < length os
     → AreMadeBelow b (HasValue t (take i os) target radius) (b.rows * b.cols) old →
@@ -56,7 +56,7 @@ looked t os target radius i d b old new seen less before marks size each = recor
       (is_seen t (get_or os i d) p target radius) less refl;
 }
 
--- the values after an observer who sees no cell of the tile
+-- where observer i sees no cell of the tile, values of the first i are those of the first i + 1
 pub passed : (t : Terrain) (os : List Observer) (target radius i : ℕ) (d : Observer) (b : Bounds)
     (values : List (Option ℕ)) → i < length os
     → AreMadeBelow b (HasValue t (take i os) target radius) (b.rows * b.cols) values →

@@ -11,7 +11,7 @@ use Rattle.sight.specs.declared.family.Family.{Family}
 use Rattle.sight.specs.declared.window.Window.{Window}
 use Rattle.sight.proofs.Ranking.{slice_get-front, slice_get-last}
 
--- rays up to cell c of line n are all before line k, if no cell of the window is between
+-- rays before cell c of line n are all the rays before line k, if no window cell is between
 lines_passed : (f : Family) (w : Window) (marks : List Bool) (n c k : ℕ) (rays : List Target)
     → n < k → length rays ≤ k * 4096 → ((m y : ℕ) → m < k → Crosses f w m → IsInRun w.side y →
     (m < n) ⊎ ((m ≡ n) × (y < c))) → AreRays f w marks n c rays → AreRays f w marks k 0 rays

@@ -31,7 +31,7 @@ before_to targets k m offset u are at_m before i t below at_i =
     high_back offset t.offset u.offset t.line u.line k (are.each i t at_i).line.0
     (slope_up targets i m t u are (omega arith) at_i at_m) before
 
--- rays from one at `offset` to below `end` pass among the cells `offset` to `last`
+-- rays from one that passes `offset` on, all before `last + 1`, pass among `offset` to `last`
 pub passes_onward : (targets : List Target) (k from end i : ℕ) (offset last : ℤ) (u t : Target) →
     AreTargets targets → slice_get targets from ≡ Some u → Passes k offset u →
     AreBefore targets k (last +ℤ pos 1) end
@@ -188,7 +188,7 @@ passed_high f k y t is stands some later past =
       rest_times (pos f.side.cells) (pos f.side.at) (pos (r + k)),
     ))
 
--- a horizon raised over the targets whose rays cross before the first cell
+-- any ramp within bounds raises an empty horizon over targets whose rays cross before the side
 pub low_raised : (cells : List (Option ℤ)) (f : Family) (targets : List Target) (k end : ℕ)
     (highest : List Piece) (ramp : Ramp) (old new : List Piece) → old ≡ [] → IsFamily f →
     AreTargets targets → IsPushed old end ramp new
@@ -208,7 +208,7 @@ low_raised cells f targets k end highest ramp old new e is are pushed before at 
       ),
     )
 
--- a horizon raised over the targets whose rays cross past the last cell
+-- any ramp within bounds raises a horizon over further targets whose rays cross past the side
 pub high_raised : (cells : List (Option ℤ)) (f : Family) (targets : List Target) (k from end : ℕ)
     (highest : List Piece) (offset : ℤ) (u : Target) (ramp : Ramp) (old new : List Piece) → 0 < k →
     IsFamily f → AreTargets targets → slice_get targets from ≡ Some u

@@ -29,7 +29,7 @@ marked_more b Holds p marks i x inside at before is = record {
   ];
 }
 
--- the marks that a sweep leaves are those of the seen places
+-- of marks that are right for the first crossings, a sweep leaves those of the seen places
 pub left_seen : (b : Bounds) (t : Terrain) (o : Observer) (target radius : ℕ)
     (old new : List Bool) → AreMarked b (MarksSeenIfOpen t o target radius) old →
     AreLeft b (λ (p : Place). is_open t o p target) old new

@@ -18,7 +18,7 @@ or_between : (a b c : Bool) → (a || (b || c)) ≡ ((a || b) || c)
 or_between true b c = refl
 or_between false b c = refl
 
--- some number of a range passes a test, or the next number does
+-- a range longer by one has a passing number exactly if the range has one or the next passes
 pub any_next : (p : ℕ → Bool) (a n : ℕ) →
     list_any p (range_with_len a (n + 1)) ≡ (list_any p (range_with_len a n) || p (a + n))
 any_next p a zero = let same : a + 0 ≡ a = omega arith in rw same (or_none (p a))
@@ -59,7 +59,7 @@ hides_next cells f targets k old new some before whole raises = record {
       rw raised.1 (here ∙ rw was (sym next));
 }
 
--- before the first line nothing is hidden
+-- a horizon of one ramp that hides no target is right before line 1
 pub none_hides : (targets : List Target) (ramp : Ramp) (h : List Piece) → AreTargets targets →
     IsPushed [] (length targets) ramp h
     → ((t : Target) (rise : ℤ) → IsTarget t → unsigned_abs rise ≤ 2 ^ 51 →

@@ -14,7 +14,7 @@ use Rattle.sight.specs.declared.sides.Coordinate.{Coordinate}
 use Rattle.sightlines.specs.declared.walk.Sightline.{Sightline}
 use Rattle.sightlines.proofs.Crossings.{height_is, column_blocks-walk, row_blocks-walk}
 
--- the coordinates of an observer and a tile
+-- the columns as a coordinate: those of the observer's cell and of the tile
 abbrev pub columns_at : Bounds → Place → Coordinate
 columns_at b p =
     record { at = p.col; stride = 1; tile = record { first = b.left; cells = b.cols; stride = 1 } }

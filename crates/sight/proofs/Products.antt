@@ -34,7 +34,7 @@ times_between a b c = omega (
   ap (λ z. down a * z) (product_is c b).1,
 )
 
--- a product of small numbers, as the code computes it
+-- a product of numbers up to 4096 fits in 32 signed bits, and the code computes it
 pub times_short : (a : ℤ) (n : ℕ) → unsigned_abs a ≤ 4096 → n ≤ 4096 → FitsSigned w32 (a *ℤ pos n)
     × (to_z w32 (of_z w32 a) *ℤ to_z w32 n ≡ a *ℤ pos n)
 times_short a n small few = (

@@ -9,14 +9,14 @@ use Rattle.sightlines.specs.Walk.{is_above}
 use Rattle.sightlines.proofs.Ground.{above_both, weighed_height-some}
 use Rattle.sight.proofs.Products.{sum_times, rest_times, times_between}
 
--- a comparison with one number added to both sides
+-- adding one number to both sides does not change a comparison
 moved : (a b d : ℤ) → int_lt (a +ℤ d) (b +ℤ d) ≡ int_lt a b
 moved a b d = grind (arith, ints)
 
 lt_moved : (x y a b d : ℤ) → x ≡ a +ℤ d → y ≡ b +ℤ d → int_lt x y ≡ int_lt a b
 lt_moved x y a b d p q = rw (p, q) (moved a b d)
 
--- the ground between two cells, as the first height plus a gain
+-- r near and m far heights add up to r + m near heights and m times the gain
 ground_gains : (near far : ℤ) (r m : ℕ) →
     ((pos r *ℤ near) +ℤ (pos m *ℤ far)) ≡ (near *ℤ pos (r + m)) +ℤ ((far -ℤ near) *ℤ pos m)
 ground_gains near far r m = omega (arith, ints, rest_times far near (pos m))
@@ -25,7 +25,7 @@ sight_rises : (e rise : ℤ) (k r : ℕ) →
     ((e *ℤ pos r) +ℤ ((e +ℤ rise) *ℤ pos k)) ≡ (rise *ℤ pos k) +ℤ (e *ℤ pos (r + k))
 sight_rises e rise k r = omega (arith, ints, sum_times e rise (pos k))
 
--- a ramp's value at a ray, m n-ths past the cell at `offset`
+-- at a ray m n-ths past the cell at `offset`, a ramp is n times its base plus m steps
 pub ramp_gains : (base step offset j : ℤ) (n k m : ℕ) → j *ℤ pos k ≡ (offset *ℤ pos n) +ℤ pos m
     → ((step *ℤ pos k) *ℤ j) +ℤ ((base -ℤ (step *ℤ offset)) *ℤ pos n) ≡ (base *ℤ pos n)
     +ℤ (pos m *ℤ step)
@@ -53,7 +53,7 @@ above_between near far z n m h =
           rw (m_is, weighed_height-some (Some near) (n - 0) (omega arith), no_part far) refl
     ]
 
--- a ramp hides a target exactly where its ground is above the line of sight
+-- the ramp between two cells hides a target exactly where their ground is above the line of sight
 pub shown_between : (near far e rise offset j : ℤ) (n k m : ℕ) → m < n → k ≤ n →
     j *ℤ pos k ≡ (offset *ℤ pos n) +ℤ pos m
     → int_lt (rise *ℤ pos k) ((((far -ℤ near) *ℤ pos k) *ℤ j)
@@ -78,7 +78,7 @@ shown_between near far e rise offset j n k m below few is =
         ≡ (((near -ℤ e) *ℤ pos n) +ℤ (pos m *ℤ step)) +ℤ (e *ℤ pos n)
     raised near e step n m = omega (arith, ints, rest_times near e (pos n))
 
--- where NODATA takes part, no crossing blocks
+-- a crossing whose first cell is NODATA cannot block
 pub not_shown_near : (far : Option ℤ) (n m : ℕ) (z : ℤ) → m < n →
     is_above None (n - m) far m z ≡ false
 not_shown_near far n m z h = rw (weighed_height-some None (n - m) (omega arith)) refl
@@ -88,7 +88,7 @@ pub not_shown_far : (near : ℤ) (n m : ℕ) (z : ℤ) → m < n → 0 < m →
 not_shown_far near n m z h part =
     rw (weighed_height-some (Some near) (n - m) (omega arith), weighed_height-some None m part) refl
 
--- a ray from cell o to cell y crosses a line m n-ths past cell c, which is o + offset
+-- if a ray from o to y crosses line k m / (r + k) past cell c, o * r + y * k is c * (r + k) + m
 located : (o y c r k m : ℕ) (offset : ℤ) → (pos y -ℤ pos o) *ℤ pos k ≡ (offset *ℤ pos (r + k))
     +ℤ pos m → pos c ≡ pos o +ℤ offset → o * r + y * k ≡ c * (r + k) + m
 located o y c r k m offset is at = omega (

@@ -54,7 +54,7 @@ an_observer_twice : map (viewshed_value flat (middle ∷ middle ∷ []) 0 1) (pl
     ∷ 2 ∷ 2 ∷ 2 ∷ 0 ∷ 2 ∷ 0 ∷ []
 an_observer_twice = refl
 
--- the faults of observers, in their order
+-- the first faults of observers, target height and radius, over a grid with one NODATA cell
 abbrev pub gap : Terrain
 gap = land 3 2 (up 0 ∷ up 1 ∷ up 2 ∷ up 3 ∷ None ∷ up 5 ∷ [])
 

@@ -17,7 +17,7 @@ use Rattle.sightlines.proofs.Levels.{times_small, between_small}
 use Rattle.sightlines.proofs.Toward.{lead_up_is, lead_down_is}
 use Rattle.sight.proofs.Rays.{ramp_gains, shown_between, not_shown_near, not_shown_far, cell_is, stays_inside}
 
--- the quotient of `div_euclid` is rounded down
+-- the quotient of `div_euclid`, times the divisor, is not above the number
 pub floor_low : (z : ℤ) (n : ℕ) → 0 < n → (int_div_euclid z (pos n) *ℤ pos n) ≤ℤ z
 floor_low (pos a) n some = omega (arith, ints, div-add-mod' a n)
 floor_low (negsuc a) n some = omega (arith, ints, div-add-mod' a n, mod_below a n some)
@@ -35,7 +35,7 @@ floor_small (pos a) n some h =
 floor_small (negsuc a) n some h =
     omega (arith, ints, mul-le (a / n) 1 (a / n) n (omega arith) (omega arith), div-add-mod' a n)
 
--- on line k, the ray to a target on line n is m n-ths of a cell past the cell at `offset`
+-- the ray to a target on line n crosses line k m n-ths past the cell at `offset`, for some m < n
 pub past : (k : ℕ) (offset : ℤ) (t : Target) → Passes k offset t → (m : ℕ) × (m < t.line)
     × ((t.offset *ℤ pos k) ≡ (offset *ℤ pos t.line) +ℤ pos m)
 past k offset t p =
@@ -79,7 +79,7 @@ crossing_is cells f k c m y offset rise t stands later below is at =
     let lead = lead_is f t.line k stands.line (omega arith) in
     rw (cell.0, cell.1, lead) refl
 
--- a ray passes no cell outside the side before it is at its target's line
+-- before its target's line, a ray passes cells from 0 to below the side's end
 pub none_outside : (f : Family) (k y : ℕ) (offset : ℤ) (t : Target) → IsFamily f →
     IsAtCell f y t → k < t.line → Passes k offset t → (c : ℕ) × (pos c ≡ pos f.side.at +ℤ offset)
     × (c < f.side.cells)
@@ -146,7 +146,7 @@ pub level_small : (near far e offset : ℤ) → IsHeight near → IsHeight far �
 level_small near far e offset a b is few = rest_small (near -ℤ e) ((far -ℤ near) *ℤ offset)
     (base_small near e a is) (tilt_within near far offset a b few)
 
--- a ramp is a weighted sum of the heights of its two cells
+-- a ramp is a weighted sum of its two cells' heights above the eye
 mixed : (near far e : ℤ) (r m : ℕ) → ((near -ℤ e) *ℤ pos (r + m)) +ℤ (pos m *ℤ (far -ℤ near))
     ≡ ((near -ℤ e) *ℤ pos r) +ℤ ((far -ℤ e) *ℤ pos m)
 mixed near far e r m = omega (
@@ -184,7 +184,7 @@ ramp_is f k offset near far t is line a b is_t passes =
       value = rw between (omega (arith, small));
     }
 
--- the ramp of the ground between two cells hides what the line blocks
+-- the ramp of the ground between two cells hides exactly what the line blocks
 pub shows_ramp : (cells : List (Option ℤ)) (f : Family) (k c y : ℕ) (offset near far rise : ℤ)
     (t : Target) → IsAtCell f y t → k < t.line → Passes k offset t → pos c ≡ pos f.side.at +ℤ offset
     → get_or cells (near_index f k c) None ≡ Some near →
@@ -196,7 +196,7 @@ shows_ramp cells f k c y offset near far rise t stands later passes at some also
     shown_between near far f.eye rise offset t.offset t.line k m.0 m.1 (omega arith) m.2
     ∙ sym (here ∙ rw (some, also) refl)
 
--- at the centre of a cell, the cell's height alone hides what the line blocks
+-- at the centre of a cell, the cell's height alone hides exactly what the line blocks
 pub shows_centre : (cells : List (Option ℤ)) (f : Family) (k c y : ℕ) (offset near rise : ℤ)
     (t : Target) → IsAtCell f y t → k < t.line → (t.offset *ℤ pos k) ≡ offset *ℤ pos t.line →
     pos c ≡ pos f.side.at +ℤ offset

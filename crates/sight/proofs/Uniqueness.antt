@@ -1,4 +1,4 @@
--- A terrain has at most one viewshed; a map with the value of each place is a viewshed.
+-- Terrain, observers, target and radius have at most one viewshed; a map of all values is one.
 use Rattle.std.proofs.Common.{arith, sym, ap, ◌∙◌, ◌≡◌, ◌*◌, ◌/◌, ◌%◌, ◌<◌, ℕ, ℤ, List, map, get_or, Option, None, Some, option_map, MatchOption}
 use Rattle.std.specs.List.{range_with_len}
 use Rattle.std.proofs.lemmas.List.FromFn.{fill_by_all}

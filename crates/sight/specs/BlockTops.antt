@@ -1,4 +1,4 @@
--- The greatest heights of blocks of `size` by `size` cells, in row order.
+-- Bounds above the heights of blocks of `size` by `size` cells, one bound for each block.
 -- Private.
 use Rattle.std.specs.Prelude.{◌≡◌, ℕ, ◌+◌, ◌-◌, ◌*◌, ◌/◌, ◌<◌, ◌≤◌, ℤ, List, [], length, min, Option, None, Some, slice_index_or}
 use Rattle.terrain.specs.Raster.{Terrain, IsHeight}
@@ -11,7 +11,7 @@ use Rattle.sightlines.specs.Blocks.{blocks_in, block_of, IsTopOf}
 abbrev pub ground_of : ℕ → ℕ → List (Option ℤ) → Terrain
 ground_of cols rows cells = record { cols = cols; rows = rows; cells = cells; sinks = [] }
 
--- The list has a cell for each place, and heights within their limits.
+-- Columns and rows are from 1 to 4096. There is a cell for each place; heights are within limits.
 pub record IsGround (cols rows : ℕ) (cells : List (Option ℤ)) : Type 0 where
   pub cols_in : (1 ≤ cols) × (cols ≤ 4096)
   pub rows_in : (1 ≤ rows) × (rows ≤ 4096)
@@ -22,7 +22,7 @@ pub record IsGround (cols rows : ℕ) (cells : List (Option ℤ)) : Type 0 where
 abbrev pub IsBlock : ℕ → Terrain → Place → Type 0
 IsBlock size t block = (block.row < blocks_in size t.rows) × (block.col < blocks_in size t.cols)
 
--- `top` is within the limits of heights, and no height of the block is above it.
+-- No height of the block is above `top`, which is within limits; None only if there is no height.
 pub record IsBlockTop (size : ℕ) (t : Terrain) (block : Place) (top : Option ℤ) : Type 0 where
   pub height : (h : ℤ) → top ≡ Some h → IsHeight h
   pub above : (p : Place) (h : ℤ) → p.row / size ≡ block.row → p.col / size ≡ block.col →
@@ -32,8 +32,8 @@ pub record IsBlockTop (size : ℕ) (t : Terrain) (block : Place) (top : Option �
 abbrev pub block_count : ℕ → Terrain → ℕ
 block_count size t = blocks_in size t.rows * blocks_in size t.cols
 
--- The list has an entry for each block `from` to below `to` in row order. No height of a block is
--- above its entry.
+-- The list has an entry within limits for each block `from` to below `to` in row order. No height
+-- of a block is above its entry.
 pub record AreTopsBetween (size : ℕ) (t : Terrain) (from to : ℕ)
     (tops : List (Option ℤ)) : Type 0 where
   pub count : from + length tops ≡ to

@@ -11,7 +11,7 @@ use Rattle.sight.specs.declared.window.Window.{Window}
 abbrev pub IsInRun : CellRun → ℕ → Type 0
 IsInRun r x = (r.first ≤ x) × (x < r.first + r.cells)
 
--- The window is inside the grid, and has a mark for each of its cells.
+-- The window's lines end by 4096, its side is in the family's side, and each cell has a mark.
 pub record IsWindow (f : Family) (w : Window) (marks : List Bool) : Type 0 where
   pub lines : w.lines.first + w.lines.cells ≤ 4096
   pub first : f.side.first ≤ w.side.first
@@ -40,7 +40,7 @@ mark_index w x y = (x - w.lines.first) * w.lines.stride + (y - w.side.first) * w
 abbrev pub mark_in_window : Window → ℕ → ℕ → List Bool → Bool
 mark_in_window w x y marks = slice_index_or marks (mark_index w x y) false
 
--- The target is a cell of the window, on a line that crosses it.
+-- The target is a cell of the window, on a line from 2 on that crosses the window.
 pub record IsRay (f : Family) (w : Window) (t : Target) : Type 0 where
   pub cell : ℕ
   pub stands : IsAtCell f cell t
@@ -51,8 +51,8 @@ pub record IsRay (f : Family) (w : Window) (t : Target) : Type 0 where
 abbrev pub target_at : Family → ℕ → ℕ → Target
 target_at f n y = record { offset = offset_of f y; line = n }
 
--- Rays in the order of their lines. Each marked cell of a line before line n, or of line n before
--- cell c, has its ray.
+-- Rays in the order of their lines, none past line n. From line 2 on, each marked cell of a line
+-- before line n, or of line n before cell c, has its ray.
 pub record AreRays (f : Family) (w : Window) (marks : List Bool) (n c : ℕ)
     (rays : List Target) : Type 0 where
   pub few : length rays ≤ n * 4096 + (c - w.side.first)
@@ -63,11 +63,11 @@ pub record AreRays (f : Family) (w : Window) (marks : List Bool) (n c : ℕ)
       mark_in_window w (lead_of f m) y marks ≡ true
       → (u : ℕ) × (slice_get rays u ≡ Some (target_at f m y))
 
--- The height of cell y of line n, or None for NODATA.
+-- The height of cell y of line n, or None for NODATA or past the list's end.
 abbrev pub height_at : List (Option ℤ) → Family → ℕ → ℕ → Option ℤ
 height_at cells f n y = slice_index_or cells (lead_of f n * f.lines.stride + y * f.side.stride) None
 
--- The rise above the eye of a target at this height above the ground of cell y of line n.
+-- The rise above the eye of a target at this height above cell y of line n; NODATA counts as 0.
 abbrev pub rise_at : List (Option ℤ) → Family → ℕ → ℕ → ℕ → ℤ
 rise_at cells f height n y = (unwrap_or (height_at cells f n y) (pos 0) +ℤ pos height) -ℤ f.eye
 

@@ -7,7 +7,7 @@ use Rattle.sight.specs.Sweep.{HidesBefore}
 use Rattle.sight.specs.declared.family.Family.{Family}
 use Rattle.sight.specs.declared.looking.SweepLookup.{SweepLookup}
 
--- At line k, the lookup's horizon hides a target exactly where a line before line k blocks it.
+-- At line k, the horizon hides each target from there on exactly where a line before k blocks it.
 pub record LooksFrom (cells : List (Option ℤ)) (f : Family) (targets : List Target) (k : ℕ)
     (l : SweepLookup) : Type 0 where
   pub line : l.line ≡ k

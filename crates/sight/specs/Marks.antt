@@ -14,7 +14,7 @@ use Rattle.sight.specs.declared.marking.Check.TheVariants.{Whole, FirstCrossings
 abbrev pub mark_at : Bounds → List Bool → Place → Bool
 mark_at b marks p = slice_index_or marks (index_in b p) false
 
--- There is a mark for each place of the bounds. `Holds` is true of places of index below `end`.
+-- There is a mark for each place; `Holds` is true of each place of index below `end` and its mark.
 pub record AreMarkedBelow (b : Bounds) (Holds : Place → Bool → Type 0) (end : ℕ)
     (marks : List Bool) : Type 0 where
   pub size : length marks ≡ b.rows * b.cols

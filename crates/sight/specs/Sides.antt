@@ -1,4 +1,4 @@
--- The lines of sight to the cells of a window, and which marks they leave.
+-- The lines of sight to a window's cells, and the marks left where no crossing blocks them.
 -- Private.
 use Rattle.std.specs.Prelude.{◌≡◌, ℕ, ◌+◌, ◌*◌, ◌<◌, ◌≤◌, Bool, false, not, ◌&&◌, ℤ, pos, ◌+ℤ◌, List, length, Option, None, unwrap_or, slice_index_or, min, max}
 use Rattle.sight.specs.Hiding.{IsInRun, mark_in_window}
@@ -32,7 +32,7 @@ family_of lines side eye = record {
 abbrev pub window_of : Coordinate → Coordinate → Window
 window_of lines side = record { lines = lines.tile; side = side.tile }
 
--- The family with lines that count toward coordinate 0, or away from it.
+-- The family with its lines counted toward coordinate 0 if `back`, else away from it.
 abbrev pub facing : Family → Bool → Family
 facing f back = record {
   lines = record { at = f.lines.at; stride = f.lines.stride; back = back };

@@ -82,7 +82,7 @@ pub record IsAtCell (f : Family) (y : ℕ) (t : Target) : Type 0 where
   pub side : y < f.side.cells
   pub line : IsLine f t.line
 
--- The ramp of the ground on line k between two neighbouring cells of these heights.
+-- The ramp of line k's ground from the cell at `offset`, of height `near`, to the next, of `far`.
 abbrev pub ramp_of : Family → ℕ → ℤ → ℤ → ℤ → Ramp
 ramp_of f k offset near far =
     let step = far -ℤ near in
@@ -110,15 +110,15 @@ IsHiddenOn cells f targets k r from end =
     → (y : ℕ) (rise : ℤ) → IsAtCell f y t → k < t.line →
     line_blocks cells f t.line y rise k ≡ true → hides_by r t rise ≡ true
 
--- The ramp hides target t exactly where the old horizon does or line k blocks it.
+-- The ramp hides target t, beyond line k, exactly where the old horizon does or line k blocks it.
 pub record Raises (cells : List (Option ℤ)) (f : Family) (k : ℕ) (old : List Piece) (i : ℕ)
     (t : Target) (r : Ramp) : Type 0 where
   pub at : IsRampAt r t
   pub hides : (y : ℕ) (rise : ℤ) → IsAtCell f y t → k < t.line → IsRise rise →
       hides_by r t rise ≡ (hides old i t rise || line_blocks cells f t.line y rise k)
 
--- The new horizon hides each target below index `end` exactly where the old one does or line k
--- blocks it.
+-- The new horizon hides each target below index `end`, if beyond line k, exactly where the old one
+-- does or line k blocks it.
 abbrev pub RaisesBelow : List (Option ℤ) → Family → List Target → ℕ → List Piece → ℕ → List Piece →
     Type 0
 RaisesBelow cells f targets k old end new =

@@ -15,7 +15,7 @@ pub(crate) trait PlaceMap {
     // The places that have an entry.
     ghost inside: { Self → Place → Type 0 };
 
-    // The entry that a place has.
+    // Whether an entry is the right one for a place.
     ghost has: { Self → Place → Self.Entry → Type 0 };
 
     fn entry(&self, place: Place) -> Self::Entry

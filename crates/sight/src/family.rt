@@ -231,7 +231,7 @@ impl Family {
         self.ramp(line, offset, near, far) == ramp
     }
 
-    /// Returns the last offset up to which the ground from `first` on has this ramp.
+    /// Returns the last offset, from `first` on, to which the ground keeps this ramp.
     #[inline(always)]
     fn last_of(self, cells: &[Cell], line: u32, first: i32, ramp: Ramp) -> i32
         requires heights { AreHeights cells.now }

@@ -24,7 +24,7 @@ impl Family {
         first.max(2)
     }
 
-    /// Returns the end of existing lines, beyond all lines that cross the window.
+    /// Returns an end past all lines that cross the window; lines 2 to below it exist.
     fn end_line(self, window: Window) -> u32
         requires family { IsFamily self }
         requires lines { window.lines.first + window.lines.cells ≤ 4096 }

@@ -15,13 +15,13 @@
 //! - `marking`: marks the cells that one observer sees, by walks or by a sweep
 //! - `sides`: sweeps a tile on all four sides of the observer
 //! - `hiding`: removes the marks of cells that one family of crossings hides
-//! - `family`: the lines on one side of the observer, and the ground that rays meet there
 //! - `looking`: looks up in the horizon which targets of a line are hidden
 //! - `sweep`: a horizon, raised line by line
 //! - `line_ground`: raises a horizon to the ground of one line
 //! - `gathering`: collects the rays to marked cells, line by line
 //! - `ranks`: sorts rays by slope
 //! - `rising`: how far a target rises above the eye
+//! - `family`: the lines on one side of the observer, and the ground that rays meet there
 //! - `window`: parts of the grid whose cells have marks
 //! - `heights`: heights of cells in a list
 //! - `by_place`: builds lists with one entry for each place of a tile

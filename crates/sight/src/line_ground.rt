@@ -1,6 +1,6 @@
 //! Raises a horizon to the ground of one line (`raise`).
 //!
-//! Pieces of the horizon that the line nowhere exceeds stay whole; their targets are skipped.
+//! Pieces that a quick test finds nowhere below the line stay whole; their targets are skipped.
 ghost use Rattle.std.specs.Prelude.{◌≡◌, ℕ, ◌+◌, ◌^◌, ◌<◌, ◌≤◌, IsTrue, true, ◌↔◌, pos, ◌-ℤ◌, ◌≤ℤ◌, length, Some, OnOk, slice_get, unsigned_abs};
 ghost use Rattle.std.specs.Bool.{OnTrue};
 ghost use Rattle.horizons.specs.declared.target.Target.{Target};
@@ -94,7 +94,7 @@ fn end_of(span: Span, targets: &[Target], from: usize, end: usize, line: u32) ->
     count_before(targets, from, end, line, span.last + 1)
 }
 
-/// Returns how many targets have rays that cross a line before its first cell.
+/// Returns how many targets' rays cross a line before the side's first cell.
 /// The sweep has passed these targets, since the side has the cell of each target.
 fn count_before_side(family: Family, line: u32, targets: &[Target]) -> usize
     requires family { IsFamily family }
@@ -112,7 +112,7 @@ fn count_before_side(family: Family, line: u32, targets: &[Target]) -> usize
 }
 
 /// Whether a piece's ramp may be ground of the line just before `line`.
-/// A line mostly rises above the ground just before it, so `raise` omits the test `is_too_low`.
+/// A line mostly rises above the ground just before it, so `raise` does not test such a piece.
 #[inline(always)]
 fn is_of_last_line(piece: Piece, line: u32) -> bool
     requires line { 0 < line }

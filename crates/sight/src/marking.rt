@@ -132,7 +132,7 @@ impl<'a> Viewing<'a> {
         }
     }
 
-    /// Returns the mark of one cell.
+    /// Returns the mark that a check gives one cell.
     #[inline(always)]
     fn mark_of(
         &self,

@@ -20,7 +20,7 @@ pub struct Sweep {
 }
 
 impl Sweep {
-    /// Returns a sweep before the first line, which hides no target.
+    /// Returns a sweep that has passed no line yet, so it hides no target.
     pub(crate) fn new(alloc: Global, targets: &[Target]) -> Result<Self, AllocError>
         requires { AreTargets targets.now }
         ensures { IfOk result (λ s. (cells : List (Option ℤ)) (f : Family) →

@@ -102,7 +102,7 @@ impl<'a> Blocks<'a> {
     }
 }
 
-/// Jobs that each find the greatest heights of `share` blocks in row order.
+/// Jobs that each find the greatest heights of up to `share` blocks in row order.
 #[derive(Drop)]
 struct BlockShares<'a> {
     blocks: &'a Blocks<'a>,
@@ -153,7 +153,7 @@ fn shared_tops<R: Threads + Wait + Sync, G: Gate + Sync>(
     Ok(tops)
 }
 
-/// Returns the greatest heights of a grid's near and far blocks, and its peak.
+/// Returns the greatest heights of near and far blocks, and the grid's peak.
 /// `jobs` jobs find the heights of the near blocks.
 pub(crate) fn tops_of<R: Threads + Wait + Sync, G: Gate + Sync>(
     runner: &Runner<R, G>,

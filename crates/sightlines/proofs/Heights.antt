@@ -1,4 +1,4 @@
--- Heights are within their limits.
+-- Heights of cells are within their limits, and fit in 64 bits, also times a weight.
 use Rattle.std.proofs.Common.{arith, ◌≡◌, ◌^◌, ℤ, length, List, ℕ, ◌<◌, ◌≤◌, ◌*ℤ◌, get_or, Option, None, Some, IfSome, inl, inr, refl, sym, ◌∙◌, pos, FitsSigned, w64, to_z, of_z}
 use Rattle.std.specs.Prelude.{unwrap_or}
 use Rattle.std.proofs.lemmas.Int.{ints, to_z-of_z, to_z_pos, fits_signed_mul}
@@ -15,7 +15,7 @@ are_heights t is i h at = elim (cases_lt i (length t.cells)) [
   | inr past ↦ let none = get_or_past t.cells i None past in absurd (cc)
 ]
 
--- the height of a cell, 0 where it has none, is within the limits
+-- if a cell's height, where it has one, is within the limits, so is that height or else 0
 pub ground_is_height : (height : Option ℤ) → ((h : ℤ) → height ≡ Some h → IsHeight h) →
     IsHeight (unwrap_or height (pos 0))
 ground_is_height None are = (omega (arith, ints), omega (arith, ints))
@@ -24,7 +24,7 @@ ground_is_height (Some h) are = are h refl
 pub height_fits : (h : ℤ) → IsHeight h → FitsSigned w64 h
 height_fits h is = omega (arith, ints, is)
 
--- a height is within the limits after a conversion to 64 bits and back
+-- a height within the limits is within them after a conversion to 64 bits and back
 pub kept : (h : ℤ) → IsHeight h → IsHeight (to_z w64 (of_z w64 h))
 kept h is = rw (to_z-of_z w64 h (height_fits h is)) is
 
@@ -34,7 +34,7 @@ pub has_height : (cells : List (Option ℤ)) (index : ℕ) {cell height : Option
 has_height cells index {cell = cell} read same is below =
     sym (read ∙ get_or_default cells index cell None below) ∙ sym same ∙ is
 
--- the product of a height and a weight, as the code computes it, fits and is exact
+-- a height times a weight of at most 4096, as the code computes it, fits in 64 bits and is exact
 pub weighed_is : (h : ℤ) (n : ℕ) → n ≤ 4096 → IsHeight h → let z =
     to_z w64 n *ℤ to_z w64 (of_z w64 h) in FitsSigned w64 z × (to_z w64 (of_z w64 z) ≡ pos n *ℤ h)
 weighed_is h n few is =

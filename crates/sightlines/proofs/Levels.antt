@@ -15,7 +15,7 @@ rises : (e f : ℤ) (k m r : ℕ) → ((e *ℤ pos r) +ℤ (f *ℤ pos (k + m)))
     ≡ ((e *ℤ pos (r + m)) +ℤ (f *ℤ pos k)) +ℤ ((f *ℤ pos m) -ℤ (e *ℤ pos m))
 rises e f k m r = omega (arith, ints)
 
--- the sight after m more steps
+-- m more steps, up to step n, add f * m - e * m to the sight
 pub sight_on : (e f : ℤ) (n k m : ℕ) → k + m ≤ n →
     sight e f n (k + m) ≡ sight e f n k +ℤ ((f *ℤ pos m) -ℤ (e *ℤ pos m))
 sight_on e f n k m h = let split : n - k ≡ (n - (k + m)) + m = omega arith in
@@ -29,7 +29,7 @@ pub times_small : (a b : ℤ) (m n : ℕ) → unsigned_abs a ≤ m → unsigned_
 times_small a b m n p q =
     omega (arith, unsigned_abs-mul a b, mul-le (unsigned_abs a) (unsigned_abs b) m n p q)
 
--- a sum of two levels of at most m, with weights of at most n together, is at most m * n
+-- in absolute value, levels of at most m, with weights of at most n together, sum to at most m * n
 pub between_small : (e f : ℤ) (m r k n : ℕ) → unsigned_abs e ≤ m → unsigned_abs f ≤ m → r + k ≤ n →
     unsigned_abs ((e *ℤ pos r) +ℤ (f *ℤ pos k)) ≤ m * n
 between_small e f m r k n p q few =
@@ -55,7 +55,7 @@ sight_fits e f n k p q h l = fits (sight e f n k) (sight_bounded e f n k p q h l
 pub scaled_fits : (e : ℤ) (n : ℕ) → IsLevel e → n ≤ 4096 → FitsSigned w64 (e *ℤ pos n)
 scaled_fits e n p h = rw (← sight_none e e n) (sight_fits e e n 0 p p (omega arith) h)
 
--- a scaled level, as the code computes it
+-- a level times n of at most 4096, as the code computes it, fits in 64 bits and is exact
 pub scaled_as_reckoned : (e : ℤ) (n : ℕ) → IsLevel e → n ≤ 4096 →
     let z = to_z w64 (of_z w64 e) *ℤ to_z w64 n in
     FitsSigned w64 z × (to_z w64 (of_z w64 z) ≡ e *ℤ pos n)
@@ -72,7 +72,7 @@ pub more_fits : (e f : ℤ) (n k : ℕ) → IsLevel e → IsLevel f → k < n �
 more_fits e f n k p q h l = let is = sight_bounded e f n (k + 1) p q (omega arith) l in
     fits (sight e f n k +ℤ (f -ℤ e)) (rw (sight_more e f n k h) at is)
 
--- the sight at the next step, as the walk computes it
+-- the sight at the next step, as the walk computes it, fits in 64 bits and is exact
 pub next_level : (e f : ℤ) (n k bits : ℕ) → IsLevel e → IsLevel f → k < n → n ≤ 4096 →
     to_z w64 bits ≡ sight e f n k
     → let sum = to_z w64 bits +ℤ to_z w64 (of_z w64 (to_z w64 (of_z w64 f) -ℤ to_z w64
@@ -94,7 +94,7 @@ leap_fits : (e f : ℤ) (m : ℕ) → IsLevel e → IsLevel f → m < 4096 →
     FitsSigned w64 ((f *ℤ pos m) -ℤ (e *ℤ pos m))
 leap_fits e f m p q h = omega (arith, ints, scaled_small e m p h, scaled_small f m q h)
 
--- the rise of the sight in m steps, as the code computes it
+-- the rise of the sight in m steps, as the code computes it, fits in 64 bits and is exact
 pub rise_is : (e f : ℤ) (m : ℕ) → IsLevel e → IsLevel f → m < 4096
     → let rise = to_z w64 (of_z w64 (to_z w64 (of_z w64 f) *ℤ to_z w64 m))
     -ℤ to_z w64 (of_z w64 (to_z w64 (of_z w64 e) *ℤ to_z w64 m)) in FitsSigned w64 rise
@@ -105,7 +105,7 @@ rise_is e f m p q h =
     let fit = leap_fits e f m p q h in
     rw (from.1, to.1) (fit, to_z-of_z w64 ((f *ℤ pos m) -ℤ (e *ℤ pos m)) fit)
 
--- the sight after a leap of m steps, as the code computes it
+-- the sight after a leap of m steps, as the code computes it, fits in 64 bits and is exact
 pub leapt_level : (e f z rise : ℤ) (n k m : ℕ) → IsLevel e → IsLevel f → k + m ≤ n → n < 4096 →
     z ≡ sight e f n k → rise ≡ (f *ℤ pos m) -ℤ (e *ℤ pos m)
     → let sum = to_z w64 (of_z w64 z) +ℤ to_z w64 (of_z w64 rise) in FitsSigned w64 sum

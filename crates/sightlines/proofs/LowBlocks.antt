@@ -19,7 +19,7 @@ use Rattle.terrain.specs.Neighbours.{IsInside}
 use Rattle.terrain.specs.declared.place.Place.{Place}
 use Rattle.sightlines.proofs.Crossings.{height_is}
 
--- a weighted sum of two numbers grows as weight moves to the greater number
+-- if a is at most b, their weighted sum does not fall as weight moves from a to b
 rising : (a b i p q r : ℕ) → a ≤ b → (a * (p + (q + r)) + b * i ≤ a * (q + r) + b * (i + p))
     × (a * (q + r) + b * (i + p) ≤ a * r + b * (i + p + q))
 rising a b i p q r h =
@@ -198,7 +198,7 @@ not_blocked cells line k some inside low_at =
     (λ part h is. rw all (low_at (b + 1) (omega arith) (omega arith)
     (whole_lt line.side n k some (omega arith) part) h (ap (λ x. get_or cells x None) beside ∙ is)))
 
--- a line above the blocks between two steps is not blocked there
+-- a line not below the blocks between two steps is not blocked there
 pub step_passed : (size : ℕ) (cells tops : List (Option ℤ)) (line : Sightline) (s : BlockStrides)
     (i j k block : ℕ) (start end : Step)
     → 0 < steps_of line → i ≤ k → k < j → j ≤ steps_of line → IsAt line i start → IsAt line j end →
@@ -221,7 +221,7 @@ step_passed size cells tops line s i j k block start end some low high few at_st
     let two = rw at_end.sight at (low_height top n end.sight h is_under lows.1) in
     sight_between line.from_level line.to_level (pos n *ℤ h) n i j k low (omega arith) few one two)
 
--- a line above the peak from one step on is not blocked from there on
+-- a line not below the peak at a step and at its end is not blocked from that step on
 pub step_above : (size : ℕ) (cells tops : List (Option ℤ)) (line : Sightline) (s : BlockStrides)
     (peak : ℤ) (i k : ℕ) (start : Step)
     → 0 < steps_of line → i ≤ k →

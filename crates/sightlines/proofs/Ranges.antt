@@ -5,7 +5,7 @@ use Rattle.std.proofs.lemmas.Bool.{or_from, cases_lt, false_from_ne_true, true_f
 use Rattle.std.proofs.lemmas.List.Folds.{list_any_at}
 use Rattle.std.proofs.lemmas.List.FromFn.{length-range_with_len, get_or-range_with_len}
 
--- some number passes if number a + k does
+-- some number of a range from a on passes if its number a + k does
 pub any_at : (p : ℕ → Bool) (a n k : ℕ) → k < n → p (a + k) ≡ true →
     list_any p (range_with_len a n) ≡ true
 any_at p a n k h here =
@@ -13,7 +13,7 @@ any_at p a n k h here =
     ∙ here in
     list_any_at p (range_with_len a n) k 0 (omega (arith, length-range_with_len a n)) at
 
--- if none passes, number k does not
+-- if none of a range passes, its number k does not
 pub none_at : (p : ℕ → Bool) (a n k : ℕ) → list_any p (range_with_len a n) ≡ false → a ≤ k →
     k < a + n → p k ≡ false
 none_at p a n k none low high =

@@ -18,7 +18,7 @@ lead_step a n k ahead behind part e some h gains =
     let whole : toward a.from a.to n k % n ≡ 0 = lead_whole a.from a.to n k e some (omega arith) in
     (step_stays a.from a.to n k 1 ahead behind part (omega arith) gains.sum (omega arith)).0
 
--- the index after both coordinates have moved
+-- if coordinates move by la - lb and sa - sb + one, the index moves by these times the strides
 moved : (x y s t la lb sa sb x' y' one : ℕ) → x' + lb ≡ x + la → y' + sb ≡ y + sa + one →
     x' * s + y' * t + (lb * s + sb * t) ≡ x * s + y * t + (la * s + sa * t) + one * t
 moved x y s t la lb sa sb x' y' one p q = omega (arith, ap (λ z. z * s) p, ap (λ z. z * t) q)

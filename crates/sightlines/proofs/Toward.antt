@@ -6,7 +6,7 @@ use Rattle.std.proofs.lemmas.Bool.{cases_lt, lt-ltb, le-ltb}
 use Rattle.std.proofs.lemmas.Nat.{div-mul-add, mod-mul-add, div-add-mod', mul-le, mod_below}
 use Rattle.sightlines.specs.Sight.{toward, onward}
 
--- quotient and remainder of t by n, where t plus `back` * n is x * n + m
+-- if t + back * n = x * n + m, with m below n, t by n has the quotient x - back and remainder m
 pub quotient_is : (t x n m back : ℕ) → t + back * n ≡ x * n + m → m < n → (t / n + back ≡ x)
     × (t % n ≡ m)
 quotient_is t x n m back e below =
@@ -38,7 +38,7 @@ toward_le a b n k h =
     within a b (max a b) k (n - k) (omega arith) (omega arith) in
     omega (arith, ap (λ z. max a b * z) e)
 
--- the place after m more steps, where the parts stay below a cell and where they fill one
+-- m more steps add `ahead` - `behind` cells and `part` parts, if the parts sum to below a cell
 pub step_stays : (a b n k m ahead behind part : ℕ) → k + m ≤ n →
     m * b + behind * n ≡ m * a + ahead * n + part → toward a b n k % n + part < n
     → (toward a b n (k + m) / n + behind ≡ toward a b n k / n + ahead)
@@ -68,7 +68,7 @@ up_by a k r = omega arith
 down_by : (b k r : ℕ) → (b + (r + k)) * r + b * k ≡ (b + r) * (r + k) + 0
 down_by b k r = omega arith
 
--- along the leading coordinate the line is at a whole cell at each step
+-- if b = a + n, a line of n steps from a to b is at the whole cell a + k at step k
 lead_up : (a b n k : ℕ) → b ≡ a + n → k ≤ n → toward a b n k ≡ (a + k) * n + 0
 lead_up a b n k e h =
     let n_is : n ≡ (n - k) + k = omega arith in
@@ -88,7 +88,7 @@ lead_whole a b n k e some h =
       | inr high ↦ rw (lead_down a b n k (omega arith) h) (mod-mul-add (b + (n - k)) n 0 some)
     ]
 
--- the whole cell, counted from the lower end
+-- if b = a + n, the whole cell at step k is a + k
 pub lead_up_is : (a b n k : ℕ) → b ≡ a + n → 0 < n → k ≤ n → toward a b n k / n ≡ a + k
 lead_up_is a b n k e some h = rw (lead_up a b n k e h) (div-mul-add (a + k) n 0 some)
 

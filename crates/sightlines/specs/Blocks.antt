@@ -1,4 +1,4 @@
--- Blocks of `size` by `size` cells with their greatest heights, and when a line of sight skips one.
+-- Blocks of `size` by `size` cells, entries that bound their heights, and when a line skips blocks.
 -- Public clauses cite `blocks_in` and `IsTops` alone.
 -- Public.
 use Rattle.std.specs.Prelude.{◌≡◌, ℕ, ◌+◌, ◌-◌, ◌*◌, ◌/◌, ◌<◌, ◌≤◌, ℤ, pos, ◌*ℤ◌, ◌≤ℤ◌, List, length, Option, None, Some, MatchOption, slice_index_or, min, max}
@@ -19,7 +19,7 @@ blocks_in size n = (n + (size - 1)) / size
 abbrev pub block_of : ℕ → Terrain → Place → ℕ
 block_of size t p = p.row / size * blocks_in size t.cols + p.col / size
 
--- A block has a greatest height, and height h is not above it.
+-- A block's entry is a height, and height h is not above it.
 abbrev pub IsTopOf : Option ℤ → ℤ → Type 0
 IsTopOf top h = MatchOption top ⊥ (λ m. h ≤ℤ m)
 
@@ -41,7 +41,7 @@ pub record IsTops (t : Terrain) (tops : MaxHeights) : Type 0 where
   pub height : IsHeight tops.peak
   pub peak : IsPeak tops.far.items tops.peak
 
--- Along both coordinates of a line, no height of a block is above the block's entry.
+-- Up to the line's greater ends, no height of a block is above its entry, found by strides `s`.
 pub record AreTopsAlong (size : ℕ) (cells tops : List (Option ℤ)) (l : Sightline)
     (s : BlockStrides) : Type 0 where
   pub heights : AreHeights tops
@@ -55,8 +55,8 @@ pub record AreTopsAlong (size : ℕ) (cells tops : List (Option ℤ)) (l : Sight
 abbrev pub IsLow : Option ℤ → ℕ → ℤ → Type 0
 IsLow top n z = MatchOption top (Unit {0}) (λ m. (pos n *ℤ m) ≤ℤ z)
 
--- All blocks that a line can meet between two steps are low at both steps. Between these the
--- leading coordinate stays in one block.
+-- All blocks that a line can meet between two steps are low at both steps, where the leading
+-- coordinate stays in block `block` between these.
 abbrev pub AreLowBetween : ℕ → List (Option ℤ) → BlockStrides → Sightline → ℕ → Step → Step → Type 0
 AreLowBetween size tops s l block start end =
     (cell : ℕ) → min start.whole end.whole ≤ cell → cell ≤ max start.whole end.whole + 1 →

@@ -23,8 +23,8 @@ longest_radius = 8192
 abbrev pub toward : ℕ → ℕ → ℕ → ℕ → ℕ
 toward a b n k = a * (n - k) + b * k
 
--- `toward` in signed numbers: for the q cells from a to the whole cell and the m n-ths past it,
--- (b - a) * k = q * n + m, and m is from 0 to below n.
+-- `toward` in signed numbers, for n above 0 and k up to n: with q cells from a to the whole cell
+-- and m n-ths past it, (b - a) * k = q * n + m, and m is below n.
 abbrev pub CrossingsAreOnTheLine : Type 0
 CrossingsAreOnTheLine =
     (a b n k : ℕ) → 0 < n → k ≤ n
@@ -79,7 +79,7 @@ abbrev pub ground : Terrain → Crossing → Option ℤ
 ground t c = option_and_then (λ x. option_map (λ y. x +ℤ y) (weigh t c.far c.far_weight))
     (weigh t c.near c.near_weight)
 
--- n times the level at step k of n of the line from eye level e to target level f.
+-- n times the level, at step k of n, of the line from level e to level f.
 abbrev pub sight : ℤ → ℤ → ℕ → ℕ → ℤ
 sight e f n k = (e *ℤ pos (n - k)) +ℤ (f *ℤ pos k)
 

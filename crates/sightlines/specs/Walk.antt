@@ -1,6 +1,6 @@
--- A walk along a line of sight, over a list of cells. The line is tested at each cell of its
--- leading coordinate; the other coordinate is its side. Public clauses cite `IsLevel` and,
--- through `IsTops` of `Blocks`, `AreHeights`.
+-- A walk along a line of sight, over a list of cells. Between its ends the line is tested at each
+-- cell of its leading coordinate; the other coordinate is its side. Public clauses cite `IsLevel`
+-- and, through `IsTops` of `Blocks`, `AreHeights`.
 -- Public.
 use Rattle.std.specs.Prelude.{◌≡◌, ℕ, ◌+◌, ◌-◌, ◌*◌, ◌/◌, ◌%◌, ◌^◌, ◌<◌, ◌≤◌, Bool, false, not, ◌&&◌, ◌==◌, if◌then◌else◌, ℤ, pos, unsigned_abs, ◌+ℤ◌, ◌*ℤ◌, int_lt, List, length, Option, None, Some, option_map, option_and_then, slice_index_or, max}
 use Rattle.std.specs.Int.{abs_diff}
@@ -80,7 +80,7 @@ abbrev pub over_rows : Terrain → Place → Place → ℤ → ℤ → Sightline
 over_rows t p q e f =
     record { lead = rows_of t p q; side = columns_of p q; from_level = e; to_level = f }
 
--- All cells that the line can meet are in the list.
+-- Each cell between the line's ends along both coordinates has its index in the list.
 abbrev pub IsOver : List (Option ℤ) → Axis → Axis → Type 0
 IsOver cells lead side =
     max lead.from lead.to * lead.stride + max side.from side.to * side.stride < length cells
@@ -89,7 +89,7 @@ IsOver cells lead side =
 abbrev pub AreHeights : List (Option ℤ) → Type 0
 AreHeights cells = (i : ℕ) (h : ℤ) → slice_index_or cells i None ≡ Some h → IsHeight h
 
--- The level is at most 2 ^ 50: a height is at most 10 ^ 15, and an eye or a target adds 10 ^ 6.
+-- The level is within 2 ^ 50 of 0: a height is within 10 ^ 15, eye or target add up to 10 ^ 6.
 abbrev pub IsLevel : ℤ → Type 0
 IsLevel z = unsigned_abs z ≤ 2 ^ 50
 

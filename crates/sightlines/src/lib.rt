@@ -9,8 +9,8 @@
 //! Modules, callers first:
 //!
 //! - `line`: whether a place is seen
-//! - `walk`: steps from crossing to crossing
 //! - `passing`: skips blocks of cells below the line
+//! - `walk`: steps from crossing to crossing
 //! - `tops`: the greatest heights of blocks
 //! - `reach`: whether a place is within the radius
 //! - `laws`: theorems about the definitions

@@ -1,6 +1,6 @@
 //! Whether an observer sees a place: [`sees`], [`sees_past_blocks`].
 //!
-//! [`sees_past_blocks`] first tests the crossings that hid earlier targets, kept in [`WalkCache`].
+//! [`sees_past_blocks`] first tests crossings about as far from the observer as earlier blockers.
 ghost use Rattle.std.specs.Prelude.{◌≡◌, ◌<◌, ◌≤◌, pos, ◌+ℤ◌, true, false, not, ◌&&◌, MatchOption};
 ghost use Rattle.terrain.specs.Raster.{IsHeight};
 ghost use Rattle.terrain.specs.Neighbours.{IsInside};
@@ -130,13 +130,13 @@ pub fn sees(
     !is_blocked(cells, lines.rows)
 }
 
-/// The number of column crossings, and of row crossings, that `may_see` tests.
+/// The most column crossings, and the most row crossings, that `may_see` tests.
 const FIRST_CROSSINGS: u32 = 2;
 
-/// The number of crossings tested about as far from the observer as a blocker was.
+/// The most crossings tested about as far from the observer as a blocker was.
 const NEARBY_CROSSINGS: u32 = 4;
 
-/// Whether one of `crossings` crossings of a line, from step `first` on, blocks.
+/// Whether one of at most `crossings` crossings, from step `first` on, blocks.
 #[inline(always)]
 fn is_blocked_from(cells: &[Cell], line: Sightline, first: u32, crossings: u32) -> bool
     requires heights { AreHeights cells.now }
@@ -241,7 +241,7 @@ impl Blocker {
 const COLUMNS: usize = 256;
 
 /// The blockers of earlier targets, and the number of crossings not skipped.
-/// `above` has the blocker of the last target in each column, `None` where that was seen.
+/// `above` has a column's last blocker, `None` before any or if the last target tested was seen.
 #[derive(Clone, Copy)]
 pub struct WalkCache {
     last: Blocker,
@@ -265,13 +265,13 @@ impl WalkCache {
         }
     }
 
-    /// Returns the crossing that hid the last target in a column, if any.
+    /// Returns the blocker kept for a column, if any.
     #[inline(always)]
     fn above(&self, col: u32) -> Option<Blocker> {
         self.above[col as usize % COLUMNS]
     }
 
-    /// Keeps the crossing that hides a target in a column, or `None` for a seen target.
+    /// Keeps a column's blocker, also as the last one, or `None` for a seen target.
     #[inline(always)]
     fn keep(&mut self, col: u32, blocker: Option<Blocker>) {
         if let Some(blocker) = blocker {
@@ -308,8 +308,8 @@ fn along_rows(size: u32, cols: u32) -> BlockStrides
 }
 
 /// Returns the result of [`sees`], and skips blocks of cells below the line.
-/// `tops` has the blocks' greatest heights. Crossings that hid earlier targets are tested first,
-/// since they often hide the next target too; `walked` keeps them.
+/// `tops` has the blocks' greatest heights. Crossings about as far from the observer as the earlier
+/// blockers, kept in `walked`, are tested first: they often hide the next target too.
 ///
 /// # Examples
 ///

@@ -64,7 +64,7 @@ fn are_low(tops: &[Cell], first: usize, stride: usize, count: u32, weight: u32, 
 }
 
 /// Returns true only if no block met between two steps is above the line.
-/// Between the steps the leading coordinate stays in block `lead_block`.
+/// Tests only blocks at `lead_block` of the leading coordinate, in which the line must stay.
 #[inline(always)]
 fn is_above_blocks(
     tops: &[Cell],
@@ -98,9 +98,9 @@ fn is_above_blocks(
     are_low(tops, first, strides.side, count, line.steps(), sight)
 }
 
-/// Returns a step with ground above the line, and skips near blocks below the line.
-/// `tops` has the blocks' greatest heights. Adds the crossings of runs not skipped to
-/// `crossings_tested`.
+/// Returns a step from `first` to below `end` with ground above the line, if any.
+/// Skips near blocks below the line; `tops` has their greatest heights. Adds the crossings of runs
+/// not skipped to `crossings_tested`.
 #[inline(always)]
 fn blocking_step_past_near_blocks(
     cells: &[Cell],
@@ -155,10 +155,10 @@ fn is_clear(peak: Height, line: Sightline, here: Step) -> bool
     peak <= line.to_level && weigh(peak, line.steps()) <= here.sight
 }
 
-/// Returns a step between a line's two ends that has ground above the line.
-/// The walk first tests the crossings in the block where it begins, which is seldom below the line.
-/// Then it skips far or near blocks below the line, and ends once the line cannot fall below the
-/// peak. Adds the crossings of runs not skipped to `crossings_tested`. Compiled out of line.
+/// Returns a step between a line's two ends with ground above the line, if any.
+/// The walk never skips the near block where it begins, which is seldom below the line. Later it
+/// skips far or near blocks below the line. It ends once the line cannot fall below the peak. Adds
+/// the crossings of runs not skipped to `crossings_tested`. Compiled out of line.
 #[inline(never)]
 pub(crate) fn blocking_step_past_blocks(
     cells: &[Cell],

@@ -18,7 +18,7 @@ pub struct Axis {
 }
 
 /// A line of sight from one level to another, along two coordinates.
-/// It is tested at each cell of the leading coordinate `lead`, between two cells of `side`.
+/// Between its ends it is tested at each cell of `lead`, the leading one, between cells of `side`.
 #[derive(Clone, Copy)]
 pub struct Sightline {
     pub lead: Axis,

@@ -16,7 +16,7 @@ heights_kept P old cells all held i d low = at (get_or cells i d) (held i d low)
   at None h = h
   at (Some z) h = All-contains (λ c. IfSome c P) old (Some z) all h
 
--- A grid stays lawful with other cells and sinks that are within their limits.
+-- A grid stays lawful with as many cells, heights in range but not NODATA's, and sinks inside it.
 pub lawful_with_parts : (g : Raster) (cells : List (Option ℤ)) (sinks : List Place) → IsLawful g
     → length cells ≡ g.terrain.cols * g.terrain.rows → All (λ c. IfSome c IsHeight) cells
     → All (λ c. IfSome c (λ h. scaled_value g.scale g.nodata ≢ Some h)) cells

@@ -342,7 +342,7 @@ impl Grid {
         self.frame.with_cells(alloc, Vec::from_slice(alloc, cells)?)
     }
 
-    /// Returns each of `sinks` once, or their first fault.
+    /// Returns each of `sinks` once, their first fault, or [`SinkFault::Memory`].
     fn checked_sinks(&self, alloc: Global, sinks: &[Place]) -> Result<Vec<Place>, SinkFault>
         ensures named { IfOk result (λ v. v.items ≡ each_once sinks.now) }
         ensures sound { OnOk result (sinks_fault self.now.terrain sinks.now ≡ None) }

@@ -8,8 +8,8 @@
 //! - `cell`: a height or no data, in 8 bytes
 //! - `count`: a map's whole number or no data, in 4 bytes
 //! - `sinks`: the first fault of a list of sinks, and the list without repeats
-//! - `place`: places, and heights with their limits
 //! - `ways`: the eight directions from a place
+//! - `place`: places, and heights with their limits
 //! - `observer`: an observer's cell and eye height
 //! - `word`: a header word, stored inline
 #![tactic(auto)]

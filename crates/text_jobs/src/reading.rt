@@ -13,14 +13,14 @@ use terrain::Grid;
 use tile_jobs::{Gate, MOST_JOBS};
 use tile_maps::Runner;
 
-/// The length of a batch's front, a header or a cut word, which no job parses.
+/// The least bytes of a batch's front: no job parses its header or cut word.
 const FRONT_BYTES: usize = 4096;
 
 /// Reads a grid from a device, by several workers.
 ///
 /// Heights are in units of 10^-scale. With more than one worker, the caller's thread reads batches
-/// of at most 1 MiB, and jobs parse their heights. If a thread or memory is refused, the caller's
-/// thread parses them.
+/// of at most 1 MiB, and jobs parse most heights of long ones. If a thread or memory is refused,
+/// the caller's thread parses them.
 ///
 /// # Memory
 ///

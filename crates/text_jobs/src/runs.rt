@@ -13,9 +13,9 @@ use tile_jobs::{JobFault, Work};
 /// The bytes of a run before it is extended to the next separator.
 pub(crate) const RUN_BYTES: usize = 65_536;
 
-/// Cuts a piece into runs of [`RUN_BYTES`] bytes, each extended to a separator.
+/// Cuts a piece into runs of [`RUN_BYTES`] bytes, each extended to a separator or the end.
 ///
-/// The bytes after the last separator are a run of their own.
+/// The rest, at most [`RUN_BYTES`] bytes, is cut into two runs, after its last separator.
 pub(crate) fn runs_of(alloc: Global, piece: &[u8]) -> Result<Vec<&[u8]>, AllocError>
     ensures { IfOk result (λ runs. concat (map (λ run. run.now) runs.items) ≡ piece.now) }
 {
@@ -54,7 +54,7 @@ fn after_last_separator(bytes: &[u8]) -> usize
     end
 }
 
-/// One job for each run: returns its cells, or `None` at a fault or without memory.
+/// One job for each run: returns its cells, or `None` where [`HeightParser::cells`] does.
 #[derive(Drop)]
 pub(crate) struct RunJobs<'a> {
     pub parser: &'a HeightParser,

@@ -60,7 +60,7 @@ impl<'a, E: MapCell> Work for LineJobs<'a, E> {
 
 /// Makes the texts of a map's rows, in order, by several workers.
 ///
-/// `None` with one worker, and if a thread or memory is refused.
+/// `None` with one worker, and if a thread, memory or the number of workers is refused.
 fn make_lines<T: Threads + Wait + Sync, G: Gate + Sync, E: MapCell + Sync>(
     runner: &Runner<T, G>,
     frame: &Frame,
@@ -93,7 +93,7 @@ fn make_lines<T: Threads + Wait + Sync, G: Gate + Sync, E: MapCell + Sync>(
     }
 }
 
-/// Writes a map. With several workers, jobs make all its text first.
+/// Writes a map. With several workers, jobs make the text of all its rows first.
 fn write_map<T: Threads + Wait + Sync, G: Gate + Sync, E: MapCell + Sync, W: Write>(
     runner: &Runner<T, G>,
     frame: &Frame,

@@ -1,4 +1,4 @@
--- Lists of jobs split by the remainders of the jobs.
+-- Lists of jobs split by remainder, sums over deques, and the entries of a feed.
 use Rattle.std.proofs.Common.{◌≡◌, ◌≢◌, ℕ, zero, suc, ◌+◌, ◌%◌, ◌<◌, ◌≤◌, Bool, true, false, cond, ◌==◌, List, [], ◌∷◌, ◌++◌, length, drop, replicate, sym, refl, ap, ◌∙◌, arith, inl, inr}
 use Rattle.std.proofs.lemmas.Bool.Decides.{nat_tests}
 use lib.ListN.{length-append, length-replicate}
@@ -109,7 +109,7 @@ room_left seats jobs xs w low h less =
     sum_lt seats (λ v. length (of v seats xs)) (λ v. length (deal jobs seats v)) w low h less in
     omega arith
 
--- A deal that has j has j right after the deal of the jobs below j.
+-- If a deque's deal begins with its jobs below j and then j, so does its deal of one more job.
 deal_on_at : (b : Bool) (m seats v j : ℕ) → (m % seats == v) ≡ b →
     (rest : List ℕ) → deal m seats v ≡ deal j seats v ++ j ∷ rest → (more : List ℕ)
     × (deal (suc m) seats v ≡ deal j seats v ++ j ∷ more)
@@ -137,7 +137,7 @@ drop_here xs y ys n e =
     ap (λ k. y ∷ drop k (xs ++ y ∷ ys)) a ∙ ap (λ l. y ∷ l) (drop-append-add xs (y ∷ ys) 1)
     ∙ sym (drop-append-add xs (y ∷ ys) 0) ∙ ap (λ k. drop k (xs ++ y ∷ ys)) (sym b)
 
--- The next entry of the feed: a job until the deal ends, an end mark after that.
+-- Job j of deque v is the entry of the feed at index n, where n jobs below j are dealt to v.
 pub feed_next_job : (jobs seats v j n : ℕ) → j < jobs → j % seats ≡ v → n ≡ length
     (deal j seats v) → Job j ∷ drop (suc n) (feed jobs seats v) ≡ drop n (feed jobs seats v)
 unfolding feed

@@ -1,4 +1,4 @@
--- The jobs and entries that a board deals to each deque, and counts over such lists.
+-- The jobs and entries that a board deals to each deque; counts, rising lists, and sums.
 -- Public.
 use Rattle.std.specs.Prelude.{ℕ, zero, suc, ◌+◌, ◌%◌, ◌<◌, List, [], ◌∷◌, ◌++◌, map, replicate, cond, ◌==◌, AllPairs}
 use Rattle.tile_jobs.specs.declared.deque.Entry.{Entry}

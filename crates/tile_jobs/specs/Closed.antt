@@ -23,6 +23,6 @@ pub record IsClosed (jobs seats : ℕ) (ss : List SeatState) (left : List ℕ) :
   pub none_else : (j : ℕ) (d : SeatState) → jobs ≤ j → in_seats j seats ss d + times j left ≡ 0
   -- No job is left if some seat has its end marks of all deques.
   pub empty : (s : ℕ) (d : SeatState) → s < seats → HasAllMarks (get_or ss s d) → left ≡ []
-  -- No job of a deque is left if the owner took its end mark.
+  -- No job of a deque is left if its owner took an end mark there.
   pub own_empty : (s : ℕ) (d : SeatState) → s < seats → (get_or ss s d).own.marked ≡ true →
       (j : ℕ) → j % seats ≡ s → times j left ≡ 0

@@ -1,4 +1,4 @@
--- Seats, and their ends of the deques of a board. `Log` is the view of one pass (see Rule).
+-- Seats, their ends of deques, dealers, deques being closed. `Log` is one pass's view (see Rule).
 -- Public.
 use Rattle.std.specs.Prelude.{◌≡◌, ◌≢◌, ℕ, zero, suc, ◌%◌, ◌<◌, ◌≤◌, ◌⊎◌, Bool, true, false, cond, nat_lt, ◌==◌, List, [], ◌∷◌, ◌++◌, length, get_or, drop, All}
 use Rattle.std.specs.List.{concat}
@@ -14,7 +14,7 @@ DequeId = RowsId × Global
 
 -- One seat's end of one deque: the deque's numbers, the jobs that the seat took there, and whether
 -- the seat took its end mark. `seen` counts the entries that the seat saw taken from the deque.
--- It is 0 for the owner and before the first steal.
+-- It is 0 for the owner, and before the seat first tries to steal there.
 pub record EndState : Type 0 where
   pub id : DequeId
   pub jobs : ℕ
@@ -54,7 +54,7 @@ IsOther marked u = IsSeated marked u × (u.ready ≡ true)
 abbrev pub SameEnd : EndState → EndState → Type 0
 SameEnd e f = (f.id ≡ e.id) × (f.jobs ≡ e.jobs) × (f.seats ≡ e.seats) × (f.deque ≡ e.deque)
 
--- No job was taken at this end, and a mark stays. If there is no mark, `seen` does not fall.
+-- No job was taken at this end, and a mark stays. Unless there is a mark now, `seen` did not fall.
 abbrev pub Kept : EndState → EndState → Type 0
 Kept e f = SameEnd e f × (f.took ≡ e.took) × (e.marked ≡ true → f.marked ≡ true)
     × (f.marked ≡ false → e.seen ≤ f.seen)
@@ -70,7 +70,7 @@ pub record TookJob (e : EndState) (j : ℕ) (f : EndState) : Type 0 where
   pub of_deque : j % e.seats ≡ e.deque
   pub fits : length f.took ≤ length (deal e.jobs e.seats e.deque)
 
--- A steal at this end lost a race: the end has no mark and took nothing, but `seen` rose.
+-- A steal at this end lost a race: the end has no mark, and only `seen` changed. It rose.
 abbrev pub LostSteal : EndState → EndState → Type 0
 LostSteal e f = (f ≡ record e { seen = f.seen }) × (e.seen < f.seen) × (e.marked ≡ false)
 
@@ -109,7 +109,7 @@ of v seats (x ∷ xs) = cond (x % seats == v) (x ∷ of v seats xs) (of v seats 
 abbrev pub skip : ℕ → ℕ → ℕ
 skip n k = cond (nat_lt k n) k (suc k)
 
--- The end is one of deque v, for a seat that took the jobs `taken`.
+-- The end is of deque v and lists v's jobs among `taken`, at most as many as were dealt to v.
 abbrev pub IsEnd : ℕ → ℕ → ℕ → List ℕ → EndState → Type 0
 IsEnd jobs seats v taken e = (e.jobs ≡ jobs) × (e.seats ≡ seats) × (e.deque ≡ v)
     × (e.took ≡ of v seats taken) × (length e.took ≤ length (deal jobs seats v))
@@ -240,7 +240,7 @@ closing_of id marked u = record {
   marked = marked;
 }
 
--- The owner's view during the closing: it has an end mark, or may still take one.
+-- The owner's view during the closing: it has an end mark if `marked`, else it may take one.
 abbrev pub IsClosing : Bool → Log → Type 0
 IsClosing marked u = (u.owns ≡ true) × (u.pushed ≡ length (feed u.jobs u.seats u.deque))
     × (marked ≡ true → 0 < u.marks) × (marked ≡ false → 0 < u.marks_due)

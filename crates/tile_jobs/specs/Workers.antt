@@ -9,7 +9,7 @@ use Rattle.tile_jobs.specs.Board.{times}
 use Rattle.tile_jobs.specs.Ends.{SeatState, SameSeat, HasAllMarks, IsNew}
 
 module _ {O : Type 0} where
-  -- The worker took jobs until its seat had all its end marks, and has the result of each job.
+  -- The worker took jobs until its seat had all end marks, and has a result of each job it took.
   pub record IsWorked (gives : ℕ → O → Type 0) (seat : SeatState)
       (output : WorkerResult O) : Type 0 where
     pub same : SameSeat seat output.seat
@@ -21,7 +21,7 @@ module _ {O : Type 0} where
   abbrev pub IsOutcome : (ℕ → O → Type 0) → SeatState → Result (WorkerResult O) JobFault → Type 0
   IsOutcome gives seat result = IfOk result (IsWorked gives seat) × IfErr result (λ e. e ≡ Memory)
 
-  -- Each seat has the outcome of its worker, in the order of the seats.
+  -- The results are the outcomes of the seats' workers, in the order of the seats.
   pub record AreOutcomes (gives : ℕ → O → Type 0) (seats : List SeatState)
       (results : List (Result (WorkerResult O) JobFault)) : Type 0 where
     pub count : length results ≡ length seats

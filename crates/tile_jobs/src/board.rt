@@ -16,7 +16,7 @@ use crate::seat::Seat;
 use crate::{JobFault, MOST_JOBS, MOST_WORKERS, check_workers};
 use std::alloc::Global;
 
-/// Joins the ends of deque `v` from all rows to its owner's end.
+/// Joins the ends of deque `v`, in all rows but row `v`, to its owner's end.
 /// Each end is the first of its row: deques close in order, and a closed deque's ends are gone.
 fn join_ends(own: OwnEnd, rows: &mut Vec<Vec<OtherEnd>>, v: usize) -> Closing
     requires own { v < vec_len rows.old }

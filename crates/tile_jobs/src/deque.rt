@@ -130,7 +130,7 @@ impl Join<Log> for SplitsEnd {
     ghost spent = { spent };
 }
 
-/// The fact that the owner's list and all lists joined to it have each dealt job once.
+/// The fact that the owner's and joined lists have each dealt job once, no other.
 pub struct Whole;
 
 impl Lesson<Entry, Log> for Whole {

@@ -1,4 +1,4 @@
-//! Callbacks at the start and end of jobs: [`Gate`].
+//! Callbacks for stages, jobs and parts of jobs: [`Gate`].
 //!
 //! Tests use a gate to hold jobs; the program uses one to report progress.
 
@@ -13,8 +13,8 @@ pub trait Gate {
     /// Called after each job that succeeds, on the thread that ran it.
     fn leave(&self, _job: u32) {}
 
-    /// Called after each of a job's `parts` parts, on the thread that runs it.
-    /// A job without parts never calls it.
+    /// Called after each of a job's `parts` parts, on the thread that runs the job.
+    /// A job without parts never calls `finish_part`.
     fn finish_part(&self, _parts: usize) {}
 }
 

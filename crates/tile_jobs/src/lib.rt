@@ -4,7 +4,7 @@
 //! the result of each job, whichever worker ran it.
 //!
 //! [`run_jobs`] uses a [`Board`], which deals the jobs to the deques of its seats. Each [`Seat`]
-//! takes the jobs of its own deque, then steals from the other deques. It never locks or waits.
+//! takes the jobs of its own deque, then steals from the other deques. Seats never lock or wait.
 //!
 //! Modules, callers first:
 //!
@@ -21,7 +21,7 @@
 //! - `slots`: results in job order
 //! - `reserved`: pushes to lists of sufficient capacity
 //! - `work`: what a job does
-//! - `gate`: callbacks at the start and end of jobs
+//! - `gate`: callbacks for stages, jobs and parts of jobs
 #![tactic(auto)]
 
 ghost use Rattle.std.specs.Prelude.{◌≡◌, ◌<◌, ◌≤◌, ◌⊎◌, ◌↔◌, Err, IfErr, OnOk};
@@ -57,7 +57,7 @@ pub const MOST_JOBS: u32 = 65_536;
 /// Why a run of jobs failed.
 #[derive(Clone, Copy, PartialEq, Eq, Debug)]
 pub enum JobFault {
-    /// Memory ran out in a job, or for the board or the results.
+    /// Memory ran out in a job, or for the board, the threads or the results.
     Memory,
     /// The number of workers or seats is 0 or above `MOST_WORKERS`.
     BadWorkers,

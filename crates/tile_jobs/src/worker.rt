@@ -1,4 +1,4 @@
-//! Runs one worker, which takes jobs through its seat until no deque holds one.
+//! Runs one worker, which takes jobs by its seat until none is left or one fails.
 ghost use Rattle.std.specs.Prelude.{◌≤◌};
 ghost use Rattle.tile_jobs.specs.Ends.{IsNew};
 ghost use Rattle.tile_jobs.specs.Workers.{IsOutcome};
@@ -21,7 +21,7 @@ pub struct WorkerResult<T> {
     pub answers: Vec<Answer<T>>,
 }
 
-/// Takes and runs jobs until no deque holds one or a job fails.
+/// Takes and runs jobs until no deque holds one, or a job or an allocation fails.
 pub(crate) fn work_seat<R: Wait, W: Work, G: Gate>(
     rt: &R,
     alloc: Global,

@@ -12,7 +12,7 @@ use Rattle.tiles.proofs.SliceGet.{slice_get-append_left, slice_get-append_right}
 use Rattle.tiles.proofs.TileOrder.{index_in_below, index_in_tile_is, tile_entry-in}
 use Rattle.tile_maps.specs.Maps.{AreMadeBelow, IsMadeTile}
 
--- places with one index in the row order of bounds are equal
+-- places inside bounds that have one index in their row order are equal
 pub within_injective : (b : Bounds) (p q : Place) → IsInBounds b p → IsInBounds b q →
     index_in b p ≡ index_in b q → p ≡ q
 within_injective b p q i j e =
@@ -22,7 +22,7 @@ within_injective b p q i j e =
     let col : p.col - b.left ≡ q.col - b.left = ap (λ (r : Place). r.col) one in
     same_place p q (omega (arith, i.0, j.0)) (omega (arith, i.2, j.2))
 
--- the list with one more entry, for place p
+-- a list of the places before p becomes one up to p by an appended entry of which `Has p` holds
 pub made_push : {X : Type 0} (b : Bounds) (Has : Place → X → Type 0) (p : Place) (list : List X)
     (x : X) → IsInBounds b p →
     AreMadeBelow b Has (index_in b p) list → Has p x →
@@ -40,7 +40,7 @@ made_push {X} b Has p list x inside before here = record {
   ];
 }
 
--- the list with one more entry, for a row and a column counted from the bounds' first
+-- `made_push` for the place at a row and a column counted from the bounds' first
 pub made_next : {X : Type 0} (b : Bounds) (Has : Place → X → Type 0) (row col : ℕ) (list : List X)
     (x : X) → row < b.rows → col < b.cols →
     AreMadeBelow b Has (row * b.cols + col) list → Has (make_place (b.top + row) (b.left + col)) x →

@@ -70,7 +70,7 @@ entry_of_map {X} c Has whole made p within =
     (slice_get-get_or whole (index_of c.cols p) None
     (omega (arith, made.size, index_below c.cols c.rows p within.0 within.1))))
 
--- a map of `cols` by `rows` cells: its length, and `Has` of its entry at each place
+-- a map of `cols` by `rows` cells has as many entries, and `Has` holds of its entry at each place
 pub map_of_size : {X : Type 0} (c : Cutting) (cols rows : ℕ) (Has : Place → Option X → Type 0)
     (whole : List (Option X)) → c.cols ≡ cols → c.rows ≡ rows → IsMadeMap c Has whole →
     (length whole ≡ cols * rows)

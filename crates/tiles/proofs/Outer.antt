@@ -1,4 +1,4 @@
--- The places around a place in other tiles, direction by direction.
+-- The places that pass a test among those of the first directions, direction by direction.
 use Rattle.std.proofs.Common.{◌≡◌, ℕ, ◌+◌, ◌<◌, Bool, List, [], ◌∷◌, ◌++◌, length, get_or, take, filter, Option, None, Some, ap, refl, ◌∙◌}
 use Rattle.std.specs.Option.{option_to_list}
 use Rattle.std.specs.List.{filter_map}
@@ -10,7 +10,7 @@ pub filter_map_one : {X : Type 0} (o : Option X) →
 filter_map_one None = refl
 filter_map_one (Some x) = refl
 
--- the filtered places after one more direction
+-- one more direction appends its place, if it has one that passes the test
 pub filter_ways_more : {X : Type 0} (test : X → Bool) (xs : List (Option X)) (way : ℕ) →
     way < length xs →
     filter test (filter_map (λ (x : Option X). x) (take (way + 1) xs)) ≡ filter test (filter_map

@@ -101,7 +101,7 @@ pub crossed_all : (t : Cutting) (row : ℕ) → IsCutting t →
 crossed_all t row h =
     let a = (div_ceil_times t.cols t.side h.some_side).0 in omega (arith, a)
 
--- the joined list, with one tile's part of a row appended
+-- a joined list stays one with the row's next `width` entries appended, each from its tile's list
 pub IsPutBackBelow-more : {X : Type 0} (t : Cutting) (lists : List (Vec X Global))
     (row left width n : ℕ) (whole part : List X) → left + width ≤ t.cols → n ≡ row * t.cols + left →
     IsPutBackBelow t lists n whole → length part ≡ width →
@@ -126,7 +126,7 @@ IsPutBackBelow-more t lists row left width n whole part fits e h size each = rec
       ];
 }
 
--- the joined list, with the row's cells in one more column of tiles appended
+-- a joined list stays one with the row's cells in one more column of tiles appended
 pub crosses_more : {X : Type 0} (t : Cutting) (lists : List (Vec X Global)) (row column first : ℕ)
     (whole part next : List X) → IsCutting t → row < t.rows → column < across t →
     first ≡ row / t.side * across t → next ≡ whole ++ part → IsPutBackBelow t lists

@@ -79,7 +79,7 @@ pub inside_fails : (b : Bounds) (r c : ℕ) → r ≢ b.top → r + 1 ≢ b.top 
     c + 1 ≢ b.left + b.cols → is_first_or_last b (make_place r c) ≡ false
 inside_fails b r c h i j k = grind (arith, nat_tests, h, i, j, k)
 
--- after the first place of an inner row the rim goes on with the last of that row
+-- in bounds of two or more columns, the rim goes on from an inner row's first place to its last
 pub rim_across : (b : Bounds) (p : Place) (last : ℕ) → p.col ≡ b.left → last + 1 ≡ b.left + b.cols →
     p.col < last → p.row ≢ b.top → p.row + 1 ≢ b.top + b.rows → is_first_or_last b p ≡ true →
     rim_from b p ≡ p ∷ rim_from b (make_place p.row last)

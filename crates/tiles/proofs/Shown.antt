@@ -35,7 +35,7 @@ shown_index v p h e =
     let l = mul-add-lt p.row v.cutting.cols p.col v.cutting.rows w.0 w.1 in let s = h.size in
     omega (arith, l, s)
 
--- row i of a view has in column j of the tile the grid's cell at that place
+-- entry j of row i of a view is the grid's cell in row i and column j of the tile
 pub get_or-row_shown : {X : Type 0} (v : View X) (i j : ℕ) (d : X) →
     j < (bounds_of v.cutting v.tile).cols →
     get_or (row_shown v i) j d ≡ get_or v.cells (index_of v.cutting.cols

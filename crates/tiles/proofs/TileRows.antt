@@ -4,7 +4,7 @@ use Rattle.std.proofs.lemmas.List.{get_or-take, get_or-drop}
 use Rattle.tiles.specs.declared.bounds.Bounds.{Bounds}
 use Rattle.tiles.specs.Cutting.{View, bounds_of, row_shown}
 
--- row i of a view has in column k of the tile the grid's cell there
+-- entry k of row i of a view is the grid's cell in row i and column k of the tile
 pub row_has : {X : Type 0} (v : View X) (none : X) (b : Bounds) (i k : ℕ) →
     b ≡ bounds_of v.cutting v.tile → k < b.cols →
     get_or (row_shown v i) k none ≡ get_or v.cells ((b.top + i) * v.cutting.cols + b.left + k) none

@@ -3,7 +3,7 @@
 //! Begin with [`Tiling`]: [`Tiling::bounds`], [`Tiling::view`] and [`Tiling::put_back`].
 //! Tiles are numbered in row order.
 //!
-//! Modules, callers first:
+//! Modules, callers first; `tiling` and `view` use each other:
 //!
 //! - `rim_numbers`: numbers for the rim cells of all tiles
 //! - `tiling`: a grid cut into tiles, and the tiles' lists joined
