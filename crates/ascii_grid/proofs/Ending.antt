@@ -22,7 +22,7 @@ use Rattle.ascii_grid.proofs.JudgedWords.{at_heights, is_memory, word_fault, lon
 
 -- ---- the bytes kept
 
--- a byte that fits, added to the kept front of a word, makes the front of the longer word
+-- if a byte fits after a word's kept front, they are the kept front of the word with that byte
 pub kept_more : (w front : Word) (b : ℕ) → front ≡ take 65 w → length front + 1 ≤ 65 →
     front ++ b ∷ [] ≡ take 65 (w ++ b ∷ [])
 kept_more w front b e h =
@@ -131,7 +131,7 @@ IsParted-bytes text ws w (b ∷ more) h none =
     subst (λ t. IsParted t ws (w ++ b ∷ more)) (append_assoc text (b ∷ []) more)
     (subst (λ z. IsParted ((text ++ b ∷ []) ++ more) ws z) (append_assoc w (b ∷ []) more) next)
 
--- where no word is unfinished, a piece's first word and its separator are one more ended word
+-- where no word is unfinished, a word at a piece's front and its separator give an ended word
 pub parted_word : (text bytes : List ℕ) (ws : List Word) (len b : ℕ) →
     IsParted text ws [] → list_any is_separator (take len bytes) ≡ false →
     0 < len → len < length bytes → b ≡ get_or bytes len 0 → is_separator b ≡ true →
@@ -155,7 +155,7 @@ parted_ended p text h e =
     nil_from_length h.last (omega (arith, ap length (sym h.front ∙ e), length-take 65 h.last)) in
     subst (λ z. IsParted text h.ended z) last h.parted
 
--- between heights, a piece's plain height and separator give one more ended word, or its fault
+-- between heights, a plain height (`IsPlain`) and a separator give an ended word or its fault
 pub plain_word : {T : Type 0} (p : Tokenizer) (j : GridBuilder) (text bytes : List ℕ)
     (len b : ℕ) (value : ℤ) (r : Result T GridFault) → HasWords p text → p.word ≡ [] →
     p.builder.stage ≡ AtHeights → IsPlain p.builder.scale bytes len value → len < length bytes →

@@ -39,7 +39,7 @@ many_fault : (d : ℕ) (text : List ℕ) → most_bytes < length text →
     text_fault d text ≡ fault_so_far d text
 many_fault d text h = rw (lt-leb (length text) most_bytes h) refl
 
--- the fault so far: that of the words ended in the first 2^29 bytes, else `TooLong` past them
+-- the fault so far: that of the words ended in the first 2^29 bytes, else `TooLong` if more follow
 so_far : (d : ℕ) (text : List ℕ) → fault_so_far d text ≡ option_or (words_fault d (ended_words
     (take most_bytes text))) (cond (nat_le (length text) most_bytes) None (Some TooLong))
 so_far d text =
@@ -183,7 +183,7 @@ end_refused d text f short h =
     (λ asks. asked text short asks.0)
     (λ g e. few_fault d text short ∙ ap (λ o. option_or o (end_fault (words text))) e) h
 
--- where a text is not too long and no word has a fault, its words' grid or end fault is its own
+-- if no word of a text of at most 2^29 bytes has a fault, the result at its end is the text's
 pub finished : (d : ℕ) (text : List ℕ) (r : Result Raster GridFault) → length text ≤ most_bytes →
     words_fault d (words text) ≡ None → MatchResult r (λ g. (end_fault (words text) ≡ None)
     × (g ≡ grid_of d (words text))) (IsEndFault (words text)) →
@@ -215,7 +215,7 @@ pub answered : (r : Reader) (text : List ℕ) (f : GridFault) → r.fault ≡ So
     IsRefusalSoFar r.scale text f
 answered r text f e h = MatchOption-at_some (IsReading r text) (IsRefusalSoFar r.scale text) f e h
 
--- a reader that has returned a fault of a text has taken each longer text too
+-- a reader that has returned a fault of a text has taken each text that begins with it
 pub answered_more : (r : Reader) (text more : List ℕ) (f : GridFault) → r.fault ≡ Some f →
     HasTaken r text → HasTaken r (text ++ more)
 answered_more r text more f e h =
@@ -253,7 +253,7 @@ fed_fault r text piece within f cut none h fault =
     (refusal_stays r.words.builder.scale (text ++ take at.0 part) (drop at.0 part
     ++ drop within piece) f (refused r.words.builder.scale (text ++ take at.0 part) f size at.2))
 
--- a piece that makes the text too long has the fault `TooLong`, if no ended word has one
+-- a text that a piece makes too long has the fault `TooLong`, if its first 2^29 bytes have none
 pub fed_long : (r : Reader) (p : Tokenizer) (text piece : List ℕ) (within : ℕ) →
     within ≡ min (length piece) (most_bytes - r.count) → r.fault ≡ None → HasTaken r text → within
     < length piece → ((t : List ℕ) → HasWords r.words t → HasWords p (t ++ take within piece)) →

@@ -278,7 +278,7 @@ not_memory_cond : (b : Bool) (o p : Option GridFault) → is_memory o ≡ false 
 not_memory_cond true o p h k = h
 not_memory_cond false o p h k = k
 
--- a fault of a key word is not want of memory
+-- an unknown key or a repeated one is not want of memory
 pub not_memory_slot : (o : Option Key) (given : Key → Type 0) (f : GridFault) → MatchOption o (f
     ≡ UnknownKey) (λ slot. given slot × (f ≡ RepeatedKey slot)) → is_memory (Some f) ≡ false
 not_memory_slot None given f e = ap (λ g. is_memory (Some g)) e

@@ -10,7 +10,7 @@ use Rattle.terrain.specs.Words.{Word, is_word, is_separator, words, ended_words}
 use Rattle.ascii_grid.specs.Reading.{IsParted}
 use Rattle.ascii_grid.specs.Text.{rows_text}
 
--- splitting joined texts: the last part of the first and the first of the second are one part
+-- in the split of `xs ++ ys`, the last part of `xs` and `first` are one part, and `rest` follows
 abbrev Continues : (ℕ → Bool) → List ℕ → List ℕ → Word → List Word → Type 0
 Continues p xs ys first rest = (front : List Word) (last : Word) → slice_split p xs ≡ front
     ++ last ∷ [] → slice_split p (xs ++ ys) ≡ front ++ (last ++ first) ∷ rest

@@ -1,4 +1,4 @@
--- The text of a grid reads back as that grid without its sinks.
+-- A lawful grid's text of at most 2^29 bytes reads back as that grid without its sinks.
 use Rattle.std.proofs.Common.{◌≡◌, Bool, true, false, cond, List, [], ◌∷◌, Option, None, Some, ap, refl, ◌∙◌, ℕ, ◌*◌, ◌^◌, ◌<◌, ◌≤◌, ◌&&◌, leb, ltb, ◌++◌, length, map, get_or, ℤ, sym, arith, zero-add}
 use Rattle.std.specs.Prelude.{codes, decimal}
 use Rattle.std.specs.Option.{option_or}

@@ -83,7 +83,7 @@ decimal_from_value d w z e = elim (cases_Bool (has_scaled_value d w)) [
   | inr none ↦ let clash : scaled_value d w ≡ None = cond-false _ _ _ none in absurd (cc)
 ]
 
--- a height's digits and point, with or without a sign, have that height as their scaled value
+-- for n up to 10^18, `body d n`, with or without a sign, has the scaled value n, or -n after `-`
 written_value : (d n : ℕ) (w : Word) → without_sign w ≡ body d n → has_exponent w ≡ false →
     n ≤ 10 ^ 18 → scaled_value d w ≡ Some (cond (is_negative w) (neg_ℤ (pos n)) (pos n))
 written_value d n w unsigned plain few =
@@ -194,7 +194,7 @@ reads_cell d nodata (Some z) few h height apart =
           (scaled_value d (height_text d z)) not_nodata ∙ value;
     }
 
--- the words of the last cells have no fault among the heights
+-- the words of the cells from `place` to the last have no fault as heights after `place` others
 pub no_heights_fault : (d : ℕ) (header : List Word)
     (nodata : Word) (place : ℕ) (cells : List (Option ℤ)) → missing_fault header ≡ None →
     nodata_for header ≡ nodata → place + length cells ≡ cells_wanted header →

@@ -50,7 +50,7 @@ after_first-step p b bs h =
     let e : position_or_len p (b ∷ bs) + 1 ≡ suc (position_or_len p bs + 1) = rw h (omega arith) in
     ap (λ n. drop n (b ∷ bs)) e
 
--- if no byte passes both p and q, none passes q where none does around the first that passes p
+-- if no byte passes both p and q, and none before or after p's first one passes q, none does
 list_any-around : (p q : ℕ → Bool) → ((b : ℕ) → p b ≡ true → q b ≡ false) →
     (xs : List ℕ) → list_any q (before_first p xs) ≡ false → list_any q (after_first p xs) ≡ false →
     list_any q xs ≡ false

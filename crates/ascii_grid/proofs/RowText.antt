@@ -29,7 +29,7 @@ pub pieces_more : {X : Type 0} (f : X → List ℕ) (pieces : List X) (x : X) (i
     flat_map f (take (i + 1) pieces) ≡ flat_map f (take i pieces) ++ f x
 pieces_more f pieces x i h e = rw (take_more pieces i x h, ← e, flat_map-append, append-nil) refl
 
--- the joined pieces are those before any one of them, that piece, and those after it
+-- the texts of all pieces in order are those before any one of them, its text, and those after it
 pub pieces_split : {X : Type 0} (f : X → List ℕ) (pieces : List X) (x : X) (i : ℕ) →
     i < length pieces → x ≡ get_or pieces i x →
     flat_map f pieces ≡ (flat_map f (take i pieces) ++ f x) ++ flat_map f (drop (i + 1) pieces)

@@ -41,7 +41,7 @@ value_ok k v slot h e =
     else_none (is_value slot v) None (bad_value slot) (rw (slot_filled k slot h) at short.1) in
     (ok.0, ltb-false 64 (length v) short.0)
 
--- the word given for a slot is a value of it, of at most 64 bytes
+-- in a header without a fault, the word given for a slot is a value of it, of at most 64 bytes
 valid : (before header : List Word) (slot : Key) → header_fault before header ≡ None →
     IfSome (value_for slot header) (IsShortValue slot)
 valid before [] slot none = tt
@@ -123,7 +123,7 @@ cell_ok d nodata w h =
       | inr some ↦ some_ok d nodata w (scaled_value d w) refl some h
     ]
 
--- a word among the heights without a fault is not one too many, and spells a cell
+-- a word without a fault after `place` heights is not one too many, and spells a cell
 height_ok : (d : ℕ) (header : List Word) (place : ℕ) (w : Word) → height_fault d header place w
     ≡ None → (place < cells_wanted header) × (is_cell d (nodata_for header) w ≡ true)
 height_ok d header place w h =

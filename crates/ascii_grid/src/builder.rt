@@ -161,7 +161,7 @@ impl GridBuilder {
         self.add_cell(meaning)
     }
 
-    /// Checks the next height by its scaled value, and adds its cell.
+    /// Adds the cell of the next height, given its scaled value, or returns its fault.
     #[inline(always)]
     pub(crate) fn add_height_value(&mut self, value: i64) -> Result<(), GridFault>
         ensures kept { self.new ≡ record self.old { cells = self.new.cells } }

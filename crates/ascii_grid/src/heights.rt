@@ -65,7 +65,7 @@ impl HeightParser {
         Some(cells)
     }
 
-    /// Skips a separator, or adds the cell of the next word. Returns the bytes read.
+    /// Skips a separator or adds the next word's cell. Returns the count of bytes read.
     #[inline(always)]
     fn add_next(
         &self,
@@ -92,7 +92,7 @@ impl HeightParser {
         Some(len + 1)
     }
 
-    /// Returns the length and the meaning of the word before the first separator.
+    /// Returns the front word's length and meaning; `None` if too long or not ended.
     #[inline(always)]
     fn front_word(&self, nodata_value: Option<i64>, rest: &[u8]) -> Option<(usize, Meaning)>
         requires { nodata_value ≡ scaled_value self.now.scale self.now.nodata }

@@ -75,7 +75,7 @@ impl Tokenizer {
 
     /// Fast path for a height that [`plain_number`] parses, and its separator.
     ///
-    /// Returns their length, or 0 if anything else comes next or no height has ended yet.
+    /// Returns their length, or 0: for anything else, within a word, and until a height has ended.
     #[inline(always)]
     fn take_plain(&mut self, rest: &[u8]) -> Result<usize, GridFault>
         requires { self.old.builder.scale ≤ 6 }

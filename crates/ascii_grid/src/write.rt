@@ -39,7 +39,7 @@ fn write_page<W: Write>(page: &mut Page, out: &mut Counted<W>) -> Result<(), Wri
     Ok(())
 }
 
-/// Writes the page to the device if another cell does not fit into the page.
+/// Writes the page to the device if it lacks room for [`ENTRY_ROOM`] more bytes.
 #[inline(always)]
 fn make_room<W: Write>(page: &mut Page, out: &mut Counted<W>) -> Result<(), WriteFailed>
     requires { out.old.failures < 2 ^ 64 - 1 }

@@ -263,7 +263,7 @@ fn refused_close_keeps_what_is_left(rt: HostRuntime) -> Result<(), Fail> {
     Ok(())
 }
 
-/// Takes jobs until all deques are empty.
+/// Takes jobs until no deque holds one.
 fn take_all<R: Wait>(rt: &R, seat: &mut Seat)
     ensures { SameSeat seat.old seat.new }
 {

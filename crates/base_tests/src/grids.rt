@@ -148,7 +148,7 @@ fn nine_nines(rt: HostRuntime) -> Result<(), NoMemory> {
     Ok(())
 }
 
-/// 16,777,216 is the number of cells, and so the most basins, of the largest grid.
+/// 16,777,216 is the number of cells of the largest grid: no map has a greater count.
 #[test]
 fn counts(rt: HostRuntime) {
     for number in [0, 1, 16_777_216] {

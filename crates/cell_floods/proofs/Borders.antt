@@ -1,4 +1,4 @@
--- The nodes of the cells of bordered rows.
+-- The nodes of the cells of bordered rows, and the net of a window with such rows.
 use Rattle.std.proofs.Common.{◌≡◌, ℕ, zero, suc, ◌+◌, ◌-◌, ◌*◌, ◌<◌, ◌≤◌, inl, inr, ℤ, Bool, List, [], ◌∷◌, ◌++◌, length, get_or, take, replicate, Option, None, Some, ◌∙◌, sym, ap, refl, arith, length-append, add-one}
 use Rattle.std.proofs.Math.Nat.{add-sub_cancel_left}
 use Rattle.std.proofs.lemmas.Bool.{cases_lt, cases_eq}
@@ -14,7 +14,7 @@ use Rattle.terrain.proofs.Places.{same_place, entry-inside}
 use Rattle.terrain.proofs.Options.{cases_option, none_some, none_done}
 use Rattle.floods.proofs.Heaps.{replicated}
 
--- Each row has this many cells.
+-- Each of the first `count` rows has `cols` cells.
 abbrev pub AreRows : (ℕ → List (Option ℤ)) → ℕ → ℕ → Type 0
 AreRows row cols count = (r : ℕ) → r < count → length (row r) ≡ cols
 
@@ -22,7 +22,7 @@ fewer : (row : ℕ → List (Option ℤ)) (cols count : ℕ) → AreRows row col
     AreRows row cols count
 fewer row cols count h r below = h r (omega arith)
 
--- First rows with the next row are first rows; with the border's last row, the bordered rows.
+-- `first_rows` with the next row after them, between two cells without data, have one row more.
 pub row_more : (row : ℕ → List (Option ℤ)) (stride count : ℕ) (cells now next : List (Option ℤ)) →
     now ≡ first_rows row stride count → next ≡ now ++ (None ∷ cells ++ None ∷ []) →
     cells ≡ row count → next ≡ first_rows row stride (count + 1)

@@ -20,7 +20,7 @@ use Rattle.terrain.proofs.Orders.{trans, le_of_same}
 use Rattle.terrain.proofs.Options.{cases_option}
 use Rattle.floods.proofs.Heaps.{cons_head, cons_tail, cons_cases, all_by_contains}
 
--- `cons_option o ys` contains just the item of `o`, if there is one, and the items of `ys`.
+-- `cons_option o ys` contains the item of `o`, if there is one.
 put_first : {Y : Type 0} (o : Option Y) (ys : List Y) (y : Y) → o ≡ Some y →
     Contains (cons_option o ys) y
 put_first None ys y e = absurd (cc)
@@ -98,7 +98,7 @@ all_eight P a b c d e f g h pa pb pc pd pe pf pg ph = All-cons P a (b ∷ c ∷ 
     (All-cons P d (e ∷ f ∷ g ∷ h ∷ []) pd (All-cons P e (f ∷ g ∷ h ∷ []) pe
     (All-cons P f (g ∷ h ∷ []) pf (All-cons P g (h ∷ []) pg (All-cons P h [] ph (All-nil P))))))))
 
--- A node with a number above the stride is beside the eight nodes around it, and beside no other.
+-- A node with a number above the stride is beside each of the eight nodes around it.
 pub all_beside : (s a : ℕ) → s < a → All (IsBeside s a) (cells_around s a)
 all_beside s a h =
     let nw : a ≡ (a - s - 1) + s + 1 = omega arith in
@@ -164,7 +164,7 @@ pub crest_by : (other height level : ℤ) →
     int_max other (int_max height level) ≡ int_max (int_max other height) level
 crest_by other height level = omega (arith, ints, clamps)
 
--- An arc to a cell whose noted crest is no greater than the arc's crest adds nothing to the queue.
+-- An arc to a cell whose noted crest is at most its crest by that arc needs no new entry.
 no_higher_arc : (cells : List (Option ℤ)) (labels : List (Option ℕ)) (levels : List (Option ℤ))
     (from : Candidate) (to : ℕ) (height crest : ℤ) (waiting : List Candidate) →
     AreNoted labels levels waiting → ((h : ℤ) → get_or cells to None ≡ Some h →
@@ -181,7 +181,7 @@ no_higher_arc cells labels levels from to height crest waiting noted is low =
           (le_of_same _ _ (is found.0 found.1 ∙ crest_by found.0 height from.height.0))))
     ]
 
--- An arc to a cell of which `IsPassed` holds adds nothing to the queue.
+-- An arc to a cell of which `IsPassed` holds needs no new entry in the queue.
 pub passed_arc : (cells : List (Option ℤ)) (labels : List (Option ℕ)) (levels : List (Option ℤ))
     (heights : List ℤ) (from : Candidate) (to : ℕ) (height : ℤ) (waiting : List Candidate)
     → AreNoted labels levels waiting → heights ≡ map height_or_lack levels → to < length levels

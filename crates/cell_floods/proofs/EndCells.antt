@@ -93,7 +93,7 @@ all_ends t places count ends below above s = record {
   ];
 }
 
--- `end` says whether a place has a gap around it or is a sink: its end height is its cell, or None.
+-- At a place that has a gap around it or is one of the sinks, `IsEndHeight` holds of its cell.
 pub end_found : (t : Terrain) (p : Place) (end : Bool) (cell : Option ℤ) → height_at t p ≡ cell
     → (IsTrue end → HasGapAround t p ⊎ Contains t.sinks p) → end ≡ true → IsEndHeight t p cell
 end_found t p end None is found holds =
@@ -119,7 +119,7 @@ touches_itself p = record {
   col_left = omega arith;
 }
 
--- The three cells are those at a place and on both sides of it in its row.
+-- The three cells are those at a place's index in row order and at the indexes beside it.
 abbrev pub AreBeside : View (Option ℤ) → Place → List (Option ℤ) → Type 0
 AreBeside v p cells = (k : ℕ) (d : Option ℤ) → k < 3
     → get_or cells k d ≡ get_or v.cells (index_of v.cutting.cols p + k - 1) d

@@ -3,7 +3,7 @@ mod CellArcs
 mod Runs
 mod Borders
 pub mod Windows
--- The nets of a whole grid and of a tile.
+-- The flood of a whole grid, and the net of a tile.
 mod Nets
 -- The flood of a tile.
 mod LabelTables

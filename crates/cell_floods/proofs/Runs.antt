@@ -15,7 +15,7 @@ part_length entries first count inside =
     length-take-le (first + count - first) (drop first entries)
     (omega (arith, inside, length-drop first entries)) ∙ omega arith
 
--- A slice has data throughout exactly if the list has, at the indexes of the slice.
+-- If each cell of a slice has data, so has each cell of the list at the slice's indexes.
 pub part_there : (entries : List (Option ℤ)) (first count : ℕ) → first + count ≤ length entries →
     EachIndex (slice_range entries first (first + count)) (λ k. IsSome (get_or
     (slice_range entries first (first + count)) k None)) → AreAllThere entries first (first + count)

@@ -197,7 +197,7 @@ pub tile_flood_is : (t : Terrain)
 tile_flood_is t c tile n b levels levels_in labels labels_in h l cuts net flooded same x y =
     rw (y, x, same) (tile_flooded t c tile n levels labels h l cuts net flooded)
 
--- A walk from a node of the net ends at a node of the net, so each label of its flood is one.
+-- A walk from a node of the net ends at a node of the net.
 walk_end_below : (n : Cells) (a : ℕ) (walk : List Spill) → a < length n.cells →
     IsWalk (IsCellJoin n) (source_of n) a walk → end_of a walk < length n.cells
 walk_end_below n a [] low walk = low

@@ -170,7 +170,7 @@ all_inside P places inside = All-from_get_or (λ (o : Option Place).
           subst (λ (o : Option Place). IfSome o P) (sym found.1) (inside k found.0 found.1)
     ])
 
--- A cell with a label has its height as level, and a cell without a label has no level.
+-- A cell with a label has its entry of `heights` as level; a cell without a label has no level.
 pub level_shown : (b : Bounds) (heights : List ℤ) (t : LabelTable) (ends : List (Option ℤ))
     (f : Flood) (i : ℕ) → flood_of b heights t ends ≡ f → length heights ≡ length t.indexes →
     (length f.labels ≡ length heights) × (get_or f.levels i None

@@ -52,7 +52,7 @@ abbrev pub IsWindowPath : Terrain → Bounds → Place → List Place → Type 0
 IsWindowPath t w p [] = IsWindowSource t w p
 IsWindowPath t w p (q ∷ rest) = IsNeighbour t p q × IsInBounds w q × IsWindowPath t w q rest
 
--- Two nodes are beside each other if they differ, by at most 1 in row and at most 1 in column.
+-- A node of the next row, at most one column off, is after the first by `IsAfter`.
 next_row : (s r c d : ℕ) → d ≤ c + 1 → c ≤ d + 1 → IsAfter s (r * s + c) ((r + 1) * s + d)
 next_row s r c d up down = elim (cases_order c d) [
   | inl same ↦ inr (inr (inl (omega arith)))
@@ -116,7 +116,7 @@ near_rows s (suc r) c b one low (inr (inr (inr (inl e)))) =
 near_rows s (suc r) c b one low (inr (inr (inr (inr e)))) =
     (r, c - 1, omega arith, omega arith, omega arith, omega arith, omega arith)
 
--- The row and column of a place of the window, counted with its border.
+-- The row of a place of the window, counted with the border; `col_in` is its column.
 abbrev row_in : Bounds → Place → ℕ
 row_in w p = p.row - w.top + 1
 
@@ -328,7 +328,7 @@ source_gap t w n net p a source = elim source.1 [
     )
   ]
 
--- Sources of the window are sources of the net, and the other way round.
+-- A source of the window is a source of the net, at its own height.
 pub source_there : (t : Terrain) (w : Bounds) (n : Cells) → IsNetOf t w n → (p : Place) →
     IsInBounds w p → IsWindowSource t w p → source_of n (node_at w p) ≡ height_at t p
 source_there t w n net p a (inr sink) = cond-true _ _ _

@@ -44,7 +44,7 @@ impl Model for CellNet {
         (record { stride = n.stride; cells = n.cells.items; sinks = n.sinks.items }) };
 }
 
-/// The length of a run of nodes, which is skipped at once if none is a source.
+/// The length of a run of nodes, skipped at once if a test shows that none is a source.
 const RUN: u32 = 16;
 
 /// Returns the eight nodes around one that is not on the border.

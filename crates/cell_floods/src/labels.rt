@@ -31,7 +31,7 @@ impl Model for Labels {
 }
 
 impl Labels {
-    /// Returns the table: `None` for cells without data, then each label once.
+    /// Returns the table: `None` for cells without a label, then each label once.
     #[inline(always)]
     pub fn places(&self) -> &[Option<Place>]
         ensures value { result.now ≡ self.now.places }
@@ -82,7 +82,7 @@ fn place_of(bounds: Bounds, node: u32) -> Place
     }
 }
 
-/// Returns the index of a node's place in the table; adds the place if it is new.
+/// Returns the index of a node's place in the table, 0 for `None`; adds a new place.
 /// `met` has the index for each node met before, and 0 for other nodes.
 #[inline(always)]
 fn index_of_label(

@@ -14,7 +14,7 @@ use Rattle.std.proofs.Math.Nat.{pow-suc, pow-le-pow_right}
 use Rattle.std.proofs.lemmas.Nat.{mul-le, pow-add}
 use Rattle.decimals.specs.Plain.{IsPlain}
 
--- two joined parts, the first not empty, are digits exactly if both parts are digits alone
+-- a nonempty part with another appended is digits exactly if all bytes of both are digits
 pub are_digits_joined : (a b : List ℕ) → 0 < length a →
     are_digits (a ++ b) ≡ (list_all is_ascii_digit a && list_all is_ascii_digit b)
 are_digits_joined [] b h = absurd (omega arith)
@@ -84,7 +84,7 @@ option_map-cond : (t : Bool) (n : ℕ) (g : ℕ → ℤ) →
 option_map-cond true n g = refl
 option_map-cond false n g = refl
 
--- a word without an exponent whose parts are digits has its scaled size, with its sign, as value
+-- a word without an exponent whose parts are digits has its scaled size, if any, signed, as value
 pub scaled_value-digits : (d : ℕ) (w a b : Word) (size : Option ℕ) → has_exponent w ≡ false →
     a ≡ before_first is_point (without_sign w) → b ≡ after_first is_point (without_sign w) →
     are_digits (a ++ b) ≡ true → size ≡ cond (list_all (λ x. x == 48) (drop d b)

@@ -1,4 +1,4 @@
--- A plain whole number at the front of a text, for the fast path of readers. Source: this project.
+-- A short decimal text at the front of a text, for the fast path of readers. Source: this project.
 -- Public.
 use Rattle.std.specs.Prelude.{◌≡◌, ℕ, ◌≤◌, ◌<◌, ℤ, List, length, take, false, Some}
 use Rattle.std.specs.List.{list_any}

@@ -1,7 +1,7 @@
 //! Parses decimal words and digits into whole numbers.
 //!
 //! Begin with [`scaled_value`] for heights and [`whole_number`] for command-line words. Contracts
-//! cite the definitions of `terrain/specs/Decimal.antt`.
+//! cite the definitions of `terrain/specs/Decimal.antt` and of `specs/Plain.antt`.
 //!
 //! Modules, callers first:
 //!

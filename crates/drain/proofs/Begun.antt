@@ -119,7 +119,7 @@ module _ (t : Terrain) (sinks : List Place) (index : ℕ) (b : Bounds) (counts :
     | inr ne ↦ inr (one.0, one.1, omega (arith, one.2, ne), one.3, one.4)
   ]
 
-  -- with a sink outside the window or without data, the counts stay as they are
+  -- one more sink, outside the window or without data, changes no initial count
   pub sink_passed : ((s : Place) → IsSpot b s → Shows b s (sink_at sinks index) →
       IsDataCell t (sink_at sinks index) → ⊥) → AreBegunBefore t sinks (index + 1) b counts
   sink_passed out =
@@ -128,7 +128,7 @@ module _ (t : Terrain) (sinks : List Place) (index : ℕ) (b : Bounds) (counts :
       (λ s p spot shows. earlier p (λ same is. out s spot (subst (λ (q : Place). Shows b s q)
       same shows) (subst (λ (q : Place). IsDataCell t q) same is))) before
 
-  -- for a sink with data in the window, the count of its spot is set to 0
+  -- one more sink, with data and in the window, sets the initial count of its spot to 0
   pub sink_put : (r : Place) →
       IsSpot b r → Shows b r (sink_at sinks index) → IsDataCell t (sink_at sinks index) →
       AreBegunBefore t sinks (index + 1) b (slice_set counts (spot_index b r) 0)

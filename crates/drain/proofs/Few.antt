@@ -10,7 +10,7 @@ use Rattle.drain.proofs.Local.{one_number_of_steps}
 use Rattle.drainage.proofs.Pigeonhole.{pigeonhole}
 use Rattle.drain.proofs.Counted.{height_is}
 
--- the cell after k moves of a walk
+-- the cell after so many moves of a walk; its last cell if it has fewer
 abbrev pub cell_on : Place → List Place → ℕ → Place
 cell_on p rest zero = p
 cell_on p [] (suc i) = p

@@ -4,7 +4,7 @@ use Rattle.std.proofs.lemmas.Bool.{cases_eq, cases_lt, false≢true, eq-eqb, ne_
 use Rattle.std.specs.List.{position, position_or_len, list_any}
 use Rattle.std.proofs.lemmas.List.Sums.{position_or_len_is, fails_before_first}
 
--- a bound of all numbers is a bound of the greatest one
+-- a bound of `a` and of all numbers of a list is a bound of the greatest of them
 pub fold-max_least : (xs : List ℕ) (a m : ℕ) → a ≤ m →
     ((k : ℕ) → k < length xs → get_or xs k 0 ≤ m) → fold max a xs ≤ m
 fold-max_least [] a m le all = le

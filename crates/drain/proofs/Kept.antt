@@ -99,7 +99,7 @@ pub record IsPut (c : Cutting) (steps : List (Option ℕ)) (old new : Lowered) (
 abbrev in_row : Option (Vec ℕ Global) → ℕ → Option ℕ
 in_row o q = option_and_then (λ (counts : Vec ℕ Global). slice_get counts.items q) o
 
--- any other cell of the row keeps its count
+-- any other cell of the row in the tile keeps its count
 put_beside : (c : Cutting) (tile : ℕ) (steps : List (Option ℕ)) (old new : Lowered) (p : Place)
     (n k : ℕ) → IsPut c steps old new p n (bounds_of c tile) →
     is_in_bounds (bounds_of c tile) (place_at c.cols k) ≡ true → k / c.cols ≡ p.row →

@@ -114,7 +114,7 @@ module _ (t : Terrain) (steps : List (Option ℕ)) (p : Place) (a : Around) (are
         ),
       )
 
-  -- the first way of greatest weight leads to the first steepest neighbour
+  -- the first way of greatest weight, if that is above 0, leads to the first steepest neighbour
   steepest_first : (greatest way : ℕ) → greatest ≡ fold max 0 (weights a) → 0 < greatest →
       position (λ w. eqb w greatest) (weights a) ≡ Some way →
       PointsToFirst (IsSteepest t p) p (code_of (Some way)) × HasLower t p

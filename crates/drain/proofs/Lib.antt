@@ -23,7 +23,7 @@ pub mod RunLemmas
 pub mod Putting
 pub mod RoundLemmas
 pub mod Entered
--- the direction of a cell
+-- the direction of a cell, and which cells drain at once
 pub mod Block
 pub mod AroundLemmas
 pub mod Greatest

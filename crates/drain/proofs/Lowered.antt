@@ -38,7 +38,7 @@ total_less (suc n) f g low j below less = elim (cases_eq j n) [
 ]
 
 -- Inside the tile each count is at most one above that of a level neighbour, unless the neighbour's
--- change waits at index `from` or later.
+-- change waits at index `from` or above.
 pub record IsEvenButReported (t : Terrain) (c : Cutting) (tile : ℕ) (steps : List (Option ℕ))
     (l : Lowered) (from : ℕ) : Type 0 where
   pub within : (p q : Place) → IsInTile c tile p → IsInTile c tile q → AreLevel t p q →
@@ -76,7 +76,7 @@ module _ (t : Terrain) (c : Cutting) (tile : ℕ) (steps : List (Option ℕ)) wh
     least = omega (arith, is.least, low (index_of c.cols x.place));
   }
 
-  -- a reported place stays reported while its count stays
+  -- a reported place stays reported if its count and the old changes stay
   reported_still : (old new : Lowered) (from : ℕ) (p : Place) → ((k : ℕ) → k
       < length old.changes.items → slice_get new.changes.items k ≡ slice_get old.changes.items k) →
       counts_in c tile steps new (index_of c.cols p) ≡ counts_in c tile steps old
@@ -151,7 +151,7 @@ module _ (t : Terrain) (c : Cutting) (tile : ℕ) (steps : List (Option ℕ)) wh
     left = omega (arith, f.left, g.left);
   }
 
-  -- lowering one cell to the count of a change is a search to that cell
+  -- lowering a cell to the count of a change, and appending the change, is a search to that cell
   pub reached_put : (old new : Lowered) (x : Change) →
       IsInTile c tile x.place → IsWalked (IsSource t steps) t x.place x.count →
       x.count < counts_in c tile steps old (index_of c.cols x.place) →
@@ -220,7 +220,7 @@ module _ (t : Terrain) (c : Cutting) (tile : ℕ) (steps : List (Option ℕ)) wh
         );
       }
 
-  -- after a search went on, the counts differ from the input by the changes alone
+  -- counts that differ from the input by the changes alone do so after the search goes on
   pub lowered_then : (Done : Place → Type 0) (bound : ℕ) (old new : Lowered) →
       IsLowered t c tile steps (counts_in c tile steps old) old.changes.items →
       IsLoweredTo t c tile steps Done bound old new →
@@ -257,7 +257,7 @@ module _ (t : Terrain) (c : Cutting) (tile : ℕ) (steps : List (Option ℕ)) wh
     ];
   }
 
-  -- after a change has spread, the tile is even but for later changes
+  -- after the first waiting change has spread, the tile is even but for waiting ones, old or new
   pub even_spread : (old new : Lowered) (done : ℕ) (from : Change) →
       slice_get old.changes.items done ≡ Some from → IsEvenButReported t c tile steps old done →
       IsLoweredTo t c tile steps (λ p. IsInTile c tile p
@@ -293,7 +293,7 @@ module _ (t : Terrain) (c : Cutting) (tile : ℕ) (steps : List (Option ℕ)) wh
     ];
   }
 
-  -- if no change waits, the tile is even inside
+  -- a tile even but for waiting changes is even inside if none waits
   pub even_end : (l : Lowered) (done : ℕ) → length l.changes.items ≤ done →
       IsEvenButReported t c tile steps l done → IsEvenInside t c tile (counts_in c tile steps l)
   even_end l done all even = record {
@@ -389,7 +389,7 @@ pub reached_tile : (t : Terrain) (c : Cutting) (tile other : ℕ) (steps : List 
 reached_tile t c tile other steps Done bound old new e f =
     subst (λ (k : ℕ). IsLoweredTo t c k steps Done bound old new) e f
 
--- entries stay applied while counts fall
+-- entries stay applied while no count rises
 pub entered_low : (c : Cutting) (entries : List Entry) (from end : ℕ) (f g : ℕ → ℕ) →
     ((k : ℕ) → g k ≤ f k) → IsEntered c entries from end f → IsEntered c entries from end g
 entered_low c entries from end f g low is = record {

@@ -157,7 +157,7 @@ reached_all f each = record {
   left = f.left;
 }
 
--- before any spot spreads, the tile is even but for the listed spots
+-- if spots are near the old counts and all that fell are listed, the tile is even but for these
 pub even_begin :
     (b : Bounds) (levels : List (Option ℤ)) (old counts : List ℕ) (reached : List Place) →
     ((s : Place) → IsInner b s → IsNear b levels old counts s) → AreNoted b old counts [] reached →
@@ -170,7 +170,7 @@ even_begin b levels old counts reached near noted = record {
   ];
 }
 
--- after a spot has spread, the tile is even but for later spots
+-- after the first waiting spot has spread, the tile is still even but for waiting ones, old or new
 pub even_spread : {b : Bounds} {levels : List (Option ℤ)} {counts new : List ℕ} {waiting after :
     List Place} {done : ℕ} {spot : Place} → IsEvenBut b levels counts waiting done →
     slice_get waiting done ≡ Some spot → IsReached b levels spot
@@ -207,7 +207,7 @@ even_spread {b} {levels} {counts} {new} {waiting} {after} {done} {spot} even her
         ap (λ (p : Place). count_on b new p) (sym one) ∙ reached.own in
         omega (arith, from, same)
 
--- if no spot waits, the tile is even
+-- a tile even but for waiting spots is even if none waits
 pub even_end :
     (b : Bounds) (levels : List (Option ℤ)) (counts : List ℕ) (waiting : List Place) (done : ℕ) →
     IsEvenBut b levels counts waiting done → length waiting ≤ done → IsEven b levels counts

@@ -37,7 +37,7 @@ way_toward p q code e = elim (cases_option (way_of code)) [
 code_power : (way : ℕ) → way < 8 → code_of (Some way) ≡ 2 ^ way
 code_power = eight (λ way. code_of (Some way) ≡ 2 ^ way) refl refl refl refl refl refl refl refl
 
--- codes do not fall from one way to a later one
+-- of two ways the one of the greater number has no smaller code
 pub codes_rise : (way other : ℕ) → way ≤ other → other < 8 →
     code_of (Some way) ≤ code_of (Some other)
 codes_rise way other le below =
@@ -71,7 +71,7 @@ one_direction t p m n a b = elim (has_lower t p) [
   ]
 ]
 
--- a code other than 0 leads to a data cell with a lesser pair of height and steps
+-- a direction other than 0 leads to a data cell with a lesser pair of height and steps
 pub direction_leads : (t : Terrain) (steps codes : List (Option ℕ)) (p : Place) (code : ℕ) →
     AreSteps t steps → IsDirection t p code → code ≢ 0 →
     (q : Place) × (place_toward code p ≡ Some q) × IsDataCell t q

@@ -28,7 +28,7 @@ pub match_from : {X : Type 0} {P : Type 0} {Q : X → Type 0} (o : Option X) →
 match_from None p q = p refl
 match_from (Some x) p q = q x refl
 
--- a walk of no moves begins at its end
+-- a walk of no moves begins at a cell of `Ends`
 pub ended : (Ends : Place → Type 0) (t : Terrain) (p : Place) (rest : List Place) →
     IsLevelWalk Ends t p rest → length rest ≡ 0 → Ends p
 ended Ends t p [] walk none = walk
@@ -63,7 +63,7 @@ are_walked_to A B t sinks steps to walked p =
     if_some (entry_at t.cols t.rows steps p) (IsWalked B (with_sinks t sinks) p) (λ n e.
     walked_to A B t sinks to p n (MatchOption-at_some _ _ n e (walked p)))
 
--- counts of walks, each at most one above its neighbours' on the flat, are the steps
+-- counts of walks, 0 where cells drain at once, at most one above those beside on flats, are steps
 module _ (t : Terrain) (steps : List (Option ℕ)) (zeros : HasZeros t steps)
     (all_walked : AreWalked (DrainsAtOnce t) t steps)
     (near : (p q : Place) → IsNeighbour t p q → height_at t q ≡ height_at t p →
@@ -125,7 +125,7 @@ input_drains : (t : Terrain) (counts : List (Option ℕ)) → AreBegun t counts 
     IsSource t counts p → DrainsAtOnce t p
 input_drains t counts begun p input = ((begun.each p (data_inside t p input.0)).only 0 input.1).0
 
--- each initial count is 0, the length of a walk without moves
+-- each known initial count is 0, the length of a walk without moves
 pub begun_walked : (Ends : Place → Type 0) (t : Terrain) (counts : List (Option ℕ)) →
     AreBegun t counts → ((p : Place) → DrainsAtOnce t p → Ends p) → AreWalked Ends t counts
 begun_walked Ends t counts begun to p =
@@ -133,7 +133,7 @@ begun_walked Ends t counts begun to p =
     let at = (begun.each p (inside_from_entry t.cols t.rows counts p n e)).only n e in
     (omega (arith, at.1), [], to p at.0, sym at.1))
 
--- the initial counts are lengths of walks to sources, in the terrain without sinks
+-- known initial counts are lengths of level walks to sources, in the terrain without sinks
 pub begun_counting : (t : Terrain) (counts : List (Option ℕ)) → AreBegun t counts →
     AreCounting (with_sinks t []) counts
 begun_counting t counts begun = record {

@@ -148,7 +148,7 @@ module _ (r : Rounding) (outs : List (Vec Change Global)) (answered : AreAnswere
       record { tile = 0; change = record { place = record { row = 0; col = 0 }; count = 0 } } in
       entry_given 0 (get_or r.entries 0 none) rounding (slice_get-get_or r.entries 0 none some)
 
--- the counts after a round
+-- after a round, known counts have not risen, and tiles are even inside
 module _ (r : Rounding) (outs : List (Vec Change Global)) (new : List (Option ℕ))
     (rounding : IsRounding r) (answered : AreAnswered r outs)
     (put : ArePut r.cutting.cols r.steps new (IsGiven outs)) where
@@ -302,7 +302,7 @@ module _ (r : Rounding) (outs : List (Vec Change Global)) (new : List (Option �
 few_none : (n k : ℕ) → n ≤ k → k < n → ⊥
 few_none n k le less = omega arith
 
--- the first round
+-- after the first round, known counts have not risen, and tiles are even inside
 module _ (c : Cutting) (levels : List (Option ℤ)) (old : List (Option ℕ))
     (lists : List (Vec (Option ℕ) Global)) (count : length lists ≡ tile_count c)
     (given : (j : ℕ) (d : Vec (Option ℕ) Global) → j < tile_count c →

@@ -50,7 +50,7 @@ module _ {X : Type 0} (xs ys : List X) (y : X) (pushed : ys ≡ xs ++ y ∷ []) 
         ∙ slice_get-append_right xs (y ∷ []) (length xs) 0 (omega arith),
   )
 
--- after one more run, each entry before its end is in a run
+-- if old runs cover the entries before a new run, with it they cover those before its end
 pub covered_more : (old new : List Run) (run : Run) → new ≡ old ++ run ∷ [] →
     ((k : ℕ) → k < run.from → (r : Run) × IsAmong old r × (r.from ≤ k) × (k < r.end)) →
     (k : ℕ) → k < run.end → (r : Run) × IsAmong new r × (r.from ≤ k) × (k < r.end)
@@ -60,7 +60,7 @@ covered_more old new run pushed before k below = elim (cases_lt k run.from) [
   | inr past ↦ (run, among_new old new run pushed, past, below)
 ]
 
--- after one more result, each entry before its run's end is in a run with a result
+-- if old results cover the entries before a run, with its result they cover those before its end
 pub answered_more : (r : Rounding) (old new : List (Vec Change Global)) (list : Vec Change Global)
     (run : Run) → new ≡ old ++ list ∷ [] → IsRunAnswer r run list.items →
     ((k : ℕ) → k < run.from → IsAnsweredAt r old k) → (k : ℕ) → k < run.end → IsAnsweredAt r new k

@@ -92,7 +92,7 @@ touches_back p q t = record {
   col_left = t.col_right;
 }
 
--- a move that lowers a spot's count to one more than the old count of an adjacent spot
+-- lowering a spot to one more than an old count of an adjacent spot of its height is a move
 pub pulled : (b : Bounds) (levels : List (Option ℤ)) (old counts : List ℕ) (s : Place) (i n : ℕ) →
     i ≡ spot_index b s → IsSpot b s → IsSpread b levels old counts
     → ((n ≡ get_or counts i 0) ⊎ ((r : Place) × IsSpot b r × Touches r s × (level_on b levels r

@@ -26,7 +26,7 @@ part_of t c b lawful cuts fits = record {
   cols = omega (arith, cuts.0, fits.cols_inside);
 }
 
--- the map of codes has the direction of each cell
+-- a list with the code at each place is the list of directions
 pub coded_map : (t : Terrain) (c : Cutting) (codes : List (Option ℕ)) → Cuts c t →
     IsMadeMap c (IsCodeAt t) codes → AreDirections t codes
 coded_map t c codes cuts made = let all = map_of_size c t.cols t.rows

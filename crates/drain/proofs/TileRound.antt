@@ -83,7 +83,7 @@ apart_places b s r p q f g ne e =
     let col : q.col ≡ p.col = ap (λ (x : Place). x.col) e in
     ne (same_place s r (omega (arith, f.0, g.0, row)) (omega (arith, f.1, g.1, col)))
 
--- a level walk with one more move in front
+-- a walk of m moves to a source from a level neighbour gives one of m + 1, if below 2^24
 pub walked_on : (t : Terrain) (steps : List (Option ℕ)) (p q : Place) (m n : ℕ) →
     IsNeighbour t q p → height_at t p ≡ height_at t q → IsWalked (IsSource t steps) t p m →
     n ≡ m + 1 → n < 2 ^ 24 → IsWalked (IsSource t steps) t q n
@@ -255,7 +255,7 @@ module _ (t : Terrain) (c : Cutting) (tile : ℕ) (b : Bounds) (steps shown : Li
   entry_is p i = entry_of_tile c tile (IsCopied b new) list cutting handed p i (spot_of b p)
       (spot_inner b p (in_bounds_of p i)).1
 
-  -- the old count of a place is that of its spot
+  -- the old count of a place, if known, is that of its spot
   input_is : (s q : Place) (m : ℕ) → IsSpot b s → Shows b s q →
       entry_at t.cols t.rows steps q ≡ Some m → count_on b (known_counts shown) s ≡ m
   input_is s q m spot f e =
@@ -338,7 +338,7 @@ module _ (t : Terrain) (c : Cutting) (tile : ℕ) (b : Bounds) (steps shown : Li
     kept = kept_here;
   }
 
--- two views of one tile have one window of counts
+-- the counts of a tile's window by one view of it are those by another view's size and bounds
 pub input_to : (v : View (Option ℤ)) (w : View (Option ℕ)) (b : Bounds) (old : List ℕ) →
     w.cutting ≡ v.cutting → w.tile ≡ v.tile → b ≡ bounds_of v.cutting v.tile →
     AreWindowCounts w.cutting.cols w.cutting.rows w.cells (bounds_of w.cutting w.tile) old →

@@ -1,4 +1,4 @@
--- Entries: lower counts that cells of one tile offer to neighbours in another.
+-- Entries, lower counts that cells of one tile offer to neighbours in another; runs of entries.
 -- Private.
 use Rattle.std.specs.Prelude.{◌≡◌, ℕ, ◌+◌, ◌<◌, ◌≤◌, ◌⊎◌, ℤ, List, [], length, Option, Some, slice_get}
 use Rattle.terrain.specs.Raster.{Terrain}
@@ -37,7 +37,7 @@ IsEvenOrEntered c steps entries p q =
     ⊎ ((e : Entry) × IsAmong entries e × (e.change.place ≡ p)
     × (e.change.count ≤ count_of steps (index_of c.cols q) + 1))
 
--- The new list keeps the old one and adds only entries; level pairs in `Done` are even or entered.
+-- The old elements stay. If they are entries, all are; level pairs in `Done` are even or entered.
 pub record AreEntered (t : Terrain) (c : Cutting) (steps : List (Option ℕ))
     (Done : Place → Place → Type 0) (old new : List Entry) : Type 0 where
   pub kept : (e : Entry) → IsAmong old e → IsAmong new e

@@ -1,4 +1,4 @@
--- Every flow path ends at an outlet, if codes but 0 lead lower, or as high with fewer steps.
+-- In a map for which `IsDraining` holds, every flow path ends at an outlet.
 use Rattle.std.proofs.Common.{◌≡◌, ◌≢◌, ℕ, zero, suc, ◌+◌, ◌<◌, ◌≤◌, ◌<ℤ◌, true, ◌⊎◌, inl, inr, Option, None, Some, is_some, unwrap_or, pos, sym, ap, subst, refl, ◌∙◌, arith}
 use Rattle.std.proofs.lemmas.Int.{ints}
 use Rattle.std.proofs.lemmas.Bool.{cases_eq}
@@ -14,7 +14,7 @@ use Rattle.drainage.proofs.Pigeonhole.{pigeonhole}
 abbrev steps_in : Drained → Place → Option ℕ
 steps_in d p = entry_at d.terrain.cols d.terrain.rows d.steps p
 
--- `q` is lower than `p`, or as high with fewer steps
+-- `q` is lower than `p`, or as high with fewer steps, where unknown steps count as 0
 IsBelow : Drained → Place → Place → Type 0
 IsBelow d p q = (height_of d.terrain q <ℤ height_of d.terrain p)
     ⊎ ((height_of d.terrain q ≡ height_of d.terrain p)
@@ -106,7 +106,7 @@ coded_along d lawful p c (suc k) =
           (next_is_below d lawful (follow (directed_of d) p k) here none_here).0
     ]
 
--- a path that has reached an outlet stays there
+-- a flow path that has reached an outlet stays there
 ends_by : (d : Drained) (p : Place) (k m : ℕ) → k ≤ m → IsOutlet (directed_of d)
     (follow (directed_of d) p k) → IsOutlet (directed_of d) (follow (directed_of d) p m)
 ends_by d p k zero le out = let none : k ≡ 0 = omega arith in
@@ -117,7 +117,7 @@ ends_by d p k (suc m) le out = elim (cases_eq k (suc m)) [
       ap (code_at (directed_of d)) (outlet_stays d (follow (directed_of d) p m) before) ∙ before)
 ]
 
--- before an outlet is reached, later cells are below earlier ones
+-- before an outlet is reached, each cell of a flow path is below those met before it
 below_along : (d : Drained) → IsDraining d → (p : Place) → IsCoded d p → (i j : ℕ) →
     i < j → ((k : ℕ) → k < j → IsOutlet (directed_of d) (follow (directed_of d) p k) → ⊥) →
     IsBelow d (follow (directed_of d) p i) (follow (directed_of d) p j)

@@ -52,7 +52,7 @@ data_level : (t : Terrain) (levels : List (Option ℤ)) → IsFilled t levels �
     IsSome (height_at t p) → (level : ℤ) × HasLevel t levels p level
 data_level t levels h p d = level_at t levels h p (height_of t p) (known (height_at t p) d)
 
--- a gap around a cell remains in the filled terrain, and so does a path (`path_again`)
+-- a cell with a gap around it in the terrain has one in the filled terrain
 gap_again : (t : Terrain) (levels : List (Option ℤ)) → IsFilled t levels → (p : Place) →
     HasGapAround t p → HasGapAround (filled_terrain t levels) p
 gap_again t levels h p gap = gap_where p (λ q _ none. same_data t levels h q ∙ none) gap

@@ -16,7 +16,7 @@ use Rattle.terrain.proofs.Places.{make_place, same_place, index_below, inside_fr
 use Rattle.terrain.proofs.Listed.{place_is, is_place_from, listed_from_any, any_from_listed}
 use Rattle.drainage.proofs.Heights.{known, first_is_data}
 
--- the place of index n in rows of `cols`; `field` has the grid's and one more row and column
+-- the place of index n in rows of `cols`; `field` has one row and one column more than the grid
 abbrev pub place_at : ℕ → ℕ → Place
 place_at cols n = make_place (n / cols) (n % cols)
 

@@ -1,4 +1,4 @@
--- Adding joins cell by cell.
+-- How `Adds` of a cell's pairs follows from adding its joins in each of four directions.
 use Rattle.std.proofs.Common.{◌≡◌, ◌≢◌, ◌==◌, ◌↔◌, Bool, ℕ, zero, suc, ◌+◌, ◌<◌, ◌⊎◌, inl, inr, ℤ, ◌≤ℤ◌, false, true, List, [], ◌∷◌, ◌++◌, length, get_or, set, Option, None, Some, ◌∙◌, sym, ap, subst, refl, arith}
 use Rattle.std.specs.Int.{int_max}
 use Rattle.std.specs.Int.Signed.{≤ℤ_refl}
@@ -85,7 +85,7 @@ adds_nothing now none is = subst (λ (z : List Join). AddsCovered now z now) (sy
   every = λ j h. absurd (no_join j h);
 })
 
--- Lowering a join to one of the same labels adds the lower join.
+-- Replacing a join by one of the same labels that is no higher adds the new join.
 pub adds_lower : (old : List Join) (at : ℕ) (met j : Join) → at < length old →
     met ≡ get_or old at met → met.from ≡ j.from → met.to ≡ j.to → j.height ≤ℤ met.height →
     AddsCovered old (j ∷ []) (set old at j)
@@ -150,7 +150,7 @@ west_of row zero q at next = absurd (omega (arith, next))
 west_of row (suc n) q at next =
     ap Some (same_place (record { row = row; col = n }) q at (omega (arith, next)))
 
--- A later neighbour lies in one of the first four directions.
+-- A place that touches a cell and comes after it lies in one of the first four directions.
 after_way : (p q : Place) → Touches p q → IsAfter p q → ((place_on 0 p ≡ Some q)
     ⊎ (place_on 1 p ≡ Some q)) ⊎ ((place_on 2 p ≡ Some q) ⊎ (place_on 3 p ≡ Some q))
 after_way p q t (inr beside) = inl (inl (ap Some (same_place
@@ -260,7 +260,7 @@ adds_none marks out pairs old new same none = subst (Adds marks out pairs old) (
   every = λ p q j at. absurd (none p q at);
 })
 
--- A cell without a mark has no joins.
+-- For a cell without a mark, `Adds` of its pairs holds with no change.
 pub no_mark_adds : (marks : Marks) (out : LeftOutJoins) (p : Place) (wanted : Place → Bool)
     (old : List Join) → marks p ≡ None → Adds marks out (IsPairFrom p wanted) old old
 no_mark_adds marks out p wanted old none = record {
@@ -291,7 +291,7 @@ adds_then marks out first later both old now new split a b = record {
   ];
 }
 
--- `Adds` of some pairs is `Adds` of more, if no later pair of the others touches and has marks.
+-- `Adds` of some pairs is `Adds` of more, if no other pair in row order touches and has marks.
 pub adds_as : (marks : Marks) (out : LeftOutJoins) (first both : Place → Place → Type 0)
     (old new : List Join) → ((p q : Place) → first p q → both p q) → ((p q : Place) → Touches p q →
     IsAfter p q → (m : CellLabel) → marks p ≡ Some m → (n : CellLabel) → marks q ≡ Some n →
@@ -307,7 +307,7 @@ adds_as marks out first both old new wider narrower a = record {
       a.every p q j (narrower p q m.touches after _ m.from_is _ m.to_is at) after m;
 }
 
--- Adding a cell's wanted joins in the first four directions, one by one, adds all its wanted joins.
+-- Adding a cell's wanted joins in the first four directions adds all those with cells after it.
 pub adds_four : (marks : Marks) (out : LeftOutJoins) (p : Place) (wanted : Place → Bool)
     (old first second third new : List Join)
     → Adds marks out (IsPairOn 0 p wanted) old first →

@@ -62,7 +62,7 @@ mark_from_tile c floods tile f p e same =
     option_and_then (λ (g : Flood). mark_in (first_of floods n) g p) (slice_get floods n)) same
     ∙ ap (option_and_then (λ (g : Flood). mark_in (first_of floods tile) g p)) e)
 
--- The flood, level and label of a cell with this mark.
+-- In the flood of its tile, the cell has the mark's level, and a label with the mark's number.
 pub record IsMarked (c : Cutting) (floods : List Flood) (p : Place) (m : CellLabel) : Type 0 where
   pub flood : Flood
   pub label : Place
@@ -163,7 +163,7 @@ same_label_adds f sources i j from now is same = record {
       absurd (m.2 (sym a.3 ∙ ap (λ n. 0 + n) same ∙ b.3));
 }
 
--- A cell with the label of its four later neighbours has no joins with them.
+-- A cell with the label of its four neighbours after it has no joins with them.
 pub equal_after_adds : (f : Flood) (out : LeftOutJoins) (i width : ℕ) (now : List Join) →
     AreEqualAfter f.table.indexes i width →
     MatchOption (mark_with 0 f i) (now ≡ now) (λ from. AddsAfter f out from i width now now)

@@ -15,7 +15,7 @@ use Rattle.fill.specs.declared.arcs.PreviousJoins.{PreviousJoins}
 use Rattle.fill.specs.declared.arcs.Link.{Link}
 use Rattle.fill.proofs.Adding.{no_join}
 
--- A chain from the last join is its arc, and then the chain from the join before it.
+-- The chain from the last join is its link's arc, and then the chain from its link's `before`.
 chain_here : (link : ℕ → Link) (n : ℕ) →
     chain link (suc n) (suc n) ≡ (link n).arc ∷ chain link n (link n).before
 chain_here link n = cond-true _ _ _ (eq-eqb (suc n) (suc n) refl)
@@ -24,7 +24,7 @@ chain_less : (link : ℕ → Link) (n at : ℕ) → at ≤ n → chain link (suc
 chain_less link n at low =
     cond-false _ _ _ (ne_eqb at (suc n) (λ same. absurd (omega (arith, low, same))))
 
--- Later joins are on no chain from an earlier join.
+-- The chain from join `at` is the same without the joins of greater number.
 chain_upto : (link : ℕ → Link) (n at : ℕ) → at ≤ n → chain link n at ≡ chain link at at
 chain_upto link zero at low =
     let none : at ≡ 0 = omega (arith, low) in
@@ -38,7 +38,7 @@ chain_upto link (suc n) at low = elim (cases_eq at (suc n)) [
 pub chain_none : (link : ℕ → Link) (n : ℕ) → chain link n 0 ≡ []
 chain_none link n = chain_upto link n 0 (omega arith)
 
--- A chain is its first arc, and the chain from the join before.
+-- If a join's link leads to an earlier join or none, its chain is its arc and the chain from there.
 chain_step : (link : ℕ → Link) (n k : ℕ) → k < n → (link k).before ≤ k →
     chain link n (suc k) ≡ (link k).arc ∷ chain link n (link k).before
 chain_step link n k low before =

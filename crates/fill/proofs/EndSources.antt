@@ -20,7 +20,7 @@ use Rattle.fill.specs.Spills.{AreFloods, AreSpillSources, AreSourcesOf}
 use Rattle.fill.proofs.Rims.{has_tile_level, end_label, list_there, among_is}
 use Rattle.fill.proofs.CellMarks.{label_entry}
 
--- `PutsEnds` of the first entries of the table.
+-- `PutsEnds`, but of the first `count` entries of the table alone.
 pub record PutsFirst (c : Cutting) (f : Flood) (count : ℕ) (old new : List (Option ℤ)) :
     Type 0 where
   pub size : length new ≡ length old
@@ -108,7 +108,7 @@ put_length cols (Some p) (Some h) heights = length-set heights (index_of cols p)
 abbrev IsEndNode : Terrain → Cutting → ℕ → ℤ → Type 0
 IsEndNode t c a h = (p : Place) × (index_of c.cols p ≡ a) × IsEnd t p × (height_at t p ≡ Some h)
 
--- The heights are those of end cells, among them all labels of the first tiles that are end cells.
+-- Each height is an end cell's; each label of the first `count` tiles that is one has its height.
 pub record HaveEnds (t : Terrain) (c : Cutting) (floods : List Flood) (count : ℕ)
     (heights : List (Option ℤ)) : Type 0 where
   pub size : length heights ≡ c.cols * c.rows
@@ -196,7 +196,7 @@ one_tile t c floods tile f old new are there lawful puts s = record {
     | inr found ↦ ap is_some found.1
   ]
 
--- The heights of the end cells of all tiles are the sources.
+-- If `HaveEnds` holds of all tiles, the heights are those of the labels that are end cells.
 pub all_tiles :
     (t : Terrain) (c : Cutting) (floods : List Flood) (count : ℕ) (heights : List (Option ℤ))
     → AreFloods t c floods → length floods ≤ count → HaveEnds t c floods count heights

@@ -27,7 +27,7 @@ flat_more g floods i f low is =
     ∙ flat_map-append g (take i floods) (get_or floods i f ∷ [])
     ∙ ap (λ z. flat_map g (take i floods) ++ z) (append-nil (g (get_or floods i f)) ∙ ap g (sym is))
 
--- The first numbers of `count` tiles, and that of the next tile.
+-- The first numbers of `count` tiles, whose numbers fit in 32 bits, and that of the next tile.
 pub record AreFirstNumbers (floods : List Flood) (count : ℕ) (firsts : List ℕ) (next : ℕ) :
     Type 0 where
   pub size : length firsts ≡ count
@@ -110,7 +110,7 @@ few_pieces n side some short any few =
     let more : k * side ≡ (k - 1 + 1) * side = ap (λ m. m * side) (omega (arith, one)) in
     omega (arith, last, more, short, few)
 
--- The labels of all tiles have numbers of 32 bits.
+-- Tables of side * side + 1 entries, one for each tile, have at most 2^32 - 1 entries in all.
 pub all_few : (c : Cutting) (n : ℕ) → IsCutting c → n ≤ tile_count c →
     n * (c.side * c.side + 1) ≤ 4294967295
 all_few c n h low =

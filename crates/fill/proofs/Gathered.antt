@@ -40,7 +40,7 @@ and_turned true false = refl
 and_turned false true = refl
 and_turned false false = refl
 
--- Joins in order have each pair of labels once.
+-- Joins in order have each pair of labels at most once.
 one_join : (joins : List Join) → AreRising joins → (j k : Join) → Contains joins j →
     Contains joins k → j.from ≡ k.from → j.to ≡ k.to → j ≡ k
 one_join joins rise j k a b e f = elim (cases_order a.0 b.0) [

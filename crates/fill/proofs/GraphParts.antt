@@ -12,7 +12,7 @@ use Rattle.fill.specs.Spills.{Graph, HasJoin}
 use Rattle.fill.specs.Gathering.{AreRising, IsBefore, arc_of}
 use Rattle.floods.proofs.Heaps.{all_by_contains}
 
--- Along joins in order, the first labels never get lower.
+-- Along joins in order, the label `from` never falls.
 up : (joins : List Join) → AreRising joins → (m n : ℕ) (d : Join) → m ≤ n → n < length joins →
     (get_or joins m d).from ≤ (get_or joins n d).from
 up joins rise m n d low below = elim (cases_eq m n) [
@@ -39,7 +39,7 @@ above_more joins node middle e rise inside high k d above below =
     let same = ap (λ (j : Join). j.from) (get_or_default joins middle d e inside) in
     omega (arith, up joins rise middle k d above below, same, high)
 
--- From a join that begins at a later node on, all joins begin at later nodes.
+-- If a join begins past the node, so do all joins after it.
 pub past_node : (joins : List Join) (node end : ℕ) (e : Join) → AreRising joins →
     end < length joins → node ≤ (get_or joins end e).from → (get_or joins end e).from ≢ node →
     (k : ℕ) (d : Join) → end ≤ k → k < length joins → node < (get_or joins k d).from

@@ -55,7 +55,7 @@ module _ (t : Terrain) (c : Cutting) (tiles : List FloodWithJoins) (n : ℕ) (si
         tiles floods tile f floods_are e in subst (IsTileFlood t c tile) x.2 (here tile x.0 x.1).0;
   }
 
-  -- The lists of joins that the jobs return are those inside the tiles.
+  -- The lists of joins that the jobs return are those inside the tiles, without those left out.
   pub inner_given : (inner : List (Vec Join Global)) →
       inner ≡ map (λ (x : FloodWithJoins). x.joins) tiles → AreInner floods true inner
   inner_given inner inner_are = record {
@@ -75,7 +75,7 @@ module _ (t : Terrain) (c : Cutting) (tiles : List FloodWithJoins) (n : ℕ) (si
         (ap (λ (z : FloodWithJoins). z.joins) same ∙ y.2) (here tile x.0 x.1).1);
   }
 
--- The joins inside the first tiles, with none left out.
+-- The joins inside the first `count` tiles, with none left out.
 pub record AreFirstInner (floods : List Flood) (count : ℕ) (inner : List (Vec Join Global)) :
     Type 0 where
   pub size : length inner ≡ count

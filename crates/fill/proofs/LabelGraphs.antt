@@ -1,4 +1,4 @@
--- The spill graph by numbers: the arcs of its joins, and the levels of its flood.
+-- The spill graph by numbers: the arcs of its joins, and the least crests of its flood.
 use Rattle.std.proofs.Common.{◌≡◌, ℕ, zero, suc, ◌+◌, ◌<◌, ◌⊎◌, ◌↔◌, inl, inr, true, false, ℤ, pos, ◌≤ℤ◌, List, [], ◌∷◌, ◌++◌, length, get_or, replicate, Option, None, Some, is_some, unwrap_or, ◌∙◌, sym, ap, subst, refl, arith}
 use Rattle.std.specs.Prelude.{IsSome, MatchOption}
 use Rattle.std.specs.Int.{int_max}
@@ -20,7 +20,7 @@ use Rattle.fill.proofs.Adding.{no_join}
 no_arc : (w : Spill) → Contains [] w → ⊥
 no_arc w h = omega (arith, h.1)
 
--- A label with an arc is one of the list.
+-- A label with an arc has an entry in the list of arcs.
 pub arc_inside : (arcs : List (List Spill)) (a : ℕ) (w : Spill) → Contains (get_or arcs a []) w →
     a < length arcs
 arc_inside arcs a w h = elim (cases_lt a (length arcs)) [
@@ -144,7 +144,7 @@ levels_or-at (x ∷ xs) (y ∷ ys) zero low same = refl
 levels_or-at (x ∷ xs) (y ∷ ys) (suc a) low same =
     levels_or-at xs ys a (omega (arith, low)) (omega (arith, same))
 
--- `levels_or` turns the levels by joined sources into the levels by all sources.
+-- `levels_or` turns the least crests by joined sources into those by all sources.
 module _ (arcs : List (List Spill)) (sources : List (Option ℤ)) where
   some_has : (a b : ℕ) (h : ℤ) → HasArc arcs a b h → has_arcs arcs a ≡ true
   some_has a b h arc = by (get_or arcs a []) arc.there where
@@ -193,7 +193,7 @@ module _ (arcs : List (List Spill)) (sources : List (Option ℤ)) where
       let further = walk_back rest step.to (some_has step.to a step.height back) walk.1 in
       ((walk.0, further.0), ap (int_max step.height) further.1)
 
-  -- A label has this level and this label in the flood of all sources, or neither.
+  -- By all sources a walk from `a` of least crest `level` ends at `label`; or none, both None.
   abbrev IsNodeLevel : ℕ → Option ℤ → Option ℕ → Type 0
   IsNodeLevel a level label =
       MatchOption level (HasNoWalk (HasArc arcs) (source_number sources) a × (label ≡ None)) (λ h.
@@ -225,7 +225,7 @@ module _ (arcs : List (List Spill)) (sources : List (Option ℤ)) where
         low h some [] is = le_of_same _ _ (sym (ap (λ (o : Option ℤ). unwrap_or o (pos 0)) some))
         low h some (step ∷ rest) is = absurd (alone a none step.to step.height is.0)
 
-  -- A label with an arc has by all sources the level and label that it has by joined sources.
+  -- If `a` has an arc, its least crest and end by joined sources, or None, are so by all sources.
   linked_level : (a : ℕ) (level : Option ℤ) (label : Option ℕ) → has_arcs arcs a ≡ true
       → MatchOption level (HasNoWalk (HasArc arcs) (joined_source arcs sources) a
       × (label ≡ None)) (λ h. (end : ℕ) × (label ≡ Some end)
@@ -250,7 +250,7 @@ module _ (arcs : List (List Spill)) (sources : List (Option ℤ)) where
   no_walk_alone a none [] is = none_done (joined_source arcs sources a) (cond-false _ _ _ none) is
   no_walk_alone a none (step ∷ rest) is = alone a none step.to step.height is.0
 
-  -- A label that has an arc and no level is no source.
+  -- A label that has an arc, but no walk by joined sources, is no source.
   no_source : (a : ℕ) → has_arcs arcs a ≡ true →
       HasNoWalk (HasArc arcs) (joined_source arcs sources) a → source_number sources a ≡ None
   no_source a has none = elim (cases_option (source_number sources a)) [
@@ -259,7 +259,7 @@ module _ (arcs : List (List Spill)) (sources : List (Option ℤ)) where
         (none [] (subst (λ (o : Option ℤ). IsSome o) (sym (source_is a has)) (ap is_some some.1)))
   ]
 
-  -- The labels that go with `levels_or`.
+  -- The ends of the walks of `levels_or`: the flood's label or, if None, a source's own number.
   abbrev labels_or : ℕ → List (Option ℕ) → List (Option ℤ) → List (Option ℕ)
   labels_or a [] rest = []
   labels_or a (label ∷ labels) [] = []

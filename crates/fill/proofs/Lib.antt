@@ -1,7 +1,7 @@
--- The marks of cells.
+-- The marks of cells, and the tiles around a tile.
 mod CellMarks
 mod NearTiles
--- Raising by the levels of any net of labels.
+-- Raising by the least crests of any net of labels.
 mod Rims
 -- The spill graph by number.
 mod Adding

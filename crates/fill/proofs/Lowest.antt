@@ -63,14 +63,14 @@ pub ordered : (joins : List Join) → IsSorted join_order joins → AreOrdered j
 ordered joins sorted m n d low below = not_above _ _ (sorted_far (λ x y. is_lt (join_order x y))
     (ranks_by join_order_total (λ j. j)) joins sorted m n d low below)
 
--- The lowest of the first joins have been kept.
+-- Of each pair of labels in the first i joins, the lowest join is kept, in the order of the labels.
 pub record HasKept (joins : List Join) (i : ℕ) (lowest : List Join) : Type 0 where
   pub only : (j : Join) → Contains lowest j → (k : ℕ) × (k < i) × (get_or joins k j ≡ j)
   pub every : (k : ℕ) (d : Join) → k < i → Covered lowest (get_or joins k d)
   pub rising : (m n : ℕ) (d : Join) → m < n → n < length lowest →
       IsBefore (get_or lowest m d) (get_or lowest n d)
 
--- A join that repeats the labels before it is skipped.
+-- If join i repeats the labels before it, the joins kept of the first i are those of i + 1.
 pub kept_same : (joins : List Join) (i : ℕ) (lowest : List Join) → AreOrdered joins →
     i < length joins → HasKept joins i lowest → IsRepeat joins i → HasKept joins (i + 1) lowest
 kept_same joins i lowest order below s repeat = record {
@@ -92,7 +92,7 @@ kept_same joins i lowest order below s repeat = record {
   height_up x y (inr (g, inl a)) e f = absurd (omega (arith, a, f))
   height_up x y (inr (g, inr a)) e f = a.1
 
--- Any other join is kept.
+-- If join i repeats none, it and the joins kept of the first i are those kept of i + 1.
 pub kept_more : (joins : List Join) (i : ℕ) (x : Join) (lowest : List Join) → AreOrdered joins →
     i < length joins → x ≡ get_or joins i x → HasKept joins i lowest → (IsRepeat joins i → ⊥) →
     HasKept joins (i + 1) (lowest ++ x ∷ [])

@@ -103,7 +103,7 @@ fit_of t c floods are = record {
 abbrev pub AreLawful : List Flood → Type 0
 AreLawful floods = (tile : ℕ) (f : Flood) → slice_get floods tile ≡ Some f → IsFlood f
 
--- A cell's mark, and the index of its label in the table of its tile.
+-- The mark has the cell's level and the number of its label, entry `entry` of its tile's table.
 pub record IsNumbered (c : Cutting) (floods : List Flood) (p : Place) (m : CellLabel) : Type 0 where
   pub flood : Flood
   pub entry : ℕ

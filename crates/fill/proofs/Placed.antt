@@ -85,7 +85,7 @@ one_placed nodes j x placed is = elim (cases_eq (join_at nodes j).from (join_at 
       }
 ]
 
--- A join of one place is not added.
+-- A join whose labels have one place adds nothing.
 pub not_placed : (nodes : List ℕ) (j : Join) (placed : List Join) → placed_joins_of nodes j ≡ [] →
     AddsPlaced nodes (j ∷ []) placed placed
 not_placed nodes j placed is = record {

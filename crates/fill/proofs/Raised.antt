@@ -71,14 +71,14 @@ pub all_entries : (entry : ℕ → Option ℤ) (i count : ℕ) (list : List (Opt
 all_entries entry i count list below past s =
     subst (λ n. AreEntries entry n list) (omega (arith, below, past)) s
 
--- A cell is raised alike by its height and by its level, which is None without a label.
+-- A height raised by a label is the same if the height is first made None without a label.
 raised_where : (c : Cutting) (levels : List (Option ℤ)) (height : ℤ) (label : Option Place) →
     greater_of (Some height) (spill_of c levels label)
     ≡ raised_by c levels (option_map (λ _. height) label) label
 raised_where c levels height None = refl
 raised_where c levels height (Some p) = refl
 
--- These heights and levels of labels raise each cell as the flood and all levels do.
+-- Each cell gets the same from `heights`, `labels` and `spills` as from the flood and `levels`.
 pub record IsRaisedBy (c : Cutting) (f : Flood) (levels : List (Option ℤ)) (heights : List ℤ)
     (labels : List ℕ) (spills : List (Option ℤ)) : Type 0 where
   pub heights_size : length heights ≡ length f.labels
@@ -88,7 +88,7 @@ pub record IsRaisedBy (c : Cutting) (f : Flood) (levels : List (Option ℤ)) (he
       greater_of (Some (get_or heights i (pos 0))) (get_or spills (get_or labels i 0) None)
       ≡ raised_by c levels (get_or f.levels i None) (get_or f.labels i None)
 
--- A tile is raised by the levels of the labels in its table.
+-- `IsRaisedBy` holds where `spills` has the least crest of each label of the tile's table.
 by_table : (c : Cutting) (f : Flood) (places : List (Option Place)) (cells : List ℕ)
     (heights : List ℤ) (levels spills : List (Option ℤ)) → f.labels ≡ labels_by places cells →
     IsTable places cells
@@ -134,7 +134,7 @@ raised_by_table c f places cells heights levels spills raised are table where_is
           ∙ by.each i (omega (arith, low, same));
     }
 
--- A raised height, as a cell, is the same if the label's level is stored as a cell first.
+-- A raised height, as a cell, is the same if the label's least crest is stored as a cell first.
 greater_stored : (h : ℤ) (spill : Option ℤ) → h ≤ℤ no_data →
     cell_of (greater_of (Some h) (cell_of spill)) ≡ cell_of (greater_of (Some h) spill)
 greater_stored h None low = refl
@@ -147,7 +147,7 @@ greater_stored h (Some z) low = elim (cases_Bool (int_eq z no_data)) [
   | inr other ↦ ap (λ (o : Option ℤ). cell_of (greater_of (Some h) o)) (cond-false _ _ _ other)
 ]
 
--- A tile's raised height, as a cell, is the same if its labels' levels are stored as cells first.
+-- A raised height of a tile, as a cell, is the same if least crests are stored as cells first.
 pub raised_stored : (first : ℕ) (f : Flood) (levels : List (Option ℤ)) (x : RaisedTile) (i : ℕ) →
     IsRaisedTile first f levels x → i < length f.labels → get_or x.heights.now i (pos 0) ≤ℤ no_data
     → cell_of (greater_of
@@ -183,7 +183,7 @@ raised_stored first f levels x i tile below low =
     spill_by None level h k listed is = rw (← listed, is) refl
     spill_by (Some p) level h k listed is = rw (← listed, is) refl
 
--- The indexes of labels lie in the list of levels.
+-- The indexes of a tile's labels are below the length of its list of least crests.
 pub stored_inside : (first : ℕ) (f : Flood) (levels : List (Option ℤ)) (x : RaisedTile) →
     IsRaisedTile first f levels x → All (λ k. k < length x.spills.items) x.labels.now
 stored_inside first f levels x tile i d below =
@@ -195,12 +195,12 @@ stored_inside first f levels x tile i d below =
       tile.spills.size,
     )
 
--- The raised height of a place, by the levels of labels by place.
+-- The raised height of a place, by the least crests of labels by place.
 abbrev placed_among : Cutting → List Flood → List (Option ℤ) → Place → Option ℤ
 placed_among c floods levels p =
     raised_by c levels (level_among c floods p) (label_among c floods p)
 
--- By levels by place, the raised height at a place's index in its tile is `placed_among` of it.
+-- By place, the raised height at a place's index in its tile is `placed_among` of it.
 pub raised_here : (c : Cutting) (floods : List Flood)
     (tile k : ℕ) (f : Flood) (levels : List (Option ℤ)) (p : Place) → IsCutting c → Fit c floods →
     slice_get floods tile ≡ Some f → IsInTile c tile p
@@ -221,7 +221,7 @@ raised_here c floods tile k f levels p h fit there i at =
     sym (ap (λ z. raised_by c levels z (get_or f.labels k None)) own_level)
     ∙ sym (ap (raised_by c levels (level_among c floods p)) own_label)
 
--- By levels by number, the raised height at a place's index in its tile is `raised_among` of it.
+-- By number, the raised height at a place's index in its tile is `raised_among` of it.
 number_here : (c : Cutting) (floods : List Flood) (tile k : ℕ)
     (f : Flood) (levels : List (Option ℤ)) (p : Place) → IsCutting c → Fit c floods →
     slice_get floods tile ≡ Some f → IsInTile c tile p
@@ -354,7 +354,7 @@ place_net t c floods g are graph = record {
       let x = from_option (label_among c floods p) a e in
       (x.0, x.1, x.2, label_inside t c floods p x.0 are x.1)
 
--- If `spill` raises the level of a data cell to its filled height, the place is raised to that.
+-- A place gets its filled height, None without data, if `spill` raises its level to that.
 raised_filled : (t : Terrain) (c : Cutting) (floods : List Flood) (p : Place) →
     AreFloods t c floods → IsWithin c p → (spill : Option ℤ)
     → ((l : HasTileLevel t c floods p) → IsDataCell t p → (n : ℤ) × (spill ≡ Some n)
@@ -409,7 +409,7 @@ fits_in_cell : (t : Terrain) (p : Place) (level : ℤ) → IsTerrain t → IsFil
 fits_in_cell t p level lawful filled = stored_some level (All-contains (λ c. IfSome c IsHeight)
     t.cells (Some level) lawful.heights (filled_height_occurs t p level filled)).1
 
--- A cell is raised to its filled height, by the levels of labels by number.
+-- By the least crests of labels by number, a place gets its filled height, None without data.
 filled_cell : (t : Terrain) (c : Cutting) (floods : List Flood) (arcs : List (List Spill))
     (sources levels : List (Option ℤ)) → IsTerrain t → AreFloods t c floods → AreLawful floods →
     IsNumberGraph t c floods arcs sources → AreNumberLevels arcs sources levels → (p : Place) →

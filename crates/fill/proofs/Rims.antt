@@ -1,4 +1,4 @@
--- The levels of the spill graph raise the levels of tiles to the filled heights.
+-- The least crests of the spill graph raise the levels of tiles to the filled heights.
 use Rattle.std.proofs.Common.{◌≡◌, ℕ, ◌<◌, inl, inr, ℤ, pos, ◌≤ℤ◌, List, [], ◌∷◌, length, get_or, Option, None, Some, is_some, unwrap_or, ◌∙◌, sym, ap, subst, refl, arith}
 use Rattle.std.specs.Prelude.{slice_get, option_and_then, IsSome, ◌≢◌, ◌⊎◌}
 use Rattle.std.specs.Int.Signed.{≤ℤ_refl}
@@ -242,7 +242,7 @@ module _ (t : Terrain) (c : Cutting) (floods : List Flood) (h : IsCutting c)
   HasLowWalk a m = (walk : List Spill) × IsWalk joins source a walk
       × (walk_crest source a walk ≤ℤ m)
 
-  -- At low levels, a low walk from a neighbour's label gives one from a cell's, if bypasses do.
+  -- If both levels are at most m, a low walk from q's label gives one from p's, if bypasses do.
   walk_over : (p q : Place) (a b : ℕ) (m : ℤ) (l : HasTileLevel t c floods p)
       (k : HasTileLevel t c floods q) → IsNeighbour t p q → number p ≡ Some a → number q ≡ Some b →
       l.level ≤ℤ m → k.level ≤ℤ m
@@ -366,7 +366,7 @@ module _ (t : Terrain) (c : Cutting) (floods : List Flood) (h : IsCutting c)
       subst (HasLowPath t total) same
       (low_at_label t c pass.from x.label x.level total x.right from_low across)
 
-  -- The filled height of a cell is the greater of its level and its label's level.
+  -- The filled height of a cell is the greater of its level and its label's least crest.
   pub rims : (nodes : ℕ) (levels : List (Option ℤ)) (labels : List (Option ℕ)) →
       IsFlooded joins source nodes levels labels →
       (p : Place) (a : ℕ) (l : HasTileLevel t c floods p) → IsDataCell t p → number p ≡ Some a →

@@ -151,7 +151,7 @@ abbrev pub AddsNear : Flood → LeftOutJoins → CellLabel → ℕ → List Join
 AddsNear f out from near old new =
     AddsCovered old (joins_of out.sources from (mark_with 0 f near)) new
 
--- The join at a corner, if any, has been added; or none has, as a cell at an index bypasses it.
+-- The corner join, if any, has been added; or none has, as the cell below or beside bypasses it.
 abbrev pub AddsCorner : Flood → LeftOutJoins → CellLabel → ℕ → ℕ → ℕ → List Join → List Join →
     Type 0
 AddsCorner f out from below beside near old new =
@@ -233,21 +233,21 @@ pub record AreGathered (c : Cutting) (floods : List Flood) (out : LeftOutJoins)
       Meets (mark_among c floods) out p q j →
       IsLeftOut (mark_among c floods) out p q ⊎ Covered joins j
 
--- The joins to leave out over all tiles: if `spare`, two kinds that lower no level, else none.
+-- The joins left out over all tiles: if `spare`, two kinds that lower no filled height, else none.
 abbrev pub left_out_of : Bool → List Flood → LeftOutJoins
 left_out_of spare floods =
     record { sources = if spare then ends_of floods else []; bypassed = spare }
 
--- The joins to leave out inside a tile: if `spare`, two kinds that lower no level, else none.
+-- The joins left out inside a tile: if `spare`, two kinds that lower no filled height, else none.
 abbrev pub left_out_in : Bool → Flood → LeftOutJoins
 left_out_in spare f = record { sources = if spare then f.ends else []; bypassed = spare }
 
--- The joins inside a tile, by the indexes of their labels in its table.
+-- The joins inside a tile, except those left out, by the indexes of their labels in its table.
 abbrev pub IsInnerOf : Bool → Flood → List Join → Type 0
 IsInnerOf spare f joins =
     Adds (mark_in 0 f) (left_out_in spare f) (λ p q. IsInBounds f.bounds p) [] joins
 
--- The joins inside each tile.
+-- The joins inside each tile, except those left out.
 pub record AreInner (floods : List Flood) (spare : Bool)
     (inner : List (Vec Join Global)) : Type 0 where
   pub count : length inner ≡ length floods

@@ -64,7 +64,7 @@ abbrev pub AreNumberLevels : List (List Spill) → List (Option ℤ) → List (O
 AreNumberLevels arcs sources levels = (labels : List (Option ℕ))
     × IsFlooded (HasArc arcs) (source_number sources) (length arcs) levels labels
 
--- For each label its level in a flood or, where that is None, its height as a source.
+-- For each label its least crest in a flood or, where that is None, its height as a source.
 abbrev pub levels_or : List (Option ℤ) → List (Option ℤ) → List (Option ℤ)
 levels_or [] sources = []
 levels_or (height ∷ heights) [] = []
@@ -96,7 +96,7 @@ pub record IsNumberGraph (t : Terrain) (c : Cutting) (floods : List Flood)
       ⊎ IsBypassed (mark_among c floods) x.to x.from)
   pub joined_only : (a b : ℕ) (h : ℤ) → HasArc arcs a b h → IsNumberPass t c floods a b h
 
--- The levels are those of a spill graph of these floods.
+-- The list has the least crest of each label in a spill graph of these floods.
 pub record AreLabelLevels (t : Terrain) (c : Cutting) (floods : List Flood)
     (levels : List (Option ℤ))
     : Type 0 where

@@ -7,7 +7,7 @@ use Rattle.fill.specs.Gathering.{AreRising, turned}
 use Rattle.fill.specs.Spills.{Graph}
 use Rattle.fill.specs.declared.spills.Join.{Join}
 
--- The joins from this node or a later one begin at `start`.
+-- The joins that begin at nodes before this one are those before index `start`.
 pub record BeginAt (joins : List Join) (node start : ℕ) : Type 0 where
   pub few : start ≤ length joins
   pub below : (k : ℕ) (d : Join) → k < start → (slice_index_or joins k d).from < node

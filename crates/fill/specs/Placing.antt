@@ -24,7 +24,7 @@ IsPlacedOf nodes joins j = (k : Join) × Contains joins k
     × ((join_at nodes k).from ≢ (join_at nodes k).to)
     × ((j ≡ join_at nodes k) ⊎ (j ≡ turned (join_at nodes k)))
 
--- These joins, where the places of their labels differ, have been added by them in both directions.
+-- Those of these joins whose labels differ in place have been added, by place, in both directions.
 pub record AddsPlaced (nodes : List ℕ) (joins old new : List Join) : Type 0 where
   pub kept : (j : Join) → Contains old j → Contains new j
   pub only : (j : Join) → Contains new j → Contains old j ⊎ IsPlacedOf nodes joins j

@@ -1,4 +1,4 @@
--- Tiles whose cells are raised to the greater of their level and their label's level.
+-- Tiles whose cells are raised to the greater of their level and their label's least crest.
 -- Private.
 use Rattle.std.specs.Prelude.{◌≡◌, ℕ, ◌+◌, ℤ, List, length, Option, None, slice_index_or, option_and_then}
 use Rattle.terrain.specs.StoredCells.{cell_of}
@@ -10,26 +10,26 @@ use Rattle.fill.specs.Spills.{AreEntries, greater_of, level_among}
 use Rattle.fill.specs.declared.marks.CellLabel.{CellLabel}
 use Rattle.fill.specs.declared.raised_tiles.RaisedTile.{RaisedTile}
 
--- The level of a mark's label, by the list of all labels' levels.
+-- The least crest of a mark's label, by the list of all labels' least crests.
 abbrev pub spill_with : List (Option ℤ) → Option CellLabel → Option ℤ
 spill_with levels mark = option_and_then (λ m. slice_index_or levels m.node None) mark
 
--- The raised height of a place, by the flood of its tile and the levels of labels.
+-- The raised height of a place, by the flood of its tile and the least crests of labels.
 abbrev pub raised_among : Cutting → List Flood → List (Option ℤ) → Place → Option ℤ
 raised_among c floods levels p =
     greater_of (level_among c floods p) (spill_with levels (mark_among c floods p))
 
--- The level of the label at an index of a tile's table. The first entry has number `first`.
+-- The least crest of the label at an index of a tile's table, whose first entry has number `first`.
 abbrev pub spill_at : List (Option ℤ) → ℕ → List (Option Place) → ℕ → Option ℤ
 spill_at levels first places k =
     option_and_then (λ _. slice_index_or levels (first + k) None) (slice_index_or places k None)
 
--- The levels of these labels, as cells.
+-- The least crests of these labels, as cells.
 abbrev pub AreSpillCells : List (Option ℤ) → ℕ → List (Option Place) → List (Option ℤ) → Type 0
 AreSpillCells levels first places cells =
     AreEntries (λ k. cell_of (spill_at levels first places k)) (length places) cells
 
--- The tile has the levels of this flood, and those of its labels in the spill graph.
+-- The tile has the levels and label indexes of this flood, and the least crests of its labels.
 pub record IsRaisedTile (first : ℕ) (f : Flood) (levels : List (Option ℤ))
     (x : RaisedTile) : Type 0 where
   pub lawful : IsFlood f

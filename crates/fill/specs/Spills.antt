@@ -1,4 +1,4 @@
--- The spill graph of all tiles: how labels are joined, and the levels that they get.
+-- The spill graph of all tiles: how labels are joined, and the least crests that they get.
 -- Public.
 use Rattle.std.specs.Prelude.{◌≡◌, ◌≢◌, ℕ, ◌*◌, ◌<◌, ℤ, pos, ◌≤ℤ◌, List, length, Option, None, Some, MatchOption, slice_get, slice_index_or, option_and_then}
 use Rattle.std.specs.Int.{int_max}
@@ -98,22 +98,22 @@ abbrev pub AreLevelsOf : Graph → List (Option ℤ) → Type 0
 AreLevelsOf g levels =
     (labels : List (Option ℕ)) × IsFlooded (HasJoin g) (source_in g) g.nodes levels labels
 
--- The levels of the spill graph of these floods.
+-- The least crests of the walks from each node of the spill graph of these floods.
 abbrev pub AreSpillLevels : Terrain → Cutting → List Flood → List (Option ℤ) → Type 0
 AreSpillLevels t c floods levels = (g : Graph) × IsGraphOf t c floods g × AreLevelsOf g levels
 
--- The level of a label in the graph, None without a label.
+-- The least crest of a label in the graph, None without a label.
 abbrev pub spill_of : Cutting → List (Option ℤ) → Option Place → Option ℤ
 spill_of c levels label =
     option_and_then (λ p. slice_index_or levels (index_of c.cols p) None) label
 
--- The greater of two levels, None if one is missing.
+-- The greater of two heights, None if one is missing.
 abbrev pub greater_of : Option ℤ → Option ℤ → Option ℤ
 greater_of (Some level) (Some spill) = Some (int_max level spill)
 greater_of (Some level) None = None
 greater_of None spill = None
 
--- A cell's raised height: the greater of its level and its label's level, None if one is missing.
+-- A cell's raised height, the greater of its level and its label's least crest; None if either is.
 abbrev pub raised_by : Cutting → List (Option ℤ) → Option ℤ → Option Place → Option ℤ
 raised_by c levels level label = greater_of level (spill_of c levels label)
 
@@ -122,13 +122,13 @@ pub record AreEntries (entry : ℕ → Option ℤ) (count : ℕ) (list : List (O
   pub size : length list ≡ count
   pub each : (k : ℕ) → k < count → slice_index_or list k None ≡ entry k
 
--- The greater of each height and its label's level, None without one. `labels` indexes `spills`.
+-- The greater of each height and its entry of `spills`, None if that is; `labels` has the indexes.
 abbrev pub AreGreater : List ℤ → List ℕ → List (Option ℤ) → List (Option ℤ) → Type 0
 AreGreater heights labels spills raised =
     AreEntries (λ i. greater_of (Some (slice_index_or heights i (pos 0)))
     (slice_index_or spills (slice_index_or labels i 0) None)) (length heights) raised
 
--- Each cell of the tile is raised by these levels.
+-- Each cell of the tile is raised by these least crests of labels.
 pub record IsRaised (c : Cutting) (f : Flood) (levels : List (Option ℤ))
     (raised : List (Option ℤ)) : Type 0 where
   pub size : length raised ≡ length f.levels

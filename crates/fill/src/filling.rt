@@ -31,7 +31,7 @@ use tile_jobs::{Gate, JobFault, Work};
 use tile_maps::Runner;
 use tiles::Tiling;
 
-/// A tile's flood, and the joins inside the tile.
+/// A tile's flood, and the joins inside the tile, except those left out.
 #[derive(Drop)]
 struct FloodWithJoins {
     flood: TileFlood,
@@ -133,7 +133,7 @@ fn spill_graph(
     Ok(graph)
 }
 
-/// Returns the level of each label in the spill graph of the floods.
+/// Returns the least crest from each label to an end cell, by a flood of the spill graph.
 fn label_levels(
     alloc: Global,
     tiles: &NumberedFloods<'_>,

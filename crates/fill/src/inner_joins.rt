@@ -70,7 +70,7 @@ fn push_near(
 }
 
 /// Adds the join of two cells that touch at a corner, if there is one.
-/// With `bypassed`, leaves the join out if a path by one of the two cells between is as low.
+/// With `bypassed`, leaves the join out if the detour by one of the two cells between is as low.
 #[inline(always)]
 fn push_corner(
     table: &mut JoinTable,
@@ -148,7 +148,7 @@ fn are_equal_after(labels: &[u32], index: usize, width: usize) -> bool
         & (labels[below + 1] == label)
 }
 
-/// Adds the joins of a cell with its four later neighbours, all in the tile.
+/// Adds the joins of a cell with its four neighbours after it, all in the tile.
 /// Most cells have the label of all four, and so no join.
 #[inline(always)]
 fn push_inner_cell(
@@ -174,7 +174,7 @@ fn push_inner_cell(
     push_after(table, flood, left_out, index, from, width)
 }
 
-/// Adds the joins of a row's cells whose four later neighbours lie in the tile.
+/// Adds joins of a row's cells whose four neighbours after them lie in the tile.
 fn push_inner_cells(
     table: &mut JoinTable,
     flood: &TileFlood,
@@ -196,7 +196,7 @@ fn push_inner_cells(
     Ok(())
 }
 
-/// Adds the joins of the cells of a row with their later neighbours in the tile.
+/// Adds the joins of a row's cells with the neighbours after them in the tile.
 fn push_row(
     table: &mut JoinTable,
     flood: &TileFlood,

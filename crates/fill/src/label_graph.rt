@@ -77,7 +77,7 @@ impl Net for LabelGraph {
 }
 
 /// The least crest from each label to an end cell, by the labels' numbers.
-/// An end cell without a join has its own height as level.
+/// An end cell without a join has its own height as least crest.
 #[derive(Drop)]
 pub(crate) struct LabelLevels {
     sources: Vec<Cell>,
@@ -95,7 +95,7 @@ impl Model for LabelLevels {
 }
 
 impl LabelLevels {
-    /// Returns the level of a label.
+    /// Returns a label's least crest to an end cell; `None` if no walk leads to one.
     #[inline(always)]
     pub(crate) fn level(&self, number: usize) -> Option<Height>
         requires { number < length self.now }

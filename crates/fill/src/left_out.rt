@@ -9,9 +9,9 @@ use crate::spills::Join;
 use std::marker::Model;
 use terrain::Cell;
 
-/// The joins to leave out, since they lower no level.
+/// The joins to leave out, since they lower no filled height.
 /// These are the joins of two labels that have heights in `sources`. If `bypassed`, they include
-/// joins of cells that touch at a corner, where a path by a third cell is as low.
+/// joins of cells that touch at a corner, where the detour by a third cell is as low.
 #[derive(Drop)]
 pub(crate) struct LeftOut<'a> {
     /// The heights of end cells by label number; for other labels no data, or no entry.

@@ -1,22 +1,22 @@
 //! Filled heights: floods of tiles, the spill graph over them, and raising.
 //!
 //! Begin with [`filled`], which runs all stages. [`SpillGraph`] and [`raise`] run single stages, on
-//! the full graph; [`filled`] leaves out two kinds of joins that lower no level. The calls of
-//! `cell_floods` and `floods` that single stages need are exported here.
+//! the full graph; [`filled`] leaves out two kinds of joins that lower no filled height. The items
+//! of `cell_floods` and `floods` that single stages need are exported here.
 //!
-//! Modules: first `filling`, then the steps of `filled`, last those of the graph by places:
+//! Modules: first `filling`, then the parts of `filled`, last those of the graph by places:
 //!
 //! - `filling`: `filled`, which runs all stages
 //! - `numbers`: the numbers of labels, and the heights of end cells by number
 //! - `marks`: the level and the label of a cell
-//! - `left_out`: which joins are left out, since they lower no level
-//! - `rim_cells`: the joins of cells that have a later neighbour off the tile
+//! - `left_out`: which joins are left out, since they lower no filled height
+//! - `rim_cells`: the joins of cells that have a neighbour after them off the tile
 //! - `join_table`: the joins of one tile, by their labels
 //! - `inner_joins`: the joins inside a tile
 //! - `rim_joins`: the joins over a tile's rim
 //! - `gathering`: the joins of all tiles
 //! - `arcs`: the arcs from each label, as linked lists over one list of joins
-//! - `label_graph`: the spill graph by numbers of labels, and its levels
+//! - `label_graph`: the spill graph by numbers of labels, and its least crests
 //! - `raised_tiles`: the filled heights of each tile, by that graph
 //! - `placing`: joins by the places of their labels
 //! - `sources`: the heights of end cells by place

@@ -79,7 +79,7 @@ fn place_join(join: Join, nodes: &[u32]) -> Option<Join>
     Some(placed)
 }
 
-/// Returns these joins by the places of their labels, each in both directions.
+/// Returns these joins by place, in both directions, without those of one place.
 pub(crate) fn placed_joins(
     alloc: Global,
     joins: &[Join],

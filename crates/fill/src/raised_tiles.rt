@@ -16,12 +16,12 @@ use terrain::{Cell, Height, NoMemory, Place};
 use tile_maps::TileMap;
 use tiles::Tiling;
 
-/// A tile's levels, and the level in the spill graph of each label of its table.
+/// A tile's levels, and the least crests in the spill graph of its table's labels.
 #[derive(Drop)]
 struct RaisedTile<'a> {
     heights: &'a [Height],
     labels: &'a [u32],
-    /// The level of each label as a cell, without data if it has none.
+    /// The least crest of each label as a cell, without data if it has none.
     spills: Vec<Cell>,
 }
 
@@ -36,7 +36,7 @@ fn cell(height: Option<Height>) -> Cell
     }
 }
 
-/// Returns the level of a label as a cell, without data if `label` is `None`.
+/// Returns the least crest of a label as a cell, without data if `label` is `None`.
 #[inline(always)]
 fn spill_cell(levels: &LabelLevels, number: usize, label: Option<Place>) -> Cell
     requires { number < length levels.now }
@@ -49,7 +49,7 @@ fn spill_cell(levels: &LabelLevels, number: usize, label: Option<Place>) -> Cell
     }
 }
 
-/// Returns the levels of these labels as cells; `places[0]` has number `first`.
+/// Returns these labels' least crests as cells; `places[0]` has number `first`.
 fn spill_cells(
     alloc: Global,
     levels: &LabelLevels,
@@ -68,7 +68,7 @@ fn spill_cells(
 }
 
 impl<'a> RaisedTile<'a> {
-    /// Makes a raised tile from its flood and the levels of the spill graph.
+    /// Makes a raised tile from its flood and the least crests of the spill graph.
     /// The first entry of the tile's table has number `first`.
     fn new(
         alloc: Global,
@@ -119,7 +119,7 @@ impl<'a> RaisedTile<'a> {
     }
 }
 
-/// The map of filled heights, from the floods and the levels of the spill graph.
+/// The map of filled heights, by the floods and least crests of the spill graph.
 #[derive(Drop)]
 pub(crate) struct RaisedTiles {
     pub(crate) tiling: Tiling,

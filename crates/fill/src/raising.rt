@@ -1,6 +1,6 @@
 //! The filled heights of a tile: [`raise`].
 //!
-//! A filled height is the greater of the cell's level and its label's level in the spill graph.
+//! A filled height is the greater of a cell's level and its label's least crest in the spill graph.
 ghost use Rattle.std.specs.Prelude.{◌≡◌, ◌*◌, ◌<◌, ℕ, ℤ, List, Option, None, Some, length, map, slice_get, slice_index_or, IfOk, IfSome};
 ghost use Rattle.std.specs.List.{All};
 ghost use Rattle.terrain.specs.Raster.{Terrain};
@@ -15,7 +15,7 @@ use std::alloc::{AllocError, Global};
 use terrain::{Height, NoMemory, Place};
 use tiles::Tiling;
 
-/// Returns the level of a label in the spill graph, `None` without a label.
+/// Returns the least crest of a label in the spill graph, `None` without a label.
 #[inline(always)]
 fn spill(tiling: &Tiling, levels: &[Option<Height>], label: Option<Place>) -> Option<Height>
     requires size { length levels.now ≡ tiling.now.cols * tiling.now.rows }
@@ -26,7 +26,7 @@ fn spill(tiling: &Tiling, levels: &[Option<Height>], label: Option<Place>) -> Op
     levels[node_of(tiling, label) as usize]
 }
 
-/// Returns the levels of these labels in the spill graph.
+/// Returns the least crests of these labels in the spill graph.
 fn spills_of(
     alloc: Global,
     tiling: &Tiling,
@@ -44,7 +44,7 @@ fn spills_of(
     Ok(spills)
 }
 
-/// Returns the greater of a cell's level and its label's, `None` without the latter.
+/// Returns the greater of a level and its label's least crest; `None` if that is.
 #[inline(always)]
 fn greater(height: Height, spill: Option<Height>) -> Option<Height>
     ensures { result ≡ greater_of (Some height) spill }
@@ -55,8 +55,8 @@ fn greater(height: Height, spill: Option<Height>) -> Option<Height>
     }
 }
 
-/// Returns the greater of each cell's level and its label's level.
-/// `labels` has, for each cell, the index in `spills` of its label's level.
+/// Returns the greater of each cell's level and its label's least crest.
+/// `labels` has, for each cell, the index in `spills` of its label's least crest.
 fn greater_levels(
     alloc: Global,
     heights: &[Height],
@@ -118,7 +118,7 @@ pub fn raise(
     requires labels { LabelsInside tiling.now flood.now }
     ensures raised { IfOk result (λ v. IsRaised tiling.now flood.now levels.now v.items) }
 
-    // The levels of the spill graph raise a tile to its filled heights.
+    // The least crests of the spill graph raise a tile to its filled heights.
     ensures filled { IfOk result (λ v. (t : Terrain) (floods : List Flood) (tile : ℕ) →
         AreFloods t tiling.now floods → slice_get floods tile ≡ Some flood.now →
         AreSpillLevels t tiling.now floods levels.now → IsFilledTile t tiling.now tile v.items) }

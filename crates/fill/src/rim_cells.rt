@@ -1,4 +1,4 @@
-//! The joins of cells that have a later neighbour off the tile: [`push_rim_cells`].
+//! The joins of cells with a neighbour after them off the tile: [`push_rim_cells`].
 //!
 //! A [`MarkedCells`] has the marks of cells, and selects the cells to join with.
 ghost use Rattle.std.specs.Prelude.{◌≡◌, ◌+◌, ◌<◌, ◌≤◌, ◌∷◌, [], List, Bool, Some, true, OnOk};
@@ -58,7 +58,7 @@ pub(crate) fn push_join<J: JoinList>(
 
 /// Adds the join of a cell with its neighbour in direction `way`, if wanted.
 /// `way` is 0 for E, 1 for SE, 2 for S or 3 for SW; `below` is the mark to the south.
-/// With `bypassed`, leaves out the join at a corner if a path by a cell between is as low.
+/// With `bypassed`, leaves out the join at a corner if the detour by a cell between is as low.
 #[inline(always)]
 fn push_on_way<C: MarkedCells, J: JoinList>(
     joins: &mut J,
@@ -129,7 +129,7 @@ fn push_cell<C: MarkedCells, J: JoinList>(
     Ok(())
 }
 
-/// Adds the wanted joins of all cells of a row with their later neighbours.
+/// Adds the wanted joins of all cells of a row with the neighbours after them.
 fn push_row<C: MarkedCells, J: JoinList>(
     joins: &mut J,
     cells: &C,
@@ -149,7 +149,7 @@ fn push_row<C: MarkedCells, J: JoinList>(
     Ok(())
 }
 
-/// Adds the wanted joins of a row's cells that have a later neighbour off the tile.
+/// Adds the wanted joins of a row's cells with a neighbour after them off the tile.
 /// These are all cells of the tile's last row, and the first and last cell of any other row.
 pub(crate) fn push_rim_cells<C: MarkedCells, J: JoinList>(
     joins: &mut J,

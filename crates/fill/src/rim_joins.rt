@@ -97,7 +97,7 @@ impl<'a> CellsAround<'a> {
     }
 
     /// Returns the tile of a place of the grid.
-    /// Near this tile, where all later neighbours of its cells lie, it does not divide.
+    /// Near this tile, where all neighbours after its cells lie, it does not divide.
     #[inline(always)]
     fn tile_of(&self, place: Place) -> u32
         requires { IsWithin self.now.tiles.now.tiling.now place }
@@ -152,7 +152,7 @@ impl JoinList for Vec<Join> {
     }
 }
 
-/// Adds the joins of a tile with later cells of other tiles, except those left out.
+/// Adds joins of a tile's cells to cells after them off it, except those left out.
 pub(crate) fn push_rim_joins(
     joins: &mut Vec<Join>,
     tiles: &NumberedFloods<'_>,

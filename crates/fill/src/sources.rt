@@ -1,6 +1,6 @@
 //! The sources of the spill graph by places: labels that are end cells.
 //!
-//! Each flood has the heights of its own such labels. [`label_sources`] writes all into one list.
+//! Each flood has the heights of its own sources. [`label_sources`] writes all into one list.
 ghost use Rattle.std.specs.Prelude.{◌≡◌, ◌*◌, IfOk, IfSome, length};
 ghost use Rattle.tiles.specs.Cutting.{IsCutting, IsWithin};
 ghost use Rattle.terrain.specs.Raster.{Terrain};

@@ -82,7 +82,7 @@ impl Model for SpillGraph {
         × IsGraph (graph_with g.tiling g.joins.items g.sources.items) };
 }
 
-/// Returns the index of the first join that begins at this node or a later one.
+/// Returns the index past the joins that begin at nodes before this one.
 fn first_from(joins: &[Join], node: u32) -> usize
     requires { AreRising joins.now }
     ensures { BeginAt joins.now node result }
@@ -213,7 +213,7 @@ impl SpillGraph {
     }
 
     /// Returns the least crest from each label to an end cell.
-    /// The list is in row order of the grid, with `None` at a place that is no label.
+    /// The list is in row order of the grid; a place without a walk to an end cell has `None`.
     ///
     /// # Errors
     ///

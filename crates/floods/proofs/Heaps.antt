@@ -1,4 +1,4 @@
--- The invariant of a flood, and the entries of the queue after each pop and push.
+-- The invariant of a flood, the queue's entries after a pop or push, and sources queued and noted.
 use Rattle.std.proofs.Common.{[], ◌≡◌, ℕ, ◌<◌, ◌≤◌, ◌⊎◌, ℤ, List, length, Option, None, Some, IsSome, zero, suc, ◌+◌, ◌∷◌, get_or, set, replicate, ◌≤ℤ◌, sym, ap, subst, refl, ◌∙◌, arith, inl, inr}
 use Rattle.std.specs.Int.{int_max}
 use Rattle.std.specs.List.{Contains, All}
@@ -33,7 +33,7 @@ pub record IsFlooding (joins : Joins) (source : Sources) (nodes : ℕ) (levels :
   pub frontier : (a b : ℕ) (l h : ℤ) → a < nodes → joins a b h → IsSome (entry_of labels b) →
       entry_of levels b ≡ Some l → entry_of labels a ≡ None → HasCandidate waiting a (int_max h l)
 
--- Only entries with labels left the queue, and none was added.
+-- Only entries of nodes with labels left the queue, and none was added.
 pub record OnlyDoneLeft (labels : List (Option ℕ)) (old new : List Candidate) : Type 0 where
   pub left : All (Contains old) new
   pub kept : All (λ x. IsDone labels x ⊎ Contains new x) old
@@ -119,7 +119,7 @@ first_open labels old now rest x s perm bound is_open =
           ]);
     }
 
--- If only entries with labels left the queue and it is empty, all its old entries have labels.
+-- If only entries of nodes with labels left and the queue is empty, all old entries were such.
 pub all_done : (labels : List (Option ℕ)) (old now : List Candidate) → OnlyDoneLeft labels old now →
     HasNone now → All (IsDone labels) old
 all_done labels old now s none = all_by_contains (IsDone labels) old (λ y h.

@@ -1,4 +1,4 @@
--- Neighbours queued one by one, and the levels noted for them.
+-- Neighbours queued one by one and the levels noted for them; lists written over and mapped.
 use Rattle.std.proofs.Common.{◌≡◌, ℕ, ◌<◌, List, [], ◌∷◌, ◌++◌, length, get_or, set, map, take, drop, ℤ, ◌≤ℤ◌, Option, None, Some, IsSome, ◌+◌, sym, ap, subst, refl, ◌∙◌, arith, ◌⊎◌, inl, inr, to_z, of_z}
 use Rattle.std.specs.Int.{int_max}
 use Rattle.std.specs.Int.Signed.{≤ℤ_refl}
@@ -48,7 +48,7 @@ passed_low labels levels from arc waiting h s noted low = passed labels from arc
     let x = s.queue arc.to h none noted in
     (x.0, x.1, x.2, trans _ _ _ x.3 low))
 
--- A neighbour is queued.
+-- Where the neighbour's entry by an arc was added to the queue, the arc was followed (`Queues`).
 pub neighbour_queued : (labels : List (Option ℕ)) (from : Candidate) (arc : Spill) (old new :
     List Candidate) → PutsIn (candidate_by from arc) old new → Queues labels from (arc ∷ []) old new
 neighbour_queued labels from arc old new perm = record {
@@ -72,7 +72,7 @@ neighbour_queued labels from arc old new perm = record {
     ≤ℤ_refl _,
   )
 
--- The crest of a queued neighbour is noted as its level.
+-- `AreNoted` is kept when a neighbour is queued and its crest by the arc becomes its level.
 pub noted : (labels : List (Option ℕ))
     (levels : List (Option ℤ)) (from : Candidate) (arc : Spill) (old new : List Candidate) →
     arc.to < length labels → AreNoted labels levels old → PutsIn (candidate_by from arc) old new →
@@ -99,7 +99,7 @@ noted labels levels from arc old new below s perm = record {
   crest : ℤ
   crest = int_max arc.height from.height.0
 
--- `AreOwn` is kept: a crest below the level of a source is below the source's height.
+-- `AreOwn` is kept when a neighbour without a label is queued at a crest below any level it has.
 pub own_by_arc : (source : Sources) (labels : List (Option ℕ))
     (levels : List (Option ℤ)) (from : Candidate) (arc : Spill) (old new : List Candidate) →
     arc.to < length labels → length levels ≡ length labels → entry_of labels arc.to ≡ None →
@@ -143,7 +143,7 @@ keeps_done labels levels a level none = λ b done. elim (cases_eq b a) [
   | inr n ↦ get_or-set_other levels a b level None n
 ]
 
--- The crest, computed with numbers of 64 bits, is the greater of height and level.
+-- If all three fit in 64 bits, the crest computed in 64 bits is the greater of height and level.
 pub kept_crest : (height level greater : ℤ) → SFits height_width height →
     SFits height_width level → SFits height_width greater → greater ≡ int_max
     (to_z height_width (of_z height_width height)) (to_z height_width (of_z height_width level)) →
@@ -227,7 +227,7 @@ pub written_back : {X : Type 0} (n : ℕ) (xs items : List X) → length xs ≡ 
 written_back n xs items e = subst (λ k. take k (xs ++ drop (length xs) items)
     ≡ xs) e (take-append_seam xs (drop (length xs) items))
 
--- One more element of a mapped list.
+-- The first i elements, mapped, with the next one mapped at the end are the first i + 1, mapped.
 pub mapped_more : {X Y : Type 0} (f : X → Y) (xs : List X) (i : ℕ) (d : X) (now next : List Y)
     (y : Y) → i < length xs → now ≡ map f (take i xs) → next ≡ now ++ y ∷ [] →
     y ≡ f (get_or xs i d) → next ≡ map f (take (i + 1) xs)

@@ -1,4 +1,4 @@
--- Adding and taking keep the queue in order.
+-- Adding and taking keep the queue in order; an entry taken is a lowest one.
 use Rattle.std.proofs.Common.{◌≡◌, ℕ, zero, suc, ◌<◌, ◌≤◌, false, List, [], ◌∷◌, ◌++◌, length, get_or, set, replicate, Option, None, Some, ℤ, pos, ◌+ℤ◌, ◌≤ℤ◌, Vec, ap, sym, subst, ◌∙◌, arith, inl, inr}
 use Rattle.std.specs.List.{Contains, All, flat_map}
 use Rattle.std.specs.Option.{IfSome, IfNone, option_to_list}
@@ -52,7 +52,7 @@ in_lists (l ∷ lists) zero x h = Contains-append_left l (flat_map (λ l. l) lis
 in_lists (l ∷ lists) (suc k) x h =
     Contains-append_right l (flat_map (λ l. l) lists) x (in_lists lists k x h)
 
--- An entry pushed to one list is one more entry of all lists.
+-- An entry pushed to one list is one more among the entries of all lists together.
 one_more : {X : Type 0} (x : X) (lists : List (List X)) (k : ℕ) (old new : List X) →
     k < length lists → new ≡ old ++ x ∷ [] →
     IsPermutation (x ∷ flat_map (λ l. l) (set lists k old)) (flat_map (λ l. l) (set lists k new))
@@ -175,7 +175,7 @@ pop_taken k (Some w) lists l others inside is =
     (subst (λ (z : List (List Candidate)). IsPermutation (w ∷ flat_map (λ l. l) (set lists k l))
     (flat_map (λ l. l) z)) (set-get_or lists k []) more)
 
--- A height at most all heights of the heap and of the lists is at most all entries.
+-- A height at most those of the heap's entries and of lists `first..end` is at most each entry's.
 pub is_lowest : (base level : ℤ) (first end : ℕ) (lists : List (List Candidate))
     (others : List Candidate) → ((k : ℕ) → All (IsListed base first end k) (get_or lists k [])) →
     ((k : ℕ) → first ≤ k → k < end → level ≤ℤ (base +ℤ pos k)) → All (λ x.
@@ -206,7 +206,7 @@ pub where_none : {X P : Type 0} (r : Option X) → P → IfNone r P
 where_none None h = h
 where_none (Some x) h = tt
 
--- If `end` is at most `first`, the order holds for any base and heap, with `first` and `end` 0.
+-- If `end` is at most `first`, the order holds for any base and ordered heap, `first` and `end` 0.
 pub base_moved : (base level : ℤ) (first end : ℕ) (lists : List (List Candidate))
     (old new : List Candidate) → AreOrdered base first end lists old → end ≤ first →
     IsHeap candidate_order new → AreOrdered level 0 0 lists new

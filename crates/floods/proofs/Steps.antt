@@ -1,4 +1,4 @@
--- The steps of a flood keep its invariant; at the end each node has its level.
+-- A flood keeps its invariant as nodes are taken; at the end each node with a walk has its level.
 use Rattle.std.proofs.Common.{◌≡◌, ◌≢◌, ℕ, ◌<◌, List, [], ◌∷◌, length, set, replicate, ℤ, pos, ◌≤ℤ◌, Option, None, Some, is_some, IsSome, unwrap_or, sym, ap, subst, refl, ◌∙◌, arith, ◌⊎◌, inl, inr}
 use Rattle.std.specs.Int.{int_max}
 use Rattle.std.specs.List.{Contains, All}
@@ -18,7 +18,7 @@ use Rattle.floods.proofs.Heaps.{HasWalk, IsFlooding, all_by_contains, replicated
 max_below : (h x y : ℤ) → x ≤ℤ y → int_max h x ≤ℤ int_max h y
 max_below h x y e = omega (arith, ints, clamps)
 
--- If a node without a label has a walk, an entry without a label is at most at the walk's crest.
+-- If an unlabelled node has a walk, some unlabelled node's entry is at most at the walk's crest.
 pub open_walk : (joins : Joins) (source : Sources) (nodes : ℕ) (levels : List (Option ℤ))
     (labels : List (Option ℕ)) (waiting : List Candidate) → ((a b : ℕ) (h : ℤ) → joins a b h →
     b < nodes) → IsFlooding joins source nodes levels labels waiting → (walk : List Spill) (a : ℕ) →
@@ -55,7 +55,7 @@ open_walk joins source nodes levels labels waiting inside s (step ∷ rest) a be
           )
     ]
 
--- The lowest entry without a label is no higher than the crest of any walk from its node.
+-- The lowest entry of nodes without labels is no higher than the crest of any walk from its node.
 pub lowest_is_least : (joins : Joins) (source : Sources) (nodes : ℕ) (levels : List (Option ℤ))
     (labels : List (Option ℕ)) (old new : List Candidate) (w : Candidate) →
     ((a b : ℕ) (h : ℤ) → joins a b h → b < nodes) →
@@ -71,7 +71,7 @@ lowest_is_least joins source nodes levels labels old new w inside s t walk is_wa
       | inr low ↦ trans _ _ _ low found.3
     ]
 
--- If all entries have labels, a node without one has no walk.
+-- If the nodes of all entries have labels, a node without a label has no walk.
 pub no_walk : (joins : Joins) (source : Sources) (nodes : ℕ) (levels : List (Option ℤ))
     (labels : List (Option ℕ)) (waiting : List Candidate) → ((a b : ℕ) (h : ℤ) → joins a b h →
     b < nodes) → IsFlooding joins source nodes levels labels waiting → All (IsDone labels) waiting →
@@ -82,7 +82,7 @@ no_walk joins source nodes levels labels waiting inside s all a below none walk 
     none_done (entry_of labels found.0.node) found.2
     (All-contains (IsDone labels) waiting found.0 all found.1)
 
--- If all entries have labels, a node without one has no level.
+-- If the nodes of all entries have labels, a node without a label has no level.
 pub none_left : (labels : List (Option ℕ)) (levels : List (Option ℤ)) (waiting : List Candidate)
     (a : ℕ) → AreNoted labels levels waiting → All (IsDone labels) waiting →
     entry_of labels a ≡ None → entry_of levels a ≡ None

@@ -1,4 +1,4 @@
--- The queue of a flood, and how each step changes queue, levels and labels.
+-- The queue of a flood, and what taking a node and following its arcs change in queue and levels.
 -- Public.
 use Rattle.std.specs.Prelude.{◌≡◌, ℕ, ◌<◌, ◌≤◌, ◌⊎◌, ℤ, pos, ◌+ℤ◌, ◌≤ℤ◌, List, [], ◌∷◌, ◌++◌, map, length, Option, None, Some, IsSome, slice_index_or}
 use Rattle.std.specs.Ordering.{int_cmp}
@@ -62,7 +62,7 @@ entry_of xs a = slice_index_or xs a None
 abbrev pub IsDone : List (Option ℕ) → Candidate → Type 0
 IsDone labels w = IsSome (entry_of labels w.node)
 
--- Entry w is a lowest one without a label. At most w and entries with labels left, none was added.
+-- w is a lowest entry of unlabelled nodes. None is new; at most w and labelled nodes' are gone.
 pub record TakesLowest (labels : List (Option ℕ)) (old : List Candidate) (w : Candidate)
     (new : List Candidate) : Type 0 where
   pub was_open : entry_of labels w.node ≡ None

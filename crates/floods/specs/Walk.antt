@@ -10,7 +10,7 @@ use Rattle.floods.specs.declared.net.Spill.{Spill}
 abbrev pub Joins : Type 1
 Joins = ℕ → ℕ → ℤ → Type 0
 
--- Sources: the height of a source, None of another node.
+-- Sources: the height of a source, None for any other node.
 abbrev pub Sources : Type 0
 Sources = ℕ → Option ℤ
 
@@ -18,7 +18,7 @@ Sources = ℕ → Option ℤ
 abbrev pub HasNoSource : Sources → ℕ → ℕ → Type 0
 HasNoSource source first end = (a : ℕ) → first ≤ a → a < end → source a ≡ None
 
--- The steps are a walk from node a: each leads to a joined node at the join's spill height, and
+-- The arcs are a walk from node a: each leads to a joined node at the join's spill height, and
 -- the last node is a source.
 abbrev pub IsWalk : Joins → Sources → ℕ → List Spill → Type 0
 IsWalk joins source a [] = IsSome (source a)

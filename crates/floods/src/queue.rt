@@ -163,7 +163,7 @@ impl Queue {
         self.lists_below(height)
     }
 
-    /// Takes a lowest entry of the heap. If `end <= first`, its height becomes `base`.
+    /// Takes a lowest entry of the heap, if any. If `end <= first`, its height becomes `base`.
     #[inline]
     fn pop_heap(&mut self) -> Option<Candidate>
         requires order { InOrder self.old }

@@ -90,7 +90,7 @@ index_at cols n gauges k i d e below same read =
     read ∙ ap (λ m. index_of m (get_or gauges k d)) same
     ∙ ap (λ (q : Place). index_of cols q) (get_or_default gauges k d e below)
 
--- The number among k + 1 gauges is that among k, or else k + 1 if gauge k has index i.
+-- The number of index i among k + 1 gauges is that among k, or else k + 1 if gauge k has index i.
 pub number_next : (cols : ℕ) (gauges : List Place) (k i : ℕ) (d : Place) → k < length gauges →
     number_of_index cols (take (k + 1) gauges) i ≡ option_or (number_of_index cols
     (take k gauges) i) (cond (index_of cols (get_or gauges k d) == i) (Some (k + 1)) None)

@@ -124,7 +124,7 @@ position_below p i (x ∷ xs) = elim (cases_Bool (p x)) [
       (arith, e, ap (λ (k : ℕ). unwrap_or (position_from p k xs) 0) z, position_below p (suc i) xs)
 ]
 
--- A map of directions in which gauges are outlets.
+-- A map of directions, and the cut map: the one with gauges made outlets.
 module _ (d : Directed) (s : IsEnding d)
     (gauges : List Place) (codes : List (Option ℕ)) (coded : HaveCodes d.cols d.rows d.codes gauges)
     (cut : AreCutCodes d.cols d.rows d.codes gauges codes) where
@@ -224,7 +224,7 @@ module _ (d : Directed) (s : IsEnding d)
       agree q there is (coded_gauge there
       (list_any_at (is_place there) gauges k g below (is_place_from there there refl)))))
 
-  -- If `values` maps the numbers of ends in the cut map, it maps the catchments.
+  -- If `values` has the gauge number of each path's end in the cut map, it has the catchments.
   pub catchments_are : (n : EndNumbers) → ((i : ℕ) →
       n.number i ≡ unwrap_or (number_of_index d.cols gauges i) 0) → (values : List (Option ℕ)) →
       IsMapOf cut_d (end_number cut_d n) values → IsMapOf d (catchment d gauges) values

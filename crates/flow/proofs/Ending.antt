@@ -136,7 +136,7 @@ sum_of_next : (f : ℕ → ℕ) (n : ℕ) → sum_below (λ k. f (suc k)) n + f 
 sum_of_next f zero = refl
 sum_of_next f (suc n) = omega (arith, sum_of_next f n)
 
--- A move leaves one move less.
+-- A move from a node that is no end leaves one move less.
 pub moves_fall : (links : List ℕ) → AreStreams links → (i : ℕ) → i < length links →
     onward links i ≢ i → moves_left links (onward links i) + 1 ≡ moves_left links i
 moves_fall links s i h on =
@@ -174,7 +174,7 @@ marks_fall links ends i last s f h unknown known =
       )
     ]
 
--- A list of ends with one more end noted.
+-- If each known end is right, noting the end of one more node keeps them right.
 pub found_more : (links ends : List ℕ) (node end : ℕ) → AreFound links ends → node < length links →
     end ≡ end_of links node → AreFound links (set ends node end)
 found_more links ends node end f h e = record {

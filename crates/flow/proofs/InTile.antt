@@ -16,7 +16,7 @@ use Rattle.flow.proofs.Ending.{IsStop, inside_along, streams_from, early_end, no
 use Rattle.flow.proofs.Coded.{IsCoded, cases_coded, none_stays, outlet_stays, coded_inside, coded_along, outlet_from_stays}
 use Rattle.flow.proofs.Windows.{all_in_range}
 
--- The index of the next cell downstream, or i if the water stays or leaves the tile.
+-- The index of the next cell downstream, or i if none is in the tile.
 abbrev pub link_in : Directed → Bounds → ℕ → ℕ
 link_in d b i =
     if is_in_bounds b (next d (place_in b i)) then index_in b (next d (place_in b i)) else i

@@ -152,7 +152,7 @@ module _ (d : Directed) (s : IsEnding d) where
         ]
 
     module _ (q : Place) (is : IsCoded d q) where
-      -- No place is reached by a path both without leaving the region and after entering it.
+      -- A path that has left the region returns to no place of it where the path was before.
       no_return : (f k a m : ℕ) → ((l : ℕ) → f ≤ l → l ≤ k → In (follow d q l)) → f ≤ k → f ≤ a →
           (In (follow d q a) → ⊥) → a < m → follow d q k ≡ follow d q m → ⊥
       no_return f k a m way some from out lt same = elim (cases_lt k a) [
@@ -178,7 +178,7 @@ module _ (d : Directed) (s : IsEnding d) where
         ]
       ]
 
-  -- A path that reaches p by its last move.
+  -- A path whose last move reaches p from another place enters the region of p alone.
   abbrev pub one_move : (q p : Place) (a : ℕ) → follow d q (suc a) ≡ p → follow d q a ≢ p →
       EntersRegion (λ z. z ≡ p) q (suc a)
   one_move q p a leads apart = record {

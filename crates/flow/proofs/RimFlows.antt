@@ -362,7 +362,7 @@ module _ (d : Directed) (t : Cutting) (flows : List Flow) (s : AreFlowsOf d t fl
         (is_outlet_code (entry_in f.flow.bounds f.flow.codes e)) None (Some e)) o) m) ∙ x)))
   ]
 
-  -- Rim number i has a next exit, `to`, and is linked to its number.
+  -- Rim number i has a next exit into another tile, `to`, and is linked to its number.
   pub record Goes (i : ℕ) : Type 0 where
     pub to : Place
     pub crosses : Crosses to

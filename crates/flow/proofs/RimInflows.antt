@@ -186,7 +186,7 @@ module _ (d : Directed) (t : Cutting) (flows : List Flow) (s : AreFlowsOf d t fl
   module _ (links weights upstream : List ℕ) (targets : List (Option Place))
       (asked : targets ≡ targets_by t flows) (made : links ≡ rim_links_by t flows)
       (weighed : weights ≡ rim_weights_by t flows) (up : AreUpstream links weights upstream) where
-    -- Each exit sends to its target the number of all cells that drain through its cell.
+    -- Each rim number sends to its target the number of all cells that drain through its cell.
     sends : (k i : ℕ) → i < number_count t → entering t targets weights upstream k i
         ≡ sent_to t k (target_by t flows i) (all_drained d (rim_place t i))
     sends k i h =

@@ -1,4 +1,4 @@
--- The number of cells that drain through an exit is its total along the links of exits.
+-- The number of cells that drain through an exit into another tile is its total along links.
 use Rattle.std.proofs.Common.{◌≡◌, ◌≢◌, ℕ, suc, ◌+◌, ◌-◌, ◌*◌, ◌<◌, ◌≤◌, ◌⊎◌, inl, inr, true, false, cond, ◌&&◌, eqb, List, length, get_or, Option, None, Some, is_some, sym, ap, subst, refl, ◌∙◌, arith, unwrap_or}
 use Rattle.std.specs.Option.{option_and_then}
 use Rattle.std.proofs.lemmas.Option.{none-some, MatchOption-at_some}
@@ -50,7 +50,7 @@ module _ (d : Directed) (t : Cutting) (flows : List Flow) (s : AreFlowsOf d t fl
     ]
   ]
 
-  -- The weight of an exit is the number of cells of its own tile that it drains.
+  -- An exit's weight is how many cells' paths reach it without leaving its tile, itself included.
   pub weight_targeted : (j : ℕ) (q : Place) → target_by t flows j ≡ Some q →
       rim_weight t flows j ≡ all_drained_inside d t (rim_place t j)
   weight_targeted j q e =
@@ -103,7 +103,7 @@ module _ (d : Directed) (t : Cutting) (flows : List Flow) (s : AreFlowsOf d t fl
         ∙ ap (number_or t (rim_number t e)) (x.1.out
         ∙ cond-false {A = Option Place} _ None (Some x.0) (not_outlet d t flows s x.0 to))
 
-    -- A cell's water reaches an exit from inside its tile, or by one exit that is linked to it.
+    -- Water of a cell that reaches exit i does so inside its tile, or by one exit linked to it.
     module _ (i : ℕ) (q : Place) (target : target_by t flows i ≡ Some q) (c : Place)
         (is : IsCoded d c) where
       abbrev In : Place → Type 0
@@ -269,7 +269,7 @@ module _ (d : Directed) (t : Cutting) (flows : List Flow) (s : AreFlowsOf d t fl
     abbrev over : ℕ → ℕ → ℕ → ℕ
     over i c j = cond {A = ℕ} (leads_to links j i) (drained d (rim_place t j) (cell d c)) 0
 
-    -- All cells that drain through exit i: those of its tile, and those by exits linked to it.
+    -- As many cells drain through exit i as reach it inside its tile or by exits linked to it.
     tallied : (i : ℕ) (q : Place) → target_by t flows i ≡ Some q →
         all_drained d (rim_place t i) ≡ all_drained_inside d t (rim_place t i)
         + upstream_sum links (λ j. all_drained d (rim_place t j)) i

@@ -68,7 +68,7 @@ added_at xs k v i h = elim (cases_eq k i) [
   )
 ]
 
--- The state before any node has sent, and the state after all have.
+-- Bounds on sums while nodes send; the state before any node has sent, and after all have.
 
 part_le : (a b : Bool) (n : ℕ) → cond {A = ℕ} (a && b) n 0 ≤ cond {A = ℕ} a n 0
 part_le true true n = omega arith
@@ -165,7 +165,7 @@ donors_begin links weights waits upstream few d none =
 
 -- One node sends its sum.
 
--- How counts and sums change when a node sends, or is an end.
+-- How counts and sums change as a node sends. An end is marked, and nothing else changes.
 pub record MovesOn (links weights waits upstream new_waits new_upstream : List ℕ) (node : ℕ) :
     Type 0 where
   pub waits_size : length new_waits ≡ length waits

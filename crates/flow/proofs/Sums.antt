@@ -95,13 +95,13 @@ exchange f zero m = sym (sum_below-none (λ j. 0) m (λ j h. refl))
 exchange f (suc n) m = ap (λ k. k + sum_below (f n) m) (exchange f n m)
     ∙ sym (sum_below-add (λ j. sum_below (λ i. f i j) n) (f n) m)
 
--- A sum with at most one term above 0 is that term.
+-- If all terms but term i are 0, the sum is term i.
 pub one_term : (f : ℕ → ℕ) (n i : ℕ) → i < n → ((j : ℕ) → j < n → j ≢ i → f j ≡ 0) →
     sum_below f n ≡ f i
 one_term f n i h none =
     omega (arith, sum_below-except f (λ _. 0) n i h none, sum_below-none (λ _. 0) n (λ j l. refl))
 
--- A condition on a sum is a condition on each term.
+-- The sum if b is true, else 0, is the sum of the terms, each taken if b is true, else 0.
 pub cond-sum : (b : Bool) (f : ℕ → ℕ) (n : ℕ) →
     cond {A = ℕ} b (sum_below f n) 0 ≡ sum_below (λ c. cond {A = ℕ} b (f c) 0) n
 cond-sum true f n = refl

@@ -268,7 +268,7 @@ module _ (d : Directed) (e : IsEnding d) (t : Cutting) (tile : ℕ) (b : Bounds)
     );
   }
 
-  -- Without the inflows, totals count the cell itself and the cells upstream in the tile.
+  -- Without inflows, totals count the cells whose paths reach a cell in the tile, itself included.
   pub own_totals : (weights : List ℕ) → AreTileWeights d b weights →
       AreTotals links weights (λ i. all_drained_inside d t (place_in b i))
   own_totals weights weighed = record {

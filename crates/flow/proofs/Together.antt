@@ -44,7 +44,7 @@ pub drained_coded : (d : Drained) → IsDraining d → (p : Place) → IsDataCel
     IsCoded (directed_of d) p
 drained_coded d draining p is = coded_from_some (directed_of d) p (draining.same_data p ∙ is)
 
--- A property of all lists with a result for each job holds of the list that the jobs return.
+-- If Q holds of every list of results that jobs may give by P, it holds of the list returned.
 pub jobs_gave : {X E : Type 0} (P : ℕ → X → Type 0) (r : Result (Vec X Global) E) (n m : ℕ)
     (Q : List X → Type 0) → n ≡ m →
     ((outs : List X) → length outs ≡ m → ((k : ℕ) (x : X) → slice_get outs k ≡ Some x → P k x) →
@@ -55,7 +55,7 @@ jobs_gave P (Ok v) n m Q same made len given = made v.items (omega (arith, v.ok.
     (given k x (omega (arith, v.ok.0, len, slice_get_within v.items k x there))))
 jobs_gave P (Err e) n m Q same made len given = len
 
--- A list with its value at each place of the cutting is the map of the drained terrain.
+-- A list with the right entry at each place of the cutting is the map of the drained terrain.
 pub whole_map : (d : Drained) (t : Cutting) (codes : List (Option ℕ)) →
     Cuts t d.terrain → codes ≡ d.codes → (value : Directed → Place → ℕ) (whole : List (Option ℕ)) →
     length whole ≡ t.cols * t.rows →

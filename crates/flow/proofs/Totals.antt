@@ -77,7 +77,7 @@ sums_same links i f g same = omega (
   sums_le links i g f (λ j l on. omega (arith, same j l on)),
 )
 
--- If f is at most the weight plus the donors' sum of f, and g at least that of g, f is at most g.
+-- If f is at most the weight plus the donors' f, and g at least the weight plus their g, f ≤ g.
 pub totals_le : (links : List ℕ) → AreStreams links → (w f g : ℕ → ℕ) →
     ((i : ℕ) → i < length links → f i ≤ w i + upstream_sum links f i) →
     ((i : ℕ) → i < length links → w i + upstream_sum links g i ≤ g i) → (i : ℕ) → i < length links →

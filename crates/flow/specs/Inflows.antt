@@ -15,7 +15,7 @@ use Rattle.flow.specs.RimGraph.{side_cell, target_by}
 abbrev pub through_by : Cutting → List Flow → Place → Option ℕ
 through_by t flows p = option_and_then (λ f. through_in f p) (slice_get flows (tile_of_place t p))
 
--- How many cells of a tile drain into another tile by one exit; 0 at a cell that is no such exit.
+-- How many cells' paths first leave their own tile by one exit; 0 where no exit leads out.
 abbrev pub weight_or : Option ℕ → Option Place → ℕ
 weight_or through None = 0
 weight_or through (Some entry) = unwrap_or through 0 + 1

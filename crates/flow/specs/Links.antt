@@ -23,7 +23,7 @@ inflow_in l p = inflow_by l.cutting l.inflows p
 abbrev pub outlet_in : Links → Place → Option Place
 outlet_in l p = if is_within l.cutting p then outlet_by l.cutting l.flows l.outlets p else None
 
--- Every place has its inflow, every exit its outlet, and no other place has an outlet.
+-- Every place of the grid has its inflow, every exit its outlet, and no other place an outlet.
 pub record AreLinks (d : Directed) (c : Cutting) (l : Links) : Type 0 where
   pub cutting : l.cutting ≡ c
   pub inflows : (p : Place) → IsWithin c p → inflow_in l p ≡ inflow_of d c p

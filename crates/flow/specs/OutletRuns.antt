@@ -41,7 +41,7 @@ pub record AreSumsBefore (counts : List RunCounts) (before : List ℕ) : Type 0 
   pub each : (k : ℕ) → k < length before →
       slice_index before k ≡ sum_by (λ c. c.total) (take k counts)
 
--- The runs hold all codes; `counts` and `before` are their counts of outlets.
+-- The runs hold all codes; `counts` has each run's outlets, `before` those of all earlier runs.
 pub record AreRunsCounted (r : CodeRuns) (counts : List RunCounts) (before : List ℕ) : Type 0 where
   pub enough : length r.codes ≤ length counts * r.run_length
   pub counted : (k : ℕ) (c : RunCounts) → slice_get counts k ≡ Some c →

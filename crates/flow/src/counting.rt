@@ -135,7 +135,7 @@ fn weights_with_inflows(
     Ok(weights)
 }
 
-/// Returns each data cell's weight and those upstream, less 1; NODATA has no count.
+/// Returns each data cell's weight plus those upstream, less 1; NODATA has no count.
 #[tactic(auto, using(crate::proofs::Windows::mapped_next))]
 fn counts(
     alloc: Global,

@@ -1,4 +1,4 @@
-//! Where water crosses from tile to tile.
+//! Where water passes from tile to tile.
 //!
 //! For each rim cell: the place in another tile that its water enters, if any, and the exit by
 //! which the water leaves that tile, if it does.
@@ -16,8 +16,8 @@ use std::alloc::{AllocError, Global};
 use terrain::Place;
 use tiles::{Bounds, Tiling};
 
-/// For each rim number, the place that its water enters, if any, and the next exit's number.
-/// A number without a next exit is linked to itself.
+/// For each rim number, the place that its water enters, if any, and its link.
+/// A link leads to the next exit into another tile; a number without one is linked to itself.
 #[derive(Drop)]
 pub(crate) struct Crossings {
     pub(crate) targets: Vec<Option<Place>>,
@@ -117,7 +117,7 @@ fn rim_targets(
     Ok(targets)
 }
 
-/// Returns the rim number of the next exit downstream, or `number` without one.
+/// Returns the rim number of the next exit into another tile, or `number` without one.
 fn link_of(tiling: &Tiling, flows: &[TileFlow], targets: &[Option<Place>], number: u32) -> u32
     requires flows { (d : Directed) × AreFlowsOf d tiling.now flows.now }
     requires targets { targets.now ≡ targets_by tiling.now flows.now }

@@ -40,7 +40,7 @@ fn find_ends(links: &[u32], ends: &mut [u32])
     }
 }
 
-/// Returns the end of a node's path, and notes it up to the first known end.
+/// Returns the end of a node's path, and notes it for nodes up to the first with a known end.
 pub(crate) fn find_end(links: &[u32], ends: &mut [u32], node: usize) -> u32
     requires streams { AreStreams links.now }
     requires few { length links.now ≤ 2 ^ 30 }

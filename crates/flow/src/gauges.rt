@@ -28,7 +28,7 @@ pub enum GaugeFault {
     OnNodata(u32),
     /// The list has more than [`MOST_GAUGES`] entries.
     TooManyGauges,
-    /// The jobs failed, or memory ran out.
+    /// The number of workers is 0 or above 64, a thread could not be started, or memory ran out.
     Jobs(JobFault),
 }
 

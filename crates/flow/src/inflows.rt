@@ -98,7 +98,7 @@ impl Inflows {
     }
 }
 
-/// Adds the amount of each rim number of a tile to the weight of its cell.
+/// Adds the amount of each rim number of a tile to the weight of its cell, if it has one.
 fn add_all(tiling: &Tiling, listed: &[u32], tile: u32, weights: &mut [u32])
     requires tile { tile < tile_count tiling.now }
     requires listed { length listed.now ≡ number_count tiling.now }
@@ -139,7 +139,7 @@ fn add_at(cell: Option<Place>, amount: u32, bounds: Bounds, weights: &mut [u32])
     }
 }
 
-/// Returns how many other cells' flow paths reach `place` inside its tile.
+/// Returns how many other cells' flow paths reach `place` inside its tile; `None` without a count.
 #[inline(always)]
 fn through_at(tiling: &Tiling, flows: &[TileFlow], place: Place) -> Option<u32>
     requires count { length flows.now ≡ tile_count tiling.now }
@@ -149,7 +149,7 @@ fn through_at(tiling: &Tiling, flows: &[TileFlow], place: Place) -> Option<u32>
     flows[tiling.tile_of(place) as usize].through(place)
 }
 
-/// Returns how many cells of a tile drain out of it at this rim number, maybe 0.
+/// Returns how many cells' flow paths first leave their own tile at this rim number, maybe 0.
 fn weight_of(tiling: &Tiling, flows: &[TileFlow], targets: &[Option<Place>], number: u32) -> u32
     requires flows { (d : Directed) × AreFlowsOf d tiling.now flows.now
         × AreTileCounts d tiling.now flows.now }
@@ -163,7 +163,7 @@ fn weight_of(tiling: &Tiling, flows: &[TileFlow], targets: &[Option<Place>], num
     through_at(tiling, flows, tiling.rim_place(number)).unwrap_or(0) + 1
 }
 
-/// Returns the number of cells that drain out of their own tile at each rim number.
+/// Returns how many cells' flow paths first leave their own tile at each rim number.
 #[tactic(auto, using(crate::proofs::Windows::mapped_next))]
 fn rim_weights(
     alloc: Global,

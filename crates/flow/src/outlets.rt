@@ -84,7 +84,7 @@ fn exit_of(tiling: &Tiling, flows: &[TileFlow], place: Place) -> Option<Place>
     flows[tiling.tile_of(place) as usize].exit(place)
 }
 
-/// Returns the outlet of the water that crosses at this rim number, if any does.
+/// Returns the outlet of the water that leaves its tile at this rim number, if any does.
 fn outlet_of(
     tiling: &Tiling,
     flows: &[TileFlow],

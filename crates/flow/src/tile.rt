@@ -1,6 +1,6 @@
 //! The flow inside one tile: [`tile_flow`].
 //!
-//! A flow has each cell's link and exit and, if counted, how many of the tile's cells are upstream.
+//! A flow has each cell's link and exit and, if counted, how many others reach it in the tile.
 ghost use Rattle.std.specs.Prelude.{◌≡◌, ◌<◌, length, slice_index_or, IfOk, IfSome, None};
 ghost use Rattle.std.specs.Option.{option_map};
 ghost use Rattle.terrain.specs.StoredCells.{uncounted};
@@ -27,9 +27,9 @@ use tiles::{Bounds, TileView};
 pub struct TileFlow {
     bounds: Bounds,
     codes: Vec<Option<Code>>,
-    // For each cell the index of the next one downstream, or its own if its water stays or leaves.
+    // For each cell the index of the next one downstream, or its own if none is in the tile.
     links: Vec<u32>,
-    // How many cells of the tile are upstream of each cell; empty in a flow without counts.
+    // How many other cells' paths reach each cell in the tile; empty in a flow without counts.
     upstream: Vec<u32>,
     // The index where each rim cell's path ends, by side number. For other cells `end_in` follows
     // the links. The path of a cell without data ends at once, and `where_data` returns `None`.

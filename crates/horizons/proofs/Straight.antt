@@ -10,17 +10,17 @@ use Rattle.horizons.specs.Horizons.{value_at, is_above, IsTarget, IsSlopeUpTo, A
 use Rattle.horizons.specs.declared.target.Target.{Target}
 use Rattle.horizons.specs.declared.ramp.Ramp.{Ramp}
 
--- The positive part of a ramp's value at a target: q - p is the gain, c the level's positive part.
+-- `lead q p c t` less `lead p q e t` is `value_at` of t by a ramp of gain q - p and `level` c - e.
 abbrev lead : ℕ → ℕ → ℕ → Target → ℕ
 lead q p c t = q * up t.offset + p * down t.offset + c * t.line
 
--- Over common lines, the difference of ramps r and s at a target is `over r s` less `over s r`.
 abbrev gain : Ramp → Ramp → ℕ
 gain r s = up r.gain * s.lines + down s.gain * r.lines
 
 abbrev level : Ramp → Ramp → ℕ
 level r s = up r.level * s.lines + down s.level * r.lines
 
+-- `over r s t` less `over s r t` is `value_at r t * s.lines` less `value_at s t * r.lines`.
 abbrev over : Ramp → Ramp → Target → ℕ
 over r s t = lead (gain r s) (gain s r) (level r s) t
 
@@ -48,7 +48,7 @@ not_if_not_over : (r s : Ramp) (t : Target) → over r s t ≤ over s r t → is
 not_if_not_over r s t h = sym (false_is_lt (value_at s t *ℤ pos r.lines)
     (value_at r t *ℤ pos s.lines) (omega (arith, ints, h, difference r s t)))
 
--- The ramp of gain q - p and level c - e is no higher at target t than at target u.
+-- The ramp of gain q - p and `level` c - e is no higher at target t than at target u.
 abbrev Grows : ℕ → ℕ → ℕ → ℕ → Target → Target → Type 0
 Grows p q c e t u =
     lead q p c t * u.line + lead p q e u * t.line ≤ lead q p c u * t.line + lead p q e t * u.line

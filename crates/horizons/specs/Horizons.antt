@@ -1,4 +1,4 @@
--- Horizons over targets sorted by slope. Lines are counted 1, 2, 3, .. outward from an observer.
+-- Horizons over targets sorted by slope. Lines: rows or columns 1, 2, 3, .. out from an observer.
 -- A target on line n, j cells aside, has the slope j / n; its rise is its height above the eye.
 -- Public.
 use Rattle.std.specs.Prelude.{◌≡◌, ℕ, ◌^◌, ◌<◌, ◌≤◌, max, nat_lt, if◌then◌else◌, Bool, false, ℤ, pos, unsigned_abs, int_lt, ◌+ℤ◌, ◌*ℤ◌, ◌≤ℤ◌, List, [], ◌∷◌, length, Option, None, Some, slice_get}
@@ -23,7 +23,7 @@ pub record AreTargets (targets : List Target) : Type 0 where
   pub sorted : (i j : ℕ) (s t : Target) → i < j → slice_get targets i ≡ Some s →
       slice_get targets j ≡ Some t → IsSlopeUpTo s t
 
--- The ramp's value at a target's slope, times the target's line and the ramp's lines.
+-- The ramp's value at a target's slope, times the target's `line` and the ramp's `lines`.
 abbrev pub value_at : Ramp → Target → ℤ
 value_at r t = (r.gain *ℤ t.offset) +ℤ (r.level *ℤ pos t.line)
 
@@ -35,7 +35,7 @@ hides_by r t rise = int_lt (rise *ℤ pos r.lines) (value_at r t)
 abbrev pub is_above : Ramp → Ramp → Target → Bool
 is_above r s t = int_lt (value_at s t *ℤ pos r.lines) (value_at r t *ℤ pos s.lines)
 
--- The ramp has 1 to 4096 lines, and its value at the target fits in 64 bits.
+-- The ramp's `lines` is 1 to 4096, and `value_at` of the target fits in 64 bits.
 pub record IsRampAt (r : Ramp) (t : Target) : Type 0 where
   pub lines : (0 < r.lines) × (r.lines ≤ 4096)
   pub value : unsigned_abs (value_at r t) < 2 ^ 63

@@ -152,7 +152,7 @@ impl Horizon {
     }
 
     /// Returns whether the horizon hides target `index`, which is `rise` above the eye.
-    /// The cursor must not have been used at a later index.
+    /// The cursor must not have been used at a greater index.
     #[inline(always)]
     pub fn hides(&self, cursor: &mut Cursor, index: usize, target: Target, rise: Value) -> bool
         requires index { index < extent self.now }

@@ -1,16 +1,16 @@
 //! Horizons: how high ground rises between an observer and each of many targets.
 //!
-//! Targets are sorted by slope: cells aside per line away from the observer. A [`Horizon`] is a
-//! function of a target's index, made of pieces that are straight over the slope. [`push_greater`]
-//! adds the greater of two ramps. All is computed in whole numbers, at the slopes of targets only.
-//! Each `end` is exclusive.
+//! Targets are sorted by slope: cells aside per row or column outward from the observer. A
+//! [`Horizon`] is a function of a target's index, made of pieces that are straight over the slope.
+//! [`push_greater`] adds the greater of two ramps. All is computed in whole numbers, at the slopes
+//! of targets only. Each `end` is exclusive.
 //!
 //! Modules, callers first:
 //!
 //! - `merging`: the greater of two ramps
 //! - `horizon`: pieces of ramps
 //! - `ramp`: a straight line over slopes
-//! - `target`: a cell by line and offset
+//! - `target`: a cell by its row or column outward, and its offset along that
 #![tactic(auto)]
 
 mod horizon;

@@ -40,7 +40,7 @@ pub fn is_never_above(targets: &[Target], one: Ramp, other: Ramp, from: usize, e
     !is_above_at(targets, one, other, end - 1)
 }
 
-/// Returns the first target where `one > other` is not `first`, or `end` if none.
+/// Returns the first index at which `one > other` is not `first`, or `end` if none.
 /// The difference of two ramps is straight, so the comparison changes at most once.
 #[inline(always)]
 fn first_change(

@@ -5,14 +5,14 @@ ghost use Rattle.horizons.specs.Horizons.{IsTarget, IsRampAt, value_at, hides_by
 
 use crate::target::Target;
 
-/// The integer type of rises, and of a ramp's gain, level and values.
+/// The integer type of rises, and of a ramp's `gain`, `level` and values.
 pub type Value = i64;
 
 /// The integer type of products with a [`Value`].
 type Product = i128;
 
 /// A straight line over the slope `s`: `(gain * s + level) / lines`.
-/// Its value is the ground's rise above the eye per line, in units; `s` is cells aside per line.
+/// Its value is the ground's rise above the eye in units, and `s` cells aside, per `Target::line`.
 #[derive(Clone, Copy, PartialEq)]
 pub struct Ramp {
     pub gain: Value,

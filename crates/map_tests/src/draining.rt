@@ -1,4 +1,4 @@
-//! Finds the direction of one cell, and refuses bad numbers of workers.
+//! Tests the direction of one cell, and that bad numbers of workers are refused.
 ghost use Rattle.drain.specs.Fitting.{IsFitting};
 
 use crate::ground::{cut, land};
@@ -38,7 +38,7 @@ fn code_of_one_cell(rt: HostRuntime) {
     assert_eq!(rt; number(20, 0, true, [same, same, n, n, n, n, n, n]), 0);
 }
 
-/// Drops decide first, then on flats the fewest steps and the smallest code.
+/// Drops decide, then steps, then the smallest code; without drops an edge cell has 0.
 #[test]
 fn codes_of_surroundings(rt: HostRuntime) {
     let (side, corner, s) = (Some((15, 0)), Some((13, 0)), Some((20, 0)));

@@ -1,4 +1,4 @@
-//! Floods tiles and joins them in a spill graph, also if memory is refused.
+//! Floods tiles and gathers their spill graph, also if memory is refused.
 ghost use Rattle.std.specs.Prelude.{IfOk};
 ghost use Rattle.terrain.specs.Raster.{Terrain};
 ghost use Rattle.fill.specs.Spills.{AreFloods};

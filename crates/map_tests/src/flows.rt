@@ -1,4 +1,4 @@
-//! Finds the flow inside tiles, and joins it over their rims.
+//! Finds the flow inside tiles, and links it over their rims.
 ghost use Rattle.std.specs.Prelude.{◌≡◌, ◌<◌, IfOk};
 ghost use Rattle.drainage.specs.Drained.{AllFlowEnds, directed_of};
 ghost use Rattle.flow.specs.TileFlow.{IsTileFlow, AreTileFlows};
@@ -48,7 +48,7 @@ pub(crate) fn flows_of(
     Ok(flows)
 }
 
-/// Joins the flows of tiles over their rims.
+/// Links the flows of tiles over their rims.
 fn links_of<'a>(
     alloc: Global,
     tiling: &Tiling,
@@ -87,7 +87,7 @@ fn link_at(
 }
 
 /// Asserts the inflow and the outlet at two places.
-/// If memory is refused, joins the flows once more.
+/// If memory is refused, links the flows once more.
 pub(crate) fn expect_links(
     rt: &impl Abort,
     alloc: Global,

@@ -1,4 +1,4 @@
-//! Compares filled heights of rough ground with those found by lowering levels.
+//! Compares filled heights of rough grids with those found by lowering upper bounds.
 use crate::ground::heights_of;
 use ascii_grid::read_text;
 use fill::filled_heights;
@@ -61,7 +61,7 @@ fn grid_text(
     Ok(text)
 }
 
-/// Returns the index of a cell in row order; rows and columns count from 1.
+/// Returns a cell's index; row and column count from 1. `None` at 0 or past `cols`.
 fn index_of(cols: u8, row: u8, col: u8) -> Option<usize> {
     if row == 0 || col == 0 || col > cols {
         return None;
@@ -74,7 +74,7 @@ fn level_at(levels: &[Option<Height>], cols: u8, row: u8, col: u8) -> Option<Hei
     *levels.get(index)?
 }
 
-/// Returns the least level at and around a cell; `None` at edge cells and NODATA.
+/// Returns the least entry at and around a cell; `None` at edge cells and NODATA.
 fn lowest_of_nine(levels: &[Option<Height>], cols: u8, row: u8, col: u8) -> Option<Height> {
     let mut lowest = HIGHEST;
     for near_row in row.saturating_sub(1)..=row.saturating_add(1) {
@@ -85,7 +85,7 @@ fn lowest_of_nine(levels: &[Option<Height>], cols: u8, row: u8, col: u8) -> Opti
     Some(lowest)
 }
 
-/// Lowers each inner cell's level to the least nearby, but not below its height.
+/// Lowers each inner cell's entry to the least nearby, but not below its height.
 fn sweep(heights: &[Option<Height>], levels: &mut [Option<Height>], cols: u8, rows: u8) {
     for row in 1..=rows {
         for col in 1..=cols {
@@ -104,7 +104,7 @@ fn sweep(heights: &[Option<Height>], levels: &mut [Option<Height>], cols: u8, ro
 }
 
 /// Returns filled heights by lowering, in as many sweeps as there are cells.
-/// Edge cells begin at their height, inner cells at [`HIGHEST`]; NODATA has no level.
+/// Edge cells begin at their height, inner cells at [`HIGHEST`]; NODATA stays `None`.
 fn lowered(
     alloc: Global,
     heights: &[Option<Height>],
@@ -144,7 +144,7 @@ fn compare_one<R: Abort>(
 }
 
 /// Compares grids of these heights with lowering; counts the small ones with a pit.
-/// Grids of up to 6 by 6 cells are flooded by a heap alone, the large one by lists of levels too.
+/// The queue has a heap alone for grids of up to 6 by 6 cells, and lists too for the large one.
 fn compare<R: Abort>(rt: &R, alloc: Global, heights: &[&'static str; 8]) -> Result<u32, Fail> {
     let mut numbers = Numbers { state: 1 };
     let mut raised = 0u32;

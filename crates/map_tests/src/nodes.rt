@@ -79,7 +79,7 @@ fn expect_labels(rt: &impl Abort, flooded: &Flooded, labels: &[Option<u32>]) {
     assert_eq!(rt; flooded.label.as_slice(), labels);
 }
 
-/// A source labels its own node unless the other source's crest there is lower.
+/// A source is its own label unless a walk to the other source has a lower crest.
 #[test]
 fn four_nodes(rt: HostRuntime) -> Result<(), Fail> {
     let two = Some(2);

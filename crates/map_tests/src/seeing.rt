@@ -339,7 +339,7 @@ fn refused_observers(rt: HostRuntime) {
     assert_eq!(rt; refused, Some(SightFault::OnNodata(0)));
 }
 
-/// A target height above the limit is refused for any number of observers.
+/// A target height above the limit is refused for 1 to 1,024 observers.
 #[test]
 fn target_too_high_for_any_number(rt: HostRuntime) {
     let bowl = land(&rt, rt.alloc(), 3, 3, "9 9 9\n9 1 9\n9 9 9");

@@ -152,7 +152,7 @@ fn greatest_drops(rt: HostRuntime) {
     maps.expect(&rt, rt.alloc());
 }
 
-/// Squared, the slopes of the drops of 7 east and 10 south-east are as 98 to 100.
+/// Of drops of 7e14 east and 10e14 south-east, the squared slopes are as 98 to 100.
 #[test]
 fn great_drops_compared(rt: HostRuntime) {
     let slope =
@@ -183,8 +183,8 @@ fn level_ground(rt: HostRuntime) {
     maps.expect(&rt, rt.alloc());
 }
 
-/// The first group of 16 codes is all outlets; then, on other ground, it has none:
-/// a river along row 0 to its end, a ridge, and pairs of cells whose second is an outlet.
+/// The first 16 codes of one terrain are all outlets, of the other none. The other has
+/// a river along row 0 to the row's end, a ridge, and pairs whose second cell is an outlet.
 #[test]
 fn outlets_of_several_runs(rt: HostRuntime) {
     let fives =

@@ -1,4 +1,4 @@
--- How the program ends if it reads no grid.
+-- Help, refused words and refused memory end the program as `EndsUnread` demands.
 use Rattle.std.proofs.Common.{◌≡◌, ◌++◌, ℕ, suc, List, [], ◌∷◌, codes, arith, Option, sym, ap, subst, refl, inl, inr}
 use Rattle.std.specs.Prelude.{Any, decimal}
 use Rattle.clap.specs.Words.{Text, kind_of}

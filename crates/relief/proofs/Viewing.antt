@@ -77,7 +77,7 @@ catchments_refused w g fault f some few sound is h =
     (job_refused w g some few is reported.0 (λ e. (h.bad_workers sound).0 (ap Err (reported.1
     ∙ ap gauges.Jobs e))) (λ e. h.no_thread (ap Err (reported.1 ∙ ap gauges.Jobs e))))
 
--- only faults of tiles, sinks, gauges and viewsheds forbid a map
+-- a fault of tiles, a viewshed, sinks or gauges; `request_forbids`: only these forbid a map
 abbrev pub Forbids : RunFault → Type 0
 Forbids (Tiling fault) = ⊤
 Forbids (Sight fault) = ⊤

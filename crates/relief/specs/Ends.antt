@@ -72,7 +72,7 @@ EndsProgram remaining contents lines words reader left writer grown errors repor
     ⊎ ((request : Request) × RequestFor words request
     × EndsRun remaining contents lines request reader left writer grown errors reported status)
 
--- How an error of `clap` of this kind is written, and the exit status.
+-- Help goes to the writer, status 0; other messages to the error device, 1; refused memory: 3.
 abbrev pub EndsShowing : {W E : Type 0} → (W → Option (List ℕ)) → (E → Option (List ℕ)) →
     ErrorKind → Device W → Device W → Device E → Device E → ℕ → Type 0
 EndsShowing contents lines kind writer grown errors reported status =

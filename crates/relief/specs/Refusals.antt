@@ -1,5 +1,5 @@
--- Which fault a run may return: the first of these. A text fault or failed read; too many tiles; a
--- fault of sinks, then of gauges or observers; refused memory or threads; a failed write.
+-- Which fault a run may return: the first of these. The text's fault, memory for its cells, or a
+-- read; too many tiles; sinks; gauges or observers; other memory or a thread; a failed write.
 -- Trust base.
 use Rattle.std.specs.Prelude.{◌≡◌, ℕ, ◌<◌, nat_lt, ⊤, if◌then◌else◌, List, Option, None, Some, option_map}
 use Rattle.std.specs.Option.{option_or}
@@ -53,8 +53,8 @@ IsWorkRefusal w g (Jobs jobs.Memory) = request_fault w g ≡ None
 IsWorkRefusal w g (Jobs jobs.NoThread) = (request_fault w g ≡ None) × (1 < w.workers)
 IsWorkRefusal w g fault = request_fault w g ≡ Some fault
 
--- A run may return the fault for this text. All but a fault of the text and a failed read require
--- that the text spells a grid.
+-- A run may return the fault for this text. All but `Grid` and `Read` require that the text spells
+-- a grid.
 abbrev pub IsRunRefusal : Request → List ℕ → RunFault → Type 0
 IsRunRefusal w text (Grid fault) = IsRefusal w.scale text fault
 IsRunRefusal w text Read = ⊤

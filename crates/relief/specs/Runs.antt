@@ -22,12 +22,12 @@ pub record Runs {R W T : Type 0} (remaining : R → Option (List ℕ)) (contents
   -- nothing else. No byte is left to read.
   pub written : OnOk result ((map : List ℕ) × IsMapOfText w.scale w.map w.sinks taken.bytes map
       × HasWritten contents writer grown map × IsAtEnd (remaining left.device))
-  -- The fault is the first that applies to the reader's whole text, if that is known.
+  -- If the reader's whole text is known, a fault is one that a run may return for it.
   pub refused : (text : List ℕ) → remaining reader.device ≡ Some text →
       IfErr result (λ f. IsRunRefusal w text f)
   -- Unless a write failed, a fault leaves the writer unchanged.
   pub unwritten : IfErr result (λ f. f ≢ Write → grown ≡ writer)
-  -- If a write failed, a front part of the map was written.
+  -- If a write failed, a front part of the map was written, perhaps nothing or all of it.
   pub part : result ≡ Err Write → (map : List ℕ) × IsMapOfText w.scale w.map w.sinks taken.bytes map
       × HasWrittenPart contents writer grown map × IsAtEnd (remaining left.device)
   -- The result is `Read` exactly if the reader failed, and `Write` exactly if the writer failed.

@@ -46,7 +46,7 @@ fn write_line<W: Write>(text: &str, out: &mut Counted<W>) -> Result<(), WriteFai
     out.flush()
 }
 
-/// Writes `text` and a line feed, and returns `status` even if the write fails.
+/// Writes `text` by [`write_line`], and returns `status` even if the write fails.
 fn show<W: Write>(text: &str, out: &mut Counted<W>, status: u8) -> u8
     requires { out.old.failures < 2 ^ 64 - 1 }
     ensures status { result ≡ status }

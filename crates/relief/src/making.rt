@@ -55,7 +55,7 @@ fn find_directions<H: Threads + Wait + Sync, G: Gate + Sync>(
     Ok((filled.into_grid().into_frame(), directions))
 }
 
-/// Cuts a grid into square tiles with sides of `side` cells.
+/// Cuts a grid into tiles of at most `side` by `side` cells, or refuses too many.
 fn cut(grid: &Grid, side: u32) -> Result<Tiling, TilingFault>
     requires some { 1 ≤ side }
     requires short { side ≤ longest_side }

@@ -20,7 +20,7 @@ struct Stage {
     finished_jobs: u64,
     /// The finished parts of all jobs.
     finished_parts: u64,
-    /// The parts of each job, or 0 if jobs have no parts.
+    /// The parts of each job; 0 before any part is finished, or if jobs have no parts.
     parts: u64,
     reported_tenths: u64,
     last_report: Option<Instant>,

@@ -202,7 +202,7 @@ HasOptions rows tile workers scale =
     HasNumber rows (codes "tile") tile × HasNumber rows (codes "workers") workers
     × HasNumber rows (codes "scale") scale
 
--- The words request this map, with these sinks and options, all within their limits.
+-- The words request this map with these sinks and options; side, workers and scale are in limits.
 pub record RequestFor (words : List Text) (request : Request) : Type 0 where
   pub name : Text
   pub rows : List Row

@@ -25,7 +25,7 @@ abbrev pub IsView : Map → Type 0
 IsView (View observers target radius) = ⊤
 IsView map = ⊥
 
--- The options are within their limits, and a viewshed has no sinks.
+-- Tile side, workers and scale are within their limits, and a viewshed has no sinks.
 pub record IsRequest (w : Request) : Type 0 where
   pub in_limits : AreLimits w.tile w.workers w.scale
   pub view : IsView w.map → w.sinks ≡ []

@@ -1,4 +1,4 @@
-//! A map and its options, each within its limits: [`Options`].
+//! A map and its options; tile side, workers and scale are within limits: [`Options`].
 ghost use Rattle.std.specs.Prelude.{◌≡◌, [], false, IfSome, IfNone, IfOk, IfErr};
 ghost use Rattle.request.specs.Request.{AreLimits, IsView};
 
@@ -15,7 +15,7 @@ pub(crate) const MOST_WORKERS: u32 = 64;
 /// The greatest scale.
 pub(crate) const MOST_DECIMALS: u8 = 6;
 
-/// A requested map with its options, each within its limits.
+/// A requested map with its options; side, workers and scale are within limits.
 ///
 /// Holds tile side, workers, scale, named sinks, and whether progress is reported.
 ///

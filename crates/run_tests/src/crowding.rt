@@ -11,7 +11,7 @@ use std::thread::Threads;
 /// How often at most a held job checks whether another job has entered.
 const MOST_LOOKS: u32 = 10_000_000;
 
-/// The side of the tiles of a level strip, in cells.
+/// The side of the tiles of a flat strip, in cells.
 const SIDE: u32 = 2;
 
 /// A gate that holds a stage's first jobs until all have entered, or gives up.
@@ -61,7 +61,7 @@ impl Gate for Crowd {
     }
 }
 
-/// Returns the text of a level strip of `tiles` tiles.
+/// Returns the text of a strip of `tiles` tiles, whose heights are all 7.
 fn level_strip(alloc: Global, tiles: u32) -> Result<Vec<u8>, Fail> {
     let cols = tiles.wrapping_mul(SIDE);
     let header = format!(in alloc;

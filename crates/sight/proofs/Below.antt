@@ -1,4 +1,4 @@
--- What a line blocks, a level ramp hides that no cell of the line near the rays exceeds.
+-- Ground of one height that no cell of a line near the rays exceeds hides what the line blocks.
 use Rattle.std.proofs.Common.{arith, refl, sym, ap, ◌∙◌, ◌≡◌, ◌+◌, ◌-◌, ◌<◌, ◌≤◌, ◌⊎◌, ℕ, ℤ, pos, ◌+ℤ◌, ◌-ℤ◌, ◌*ℤ◌, ◌≤ℤ◌, ◌<ℤ◌, true, List, length, Option, None, Some, get_or, inl, inr}
 use borrow.Author.Differences.{true_is_lt}
 use Rattle.std.specs.Int.{int_div_euclid}
@@ -157,7 +157,7 @@ blocker cells f k y offset rise t is stands later passes blocks =
       ]
     ] refl
 
--- if the ground between two cells hides a target, so does a level that neither is above
+-- if the ground between two cells hides a target, so does ground of a height that neither exceeds
 level_hides : (f : Family) (k : ℕ) (offset near far top rise : ℤ) (t : Target) → Passes k offset t →
     near ≤ℤ top → far ≤ℤ top → hides_by (ramp_of f k offset near far) t rise ≡ true →
     hides_by (level_ramp f k top) t rise ≡ true
@@ -178,7 +178,7 @@ level_hides f k offset near far top rise t passes a b hides =
     joined : (e j : ℤ) (r m : ℕ) → (e *ℤ pos r) +ℤ (e *ℤ pos m) ≡ (pos 0 *ℤ j) +ℤ (e *ℤ pos (r + m))
     joined e j r m = omega (arith, ints)
 
--- no cell of line k from offset `low` to `high + 1` is above `top`
+-- no cell of line k from offset `low` to `high + 1` is above `top`; for None, none has data
 abbrev pub IsTopNear : List (Option ℤ) → Family → ℕ → ℤ → ℤ → Option ℤ → Type 0
 IsTopNear cells f k low high top = (c : ℕ) (h : ℤ) → c < f.side.cells → low ≤ℤ offset_of f c →
     offset_of f c ≤ℤ (high +ℤ pos 1) → height_at cells f k c ≡ Some h → IsTopOf top h

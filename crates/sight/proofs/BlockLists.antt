@@ -1,4 +1,4 @@
--- Lists of the greatest heights of blocks, and of blocks of blocks.
+-- Lists of bounds above the heights of blocks, and of blocks of blocks.
 use Rattle.std.proofs.Common.{arith, refl, sym, ap, subst, ◌∙◌, ◌≡◌, ◌+◌, ◌-◌, ◌*◌, ◌/◌, ◌%◌, ◌<◌, ◌≤◌, ℕ, ℤ, List, [], ◌∷◌, ◌++◌, length, length-append, get_or, get_or-take, get_or-drop, drop, slice_range, ◌≤ℤ◌, Option, None, Some, inl, inr}
 use Rattle.std.proofs.lemmas.Bool.{cases_lt}
 use Rattle.std.proofs.lemmas.List.{get_or_past}
@@ -49,7 +49,7 @@ few_blocks size cells some = elim (cases_lt cells (blocks_in size cells)) [
   | inr few ↦ few
 ]
 
--- block heights of a terrain of permitted size are the cells of a ground, one for each block
+-- the entries of blocks, for a terrain of permitted size, meet `IsGround`, one entry a block
 pub ground_of_tops : (size : ℕ) (t : Terrain) (tops : List (Option ℤ)) → 0 < size →
     (1 ≤ t.cols) × (t.cols ≤ 4096) → (1 ≤ t.rows) × (t.rows ≤ 4096) → AreTops size t tops
     → IsGround (blocks_in size t.cols) (blocks_in size t.rows) tops
@@ -72,7 +72,7 @@ pub tops_of_ground : (size : ℕ) (t : Terrain) (tops : List (Option ℤ)) →
 tops_of_ground size t tops are =
     record { count = are.count; heights = are.heights; above = are.above }
 
--- cells fill as many blocks of 8 near blocks as far blocks
+-- a row or column of cells fills as many groups of 8 near blocks as it fills far blocks
 in_blocks : (cells : ℕ) → blocks_in 8 (blocks_in 16 cells) ≡ blocks_in 128 cells
 in_blocks cells = omega arith
 

@@ -14,7 +14,7 @@ use Rattle.sightlines.specs.declared.walk.Sightline.{Sightline}
 use Rattle.sight.specs.declared.window.Window.{Window}
 use Rattle.sight.proofs.Families.{walk_is_blocked}
 
--- a level is the eye's level plus the rise above the eye
+-- a target's height above 0 is the eye's plus the target's rise above the eye
 rises : (e g h : ℤ) → g +ℤ h ≡ e +ℤ ((g +ℤ h) -ℤ e)
 rises e g h = omega (arith, ints)
 

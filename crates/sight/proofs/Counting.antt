@@ -68,7 +68,7 @@ passed t os target radius i d b values less before none = record {
       ∙ value_counted t os target radius i d p false less (none p inside);
 }
 
--- if a cell with data has the value m, and its value is n, then n is m
+-- if a cell's entry, m for data and None for NODATA, is Some n, then n is m
 value_few : (h : Option ℤ) (n m : ℕ) → option_map (λ _. m) h ≡ Some n → n ≡ m
 value_few None n m e = absurd (cc)
 value_few (Some x) n m e = cc

@@ -31,7 +31,7 @@ before_to targets k m offset u are at_m before i t below at_i =
     high_back offset t.offset u.offset t.line u.line k (are.each i t at_i).line.0
     (slope_up targets i m t u are (omega arith) at_i at_m) before
 
--- rays from one that passes `offset` on, all before `last + 1`, pass among `offset` to `last`
+-- if ray `from` passes `offset`, rays `from` on before `last + 1` pass among `offset` to `last`
 pub passes_onward : (targets : List Target) (k from end i : ℕ) (offset last : ℤ) (u t : Target) →
     AreTargets targets → slice_get targets from ≡ Some u → Passes k offset u →
     AreBefore targets k (last +ℤ pos 1) end
@@ -42,7 +42,7 @@ passes_onward targets k from end i offset last u t are at_u passes before low hi
   high = before i t high at_t;
 }
 
--- a ray that passes a cell passes among it and any later ones
+-- a ray that passes a cell passes among the cells from it to any of no lower offset
 pub passes_before : (k : ℕ) (offset last : ℤ) (t : Target) → offset ≤ℤ last → Passes k offset t →
     PassesAmong k offset last t
 passes_before k offset last t up passes = record {
@@ -75,7 +75,7 @@ more_raised cells f targets k from end highest ramp old new reach more pushed ra
   ],
 )
 
--- a span's ramp shows the ground for all targets of the span
+-- a span's ramp hides, of the span's targets beyond line k, exactly those that line k blocks
 pub shown_over : (cells : List (Option ℤ)) (f : Family) (targets : List Target) (k from end : ℕ)
     (span : Span) (u : Target) → AreTargets targets → slice_get targets from ≡ Some u
     → ((t : Target) → IsTarget t → IsSlopeUpTo u t → PassesAmong k span.offset span.last t →
@@ -122,7 +122,7 @@ greater_raised cells f targets k from end highest ground ramp old new reach more
       ],
     )
 
--- if the old ramp hides all that a line blocks, the old ramp remains
+-- if the old ramp hides all that a line blocks, it is the raised horizon's ramp too
 pub hidden_raised : (cells : List (Option ℤ)) (f : Family) (targets : List Target)
     (k i from end : ℕ) (highest : List Piece) (ramp : Ramp) (t : Target) → IsOver targets highest →
     ramp_at highest i ≡ Some ramp
@@ -188,7 +188,7 @@ passed_high f k y t is stands some later past =
       rest_times (pos f.side.cells) (pos f.side.at) (pos (r + k)),
     ))
 
--- any ramp within bounds raises an empty horizon over targets whose rays cross before the side
+-- any ramp within bounds begins the raised horizon, over targets whose rays cross before the side
 pub low_raised : (cells : List (Option ℤ)) (f : Family) (targets : List Target) (k end : ℕ)
     (highest : List Piece) (ramp : Ramp) (old new : List Piece) → old ≡ [] → IsFamily f →
     AreTargets targets → IsPushed old end ramp new
@@ -208,7 +208,7 @@ low_raised cells f targets k end highest ramp old new e is are pushed before at 
       ),
     )
 
--- any ramp within bounds raises a horizon over further targets whose rays cross past the side
+-- any ramp within bounds extends the raised horizon, over targets whose rays cross past the side
 pub high_raised : (cells : List (Option ℤ)) (f : Family) (targets : List Target) (k from end : ℕ)
     (highest : List Piece) (offset : ℤ) (u : Target) (ramp : Ramp) (old new : List Piece) → 0 < k →
     IsFamily f → AreTargets targets → slice_get targets from ≡ Some u

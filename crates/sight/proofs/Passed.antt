@@ -1,4 +1,4 @@
--- A horizon after one more line.
+-- A horizon that hides what lines before k block, raised to line k, hides what line k blocks too.
 use Rattle.std.proofs.Common.{arith, refl, sym, ap, subst, ◌∙◌, ◌≡◌, ℕ, zero, suc, ◌+◌, ◌-◌, ◌<◌, ◌||◌, ◌≤◌, ◌^◌, ℤ, unsigned_abs, Bool, true, false, List, [], length, Option, Some}
 use Rattle.std.specs.Prelude.{slice_get}
 use Rattle.std.specs.List.{list_any, range_with_len}
@@ -59,7 +59,7 @@ hides_next cells f targets k old new some before whole raises = record {
       rw raised.1 (here ∙ rw was (sym next));
 }
 
--- a horizon of one ramp that hides no target is right before line 1
+-- a horizon of one ramp that hides no target hides what the lines before line 1 block: nothing
 pub none_hides : (targets : List Target) (ramp : Ramp) (h : List Piece) → AreTargets targets →
     IsPushed [] (length targets) ramp h
     → ((t : Target) (rise : ℤ) → IsTarget t → unsigned_abs rise ≤ 2 ^ 51 →

@@ -16,7 +16,7 @@ moved a b d = grind (arith, ints)
 lt_moved : (x y a b d : ℤ) → x ≡ a +ℤ d → y ≡ b +ℤ d → int_lt x y ≡ int_lt a b
 lt_moved x y a b d p q = rw (p, q) (moved a b d)
 
--- r near and m far heights add up to r + m near heights and m times the gain
+-- r near and m far heights add up to r + m near heights and m times far less near
 ground_gains : (near far : ℤ) (r m : ℕ) →
     ((pos r *ℤ near) +ℤ (pos m *ℤ far)) ≡ (near *ℤ pos (r + m)) +ℤ ((far -ℤ near) *ℤ pos m)
 ground_gains near far r m = omega (arith, ints, rest_times far near (pos m))
@@ -78,7 +78,7 @@ shown_between near far e rise offset j n k m below few is =
         ≡ (((near -ℤ e) *ℤ pos n) +ℤ (pos m *ℤ step)) +ℤ (e *ℤ pos n)
     raised near e step n m = omega (arith, ints, rest_times near e (pos n))
 
--- a crossing whose first cell is NODATA cannot block
+-- a crossing whose near cell is NODATA cannot block
 pub not_shown_near : (far : Option ℤ) (n m : ℕ) (z : ℤ) → m < n →
     is_above None (n - m) far m z ≡ false
 not_shown_near far n m z h = rw (weighed_height-some None (n - m) (omega arith)) refl

@@ -24,7 +24,7 @@ abbrev pub HaveValues : List ValueRow → Type 0
 HaveValues rows =
     map (λ (row : ValueRow). values_from_corner row.0) rows ≡ map (λ (row : ValueRow). row.1) rows
 
--- ground at the line, then above it; NODATA, which blocks nothing; averages above it, then at it
+-- ground at a line of sight, above one; NODATA, which blocks nothing; averages above one, at one
 small_grids : HaveValues (
     (land 3 1 (up 0 ∷ up 5 ∷ up 10 ∷ []), 1 ∷ 1 ∷ 1 ∷ [])
     ∷ (land 3 1 (up 0 ∷ up 6 ∷ up 10 ∷ []), 1 ∷ 1 ∷ 0 ∷ [])

@@ -1,4 +1,4 @@
--- Bounds above the heights of blocks of `size` by `size` cells, one bound for each block.
+-- Upper bounds of the heights of blocks of `size` by `size` cells, one bound for each block.
 -- Private.
 use Rattle.std.specs.Prelude.{◌≡◌, ℕ, ◌+◌, ◌-◌, ◌*◌, ◌/◌, ◌<◌, ◌≤◌, ℤ, List, [], length, min, Option, None, Some, slice_index_or}
 use Rattle.terrain.specs.Raster.{Terrain, IsHeight}

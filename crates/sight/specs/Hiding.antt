@@ -11,7 +11,7 @@ use Rattle.sight.specs.declared.window.Window.{Window}
 abbrev pub IsInRun : CellRun → ℕ → Type 0
 IsInRun r x = (r.first ≤ x) × (x < r.first + r.cells)
 
--- The window's lines end by 4096, its side is in the family's side, and each cell has a mark.
+-- The lines' run and strides are within 4096, the side is in the family's, each cell has a mark.
 pub record IsWindow (f : Family) (w : Window) (marks : List Bool) : Type 0 where
   pub lines : w.lines.first + w.lines.cells ≤ 4096
   pub first : f.side.first ≤ w.side.first
@@ -20,7 +20,7 @@ pub record IsWindow (f : Family) (w : Window) (marks : List Bool) : Type 0 where
   pub inside : (x y : ℕ) → x < w.lines.cells → y < w.side.cells →
       x * w.lines.stride + y * w.side.stride < length marks
 
--- Different cells have different marks. Along one coordinate marks are neighbours; along the other
+-- Different cells have different marks. Along one coordinate marks are adjacent; along the other
 -- they are at least as far apart as the first coordinate's run has cells.
 pub record IsApart (w : Window) : Type 0 where
   pub apart : ((w.side.stride ≡ 1) × (w.side.cells ≤ w.lines.stride))

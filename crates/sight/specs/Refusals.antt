@@ -44,8 +44,8 @@ observers_fault t observers target radius =
     (if nat_lt radius 1 || nat_lt longest_radius radius then Some BadRadius
     else place_fault t 0 observers)
 
--- The result is the observers' fault exactly where there is one. Otherwise it may be a fault of
--- the jobs.
+-- The result is `fault` where there is one. Otherwise it is `BadWorkers` exactly for 0 or above 64
+-- workers, and may be want of memory or, with several workers, of a thread.
 pub record RefusesSight {T : Type 0} (fault : Option SightFault) (workers : ℕ)
     (result : Result T SightFault) : Type 0 where
   pub reported : (f : SightFault) → fault ≡ Some f → result ≡ Err f

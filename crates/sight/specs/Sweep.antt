@@ -103,7 +103,7 @@ pub record Shows (cells : List (Option ℤ)) (f : Family) (k : ℕ) (t : Target)
   pub hides : (y : ℕ) (rise : ℤ) → IsAtCell f y t → k < t.line → IsRise rise →
       hides_by r t rise ≡ line_blocks cells f t.line y rise k
 
--- The ramp hides each target from index `from` to below `end` that line k blocks.
+-- The ramp hides each target of index `from` to below `end`, beyond line k, that line k blocks.
 abbrev pub IsHiddenOn : List (Option ℤ) → Family → List Target → ℕ → Ramp → ℕ → ℕ → Type 0
 IsHiddenOn cells f targets k r from end =
     (i : ℕ) (t : Target) → from ≤ i → i < end → slice_get targets i ≡ Some t

@@ -26,7 +26,7 @@ pub struct Lines {
 }
 
 /// The coordinate along a family's lines.
-/// The observer is at `at`. Cells `first` to below `cells` include that cell and all targets.
+/// The observer is at `at`. Cells `first` to below `cells` include the observer's and all targets'.
 #[derive(Clone, Copy)]
 pub struct Side {
     pub at: u32,
@@ -35,7 +35,7 @@ pub struct Side {
     pub cells: u32,
 }
 
-/// The crossings with the columns, or rows, on one side of an eye at level `eye`.
+/// The crossings with the columns, or rows, on one side of an eye; `eye` is its height above 0.
 #[derive(Clone, Copy)]
 pub struct Family {
     pub lines: Lines,
@@ -45,7 +45,7 @@ pub struct Family {
 
 /// The ground that a ray meets on a line, as a ramp.
 /// The ray passes over the cell at `offset`, or between it and the next. The ramp holds for this
-/// and later rays, to before the cell after `last`; with `alone` for this ray only.
+/// ray and those of no lower slope that cross before `last + 1`; with `alone` for this ray only.
 #[derive(Clone, Copy)]
 pub struct Span {
     pub offset: i32,
@@ -176,7 +176,7 @@ impl Family {
     }
 
     /// Returns the greatest height of a line's cells from offset `low` to `high + 1`.
-    /// `None` where all of them are NODATA.
+    /// `None` where none of them is a data cell.
     #[inline(always)]
     pub(crate) fn top_between(
         self,

@@ -1,4 +1,4 @@
-//! Theorems about the definitions, as functions without code.
+//! A theorem about the definitions, as a function without code.
 ghost use Rattle.std.specs.Prelude.{◌≡◌, ℕ, List, Option};
 ghost use Rattle.terrain.specs.Raster.{Terrain};
 ghost use Rattle.sight.specs.Viewshed.{IsViewshed};

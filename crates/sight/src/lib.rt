@@ -2,7 +2,7 @@
 //!
 //! Begin with [`viewshed`]; [`sees`] tests one line of sight. The cells of each tile that one
 //! observer sees are marked by walks along lines of sight or by one sweep over the tile. Depends on
-//! `sightlines`, `horizons` and `tile_maps`.
+//! `terrain`, `tiles`, `tile_jobs`, `tile_maps`, `horizons` and `sightlines`.
 //!
 //! Modules, callers first:
 //!
@@ -25,7 +25,7 @@
 //! - `window`: parts of the grid whose cells have marks
 //! - `heights`: heights of cells in a list
 //! - `by_place`: builds lists with one entry for each place of a tile
-//! - `laws`: theorems about the definitions
+//! - `laws`: a theorem about the definitions
 #![tactic(auto)]
 
 mod by_place;

@@ -1,6 +1,6 @@
 //! Raises a horizon to the ground of one line (`raise`).
 //!
-//! Pieces that a quick test finds nowhere below the line stay whole; their targets are skipped.
+//! A piece that a quick test finds nowhere below the line's ground stays; its targets are skipped.
 ghost use Rattle.std.specs.Prelude.{◌≡◌, ℕ, ◌+◌, ◌^◌, ◌<◌, ◌≤◌, IsTrue, true, ◌↔◌, pos, ◌-ℤ◌, ◌≤ℤ◌, length, Some, OnOk, slice_get, unsigned_abs};
 ghost use Rattle.std.specs.Bool.{OnTrue};
 ghost use Rattle.horizons.specs.declared.target.Target.{Target};
@@ -112,7 +112,7 @@ fn count_before_side(family: Family, line: u32, targets: &[Target]) -> usize
 }
 
 /// Whether a piece's ramp may be ground of the line just before `line`.
-/// A line mostly rises above the ground just before it, so `raise` does not test such a piece.
+/// A line's ground mostly rises above that of the line before: `raise` does not test such a piece.
 #[inline(always)]
 fn is_of_last_line(piece: Piece, line: u32) -> bool
     requires line { 0 < line }
@@ -120,7 +120,7 @@ fn is_of_last_line(piece: Piece, line: u32) -> bool
     piece.ramp.lines == line - 1
 }
 
-/// Returns true only if a line is nowhere above a piece from target `from` on.
+/// Returns true only if a line's ground is nowhere above a piece from target `from` on.
 #[inline(always)]
 fn is_too_low(
     cells: &[Cell],
@@ -153,7 +153,7 @@ fn is_too_low(
     )
 }
 
-/// Raises a piece of `highest` to a line's ground, and extends `raised` by that.
+/// Extends `raised` by a piece of `highest`, raised to a line's ground.
 fn raise_piece(
     cells: &[Cell],
     family: Family,
@@ -179,7 +179,7 @@ fn raise_piece(
     let mut from = raised.extent();
     while from < piece.end {
         let span = family.span(cells, line, targets[from]);
-        // this ray and all later ones are past the side, so the sweep has passed their targets
+        // rays from this slope on cross past the side, so the sweep has passed their targets
         if span.offset >= family.end_offset() {
             return raised.push(piece.end, passed());
         }

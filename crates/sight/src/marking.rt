@@ -68,7 +68,7 @@ impl<'a> Viewing<'a> {
         requires eye { observer.now.eye ≤ highest_eye }
     {
         let mut walked = WalkCache::none();
-        // steps of 37 rows and 61 columns, both prime, scatter the sample over most tiles
+        // strides of 37 rows and 61 columns, both prime, scatter the sample in a tile of most sizes
         for step in 0..SAMPLES {
             let place = Place {
                 row: bounds.top + step * 37 % bounds.rows,

@@ -22,7 +22,7 @@ use terrain::{Cell, Observer, Place};
 use tiles::Bounds;
 
 impl Family {
-    /// Returns the family with these lines, but counted toward coordinate 0.
+    /// Returns this family with its lines on the side toward coordinate 0.
     fn reverse(self) -> Self
         ensures { result ≡ facing self true }
     {

@@ -45,7 +45,7 @@ fn one_more(value: Count) -> Count
     }
 }
 
-/// Adds 1 to the value of each cell that has a mark.
+/// Adds 1 to the value of each marked cell; no data stays no data.
 fn count_seen(seen: &[bool], values: &mut [Count])
     requires size { length seen.now ≡ length values.old }
     requires few { AreAtMost 1023 values.old }

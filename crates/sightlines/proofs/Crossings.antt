@@ -1,4 +1,4 @@
--- The two walks of a line of sight meet its column and its row crossings, from either end.
+-- A walk over columns, from either end, is blocked exactly if a column crossing blocks; rows alike.
 use Rattle.std.proofs.Common.{arith, refl, sym, ap, ◌∙◌, ◌≡◌, ◌+◌, ◌-◌, ◌*◌, ◌<◌, ◌≤◌, ℕ, ℤ, Option, None, get_or, length, max, inl, inr, List}
 use Rattle.std.specs.Int.{abs_diff}
 use Rattle.std.proofs.lemmas.Bool.{cases_lt}
@@ -17,7 +17,7 @@ use Rattle.std.proofs.lemmas.Int.{ints}
 use Rattle.sightlines.specs.declared.walk.Axis.{Axis}
 use Rattle.sightlines.specs.declared.walk.Sightline.{Sightline}
 
--- equal near cells give equal results, if the far cells are equal too or their weight is 0
+-- `is_above` is equal for equal near cells, if the far cells are equal too or their weight is 0
 above_same : (near near' far far' : Option ℤ) (v w : ℕ) (z : ℤ) → near ≡ near' →
     (0 < w → far ≡ far') → is_above near v far w z ≡ is_above near' v far' w z
 above_same near near' far far' v w z e same =

@@ -1,4 +1,4 @@
--- The ground between two cells.
+-- The ground between two data cells of weights above 0 is the sum of their weighted heights.
 use Rattle.std.proofs.Common.{arith, refl, ◌≡◌, ◌<◌, ℕ, eqb, ℤ, pos, ◌+ℤ◌, ◌*ℤ◌, int_lt, Option, Some, option_map}
 use Rattle.std.proofs.lemmas.Bool.{ne_eqb, cond-false}
 use Rattle.sightlines.specs.Walk.{is_above, weighed_height}

@@ -198,7 +198,7 @@ not_blocked cells line k some inside low_at =
     (λ part h is. rw all (low_at (b + 1) (omega arith) (omega arith)
     (whole_lt line.side n k some (omega arith) part) h (ap (λ x. get_or cells x None) beside ∙ is)))
 
--- a line not below the blocks between two steps is not blocked there
+-- a step between two others does not block, if all blocks between these are low at both
 pub step_passed : (size : ℕ) (cells tops : List (Option ℤ)) (line : Sightline) (s : BlockStrides)
     (i j k block : ℕ) (start end : Step)
     → 0 < steps_of line → i ≤ k → k < j → j ≤ steps_of line → IsAt line i start → IsAt line j end →
@@ -275,7 +275,7 @@ block_below size cols rows r c some a b =
           (block_before size r rows some a) (block_before size c cols some b),
     )
 
--- a block's entry, at index j, is no less than the height of its place at index i
+-- the entry of a block, at index j, is no less than the height of a place in it, at index i
 top_at : (size : ℕ) (t : Terrain) (tops : List (Option ℤ)) (r c i j : ℕ) (h : ℤ) →
     AreTops size t tops → r < t.rows → c < t.cols → i ≡ r * t.cols + c →
     j ≡ r / size * blocks_in size t.cols + c / size

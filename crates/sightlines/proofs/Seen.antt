@@ -1,4 +1,4 @@
--- With data, within the radius, a target is seen where neither walk is blocked.
+-- With data, within the radius, a target is seen exactly if neither walk is blocked.
 use Rattle.std.proofs.Common.{arith, refl, sym, ap, ◌∙◌, ◌≡◌, ℤ, pos, ◌+ℤ◌, ℕ, Bool, true, false, not, ◌&&◌, Some, is_some}
 use Rattle.terrain.specs.Raster.{Terrain, IsTerrain}
 use Rattle.terrain.specs.Neighbours.{IsInside, height_at}
@@ -8,7 +8,7 @@ use Rattle.sightlines.specs.Walk.{walk_blocks, over_columns, over_rows, IsLevel,
 use Rattle.terrain.specs.declared.observer.Observer.{Observer}
 use Rattle.sightlines.proofs.Crossings.{column_blocks-walk, row_blocks-walk, columns_in_list, rows_in_list, walk_back}
 
--- with data in both cells and the target within the radius, the crossings decide
+-- with data in both cells, within the radius, a target is seen exactly if neither walk is blocked
 seen_is : (t : Terrain) (o : Observer) (q : Place) (target radius : ℕ) (from to : ℤ) →
     IsInside t (place_of o) → IsInside t q
     → height_at t (place_of o) ≡ Some from → height_at t q ≡ Some to →

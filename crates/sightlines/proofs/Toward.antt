@@ -38,7 +38,7 @@ toward_le a b n k h =
     within a b (max a b) k (n - k) (omega arith) (omega arith) in
     omega (arith, ap (λ z. max a b * z) e)
 
--- m more steps add `ahead` - `behind` cells and `part` parts, if the parts sum to below a cell
+-- m steps that gain `ahead` - `behind` cells and `part` parts add these, if the parts sum below n
 pub step_stays : (a b n k m ahead behind part : ℕ) → k + m ≤ n →
     m * b + behind * n ≡ m * a + ahead * n + part → toward a b n k % n + part < n
     → (toward a b n (k + m) / n + behind ≡ toward a b n k / n + ahead)

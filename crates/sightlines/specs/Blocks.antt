@@ -41,7 +41,7 @@ pub record IsTops (t : Terrain) (tops : MaxHeights) : Type 0 where
   pub height : IsHeight tops.peak
   pub peak : IsPeak tops.far.items tops.peak
 
--- Up to the line's greater ends, no height of a block is above its entry, found by strides `s`.
+-- No height up to the line's greater ends is above its block's entry, found by strides `s`.
 pub record AreTopsAlong (size : ℕ) (cells tops : List (Option ℤ)) (l : Sightline)
     (s : BlockStrides) : Type 0 where
   pub heights : AreHeights tops

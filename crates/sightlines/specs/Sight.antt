@@ -1,5 +1,5 @@
 -- What an observer sees. Source: the textbook line of sight over heights as read, tested where it
--- crosses the lines that join neighbouring cell centres.
+-- crosses the columns and the rows of cell centres.
 -- Trust base.
 use Rattle.std.specs.Prelude.{◌≡◌, ℕ, ◌+◌, ◌-◌, ◌*◌, ◌/◌, ◌%◌, Bool, false, not, ◌&&◌, ◌==◌, ◌<◌, ◌≤◌, nat_lt, nat_le, if◌then◌else◌, ℤ, pos, ◌+ℤ◌, ◌-ℤ◌, ◌*ℤ◌, int_lt, Option, Some, is_some, option_map, option_and_then}
 use Rattle.std.specs.Int.{abs_diff}
@@ -43,7 +43,7 @@ pub record Crossing : Type 0 where
   pub far : Place
   pub far_weight : ℕ
 
--- The crossing with the k-th of n columns. The line is m n-ths of a row past the near cell.
+-- The crossing with the k-th of n columns from p to q, m n-ths of a row past the near cell.
 abbrev pub column_crossing : Place → Place → ℕ → ℕ → Crossing
 column_crossing p q n k =
     let col = onward p.col q.col k in
@@ -56,7 +56,7 @@ column_crossing p q n k =
       far_weight = m;
     }
 
--- The crossing with the k-th of n rows. The line is m n-ths of a column past the near cell.
+-- The crossing with the k-th of n rows from p to q, m n-ths of a column past the near cell.
 abbrev pub row_crossing : Place → Place → ℕ → ℕ → Crossing
 row_crossing p q n k =
     let row = onward p.row q.row k in
@@ -110,7 +110,7 @@ is_near p q radius =
 abbrev pub place_of : Observer → Place
 place_of o = record { row = o.row; col = o.col }
 
--- No crossing blocks the line of sight to a place.
+-- No crossing blocks the line from the observer's eye to `target` units above a place.
 abbrev pub is_open : Terrain → Observer → Place → ℕ → Bool
 is_open t o q target =
     let p = place_of o in

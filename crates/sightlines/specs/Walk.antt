@@ -100,7 +100,7 @@ pub record IsSightline (l : Sightline) : Type 0 where
   pub from_level : IsLevel l.from_level
   pub to_level : IsLevel l.to_level
 
--- The place and the sight are those of the line at step k.
+-- The place on the side coordinate and the sight are those of the line at step k.
 pub record IsAt (l : Sightline) (k : ℕ) (s : Step) : Type 0 where
   pub whole : s.whole ≡ whole_at l.side (steps_of l) k
   pub part : s.part ≡ part_at l.side (steps_of l) k

@@ -1,10 +1,10 @@
 //! One line of sight over a terrain grid: whether an observer sees a place.
 //!
 //! A line of sight runs from an observer's eye to a height above a cell. It is tested where it
-//! crosses the lines that join neighbouring cell centres. The earth counts as flat.
+//! crosses the columns and the rows of cell centres. The earth counts as flat.
 //!
-//! [`sees`] tests every crossing. [`sees_past_blocks`] returns the same result and skips blocks of
-//! cells below the line. Depends on `terrain` alone.
+//! [`sees`] tests crossings until one blocks. [`sees_past_blocks`] returns the same result and
+//! skips blocks of cells below the line. Depends on `terrain` alone.
 //!
 //! Modules, callers first:
 //!

@@ -156,8 +156,8 @@ fn is_clear(peak: Height, line: Sightline, here: Step) -> bool
 }
 
 /// Returns a step between a line's two ends with ground above the line, if any.
-/// The walk never skips the near block where it begins, which is seldom below the line. Later it
-/// skips far or near blocks below the line. It ends once the line cannot fall below the peak. Adds
+/// The walk ends once the line cannot fall below the peak. It does not skip the near block where it
+/// begins, which is seldom below the line; later it skips far or near blocks below the line. Adds
 /// the crossings of runs not skipped to `crossings_tested`. Compiled out of line.
 #[inline(never)]
 pub(crate) fn blocking_step_past_blocks(

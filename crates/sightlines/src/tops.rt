@@ -10,7 +10,7 @@ pub const NEAR_BLOCK: u32 = 16;
 /// The side of a far block, in cells: 8 near blocks.
 pub const FAR_BLOCK: u32 = 128;
 
-/// The greatest heights of a grid and of its blocks, in row order.
+/// The greatest heights of a grid's blocks, in row order, and a bound of all heights.
 /// A block without data is a NODATA cell of its list.
 #[derive(Drop)]
 pub struct MaxHeights {

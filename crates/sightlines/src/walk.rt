@@ -303,7 +303,7 @@ impl Pace {
     }
 }
 
-/// Returns the first step, `first` to below `end`, with ground above the line.
+/// Returns the first step with ground above the line, if any from `first` to below `end`.
 /// `start` is the place and the level of the line at step `first`.
 #[inline(always)]
 pub(crate) fn blocking_step(

@@ -28,13 +28,13 @@ sink_fault_of t index p =
     else if is_none (height_at t p) then Some (OnNodata index)
     else None
 
--- The fault of the first faulty sink, where the list's entries count from this index.
+-- The fault of the first faulty sink, if any; the list's entries count from this index.
 abbrev pub first_sink_fault : Terrain → ℕ → List Place → Option SinkFault
 first_sink_fault t index [] = None
 first_sink_fault t index (p ∷ rest) =
     option_or (sink_fault_of t index p) (first_sink_fault t (index + 1) rest)
 
--- The fault of a list of sinks: too many, repeats counted; else its first faulty sink.
+-- The fault of a list of sinks: too many, repeats counted; else that of its first faulty sink.
 abbrev pub sinks_fault : Terrain → List Place → Option SinkFault
 sinks_fault t sinks =
     if nat_lt most_sinks (length sinks) then Some TooManySinks else first_sink_fault t 0 sinks

@@ -176,8 +176,8 @@ impl Frame {
         &self.header.nodata
     }
 
-    /// Returns the frame's grid with `cells` in place of its own cells.
-    /// Their heights must occur in the grid: they are then in range and differ from NODATA.
+    /// Returns the frame's grid with as many `cells` in place of its own cells.
+    /// Their heights must occur in the grid: they are then in range and not the NODATA value.
     ///
     /// # Errors
     ///
@@ -326,8 +326,8 @@ impl Grid {
         false
     }
 
-    /// Returns the grid with a copy of `cells` in place of its own cells.
-    /// Their heights must occur in the grid: they are then in range and differ from NODATA.
+    /// Returns the grid with a copy of as many `cells` in place of its own cells.
+    /// Their heights must occur in the grid: they are then in range and not the NODATA value.
     ///
     /// # Errors
     ///

@@ -1,4 +1,4 @@
--- The text that a job makes is that of its part; the texts of all parts are the map's rows.
+-- The text that a job makes is that of its part; all parts in order are the text of the map's rows.
 use Rattle.std.proofs.Common.{◌≡◌, ℕ, zero, suc, ◌+◌, ◌-◌, ◌*◌, ◌/◌, ◌<◌, ◌≤◌, min, inl, inr, List, ◌++◌, length, take, drop, get_or, Vec, Global, sym, ap, subst, ◌∙◌, arith, length-drop}
 use Rattle.std.specs.Int.{div_ceil}
 use Rattle.std.specs.List.{flat_map}
@@ -26,7 +26,7 @@ part_within n cols each part count below e =
     omega (arith, rows, div-mul-le_self n cols)
 
 module _ {X : Type 0} (f : X → List ℕ) (cols each : ℕ) (cells : List X) where
-  -- the rows of a part's own cells are the part's text
+  -- the text of the rows of a part's own cells is the part's text
   pub lines_of_part : (part count : ℕ) → 0 < cols → part * each < length cells / cols →
       count ≡ min each (length cells / cols - part * each) →
       let own =
@@ -53,7 +53,7 @@ module _ {X : Type 0} (f : X → List ℕ) (cols each : ℕ) (cells : List X) wh
     abbrev bytes : Vec ℕ Global → List ℕ
     bytes text = text.items
 
-    -- the rows before a part and the part are the rows before the next one
+    -- the text of the rows before a part, and then the part's, is that of the rows before the next
     part_more : (k : ℕ) → k * each < length cells / cols → rows_text f cols
         (min (k * each) (length cells / cols)) cells ++ part_text f cols each cells k
         ≡ rows_text f cols (min (suc k * each) (length cells / cols)) cells
@@ -91,7 +91,7 @@ module _ {X : Type 0} (f : X → List ℕ) (cols each : ℕ) (cells : List X) wh
         ∙ ap (λ n. rows_text f cols n cells) (let e :
         min (length texts * each) (length cells / cols) ≡ length cells / cols = omega arith in e)
 
-  -- the texts of all parts, joined, are the rows of the map
+  -- the texts of all parts, in order, are the text of the map's rows
   pub parts_joined : (texts : List (Vec ℕ Global)) (parts : ℕ) → 0 < each → length texts ≡ parts →
       parts ≡ div_ceil (length cells / cols) each →
       ((part : ℕ) (d : Vec ℕ Global) → part < parts →

@@ -13,7 +13,7 @@ use terrain::Grid;
 use tile_jobs::{Gate, MOST_JOBS};
 use tile_maps::Runner;
 
-/// The least bytes of a batch's front: no job parses its header or cut word.
+/// The least bytes of a long batch's front: no job parses the header or a cut word in it.
 const FRONT_BYTES: usize = 4096;
 
 /// Reads a grid from a device, by several workers.
@@ -90,7 +90,7 @@ fn feed_next_batch<T: Threads + Wait + Sync, R: Read, G: Gate + Sync>(
     }
 }
 
-/// Feeds a batch to the reader. Workers parse the heights of a long batch.
+/// Feeds a batch to the reader. Workers parse most heights of a long batch.
 fn feed_batch<T: Threads + Wait + Sync, G: Gate + Sync>(
     runner: &Runner<T, G>,
     reader: &mut GridReader,

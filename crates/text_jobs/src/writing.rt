@@ -21,7 +21,7 @@ use tile_maps::Runner;
 /// The most cells of which one job makes the text.
 const JOB_CELLS: usize = 65_536;
 
-/// One job for every `rows_each` rows of a map; it returns their text.
+/// One job for every `rows_each` rows of a map, and for a rest; it returns their text.
 #[derive(Drop)]
 struct LineJobs<'a, E> {
     cells: &'a [E],

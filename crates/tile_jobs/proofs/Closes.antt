@@ -1,4 +1,4 @@
--- Closing a board, deque by deque.
+-- Closing a board, deque by deque: the jobs left (`IsLeft`), and `IsClosed` after all deques.
 use Rattle.std.proofs.Common.{◌≡◌, ◌≢◌, ℕ, zero, suc, ◌+◌, ◌-◌, ◌%◌, ◌<◌, ◌≤◌, true, false, cond, ◌==◌, nat_lt, add-one, add-zero, List, [], ◌∷◌, ◌++◌, length, get_or, drop, sym, refl, ap, ◌∙◌, arith, inl, inr, below_more}
 use Rattle.std.proofs.lemmas.Bool.Decides.{nat_tests}
 use Rattle.std.proofs.lemmas.Bool.{cases_eq, eq-eqb, ne_eqb}

@@ -1,7 +1,7 @@
 -- Dealing the jobs.
 pub mod Residues
 pub mod Rounds
--- One job taken by a seat.
+-- Pushes, takes, splits and joins on a deque, and what a job taken changes in a seat.
 pub mod Entries
 pub mod Totals
 pub mod Steps

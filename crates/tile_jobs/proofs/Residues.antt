@@ -109,7 +109,7 @@ room_left seats jobs xs w low h less =
     sum_lt seats (λ v. length (of v seats xs)) (λ v. length (deal jobs seats v)) w low h less in
     omega arith
 
--- If a deque's deal begins with its jobs below j and then j, so does its deal of one more job.
+-- If a deque's deal of m jobs begins with its jobs below j and then j, so does that of m + 1.
 deal_on_at : (b : Bool) (m seats v j : ℕ) → (m % seats == v) ≡ b →
     (rest : List ℕ) → deal m seats v ≡ deal j seats v ++ j ∷ rest → (more : List ℕ)
     × (deal (suc m) seats v ≡ deal j seats v ++ j ∷ more)

@@ -45,7 +45,7 @@ left_of_feed items views h port u at can =
     h.held ∙ ap (drop (total taken views))
     (rw (all_pushed items views h port u at can) (take_all (length all) all (omega arith)))
 
--- `Lawful` after one entry was taken.
+-- A take keeps `Lawful` if the new view w of its pass is lawful (`IsOf`) and counts the entry.
 taken_after : (x : Entry) (items : List Entry) (views : List Log) (h : Lawful (x ∷ items) views)
     (port : ℕ) (u w : Log) → get_elem? views port ≡ some u → CanTake u
     → taken w ≡ suc (taken u) → share w ≡ share u → ((y : ℕ) → times y (all_taken w)
@@ -183,7 +183,7 @@ pub finds_few : (port : ℕ) (u : Log) → CanTake u → FindsFew Lawful 0 port 
 finds_few port u can [] views few h at = never_empty port u can views h at
 finds_few port u can (x ∷ xs) views few h at = absurd (omega arith)
 
--- Splitting a stealing pass off the owner's keeps `Lawful`.
+-- Splitting a pass off the owner's keeps `Lawful` if all is pushed and two marks or more are due.
 pub forks : (port : ℕ) (u : Log) → u.owns ≡ true → u.pushed ≡ length (feed u.jobs u.seats u.deque) →
     1 < u.marks_due → Forks Lawful port u (after_split u) (split_off u)
 forks port u owns all two items views h at =
@@ -307,7 +307,7 @@ merges port u other w owns items views h at two at' =
           h.views_are j v r.1) (at_set views port j both v q.1)) (at_set vs other j spent v e);
     }
 
--- All passes are joined to the owner's, and an end mark was taken.
+-- The owner's view, once all passes are joined to its pass and an end mark was taken.
 abbrev pub IsWhole : Log → Type 0
 IsWhole u = (u.owns ≡ true) × (share u ≡ u.seats) × (0 < u.marks)
 
@@ -354,7 +354,7 @@ begins = record {
   views_are = first_is;
 }
 
--- `Lawful` after one more entry was pushed.
+-- Pushing the next entry keeps `Lawful` if none was taken and the other views stay lawful.
 pushed_after : (J S V n : ℕ) (e : Entry) (rest items : List Entry) (views : List Log)
     (h : Lawful items views) (port : ℕ) → get_elem? views port ≡ some (dealing J S V n) →
     e ∷ rest ≡ drop n (feed J S V)

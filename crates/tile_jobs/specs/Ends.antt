@@ -46,11 +46,11 @@ abbrev pub IsOwn : Bool → Log → Type 0
 IsOwn marked u =
     IsSeated marked u × (u.owns ≡ true) × (u.pushed ≡ length (feed u.jobs u.seats u.deque))
 
--- A stealing seat's view between two calls.
+-- A stealing seat's view between two calls: its pass was split off after all entries were pushed.
 abbrev pub IsOther : Bool → Log → Type 0
 IsOther marked u = IsSeated marked u × (u.ready ≡ true)
 
--- Two states of one end: they name the same deque of the same board.
+-- The two ends are of the same deque, and have the same numbers of jobs, seats and deque.
 abbrev pub SameEnd : EndState → EndState → Type 0
 SameEnd e f = (f.id ≡ e.id) × (f.jobs ≡ e.jobs) × (f.seats ≡ e.seats) × (f.deque ≡ e.deque)
 
@@ -74,7 +74,7 @@ pub record TookJob (e : EndState) (j : ℕ) (f : EndState) : Type 0 where
 abbrev pub LostSteal : EndState → EndState → Type 0
 LostSteal e f = (f ≡ record e { seen = f.seen }) × (e.seen < f.seen) × (e.marked ≡ false)
 
--- No job was taken at any of the ends.
+-- Each end is `Kept`: no job was taken at any of them, and their marks stay.
 abbrev pub AllKept : List EndState → List EndState → Type 0
 AllKept es fs = (i : ℕ) (d : EndState) → i < length es → Kept (get_or es i d) (get_or fs i d)
 
@@ -221,7 +221,7 @@ pub record ClosingState : Type 0 where
   pub deque : ℕ
   pub took : List ℕ
   pub gathered : List ℕ
-  -- how many ends were joined, the owner's included, and how many end marks their seats took
+  -- how many ends were joined, the owner's included; how many marks were taken, by `close` too
   pub back : ℕ
   pub marks : ℕ
   pub marked : Bool
@@ -257,7 +257,7 @@ AbsorbedEnd s e t = (t.id ≡ s.id) × (t.jobs ≡ s.jobs) × (t.seats ≡ s.sea
     × (t.took ≡ s.took) × (t.gathered ≡ s.gathered ++ e.took) × (t.back ≡ suc s.back)
     × (s.marks ≤ t.marks) × (e.marked ≡ true → 0 < t.marks) × (t.marked ≡ s.marked)
 
--- The number of jobs taken, which is the index in the deal of the first job left.
+-- How many jobs the lists have: once all ends were joined, the deal's index of the first job left.
 abbrev pub position_of : ClosingState → ℕ
 position_of s = length (s.took ++ s.gathered)
 

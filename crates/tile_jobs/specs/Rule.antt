@@ -1,9 +1,9 @@
 -- The pushes and takes on one deque, and the invariant `Lawful` that they keep. The dealer pushes
 -- jobs, then end marks. Then the owner pops and the other seats steal, each until it gets a mark.
--- Each pass has a view (`Log`) of what it did. A push changes the view of its pass as `dealing`
--- says, a pop or a steal as `Took` says; other views stay. Before the first take the dealer splits
--- off a pass for each other seat, which may take one mark (`after_split`, `split_off`).
--- At the end each pass is joined to the owner's again (`taken_back`, `spent`).
+-- A pass is a right to act on the deque, with a view (`Log`) of what it did. A push changes the
+-- view of its pass as `dealing` says, a pop or a steal as `Took` says; other views stay. Before the
+-- first take the dealer splits off a pass for each other seat, which may take one mark
+-- (`after_split`, `split_off`). At the end each is joined to the owner's (`taken_back`, `spent`).
 -- Private.
 use Rattle.std.specs.Prelude.{◌≡◌, ℕ, zero, suc, ◌+◌, ◌-◌, ◌%◌, ◌<◌, ◌≤◌, ◌⊎◌, true, false, List, [], ◌∷◌, ◌++◌, length, take, drop, All}
 use Rattle.std.specs.List.{concat}

@@ -24,7 +24,7 @@ pub record LosesRace (s t : SeatState) : Type 0 where
   pub taken : t.taken ≡ s.taken
   pub own_first : t.own.marked ≡ true
   pub several : 1 < s.own.seats
-  -- Some other deque lost an entry to another seat since this seat last looked.
+  -- At some other deque a steal got no entry, and the seat saw more entries taken than before.
   pub others : LostAmong 0 (length s.others) s.others t.others
 
 -- The seat took no job, and has its end marks of all deques.

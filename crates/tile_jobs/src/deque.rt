@@ -77,7 +77,7 @@ impl DequeKey for Brand {
     ghost deque = { 0 };
 }
 
-/// The outcome of a push on deque `D`.
+/// The outcome of a push on the deque that `D` names: `dealing` with one more push.
 pub struct Deals<D> {
     place: PhantomData<D>,
 }
@@ -89,7 +89,7 @@ impl<D: DequeKey> Outcome<Entry, Log> for Deals<D> {
     ghost then = { λ v xs w. w ≡ dealing D.jobs D.seats D.deque (suc v.pushed) };
 }
 
-/// The outcome of taking one entry.
+/// The outcome of taking one entry, as `Took` says. The deque is never found empty.
 pub struct Takes;
 
 impl Outcome<Entry, Log> for Takes {
@@ -100,7 +100,7 @@ impl Outcome<Entry, Log> for Takes {
     ghost empty = { λ _. ⊥ };
 }
 
-/// The outcome of taking the next entry in the order pushed.
+/// The outcome of taking the next entry in the order pushed. The deque is never found empty.
 pub struct TakesNext;
 
 impl Outcome<Entry, Log> for TakesNext {

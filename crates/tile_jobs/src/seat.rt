@@ -87,7 +87,7 @@ impl Seat {
     /// Tries at most one steal at each other deque, from the next seat's to the last, then from the
     /// first. A seat gets the jobs of one deque in rising order. Never allocates and never waits.
     ///
-    /// Returns [`Take::Empty`] once this seat has its end mark, put after all jobs, of every deque.
+    /// Returns [`Take::Empty`] once this seat took each deque's end mark, which no job follows.
     /// Returns [`Take::Again`] only if a steal of this call lost a race to another seat.
     ///
     /// # Examples

@@ -22,7 +22,7 @@ within_injective b p q i j e =
     let col : p.col - b.left ≡ q.col - b.left = ap (λ (r : Place). r.col) one in
     same_place p q (omega (arith, i.0, j.0)) (omega (arith, i.2, j.2))
 
--- a list of the places before p becomes one up to p by an appended entry of which `Has p` holds
+-- a list made for the places before p, with an entry of `Has p` appended, is made up to p
 pub made_push : {X : Type 0} (b : Bounds) (Has : Place → X → Type 0) (p : Place) (list : List X)
     (x : X) → IsInBounds b p →
     AreMadeBelow b Has (index_in b p) list → Has p x →
@@ -56,7 +56,7 @@ made_next {X} b Has row col list x below beside before here =
     (made_push b Has p list x (omega arith, omega arith, omega arith, omega arith)
     (subst (λ (n : ℕ). AreMadeBelow b Has n list) (sym at) before) here)
 
--- a list is a tile's if it has an entry for each place of the tile's bounds
+-- a list made for all places of a tile's bounds (`AreMadeBelow`) is the tile's (`IsMadeTile`)
 pub made_tile : {X : Type 0} (c : Cutting) (tile : ℕ) (b : Bounds) (Has : Place → X → Type 0)
     (list : List X) → IsCutting c → b ≡ bounds_of c tile →
     AreMadeBelow b Has (b.rows * b.cols) list → IsMadeTile c tile Has list

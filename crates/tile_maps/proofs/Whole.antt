@@ -46,7 +46,7 @@ module _ {X : Type 0} (c : Cutting) (Has : Place → X → Type 0) (n : ℕ)
         ];
   }
 
--- a list as long as a tile is the tile's, if `Has` holds of its entry at each place of the tile
+-- a list with one entry for each cell of a tile is the tile's, if `Has` holds of each entry
 pub tile_of_entries : {X : Type 0} (c : Cutting) (tile : ℕ) (Has : Place → Option X → Type 0)
     (list : List (Option X)) → length list ≡ cell_count c tile →
     ((p : Place) → IsInTile c tile p → Has p (tile_entry c tile list p)) →
@@ -70,7 +70,7 @@ entry_of_map {X} c Has whole made p within =
     (slice_get-get_or whole (index_of c.cols p) None
     (omega (arith, made.size, index_below c.cols c.rows p within.0 within.1))))
 
--- a map of `cols` by `rows` cells has as many entries, and `Has` holds of its entry at each place
+-- a map of `cols` by `rows` cells has one entry for each cell, and `Has` holds of each entry
 pub map_of_size : {X : Type 0} (c : Cutting) (cols rows : ℕ) (Has : Place → Option X → Type 0)
     (whole : List (Option X)) → c.cols ≡ cols → c.rows ≡ rows → IsMadeMap c Has whole →
     (length whole ≡ cols * rows)

@@ -86,7 +86,7 @@ crossed_at t row column h r c =
       ap (λ n. min t.side (t.cols - n)) left,
     )
 
--- the length of the joined list, with the row's cells in the first `column` columns of tiles
+-- the joined list's length with the rows before `row`, and `row` in its first `column` tiles
 abbrev pub crossed_length : Cutting → ℕ → ℕ → ℕ
 crossed_length t row column = row * t.cols + min t.cols (column * t.side)
 

@@ -71,7 +71,7 @@ impl<'a, T> TileView<'a, T> {
         part(self.cells, from, cols as usize)
     }
 
-    /// Returns the cell at a place of the tile or next to the tile, `None` elsewhere.
+    /// Returns the grid's cell at a place in the tile or next to it; `None` elsewhere.
     #[inline(always)]
     pub fn at(&self, place: Place) -> Option<&'a T>
         ensures { option_copied result ≡ cell_shown self.now place }
