@@ -39,7 +39,7 @@ other_kept b counts s r i n e spot other ne =
     λ at. ne (index_injective (b.cols + 2) r s other.1 spot.1 (at ∙ e)) in
     get_or-set_other counts i (spot_index b r) n 0 apart
 
--- a spot of the tile is appended to a list; another spot leaves the list as it is
+-- the spot is appended to the list if it lies in the tile; else the list stays as it is
 abbrev pub IsAdded : Bounds → Place → List Place → List Place → Type 0
 IsAdded b s xs ys = (IsInner b s × (ys ≡ xs ++ s ∷ [])) ⊎ ((IsInner b s → ⊥) × (ys ≡ xs))
 

@@ -40,7 +40,7 @@ module _ (t : Cutting) (tile : ℕ) (b : Bounds) (lawful : IsCutting t)
       is (omega (arith, at, inside)) ∙ ap (λ k. (b.top + b.rows) / t.side * across t + k) col
       ∙ ap (λ k. k / t.side * across t + tile_col) (sym at)
 
-  -- By its column, a place's tile is `first`, the tile with its row, or the one after or before.
+  -- By its column, a place's tile is `first`, which has its row, or the one after or before that.
   module _ (p : Place) (first : ℕ) (within : IsWithin t p)
       (is : IsTileWithRow t tile p.row first) where
     pub tile_there : b.left ≤ p.col → p.col < b.left + b.cols → first ≡ tile_of_place t p

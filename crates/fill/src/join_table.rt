@@ -41,7 +41,7 @@ impl Model for JoinTable {
 }
 
 /// Returns the slot of two labels at a probe: first their own, then those after.
-/// Fibonacci hashing spreads labels, which along a side often differ by multiples of 2^k.
+/// Fibonacci hashing spreads labels: they are indexes into a table, and many are close together.
 #[inline(always)]
 fn slot_of(from: u32, to: u32, probe: usize, slots: usize) -> usize
     requires { 0 < slots }

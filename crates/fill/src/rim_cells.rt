@@ -1,6 +1,6 @@
-//! The joins of cells with a neighbour after them off the tile: [`push_rim_cells`].
+//! The joins of cells whose four places after them are not all in the tile: [`push_rim_cells`].
 //!
-//! A [`MarkedCells`] has the marks of cells, and selects the cells to join with.
+//! A [`MarkedCells`] has the mark, level and label, of each cell, and selects cells to join with.
 ghost use Rattle.std.specs.Prelude.{◌≡◌, ◌+◌, ◌<◌, ◌≤◌, ◌∷◌, [], List, Bool, Some, true, OnOk};
 ghost use Rattle.terrain.specs.declared.place.Place.{Place};
 ghost use Rattle.tiles.specs.Cutting.{IsInBounds, IsWithinLimits};
@@ -33,7 +33,7 @@ pub(crate) trait MarkedCells {
 pub(crate) trait JoinList {
     ghost joins: { Self → List Join };
 
-    /// Adds a join, or lowers one of the same labels to it.
+    /// Adds a join, or lowers a listed one of the same labels to it if that is higher.
     fn add(&mut self, join: Join) -> Result<(), AllocError>
         ensures { OnOk result (AddsCovered (joins self.old) (join ∷ []) (joins self.new)) };
 }
@@ -58,7 +58,7 @@ pub(crate) fn push_join<J: JoinList>(
 
 /// Adds the join of a cell with its neighbour in direction `way`, if wanted.
 /// `way` is 0 for E, 1 for SE, 2 for S or 3 for SW; `below` is the mark to the south.
-/// With `bypassed`, leaves out the join at a corner if the detour by a cell between is as low.
+/// With `left_out.bypassed`, leaves out a corner's join if the detour by a cell between is as low.
 #[inline(always)]
 fn push_on_way<C: MarkedCells, J: JoinList>(
     joins: &mut J,
@@ -149,7 +149,7 @@ fn push_row<C: MarkedCells, J: JoinList>(
     Ok(())
 }
 
-/// Adds the wanted joins of a row's cells with a neighbour after them off the tile.
+/// Adds the wanted joins of those cells of a row whose four places after are not all in the tile.
 /// These are all cells of the tile's last row, and the first and last cell of any other row.
 pub(crate) fn push_rim_cells<C: MarkedCells, J: JoinList>(
     joins: &mut J,

@@ -38,7 +38,7 @@ fn cut_codes(
     Ok(cut)
 }
 
-/// Returns each cell's catchment: the number of the first gauge on its flow path.
+/// Returns for each cell the number of the first gauge on its flow path.
 ///
 /// The flow path includes the cell itself. A path without a gauge gives 0. A gauge's number
 /// is its position in the list, from 1. Of entries that name one cell the first counts.

@@ -107,8 +107,7 @@ fn expect_filled_or_refused<R: Abort + Threads + Wait + Sync>(rt: &R, alloc: Glo
     }
 }
 
-/// The label of the first tile's two low cells touches ten other labels:
-/// more neighbours than the list of a node holds without allocation.
+/// The first tile's two low cells have one label, with joins inside the tile and over its rim.
 #[test]
 fn refused_memory_is_told(rt: HostRuntime) {
     expect_filled_or_refused(&rt, rt.alloc(), 3);

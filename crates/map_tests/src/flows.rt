@@ -87,7 +87,7 @@ fn link_at(
 }
 
 /// Asserts the inflow and the outlet at two places.
-/// If memory is refused, links the flows once more.
+/// Links the flows twice, since the first attempt may be refused memory.
 pub(crate) fn expect_links(
     rt: &impl Abort,
     alloc: Global,

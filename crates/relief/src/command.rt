@@ -88,7 +88,7 @@ fn show_error<W: Write, E: Write>(
 /// a thread refused. 4: a device failed. An empty list counts as the program's name alone.
 ///
 /// Help and the version go to `writer`. `errors` gets the line of a fault, the place of the first
-/// bad observer, gauge or sink word, or the message of `clap`. If that write fails, the status is
+/// bad observer, gauge or sink word, or the message of `clap`. If such writes fail, the status is
 /// unchanged. `--progress` has no effect: see [`run_words_reported`].
 ///
 /// # Examples

@@ -1,4 +1,4 @@
--- Lists of bounds above the heights of blocks, and of blocks of blocks.
+-- Lists of upper bounds of the heights of blocks, and of blocks of blocks.
 use Rattle.std.proofs.Common.{arith, refl, sym, ap, subst, ◌∙◌, ◌≡◌, ◌+◌, ◌-◌, ◌*◌, ◌/◌, ◌%◌, ◌<◌, ◌≤◌, ℕ, ℤ, List, [], ◌∷◌, ◌++◌, length, length-append, get_or, get_or-take, get_or-drop, drop, slice_range, ◌≤ℤ◌, Option, None, Some, inl, inr}
 use Rattle.std.proofs.lemmas.Bool.{cases_lt}
 use Rattle.std.proofs.lemmas.List.{get_or_past}
@@ -72,7 +72,7 @@ pub tops_of_ground : (size : ℕ) (t : Terrain) (tops : List (Option ℤ)) →
 tops_of_ground size t tops are =
     record { count = are.count; heights = are.heights; above = are.above }
 
--- a row or column of cells fills as many groups of 8 near blocks as it fills far blocks
+-- a row or column of cells meets as many groups of 8 near blocks as it meets far blocks
 in_blocks : (cells : ℕ) → blocks_in 8 (blocks_in 16 cells) ≡ blocks_in 128 cells
 in_blocks cells = omega arith
 
@@ -110,7 +110,7 @@ no_tops size t from = record {
   above = λ p h low high is. absurd (omega arith);
 }
 
--- a list with the height of block k alone has the heights of blocks k to below k + 1
+-- a list of one entry, a bound for block k, has bounds for the blocks k to below k + 1
 pub one_top : (size k : ℕ) (t : Terrain) (top : Option ℤ) → 0 < size
     → IsBlockTop size t (make_place (k / blocks_in size t.cols) (k % blocks_in size t.cols)) top
     → AreTopsBetween size t k (k + 1) (top ∷ [])

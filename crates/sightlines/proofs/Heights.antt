@@ -15,7 +15,7 @@ are_heights t is i h at = elim (cases_lt i (length t.cells)) [
   | inr past ↦ let none = get_or_past t.cells i None past in absurd (cc)
 ]
 
--- if a cell's height, where it has one, is within the limits, so is that height or else 0
+-- where a cell has no height or one within the limits, its height, or 0 if none, is within them
 pub ground_is_height : (height : Option ℤ) → ((h : ℤ) → height ≡ Some h → IsHeight h) →
     IsHeight (unwrap_or height (pos 0))
 ground_is_height None are = (omega (arith, ints), omega (arith, ints))

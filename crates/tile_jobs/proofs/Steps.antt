@@ -45,7 +45,7 @@ left_of_feed items views h port u at can =
     h.held ∙ ap (drop (total taken views))
     (rw (all_pushed items views h port u at can) (take_all (length all) all (omega arith)))
 
--- A take keeps `Lawful` if the new view w of its pass is lawful (`IsOf`) and counts the entry.
+-- A take keeps `Lawful` if the pass's new view w is `IsOf`, counts the entry and keeps `share`.
 taken_after : (x : Entry) (items : List Entry) (views : List Log) (h : Lawful (x ∷ items) views)
     (port : ℕ) (u w : Log) → get_elem? views port ≡ some u → CanTake u
     → taken w ≡ suc (taken u) → share w ≡ share u → ((y : ℕ) → times y (all_taken w)
