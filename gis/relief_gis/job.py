@@ -177,8 +177,11 @@ def _tell_doubtful_heights(terrain: Terrain, job: Job, say: Say) -> None:
     data = terrain.values[terrain.valid]
     for number in (data.min(), data.max()) if data.size else ():
         if number in USUAL_NODATA:
+            # Naming another NODATA value in place would turn the cells of the present one into terrain.
+            command = (f"gdal_edit.py -a_nodata {number:g} {job.source}" if terrain.nodata is None else
+                       f"gdal_calc.py -A {job.source} --calc A --NoDataValue {number:g} --outfile named.tif")
             say(f"{np.count_nonzero(data == number):,} cells have the height {number:g}, which often means no data, and "
-                f"are taken for terrain: if it does, gdal_edit.py -a_nodata {number:g} {job.source}")
+                f"are taken for terrain: if it does, {command}")
 
 
 def _without_holes(terrain: Terrain, job: Job, say: Say) -> Terrain:

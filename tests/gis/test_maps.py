@@ -191,6 +191,17 @@ class OtherRasters(MapCase):
             self.assertEqual(self.make("fill", "dem.tif", "out.tif"), "")
             self.assertEqual(nodata_of(self.folder / "out.tif"), number)
 
+    def test_a_second_nodata_value_keeps_the_first(self):
+        heights = np.rint(hills()).astype(np.int32)
+        heights[:2, :3] = -9999
+        heights[5, 5] = -1
+        make_raster(self.folder / "dem.tif", heights, -1)
+        command = self.make("fill", "dem.tif", "out.tif", "--voids", "drain").split("if it does, ")[1].split("\n")[0]
+        subprocess.run(command.split(), cwd=self.folder, check=True, stdout=subprocess.DEVNULL)
+        self.make("fill", "named.tif", "out.tif", "--voids", "drain")
+        self.assertEqual(nodata_of(self.folder / "out.tif"), -9999)
+        self.assertEqual(np.count_nonzero(read(self.folder / "out.tif") == -9999), 7)
+
     def test_doubles_below_zero(self):
         heights = hills() - 330
         make_raster(self.folder / "dem.tif", heights, -9999.0)
