@@ -12,7 +12,6 @@ use Rattle.ascii_grid.specs.GridText.{same_value, is_nodata, is_cell, spelled_ce
 use Rattle.ascii_grid.specs.Meaning.{meaning_of}
 use Rattle.ascii_grid.specs.declared.cell.Meaning.TheVariants.{Cell, Nothing}
 
--- a word with a scaled value is NODATA if and only if the NODATA word has the same value
 pub nodata_by_value : (d : ℕ) (nodata w : Word) (z : ℤ) → scaled_value d w ≡ Some z →
     is_nodata d nodata w ≡ same_value (Some z) (scaled_value d nodata)
 nodata_by_value d nodata w z e =
@@ -37,7 +36,6 @@ meaning_of_height d nodata w z e other high =
     let value : spelled_cell d nodata w ≡ Some z = rw (is, e) refl in
     rw (cell, value) refl
 
--- where `cond b (Cell c) Nothing` is `Cell cell`, `b` is true and `c` is `cell`
 pub meaning_cell : (b : Bool) (c cell : Option ℤ) → cond b (Cell c) Nothing ≡ Cell cell →
     (b ≡ true) × (c ≡ cell)
 meaning_cell true c cell e = (refl, cc)

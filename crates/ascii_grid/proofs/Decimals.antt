@@ -21,7 +21,6 @@ pub div_pow_last : (n k : ℕ) → n / 10 ^ k / 10 ≡ n / 10 ^ (k + 1)
 div_pow_last n k = div-div-eq-div-mul n (10 ^ k) 10 ∙ ap (λ m.
     n / m) (let e : 10 ^ k * 10 ≡ 10 ^ (k + 1) = rw (add-one, pow-succ') (omega arith) in e)
 
--- the last k + 1 digits are one digit and the last k
 pub last_digits-front : (k n : ℕ) → last_digits (suc k) n ≡ (48 + n / 10 ^ k % 10) ∷ last_digits k n
 last_digits-front zero n = ap (λ m. (48 + m % 10) ∷ []) (sym (div-one n))
 last_digits-front (suc k) n =
@@ -38,7 +37,6 @@ digit_before k n left at buffer e h d =
     ∙ ap (λ m. (48 + m % 10) ∷ last_digits k n) e
     ∙ sym (rw add-one (last_digits-front k n))
 
--- a number of at least 10^k has more than k digits
 pub many_digits : (n : ℕ) → n < 2 ^ 64 → (k : ℕ) → 10 ^ k ≤ n → k < length (decimal n)
 many_digits n h = decimal_by_steps (λ m ds. (k : ℕ) → 10 ^ k ≤ m → k < length ds) first next n h
   where
@@ -112,7 +110,6 @@ length-last_digits (suc d) n =
     let e = length-last_digits d (n / 10) in
     omega (arith, e, length-append (last_digits d (n / 10)) ((48 + n % 10) ∷ []))
 
--- the whole part and the decimals of a number, read as one number, are that number
 pub scaled_digits : (d n : ℕ) → n < 2 ^ 64 → number_of (decimal (n / 10 ^ d) ++ last_digits d n) ≡ n
 scaled_digits zero n h = ap number_of (append-nil (decimal (n / 10 ^ 0)))
     ∙ ap (λ m. number_of (decimal m)) (div-one n) ∙ decimal_value n h

@@ -22,7 +22,6 @@ use Rattle.ascii_grid.proofs.JudgedWords.{at_heights, is_memory, word_fault, lon
 
 -- ---- the bytes kept
 
--- if a byte fits after a word's kept front, they are the kept front of the word with that byte
 pub kept_more : (w front : Word) (b : ℕ) → front ≡ take 65 w → length front + 1 ≤ 65 →
     front ++ b ∷ [] ≡ take 65 (w ++ b ∷ [])
 kept_more w front b e h =
@@ -147,7 +146,6 @@ parted_word text bytes ws len b begun none some inside at ends =
     subst (λ t. IsParted t (ws ++ w ∷ []) []) bytes_are (subst (λ z.
     IsParted ((text ++ w) ++ b ∷ []) z []) all (IsParted-separator (text ++ w) ws w b whole ends))
 
--- where no byte of an unfinished word is stored, the last part of the split text is empty
 pub parted_ended : (p : Tokenizer) (text : List ℕ) (h : HasWords p text) → p.word ≡ [] →
     IsParted text h.ended []
 parted_ended p text h e =
@@ -155,7 +153,7 @@ parted_ended p text h e =
     nil_from_length h.last (omega (arith, ap length (sym h.front ∙ e), length-take 65 h.last)) in
     subst (λ z. IsParted text h.ended z) last h.parted
 
--- between heights, a plain height (`IsPlain`) and a separator give an ended word or its fault
+-- between heights, bytes that are `IsPlain` and a separator give an ended word or its fault
 pub plain_word : {T : Type 0} (p : Tokenizer) (j : GridBuilder) (text bytes : List ℕ)
     (len b : ℕ) (value : ℤ) (r : Result T GridFault) → HasWords p text → p.word ≡ [] →
     p.builder.stage ≡ AtHeights → IsPlain p.builder.scale bytes len value → len < length bytes →

@@ -49,7 +49,6 @@ so_far d text =
           (sym (option_or-none (words_fault d (ended_words text))))
     ]
 
--- the first 2^29 bytes of `front ++ more` begin with those of `front`
 front_of : (front more : List ℕ) → (rest : List ℕ)
     × (take most_bytes (front ++ more) ≡ take most_bytes front ++ rest)
 front_of front more =
@@ -68,7 +67,6 @@ front_of front more =
           )
     ]
 
--- words ended in the first 2^29 bytes of `front` are the first such words of `front ++ more`
 in_time-more : (front more : List ℕ) → (others : List Word) × (ended_words
     (take most_bytes (front ++ more)) ≡ ended_words (take most_bytes front) ++ others)
 in_time-more front more =
@@ -76,7 +74,6 @@ in_time-more front more =
     let next = ended-more (take most_bytes front) cut.0 in
     (next.0, ap ended_words cut.1 ∙ next.1)
 
--- words that ended within the first 2^29 bytes are the first of the judged words
 in_time-judged : (text : List ℕ) → (others : List Word)
     × (judged_words text ≡ ended_words (take most_bytes text) ++ others)
 in_time-judged text =
@@ -90,7 +87,6 @@ in_time-judged text =
           (last.0, rw (le-leb (length text) most_bytes near, take_all most_bytes text near) last.1)
     ]
 
--- a fault so far stays the fault as the text goes on
 so_far_stays : (d : ℕ) (front more : List ℕ) (f : GridFault) → fault_so_far d front ≡ Some f →
     fault_so_far d (front ++ more) ≡ Some f
 so_far_stays d front more f h =
@@ -112,7 +108,6 @@ so_far_stays d front more f h =
           ∙ words_fault-more d (ended_words (take most_bytes front)) next.0 f shown)
     ]
 
--- a fault so far is the fault of the text
 shown : (d : ℕ) (text : List ℕ) (f : GridFault) → fault_so_far d text ≡ Some f →
     text_fault d text ≡ Some f
 shown d text f h =
@@ -129,7 +124,6 @@ pub fault_stays : (d : ℕ) (front more : List ℕ) (f : GridFault) → fault_so
     text_fault d (front ++ more) ≡ Some f
 fault_stays d front more f h = shown d (front ++ more) f (so_far_stays d front more f h)
 
--- a refusal so far of a text's front is a refusal so far of the text
 pub refusal_stays : (d : ℕ) (front more : List ℕ) (f : GridFault) → IsRefusalSoFar d front f →
     IsRefusalSoFar d (front ++ more) f
 refusal_stays d front more f h =
@@ -139,7 +133,6 @@ refusal_stays d front more f h =
     subst AsksAtHeight (sym next.1) (asks-more (ended_words (take most_bytes front)) next.0 asks))
     (so_far_stays d front more) h
 
--- a refusal so far is a refusal of the whole text
 pub whole_refusal : (d : ℕ) (text : List ℕ) (f : GridFault) → IsRefusalSoFar d text f →
     IsRefusal d text f
 whole_refusal d text f h =
@@ -164,7 +157,6 @@ refused d front f short h =
     (λ asks. subst (λ z. AsksAtHeight (ended_words z)) (sym (take_all most_bytes front short)) asks)
     (λ g e. few_so_far d front short ∙ e) h
 
--- words that were read have no fault
 read_none : (p : Tokenizer) (text : List ℕ) → HasWords p text →
     words_fault p.builder.scale (ended_words text) ≡ None
 read_none p text h = ap (words_fault p.builder.scale) h.parted.ended
@@ -183,7 +175,8 @@ end_refused d text f short h =
     (λ asks. asked text short asks.0)
     (λ g e. few_fault d text short ∙ ap (λ o. option_or o (end_fault (words text))) e) h
 
--- if no word of a text of at most 2^29 bytes has a fault, the result at its end is the text's
+-- in a text of at most 2^29 bytes without a faulty word, a result right for the end is right for
+-- the text
 pub finished : (d : ℕ) (text : List ℕ) (r : Result Raster GridFault) → length text ≤ most_bytes →
     words_fault d (words text) ≡ None → MatchResult r (λ g. (end_fault (words text) ≡ None)
     × (g ≡ grid_of d (words text))) (IsEndFault (words text)) →
@@ -194,7 +187,6 @@ finished d text r short none m =
     (λ f k. reported_further _ _ (end_fault (words text)) (text_fault d text) f (asked text short)
     (λ g e. reported ∙ e) k)
 
--- a grid that a text spells at a scale of at most 6 is lawful
 pub lawful_text : (d : ℕ) (text : List ℕ) (g : Raster) → d ≤ 6 → IsGridText d text g → IsLawful g
 lawful_text d text g few h =
     elim (cases_lt most_bytes (length text)) [
@@ -215,7 +207,6 @@ pub answered : (r : Reader) (text : List ℕ) (f : GridFault) → r.fault ≡ So
     IsRefusalSoFar r.scale text f
 answered r text f e h = MatchOption-at_some (IsReading r text) (IsRefusalSoFar r.scale text) f e h
 
--- a reader that has returned a fault of a text has taken each text that begins with it
 pub answered_more : (r : Reader) (text more : List ℕ) (f : GridFault) → r.fault ≡ Some f →
     HasTaken r text → HasTaken r (text ++ more)
 answered_more r text more f e h =
@@ -292,21 +283,20 @@ fed_whole r r' text piece within cut none h all next scale count =
     fed_all r r' text piece none h (omega (arith, cut, all)) (λ t was. subst (λ z. HasWords r'.words
     (t ++ z)) (take_all within piece all) (next t was)) scale (omega (arith, cut, all, count))
 
--- a text whose words a reader holds has no fault so far
 pub faultless : (r : Reader) (text : List ℕ) → IsReading r text → fault_so_far r.scale text ≡ None
 faultless r text h = rw (← h.same_scale) (few_so_far r.words.builder.scale text h.short
     ∙ read_none r.words text h.words_of)
 
 -- ---- one piece after another
 
--- If a result's fault is the reader's, `Ok` means no fault of its text so far, `Err` a refusal.
+-- if a result's fault is the reader's, `Ok` means no fault so far, and `Err` a refusal so far
 has_fault : {T : Type 0} (b : Reader) (text : List ℕ) (r : Result T GridFault)
     → b.fault ≡ result_err r → HasTaken b text
     → OnOk r (fault_so_far b.scale text ≡ None) × IfErr r (λ f. IsRefusalSoFar b.scale text f)
 has_fault b text (Ok x) e h = (faultless b text (reading b text e h), tt)
 has_fault b text (Err f) e h = (tt, answered b text f e h)
 
--- `Feeds` holds if scale and old fault stay, the piece is taken, and the result has b's fault.
+-- `Feeds` holds if scale and old fault stay, the piece is taken, and the result has b's fault
 pub Feeds-taken : {T : Type 0} (a b : Reader) (piece : List ℕ) (r : Result T GridFault)
     → b.scale ≡ a.scale → ((text : List ℕ) → HasTaken a text → HasTaken b (text ++ piece))
     → b.fault ≡ result_err r → ((f : GridFault) → a.fault ≡ Some f → r ≡ Err f) → Feeds a b piece r
@@ -329,7 +319,6 @@ Feeds-more a b c front piece r h k = Feeds-taken a c (front ++ piece) r (k.scale
     (λ text was. rw (← append_assoc text front piece) (k.taken (text ++ front) (h.taken text was)))
     k.fault (λ f e. absurd (let no = h.again f e in cc))
 
--- a fault in the front of a piece is the result for the whole piece
 pub Feeds-stopped : {T : Type 0} (a b : Reader) (front more : List ℕ) (f : GridFault) →
     Feeds {T = T} a b front (Err f) → Feeds {T = T} a b (front ++ more) (Err f)
 Feeds-stopped a b front more f h = Feeds-taken a b (front ++ more) (Err f) h.scale (λ text was.

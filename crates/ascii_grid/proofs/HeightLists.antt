@@ -49,7 +49,6 @@ pub IsParted-ended : (bytes : List ℕ) → ended_words bytes ≡ words bytes �
     IsParted bytes (words bytes) []
 IsParted-ended bytes e = let at = parted bytes in only_ended bytes bytes [] at.0 at.1 at.2 e at.2
 
--- the ended words are all words, if none is unfinished
 pub words-ended : (bytes : List ℕ) (ws : List Word) → IsParted bytes ws [] → words bytes ≡ ws
 words-ended bytes ws h = words-parted bytes ws [] h ∙ append-nil ws
 

@@ -90,7 +90,6 @@ judged-key j j' ws w slot h e short letter s free same stage =
       at = rw stage (w, refl, awaits);
     }
 
--- with one more word, which is in a key's place and begins with a letter, the fault is the key's
 pub next-key : (j : GridBuilder) (ws : List Word) (w : Word) (h : HasJudged j ws) →
     j.stage ≡ AtKey → begins_with_letter w ≡ true →
     words_fault j.scale (ws ++ w ∷ []) ≡ key_fault (keys_before h.pairs []) w
@@ -139,7 +138,6 @@ judged-value j j' ws v slot centre h e short ok same stage =
       at = rw stage refl;
     }
 
--- with one more word in a value's place, the first fault is that of the value
 pub next-value : (j : GridBuilder) (ws : List Word) (v : Word)
     (slot : Key) (centre : Bool) (h : HasJudged j ws) (e : j.stage ≡ AtValue slot centre) →
     words_fault j.scale (ws ++ v ∷ []) ≡ value_fault (at_value j ws h slot centre e).0 v
@@ -184,7 +182,6 @@ asks h ps hs k begun whole first =
       first = ap (λ z. list_any is_long (take 1 z)) are.1 ∙ first;
     }
 
--- if the heights so far have no fault and the next is not too long, the first is not too long
 first_short : (d : ℕ) (header hs : List Word) (w : Word) → length w ≤ 64 →
     heights_fault d header 0 hs ≡ None → list_any is_long (take 1 (hs ++ w ∷ [])) ≡ false
 first_short d header [] w short none = rw (is_short w short) refl
@@ -234,12 +231,10 @@ pub height_fault-none : (d : ℕ) (header : List Word) (place : ℕ) (w : Word) 
 height_fault-none d header place w short whole room ok =
     rw (is_short w short, whole, lt-ltb place (cells_wanted header) room, ok) refl
 
--- as many cells are stored as heights were read
 pub place_of : (j : GridBuilder) (ps : Pairs) (hs : List Word) → AreHeights j ps hs →
     length j.cells.items ≡ length hs
 place_of j ps hs h = ap length h.cells ∙ length-map hs (spelled_cell j.scale j.nodata)
 
--- words that were read have no fault
 pub judged_none : (j : GridBuilder) (ws : List Word) → HasJudged j ws →
     words_fault j.scale ws ≡ None
 judged_none j ws h = by_stage j.stage refl
@@ -322,7 +317,6 @@ pub memory_fault : (d : ℕ) (ws : List Word) (f : GridFault) → f ≡ Memory �
     IsWordFault d ws f
 memory_fault d ws f e h = rw e h
 
--- with one more word, of more than 64 bytes, the first fault is `TooLong`
 pub long_fault : (j : GridBuilder) (ws : List Word) (w : Word) → HasJudged j ws → 64 < length w →
     words_fault j.scale (ws ++ w ∷ []) ≡ Some TooLong
 long_fault j ws w h far = by_stage j.stage refl

@@ -1,4 +1,4 @@
--- One more word of a text: its effect on the header, the heights and the first fault.
+-- The header, the heights and the first fault of words that follow pairs of a key and a value.
 use Rattle.std.proofs.Common.{◌≡◌, ℕ, ◌+◌, Bool, true, false, ◌||◌, cond, List, [], ◌∷◌, ◌++◌, length, Option, None, Some, arith, refl, ap, sym, ◌∙◌}
 use Rattle.std.specs.Prelude.{find, is_some, unwrap_or, option_map}
 use Rattle.std.specs.Option.{option_or}
@@ -39,7 +39,6 @@ pub is_some-option_map : {X Y : Type 0} (f : X → Y) (o : Option X) →
 is_some-option_map f None = refl
 is_some-option_map f (Some x) = refl
 
--- where `option_or` of two options is `None`, both options are `None`
 pub or_none : {X : Type 0} (o p : Option X) → option_or o p ≡ None → (o ≡ None) × (p ≡ None)
 or_none None p h = (refl, h)
 or_none (Some x) p h = cc
@@ -140,7 +139,7 @@ given-push : (s : Key) (ps : Pairs) (k v : Word) →
     given s (ps ++ (k, v) ∷ []) ≡ option_or (given s ps) (cond (fills s k) (Some (k, v)) None)
 given-push s ps k v = find-append (λ (p : Word × Word). fills s p.0) ps ((k, v) ∷ [])
 
--- two lists of pairs that agree on all other slots, where the second gives `p` for this slot
+-- `qs` gives `p` for this slot, and agrees with `ps` on all other slots
 abbrev FilledAt : Key → Word × Word → Pairs → Pairs → Type 0
 FilledAt slot p ps qs = (given slot qs ≡ Some p)
     × ((s : Key) → (s ≡ slot → ⊥) → given s qs ≡ given s ps)
@@ -196,7 +195,7 @@ with_value-at Nodata p ps qs h = rw (
   h.1 Cellsize (λ e. cc),
 ) refl
 
--- storing a value in its empty slot gives the slots of the pairs with one more
+-- filling the empty slot of a key gives the slots of the pairs with this key and value added
 pub with_value-slots_of : (slot : Key) (ps : Pairs) (k v : Word) →
     slot_of k ≡ Some slot → is_given (slots_of ps) slot ≡ false →
     with_value (slots_of ps) slot (is_centre k) v ≡ slots_of (ps ++ (k, v) ∷ [])
@@ -238,7 +237,6 @@ words_fault-value d ps k v keys none b first =
     ∙ option_or-none (header_fault (keys_before ps []) (k ∷ v ∷ []))
     ∙ rw first (option_or-none (value_fault k v))
 
--- words of which the first begins with no letter are all heights
 pub words-begun : (hs : List Word) → HasBegun hs → (header_words hs ≡ []) × (height_words hs ≡ hs)
 words-begun [] h = absurd h
 words-begun (x ∷ []) h = (rw h refl, rw h refl)

@@ -111,7 +111,6 @@ IsParted-separator text ws w b h e = record {
   ended = ended_words-separator text b e;
 }
 
--- one byte or more, and no separator among them
 pub record IsClean (w : List ℕ) : Type 0 where
   pub some : is_word w ≡ true
   pub plain : list_any is_separator w ≡ false

@@ -19,7 +19,6 @@ same_grid_fault : (f g : GridFault) →
     ◌≡◌ {A = Result Raster InputFault} (Err (Grid f)) (Err (Grid g)) → f ≡ g
 same_grid_fault f g e = cc
 
--- after a piece without a fault, the text has no fault so far
 still_faultless :
     {R : Type 0} (remaining : R → Option (List ℕ)) (first old : Device R) (scale taken : ℕ)
     (r r' : Reader) (bytes : List ℕ) (held : IsTaking remaining first old scale r taken) →
@@ -50,7 +49,6 @@ piece_taken remaining first old new scale taken room n r r' held step =
       read = read_more _ _ _ _ _ _ held.read step.read;
     }
 
--- after a piece without a fault, the reader has none
 pub piece_sound : {R : Type 0} (remaining : R → Option (List ℕ)) (old new : Device R) (room n : ℕ)
     (r r' : Reader) → ReadsPiece remaining old new r r' room (Ok (Some n)) → r'.fault ≡ None
 piece_sound remaining old new room n r r' step =

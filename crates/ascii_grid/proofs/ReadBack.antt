@@ -27,14 +27,13 @@ use Rattle.ascii_grid.proofs.Judging.{words-begun}
 use Rattle.ascii_grid.proofs.Feeding.{few_fault}
 use Rattle.ascii_grid.proofs.ReadBackCells.{ReadsAs, reads_cell, no_heights_fault, cells_again}
 
--- the key word of the x position: of a centre or a corner
 abbrev xll_key : Bool → Word
 xll_key x = cond x (codes "xllcenter") (codes "xllcorner")
 
 abbrev yll_key : Bool → Word
 yll_key y = cond y (codes "yllcenter") (codes "yllcorner")
 
--- the words of a grid's header, by corner or centre on each axis, and then others
+-- the words of a grid's header, and then others; where `x` or `y` is true, its key names a centre
 abbrev header_and : Bool → Bool → Raster → List Word → List Word
 header_and x y g rest =
     codes "ncols" ∷ decimal g.terrain.cols ∷ codes "nrows" ∷ decimal g.terrain.rows
@@ -269,7 +268,6 @@ cells_are_heights d nodata (c ∷ cells) reads =
     words-begun (map (cell_text (height_text d) nodata) (c ∷ cells))
     (All-head (λ x. ReadsAs d nodata x (cell_text (height_text d) nodata x)) c cells reads).begins
 
--- words have no fault if their header and their heights have none
 no_words_fault : (d : ℕ) (ws header heights : List Word) → header_words ws ≡ header →
     height_words ws ≡ heights → header_fault [] header ≡ None →
     heights_fault d header 0 heights ≡ None → words_fault d ws ≡ None
@@ -289,7 +287,6 @@ same_grid : (d : ℕ) (ws header heights : List Word) (g : Raster) →
 same_grid d ws header heights g p q cols rows cells xll yll cellsize nodata scale =
     rw (p, q, cols, rows, cells, xll, yll, cellsize, nodata, scale) refl
 
--- a lawful grid's text of at most 2^29 bytes spells the grid without its sinks
 pub read_back : (g : Raster) → IsLawful g → length (heights_text g) ≤ most_bytes →
     IsGridText g.scale (heights_text g) (raster_with_sinks g [])
 read_back g h short =

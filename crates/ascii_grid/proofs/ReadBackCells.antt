@@ -75,7 +75,6 @@ body_unsigned : (d n : ℕ) → n < 2 ^ 64 → (without_sign (body d n) ≡ body
 body_unsigned d n h = bare_digits (decimal (n / 10 ^ d)) (decimals_text d n) (decimal_nonempty
     (n / 10 ^ d) (whole_small d n h)) (decimal_digits (n / 10 ^ d) (whole_small d n h))
 
--- a text with a scaled value is a decimal text
 pub decimal_from_value : (d : ℕ) (w : Word) (z : ℤ) → scaled_value d w ≡ Some z →
     is_decimal w ≡ true
 decimal_from_value d w z e = elim (cases_Bool (has_scaled_value d w)) [
@@ -100,12 +99,10 @@ written_value d n w unsigned plain few =
     (whole_small d n small)) ∙ rw (digits, last_digits_digits d n) refl)
     (rw (none, kept, scaled_digits d n small, le-leb n (10 ^ 18) few) refl)
 
--- the text of a height from 0 on has no sign
 text-pos : (d n : ℕ) → height_text d (pos n) ≡ body d n
 text-pos d n = ap (λ z. z ++ decimal (n / 10 ^ d)
     ++ decimals_text d n) (cond-false (ltb n 0) (45 ∷ []) [] (le-ltb n 0 (omega arith)))
 
--- the text of a height has that height as its scaled value
 pub height_value : (d : ℕ) (z : ℤ) → unsigned_abs z ≤ 10 ^ 15 →
     scaled_value d (height_text d z) ≡ Some z
 height_value d (pos n) h =
@@ -117,7 +114,6 @@ height_value d (pos n) h =
 height_value d (negsuc n) h = written_value d (suc n) (45 ∷ body d (suc n)) refl
     (body_no_mark d (suc n) (omega (arith, h))) (omega (arith, h))
 
--- the whole part and the decimals of a height have at most 16 digits together
 whole_digits : (d n : ℕ) → d ≤ 6 → n ≤ 10 ^ 15 → length (decimal (n / 10 ^ d)) + d ≤ 16
 whole_digits d n few h =
     let sixteen : 16 - d + d ≡ 16 = omega (arith, few) in
@@ -141,7 +137,7 @@ height_short d (pos n) few h = let size = body_short d n few h in let same =
     ap length (text-pos d n) in omega (arith, size, same)
 height_short d (negsuc n) few h = let size = body_short d (suc n) few h in omega (arith, size)
 
--- the word of a written cell reads back as that cell
+-- `w` is one word of at most 64 bytes that begins with no letter and spells the cell `c`
 pub record ReadsAs (d : ℕ) (nodata : Word) (c : Option ℤ) (w : Word) : Type 0 where
   pub clean : IsClean w
   pub begins : begins_with_letter w ≡ false
@@ -162,7 +158,6 @@ other_value h None n = refl
 other_value h (Some x) n =
     false_from_ne_true (int_eq h x) (λ t. n (ap Some (sym ((Decides-int_eq h x).0 t))))
 
--- a written cell reads back, as NODATA or as a height
 pub reads_cell : (d : ℕ) (nodata : Word) (c : Option ℤ) → d ≤ 6 →
     IsHeaderWord nodata → IfSome c IsHeight → IfSome c (λ h. scaled_value d nodata ≢ Some h) →
     ReadsAs d nodata c (cell_text (height_text d) nodata c)

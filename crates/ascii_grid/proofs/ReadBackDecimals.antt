@@ -1,4 +1,4 @@
--- Decimal texts: which bytes they have, and how they begin.
+-- A decimal text has no separator and begins with no letter.
 use Rattle.std.proofs.Common.{◌≡◌, ℕ, suc, ◌+◌, Bool, true, false, not, ◌&&◌, ◌||◌, ◌==◌, List, [], ◌∷◌, ◌++◌, length, get_or, take, drop, sym, ap, subst, refl, ◌∙◌, arith, inl, inr}
 use Rattle.std.specs.List.{list_all, list_any, position_or_len, before_first, after_first}
 use Rattle.std.specs.Char.{is_ascii_digit, is_ascii_alphabetic}
@@ -12,7 +12,6 @@ use Rattle.ascii_grid.specs.Header.{begins_with_letter}
 use Rattle.decimals.proofs.Scaled.{PassesNoDigit, no_separator, any-digits, after_first-none}
 use Rattle.ascii_grid.proofs.Parting.{IsClean}
 
--- `+` or `-`
 abbrev pub is_sign : ℕ → Bool
 is_sign b = b == 43 || b == 45
 
@@ -25,7 +24,6 @@ record PassesNoByte (q : ℕ → Bool) : Type 0 where
   mark : q 101 ≡ false
   capital : q 69 ≡ false
 
--- if no byte of xs passes and y does, the first that passes is at the length of xs
 position-at : (p : ℕ → Bool) (xs ys : List ℕ) (y : ℕ) → list_any p xs ≡ false → p y ≡ true →
     position_or_len p (xs ++ y ∷ ys) ≡ length xs
 position-at p [] ys y h k = rw k refl
@@ -50,7 +48,6 @@ after_first-step p b bs h =
     let e : position_or_len p (b ∷ bs) + 1 ≡ suc (position_or_len p bs + 1) = rw h (omega arith) in
     ap (λ n. drop n (b ∷ bs)) e
 
--- if no byte passes both p and q, and none before or after p's first one passes q, none does
 list_any-around : (p q : ℕ → Bool) → ((b : ℕ) → p b ≡ true → q b ≡ false) →
     (xs : List ℕ) → list_any q (before_first p xs) ≡ false → list_any q (after_first p xs) ≡ false →
     list_any q xs ≡ false
@@ -64,14 +61,12 @@ list_any-around p q w xs h k =
       | inr none ↦ ap (list_any q) (sym (take_all (position_or_len p xs) xs none)) ∙ h
     ]
 
--- a property that two bytes have holds for a byte that is one of the two
 one_of : (P : ℕ → Type 0) (b m n : ℕ) → (b == m || b == n) ≡ true → P m → P n → P b
 one_of P b m n h x y = elim (or_cases (b == m) (b == n) h) [
   | inl e ↦ subst P (sym (eqb-true b m e)) x
   | inr e ↦ subst P (sym (eqb-true b n e)) y
 ]
 
--- no byte passes if none does in the text without its sign
 signed_bytes : (q : ℕ → Bool) → PassesNoByte q → (w : List ℕ) →
     list_any q (without_sign w) ≡ false → list_any q w ≡ false
 signed_bytes q none [] h = refl
@@ -81,7 +76,6 @@ signed_bytes q none (b ∷ bs) h = elim (cases_Bool (is_sign b)) [
   | inr n ↦ ap (list_any q) (sym (cond-false (is_sign b) bs (b ∷ bs) n)) ∙ h
 ]
 
--- a text without its sign has the exponent of the text
 exponent_of_unsigned : (w : List ℕ) →
     after_first is_exponent_mark (without_sign w) ≡ after_first is_exponent_mark w
 exponent_of_unsigned [] = refl
@@ -95,7 +89,7 @@ exponent_of_unsigned (b ∷ bs) = elim (cases_Bool (is_sign b)) [
 digits_all : (bs : List ℕ) → are_digits bs ≡ true → list_all is_ascii_digit bs ≡ true
 digits_all bs h = (and_parts (is_word bs) (list_all is_ascii_digit bs) h).1
 
--- if the exponent, where there is one, is digits with or without a sign, none of its bytes passes
+-- if the exponent, if any, is digits with or without a sign, none of its bytes passes `q`
 exponent_bytes : (q : ℕ → Bool) → PassesNoByte q → (w : List ℕ) →
     (not (has_exponent w) || are_digits (without_sign (after_first is_exponent_mark w))) ≡ true →
     list_any q (after_first is_exponent_mark w) ≡ false
@@ -129,7 +123,6 @@ decimal_bytes q none w h =
     (mantissa_bytes q none w parts.0)
     (ap (list_any q) (exponent_of_unsigned w) ∙ exponent_bytes q none w parts.1))
 
--- no byte that a decimal text may have is a separator
 no_separators : PassesNoByte is_separator
 no_separators = record {
   digits = no_separator;
@@ -164,7 +157,6 @@ no_other_letters = record {
   capital = refl;
 }
 
--- a text that begins with an exponent mark has an empty mantissa
 marked_mantissa : (b : ℕ) (bs : List ℕ) → is_exponent_mark b ≡ true → mantissa (b ∷ bs) ≡ []
 marked_mantissa b bs h =
     ap (before_first is_exponent_mark)

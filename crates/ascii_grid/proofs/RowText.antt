@@ -10,7 +10,6 @@ use Rattle.ascii_grid.specs.Text.{row_text, rows_text}
 abbrev pub spaced : {X : Type 0} → (X → List ℕ) → List X → List ℕ
 spaced f cells = flat_map (λ c. f c ++ 32 ∷ []) cells
 
--- a row's text splits before any of its cells
 pub row_split : {X : Type 0} (f : X → List ℕ) (cells : List X) (i : ℕ) → i < length cells →
     row_text f cells ≡ spaced f (take i cells) ++ row_text f (drop i cells)
 row_split f [] i h = absurd (omega arith)
@@ -29,7 +28,6 @@ pub pieces_more : {X : Type 0} (f : X → List ℕ) (pieces : List X) (x : X) (i
     flat_map f (take (i + 1) pieces) ≡ flat_map f (take i pieces) ++ f x
 pieces_more f pieces x i h e = rw (take_more pieces i x h, ← e, flat_map-append, append-nil) refl
 
--- the texts of all pieces in order are those before any one of them, its text, and those after it
 pub pieces_split : {X : Type 0} (f : X → List ℕ) (pieces : List X) (x : X) (i : ℕ) →
     i < length pieces → x ≡ get_or pieces i x →
     flat_map f pieces ≡ (flat_map f (take i pieces) ++ f x) ++ flat_map f (drop (i + 1) pieces)
@@ -53,7 +51,6 @@ row_last {X} f cells c i h e =
     row_split f cells i (omega (arith, h))
     ∙ ap (λ (z : List X). spaced f (take i cells) ++ row_text f z) last
 
--- the text of m + n rows splits after the first m
 pub rows_text-add : {X : Type 0} (f : X → List ℕ) (cols m n : ℕ) (cells : List X) → rows_text f cols
     (m + n) cells ≡ rows_text f cols m cells ++ rows_text f cols n (drop (m * cols) cells)
 rows_text-add f cols zero n cells = rw (zero-add, zero-mul) refl
@@ -81,12 +78,10 @@ rows_split f cols rows n cells h =
     ∙ ap (λ z. z ++ rows_text f cols (rows - (n + 1)) (drop ((n + 1) * cols) cells))
     (rows_more f cols n cells)
 
--- a list of cols * rows cells has `rows` rows
 pub whole_rows : (n cols rows : ℕ) → n ≡ cols * rows → 1 ≤ cols → n / cols ≡ rows
 whole_rows n cols rows size some = ap (λ m. m / cols) size
     ∙ mul-div_cancel_left rows (omega (arith, some))
 
--- the text of n rows depends on their cells alone
 pub rows_take : {X : Type 0} (f : X → List ℕ) (cols n : ℕ) (cells : List X) →
     rows_text f cols n (take (n * cols) cells) ≡ rows_text f cols n cells
 rows_take f cols zero cells = refl

@@ -1,4 +1,4 @@
--- The fault at the end of a text; a text without a fault spells a lawful grid.
+-- The fault at a text's end; at a scale of at most 6, a text without a fault spells a lawful grid.
 use Rattle.std.proofs.Common.{◌≡◌, ◌≢◌, ℕ, ◌+◌, ◌<◌, ◌≤◌, Bool, true, false, not, cond, nat_lt, nat_le, List, [], ◌∷◌, ◌++◌, length, map, Option, None, Some, ℤ, arith, lit≤, refl, ap, sym, ◌∙◌, subst, inl, inr}
 use Rattle.std.specs.Prelude.{is_some, All, IfSome, unwrap_or, option_map, int_le, codes}
 use Rattle.std.specs.Option.{option_map_or}
@@ -41,7 +41,6 @@ value_ok k v slot h e =
     else_none (is_value slot v) None (bad_value slot) (rw (slot_filled k slot h) at short.1) in
     (ok.0, ltb-false 64 (length v) short.0)
 
--- in a header without a fault, the word given for a slot is a value of it, of at most 64 bytes
 valid : (before header : List Word) (slot : Key) → header_fault before header ≡ None →
     IfSome (value_for slot header) (IsShortValue slot)
 valid before [] slot none = tt
@@ -59,7 +58,6 @@ given_slot : (a : Bool) (s : Key) (o : Option Key) → option_map MissingKey (co
 given_slot true s o h = (refl, h)
 given_slot false s o h = cc
 
--- without a missing slot, all required slots are given
 whole_slots : (ps : Pairs) → missing_fault (flat ps) ≡ None → IsWhole (slots_of ps)
 whole_slots ps none =
     let h = slots_of ps in
@@ -114,7 +112,7 @@ some_ok d nodata w (Some z) e n h =
           rw (e, k) refl in cc,
     )
 
--- a word that spells a cell is NODATA or a height other than NODATA's value
+-- a word that spells a cell spells NODATA or a height other than the NODATA word's value
 cell_ok : (d : ℕ) (nodata w : Word) → is_cell d nodata w ≡ true → IfSome (spelled_cell d nodata w)
     IsHeight × IfSome (spelled_cell d nodata w) (λ h. scaled_value d nodata ≢ Some h)
 cell_ok d nodata w h =
@@ -123,7 +121,6 @@ cell_ok d nodata w h =
       | inr some ↦ some_ok d nodata w (scaled_value d w) refl some h
     ]
 
--- a word without a fault after `place` heights is not one too many, and spells a cell
 height_ok : (d : ℕ) (header : List Word) (place : ℕ) (w : Word) → height_fault d header place w
     ≡ None → (place < cells_wanted header) × (is_cell d (nodata_for header) w ≡ true)
 height_ok d header place w h =
@@ -157,7 +154,6 @@ cells_ok d header place (w ∷ hs) h none =
 
 -- ---- the fault at the end
 
--- where a value comes next, the fault at the end is `NoValue`
 pub end-value : (j : GridBuilder) (ws : List Word) (slot : Key) (centre : Bool) → HasJudged j ws →
     j.stage ≡ AtValue slot centre → end_fault ws ≡ Some (NoValue slot)
 end-value j ws slot centre h e =
@@ -170,7 +166,6 @@ end-value j ws slot centre h e =
     let left : key_left (flat h.pairs ++ k ∷ []) ≡ Some k = key_left-flat h.pairs (k ∷ []) in
     rw (header, left, there.2.key_is) refl
 
--- where a key comes next and a required slot is missing, that is the fault at the end
 pub end-missing : (j : GridBuilder) (ws : List Word) (f : GridFault) (h : HasJudged j ws) →
     j.stage ≡ AtKey → missing_fault (flat h.pairs) ≡ Some f → IsEndFault ws f
 end-missing j ws f h e missing =
@@ -213,7 +208,6 @@ end-none j j' ws h e heights =
     some_wanted (flat h.pairs) h.header.faultless heights.whole in omega (arith, k)) in
     ap end_fault (at_key j ws h e) ∙ rw (are.0, paired h.pairs, heights.whole, are.1, some) refl
 
--- among the heights, the fault at the end is `TooFew`, or none if there are enough
 pub end-heights : (j : GridBuilder) (ws : List Word) (h : HasJudged j ws) →
     j.stage ≡ AtHeights → end_fault ws
     ≡ cond (nat_lt (length j.cells.items) j.wanted) (Some (TooFew (length j.cells.items))) None
@@ -261,7 +255,6 @@ nodata_ok header none = go (value_for Nodata header) (valid [] header Nodata non
     go None ok = (lit≤ tt, refl)
     go (Some w) ok = (ok.1, ok.0)
 
--- at a scale of at most 6, words without a fault, also at their end, spell a lawful grid
 pub lawful_words : (d : ℕ) (ws : List Word) → d ≤ 6 → words_fault d ws ≡ None →
     end_fault ws ≡ None → IsLawful (grid_of d ws)
 lawful_words d ws few faultless end =
@@ -300,7 +293,6 @@ lawful_words d ws few faultless end =
       apart = cells.1.1;
     }
 
--- among the heights, the header is whole
 pub whole-grid : (j : GridBuilder) (ws : List Word) → HasJudged j ws → j.stage ≡ AtHeights →
     IsWhole j.header
 whole-grid j ws h e =

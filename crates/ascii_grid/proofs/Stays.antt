@@ -47,7 +47,6 @@ further text ws w (b ∷ more) h =
           )
     ]
 
--- each text splits into ended words and a last part
 pub parted : (text : List ℕ) → (ws : List Word) × (w : Word) × IsParted text ws w
 parted text = further [] [] [] text IsParted-none
 
@@ -58,7 +57,6 @@ ended-more front more =
     let next = further front at.0 at.1 more at.2 in
     (next.0, next.2.ended ∙ ap (λ z. z ++ next.0) (sym at.2.ended))
 
--- the words of a text begin with the ended ones
 pub ended-words : (text : List ℕ) → (others : List Word) × (words text ≡ ended_words text ++ others)
 ended-words text =
     let at = parted text in (
@@ -81,7 +79,7 @@ heights_more d header place (w ∷ hs) more f h =
     (heights_fault d header (place + 1) (hs ++ more)) f h
     (heights_more d header (place + 1) hs more f)
 
--- the first fault of words that follow the front of a header
+-- the first fault of words after the front of a header, whose keys are `before`
 abbrev after_front : ℕ → List Word → List Word → List Word → Option GridFault
 after_front d before front ws = option_or (header_fault before (header_words ws))
     (heights_fault d (front ++ header_words ws) 0 (height_words ws))
@@ -103,7 +101,6 @@ after_front-pair d before front k v rest letter =
     ∙ ap (option_or (key_fault before k))
     (option_or-assoc (value_fault k v) (header_fault (k ∷ before) (header_words rest)) _)
 
--- a word that begins with no letter ends the header
 after_front-height : (d : ℕ) (before front : List Word) (k : Word) (rest : List Word) →
     begins_with_letter k ≡ false →
     after_front d before front (k ∷ rest) ≡ heights_fault d (front ++ []) 0 (k ∷ rest)

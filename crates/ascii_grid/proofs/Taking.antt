@@ -1,4 +1,4 @@
--- A grid that is read piece by piece.
+-- What holds between two pieces while a grid is read from a device.
 use Rattle.std.proofs.Common.{ℕ, List, ◌++◌, Option, None, Some, sym, ap, ◌∙◌, ◌≡◌, ◌≤◌, length, take, inl, inr}
 use Rattle.std.specs.Io.KnownBytes.{Consumes, IsAtEnd}
 use Rattle.std.proofs.lemmas.List.{append-nil}
@@ -24,7 +24,6 @@ pub record IsTaking {R : Type 0} (remaining : R → Option (List ℕ)) (first no
   pub count : now.failures ≡ first.failures
   pub read : HasRead remaining first now text
 
--- a text without a fault so far is not too long
 pub not_too_long : (d : ℕ) (text : List ℕ) → fault_so_far d text ≡ None → length text ≤ most_bytes
 not_too_long d text none =
     elim (cases_lt most_bytes (length text)) [
@@ -33,14 +32,12 @@ not_too_long d text none =
       | inr near ↦ near
     ]
 
--- the bytes consumed are a front of the known ones
 pub consumed_front : (a b : Option (List ℕ)) (text front : List ℕ) → a ≡ Some text →
     Consumes a b front → (rest : List ℕ) × (text ≡ front ++ rest)
 consumed_front None b text front e h = absurd (cc)
 consumed_front (Some xs) None text front e h = absurd h
 consumed_front (Some xs) (Some ys) text front e h = (ys, sym (same_Some xs text e) ∙ h)
 
--- at the end, the bytes consumed are all the known ones
 pub consumed_end : (a b : Option (List ℕ)) (text front : List ℕ) → a ≡ Some text →
     Consumes a b front → IsAtEnd b → front ≡ text
 consumed_end None b text front e h end = absurd (cc)

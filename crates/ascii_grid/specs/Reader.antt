@@ -1,4 +1,4 @@
--- A reader that is fed a text in pieces, one with each call of `feed`. Source: this project.
+-- A reader that is fed a text in pieces. Source: this project.
 -- Public.
 use Rattle.std.specs.Prelude.{◌≡◌, ℕ, ◌≤◌, List, ◌++◌, length, Option, None, Some, MatchOption, Result, Err, OnOk, IfErr}
 use Rattle.std.specs.Result.{result_err}

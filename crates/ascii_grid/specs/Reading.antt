@@ -89,7 +89,7 @@ pub record HasJudged (j : GridBuilder) (ws : List Word) : Type 0 where
 abbrev pub IsWordFault : ℕ → List Word → GridFault → Type 0
 IsWordFault d ws f = IsReported (AsksAtHeight ws) (words_fault d ws) f
 
--- A fault at the end of the text: its first there, or want of memory for the cells.
+-- A fault at the end of the text: its `end_fault`, or want of memory for the cells.
 abbrev pub IsEndFault : List Word → GridFault → Type 0
 IsEndFault ws f = IsReported (AsksForCells ws) (end_fault ws) f
 

@@ -1,6 +1,6 @@
 //! Checks the words of a text in their order: keys, values, heights.
 //!
-//! `GridBuilder::add_word` finds a key's slot, fills it, adds a cell or returns the word's fault.
+//! In `GridBuilder::add_word` a key names a slot, a value fills it, and a height adds a cell.
 ghost use Rattle.std.specs.Prelude.{◌↔◌, IsTrue, ◌≡◌, ◌≤◌, ◌<◌, ◌⊎◌, ◌++◌, [], ◌∷◌, List, map, length, false, Option, Some, None, Err, IfOk, MatchResult};
 ghost use Rattle.terrain.specs.Words.{Word};
 ghost use Rattle.terrain.specs.Decimal.{scaled_value};
@@ -62,7 +62,7 @@ impl GridBuilder {
         }
     }
 
-    /// Finds a key's slot, fills it, adds a cell or returns the next word's fault.
+    /// Reads the next word as a key, a value or a height, or returns its fault.
     pub(crate) fn add_word(&mut self, word: &[u8]) -> Result<(), GridFault>
         ensures scale { self.new.scale ≡ self.old.scale }
         ensures long { MOST_WORD_BYTES < length word.now → result ≡ Err GridFault.TooLong }
@@ -103,7 +103,7 @@ impl GridBuilder {
         match self.stage {
             Stage::AtValue { key, .. } => Err(GridFault::NoValue(key)),
             Stage::AtKey => {
-                // The header ends here too: `MissingKey` and `Memory` come before `TooFew`.
+                // The text's end ends the header: `MissingKey` and `Memory` come before `TooFew`.
                 self.begin_heights()?;
                 Err(GridFault::TooFew(0))
             }
@@ -222,7 +222,8 @@ impl GridBuilder {
             cells.now ≡ map (spelled_cell parser.now.scale parser.now.nodata) more →
             IsTrue result → AreHeights self.new ps (hs ++ more) }
     {
-        // The capacity is at least `wanted`; the `min` shows that adding the cells cannot fail.
+        // The capacity is at least `wanted`, but that is not proved here. The `min` shows that
+        // adding the cells cannot fail.
         let most = (self.wanted as usize).min(self.cells.capacity());
         let place = self.cells.len();
         if place > most || cells.len() > most - place {

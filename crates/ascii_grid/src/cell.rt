@@ -7,7 +7,6 @@ ghost use Rattle.ascii_grid.specs.Meaning.{meaning_of};
 use decimals::scaled_value;
 use terrain::{Cell, HIGHEST, LOWEST};
 
-/// The meaning of a word among the heights.
 #[derive(Clone, Copy)]
 pub(crate) enum Meaning {
     /// A cell with a height, or NODATA.

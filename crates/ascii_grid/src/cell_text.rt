@@ -9,7 +9,6 @@ use terrain::Height;
 /// Bytes enough for the longest text of a value and the byte that ends it.
 const ROOM: usize = 32;
 
-/// Writes the last `count` digits of `size` at the buffer's end. Returns the rest.
 #[inline(always)]
 fn write_last_digits(size: u64, count: usize, buffer: &mut [u8; ROOM]) -> u64
     requires { count ≤ 6 }

@@ -65,7 +65,7 @@ impl Header {
         }
     }
 
-    /// Fills a slot with a value, or returns its fault. Only positions use `centre`.
+    /// Fills a slot with a value, or returns the value's fault. Only `Xll` and `Yll` use `centre`.
     pub(crate) fn put(&mut self, key: Key, centre: bool, word: &[u8]) -> Result<(), GridFault>
         requires { length word.now ≤ MOST_WORD_BYTES }
         ensures ok { IfOk result (λ _. (is_value key word.now ≡ true)
@@ -110,7 +110,6 @@ impl Header {
         }
     }
 
-    /// Builds the grid of these slots and cells.
     pub(crate) fn into_grid(self, alloc: Global, scale: u8, nodata: Word, cells: Vec<Cell>) -> Grid
         requires whole { IsWhole self }
         requires lawful { IsLawful (raster_of self scale nodata cells.items) }
@@ -135,7 +134,7 @@ impl Header {
         Grid::from_parts(alloc, header, scale, cells)
     }
 
-    /// Returns columns times rows, or the first required slot that is missing.
+    /// Returns columns times rows, or the fault of the first required slot that is missing.
     pub(crate) fn cells_wanted(&self) -> Result<u32, GridFault>
         ensures ok { IfOk result (λ n. (missing_of self.now ≡ None) × (n ≡ wanted_of self.now)) }
         ensures err { IfErr result (λ f. missing_of self.now ≡ Some f) }
@@ -155,7 +154,6 @@ impl Header {
     }
 }
 
-/// Returns a decimal text as a stored word, else `None`.
 fn decimal(word: &[u8]) -> Option<Word>
     requires { length word.now ≤ MOST_WORD_BYTES }
     ensures { result ≡ (if is_decimal word.now then Some word.now else None) }

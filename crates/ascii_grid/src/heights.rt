@@ -51,7 +51,7 @@ impl HeightParser {
     /// Returns the cells of bytes in which a separator follows each word.
     ///
     /// `None` if a word has no separator after it, has more than 64 bytes or spells no cell.
-    /// `None` too if memory is refused; the list takes 4 bytes for each byte of text.
+    /// `None` too if memory is refused; the list takes about 4 bytes for each byte of text.
     pub fn cells(&self, alloc: Global, bytes: &[u8]) -> Option<Vec<Cell>>
         ensures { IfSome result (λ cells. AreCells self.now bytes.now cells.items) }
     {
@@ -92,7 +92,7 @@ impl HeightParser {
         Some(len + 1)
     }
 
-    /// Returns the front word's length and meaning; `None` if too long or not ended.
+    /// Returns the front word's length and meaning; `None` if it is too long or not ended.
     #[inline(always)]
     fn front_word(&self, nodata_value: Option<i64>, rest: &[u8]) -> Option<(usize, Meaning)>
         requires { nodata_value ≡ scaled_value self.now.scale self.now.nodata }

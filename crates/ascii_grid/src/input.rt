@@ -122,7 +122,6 @@ fn read_piece<R: Read>(
     Ok(Some(count))
 }
 
-/// Returns the grid of the pieces that were fed, or their text's fault or `Memory`.
 fn finish_grid(grid_reader: GridReader) -> Result<Grid, InputFault>
     ensures grid { (text : List ℕ) → HasTaken grid_reader text →
         IfOk result (λ g. IsGridText grid_reader.scale text g) }

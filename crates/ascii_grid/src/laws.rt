@@ -18,7 +18,7 @@ pub fn faults_stay()
         text_fault d (text ++ more) ≡ Some f }
 {}
 
-/// Whatever bytes follow, want of memory at the first height remains a refusal.
+/// If a text so far may be refused with `Memory`, so may the text with any bytes after it.
 pub fn wants_stay()
     ensures { (d : ℕ) (text more : List ℕ) → IsRefusalSoFar d text Memory →
         IsRefusal d (text ++ more) Memory }

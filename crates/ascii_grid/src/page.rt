@@ -1,4 +1,4 @@
-//! A byte buffer on the stack, from which a page of text is written to a device.
+//! A byte buffer on the stack: a page of text for a device, or the front of a word.
 ghost use Rattle.std.specs.Prelude.{◌≡◌, ◌↔◌, ◌+◌, ◌≤◌, ◌∷◌, ◌++◌, [], ℕ, List, length, take, IsTrue, ◌<◌, ◌-◌, ◌^◌, decimal};
 ghost use Rattle.ascii_grid.specs.Device.{Writes};
 
@@ -42,7 +42,6 @@ impl<const N: usize> Buffer<N> {
         }
     }
 
-    /// Whether `count` more bytes fit.
     #[inline(always)]
     pub(crate) fn has_room(&self, count: usize) -> bool
         requires { count ≤ N }
@@ -115,7 +114,6 @@ impl<const N: usize> Buffer<N> {
     }
 }
 
-/// Returns how many decimal digits a number has.
 #[inline(always)]
 fn digit_count(number: u64) -> usize
     requires { number < 10 ^ 19 }

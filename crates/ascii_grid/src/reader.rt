@@ -76,9 +76,11 @@ impl GridReader {
     ///
     /// # Errors
     ///
-    /// The first fault of a word, once a separator has ended the word; [`GridFault::TooLong`] past
-    /// [`MOST_TEXT_BYTES`]; [`GridFault::Memory`] at the first height, if the list of cells is
-    /// refused. Later feeds and [`finish`](Self::finish) return the fault again.
+    /// - The first fault of a word, once a separator has ended the word.
+    /// - [`GridFault::TooLong`] past [`MOST_TEXT_BYTES`].
+    /// - [`GridFault::Memory`] at the first height, if memory for the list of cells is refused.
+    ///
+    /// Later feeds and [`finish`](Self::finish) return the fault again.
     pub fn feed(&mut self, piece: &[u8]) -> Result<(), GridFault>
         ensures { Feeds self.old self.new piece.now result }
     {

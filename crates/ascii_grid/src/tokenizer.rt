@@ -53,7 +53,7 @@ impl Tokenizer {
         Ok(())
     }
 
-    /// Reads a height by the fast path, else one byte. Returns the count of bytes.
+    /// Reads a height by the fast path, else one byte. Returns the count of bytes read.
     #[inline(always)]
     fn take_some(&mut self, rest: &[u8]) -> Result<usize, GridFault>
         requires some { 0 < length rest.now }
@@ -75,7 +75,8 @@ impl Tokenizer {
 
     /// Fast path for a height that [`plain_number`] parses, and its separator.
     ///
-    /// Returns their length, or 0: for anything else, within a word, and until a height has ended.
+    /// Returns their length, or 0: for anything else, within a word, and until the first height has
+    /// ended.
     #[inline(always)]
     fn take_plain(&mut self, rest: &[u8]) -> Result<usize, GridFault>
         requires { self.old.builder.scale ≤ 6 }
@@ -115,7 +116,7 @@ impl Tokenizer {
         Ok(())
     }
 
-    /// Between two heights, returns the parser of the next ones for jobs; else `None`.
+    /// Returns the parser for jobs; `None` within a word and until the first height has ended.
     pub(crate) fn height_parser(&self) -> Option<HeightParser>
         requires { self.now.builder.scale ≤ 6 }
         ensures scale { IfSome result (λ parser. parser.scale ≡ self.now.builder.scale) }

@@ -39,7 +39,7 @@ fn write_page<W: Write>(page: &mut Page, out: &mut Counted<W>) -> Result<(), Wri
     Ok(())
 }
 
-/// Writes the page to the device if it lacks room for [`ENTRY_ROOM`] more bytes.
+/// Writes the page to the device unless [`ENTRY_ROOM`] more bytes fit in the page.
 #[inline(always)]
 fn make_room<W: Write>(page: &mut Page, out: &mut Counted<W>) -> Result<(), WriteFailed>
     requires { out.old.failures < 2 ^ 64 - 1 }
@@ -197,7 +197,6 @@ fn push_line(key: &[u8], value: &[u8], page: &mut Page)
     page.push_byte(b'\n');
 }
 
-/// Adds a header line whose value is a number.
 fn push_number_line(key: &[u8], number: u32, page: &mut Page)
     requires key { length key.now ≤ 14 }
     requires room { length page.old + ENTRY_ROOM ≤ PAGE }
@@ -221,7 +220,6 @@ fn push_anchor(corner: &[u8], centre: &[u8], anchor: &Anchor, page: &mut Page)
     push_line(key, anchor.word.as_bytes(), page);
 }
 
-/// Returns a page with the six header lines.
 fn header_page(frame: &Frame, nodata: &[u8]) -> Page
     requires { length nodata.now ≤ MOST_WORD_BYTES }
     ensures { result ≡ header_text frame.now nodata.now }
@@ -286,7 +284,6 @@ pub fn lines<E: MapCell>(
     }
 }
 
-/// Writes texts, one after another.
 fn write_texts<W: Write>(texts: &[Vec<u8>], out: &mut Counted<W>) -> Result<(), WriteFailed>
     requires { out.old.failures < 2 ^ 64 - 1 }
     ensures { Writes W.contents out.old out.new (flat_map (λ text. text.items) texts.now) result }
@@ -380,7 +377,7 @@ pub fn write_framed_counts<W: Write>(
     write_cells(frame, values, COUNTS_NODATA, out)
 }
 
-/// Writes direction codes, a frame's header and NODATA -9999. Allocates nothing.
+/// Writes direction codes, with a frame's header and NODATA -9999. Allocates nothing.
 ///
 /// # Errors
 ///

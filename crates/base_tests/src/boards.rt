@@ -12,7 +12,6 @@ use std::thread;
 use std::thread::Threads;
 use tile_jobs::{Board, Closed, JobFault, Seat, Take};
 
-/// Deals a board of `jobs` jobs to `seats` seats.
 fn dealt(alloc: Global, jobs: u32, seats: u32) -> Result<Vec<Seat>, JobFault>
     requires { jobs ≤ 65536 }
     ensures len { IfOk result (λ v. vec_len v ≡ seats) }
@@ -22,7 +21,6 @@ fn dealt(alloc: Global, jobs: u32, seats: u32) -> Result<Vec<Seat>, JobFault>
     Board::deal(alloc, jobs, seats)
 }
 
-/// Takes the next job for seat `s`, and returns the outcome.
 fn take_at(seats: &mut Vec<Seat>, s: usize) -> Take
     requires at { s < vec_len seats.old }
     requires board { IsBoard (vec_len seats.old) seats.old.items }
@@ -58,7 +56,6 @@ fn gets_at(rt: &impl Abort, seats: &mut Vec<Seat>, s: usize, want: Take)
     assert_eq!(rt; take_at(seats, s), want);
 }
 
-/// Closes the board.
 fn closed(alloc: Global, seats: Vec<Seat>) -> Result<Closed, Fail>
     requires { IsBoard (vec_len seats) seats.items }
 {
@@ -251,7 +248,7 @@ fn refused_close_gives_seats_back(rt: HostRuntime) -> Result<(), Fail> {
     Ok(())
 }
 
-/// A `close` that `rt try --fail-alloc` refuses memory keeps the jobs that are left.
+/// If `rt try --fail-alloc` refuses memory to `close`, the seats keep the jobs that are left.
 #[test]
 fn refused_close_keeps_what_is_left(rt: HostRuntime) -> Result<(), Fail> {
     let Some(mut seats) = deal_five(&rt, rt.alloc()) else {

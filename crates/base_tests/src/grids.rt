@@ -7,7 +7,7 @@ use std::alloc::Global;
 use std::process::Abort;
 use std::test::Fail;
 
-/// The middle of 3 by 3 cells. The next constants are other places in these cells or past them.
+/// The middle of 3 by 3 cells; [`PAST_THE_ROWS`] and [`PAST_THE_COLUMNS`] are outside them.
 const MIDDLE: Place = Place { row: 1, col: 1 };
 
 const NORTH_EAST: Place = Place { row: 0, col: 2 };
@@ -77,7 +77,6 @@ fn is_edge(rt: &impl Abort, grid: &Grid, place: Place) -> bool {
     grid.is_edge(place)
 }
 
-/// Asserts the sinks of a grid.
 fn expect_sinks(rt: &impl Abort, grid: &Grid, sinks: &[Place]) {
     assert_eq!(rt; grid.sinks(), sinks);
 }
@@ -212,7 +211,7 @@ fn most_sinks(rt: HostRuntime) -> Result<(), Fail> {
     Ok(())
 }
 
-/// The first call adds the sink; if `rt try --fail-alloc` refuses it memory, the second call does.
+/// If `rt try --fail-alloc` refuses memory to the first call, a second call adds the sink.
 #[test]
 fn refused_sinks_are_named_once_more(rt: HostRuntime) {
     let pit = grid_of(&rt, rt.alloc(), 0, PIT, &PIT_CELLS);

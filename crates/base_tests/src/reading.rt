@@ -181,7 +181,7 @@ fn cells_without_data(rt: HostRuntime) {
         b" NODATA_value 1e99 3 1E99",
         GridFault::BadHeight(1),
     );
-    // A NODATA word with an exponent has no value: only the same bytes are NODATA.
+    // A NODATA word with an exponent has no scaled value: only the same bytes are NODATA.
     spells_after_header(
         &rt,
         rt.alloc(),
@@ -427,7 +427,7 @@ fn each_front_part(rt: HostRuntime) {
     spells(&rt, rt.alloc(), 0, &text, &[Some(3), Some(4)]);
 }
 
-/// A reader of 20 bytes a call. One call fails as interrupted, later calls read on.
+/// A reader of at most 20 bytes a call. One call fails as interrupted; later calls read on.
 #[derive(Drop)]
 struct Interrupted<'a> {
     left: &'a [u8],

@@ -162,7 +162,7 @@ fn rim_of_one_cell_ends(rt: HostRuntime) {
     assert_eq!(rt; rim.next(), None);
 }
 
-/// Asserts the number of a rim cell, and the place of the number.
+/// Asserts that a rim cell has this number, and that the number has this cell.
 fn has_rim_number(rt: &impl Abort, tiling: &Tiling, row: u32, col: u32, number: u32) {
     let place = place_in(rt, tiling, row, col);
     assert_eq!(rt; tiling.rim_number(place), number, "row {row}, column {col}");

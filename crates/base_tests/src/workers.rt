@@ -11,7 +11,7 @@ use std::thread;
 use std::thread::Threads;
 use tile_jobs::{Gate, JobFault, NoGate, Work, run_jobs, run_jobs_capped};
 
-/// How often a held job checks for other jobs: enough for any worker to begin one.
+/// How often at most a held job checks for other jobs: enough for any worker to begin one.
 const MOST_LOOKS: u32 = 10_000_000;
 
 /// Work whose job `j` returns the square of `j`, for `j` below `most`.
@@ -59,7 +59,7 @@ impl Work for Hungry {
     }
 }
 
-/// A gate that holds each job until others have entered, and records the order.
+/// A gate that holds each job until the jobs in its `waits` have entered, and records the order.
 #[derive(Drop)]
 struct Turns {
     // bit k of entry j: job j waits for job k
@@ -98,7 +98,7 @@ impl Turns {
         true
     }
 
-    /// Returns the job's position in the order of entering, from 1; 0 if it did not.
+    /// Returns the job's position in the order of entering, from 1; 0 if it did not enter.
     fn position_of(&self, job: usize) -> u64 {
         self.entries
             .get(job)

@@ -14,7 +14,6 @@ use Rattle.terrain.proofs.Places.{same_place, entry-inside}
 use Rattle.terrain.proofs.Options.{cases_option, none_some, none_done}
 use Rattle.floods.proofs.Heaps.{replicated}
 
--- Each of the first `count` rows has `cols` cells.
 abbrev pub AreRows : (ℕ → List (Option ℤ)) → ℕ → ℕ → Type 0
 AreRows row cols count = (r : ℕ) → r < count → length (row r) ≡ cols
 
@@ -22,7 +21,7 @@ fewer : (row : ℕ → List (Option ℤ)) (cols count : ℕ) → AreRows row col
     AreRows row cols count
 fewer row cols count h r below = h r (omega arith)
 
--- `first_rows` with the next row after them, between two cells without data, have one row more.
+-- `first_rows`, then the next row between two cells without data, are `first_rows` of one row more.
 pub row_more : (row : ℕ → List (Option ℤ)) (stride count : ℕ) (cells now next : List (Option ℤ)) →
     now ≡ first_rows row stride count → next ≡ now ++ (None ∷ cells ++ None ∷ []) →
     cells ≡ row count → next ≡ first_rows row stride (count + 1)
@@ -48,7 +47,6 @@ length-first_rows row cols (suc count) h =
     let inner = length-append (row count) (None ∷ []) in
     omega (arith, was, here, joined, inner)
 
--- Entry c + 1 of one bordered row is entry c of the row.
 row_at : (xs : List (Option ℤ)) (c : ℕ) → c < length xs →
     get_or (None ∷ xs ++ None ∷ []) (suc c) None ≡ get_or xs c None
 row_at xs c below = get_or_append_left xs (None ∷ []) None c below
@@ -176,7 +174,6 @@ net_of_rows t w row are show sinks has = record {
   sinks = has;
 }
 
--- The node of a place of the window is past the first row of its net.
 pub above_row : (w : Bounds) (p : Place) → w.cols + 2 < node_at w p
 above_row w p = omega
     (arith, mul-le 1 (w.cols + 2) (p.row - w.top + 1) (w.cols + 2) (omega arith) (omega arith))
@@ -198,7 +195,6 @@ bordered_list t w n few_rows few_cols net = record {
       (omega (arith, stride, low, p.2), omega (arith, stride, size, room, p.2));
 }
 
--- Entry c of row r of a list in row order is the list's entry r * cols + c.
 row_cell : (cols : ℕ) (xs : List (Option ℤ)) (r c : ℕ) → c < cols →
     get_or (row_of cols xs r) c None ≡ get_or xs (r * cols + c) None
 row_cell cols xs r c below =

@@ -20,7 +20,6 @@ use Rattle.terrain.proofs.Orders.{trans, le_of_same}
 use Rattle.terrain.proofs.Options.{cases_option}
 use Rattle.floods.proofs.Heaps.{cons_head, cons_tail, cons_cases, all_by_contains}
 
--- `cons_option o ys` contains the item of `o`, if there is one.
 put_first : {Y : Type 0} (o : Option Y) (ys : List Y) (y : Y) → o ≡ Some y →
     Contains (cons_option o ys) y
 put_first None ys y e = absurd (cc)
@@ -98,7 +97,6 @@ all_eight P a b c d e f g h pa pb pc pd pe pf pg ph = All-cons P a (b ∷ c ∷ 
     (All-cons P d (e ∷ f ∷ g ∷ h ∷ []) pd (All-cons P e (f ∷ g ∷ h ∷ []) pe
     (All-cons P f (g ∷ h ∷ []) pf (All-cons P g (h ∷ []) pg (All-cons P h [] ph (All-nil P))))))))
 
--- A node with a number above the stride is beside each of the eight nodes around it.
 pub all_beside : (s a : ℕ) → s < a → All (IsBeside s a) (cells_around s a)
 all_beside s a h =
     let nw : a ≡ (a - s - 1) + s + 1 = omega arith in
@@ -121,7 +119,6 @@ beside_around s a b h (inr (inr (inl e))) = (2, omega arith, omega arith)
 beside_around s a b h (inr (inr (inr (inl e)))) = (1, omega arith, omega arith)
 beside_around s a b h (inr (inr (inr (inr e)))) = (0, omega arith, omega arith)
 
--- An arc leads to a data cell, at the greater of the two heights.
 arc_found : (cells : List (Option ℤ)) (x : ℤ) (b : ℕ) (arc : Spill) → arc_to cells x b ≡ Some arc →
     (y : ℤ) × (get_or cells b None ≡ Some y) × (record { to = b; height = int_max y x } ≡ arc)
 arc_found cells x b arc e = elim (cases_option (get_or cells b None)) [

@@ -1,4 +1,4 @@
--- Labels by a table of their places.
+-- Adding a label's place to a table keeps `IsTable` and the labels of the cells before.
 use Rattle.std.proofs.Common.{◌≡◌, ◌≢◌, ◌==◌, ℕ, ◌+◌, ◌<◌, ◌≤◌, inl, inr, zero, suc, List, [], ◌∷◌, ◌++◌, length, get_or, Option, None, Some, ◌∙◌, sym, ap, subst, refl, arith}
 use Rattle.std.specs.Prelude.{IsSome}
 use Rattle.std.specs.List.{All}
@@ -39,7 +39,7 @@ listed_length index label old new at = elim at.only [
   )
 ]
 
--- A place at another index was in the table before.
+-- Each place of the new table at another index than `index` was there before.
 listed_before : (index : ℕ) (label : Option Place) (old new : List (Option Place)) →
     IsListedAt index label old new → (k : ℕ) (p : Place) → k ≢ index → get_or new k None ≡ Some p →
     get_or old k None ≡ Some p
@@ -55,7 +55,7 @@ listed_before index label old new at k p other e = elim at.only [
       ]
 ]
 
--- If a cell's label is listed in a table that is not empty, the new table is one for that cell too.
+-- Listing the next cell's label in a table that is not empty keeps `IsTable`, with its index added.
 pub cell_listed : (index : ℕ) (label : Option Place) (old new : List (Option Place))
     (cells more : List ℕ) → 0 < length old → IsTable old cells → IsListedAt index label old new →
     more ≡ cells ++ index ∷ [] → IsTable new more

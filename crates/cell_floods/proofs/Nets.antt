@@ -86,7 +86,6 @@ inner_rows_at list cols (suc count) h r c below inside =
       move : (k c s : ℕ) → (k + 1) * s + 1 + c ≡ (k + 1) * s + (c + 1)
       move k c s = omega arith
 
--- A source of the window that is the whole terrain is an end cell.
 source_is_end : (t : Terrain) (p : Place) → IsInBounds (whole t) p → IsWindowSource t (whole t) p →
     IsEnd t p
 source_is_end t p inside (inr sink) = inr sink
@@ -104,7 +103,6 @@ data_in_window : (t : Terrain) (p : Place) → IsDataCell t p → IsInBounds (wh
 data_in_window t p some = let inside = data_inside t p some in
     (omega arith, omega (arith, inside), omega arith, omega (arith, inside))
 
--- A path of the terrain is a path of the window that is the whole terrain.
 whole_path : (t : Terrain) (p : Place) (rest : List Place) → IsPath t p rest →
     IsWindowPath t (whole t) p rest
 whole_path t p [] path = end_is_source t (whole t) p path

@@ -1,4 +1,4 @@
--- Floods of the net of a tile.
+-- A flood of a tile's net has the levels and the labels of the tile (`AreTileLevels`).
 use Rattle.std.proofs.Common.{◌≡◌, ℕ, ◌+◌, ◌-◌, ◌*◌, ◌<◌, inl, inr, ℤ, List, [], ◌∷◌, length, get_or, Option, None, is_some, ◌∙◌, sym, ap, arith, true, map, Some, subst, refl, take, zero, suc}
 use Rattle.std.specs.Prelude.{MatchOption}
 use Rattle.std.proofs.lemmas.Bool.{or_cases, or_left, or_right, eqb-true, eq-eqb, cases_lt}
@@ -126,7 +126,7 @@ mapped_entry b xs p size i =
     ∙ get_or-map (label_of_node b) xs _ None None (omega (arith, size, index_in_below b p i))
     ∙ ap (label_of_node b) (sym (entry_in-inside b xs p i))
 
--- `IsTileFlood` of the levels and labels alone.
+-- As `IsTileFlood`, of the levels and labels alone, with the bounds in the limits.
 pub record AreTileLevels (t : Terrain) (c : Cutting) (tile : ℕ) (b : Bounds)
     (levels : List (Option ℤ)) (labels : List (Option Place)) : Type 0 where
   pub bounds : b ≡ bounds_of c tile
@@ -138,7 +138,6 @@ pub record AreTileLevels (t : Terrain) (c : Cutting) (tile : ℕ) (b : Bounds)
       (λ _. (level : ℤ) × (label : Place) × (entry_in b levels p ≡ Some level)
       × (entry_in b labels p ≡ Some label) × IsTileLevel t c p level label)
 
--- The bounds of a cutting's tile lie within a grid of the greatest size.
 pub bounds_limits : (t : Cutting) (b : Bounds) → IsCutting t → AreBounds t b → IsWithinLimits b
 bounds_limits t b h inside = (omega arith, omega arith)
 
@@ -197,7 +196,6 @@ pub tile_flood_is : (t : Terrain)
 tile_flood_is t c tile n b levels levels_in labels labels_in h l cuts net flooded same x y =
     rw (y, x, same) (tile_flooded t c tile n levels labels h l cuts net flooded)
 
--- A walk from a node of the net ends at a node of the net.
 walk_end_below : (n : Cells) (a : ℕ) (walk : List Spill) → a < length n.cells →
     IsWalk (IsCellJoin n) (source_of n) a walk → end_of a walk < length n.cells
 walk_end_below n a [] low walk = low

@@ -61,7 +61,6 @@ some_below : (i m n : ℕ) → i < m * n → 0 < n
 some_below i m zero low = absurd (omega (arith, low))
 some_below i m (suc n) low = omega arith
 
--- In a tile a cell has a level exactly if it has a label.
 both_or_neither : (t : Terrain) (c : Cutting)
     (tile : ℕ) (b : Bounds) (levels : List (Option ℤ)) (labels : List (Option Place)) →
     IsCutting c → tile < tile_count c → AreTileLevels t c tile b levels labels → (i : ℕ) →
@@ -102,7 +101,6 @@ levels_where_are t c tile b levels labels heights h l are is =
     (sym (ap (levels_where labels) are ∙ levels_back labels levels (is.labels_size
     ∙ sym is.levels_size) (both_or_neither t c tile b levels labels h l is))) is
 
--- The last cell of a path in a tile is a data cell.
 label_data : (t : Terrain) (c : Cutting) (p : Place) (rest : List Place) → IsTilePath t c p rest →
     IsDataCell t (last_of p rest)
 label_data t c p [] path = elim path [ inl rim ↦ rim.0 | inr end ↦ first_is_data t p [] end ]

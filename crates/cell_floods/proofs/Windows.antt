@@ -30,16 +30,13 @@ use Rattle.std.specs.List.{Contains}
 use Rattle.std.proofs.lemmas.List.{length-set, get_or-set_same, get_or-set_other, get_or_default}
 use Rattle.tiles.proofs.Cut.{in_bounds_from}
 
--- The place is in the first or last row or column of the window.
 abbrev pub IsOnRim : Bounds → Place → Type 0
 IsOnRim w p = (p.row ≡ w.top) ⊎ (p.row + 1 ≡ w.top + w.rows) ⊎ (p.col ≡ w.left)
     ⊎ (p.col + 1 ≡ w.left + w.cols)
 
--- A data cell on the rim of the window or with a gap around it.
 abbrev pub IsGapSource : Terrain → Bounds → Place → Type 0
 IsGapSource t w p = IsDataCell t p × (IsOnRim w p ⊎ HasGapAround t p)
 
--- A source of the window: a gap source or a sink.
 abbrev pub IsWindowSource : Terrain → Bounds → Place → Type 0
 IsWindowSource t w p = IsGapSource t w p ⊎ IsSink t p
 
@@ -47,12 +44,11 @@ pub end_is_source : (t : Terrain) (w : Bounds) (p : Place) → IsEnd t p → IsW
 end_is_source t w p (inl edge) = inl (edge.0, inr edge.1)
 end_is_source t w p (inr sink) = inr sink
 
--- A path that stays in the window and ends at a source of the window.
+-- A path whose cells after p lie in the window, and which ends at a source of the window.
 abbrev pub IsWindowPath : Terrain → Bounds → Place → List Place → Type 0
 IsWindowPath t w p [] = IsWindowSource t w p
 IsWindowPath t w p (q ∷ rest) = IsNeighbour t p q × IsInBounds w q × IsWindowPath t w q rest
 
--- A node of the next row, at most one column off, is after the first by `IsAfter`.
 next_row : (s r c d : ℕ) → d ≤ c + 1 → c ≤ d + 1 → IsAfter s (r * s + c) ((r + 1) * s + d)
 next_row s r c d up down = elim (cases_order c d) [
   | inl same ↦ inr (inr (inl (omega arith)))
@@ -170,7 +166,6 @@ beside_touch w p q a b (inl h) = near_touch w p q a b (after_rows (w.cols + 2) (
 beside_touch w p q a b (inr h) = turn q p (near_touch w q p b a (after_rows (w.cols + 2)
     (row_in w q) (col_in w q) (row_in w p) (col_in w p) (omega (arith, b)) (omega (arith, a)) h))
 
--- A node has at most one place of the window.
 pub node_injective : (w : Bounds) (p q : Place) → IsInBounds w p → IsInBounds w q →
     node_at w p ≡ node_at w q → p ≡ q
 node_injective w p q a b e =
@@ -548,7 +543,7 @@ window_none t w n levels labels net flooded p inside none below =
           none_done (height_at t p) none (path_data t w p path.0 path.1)
     ]
 
--- Each sink of the window is one of the places; each of the first `count` in the window is a sink.
+-- Each sink of the window is one of the places. Of the first `count`, those inside are sinks.
 pub record HasFirstSinks (w : Bounds) (places : List Place) (count : ℕ) (sinks : List Bool) :
     Type 0 where
   pub size : length sinks ≡ (w.rows + 2) * (w.cols + 2)

@@ -16,7 +16,8 @@ pub record LabelTable : Type 0 where
 abbrev pub labels_by : List (Option Place) → List ℕ → List (Option Place)
 labels_by places cells = map (λ k. slice_index_or places k None) cells
 
--- None, then at most one place a cell. Each index lies in the table; each place is a cell's label.
+-- The table is None, then places, at most as many as cells. Each index lies in the table, and each
+-- place is the label of some cell.
 pub record IsTable (places : List (Option Place)) (cells : List ℕ) : Type 0 where
   pub few : length places ≤ length cells + 1
   pub first : slice_index_or places 0 None ≡ None
@@ -33,7 +34,7 @@ label_of_node b node = option_map (place_of_node b.top b.left b.cols) node
 abbrev pub AreNodesBelow : ℕ → List (Option ℕ) → Type 0
 AreNodesBelow count nodes = (k node : ℕ) → slice_index_or nodes k None ≡ Some node → node < count
 
--- `met` has the index in the table of each node that was met, and 0 for other nodes.
+-- `met` has the table's index of the place of each node that was met, and 0 for other nodes.
 pub record AreMet (b : Bounds) (met : List ℕ) (places : List (Option Place)) : Type 0 where
   pub inside : (node : ℕ) → slice_index_or met node 0 < length places
   pub place : (node : ℕ) → 0 < slice_index_or met node 0 →

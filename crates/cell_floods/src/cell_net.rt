@@ -1,7 +1,7 @@
 //! A rectangle of cells as a net: [`CellNet`].
 //!
-//! A gap is a cell without data. A border of gaps gives each cell eight cells around it. A data
-//! cell beside a gap is a source, so the border makes rim cells sources.
+//! A border of cells without data gives each cell of the rectangle eight cells around it. A data
+//! cell beside a cell without data is a source. So the border makes data cells on the rim sources.
 ghost use Rattle.std.specs.Prelude.{◌≡◌, None, ◌+◌, ◌-◌, ◌*◌, ◌^◌, ◌<◌, ◌≤◌, ◌∷◌, ◌++◌, ◌↔◌, [], EachIndex, IsSome, IsTrue, length, All, IfOk, OnOk, is_none, slice_index_or, replicate};
 ghost use Rattle.std.specs.List.{list_any, filter_map, cons_option};
 ghost use Rattle.std.specs.Bool.{OnTrue};
@@ -21,8 +21,8 @@ use terrain::{Cell, Grid, Height, NO_DATA, NoMemory, Place};
 use tiles::{Bounds, TileView};
 
 /// A rectangle of cells as a net, with a border of cells without data.
-/// Neighbouring data cells are joined at the greater of their heights. A data cell with a gap
-/// around it is a source, and so is a sink.
+/// Neighbouring data cells are joined at the greater of their heights. A data cell beside a cell
+/// without data is a source, and so is a sink.
 #[derive(Drop)]
 pub struct CellNet {
     /// The number of cells in a row, its two border cells included.
@@ -77,7 +77,6 @@ fn is_gap(cells: &[Cell], node: u32) -> bool
     cells[node as usize].height().is_none()
 }
 
-/// Returns whether one of these nodes has no data.
 #[inline(always)]
 fn any_gap(cells: &[Cell], around: &[u32; 8]) -> bool
     requires { All (λ b. b < length cells.now) around.now }
@@ -86,7 +85,7 @@ fn any_gap(cells: &[Cell], around: &[u32; 8]) -> bool
     around.iter().any(|&node| is_gap(cells, node))
 }
 
-/// Returns the arc from a cell of this height to node `to`; `None` without data.
+/// Returns the arc from a cell of this height to node `to`; `None` if `to` has no data.
 #[inline(always)]
 fn arc_to(cells: &[Cell], height: Height, to: u32) -> Option<Spill>
     requires { to < length cells.now }
@@ -231,7 +230,6 @@ fn push_around(
     Ok(())
 }
 
-/// Returns whether all of these cells have data.
 #[inline(always)]
 pub(crate) fn have_data(cells: &[Cell]) -> bool
     ensures { IsTrue result ↔ EachIndex cells.now (λ k. IsSome (slice_index_or cells.now k None)) }
@@ -239,7 +237,6 @@ pub(crate) fn have_data(cells: &[Cell]) -> bool
     cells.iter().all(|cell| cell.height().is_some())
 }
 
-/// Returns whether `count` cells, from index `first` on, have data.
 #[inline(always)]
 fn have_data_from(cells: &[Cell], first: usize, count: usize) -> bool
     requires { first + count ≤ length cells.now }
@@ -340,7 +337,7 @@ impl Net for CellNet {
         }
     }
 
-    /// Tests runs from multiples of [`RUN`] alone, so that each gap fails few tests.
+    /// Tests runs from multiples of [`RUN`] alone, so a cell without data makes few tests fail.
     #[inline]
     fn next_candidate(&self, from: u32) -> u32 {
         let mut node = from;
@@ -351,7 +348,6 @@ impl Net for CellNet {
     }
 }
 
-/// Adds `count` cells without data.
 fn push_gaps(list: &mut Vec<Cell>, count: usize) -> Result<(), AllocError>
     ensures { OnOk result (list.new.items ≡ list.old.items ++ replicate count None) }
 {

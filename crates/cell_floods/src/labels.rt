@@ -82,7 +82,7 @@ fn place_of(bounds: Bounds, node: u32) -> Place
     }
 }
 
-/// Returns the index of a node's place in the table, 0 for `None`; adds a new place.
+/// Returns the index of a node's place in the table, 0 for `None`; adds the place if new.
 /// `met` has the index for each node met before, and 0 for other nodes.
 #[inline(always)]
 fn index_of_label(
@@ -124,7 +124,7 @@ fn empty_table(alloc: Global, bounds: Bounds) -> Result<Vec<Option<Place>>, Allo
     Ok(places)
 }
 
-/// Makes the table of a tile's labels.
+/// Makes the table of a tile's labels, and each cell's index into it.
 /// `nodes` has each cell's label as a node of the tile's net, as [`label_of`] decodes it.
 pub(crate) fn labels_of(alloc: Global, bounds: Bounds, nodes: &[u32]) -> Result<Labels, AllocError>
     requires limits { IsWithinLimits bounds }

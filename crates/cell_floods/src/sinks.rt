@@ -16,7 +16,6 @@ pub(crate) fn is_sink(sinks: &[bool], node: u32) -> bool
     sinks.get(node as usize).copied().unwrap_or(false)
 }
 
-/// Returns whether one of these places lies in the bounds.
 fn is_any_in(bounds: Bounds, places: &[Place]) -> bool
     requires { IsWithinLimits bounds }
     ensures { result ≡ list_any (is_in_bounds bounds) places.now }

@@ -1,7 +1,4 @@
 //! The flood of one tile: [`tile_flood`].
-//!
-//! A cell's level is the least crest of its paths inside the tile. Its label is where a path of
-//! that crest ends: at an end cell or on the rim.
 ghost use Rattle.std.specs.Prelude.{◌≡◌, IfOk, length, true, false, MatchOption, None, is_none, slice_index_or, ◌<◌};
 ghost use Rattle.terrain.specs.Sinks.{with_sinks};
 ghost use Rattle.tiles.specs.Cutting.{terrain_of, is_in_bounds, index_in};
@@ -17,7 +14,7 @@ use std::marker::Model;
 use terrain::{Cell, Height, NoMemory, Place};
 use tiles::{Bounds, TileView};
 
-/// The level and the label of each cell of a tile, in the tile's row order.
+/// The level and the label of each data cell of a tile, in the tile's row order.
 /// A level, in units, is the least crest of the cell's paths inside the tile. Paths end on the
 /// tile's rim or at an end cell. The label is the place where a path of that crest ends.
 #[derive(Drop)]
@@ -139,7 +136,7 @@ impl TileFlood {
     }
 }
 
-/// Finds the level and the label of each cell of a tile.
+/// Finds the level and the label of each data cell of a tile.
 ///
 /// Paths end on the rim, at edge cells, and at those of `sinks` that lie in the tile.
 ///

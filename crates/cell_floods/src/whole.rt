@@ -9,7 +9,7 @@ use floods::flood;
 use std::alloc::Global;
 use terrain::{Grid, Height, NoMemory};
 
-/// Returns the filled height of each cell of a grid, in row order.
+/// Returns the filled height of each cell, in row order; `None` without data.
 ///
 /// # Errors
 ///

@@ -1,4 +1,4 @@
--- The scaled value of a decimal text by its parts, and of a plain whole number.
+-- The scaled value of a decimal text from its parts, and of digits at the front of a text.
 use Rattle.std.proofs.Common.{◌≡◌, ℕ, ◌+◌, ◌*◌, ◌-◌, ◌^◌, ◌<◌, ◌≤◌, min, Bool, true, false, ◌&&◌, ◌||◌, cond, nat_le, nat_lt, ◌==◌, List, [], ◌∷◌, ◌++◌, length, take, drop, fold, replicate, Option, None, Some, ℤ, pos, neg_ℤ, inl, inr, arith, refl, ap, sym, ◌∙◌, suc, zero, add-one}
 use Rattle.std.specs.List.{list_any, list_all, position_or_len, before_first, after_first}
 use Rattle.std.specs.Char.{is_ascii_digit}
@@ -14,13 +14,11 @@ use Rattle.std.proofs.Math.Nat.{pow-suc, pow-le-pow_right}
 use Rattle.std.proofs.lemmas.Nat.{mul-le, pow-add}
 use Rattle.decimals.specs.Plain.{IsPlain}
 
--- a nonempty part with another appended is digits exactly if all bytes of both are digits
 pub are_digits_joined : (a b : List ℕ) → 0 < length a →
     are_digits (a ++ b) ≡ (list_all is_ascii_digit a && list_all is_ascii_digit b)
 are_digits_joined [] b h = absurd (omega arith)
 are_digits_joined (x ∷ xs) b h = list_all-append is_ascii_digit (x ∷ xs) b
 
--- the first d bytes of a fraction with d or more zeros appended are its own, and zeros up to d
 take-padded : (d k : ℕ) (xs : List ℕ) → d ≤ k →
     take d (xs ++ replicate k 48) ≡ take d xs ++ replicate (d - min d (length xs)) 48
 take-padded zero k xs h =
@@ -42,7 +40,6 @@ number_of-padded d a xs =
     ∙ fold-append (λ n b. 10 * n + (b - 48)) (number_of a) (take d xs)
     (replicate (d - min d (length xs)) 48)
 
--- where no element passes, the position of the first that does is the length
 position-none : (p : ℕ → Bool) (xs : List ℕ) → list_any p xs ≡ false →
     position_or_len p xs ≡ length xs
 position-none p [] h = refl
@@ -65,12 +62,11 @@ list_any-without_sign p (b ∷ bs) h =
     let parts = or_parts (p b) (list_any p bs) h in
     cond_both (b == 43 || b == 45) bs (b ∷ bs) (λ z. list_any p z ≡ false) (λ _. parts.1) (λ _. h)
 
--- without an exponent, the mantissa is the word without its sign
 mantissa-plain : (w : Word) → has_exponent w ≡ false → mantissa w ≡ without_sign w
 mantissa-plain w h =
     before_first-none is_exponent_mark (without_sign w) (list_any-without_sign is_exponent_mark w h)
 
--- a word without an exponent whose parts are not digits has no scaled value
+-- a word without an exponent has no scaled value unless its parts together are one or more digits
 pub scaled_value-not_digits : (d : ℕ) (w a b : Word) → has_exponent w ≡ false →
     a ≡ before_first is_point (without_sign w) → b ≡ after_first is_point (without_sign w) →
     are_digits (a ++ b) ≡ false → scaled_value d w ≡ None
@@ -84,7 +80,7 @@ option_map-cond : (t : Bool) (n : ℕ) (g : ℕ → ℤ) →
 option_map-cond true n g = refl
 option_map-cond false n g = refl
 
--- a word without an exponent whose parts are digits has its scaled size, if any, signed, as value
+-- the scaled value of a decimal text without an exponent is its scaled size, if any, with its sign
 pub scaled_value-digits : (d : ℕ) (w a b : Word) (size : Option ℕ) → has_exponent w ≡ false →
     a ≡ before_first is_point (without_sign w) → b ≡ after_first is_point (without_sign w) →
     are_digits (a ++ b) ≡ true → size ≡ cond (list_all (λ x. x == 48) (drop d b)
@@ -112,7 +108,6 @@ size-kept x n size h e =
           rw (same, h, high) refl
     ]
 
--- a test that no digit passes
 abbrev pub PassesNoDigit : (ℕ → Bool) → Type 0
 PassesNoDigit p = (b : ℕ) → 48 ≤ b → b ≤ 57 → p b ≡ false
 
@@ -172,7 +167,6 @@ scaled_value-plain d w xs bare plain some digits small =
     (are_digits_joined xs [] some ∙ rw digits refl)
     (rw (drop-none d, scaled_digits d xs, le-leb (number_of xs * 10 ^ d) (10 ^ 18) small) refl)
 
--- a text that begins with a digit has no sign
 pub bare_digits : (xs rest : List ℕ) → 0 < length xs → list_all is_ascii_digit xs ≡ true →
     (without_sign (xs ++ rest) ≡ xs ++ rest) × (is_negative (xs ++ rest) ≡ false)
 bare_digits [] rest h k = absurd (omega arith)
@@ -182,7 +176,7 @@ bare_digits (x ∷ xs) rest h k =
       ne_eqb x 45 (λ e. omega arith),
     )
 
--- 1 to 16 digits at the front are a plain number, if their value at the scale is at most 10^18
+-- 1 to 16 digits at the front satisfy `IsPlain`, if their value times 10^d is at most 10^18
 pub IsPlain-positive : (d : ℕ) (bytes : List ℕ) (len : ℕ) → 0 < len → len ≤ 16 → len
     ≤ length bytes → list_all is_ascii_digit (take len bytes) ≡ true → number_of (take len bytes)
     * 10 ^ d ≤ 10 ^ 18 → IsPlain d bytes len (pos (number_of (take len bytes) * 10 ^ d))
@@ -221,7 +215,6 @@ IsPlain-negative d (b ∷ bs) rest len sign e some short within digits small =
       whole = ap (list_any is_separator) at ∙ any-digits is_separator xs no_separator digits;
     }
 
--- a number below 10^k is below each higher power of ten
 pub below_power : (n k m : ℕ) → n < 10 ^ k → k ≤ m → n < 10 ^ m
 below_power n k m h le =
     omega (arith, h, pow-le-pow_right {n = 10} (omega arith) {i = k} {j = m} le)

@@ -1,6 +1,6 @@
 //! Decimal texts and their values at a scale.
 //!
-//! [`scaled_value`] parses a whole word, [`plain_number`] the digits at the front of a text.
+//! [`scaled_value`] parses a word, [`plain_number`] an optional `-` and digits at a text's front.
 ghost use Rattle.std.specs.Prelude.{◌<◌, true, length, ◌≡◌, IfSome, pos, neg_ℤ, ◌≤◌, not, ℕ, ◌+◌, ◌*◌, ◌-◌, ◌^◌, ◌++◌, ◌&&◌, ◌==◌, nat_le, take, drop, replicate, min, fold, if◌then◌else◌, Option, Some, None};
 ghost use Rattle.std.specs.List.{before_first, after_first, position, list_all, list_any};
 ghost use Rattle.std.specs.Char.{is_ascii_digit};
@@ -14,7 +14,8 @@ const HEIGHT_DIGITS: usize = 16;
 
 /// Whether a word is a decimal text, as `-12.5` or `3E2`.
 ///
-/// It has an optional sign, one or more digits with at most one point, and an optional exponent.
+/// A decimal text has an optional sign, one or more digits with at most one point, and an optional
+/// exponent.
 pub fn is_decimal(word: &[u8]) -> bool
     ensures { result ≡ is_decimal word.now }
 {
@@ -36,8 +37,8 @@ pub fn is_above_zero(word: &[u8]) -> bool
 
 /// Returns the value of a decimal text in units of 10^-scale.
 ///
-/// `None` if the word is no decimal text or has an exponent. `None` too if a decimal past the scale
-/// is not 0, or if the result is not from -10^18 to 10^18.
+/// `None` if the word is no decimal text or has an exponent. `None` too if a digit more than
+/// `scale` places after the point is not 0, or if the result is not from -10^18 to 10^18.
 ///
 /// # Examples
 ///
@@ -63,8 +64,8 @@ pub fn scaled_value(scale: u8, word: &[u8]) -> Option<i64>
 /// Parses up to 16 digits at the front of a text, after an optional `-`.
 ///
 /// Returns the length in bytes, with the sign, and the value times 10^scale. The word may go on
-/// after these bytes. `None` if there is no digit, or if the number of digits and the scale add up
-/// to more than 16.
+/// after these bytes. `None` if there is no digit, or if the number of parsed digits and the scale
+/// add up to more than 16.
 #[inline(always)]
 pub fn plain_number(scale: u8, bytes: &[u8]) -> Option<(usize, i64)>
     requires { scale ≤ 6 }
@@ -78,7 +79,6 @@ pub fn plain_number(scale: u8, bytes: &[u8]) -> Option<(usize, i64)>
     Some((len, signed(false, size)))
 }
 
-/// Returns the length and the value of [`plain_number`] for a text without `-`.
 #[inline(always)]
 fn plain_size(scale: u8, bytes: &[u8]) -> Option<(usize, u64)>
     requires { scale ≤ 6 }
@@ -95,7 +95,6 @@ fn plain_size(scale: u8, bytes: &[u8]) -> Option<(usize, u64)>
     Some((len, number * power_of_ten(scale)))
 }
 
-/// Returns the length, at most 16, of the digits at the front, and their value.
 #[inline(always)]
 fn digits_in_front(bytes: &[u8]) -> (usize, u64)
     ensures within { (result.0 ≤ HEIGHT_DIGITS) × (result.0 ≤ length bytes.now) }
@@ -169,7 +168,6 @@ fn has_exponent(word: &[u8]) -> bool
     word.iter().any(|b| is_exponent_mark(*b))
 }
 
-/// Returns the bytes before and after the first `e` or `E`.
 fn split_at_exponent(word: &[u8]) -> (&[u8], &[u8])
     ensures before { result.0.now ≡ before_first is_exponent_mark word.now }
     ensures after { result.1.now ≡ after_first is_exponent_mark word.now }
@@ -186,7 +184,6 @@ fn exponent_at(word: &[u8]) -> Option<usize>
     word.iter().position(|b| is_exponent_mark(*b))
 }
 
-/// Returns the bytes before and after the first point.
 fn split_at_point(word: &[u8]) -> (&[u8], &[u8])
     ensures before { result.0.now ≡ before_first is_point word.now }
     ensures after { result.1.now ≡ after_first is_point word.now }
@@ -203,7 +200,6 @@ fn point_at(word: &[u8]) -> Option<usize>
     word.iter().position(|b| *b == b'.')
 }
 
-/// Whether all bytes of the two parts are digits, and there is at least one.
 #[tactic(auto, using(crate::proofs::Scaled::are_digits_joined))]
 fn are_digits_in_all(whole: &[u8], fraction: &[u8]) -> bool
     ensures { result ≡ are_digits (whole.now ++ fraction.now) }
@@ -227,7 +223,7 @@ fn has_other_than_zero(bytes: &[u8]) -> bool
     bytes.iter().any(|b| *b != b'0')
 }
 
-/// Returns the unsigned value times 10^scale, if it is whole and at most 10^18.
+/// Returns `whole.fraction` times 10^scale, if the product is whole and at most 10^18.
 fn scaled_size(scale: u8, whole: &[u8], fraction: &[u8]) -> Option<u64>
     ensures small { IfSome result (λ size. size ≤ 10 ^ 18) }
     ensures value { result ≡ (if list_all (λ b. b == 48) (drop scale fraction.now)
@@ -254,7 +250,7 @@ fn signed(negative: bool, size: u64) -> i64
     if negative { -value } else { value }
 }
 
-/// Returns the number with zeros appended, or [`OVER`] if that is less.
+/// Returns the number with zeros appended, but at most [`OVER`].
 fn zeros_after(number: u64, zeros: usize) -> u64
     requires { number ≤ OVER }
     ensures small { result ≤ OVER }

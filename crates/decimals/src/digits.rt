@@ -34,21 +34,19 @@ pub fn size(word: &[u8]) -> Option<u16>
     }
 }
 
-/// Whether the bytes are one or more digits.
 pub(crate) fn are_digits(bytes: &[u8]) -> bool
     ensures { result ≡ are_digits bytes.now }
 {
     !bytes.is_empty() && all_digits(bytes)
 }
 
-/// Whether all bytes are digits; true for no bytes.
 pub(crate) fn all_digits(bytes: &[u8]) -> bool
     ensures { result ≡ list_all is_ascii_digit bytes.now }
 {
     bytes.iter().all(|b| b.is_ascii_digit())
 }
 
-/// Returns the number with digits appended, or [`OVER`] if that is less.
+/// Returns the number with the digits appended, but at most [`OVER`].
 pub(crate) fn digits_after(number: u64, digits: &[u8]) -> u64
     requires { number ≤ OVER }
     ensures small { result ≤ OVER }

@@ -55,7 +55,6 @@ pub steps_at : (t : Terrain) (steps : List (Option ℕ)) (q : Place) → AreStep
 steps_at t steps q are is =
     MatchOption-at_some _ _ (height_of t q) (height_is t q is) (are.each q (data_inside t q is))
 
--- a drop of positive weight is above 0
 pub weight-drop : (way drop : ℕ) → 0 < weight way drop → 0 < drop
 weight-drop way zero h = absurd (elim (cases_Bool (eqb (way % 2) 0)) [
   | inl e ↦ (let is : weight way 0 ≡ 2 * (0 * 0) = cond-true _ _ _ e in omega arith)
@@ -75,7 +74,6 @@ some_onward a (Some w) h =
     let both = and_parts _ _ h in
     (w, refl, (Decides-int_eq w.0 a.level).0 both.0, eqb-true _ _ both.1)
 
--- the height and the steps of the neighbour on a way, if both are known
 abbrev pub shown_on : Terrain → List (Option ℕ) → Place → ℕ → Option (ℤ × ℕ)
 shown_on t steps p way =
     option_zip (entry_on t.cols t.rows t.cells way p) (entry_on t.cols t.rows steps way p)

@@ -40,7 +40,7 @@ begun_shown t b s q n there few here = (
   λ off. absurd (shows_none b s q there off),
 )
 
--- properties that agree at the place of a spot give it the same initial count
+-- properties that agree at the place of a spot give the spot one initial count
 begun_by : (A B : Place → Type 0) (b : Bounds) (s : Place) (n : ℕ) → ((p : Place) → Shows b s p →
     A p → B p) → ((p : Place) → Shows b s p → B p → A p) → IsBegunSpot A b s n → IsBegunSpot B b s n
 begun_by A B b s n to from is = (
@@ -173,7 +173,6 @@ module _ (t : Terrain) (sinks : List Place) (index : ℕ) (b : Bounds) (counts :
             absurd (elim off [ inl a ↦ omega (arith, a, on.0) | inr a ↦ omega (arith, a, on.1) ]),
       )
 
--- a cell has at most one initial count
 one_begun : (Drains : Place → Type 0) (p : Place) (x y : Option ℕ) → IsBegun Drains p x →
     IsBegun Drains p y → x ≡ y
 one_begun Drains p None None f g = refl
@@ -234,7 +233,6 @@ begun_at t p = elim (drains_at_once t p) [
 abbrev begun_in : Terrain → ℕ → Option ℕ
 begun_in t k = (begun_at t (place_at t.cols k)).0
 
--- each terrain has a list of initial counts
 pub some_begun : (t : Terrain) → (begun : List (Option ℕ)) × AreBegun t begun
 some_begun t =
     let count = t.cols * t.rows in

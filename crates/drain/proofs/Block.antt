@@ -43,7 +43,7 @@ drains_from t p q level (Some h) is touch there lower =
 module _ (t : Terrain) (p : Place) (level : ℤ) (cells : List (Option ℤ)) (at : List ℕ)
     (cells_are : cells ≡ t.cells) (at_is : at ≡ around_index t.cols (index_of t.cols p))
     (inside : IsInside t p) (interior : IsOutermost t p → ⊥) (is : height_at t p ≡ Some level) where
-  -- a cell with a gap or a lower cell around it is an edge cell or has a lower neighbour
+  -- an interior cell with NODATA or a lower cell around it is an edge cell or has a lower neighbour
   pub around_drains : (way : ℕ) × (way < 8)
       × IsGapOrLower level (get_or cells (get_or at way 0) None) → IsEdgeOrHasLower t p
   around_drains (way, below, found) =
@@ -60,7 +60,8 @@ module _ (t : Terrain) (p : Place) (level : ℤ) (cells : List (Option ℤ)) (at
   gap_at None e = tt
   gap_at (Some h) e = absurd (false≢true (sym e))
 
-  -- a cell without a gap or a lower cell around it is no edge cell and has no lower neighbour
+  -- an interior cell without NODATA or a lower cell around it is no edge cell and has no lower
+  -- neighbour
   module _ (none : (way : ℕ) → way < 8 → IsGapOrLower level (get_or cells (get_or at way 0) None) →
       ⊥) where
     kept : (q : Place) → Touches p q → p ≢ q → IsGapOrLower level (height_at t q) → ⊥

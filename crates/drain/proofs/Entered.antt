@@ -35,7 +35,7 @@ on_rim c p q lawful within other touch =
       ]
     ]
 
--- a place whose eight places around lie in a tile touches only places of that tile
+-- a place touches only places of its tile, if the eight places around it lie in that tile's bounds
 pub interior_tile : (c : Cutting) (tile : ℕ) (p q : Place) → IsCutting c → tile < tile_count c →
     IsInterior (bounds_of c tile) p → Touches p q → tile_of_place c q ≡ tile_of_place c p
 interior_tile c tile p q lawful below interior touch =
@@ -52,7 +52,6 @@ interior_tile c tile p q lawful below interior touch =
       omega (arith, interior.3),
     )).1
 
--- a list contains the places of its tail
 pub left_of : (x : Place) (xs ys : List Place) (p : Place) → xs ≡ x ∷ ys → Contains ys p →
     Contains xs p
 left_of x xs ys p e has =

@@ -10,13 +10,12 @@ use Rattle.drain.proofs.Local.{one_number_of_steps}
 use Rattle.drainage.proofs.Pigeonhole.{pigeonhole}
 use Rattle.drain.proofs.Counted.{height_is}
 
--- the cell after so many moves of a walk; its last cell if it has fewer
+-- the cell after i moves of a walk; its last cell if the walk has fewer moves
 abbrev pub cell_on : Place → List Place → ℕ → Place
 cell_on p rest zero = p
 cell_on p [] (suc i) = p
 cell_on p (q ∷ rest) (suc i) = cell_on q rest i
 
--- a level walk to a data cell begins at a data cell
 pub data_on_level_walk : (Ends : Place → Type 0) (t : Terrain) → ((p : Place) → Ends p →
     IsDataCell t p) → (p : Place) (rest : List Place) → IsLevelWalk Ends t p rest → IsDataCell t p
 data_on_level_walk Ends t end_data p [] w = end_data p w
@@ -31,7 +30,6 @@ pub data_on_walk : (t : Terrain) (p : Place) (rest : List Place) → IsFlatWalk 
     IsDataCell t p
 data_on_walk t = data_on_level_walk (DrainsAtOnce t) t (drains_data t)
 
--- the rest of a shortest walk is a shortest walk
 rest_is_shortest : (t : Terrain) (p q : Place) (rest : List Place) → IsFlatWalk t p (q ∷ rest) →
     IsSteps t p (suc (length rest)) → IsSteps t q (length rest)
 rest_is_shortest t p q rest w s = record {

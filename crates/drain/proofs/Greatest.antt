@@ -4,7 +4,6 @@ use Rattle.std.proofs.lemmas.Bool.{cases_eq, cases_lt, false≢true, eq-eqb, ne_
 use Rattle.std.specs.List.{position, position_or_len, list_any}
 use Rattle.std.proofs.lemmas.List.Sums.{position_or_len_is, fails_before_first}
 
--- a bound of `a` and of all numbers of a list is a bound of the greatest of them
 pub fold-max_least : (xs : List ℕ) (a m : ℕ) → a ≤ m →
     ((k : ℕ) → k < length xs → get_or xs k 0 ≤ m) → fold max a xs ≤ m
 fold-max_least [] a m le all = le
@@ -12,7 +11,7 @@ fold-max_least (x ∷ xs) a m le all =
     let x_le : x ≤ m = all 0 (omega arith) in
     fold-max_least xs (max a x) m (omega arith) (λ k h. all (suc k) (omega arith))
 
--- an index that passes the test, with none before it that does, is the `position`
+-- the first index whose element passes the test is the `position`
 pub position_is : {X : Type 0} (p : X → Bool) (xs : List X) (i : ℕ) (d : X) →
     i < length xs → ((k : ℕ) → k < i → p (get_or xs k d) ≡ false) → p (get_or xs i d) ≡ true →
     position p xs ≡ Some i
@@ -98,7 +97,6 @@ none_passes p [] d h = refl
 none_passes p (x ∷ xs) d h =
     or_from _ _ (h 0 (omega arith)) (none_passes p xs d (λ k lt. h (suc k) (omega arith)))
 
--- if an element passes, one is the first
 pub first_passes : {X : Type 0} (p : X → Bool) (xs : List X) (d : X) → list_any p xs ≡ true →
     (i : ℕ) × (position p xs ≡ Some i)
 first_passes p xs d some = elim (cases_lt (position_or_len p xs) (length xs)) [

@@ -24,7 +24,6 @@ use Rattle.terrain.proofs.Options.{cases_option}
 use Rattle.drain.proofs.Laid.{with_steps, without_steps, leads as leads_by_steps, is_down, is_outlet, is_onward, code_is}
 use Rattle.drain.proofs.Quiet.{if_some}
 
--- the drop on a way by the heights is that by the surroundings
 pub drop_is : (a : Around) (level : ℤ) (heights : List (Option ℤ)) (way : ℕ) →
     HasHeights a level heights → way < 8 →
     drop_on level heights way ≡ drop_to a.level (get_or a.ways way None)
@@ -38,7 +37,6 @@ drop_is a level heights way has below =
     without_steps level None = refl
     without_steps level (Some w) = refl
 
--- an interior cell has a row and a column on each side
 interior_parts : (t : Terrain) (p : Place) → IsInside t p → (IsOutermost t p → ⊥) →
     (1 ≤ p.row) × (1 ≤ p.col) × (p.row + 1 < t.rows) × (p.col + 1 < t.cols)
 interior_parts t p inside interior = (
@@ -86,7 +84,6 @@ on_way_interior t p inside interior way below =
       },
     )
 
--- more cells than a row has precede an interior cell
 pub row_before : (t : Terrain) (p : Place) → IsInside t p → (IsOutermost t p → ⊥) →
     t.cols < index_of t.cols p
 row_before t p inside interior =
@@ -94,7 +91,6 @@ row_before t p inside interior =
     let row : 1 * t.cols ≤ p.row * t.cols = mul-le-mul_right t.cols part.0 in
     omega (arith, part.1)
 
--- the indexes around an interior cell lie in the grid's lists
 pub around_below : (t : Terrain) (p : Place) → IsInside t p → (IsOutermost t p → ⊥) → (way : ℕ) →
     way < 8 → get_or (around_index t.cols (index_of t.cols p)) way 0 < t.cols * t.rows
 around_below t p inside interior way below =
@@ -128,7 +124,7 @@ cell_on_way t p cells at cells_are at_is inside interior way below =
           option_and_then (λ r. entry_at t.cols t.rows t.cells r) o) q.1.on,
     )
 
--- a pair of height and steps has the height of the cell, since each data cell has steps
+-- the height of `option_zip` is the cell's height, since each data cell has steps
 zip_heights : (t : Terrain) (steps : List (Option ℕ)) (q : Place) → AreSteps t steps →
     option_map (λ (w : ℤ × ℕ). w.0) (option_zip (height_at t q) (entry_at t.cols t.rows steps q))
     ≡ height_at t q
@@ -143,7 +139,6 @@ zip_heights t steps q are = elim (cases_option (height_at t q)) [
       ∙ sym some.1)
 ]
 
--- the surroundings of a cell of this height and these steps, with `edge` false
 abbrev pub around_of : Terrain → List (Option ℕ) → Place → ℤ → ℕ → Around
 around_of t steps p level own = around_with t steps p level own false
 

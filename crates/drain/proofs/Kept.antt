@@ -50,7 +50,6 @@ count_here c tile steps l p b counts within e inside row =
     (λ (row : Vec ℕ Global). slice_get row.items (p.col - (bounds_of c tile).left)) o) at
     ∙ ap (λ (x : Bounds). slice_get counts.items (p.col - x.left)) (sym e))
 
--- an empty row keeps no count
 row_none : (rows : Option (Vec ℕ Global)) (col : ℕ) →
     ((row : Vec ℕ Global) → rows ≡ Some row → row.items ≡ []) →
     option_and_then (λ (counts : Vec ℕ Global). slice_get counts.items col) rows ≡ None

@@ -41,7 +41,6 @@ module _ (t : Terrain) (steps : List (Option ℕ)) (p : Place) (a : Around) (are
   own = let n = steps_at t steps p are is_data in
       subst (λ k. IsSteps t p k) (same_Some _ _ (sym n.1 ∙ laid.own_steps)) n.2
 
-  -- a cell of 0 steps drains at once
   pub without_steps : a.steps ≡ 0 → DrainsAtOnce t p
   without_steps none = ended (DrainsAtOnce t) t p own.reached.0 own.reached.1 (own.reached.2 ∙ none)
 
@@ -63,7 +62,7 @@ module _ (t : Terrain) (steps : List (Option ℕ)) (p : Place) (a : Around) (are
         n.2,
       )
 
-  -- the weight of a lower neighbour is that of its way, and above 0
+  -- the weight on the way to a lower neighbour q is `weight_of t p q`, and above 0
   weighs : (q : Place) (way : ℕ) → way < 8 → place_on way p ≡ Some q → IsLower t p q →
       (get_or (weights a) way 0 ≡ weight_of t p q) × (0 < get_or (weights a) way 0)
   weighs q way below e (next, less) =
@@ -114,7 +113,8 @@ module _ (t : Terrain) (steps : List (Option ℕ)) (p : Place) (a : Around) (are
         ),
       )
 
-  -- the first way of greatest weight, if that is above 0, leads to the first steepest neighbour
+  -- if the greatest weight is above 0, the first way with it has the smallest code that points to a
+  -- steepest lower neighbour
   steepest_first : (greatest way : ℕ) → greatest ≡ fold max 0 (weights a) → 0 < greatest →
       position (λ w. eqb w greatest) (weights a) ≡ Some way →
       PointsToFirst (IsSteepest t p) p (code_of (Some way)) × HasLower t p
@@ -164,7 +164,7 @@ module _ (t : Terrain) (steps : List (Option ℕ)) (p : Place) (a : Around) (are
     onward = λ stays. absurd (stays drains);
   }
 
-  -- the way to a level neighbour with one step fewer leads on
+  -- `leads_on` holds on the way to a neighbour of equal height with one step fewer
   leads_to : (q : Place) (way : ℕ) → way < 8 → place_on way p ≡ Some q → IsNeighbour t p q →
       height_at t q ≡ height_at t p → (n : ℕ) → IsSteps t q n → n + 1 ≡ a.steps →
       leads_on a (get_or a.ways way None) ≡ true
@@ -225,7 +225,6 @@ module _ (t : Terrain) (steps : List (Option ℕ)) (p : Place) (a : Around) (are
       list_any_at (leads_on a) a.ways way.0 None (omega (arith, laid.count, way.1)) (leads_to q
       way.0 way.1 way.2 walk.0 walk.1 n.0 n.2 (omega (arith, under, above, n.2.reached.2, size)))
 
-  -- a cell that does not drain at once has a way that leads on
   pub leads : (DrainsAtOnce t p → ⊥) → list_any (leads_on a) a.ways ≡ true
   leads stays = leads_by own.reached.0 own.reached.1 own.reached.2 stays
 
@@ -263,7 +262,6 @@ fitting t steps p a lawful are around =
       ];
     }
 
--- `direction_of` the surroundings of a cell is its direction
 pub direction_is : (t : Terrain) (steps : List (Option ℕ)) (p : Place) (a : Around) →
     AreSteps t steps → IsAround t steps p a → IsDirection t p (direction_of a)
 direction_is t steps p a are around = elim (cases_lt 0 (fold max 0 (weights a))) [
@@ -291,7 +289,6 @@ direction_is t steps p a are around = elim (cases_lt 0 (fold max 0 (weights a)))
       ])
 ]
 
--- the direction of a data cell is its code
 pub code_is : (t : Terrain) (p : Place) (level : ℤ) (code : ℕ) → height_at t p ≡ Some level →
     IsDirection t p code → IsCodeAt t p (Some code)
 code_is t p level code e is =

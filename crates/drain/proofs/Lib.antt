@@ -1,6 +1,6 @@
 -- worked examples
 mod Rows
--- steps: one number for each cell, and the counts that no round changes
+-- steps: one number for each data cell, below 2^24; counts that no round changes are the steps
 pub mod Local
 pub mod Quiet
 pub mod Few

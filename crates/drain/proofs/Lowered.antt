@@ -37,15 +37,14 @@ total_less (suc n) f g low j below less = elim (cases_eq j n) [
   | inr ne ↦ omega (arith, low n, total_less n f g low j (omega arith) less)
 ]
 
--- Inside the tile each count is at most one above that of a level neighbour, unless the neighbour's
--- change waits at index `from` or above.
+-- Inside the tile each count is at most one above those of neighbours of equal height. Neighbours
+-- whose changes wait at index `from` or above are excepted.
 pub record IsEvenButReported (t : Terrain) (c : Cutting) (tile : ℕ) (steps : List (Option ℕ))
     (l : Lowered) (from : ℕ) : Type 0 where
   pub within : (p q : Place) → IsInTile c tile p → IsInTile c tile q → AreLevel t p q →
       (counts_in c tile steps l (index_of c.cols p) ≤ counts_in c tile steps l (index_of c.cols q)
       + 1) ⊎ IsReported c tile steps l from q
 
--- no count is above 2^24, the count of an unknown one
 small_walk : (Ends : Place → Type 0) (t : Terrain) (p : Place) (o : Option ℕ) →
     IfSome o (IsWalked Ends t p) → unwrap_or o (2 ^ 24) ≤ 2 ^ 24
 small_walk Ends t p None walked = omega arith
@@ -76,7 +75,7 @@ module _ (t : Terrain) (c : Cutting) (tile : ℕ) (steps : List (Option ℕ)) wh
     least = omega (arith, is.least, low (index_of c.cols x.place));
   }
 
-  -- a reported place stays reported if its count and the old changes stay
+  -- `IsReported` still holds for a place if its count and the old changes are unchanged
   reported_still : (old new : Lowered) (from : ℕ) (p : Place) → ((k : ℕ) → k
       < length old.changes.items → slice_get new.changes.items k ≡ slice_get old.changes.items k) →
       counts_in c tile steps new (index_of c.cols p) ≡ counts_in c tile steps old
@@ -121,7 +120,7 @@ module _ (t : Terrain) (c : Cutting) (tile : ℕ) (steps : List (Option ℕ)) wh
         left = f.left;
       }
 
-  -- a search to `First` and then to `Next` is a search to both
+  -- `IsLoweredTo` for `First` and then for `Next` gives `IsLoweredTo` for the places of both
   pub reached_then : (First Next Done : Place → Type 0) (bound : ℕ) (old mid new : Lowered) →
       ((p : Place) → Done p → First p ⊎ Next p) →
       IsLoweredTo t c tile steps First bound old mid →
@@ -151,7 +150,7 @@ module _ (t : Terrain) (c : Cutting) (tile : ℕ) (steps : List (Option ℕ)) wh
     left = omega (arith, f.left, g.left);
   }
 
-  -- lowering a cell to the count of a change, and appending the change, is a search to that cell
+  -- `IsLoweredTo` holds after a change is appended and its cell has the count of the change
   pub reached_put : (old new : Lowered) (x : Change) →
       IsInTile c tile x.place → IsWalked (IsSource t steps) t x.place x.count →
       x.count < counts_in c tile steps old (index_of c.cols x.place) →
@@ -220,7 +219,7 @@ module _ (t : Terrain) (c : Cutting) (tile : ℕ) (steps : List (Option ℕ)) wh
         );
       }
 
-  -- counts that differ from the input by the changes alone do so after the search goes on
+  -- after a further search, the counts still differ from the input by the changes alone
   pub lowered_then : (Done : Place → Type 0) (bound : ℕ) (old new : Lowered) →
       IsLowered t c tile steps (counts_in c tile steps old) old.changes.items →
       IsLoweredTo t c tile steps Done bound old new →
@@ -242,7 +241,7 @@ module _ (t : Terrain) (c : Cutting) (tile : ℕ) (steps : List (Option ℕ)) wh
     ];
   }
 
-  -- after an entry is applied, the tile stays even but for changes that wait
+  -- `IsEvenButReported` still holds after an entry is applied
   pub even_enter : (Done : Place → Type 0) (bound : ℕ) (old new : Lowered) (done : ℕ) →
       done ≤ length old.changes.items → IsEvenButReported t c tile steps old done →
       IsLoweredTo t c tile steps Done bound old new →
@@ -257,7 +256,7 @@ module _ (t : Terrain) (c : Cutting) (tile : ℕ) (steps : List (Option ℕ)) wh
     ];
   }
 
-  -- after the first waiting change has spread, the tile is even but for waiting ones, old or new
+  -- `IsEvenButReported` holds from `done + 1` on after the change at index `done` has spread
   pub even_spread : (old new : Lowered) (done : ℕ) (from : Change) →
       slice_get old.changes.items done ≡ Some from → IsEvenButReported t c tile steps old done →
       IsLoweredTo t c tile steps (λ p. IsInTile c tile p
@@ -293,7 +292,7 @@ module _ (t : Terrain) (c : Cutting) (tile : ℕ) (steps : List (Option ℕ)) wh
     ];
   }
 
-  -- a tile even but for waiting changes is even inside if none waits
+  -- if no change waits, `IsEvenButReported` gives `IsEvenInside`
   pub even_end : (l : Lowered) (done : ℕ) → length l.changes.items ≤ done →
       IsEvenButReported t c tile steps l done → IsEvenInside t c tile (counts_in c tile steps l)
   even_end l done all even = record {
@@ -304,7 +303,6 @@ module _ (t : Terrain) (c : Cutting) (tile : ℕ) (steps : List (Option ℕ)) wh
     ];
   }
 
--- a change of a tile is a change of its cell's tile
 change_own : (t : Terrain) (c : Cutting) (tile : ℕ) (steps : List (Option ℕ)) (l : Lowered)
     (x : Change) → IsChange t c tile steps (counts_in c tile steps l) x →
     IsChange t c (tile_of_place c x.place) steps (counts_in c (tile_of_place c x.place) steps l) x
@@ -317,7 +315,7 @@ pub low_own : (c : Cutting) (tile : ℕ) (steps : List (Option ℕ)) (l : Lowere
 low_own c tile steps l p own low =
     subst (λ (i : ℕ). (k : ℕ) → counts_in c i steps l k ≤ count_of steps k) (sym own) low
 
--- a search may spread from each of its changes
+-- `MaySpread` holds for each change of a search
 pub ready_at : (t : Terrain) (c : Cutting) (tile : ℕ) (steps : List (Option ℕ)) (b : Bounds)
     (l : Lowered) (x : Change) → AreCounting t steps → b ≡ bounds_of c tile → length l.rows.items
     ≡ b.rows → IsLowered t c tile steps (counts_in c tile steps l) l.changes.items →
@@ -332,7 +330,7 @@ ready_at t c tile steps b l x counting bounds rows lowered among =
       low = low_own c tile steps l x.place change.inside.1 lowered.low;
     }
 
--- a search may still spread from a change after spreading further
+-- `MaySpread` still holds for a change after a further search
 pub ready_still : (t : Terrain) (c : Cutting) (steps : List (Option ℕ)) (b : Bounds) (Done : Place →
     Type 0) (bound : ℕ) (old new : Lowered) (x : Change) → MaySpread t c steps b old x →
     IsLoweredTo t c (tile_of_place c x.place) steps Done bound old new → MaySpread t c steps b new x
@@ -377,7 +375,6 @@ beside_in_tile c p q b lawful within e inside touch = (
   touch,
 )
 
--- a cell of a place's tile lies in the tile's bounds
 pub own_bounds : (c : Cutting) (p q : Place) (b : Bounds) → IsCutting c →
     b ≡ bounds_of c (tile_of_place c p) → IsInTile c (tile_of_place c p) q → IsInBounds b q
 own_bounds c p q b lawful e inside =
@@ -389,7 +386,7 @@ pub reached_tile : (t : Terrain) (c : Cutting) (tile other : ℕ) (steps : List 
 reached_tile t c tile other steps Done bound old new e f =
     subst (λ (k : ℕ). IsLoweredTo t c k steps Done bound old new) e f
 
--- entries stay applied while no count rises
+-- `IsEntered` still holds if no count rises
 pub entered_low : (c : Cutting) (entries : List Entry) (from end : ℕ) (f g : ℕ → ℕ) →
     ((k : ℕ) → g k ≤ f k) → IsEntered c entries from end f → IsEntered c entries from end g
 entered_low c entries from end f g low is = record {

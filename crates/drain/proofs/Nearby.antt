@@ -66,7 +66,6 @@ level t p q next =
     (λ e. ap (λ (o : Option ℤ). unwrap_or o (pos 0)) e)
     (Decides-int_eq (height_of t q) (height_of t p))
 
--- a flat walk of n moves
 abbrev pub WalksIn : Terrain → Place → ℕ → Type 0
 WalksIn t p n = (rest : List Place) × IsFlatWalk t p rest × (length rest ≡ n)
 

@@ -31,7 +31,6 @@ noted_then b old mid new xs ys zs f g = record {
   ];
 }
 
--- setting the count of one spot keeps that of another
 other_kept : (b : Bounds) (counts : List ℕ) (s r : Place) (i n : ℕ) → i ≡ spot_index b s →
     IsSpot b s → IsSpot b r → r ≢ s → count_on b (set counts i n) r ≡ count_on b counts r
 other_kept b counts s r i n e spot other ne =
@@ -157,7 +156,8 @@ reached_all f each = record {
   left = f.left;
 }
 
--- if spots are near the old counts and all that fell are listed, the tile is even but for these
+-- if `IsNear` holds for each spot of the tile and the list has all whose counts changed,
+-- `IsEvenBut` holds for the list
 pub even_begin :
     (b : Bounds) (levels : List (Option ℤ)) (old counts : List ℕ) (reached : List Place) →
     ((s : Place) → IsInner b s → IsNear b levels old counts s) → AreNoted b old counts [] reached →
@@ -170,7 +170,7 @@ even_begin b levels old counts reached near noted = record {
   ];
 }
 
--- after the first waiting spot has spread, the tile is still even but for waiting ones, old or new
+-- `IsEvenBut` holds from `done + 1` on after the search has spread from the spot at index `done`
 pub even_spread : {b : Bounds} {levels : List (Option ℤ)} {counts new : List ℕ} {waiting after :
     List Place} {done : ℕ} {spot : Place} → IsEvenBut b levels counts waiting done →
     slice_get waiting done ≡ Some spot → IsReached b levels spot
@@ -207,7 +207,7 @@ even_spread {b} {levels} {counts} {new} {waiting} {after} {done} {spot} even her
         ap (λ (p : Place). count_on b new p) (sym one) ∙ reached.own in
         omega (arith, from, same)
 
--- a tile even but for waiting spots is even if none waits
+-- if no spot waits, `IsEvenBut` gives `IsEven`
 pub even_end :
     (b : Bounds) (levels : List (Option ℤ)) (counts : List ℕ) (waiting : List Place) (done : ℕ) →
     IsEvenBut b levels counts waiting done → length waiting ≤ done → IsEven b levels counts

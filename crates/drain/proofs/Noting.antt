@@ -22,7 +22,7 @@ use Rattle.drain.specs.declared.changes.Change.{Change}
 use Rattle.drain.specs.declared.changes.Entry.{Entry}
 
 module _ (t : Terrain) (c : Cutting) (steps : List (Option ℕ)) where
-  -- a pair that is even or entered is so with any list that has all the old entries
+  -- `IsEvenOrEntered` still holds with a list that has all the old entries
   pub entered_still : (old new : List Entry) (p q : Place) → ((e : Entry) → IsAmong old e →
       IsAmong new e) → IsEvenOrEntered c steps old p q → IsEvenOrEntered c steps new p q
   entered_still old new p q kept (inl le) = inl le
@@ -94,7 +94,6 @@ pub contains_from : {X : Type 0} (xs : List X) (x : X) → IsAmong xs x → Cont
 contains_from xs x among =
     (among.0, slice_get_within xs among.0 x among.1, get_or_from_slice_get xs among.0 x x among.1)
 
--- each permutation of a list has every element of the list
 pub among_in_order : {X : Type 0} (xs ys : List X) (x : X) → IsPermutation xs ys → IsAmong xs x →
     IsAmong ys x
 among_in_order xs ys x same among =
@@ -111,7 +110,7 @@ noted_in_order t c steps Done new ys same noted = (
       among_in_order new ys e same among) (noted.done p q done side),
 )
 
--- 1 more than a level neighbour's count is an entry, if it is below the cell's own count
+-- 1 more than the count of a neighbour of equal height is an entry, if it is below the cell's count
 pub entry_from : (c : Cutting) (levels : List (Option ℤ)) (steps : List (Option ℕ))
     (from : Change) (to : Place) (tile : ℕ) → AreCounting (sinkless_terrain c levels) steps →
     IsWithin c from.place →

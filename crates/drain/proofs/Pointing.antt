@@ -37,7 +37,6 @@ way_toward p q code e = elim (cases_option (way_of code)) [
 code_power : (way : ℕ) → way < 8 → code_of (Some way) ≡ 2 ^ way
 code_power = eight (λ way. code_of (Some way) ≡ 2 ^ way) refl refl refl refl refl refl refl refl
 
--- of two ways the one of the greater number has no smaller code
 pub codes_rise : (way other : ℕ) → way ≤ other → other < 8 →
     code_of (Some way) ≤ code_of (Some other)
 codes_rise way other le below =

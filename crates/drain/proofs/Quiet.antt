@@ -34,7 +34,6 @@ pub ended : (Ends : Place → Type 0) (t : Terrain) (p : Place) (rest : List Pla
 ended Ends t p [] walk none = walk
 ended Ends t p (q ∷ rest) walk none = absurd (omega (arith, none))
 
--- sinks do not change neighbours
 next_with : (t : Terrain) (sinks : List Place) (p q : Place) → IsNeighbour t p q →
     IsNeighbour (with_sinks t sinks) p q
 next_with t sinks p q next = record {
@@ -63,7 +62,8 @@ are_walked_to A B t sinks steps to walked p =
     if_some (entry_at t.cols t.rows steps p) (IsWalked B (with_sinks t sinks) p) (λ n e.
     walked_to A B t sinks to p n (MatchOption-at_some _ _ n e (walked p)))
 
--- counts of walks, 0 where cells drain at once, at most one above those beside on flats, are steps
+-- Counts are the steps of a filled terrain under three conditions. They are 0 at cells that drain
+-- at once and lengths of flat walks. None is more than one above a count beside it at equal height.
 module _ (t : Terrain) (steps : List (Option ℕ)) (zeros : HasZeros t steps)
     (all_walked : AreWalked (DrainsAtOnce t) t steps)
     (near : (p q : Place) → IsNeighbour t p q → height_at t q ≡ height_at t p →
@@ -77,7 +77,6 @@ module _ (t : Terrain) (steps : List (Option ℕ)) (zeros : HasZeros t steps)
       let here = near p q w.0 w.1 next.0 next.1 (omega (arith, next.2)) in
       (here.0, here.1, omega (arith, here.2, next.2))
 
-  -- a count is the length of a flat walk
   walked : (p : Place) (n : ℕ) → entry_at t.cols t.rows steps p ≡ Some n →
       IsWalked (DrainsAtOnce t) t p n
   walked p n e = MatchOption-at_some _ _ n e (all_walked p)
@@ -94,7 +93,6 @@ module _ (t : Terrain) (steps : List (Option ℕ)) (zeros : HasZeros t steps)
       let same : least.0 ≡ count.0 = omega (arith, count.2, least.1.reached.2, real.3) in
       (count.0, count.1, subst (λ n. IsSteps t p n) same least.1)
 
-  -- a cell without data has no count
   uncounted : (p : Place) → height_at t p ≡ None → entry_at t.cols t.rows steps p ≡ None
   uncounted p none = elim (cases_option (entry_at t.cols t.rows steps p)) [
     | inl e ↦ e
@@ -115,7 +113,6 @@ pub in_own_tile : (t : Terrain) (c : Cutting) (p : Place) → Cuts c t → (p.ro
 in_own_tile t c p cuts inside =
     ((omega (arith, inside.0, cuts.1), omega (arith, inside.1, cuts.0)), refl)
 
--- each cell that drains at once is a source of the initial counts
 pub begun_input : (t : Terrain) (counts : List (Option ℕ)) → AreBegun t counts → (p : Place) →
     DrainsAtOnce t p → IsSource t counts p
 begun_input t counts begun p drains = let is = drains_data t p drains in
@@ -133,7 +130,7 @@ begun_walked Ends t counts begun to p =
     let at = (begun.each p (inside_from_entry t.cols t.rows counts p n e)).only n e in
     (omega (arith, at.1), [], to p at.0, sym at.1))
 
--- known initial counts are lengths of level walks to sources, in the terrain without sinks
+-- known initial counts are lengths of level walks to cells of count 0, also without the sinks
 pub begun_counting : (t : Terrain) (counts : List (Option ℕ)) → AreBegun t counts →
     AreCounting (with_sinks t []) counts
 begun_counting t counts begun = record {
@@ -172,7 +169,7 @@ counts_are_steps t c steps lists cuts cutting zeros quiet lawful filled size =
     (near.0, sym (quiet.same (tile_of_place c p) p here) ∙ near.1, near.2))
     lawful filled size
 
--- the final counts after the initial ones are the steps
+-- in a filled terrain, final counts that rounds reach from the initial counts are the steps
 pub final_is_steps : (c : Cutting) (t : Terrain) (begun steps : List (Option ℕ)) → Cuts c t →
     IsTerrain t → IsFilled t t.cells → AreBegun t begun → AreFinal c (with_sinks t []) begun steps →
     AreSteps t steps

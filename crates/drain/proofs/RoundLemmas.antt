@@ -1,4 +1,4 @@
--- Rounds over all tiles: what they keep and when they end.
+-- Each round keeps `IsRounding` and the cells of count 0; without entries the counts are final.
 use Rattle.std.proofs.Common.{◌≡◌, ◌≢◌, ℕ, ◌+◌, ◌-◌, ◌*◌, ◌^◌, ◌<◌, ◌≤◌, inl, inr, List, length, get_or, Option, Some, None, Vec, Global, IfSome, unwrap_or, ℤ, [], sym, ap, subst, refl, ◌∙◌, arith}
 use Rattle.std.specs.Prelude.{slice_get}
 use Rattle.std.proofs.lemmas.Bool.{cases_eq, cases_lt}
@@ -23,7 +23,8 @@ use Rattle.std.specs.List.Sorted.{IsNonDecreasingBy, IsPermutation}
 use Rattle.drain.proofs.Noting.{noted_in_order}
 use Rattle.drain.proofs.Quiet.{if_some, ended, walked_to}
 
--- Known counts stay known and do not rise; each new count is the length of a walk to a source.
+-- Known counts stay known and do not rise. Each known new count is the length of a level walk to a
+-- cell of old count 0.
 pub record AreCarried (t : Terrain) (old new : List (Option ℕ)) : Type 0 where
   pub size : length new ≡ t.cols * t.rows
   pub kept : (p : Place) (m : ℕ) → entry_at t.cols t.rows old p ≡ Some m →
@@ -148,11 +149,11 @@ module _ (r : Rounding) (outs : List (Vec Change Global)) (answered : AreAnswere
       record { tile = 0; change = record { place = record { row = 0; col = 0 }; count = 0 } } in
       entry_given 0 (get_or r.entries 0 none) rounding (slice_get-get_or r.entries 0 none some)
 
--- after a round, known counts have not risen, and tiles are even inside
+-- after a round, no known count has risen, and `IsEvenInside` holds for each tile
 module _ (r : Rounding) (outs : List (Vec Change Global)) (new : List (Option ℕ))
     (rounding : IsRounding r) (answered : AreAnswered r outs)
     (put : ArePut r.cutting.cols r.steps new (IsGiven outs)) where
-  -- no new count is above that of a job
+  -- no new count is above the one in the result of a job
   put_below : (tile from end : ℕ) (j : ℕ) (list : Vec Change Global) →
       slice_get outs j ≡ Some list →
       (a : IsTileAnswer (levels_of r) r.cutting tile r.steps r.entries from end list.items) →
@@ -239,7 +240,6 @@ module _ (r : Rounding) (outs : List (Vec Change Global)) (new : List (Option �
     ];
   }
 
-  -- each entry is applied
   put_entered : (k : ℕ) (e : Entry) → slice_get r.entries k ≡ Some e →
       count_of new (index_of r.cutting.cols e.change.place) ≤ e.change.count
   put_entered k e at =
@@ -302,7 +302,7 @@ module _ (r : Rounding) (outs : List (Vec Change Global)) (new : List (Option �
 few_none : (n k : ℕ) → n ≤ k → k < n → ⊥
 few_none n k le less = omega arith
 
--- after the first round, known counts have not risen, and tiles are even inside
+-- after the first round, no known count has risen, and `IsEvenInside` holds for each tile
 module _ (c : Cutting) (levels : List (Option ℤ)) (old : List (Option ℕ))
     (lists : List (Vec (Option ℕ) Global)) (count : length lists ≡ tile_count c)
     (given : (j : ℕ) (d : Vec (Option ℕ) Global) → j < tile_count c →
@@ -320,7 +320,7 @@ module _ (c : Cutting) (levels : List (Option ℤ)) (old : List (Option ℕ))
   pub first_lists : AreTileLists c lists
   first_lists = record { count = count; each = λ tile list at. (round_at tile list at).size }
 
-  -- each place of the grid has a list of its tile
+  -- the lists have one for the tile of each place of the grid
   list_of : (p : Place) → IsCutting c → IsWithin c p → (list : Vec (Option ℕ) Global)
       × (slice_get lists (tile_of_place c p) ≡ Some list)
   list_of p lawful within = elim (slice_get_cases lists (tile_of_place c p)).1 [
@@ -381,7 +381,7 @@ next_none r rounding = record {
   low = omega arith;
 }
 
--- if two rounds in turn keep the sources, both together do
+-- two rounds that each keep the cells of count 0 keep them together
 input_on : (first second : Rounding) (third : List (Option ℕ)) → second.cutting ≡ first.cutting →
     second.levels ≡ first.levels → HaveSameSources (levels_of first) first.steps second.steps →
     HaveSameSources (levels_of second) second.steps third →
@@ -404,7 +404,7 @@ next_then first second third one next = record {
   low = (let a = one.low in let b = next.low in omega (arith, a, b));
 }
 
--- the state after the first round, with the sorted entries of all tiles, is lawful
+-- `IsRounding` holds after the first round, with the entries of all cells, sorted by tile
 pub first_rounding : (r : Rounding) (noted : List Entry) → IsCutting r.cutting →
     length r.levels ≡ r.cutting.cols * r.cutting.rows → AreCounting (levels_of r) r.steps →
     ((tile : ℕ) → IsEvenInside (levels_of r) r.cutting tile (count_of r.steps)) →

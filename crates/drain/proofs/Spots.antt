@@ -48,7 +48,6 @@ shown_is {X = X} v none b s p e spot shows =
           (cond-false _ _ _ (not_shown v.cutting v.tile p out)) ∙ sym (cond-false _ _ _ out)
     ]
 
--- a spot shows at most one place
 pub shows_same : (b : Bounds) (s p q : Place) → Shows b s p → Shows b s q → p ≡ q
 shows_same b s p q here there =
     same_place p q (omega (arith, here.0, there.0)) (omega (arith, here.1, there.1))

@@ -72,7 +72,6 @@ lowest_next level heights parity turn lowest before = record {
       heights parity turn = omega (arith, ints, clamps) in inr (turn, omega arith, sym same));
 }
 
--- a way is twice its turn plus its parity
 turn_of : (parity other : ℕ) → parity < 2 → other % 2 ≡ parity → other ≡ 2 * (other / 2) + parity
 turn_of parity other two e = omega arith
 
@@ -141,7 +140,8 @@ module _ (level : ℤ) (heights : List (Option ℤ)) (parity : ℕ) (lowest : �
         ]
       ]
 
--- Of `turn` ways of a parity, the first `turns` lie above `lowest`: all, or the next one does not.
+-- The first `turns` ways of a parity lie above `lowest`. If `is_past`, these are the first `turn`
+-- ways. Else they are fewer, and the next way does not lie above `lowest`.
 pub record ArePast (level : ℤ) (heights : List (Option ℤ)) (parity : ℕ) (lowest : ℤ)
     (turns turn : ℕ) (is_past : Bool) : Type 0 where
   pub past : (other : ℕ) → other < turns → lowest <ℤ height_on level heights parity other
@@ -343,7 +343,7 @@ module _ (a : Around) (level : ℤ) (heights : List (Option ℤ))
               );
         }
 
-    -- if the greatest weight across is above 0 and no less than the greatest straight, it is more
+    -- the greatest weights across and straight are not equal if the drop across is above 0
     across_heavier : 2 * (o * o) ≤ d * d → 0 < d → 2 * (o * o) < d * d
     across_heavier much some =
         elim (cases_eq (2 * (o * o)) (d * d)) [

@@ -41,7 +41,7 @@ is_on {X = X} cols rows entries b s o x shown is =
       ]
     ]
 
--- Each known count is the length of a walk from the place of its spot to a source.
+-- Each known count is the length of a level walk from the place of its spot to a cell of count 0.
 IsSound : Terrain → List (Option ℕ) → Bounds → List ℕ → Type 0
 IsSound t steps b counts = (s : Place) → IsSpot b s → count_on b counts s < no_count →
     (p : Place) × Shows b s p × IsWalked (IsSource t steps) t p (count_on b counts s)
@@ -83,7 +83,7 @@ apart_places b s r p q f g ne e =
     let col : q.col ≡ p.col = ap (λ (x : Place). x.col) e in
     ne (same_place s r (omega (arith, f.0, g.0, row)) (omega (arith, f.1, g.1, col)))
 
--- a walk of m moves to a source from a level neighbour gives one of m + 1, if below 2^24
+-- a walk of m moves from a neighbour of equal height gives one of m + 1, if that is below 2^24
 pub walked_on : (t : Terrain) (steps : List (Option ℕ)) (p q : Place) (m n : ℕ) →
     IsNeighbour t q p → height_at t p ≡ height_at t q → IsWalked (IsSource t steps) t p m →
     n ≡ m + 1 → n < 2 ^ 24 → IsWalked (IsSource t steps) t q n
@@ -152,7 +152,6 @@ sound_after t steps b levels old new on size small sound
     sound earlier) spot other touch differ level from
     (omega (arith, less, spread_counts b levels old counts small before (spot_index b r))))
 
--- the spot of a place of the tile
 spot_of : Bounds → Place → Place
 spot_of b p = make_place (p.row + 1 - b.top) (p.col + 1 - b.left)
 
@@ -184,7 +183,6 @@ spot_beside b p q s i f t = (
   },
 )
 
--- the spots of places that touch also touch
 touching_spots : (b : Bounds) (p q s r : Place) → Shows b s p → Shows b r q → Touches p q →
     Touches r s
 touching_spots b p q s r f g t = record {
@@ -214,7 +212,6 @@ count_small t b s steps (Some n) on walks =
     let place = is_on t.cols t.rows steps b s (Some n) n on refl in
     let real = MatchOption-at_some _ _ n place.2 (walks place.0) in omega (arith, real.0)
 
--- no count in the window is above `no_count`
 pub counts_small : (t : Terrain) (b : Bounds) (steps shown : List (Option ℕ)) →
     length shown ≡ area_of b → AreShown t.cols t.rows steps None b shown →
     AreWalked (IsSource t steps) t steps → AreCounts (known_counts shown)
@@ -338,7 +335,7 @@ module _ (t : Terrain) (c : Cutting) (tile : ℕ) (b : Bounds) (steps shown : Li
     kept = kept_here;
   }
 
--- the counts of a tile's window by one view of it are those by another view's size and bounds
+-- two views with one cutting and one tile have the same window
 pub input_to : (v : View (Option ℤ)) (w : View (Option ℕ)) (b : Bounds) (old : List ℕ) →
     w.cutting ≡ v.cutting → w.tile ≡ v.tile → b ≡ bounds_of v.cutting v.tile →
     AreWindowCounts w.cutting.cols w.cutting.rows w.cells (bounds_of w.cutting w.tile) old →

@@ -23,7 +23,6 @@ use Rattle.drain.proofs.Counted.{has_steps, height_is}
 use Rattle.drain.proofs.Laid.{direction_is}
 use Rattle.drainage.proofs.Reach.{is_end_cell, end_true, true_end}
 
--- the place of an index has that index
 pub index-place_at : (cols i : ℕ) → index_of cols (place_at cols i) ≡ i
 index-place_at cols i = let whole : cols * (i / cols) + i % cols ≡ i = div-add-mod i cols in
     omega arith

@@ -34,7 +34,6 @@ get_or-weights a k h =
 pub square-above_zero : (n : ℕ) → 1 ≤ n → 1 ≤ n * n
 square-above_zero n h = let more : 1 * n ≤ n * n = mul-le-mul_right n h in omega arith
 
--- only a drop of 0 has the weight 0
 pub drop_from_weight : (way drop : ℕ) → weight way drop ≤ 0 → drop ≡ 0
 drop_from_weight way drop h =
     elim (cases_eq drop 0) [ inl e ↦ e | inr ne ↦ absurd (weighs way drop (omega arith) h) ]
@@ -62,7 +61,7 @@ no_way_down a h =
     let none : drop_to a.level (get_or a.ways k None) ≡ 0 = drop_from_weight k _ own in
     le-ltb _ _ (omega arith))
 
--- a fitting cell that has no way down and is no end cell has a way that leads on
+-- if `IsFitting` surroundings have no way down and are no end cell's, a way has `leads_on`
 pub drains_onward : (a : Around) → IsFitting a → fold max 0 (weights a) ≤ 0 → a.edge ≡ false →
     list_any (leads_on a) a.ways ≡ true
 drains_onward a f low inside = go a low inside f.drains

@@ -31,7 +31,8 @@ pub record AreBegun (t : Terrain) (counts : List (Option ℕ)) : Type 0 where
   pub each : (p : Place) → IsInside t p →
       IsBegun (DrainsAtOnce t) p (entry_at t.cols t.rows counts p)
 
--- The initial count of the place that a spot shows, unknown for a spot north or west of the grid.
+-- The initial count at a spot, which is a place of a tile's window. It is the initial count of the
+-- grid's place there, and unknown north or west of the grid.
 abbrev pub IsBegunSpot : (Place → Type 0) → Bounds → Place → ℕ → Type 0
 IsBegunSpot Drains b s count = (count ≤ no_count)
     × ((p : Place) → Shows b s p → IsBegun Drains p (known count))

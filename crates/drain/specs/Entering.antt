@@ -1,4 +1,4 @@
--- Entries, lower counts that cells of one tile offer to neighbours in another; runs of entries.
+-- Entries, lower counts that follow from neighbours in other tiles; runs, the entries of one tile.
 -- Private.
 use Rattle.std.specs.Prelude.{◌≡◌, ℕ, ◌+◌, ◌<◌, ◌≤◌, ◌⊎◌, ℤ, List, [], length, Option, Some, slice_get}
 use Rattle.terrain.specs.Raster.{Terrain}
@@ -20,7 +20,8 @@ IsInterior b p = (b.top < p.row) × (p.row + 1 < b.top + b.rows) × (b.left < p.
 abbrev pub sinkless_terrain : Cutting → List (Option ℤ) → Terrain
 sinkless_terrain c levels = record { cols = c.cols; rows = c.rows; cells = levels; sinks = [] }
 
--- The entry lowers the count of a cell of its tile to the length of a level walk to a source.
+-- The entry lowers the count of a cell of its tile. The new count is the length of a level walk to
+-- a cell of count 0.
 pub record IsEntry (t : Terrain) (c : Cutting) (steps : List (Option ℕ)) (e : Entry) : Type 0 where
   pub inside : IsInTile c e.tile e.change.place
   pub walked : IsWalked (IsSource t steps) t e.change.place e.change.count
@@ -37,7 +38,8 @@ IsEvenOrEntered c steps entries p q =
     ⊎ ((e : Entry) × IsAmong entries e × (e.change.place ≡ p)
     × (e.change.count ≤ count_of steps (index_of c.cols q) + 1))
 
--- The old elements stay. If they are entries, all are; level pairs in `Done` are even or entered.
+-- The old elements stay. If they are entries, so are the new ones. `IsEvenOrEntered` holds for each
+-- pair in `Done` of neighbours of one height.
 pub record AreEntered (t : Terrain) (c : Cutting) (steps : List (Option ℕ))
     (Done : Place → Place → Type 0) (old new : List Entry) : Type 0 where
   pub kept : (e : Entry) → IsAmong old e → IsAmong new e

@@ -51,7 +51,8 @@ pub record IsSteepestWay (a : Around) (found : Option ℕ) : Type 0 where
       let most = fold max 0 (weights a) in
       (way < 8) × (0 < most) × (position (λ w. w == most) (weights a) ≡ Some way)
 
--- The surroundings have height `level`, `own` steps, and the cells at these eight indexes.
+-- The surroundings have height `level` and `own` steps. On the eight ways they have the heights and
+-- steps at these eight indexes.
 pub record HasCells (a : Around) (cells : List (Option ℤ)) (steps : List (Option ℕ))
     (at : List ℕ) (level : ℤ) (own : ℕ) : Type 0 where
   pub own_level : a.level ≡ level

@@ -50,13 +50,13 @@ unfoldable pub total : ℕ → (ℕ → ℕ) → ℕ
 total zero counts = 0
 total (suc n) counts = counts n + total n counts
 
--- Inside the tile each count is at most one above those of its level neighbours.
+-- Inside the tile each count is at most one above those of neighbours of equal height.
 pub record IsEvenInside (t : Terrain) (c : Cutting) (tile : ℕ) (counts : ℕ → ℕ) : Type 0 where
   pub within : (p q : Place) → IsInTile c tile p → IsInTile c tile q → AreLevel t p q →
       counts (index_of c.cols p) ≤ counts (index_of c.cols q) + 1
 
--- A change lowers a tile's cell below its input count, to the length of a level walk to a source.
--- The cell's current count is no greater than the change's.
+-- A change lowers a tile's cell below its input count. The new count is the length of a level walk
+-- to a cell of count 0. The cell's current count is no greater than the change's.
 pub record IsChange (t : Terrain) (c : Cutting) (tile : ℕ) (steps : List (Option ℕ))
     (counts : ℕ → ℕ) (x : Change) : Type 0 where
   pub inside : IsInTile c tile x.place
@@ -110,13 +110,14 @@ pub record IsLoweredTo (t : Terrain) (c : Cutting) (tile : ℕ) (steps : List (O
   pub left : length new.changes.items + total (c.cols * c.rows) (counts_in c tile steps new)
       ≤ length old.changes.items + total (c.cols * c.rows) (counts_in c tile steps old)
 
--- No cell has a count above that of its entries in this run.
+-- No cell has a count above that of an entry for it in the range `from..end` of the list.
 pub record IsEntered (c : Cutting) (entries : List Entry) (from end : ℕ)
     (counts : ℕ → ℕ) : Type 0 where
   pub each : (k : ℕ) (e : Entry) → from ≤ k → k < end → slice_get entries k ≡ Some e →
       counts (index_of c.cols e.change.place) ≤ e.change.count
 
--- The result of a tile's job: changes that apply its entries and leave the tile even inside.
+-- The result of a tile's job: its changes apply the entries of the run. `IsEvenInside` holds for
+-- the counts after these changes.
 pub record IsTileAnswer (t : Terrain) (c : Cutting) (tile : ℕ) (steps : List (Option ℕ))
     (entries : List Entry) (from end : ℕ) (changes : List Change) : Type 0 where
   pub counts : ℕ → ℕ

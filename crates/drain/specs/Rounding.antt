@@ -35,7 +35,8 @@ rounding_of c = record {
 abbrev pub levels_of : Rounding → Terrain
 levels_of r = sinkless_terrain r.cutting r.levels
 
--- Tiles are even inside. Entries, sorted by tile, cover each cell that another tile would lower.
+-- `IsEvenInside` holds for each tile. The entries are sorted by tile. They lower each count that a
+-- neighbour in another tile can lower, at least that far.
 pub record IsRounding (r : Rounding) : Type 0 where
   pub cutting : IsCutting r.cutting
   pub size : length r.levels ≡ r.cutting.cols * r.cutting.rows
@@ -52,7 +53,7 @@ pub record Jobs : Type 0 where
   pub rounding : Rounding
   pub runs : List Run
 
--- The state is lawful, and the runs are those of its entries.
+-- `IsRounding` holds for the state, and the runs are those of its entries.
 pub record AreJobs (j : Jobs) : Type 0 where
   pub rounding : IsRounding j.rounding
   pub runs : AreRuns j.rounding.entries (tile_count j.rounding.cutting) j.runs
@@ -96,7 +97,8 @@ pub record ArePut (cols : ℕ) (old new : List (Option ℕ)) (Given : Change →
 abbrev pub count_sum : Rounding → ℕ
 count_sum r = total (r.cutting.cols * r.cutting.rows) (count_of r.steps)
 
--- A later state: still lawful, of the same heights and sources, and with no greater sum of counts.
+-- A later state for which `IsRounding` holds. Cutting, heights and cells of count 0 are the same,
+-- and the sum of counts is no greater.
 pub record IsNext (old new : Rounding) : Type 0 where
   pub rounding : IsRounding new
   pub same_cutting : new.cutting ≡ old.cutting

@@ -1,5 +1,6 @@
--- Rounds of counting steps, tile by tile. Each count is the length of a level walk to a source, a
--- cell of count 0, and falls toward the least such length. The caller chooses the sources.
+-- Rounds of counting steps, tile by tile. Sources are the cells of count 0, which the caller
+-- chooses. Each known count is the length of a level walk to a source. It falls toward the least
+-- such length.
 -- Public.
 use Rattle.std.specs.Prelude.{◌≡◌, ◌↔◌, ℕ, ◌+◌, ◌-◌, ◌*◌, ◌^◌, ◌<◌, ◌≤◌, List, length, Option, Some, IfSome}
 use Rattle.terrain.specs.Raster.{Terrain}
@@ -16,12 +17,12 @@ IsSource t steps p = IsDataCell t p × (entry_at t.cols t.rows steps p ≡ Some 
 abbrev pub HaveSameSources : Terrain → List (Option ℕ) → List (Option ℕ) → Type 0
 HaveSameSources t old new = (p : Place) → IsSource t old p ↔ IsSource t new p
 
--- The count is below 2^24, and some level walk to a cell of `Ends` has this many moves.
+-- The count is below 2^24, and some level walk from p to a cell of `Ends` has this many moves.
 abbrev pub IsWalked : (Place → Type 0) → Terrain → Place → ℕ → Type 0
 IsWalked Ends t p n =
     (n < 2 ^ 24) × (rest : List Place) × IsLevelWalk Ends t p rest × (length rest ≡ n)
 
--- Each count of the list, in row order, is the length of a level walk to a cell of `Ends`.
+-- Each known count of the list, in row order, is the length of a level walk to a cell of `Ends`.
 abbrev pub AreWalked : (Place → Type 0) → Terrain → List (Option ℕ) → Type 0
 AreWalked Ends t steps = (p : Place) → IfSome (entry_at t.cols t.rows steps p) (IsWalked Ends t p)
 
@@ -53,12 +54,13 @@ pub record IsTileStill (t : Terrain) (c : Cutting) (tile : ℕ)
   pub near : (p q : Place) → IsInTile c tile p → IsNeighbour t p q → height_at t q ≡ height_at t p →
       IsOneAbove (entry_at t.cols t.rows steps p) (entry_at t.cols t.rows steps q)
 
--- Each count is the length of a level walk to a source.
+-- Each known count is the length of a level walk to a source.
 pub record AreCounting (t : Terrain) (steps : List (Option ℕ)) : Type 0 where
   pub size : length steps ≡ t.cols * t.rows
   pub walked : AreWalked (IsSource t steps) t steps
 
--- The final counts: lengths of level walks to the sources of `input`. No round would change them.
+-- The final counts: each known one is the length of a level walk to a source of `input`, and no
+-- round would change them.
 pub record AreFinal (c : Cutting) (t : Terrain) (input steps : List (Option ℕ)) : Type 0 where
   pub cutting : IsCutting c
   pub counting : AreCounting t steps

@@ -88,8 +88,8 @@ pub record AreNoted (b : Bounds) (old new : List ℕ) (before after : List Place
   pub each : (s : Place) → IsInner b s → (count_on b new s ≡ count_on b old s)
       ⊎ ((k : ℕ) × (length before ≤ k) × (slice_get after k ≡ Some s))
 
--- A search has spread from a spot to the places in `Done`: those of its height have at most one
--- more than its count, which is unchanged.
+-- A search has spread from `spot` to the spots in `Done`. Those of its height have at most its
+-- count plus 1, and its count is unchanged.
 pub record IsReached (b : Bounds) (levels : List (Option ℤ)) (spot : Place) (Done : Place → Type 0)
     (old new : List ℕ) (before after : List Place) : Type 0 where
   pub spread : IsSpread b levels old new
@@ -141,8 +141,8 @@ known_counts shown = map (λ o. unwrap_or o no_count) shown
 abbrev pub IsCopied : Bounds → List ℕ → Place → Option ℕ → Type 0
 IsCopied b counts p x = (s : Place) → Shows b s p → x ≡ known (count_on b counts s)
 
--- A search has ended: moves lead from the old counts to the new, each spot of the tile is near the
--- old counts around it, and no move is left inside the tile.
+-- A search has ended: moves lead from the old counts to the new. `IsNear` holds for each spot of
+-- the tile, and no move is left inside the tile.
 pub record IsSearched (b : Bounds) (levels : List (Option ℤ)) (old new : List ℕ) : Type 0 where
   pub spread : IsSpread b levels old new
   pub near : (s : Place) → IsInner b s → IsNear b levels old new s

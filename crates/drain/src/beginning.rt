@@ -1,6 +1,7 @@
-//! The initial counts of the first round: 0 where a cell drains at once.
+//! The initial counts of the first round: 0 where a cell drains at once, else unknown.
 //!
 //! A data cell drains at once on the grid's border, beside NODATA or a lower cell, or as a sink.
+//! A spot is a place of a tile's window: the tile with one more row and column on each side.
 ghost use Rattle.std.specs.Prelude.{◌≡◌, ℕ, ◌+◌, ◌*◌, ◌<◌, ◌≤◌, ◌↔◌, Some, None, length, IsTrue, OnOk, IfOk, slice_index_or};
 ghost use Rattle.std.specs.Bool.{MatchBool};
 ghost use Rattle.terrain.specs.Neighbours.{IsInside, height_at};
@@ -119,7 +120,7 @@ fn begin_along(
     Ok(())
 }
 
-/// Sets the count of each named sink in the window to 0, if it has data.
+/// Sets the count of each named sink with data in the window to 0.
 fn begin_at_sinks(grid: &Grid, window: &Window, counts: &mut [u32])
     requires inside { IsPartOf grid.now.terrain window.now.bounds }
     requires counts { AreBegunSpots (IsEdgeOrHasLower grid.now.terrain) window.now.bounds

@@ -9,7 +9,7 @@ pub(crate) struct Change {
     pub(crate) count: u32,
 }
 
-/// A lower count that a neighbour in another tile offers to a cell of `tile`.
+/// A lower count for a cell of `tile`: 1 plus that of a neighbour in another tile.
 #[derive(Clone, Copy)]
 pub(crate) struct Entry {
     pub(crate) tile: u32,

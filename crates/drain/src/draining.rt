@@ -46,7 +46,8 @@ pub(crate) fn round(
 ///
 /// Searches from all counts in `steps`, in the tile and around it, until no count in the tile
 /// falls. No count rises or is lost. `steps` must be 0 at each cell that drains at once, named
-/// sinks included. Any other count must be the length of a walk over the flat to such a cell.
+/// sinks included. Any other known count must be below 2^24, and be the length of a walk over the
+/// flat to a cell that drains at once.
 ///
 /// # Errors
 ///
@@ -71,7 +72,7 @@ pub fn flat_steps(
     Ok(loading::step_numbers(alloc, &counts)?)
 }
 
-/// Counts the steps of each cell: runs rounds until one changes no count.
+/// Returns the steps of each data cell: runs rounds until one changes no count.
 fn count_steps<R: Threads + Wait + Sync, G: Gate + Sync>(
     runner: &Runner<'_, R, G>,
     filled: &Filled,
@@ -88,9 +89,9 @@ fn count_steps<R: Threads + Wait + Sync, G: Gate + Sync>(
     Ok(steps)
 }
 
-/// Returns the D8 direction of each cell of a filled grid.
+/// Returns the D8 direction of each data cell of a filled grid.
 ///
-/// Rounds over all tiles count the steps; then a job for each tile finds its codes.
+/// Rounds count the steps; then a job for each tile finds the codes of its cells.
 ///
 /// # Errors
 ///

@@ -1,4 +1,4 @@
-//! Finds entries: lower counts that cells offer to neighbours in other tiles.
+//! Finds entries: lower counts for cells, each 1 plus that of a neighbour in another tile.
 ghost use Rattle.std.specs.Prelude.{◌≡◌, ◌≢◌, ◌+◌, ◌*◌, ◌<◌, ◌≤◌, ◌↔◌, length, Some, IsTrue, OnOk};
 ghost use Rattle.terrain.specs.declared.place.Place.{Place};
 ghost use Rattle.drain.specs.declared.changes.Change.{Change};
@@ -57,7 +57,7 @@ impl<'a> RoundInput<'a> {
         self.steps[index].number()
     }
 
-    /// Appends an entry for `to`, if `from` is level with it and would lower its count.
+    /// Appends an entry for `to`, if `from` is equally high and would lower its count.
     #[inline(always)]
     fn note(&self, from: Change, to: Place, entries: &mut Vec<Entry>) -> Result<(), AllocError>
         requires counting { AreCounting (sinkless_terrain self.now.tiling.now self.now.levels.now)
@@ -132,7 +132,7 @@ impl<'a> RoundInput<'a> {
     }
 
     /// Appends entries for the cells around a tile that its rim's counts would lower.
-    /// Cells of the tile get none if its own search has left no count there to lower.
+    /// The tile's own cells get none once a search in the tile has ended: none of them can fall.
     pub(crate) fn note_rim(&self, tile: u32, entries: &mut Vec<Entry>) -> Result<(), AllocError>
         requires counting { AreCounting (sinkless_terrain self.now.tiling.now self.now.levels.now)
             self.now.steps.now }
@@ -162,7 +162,7 @@ impl<'a> RoundInput<'a> {
     }
 
     /// Appends entries for cells of other tiles that these changed cells would lower.
-    /// A job's changes lie in one tile, and only those on its rim can lower other tiles.
+    /// A job's changes lie in one tile, and only those on its rim touch other tiles.
     pub(crate) fn note_changes(
         &self,
         changes: &[Change],

@@ -1,6 +1,7 @@
-//! The first round: each tile counts steps on its own.
+//! The first round: a job for each tile counts steps inside that tile.
 //!
-//! `window` searches from cells, in the tile and around it, that drain at once (`beginning`).
+//! `beginning` finds the cells that drain at once, in the tile and around it. `window` searches
+//! from them.
 ghost use Rattle.std.specs.Prelude.{ℕ, List, Option, IfOk};
 ghost use Rattle.tile_jobs.specs.Fault.{RefusesWorkers};
 ghost use Rattle.tiles.specs.Cutting.{Cuts, IsCutting};

@@ -1,4 +1,6 @@
 //! The code of an interior cell: one with eight places of the grid around it.
+//!
+//! Ways are the eight directions, from 0 to 7 in code order.
 ghost use Rattle.std.specs.Prelude.{◌≡◌, ℕ, ◌*◌, ◌<◌, IsTrue, Some, None, length, position, slice_index_or};
 ghost use Rattle.std.specs.List.{list_any};
 ghost use Rattle.std.specs.Option.{option_zip};

@@ -25,7 +25,8 @@ pub fn each_has_steps()
         (n : ℕ) × IsSteps t p n }
 {}
 
-/// A cell has fewer than 2^24 steps: a shortest walk meets no cell twice.
+/// A cell has fewer than 2^24 steps.
+/// A shortest walk meets no cell twice, and a terrain has at most 2^24 cells.
 pub fn steps_are_few()
     ensures { (t : Terrain) (p : Place) (n : ℕ) → IsTerrain t → IsSteps t p n → n < 2 ^ 24 }
 {}
@@ -52,8 +53,8 @@ pub fn directions_are_one()
         AreDirections t others → codes ≡ others }
 {}
 
-/// In a filled terrain, counts that a round over all tiles keeps are the steps.
-/// Each cell that drains at once must have the count 0.
+/// In a filled terrain, counts that a round leaves unchanged are the steps.
+/// The round must be over all tiles, and each cell that drains at once must have the count 0.
 #[tactic(auto, using(crate::proofs::Quiet::counts_are_steps))]
 pub fn quiet_is_counted()
     ensures { (t : Terrain) (c : Cutting) (steps : List (Option ℕ)) (lists : ℕ → List (Option ℕ)) →

@@ -3,21 +3,24 @@
 //! Begin with [`directions`]. [`direction`] is the rule at one cell; [`flat_steps`] runs one round
 //! of counting over one tile. Depends on `terrain`, `tiles`, `tile_jobs`, `tile_maps`, `drainage`.
 //!
+//! A count is the least number of steps found so far for a cell, or unknown. Rounds lower counts
+//! until a round changes nothing. Then each count is its cell's steps.
+//!
 //! Modules by stage, each stage's main module first:
 //!
 //! - `draining`: `directions`, which runs all stages
 //! - `first`: the first round
 //! - `beginning`: finds the cells that drain at once
 //! - `window`: searches one tile for steps
-//! - `loading`: copies a tile and the places around it to a window
+//! - `loading`: copies a tile and the places around it to a window, and counts back
 //! - `rounds`: later rounds
-//! - `entering`: finds entries, lower counts from adjacent tiles
+//! - `entering`: finds entries, lower counts that follow from cells of adjacent tiles
 //! - `lowering`: the search of a later round
 //! - `changes`: types of lower counts
 //! - `runs`: sorts entries by tile
-//! - `stages`: the map of codes
+//! - `stages`: the map of codes, one job for each tile
 //! - `surroundings`: the codes of a tile
-//! - `interior`: codes of interior cells
+//! - `interior`: codes of cells with eight places of the grid around them
 //! - `steepness`: the rule at one cell
 //! - `around`: the surroundings of one cell
 //! - `laws`: consequences of the definitions

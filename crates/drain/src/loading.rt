@@ -1,4 +1,6 @@
 //! Copies a tile and the places around it to a window, and a tile's counts back.
+//!
+//! A spot is a place of a tile's window: the tile with one more row and column on each side.
 ghost use Rattle.std.specs.Prelude.{◌≡◌, ◌+◌, ◌-◌, ◌*◌, ◌<◌, ◌≤◌, length, map, MatchOption, None, OnOk, IfOk};
 ghost use Rattle.terrain.specs.declared.place.Place.{Place};
 ghost use Rattle.tiles.specs.Cutting.{IsCutting, AreBounds, bounds_of};
@@ -218,7 +220,7 @@ pub(crate) fn copy_counts(
     Ok(list)
 }
 
-/// Returns the known counts as numbers, `None` for the others.
+/// Returns each known count as a number, each unknown one as `None`.
 pub(crate) fn step_numbers(
     alloc: Global,
     counts: &[StepCount],

@@ -1,4 +1,4 @@
-//! The search of a later round, over counts that all jobs share.
+//! The search of a later round, over counts that all jobs read and none writes.
 //!
 //! The search starts at the entries into the tile and returns only the changed counts.
 ghost use Rattle.std.specs.Prelude.{◌≡◌, ℕ, ◌+◌, ◌*◌, ◌<◌, ◌≤◌, ◌≢◌, true, [], Vec, length, OnOk, IfOk, Some, slice_get, unwrap_or};
@@ -60,7 +60,7 @@ fn empty_rows(alloc: Global, rows: u32) -> Result<Vec<Vec<u32>>, AllocError>
 }
 
 /// Sets the count at `col` of a row that begins at index `first` of the grid.
-/// Extends a shorter row by the shared counts up to `col`.
+/// Extends a shorter row up to `col` by the counts of `input`.
 fn put_in_row(
     input: &RoundInput<'_>,
     first: usize,
@@ -127,7 +127,7 @@ fn lower(
     Ok(())
 }
 
-/// Lowers `to` to the count of `from` plus 1, if both have one filled height.
+/// Lowers the count of `to` to at most that of `from` plus 1, if equally high.
 #[inline(always)]
 fn reach(
     input: &RoundInput<'_>,
@@ -153,7 +153,7 @@ fn reach(
     Ok(())
 }
 
-/// Lowers cells of one row around `from`, and level with it, to its count plus 1.
+/// Lowers a row's counts around `from`, at its height, to at most its count plus 1.
 #[inline(always)]
 fn reach_along(
     input: &RoundInput<'_>,
@@ -181,7 +181,7 @@ fn reach_along(
     Ok(())
 }
 
-/// Lowers the tile's cells around `from`, and level with it, to its count plus 1.
+/// Lowers the tile's counts around `from`, at its height, to at most its count + 1.
 fn spread(
     input: &RoundInput<'_>,
     bounds: Bounds,
@@ -204,8 +204,8 @@ fn spread(
     Ok(())
 }
 
-/// Returns whether an entry is due before the next change is spread.
-/// Entries are sorted by count, so changes go from low counts to high, and no cell changes twice.
+/// Returns whether to apply an entry before spreading from the next change.
+/// A run is sorted by count, so changes go from low counts to high, and no cell changes twice.
 #[inline(always)]
 fn is_entry_due(entry: Entry, changes: &[Change], done: usize) -> bool
     ensures { OnFalse result (done < length changes.now) }
@@ -217,7 +217,7 @@ fn is_entry_due(entry: Entry, changes: &[Change], done: usize) -> bool
     }
 }
 
-/// Applies the entries of a run to its tile's counts and returns the changes.
+/// Applies a run's entries, spreads them over its tile and returns the changes.
 pub(crate) fn lower_tile(
     alloc: Global,
     input: &RoundInput<'_>,

@@ -1,6 +1,7 @@
 //! Later rounds: they carry steps over rims until a round changes nothing.
 //!
-//! The first ones, and those with many or no entries, run as jobs; others on the caller's thread.
+//! The first few of them, and those with many or no entries, run as jobs. The others run on the
+//! caller's thread.
 ghost use Rattle.std.specs.Prelude.{◌≡◌, ◌≢◌, ℕ, ◌*◌, ◌<◌, ◌≤◌, ◌↔◌, [], true, false, IsTrue, Vec, length, vec_len, OnOk, IfOk};
 ghost use Rattle.tile_jobs.specs.Fault.{RefusesWorkers};
 ghost use Rattle.tiles.specs.Cutting.{IsCutting, IsWithin, tile_of_place};
@@ -25,7 +26,7 @@ use tile_jobs::{Gate, JobFault, Work};
 use tile_maps::Runner;
 use tiles::Tiling;
 
-/// The number of later rounds that run as jobs even if they have few entries.
+/// The number of rounds, from the first later one, that always run as jobs.
 const FULL_ROUNDS: u32 = 4;
 
 /// The number of entries below which starting threads takes longer than a round.
@@ -218,7 +219,7 @@ fn changes_by_jobs<R: Threads + Wait + Sync, G: Gate + Sync>(
     Ok(outs)
 }
 
-/// Runs a round on the caller's thread, over the tiles that have entries.
+/// Runs a round on the caller's thread; returns the changes of tiles with entries.
 fn changes_here(
     alloc: Global,
     input: &RoundInput<'_>,
@@ -343,7 +344,7 @@ impl<'a> Counting<'a> {
     }
 }
 
-/// Returns the fewest entries worth a round of jobs, after `rounds` such rounds.
+/// Returns the fewest entries worth a round of jobs, after `rounds` rounds of jobs.
 /// A winding flat takes thousands of rounds, each with an entry or two into a single tile.
 fn enough_entries(tiling: &Tiling, rounds: u32) -> usize {
     if rounds < FULL_ROUNDS {

@@ -1,7 +1,8 @@
 //! The D8 direction of one cell: [`direction`].
 //!
 //! Ways are the eight directions, from 0 to 7 in code order. `steepest` finds the steepest way down
-//! by exact squares of drops, and `onward` a way over the flat: the first of equally good ways.
+//! by exact squares of drops. `onward` finds a way over the flat. Of equally good ways, both return
+//! the first.
 ghost use Rattle.std.specs.Prelude.{◌≡◌, ◌*◌, ◌<◌, ◌≤◌, ◌<ℤ◌, ◌≤ℤ◌, ℕ, IfSome, IsTrue, Some, None, option_map, slice_index_or, position};
 ghost use Rattle.std.specs.Bool.{MatchBool};
 ghost use Rattle.std.specs.List.{list_any};
@@ -15,7 +16,8 @@ use crate::around::Around;
 use drainage::Code;
 use terrain::Height;
 
-/// The greatest drop on some ways, 0 if none leads down; if above 0, the first way with it.
+/// The greatest drop on the ways of one parity, 0 if none leads down.
+/// If `drop` is above 0, `way` is the first way of the parity with this drop.
 #[derive(Clone, Copy)]
 struct Fall {
     drop: u64,
@@ -57,7 +59,7 @@ fn is_above(height: Height, lowest: Height) -> bool
     height > lowest
 }
 
-/// Returns the first way of one parity that has the lowest height, the last way if none has it.
+/// Returns the first way of one parity with height `lowest`, else the last way.
 // Without an early return: a processor seldom predicts which way is lowest.
 #[inline(always)]
 fn first_lowest(
@@ -81,7 +83,7 @@ fn first_lowest(
     2 * turns + parity
 }
 
-/// Returns the greatest drop on the ways of one parity and, if it is above 0, the first with it.
+/// Returns the greatest drop on the ways of one parity and the first way with it.
 #[inline(always)]
 fn furthest(level: Height, heights: &[Option<Height>; 8], parity: usize) -> Fall
     requires parity { parity < 2 }
@@ -97,7 +99,6 @@ fn furthest(level: Height, heights: &[Option<Height>; 8], parity: usize) -> Fall
     }
 }
 
-/// Returns the square of a drop.
 #[inline(always)]
 fn square(drop: u64) -> u128
     requires { drop ≤ greatest_drop }
@@ -125,7 +126,6 @@ pub(crate) fn steepest(level: Height, heights: &[Option<Height>; 8]) -> Option<u
     (fall.drop > 0).then_some(fall.way)
 }
 
-/// Returns the height of a neighbour.
 #[inline(always)]
 fn height_of(neighbour: Option<(Height, u32)>) -> Option<Height>
     ensures { result ≡ option_map (λ w. w.0) neighbour }
@@ -136,7 +136,6 @@ fn height_of(neighbour: Option<(Height, u32)>) -> Option<Height>
     }
 }
 
-/// Returns the heights on the eight ways.
 fn heights_around(around: &Around) -> [Option<Height>; 8]
     ensures { HasHeights around.now around.now.level result }
 {

@@ -1,7 +1,7 @@
 //! The codes of a tile's cells.
 //!
-//! Cells in the grid's outermost rows and columns get codes by [`Around`](crate::Around), others by
-//! `interior`.
+//! Cells in the grid's first or last row or column, the outermost cells, get codes by
+//! [`Around`](crate::Around). All others get codes by `interior`.
 ghost use Rattle.std.specs.Prelude.{◌≡◌, ◌+◌, ◌*◌, ◌<◌, Some, None, length, OnOk, IfOk};
 ghost use Rattle.std.specs.Option.{option_zip};
 ghost use Rattle.terrain.specs.Raster.{IsTerrain};
@@ -71,7 +71,7 @@ fn around(grid: &Grid, steps: &[StepCount], place: Place, level: Height, own: u3
     }
 }
 
-/// Returns the code of a data cell of an outermost row or column.
+/// Returns the code of an outermost data cell.
 /// Out of line, to keep the hot path small.
 #[inline(never)]
 #[tactic(auto, using(crate::proofs::Laid::fitting))]

@@ -10,7 +10,6 @@ use tiles::Bounds;
 
 /// Filled heights of a tile and the places around it, in row order.
 /// The window has one row and one column more than the tile on each side. Its places are spots.
-/// Spots with one filled height are level.
 #[derive(Drop)]
 pub(crate) struct Window {
     pub(crate) bounds: Bounds,
@@ -99,7 +98,7 @@ fn least_of_three(window: &Window, counts: &[u32], from: Place, level: Cell, bou
     least
 }
 
-/// Returns 1 plus the least count of level spots around `spot`, at most `bound`.
+/// Returns 1 plus the least count around `spot` at its height, at most `bound`.
 #[inline(always)]
 fn least_around(window: &Window, counts: &[u32], spot: Place, bound: u32) -> u32
     requires size { length counts.now ≡ area_of window.now.bounds }
@@ -123,8 +122,8 @@ fn least_around(window: &Window, counts: &[u32], spot: Place, bound: u32) -> u32
     least_of_three(window, counts, Place { row: row + 1, col }, level, here)
 }
 
-/// Lowers `to` to the count of `from` plus 1, if the two spots are level.
-/// Queues `to`, if it falls and lies in the tile.
+/// Lowers the count of `to` to at most that of `from` plus 1, if equally high.
+/// Queues `to`, if its count falls and it lies in the tile.
 #[inline(always)]
 fn reach(
     window: &Window,
@@ -151,7 +150,8 @@ fn reach(
     Ok(())
 }
 
-/// Lowers a row's level spots around `spot` to its count + 1; queues inner ones.
+/// Lowers a row's counts around `spot`, at its height, to at most its count plus 1.
+/// Queues the spots of the tile whose counts fall.
 #[inline(always)]
 #[tactic(auto, using(crate::proofs::Spreading::spread_counts))]
 fn spread_along(
@@ -175,7 +175,8 @@ fn spread_along(
     Ok(())
 }
 
-/// Lowers level spots around `spot` to its count plus 1; queues those in the tile.
+/// Lowers counts around `spot`, at its height, to at most its count plus 1.
+/// Queues the spots of the tile whose counts fall.
 #[tactic(auto, using(crate::proofs::Spreading::spread_counts))]
 fn spread(
     window: &Window,
@@ -215,8 +216,8 @@ fn search(window: &Window, counts: &mut [u32], mut reached: Vec<Place>) -> Resul
     Ok(())
 }
 
-/// Lowers a spot to 1 plus the least old count of level spots around it.
-/// Queues the spot, if it falls.
+/// Lowers a spot's count to at most 1 plus the least old one around at its height.
+/// Queues the spot, if its count falls.
 #[inline(always)]
 #[tactic(auto, using(crate::proofs::Spreading::pulled, crate::proofs::Spreading::spot_from_inner))]
 fn pull_at(
@@ -254,7 +255,7 @@ fn pull_at(
     Ok(())
 }
 
-/// Lowers a tile row's spots to 1 plus the least old count of level spots around.
+/// Applies [`pull_at`] to each spot of one row of the tile.
 #[tactic(auto, using(crate::proofs::Spreading::not_above_itself, crate::proofs::Noted::noted_none))]
 fn pull_along(
     window: &Window,
@@ -284,7 +285,7 @@ fn pull_along(
     Ok(())
 }
 
-/// Applies [`pull_at`] to each spot of the tile; returns the spots that fell.
+/// Applies [`pull_at`] to each spot of the tile; returns those whose counts fell.
 #[tactic(auto, using(crate::proofs::Spreading::spread_none, crate::proofs::Spreading::near_after, crate::proofs::Noted::noted_none, crate::proofs::Noted::noted_then))]
 fn pull(
     alloc: Global,

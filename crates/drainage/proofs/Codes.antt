@@ -25,7 +25,7 @@ cases_code P zero each n is = elim (or_cases _ _ is) [
   | inr any ↦ of_list P way_codes each n any
 ]
 
--- the direction of a code other than 0 is the number of its trailing zeros
+-- the direction of a code other than 0 is the number of its trailing zeros, which is below 8
 pub way_by_zeros : (n : ℕ) → IsCode n → n ≢ 0 → (way_of n ≡ Some (count_trailing_zeros 8 n))
     × (count_trailing_zeros 8 n < 8)
 unfolding count_trailing_zeros

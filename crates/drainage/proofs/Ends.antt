@@ -47,7 +47,6 @@ is_below d p q a b (inr f) = inr (
   f.1 (unwrap_or (steps_in d p) 0) (unwrap_or (steps_in d q) 0) (some_of _ 0 a) (some_of _ 0 b),
 )
 
--- the cell has a code
 IsCoded : Drained → Place → Type 0
 IsCoded d p = (code : ℕ) × (code_at (directed_of d) p ≡ Some code)
 
@@ -73,7 +72,7 @@ data_from : (d : Drained) → IsDraining d → (p : Place) → IsCoded d p → I
 unfolding IsCoded
 data_from d lawful p c = sym (lawful.same_data p) ∙ ap is_some c.1
 
--- the next cell of a cell that is no outlet is a data cell below it
+-- a code other than 0 leads to a data cell for which `IsBelow` holds
 next_is_below : (d : Drained) → IsDraining d → (p : Place) → IsCoded d p → (IsOutlet (directed_of d)
     p → ⊥) → IsDataCell d.terrain (next (directed_of d) p) × IsBelow d p (next (directed_of d) p)
 unfolding IsCoded
@@ -117,7 +116,7 @@ ends_by d p k (suc m) le out = elim (cases_eq k (suc m)) [
       ap (code_at (directed_of d)) (outlet_stays d (follow (directed_of d) p m) before) ∙ before)
 ]
 
--- before an outlet is reached, each cell of a flow path is below those met before it
+-- up to its first outlet, `IsBelow` holds from each cell of a flow path to each later one
 below_along : (d : Drained) → IsDraining d → (p : Place) → IsCoded d p → (i j : ℕ) →
     i < j → ((k : ℕ) → k < j → IsOutlet (directed_of d) (follow (directed_of d) p k) → ⊥) →
     IsBelow d (follow (directed_of d) p i) (follow (directed_of d) p j)
@@ -132,7 +131,6 @@ below_along d lawful p c i (suc j) lt none_here =
           (below_along d lawful p c i j (omega arith) (λ k h. none_here k (omega arith))) last
     ]
 
--- an outlet is reached in fewer than n moves, or it is not
 cases_reached : (d : Drained) → IsDraining d → (p : Place) → IsCoded d p → (n : ℕ) →
     ((k : ℕ) × (k < n) × IsOutlet (directed_of d) (follow (directed_of d) p k))
     ⊎ ((k : ℕ) → k < n → IsOutlet (directed_of d) (follow (directed_of d) p k) → ⊥)

@@ -1,4 +1,5 @@
--- Each data cell has a filled height: from one path's crest, lower ones are tried to the least.
+-- Each data cell has a filled height: one path gives a crest, and lower crests are tried until no
+-- path has one.
 use Rattle.std.proofs.Common.{◌≡◌, ℕ, zero, suc, ◌+◌, ◌≤◌, Bool, true, false, not, ◌&&◌, cond, List, [], ◌∷◌, length, count_by, ◌<◌, ℤ, pos, negsuc, ◌≤ℤ◌, ◌+ℤ◌, ◌-ℤ◌, ap, refl, arith, ◌⊎◌, inl, inr}
 use Rattle.std.specs.Prelude.{unsigned_abs}
 use Rattle.std.specs.List.{list_any}
@@ -14,7 +15,6 @@ use Rattle.terrain.proofs.Places.{make_place}
 use Rattle.drainage.proofs.Heights.{first_is_data, height_below_crest}
 use Rattle.drainage.proofs.Reach.{field, any_place, data_inside, is_data, reaches, IsStable, HasLowPath, reaches_true, reaches_more, true_reaches}
 
--- where a implies b, b counts as much as a and `b && not a` together
 one_more : (a b : Bool) → (a ≡ true → b ≡ true) → cond b 1 0 ≡ cond a 1 0 + cond (b && not a) 1 0
 one_more true true h = refl
 one_more true false h = let e = h refl in absurd (cc)
@@ -25,7 +25,6 @@ count_by_cons : (P : Place → Bool) (x : Place) (xs : List Place) →
     count_by P (x ∷ xs) ≡ cond (P x) 1 0 + count_by P xs
 count_by_cons P x xs = sum_by-cons (λ y. cond (P y) 1 0) x xs
 
--- where P implies Q, the count of Q is the count of P and that of Q without P
 count_split : (P Q : Place → Bool) → ((q : Place) → P q ≡ true → Q q ≡ true) → (xs : List Place) →
     count_by Q xs ≡ count_by P xs + count_by (λ q. Q q && not (P q)) xs
 count_split P Q w [] = refl
@@ -46,7 +45,7 @@ some_counted P (x ∷ xs) any = elim (or_cases (P x) (list_any P xs) any) [
   | inr later ↦ omega (arith, count_by_cons P x xs, some_counted P xs later)
 ]
 
--- if no more cells reach an end cell in k + 1 moves than in k, no cell needs k + 1 moves
+-- if at most k + 1 moves bring no more cells to an end cell than at most k, no cell needs k + 1
 stable_at : (t : Terrain) (c : ℤ) (k : ℕ) →
     count_by (reaches t c (suc k)) (field t) ≤ count_by (reaches t c k) (field t) → IsStable t c k
 stable_at t c k h p more = elim (cases_Bool (reaches t c k p)) [
@@ -76,7 +75,6 @@ find_stable t c (suc n) k h = elim (cases_lt (count_by (reaches t c k) (field t)
       | inr same ↦ (k, stable_at t c k same)
     ]
 
--- a cell has a path with a crest of at most c, or it has none
 decide_low : (t : Terrain) (c : ℤ) (p : Place) → HasLowPath t c p ⊎ (HasLowPath t c p → ⊥)
 decide_low t c p =
     let s = find_stable t c (length (field t)) 0 (omega arith) in
@@ -122,7 +120,7 @@ not_less t p c none rest path = elim (less (crest t p rest) c) [
   | inr e ↦ e
 ]
 
--- a path with a crest at most n above the cell gives its filled height, by trying lower crests
+-- a cell has a filled height if some path's crest is at most n above the cell's height
 least_crest : (t : Terrain) (p : Place) (n : ℕ) (rest : List Place) → IsPath t p rest →
     crest t p rest ≤ℤ (height_of t p +ℤ pos n) → (level : ℤ) × IsFilledHeight t p level
 least_crest t p zero rest path low = (

@@ -12,16 +12,13 @@ use Rattle.terrain.proofs.Places.{entry-below, entry-beside, inside_from_entry, 
 use Rattle.drainage.proofs.Uniqueness.{between}
 use Rattle.drainage.proofs.Heights.{known, first_is_data, height_below_crest}
 
--- the terrain of the filled heights
 abbrev pub filled_terrain : Terrain → List (Option ℤ) → Terrain
 filled_terrain t levels = record t { cells = levels }
 
--- the list has the filled height `level` at the place
 record HasLevel (t : Terrain) (levels : List (Option ℤ)) (p : Place) (level : ℤ) : Type 0 where
   entry : entry_at t.cols t.rows levels p ≡ Some level
   filled : IsFilledHeight t p level
 
--- the filled height of a data cell is in the list
 level_at : (t : Terrain) (levels : List (Option ℤ)) → IsFilled t levels → (p : Place) (x : ℤ) →
     height_at t p ≡ Some x → (level : ℤ) × HasLevel t levels p level
 level_at t levels h p x e =
@@ -52,7 +49,6 @@ data_level : (t : Terrain) (levels : List (Option ℤ)) → IsFilled t levels �
     IsSome (height_at t p) → (level : ℤ) × HasLevel t levels p level
 data_level t levels h p d = level_at t levels h p (height_of t p) (known (height_at t p) d)
 
--- a cell with a gap around it in the terrain has one in the filled terrain
 gap_again : (t : Terrain) (levels : List (Option ℤ)) → IsFilled t levels → (p : Place) →
     HasGapAround t p → HasGapAround (filled_terrain t levels) p
 gap_again t levels h p gap = gap_where p (λ q _ none. same_data t levels h q ∙ none) gap
@@ -72,7 +68,6 @@ path_again t levels h p (q ∷ rest) path = (
   path_again t levels h q rest path.1,
 )
 
--- in the filled terrain, the height of a cell is its filled height
 new_height : (t : Terrain) (levels : List (Option ℤ)) (p : Place) (level : ℤ) →
     HasLevel t levels p level → height_of (filled_terrain t levels) p ≡ level
 new_height t levels p level h = ap (λ (o : Option ℤ). unwrap_or o (pos 0)) h.entry

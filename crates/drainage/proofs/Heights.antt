@@ -12,7 +12,6 @@ use Rattle.drainage.specs.Filled.{IsPath, crest, IsFilledHeight}
 use Rattle.terrain.specs.declared.place.Place.{Place}
 use Rattle.terrain.proofs.Places.{entry-inside, inside_from_entry}
 
--- the greater of two is one of them
 max_cases : (x y : ℤ) → (int_max x y ≡ x) ⊎ (int_max x y ≡ y)
 max_cases x y = elim (cases_Bool (int_lt y x)) [
   | inl t ↦ inl (cond-true (int_lt y x) x y t)
@@ -33,7 +32,6 @@ contains_height t p h e =
     contains_at t.cells (index_of t.cols p) h
     (sym (entry-inside t.cols t.rows t.cells p inside.0 inside.1) ∙ e)
 
--- an option that has a value is `Some` of it
 pub known : (o : Option ℤ) → IsSome o → o ≡ Some (unwrap_or o (pos 0))
 known None h = absurd (cc)
 known (Some x) h = refl
@@ -42,13 +40,11 @@ contains_data_height : (t : Terrain) (p : Place) → IsDataCell t p →
     Contains t.cells (Some (height_of t p))
 contains_data_height t p h = contains_height t p (height_of t p) (known (height_at t p) h)
 
--- a path begins at a data cell
 pub first_is_data : (t : Terrain) (p : Place) (rest : List Place) → IsPath t p rest → IsDataCell t p
 first_is_data t p [] (inl edge) = edge.0
 first_is_data t p [] (inr sink) = sink.0
 first_is_data t p (q ∷ rest) path = path.0.from_data
 
--- the crest of a path is the height of a cell
 pub contains_crest : (t : Terrain) (p : Place) (rest : List Place) → IsPath t p rest →
     Contains t.cells (Some (crest t p rest))
 contains_crest t p [] path = contains_data_height t p (first_is_data t p [] path)

@@ -1,4 +1,4 @@
--- filled heights: unique, heights of the terrain, stable under filling, and existing
+-- filled heights: at most one for a cell, heights of the terrain, kept by filling again, existing
 pub mod Uniqueness
 pub mod Heights
 pub mod FilledTwice

@@ -16,13 +16,14 @@ use Rattle.terrain.proofs.Places.{make_place, same_place, index_below, inside_fr
 use Rattle.terrain.proofs.Listed.{place_is, is_place_from, listed_from_any, any_from_listed}
 use Rattle.drainage.proofs.Heights.{known, first_is_data}
 
--- the place of index n in rows of `cols`; `field` has one row and one column more than the grid
+-- the place of index n in rows of `cols` places
 abbrev pub place_at : ℕ → ℕ → Place
 place_at cols n = make_place (n / cols) (n % cols)
 
 abbrev pub all_places : ℕ → ℕ → List Place
 all_places cols rows = map (place_at cols) (range_with_len 0 (cols * rows))
 
+-- the places of the grid and of one more row and column, which include all that touch a data cell
 abbrev pub field : Terrain → List Place
 field t = all_places (t.cols + 1) (t.rows + 1)
 
@@ -144,7 +145,6 @@ true_end t p (inl edge) =
 true_end t p (inr sink) =
     and_from (is_data t p) _ sink.0 (or_right (has_gap t p) _ (any_from_listed p t.sinks sink.1))
 
--- a data cell at or below c
 abbrev pub is_low : Terrain → ℤ → Place → Bool
 is_low t c p = is_data t p && int_le (height_of t p) c
 
@@ -160,7 +160,6 @@ le_true x y h = grind (arith, h)
 true_le : (x y : ℤ) → x ≤ℤ y → int_le x y ≡ true
 true_le x y h = grind (arith, h)
 
--- a path with a crest of at most c
 abbrev pub HasLowPath : Terrain → ℤ → Place → Type 0
 HasLowPath t c p = (rest : List Place) × IsPath t p rest × (crest t p rest ≤ℤ c)
 
@@ -193,7 +192,7 @@ reaches_true t c (suc k) p h =
           )
     ]
 
--- a cell that reaches an end cell in at most k moves does so in at most k + 1
+-- a cell that reaches an end cell in at most k moves reaches one in at most k + 1
 pub reaches_more : (t : Terrain) (c : ℤ) (k : ℕ) (p : Place) → reaches t c k p ≡ true →
     reaches t c (suc k) p ≡ true
 reaches_more t c zero p h =
@@ -226,7 +225,7 @@ reaches_end t c (suc k) p low e = and_from (is_low t c p) (is_end_cell t p
     || list_any (λ q. is_next t p q && reaches t c k q) (field t)) low
     (or_left (is_end_cell t p) (list_any (λ q. is_next t p q && reaches t c k q) (field t)) e)
 
--- each cell that reaches an end cell in at most k + 1 moves does so in at most k
+-- each cell that reaches an end cell in at most k + 1 moves reaches one in at most k
 abbrev pub IsStable : Terrain → ℤ → ℕ → Type 0
 IsStable t c k = (p : Place) → reaches t c (suc k) p ≡ true → reaches t c k p ≡ true
 

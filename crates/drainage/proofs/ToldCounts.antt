@@ -10,6 +10,5 @@ known-some n less = cond-true _ _ _ (lt-ltb _ _ less)
 pub known-none : (n : ℕ) → no_count ≤ n → known n ≡ None
 known-none n more = cond-false _ _ _ (le-ltb _ _ more)
 
--- the steps read from a stored number are stored as that number
 pub known_number : (n : ℕ) → n ≤ no_count → unwrap_or (known n) no_count ≡ n
 known_number n few = ap (λ c. c.number) (the_inverse_ok (record { number = n }) few)

@@ -17,7 +17,8 @@ pub record Drained : Type 0 where
 abbrev pub directed_of : Drained → Directed
 directed_of d = record { cols = d.terrain.cols; rows = d.terrain.rows; codes = d.codes }
 
--- Cell q is lower than p, or as high with fewer steps.
+-- Cell q is lower than p, or as high with fewer steps. Where the steps of one of them are unknown,
+-- to be as high is enough.
 abbrev pub Falls : Drained → Place → Place → Type 0
 Falls d p q =
     (height_of d.terrain q <ℤ height_of d.terrain p)
@@ -25,8 +26,8 @@ Falls d p q =
     × ((m n : ℕ) → entry_at d.terrain.cols d.terrain.rows d.steps p ≡ Some m
     → entry_at d.terrain.cols d.terrain.rows d.steps q ≡ Some n → n < m))
 
--- Exactly the data cells have steps and codes. Each code but 0 leads to a data cell that is lower,
--- or as high with fewer steps.
+-- The lists have the grid's size, and exactly the data cells have steps and codes. Each code but 0
+-- leads to a data cell that is lower, or as high with fewer steps.
 pub record IsDraining (d : Drained) : Type 0 where
   pub codes_size : length d.codes ≡ d.terrain.cols * d.terrain.rows
   pub steps_size : length d.steps ≡ d.terrain.cols * d.terrain.rows

@@ -7,7 +7,7 @@ use Rattle.terrain.specs.Raster.{Terrain, Raster}
 use Rattle.terrain.specs.Neighbours.{IsInside, height_at, height_of, entry_at, IsNeighbour, IsEnd}
 use Rattle.terrain.specs.declared.place.Place.{Place}
 
--- A path is a first cell and the list of the cells after it: each is a neighbour of the next, and
+-- A path is a first cell and the list of the cells after it. Each is a neighbour of the next, and
 -- the last is an end cell.
 abbrev pub IsPath : Terrain → Place → List Place → Type 0
 IsPath t p [] = IsEnd t p

@@ -41,7 +41,7 @@ impl Model for Directions {
 }
 
 impl Directions {
-    /// Makes a map from the codes of a filled grid, which are in row order.
+    /// Makes a map of directions from the codes of a filled grid, in row order.
     /// `steps` is a ghost copy, so the caller may free the real list first.
     pub fn new(grid: &Grid, steps: Snapshot<Vec<StepCount>>, codes: Vec<Option<Code>>) -> Self
         requires { IsDraining (record {

@@ -5,7 +5,7 @@ ghost use Rattle.drainage.specs.Filled.{IsOwnFilled};
 use std::marker::Model;
 use terrain::Grid;
 
-/// A filled grid: the height of each cell is its filled height.
+/// A filled grid: the height of each data cell is its filled height.
 #[derive(Drop)]
 pub struct Filled {
     grid: Grid,
@@ -23,7 +23,7 @@ impl Model for Filled {
 }
 
 impl Filled {
-    /// Wraps a grid in which each cell has its filled height.
+    /// Wraps a grid in which the height of each data cell is its filled height.
     pub fn from_grid(grid: Grid) -> Self
         requires { IsOwnFilled grid }
         ensures { result ≡ grid }

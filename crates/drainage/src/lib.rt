@@ -1,8 +1,8 @@
 //! The results that drainage stages pass on: filled grids and maps of directions.
 //!
-//! In a [`Filled`] grid, each cell has its filled height. In [`Directions`], each flow path ends at
-//! an outlet. `fill` makes filled grids, which `drain` and `relief` read. `drain` makes directions,
-//! which `flow` and `relief` read.
+//! In a [`Filled`] grid, the height of each data cell is its filled height. In [`Directions`], each
+//! flow path ends at an outlet. `fill` makes filled grids, which `drain` and `relief` read. `drain`
+//! makes directions, which `flow` and `relief` read.
 //!
 //! Modules, callers first:
 //!

@@ -23,7 +23,6 @@ abbrev join_between : CellLabel → CellLabel → Join
 join_between from to =
     record { from = from.node; to = to.node; height = int_max from.level to.level }
 
--- Two marks with different labels, not both sources, have one join.
 pub joins_of_apart : (sources : List (Option ℤ)) (from to : CellLabel) →
     from.node ≢ to.node → are_both_sources sources from.node to.node ≡ false →
     joins_of sources from (Some to) ≡ join_between from to ∷ []
@@ -69,7 +68,6 @@ covered_still : (now new : List Join) → ((j : Join) → Contains now j → Cov
 covered_still now new kept j c = let d = kept c.0 c.1 in
     (d.0, d.1, d.2 ∙ c.2, d.3 ∙ c.3, trans _ _ _ d.4 c.4)
 
--- A join pushed at the end has been added.
 pub adds_pushed : (old new : List Join) (j : Join) → new ≡ old ++ j ∷ [] →
     AddsCovered old (j ∷ []) new
 adds_pushed old new j is = subst (AddsCovered old (j ∷ [])) (sym is) (record {
@@ -291,7 +289,8 @@ adds_then marks out first later both old now new split a b = record {
   ];
 }
 
--- `Adds` of some pairs is `Adds` of more, if no other pair in row order touches and has marks.
+-- `Adds` of `first` gives `Adds` of `both`, if every other pair of `both` lacks a mark, does not
+-- touch or is not in row order.
 pub adds_as : (marks : Marks) (out : LeftOutJoins) (first both : Place → Place → Type 0)
     (old new : List Join) → ((p q : Place) → first p q → both p q) → ((p q : Place) → Touches p q →
     IsAfter p q → (m : CellLabel) → marks p ≡ Some m → (n : CellLabel) → marks q ≡ Some n →

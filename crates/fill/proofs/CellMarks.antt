@@ -99,7 +99,6 @@ marked c floods p m e = elim (cases_option (slice_get floods (tile_of_place c p)
       ]
 ]
 
--- A cell with a mark lies in the grid.
 pub marked_within : (c : Cutting) (floods : List Flood) (p : Place) (m : CellLabel) → IsCutting c →
     Fit c floods → mark_among c floods p ≡ Some m → IsWithin c p
 marked_within c floods p m h fit e =
@@ -117,7 +116,7 @@ mark_outside c floods p h fit outside = elim (cases_option (mark_among c floods 
   | inr some ↦ absurd (outside (marked_within c floods p some.0 h fit some.1))
 ]
 
--- A place in the bounds of a flood lies in its tile.
+-- A place in the bounds of a tile's flood lies in the tile.
 pub held : (c : Cutting) (floods : List Flood) (tile : ℕ) (f : Flood) (p : Place) (b : Bounds) →
     IsCutting c → Fit c floods → tile < tile_count c → slice_get floods tile ≡ Some f →
     b ≡ f.bounds → is_in_bounds b p ≡ true → IsInTile c tile p
@@ -141,7 +140,6 @@ pub entry_in_mark : (f : Flood) (q : Place) (i : ℕ) → IsInBounds f.bounds q 
 entry_in_mark f q i inside at = cond-true _ _ _ (in_bounds_from f.bounds q inside)
     ∙ ap (mark_with 0 f) (sym at)
 
--- A place with a mark in a flood lies in its bounds.
 pub mark_inside : (f : Flood) (p : Place) (m : CellLabel) → mark_in 0 f p ≡ Some m →
     IsInBounds f.bounds p
 mark_inside f p m is = elim (cases_Bool (is_in_bounds f.bounds p)) [
@@ -149,7 +147,7 @@ mark_inside f p m is = elim (cases_Bool (is_in_bounds f.bounds p)) [
   | inr out ↦ none_some (mark_in 0 f p) m (cond-false _ _ _ out) is
 ]
 
--- Two cells of one label have no join.
+-- Two cells of one label have no join: `AddsCovered` holds with no change.
 pub same_label_adds : (f : Flood) (sources : List (Option ℤ)) (i j : ℕ)
     (from : CellLabel) (now : List Join) → mark_with 0 f i ≡ Some from → get_or f.table.indexes i 0
     ≡ get_or f.table.indexes j 0 → AddsCovered now (joins_of sources from (mark_with 0 f j)) now
@@ -163,7 +161,7 @@ same_label_adds f sources i j from now is same = record {
       absurd (m.2 (sym a.3 ∙ ap (λ n. 0 + n) same ∙ b.3));
 }
 
--- A cell with the label of its four neighbours after it has no joins with them.
+-- For a cell with the label of its four neighbours after it, `AddsAfter` holds with no change.
 pub equal_after_adds : (f : Flood) (out : LeftOutJoins) (i width : ℕ) (now : List Join) →
     AreEqualAfter f.table.indexes i width →
     MatchOption (mark_with 0 f i) (now ≡ now) (λ from. AddsAfter f out from i width now now)
@@ -365,7 +363,6 @@ row_so_far Inside row col inside p = (
   ],
 )
 
--- An index whose entry is not None lies in the list.
 pub some_below : {X : Type 0} (xs : List (Option X)) (i : ℕ) (x : X) → get_or xs i None ≡ Some x →
     i < length xs
 some_below xs i x e = elim (cases_lt i (length xs)) [
@@ -374,7 +371,6 @@ some_below xs i x e = elim (cases_lt i (length xs)) [
       none_some (get_or xs i None) x (get_or_past xs i None past) e
 ]
 
--- The mark with `first` added to the number of its label.
 abbrev pub shift : ℕ → CellLabel → CellLabel
 shift first m = record { level = m.level; node = first + m.node }
 

@@ -15,7 +15,6 @@ use Rattle.fill.specs.declared.arcs.PreviousJoins.{PreviousJoins}
 use Rattle.fill.specs.declared.arcs.Link.{Link}
 use Rattle.fill.proofs.Adding.{no_join}
 
--- The chain from the last join is its link's arc, and then the chain from its link's `before`.
 chain_here : (link : ℕ → Link) (n : ℕ) →
     chain link (suc n) (suc n) ≡ (link n).arc ∷ chain link n (link n).before
 chain_here link n = cond-true _ _ _ (eq-eqb (suc n) (suc n) refl)
@@ -152,7 +151,6 @@ module _ (lasts : List ℕ) (joins : List Join) (previous : List PreviousJoins) 
   same_length = length-set (set lasts j.from (length after)) j.to (length after)
       ∙ length-set lasts j.from (length after)
 
-  -- The links of earlier joins stay as they were.
   old_link : (label i : ℕ) → i < count →
       link_at joins after label i ≡ link_at joins previous label i
   old_link label i low =

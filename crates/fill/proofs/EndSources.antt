@@ -108,7 +108,8 @@ put_length cols (Some p) (Some h) heights = length-set heights (index_of cols p)
 abbrev IsEndNode : Terrain → Cutting → ℕ → ℤ → Type 0
 IsEndNode t c a h = (p : Place) × (index_of c.cols p ≡ a) × IsEnd t p × (height_at t p ≡ Some h)
 
--- Each height is an end cell's; each label of the first `count` tiles that is one has its height.
+-- Each height is an end cell's. Each label of the first `count` tiles that is an end cell has its
+-- height, at its node.
 pub record HaveEnds (t : Terrain) (c : Cutting) (floods : List Flood) (count : ℕ)
     (heights : List (Option ℤ)) : Type 0 where
   pub size : length heights ≡ c.cols * c.rows

@@ -18,7 +18,6 @@ use Rattle.cell_floods.specs.TileFlood.{Flood, IsFlood}
 use Rattle.fill.specs.Numbers.{AreFirsts, first_of, places_of}
 use Rattle.fill.specs.Spills.{AreFloods}
 
--- The list of one more tile comes after those of the tiles before it.
 pub flat_more : {X : Type 0} (g : Flood → List X) (floods : List Flood) (i : ℕ) (f : Flood) →
     i < length floods → f ≡ get_or floods i f →
     flat_map g (take (i + 1) floods) ≡ flat_map g (take i floods) ++ g f
@@ -27,7 +26,8 @@ flat_more g floods i f low is =
     ∙ flat_map-append g (take i floods) (get_or floods i f ∷ [])
     ∙ ap (λ z. flat_map g (take i floods) ++ z) (append-nil (g (get_or floods i f)) ∙ ap g (sym is))
 
--- The first numbers of `count` tiles, whose numbers fit in 32 bits, and that of the next tile.
+-- The first numbers of the first `count` tiles and of the next tile. All numbers of the first
+-- `count` tiles fit in 32 bits.
 pub record AreFirstNumbers (floods : List Flood) (count : ℕ) (firsts : List ℕ) (next : ℕ) :
     Type 0 where
   pub size : length firsts ≡ count

@@ -33,7 +33,6 @@ use Rattle.fill.proofs.LabelGraphs.{leads_back}
 use Rattle.fill.proofs.Numbered.{AreLawful, IsNumbered, numbered, number_below, number_label, has_mark, ends_length, fit_of}
 use Rattle.fill.proofs.Rims.{neighbour_back, level_has_data, list_there, among_is}
 
--- Whether both labels are sources does not depend on their order.
 and_turned : (a b : Bool) → (a && b) ≡ (b && a)
 and_turned true true = refl
 and_turned true false = refl
@@ -83,7 +82,6 @@ meets_turned c floods out p q j m = record {
   greater = max_comm m.to_level m.from_level ∙ m.greater;
 }
 
--- Of two places one comes after the other.
 after_cases : (p q : Place) → p ≢ q → IsAfter p q ⊎ IsAfter q p
 after_cases p q differ = elim (cases_order p.row q.row) [
   | inr other ↦ elim other [ inl less ↦ inl (inl less) | inr more ↦ inr (inl more) ]
@@ -126,7 +124,6 @@ none_are_sources a b =
     ap (λ (o : Option ℤ). is_some o
     && is_some (get_or none b None)) (get_or_past none a None (omega arith))
 
--- The labels of a tile's flood lie in the grid.
 pub labels_within : (t : Terrain) (c : Cutting) (floods : List Flood) (tile : ℕ) (f : Flood) →
     AreFloods t c floods → slice_get floods tile ≡ Some f → LabelsInside c f
 labels_within t c floods tile f are there k label at = (fit_labels t c tile f are.lawful
@@ -143,7 +140,6 @@ module _ (t : Terrain) (c : Cutting) (floods : List Flood) (are : AreFloods t c 
   mark_data p m x e = level_has_data t c floods are.lawful are p m.level
       (marked_within c floods p m are.lawful fit e) x.level_is
 
-  -- Cells that meet are a pass by number.
   meets_number : (out : LeftOutJoins) (p q : Place) (j : Join) →
       Meets (mark_among c floods) out p q j → IsNumberPass t c floods j.from j.to j.height
   meets_number out p q j m =
@@ -165,7 +161,6 @@ module _ (t : Terrain) (c : Cutting) (floods : List Flood) (are : AreFloods t c 
         greater = m.greater;
       }
 
-  -- A pass by number is two cells that meet, unless the labels are equal or both sources.
   number_meets : (out : LeftOutJoins) (a b : ℕ) (h : ℤ) →
       a ≢ b → are_both_sources out.sources a b ≡ false → (x : IsNumberPass t c floods a b h) →
       Meets (mark_among c floods) out x.from x.to (record { from = a; to = b; height = h })
@@ -180,7 +175,8 @@ module _ (t : Terrain) (c : Cutting) (floods : List Flood) (are : AreFloods t c 
     greater = x.greater;
   }
 
-  -- Labels of a pass, not equal or both sources, have a join as low, or its cells are bypassed.
+  -- If the labels of a pass differ and are not both sources, they have a join at most as high. The
+  -- exception, with `out.bypassed`, is a pass whose cells a third cell bypasses.
   number_cover : (out : LeftOutJoins) (joins : List Join) → AreGathered c floods out joins →
       (a b : ℕ) (h : ℤ) → a ≢ b → are_both_sources out.sources a b ≡ false →
       (x : IsNumberPass t c floods a b h) → ((out.bypassed ≡ true) × (IsBypassed
@@ -227,7 +223,6 @@ module _ (t : Terrain) (c : Cutting) (floods : List Flood) (are : AreFloods t c 
     greater = max_comm x.to_level x.from_level ∙ x.greater;
   }
 
-  -- Each join is a pass by number.
   joins_pass : (out : LeftOutJoins) (joins : List Join) → AreGathered c floods out joins →
       (j : Join) → Contains joins j → IsNumberPass t c floods j.from j.to j.height
   joins_pass out joins s j there = let m = s.only j there in meets_number out m.0 m.1 j m.3
@@ -292,7 +287,6 @@ module _ (t : Terrain) (c : Cutting) (floods : List Flood) (are : AreFloods t c 
       labels_within t c floods (tile_of_place c p) x.flood are x.there y.0 x.label y.1 in
       index_below c.cols c.rows x.label within.0 within.1
 
-  -- A pass by number is a pass by place.
   place_pass : (nodes : List ℕ) (j : Join) →
       nodes ≡ nodes_of c.cols floods → IsNumberPass t c floods j.from j.to j.height →
       IsPass t c floods (join_at nodes j).from (join_at nodes j).to j.height
@@ -454,7 +448,6 @@ module _ (t : Terrain) (c : Cutting) (floods : List Flood) (are : AreFloods t c 
       rising = low.rising;
     }
 
-    -- The graph by places is the spill graph of the floods.
     pub is_graph_of : (sources : List (Option ℤ)) → AreSourcesOf t c floods sources →
         IsGraphOf t c floods (graph_with c lowest sources)
     is_graph_of sources srcs = record {

@@ -20,7 +20,6 @@ use Rattle.fill.proofs.Adding.{no_join}
 no_arc : (w : Spill) → Contains [] w → ⊥
 no_arc w h = omega (arith, h.1)
 
--- A label with an arc has an entry in the list of arcs.
 pub arc_inside : (arcs : List (List Spill)) (a : ℕ) (w : Spill) → Contains (get_or arcs a []) w →
     a < length arcs
 arc_inside arcs a w h = elim (cases_lt a (length arcs)) [
@@ -29,7 +28,6 @@ arc_inside arcs a w h = elim (cases_lt a (length arcs)) [
       absurd (no_arc w (subst (λ (z : List Spill). Contains z w) (get_or_past arcs a [] past) h))
 ]
 
--- Adding no joins changes no arcs.
 pub no_arcs_added : (arcs : List (List Spill)) → AddsArcs [] arcs arcs
 no_arcs_added arcs = record {
   size = refl;
@@ -43,7 +41,6 @@ no_arcs_added arcs = record {
   );
 }
 
--- A join of two lists together is a join of the first or of the second.
 join_of_both : (first second : List Join) (a b : ℕ) (h : ℤ) → IsJoinOf (first ++ second) a b h
     ↔ (IsJoinOf first a b h ⊎ IsJoinOf second a b h)
 join_of_both first second a b h = (
@@ -193,7 +190,8 @@ module _ (arcs : List (List Spill)) (sources : List (Option ℤ)) where
       let further = walk_back rest step.to (some_has step.to a step.height back) walk.1 in
       ((walk.0, further.0), ap (int_max step.height) further.1)
 
-  -- By all sources a walk from `a` of least crest `level` ends at `label`; or none, both None.
+  -- By all sources, a walk from `a` of least crest `level` ends at `label`. Without a walk both are
+  -- None.
   abbrev IsNodeLevel : ℕ → Option ℤ → Option ℕ → Type 0
   IsNodeLevel a level label =
       MatchOption level (HasNoWalk (HasArc arcs) (source_number sources) a × (label ≡ None)) (λ h.
@@ -225,7 +223,7 @@ module _ (arcs : List (List Spill)) (sources : List (Option ℤ)) where
         low h some [] is = le_of_same _ _ (sym (ap (λ (o : Option ℤ). unwrap_or o (pos 0)) some))
         low h some (step ∷ rest) is = absurd (alone a none step.to step.height is.0)
 
-  -- If `a` has an arc, its least crest and end by joined sources, or None, are so by all sources.
+  -- If `a` has an arc, its `level` and `label` by joined sources are also those by all sources.
   linked_level : (a : ℕ) (level : Option ℤ) (label : Option ℕ) → has_arcs arcs a ≡ true
       → MatchOption level (HasNoWalk (HasArc arcs) (joined_source arcs sources) a
       × (label ≡ None)) (λ h. (end : ℕ) × (label ≡ Some end)

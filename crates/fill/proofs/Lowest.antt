@@ -15,7 +15,6 @@ use Rattle.std.specs.Cmp.{IsTotalOrder}
 use Rattle.fill.specs.Gathering.{Covered, IsBefore, AreLowest, IsRepeat}
 use Rattle.fill.specs.declared.spills.Join.{Join}
 
--- The order of joins: by their labels, and then by height.
 abbrev pub join_order : Join → Join → Ordering
 join_order x y = ordering_then (nat_cmp x.from y.from)
     (ordering_then (nat_cmp x.to y.to) (int_cmp x.height y.height))
@@ -50,7 +49,6 @@ before_from x y (inl a) differ = inl a
 before_from x y (inr (e, inl a)) differ = inr (e, a)
 before_from x y (inr (e, inr a)) differ = absurd (differ e a.0)
 
--- The joins are sorted.
 abbrev pub AreOrdered : List Join → Type 0
 AreOrdered joins = (m n : ℕ) (d : Join) → m ≤ n → n < length joins →
     NotAbove (get_or joins m d) (get_or joins n d)
@@ -70,7 +68,7 @@ pub record HasKept (joins : List Join) (i : ℕ) (lowest : List Join) : Type 0 w
   pub rising : (m n : ℕ) (d : Join) → m < n → n < length lowest →
       IsBefore (get_or lowest m d) (get_or lowest n d)
 
--- If join i repeats the labels before it, the joins kept of the first i are those of i + 1.
+-- If join i has the labels of the join before it, the joins kept do not change.
 pub kept_same : (joins : List Join) (i : ℕ) (lowest : List Join) → AreOrdered joins →
     i < length joins → HasKept joins i lowest → IsRepeat joins i → HasKept joins (i + 1) lowest
 kept_same joins i lowest order below s repeat = record {
@@ -92,7 +90,7 @@ kept_same joins i lowest order below s repeat = record {
   height_up x y (inr (g, inl a)) e f = absurd (omega (arith, a, f))
   height_up x y (inr (g, inr a)) e f = a.1
 
--- If join i repeats none, it and the joins kept of the first i are those kept of i + 1.
+-- If join i is no repeat, it is kept too.
 pub kept_more : (joins : List Join) (i : ℕ) (x : Join) (lowest : List Join) → AreOrdered joins →
     i < length joins → x ≡ get_or joins i x → HasKept joins i lowest → (IsRepeat joins i → ⊥) →
     HasKept joins (i + 1) (lowest ++ x ∷ [])

@@ -40,7 +40,8 @@ module _ (t : Cutting) (tile : ℕ) (b : Bounds) (lawful : IsCutting t)
       is (omega (arith, at, inside)) ∙ ap (λ k. (b.top + b.rows) / t.side * across t + k) col
       ∙ ap (λ k. k / t.side * across t + tile_col) (sym at)
 
-  -- By its column, a place's tile is `first`, which has its row, or the one after or before that.
+  -- `first` is the tile with the row of place p, in the column of tiles of `tile`. By the column of
+  -- p, its tile is `first`, the tile after it or the tile before it.
   module _ (p : Place) (first : ℕ) (within : IsWithin t p)
       (is : IsTileWithRow t tile p.row first) where
     pub tile_there : b.left ≤ p.col → p.col < b.left + b.cols → first ≡ tile_of_place t p

@@ -158,7 +158,6 @@ pub number_below : (c : Cutting) (floods : List Flood) (p : Place) (m : CellLabe
 number_below c floods p m lawful e = let x = numbered c floods p m lawful e in
     some_below (places_of floods) m.node x.label (number_label c floods p m x)
 
--- A cell with a level and a label has a mark.
 pub has_mark : (c : Cutting) (floods : List Flood) (p : Place)
     (level : ℤ) (label : Place) (f : Flood) → slice_get floods (tile_of_place c p) ≡ Some f →
     level_among c floods p ≡ Some level → label_among c floods p ≡ Some label
@@ -187,7 +186,7 @@ number_mark None a e = absurd (cc)
 number_mark (Some m) a e =
     (m.level, ap (λ n. Some (record { level = m.level; node = n })) (same_Some m.node a e))
 
--- The spill graph by numbers is a net of labels, as raising needs.
+-- The spill graph by numbers is an `IsLabelNet`.
 module _ (t : Terrain) (c : Cutting) (floods : List Flood) (are : AreFloods t c floods)
     (lawful : AreLawful floods) (arcs : List (List Spill)) (sources : List (Option ℤ))
     (graph : IsNumberGraph t c floods arcs sources) where

@@ -46,7 +46,6 @@ use Rattle.tile_maps.specs.Maps.{IsMadeMap, IsMadeTile}
 use Rattle.tile_maps.proofs.Whole.{map_of_size, tile_of_entries}
 use Rattle.drainage.proofs.FilledTwice.{filled_twice}
 
--- `AreEntries` holds of an empty list.
 pub no_entries : (entry : ℕ → Option ℤ) (list : List (Option ℤ)) → list ≡ [] →
     AreEntries entry 0 list
 no_entries entry list none = record {
@@ -71,14 +70,14 @@ pub all_entries : (entry : ℕ → Option ℤ) (i count : ℕ) (list : List (Opt
 all_entries entry i count list below past s =
     subst (λ n. AreEntries entry n list) (omega (arith, below, past)) s
 
--- A height raised by a label is the same if the height is first made None without a label.
+-- To make a height None where there is no label does not change the raised height.
 raised_where : (c : Cutting) (levels : List (Option ℤ)) (height : ℤ) (label : Option Place) →
     greater_of (Some height) (spill_of c levels label)
     ≡ raised_by c levels (option_map (λ _. height) label) label
 raised_where c levels height None = refl
 raised_where c levels height (Some p) = refl
 
--- Each cell gets the same from `heights`, `labels` and `spills` as from the flood and `levels`.
+-- `heights`, `labels` and `spills` give each cell the raised height that `f` and `levels` give.
 pub record IsRaisedBy (c : Cutting) (f : Flood) (levels : List (Option ℤ)) (heights : List ℤ)
     (labels : List ℕ) (spills : List (Option ℤ)) : Type 0 where
   pub heights_size : length heights ≡ length f.labels
@@ -134,7 +133,7 @@ raised_by_table c f places cells heights levels spills raised are table where_is
           ∙ by.each i (omega (arith, low, same));
     }
 
--- A raised height, as a cell, is the same if the label's least crest is stored as a cell first.
+-- To store a least crest as a cell first does not change the stored raised height.
 greater_stored : (h : ℤ) (spill : Option ℤ) → h ≤ℤ no_data →
     cell_of (greater_of (Some h) (cell_of spill)) ≡ cell_of (greater_of (Some h) spill)
 greater_stored h None low = refl
@@ -147,7 +146,7 @@ greater_stored h (Some z) low = elim (cases_Bool (int_eq z no_data)) [
   | inr other ↦ ap (λ (o : Option ℤ). cell_of (greater_of (Some h) o)) (cond-false _ _ _ other)
 ]
 
--- A raised height of a tile, as a cell, is the same if least crests are stored as cells first.
+-- The lists of a raised tile give each cell the raised height that the flood and `levels` give.
 pub raised_stored : (first : ℕ) (f : Flood) (levels : List (Option ℤ)) (x : RaisedTile) (i : ℕ) →
     IsRaisedTile first f levels x → i < length f.labels → get_or x.heights.now i (pos 0) ≤ℤ no_data
     → cell_of (greater_of
@@ -183,7 +182,6 @@ raised_stored first f levels x i tile below low =
     spill_by None level h k listed is = rw (← listed, is) refl
     spill_by (Some p) level h k listed is = rw (← listed, is) refl
 
--- The indexes of a tile's labels are below the length of its list of least crests.
 pub stored_inside : (first : ℕ) (f : Flood) (levels : List (Option ℤ)) (x : RaisedTile) →
     IsRaisedTile first f levels x → All (λ k. k < length x.spills.items) x.labels.now
 stored_inside first f levels x tile i d below =
@@ -195,7 +193,7 @@ stored_inside first f levels x tile i d below =
       tile.spills.size,
     )
 
--- The raised height of a place, by the least crests of labels by place.
+-- The raised height of a place; `levels` has the least crests of labels by place.
 abbrev placed_among : Cutting → List Flood → List (Option ℤ) → Place → Option ℤ
 placed_among c floods levels p =
     raised_by c levels (level_among c floods p) (label_among c floods p)
@@ -287,7 +285,7 @@ label_inside t c floods p label are e = elim (cases_option (slice_get floods (ti
       labels_within t c floods (tile_of_place c p) f.0 are f.1 entry.0 label entry.1
 ]
 
--- The spill graph by places is a net of labels, as raising needs.
+-- The spill graph by places is an `IsLabelNet`; a label's number is the node of its place.
 place_net : (t : Terrain) (c : Cutting) (floods : List Flood) (g : Graph) →
     AreFloods t c floods → IsGraphOf t c floods g → IsLabelNet t c floods (λ p.
     option_map (index_of c.cols) (label_among c floods p)) (HasJoin g) (source_in g)

@@ -62,7 +62,6 @@ has_tile_level t c floods h are p some =
       right = here.4;
     }
 
--- A cell with a level has data.
 pub level_has_data : (t : Terrain) (c : Cutting) (floods : List Flood) → IsCutting c →
     AreFloods t c floods → (p : Place) (l : ℤ) → IsWithin c p → level_among c floods p ≡ Some l →
     IsDataCell t p
@@ -75,7 +74,7 @@ level_has_data t c floods h are p l within e = elim (cases_option (height_at t p
       none_some _ l (among_is (λ f. level_in f p) floods tile f.0 f.1 ∙ here.0) e
 ]
 
--- A low path from a neighbour gives one from a cell whose height is low.
+-- A low path, of crest at most m, from a neighbour gives one from a cell of height at most m.
 low_step : (t : Terrain) (m : ℤ) (p q : Place) → IsNeighbour t p q → height_of t p ≤ℤ m →
     HasLowPath t m q → HasLowPath t m p
 low_step t m p q next low way =
@@ -145,7 +144,6 @@ level_low t c floods h are p l rest path =
     trans _ _ _ (l.right.least inner.0 (tile_path t c tile h
     (tile_of_place_below c p h within) p inner.0 (within, refl) inner.1)) inner.2
 
--- A source of a tile has its own height as level.
 pub source_level : (t : Terrain) (c : Cutting) (p label : Place) (level : ℤ) →
     IsTileLevel t c p level label → IsTileSource t c p → level ≡ height_of t p
 source_level t c p label level l source =
@@ -158,7 +156,6 @@ end_label t c p label level l end =
     l.own (inr end) (height.1 ∙ ap Some (sym (height_is t p height.0 height.1)
     ∙ sym (source_level t c p label level l (inr end))))
 
--- The last cell of a path is not above its crest.
 last_low : (t : Terrain) (p : Place) (rest : List Place) →
     height_of t (last_of p rest) ≤ℤ crest t p rest
 last_low t p [] = ≤ℤ_refl (height_of t p)
@@ -179,7 +176,6 @@ pub record AreMeeting (t : Terrain) (c : Cutting) (floods : List Flood) (number 
   pub to_is : level_among c floods to ≡ Some to_level
   pub greater : int_max from_level to_level ≡ height
 
--- The places lie in one row or column.
 abbrev IsStraight : Place → Place → Type 0
 IsStraight p q = (p.row ≡ q.row) ⊎ (p.col ≡ q.col)
 
@@ -197,9 +193,9 @@ pub record LeadsRound (t : Terrain) (c : Cutting) (floods : List Flood) (p q : P
   pub bent_row : p.row ≢ q.row
   pub bent_col : p.col ≢ q.col
 
--- The nodes of a net are numbers of labels. Cells that meet are joined at most as high, unless both
--- labels are sources or a third cell bypasses the two. Each join is one of cells that meet, and the
--- sources are the labels that are end cells.
+-- The nodes of a net are numbers of labels. Different labels of neighbouring cells are joined no
+-- higher than the cells meet, unless both are sources or a third cell bypasses the cells. Each join
+-- is one of cells that meet, and the sources are the labels that are end cells.
 pub record IsLabelNet (t : Terrain) (c : Cutting) (floods : List Flood) (number : Place → Option ℕ)
     (joins : Joins) (source : Sources) : Type 0 where
   pub some : (p : Place) → IsDataCell t p → (a : ℕ) × (number p ≡ Some a)
@@ -218,7 +214,7 @@ pub record IsLabelNet (t : Terrain) (c : Cutting) (floods : List Flood) (number 
 module _ (t : Terrain) (c : Cutting) (floods : List Flood) (h : IsCutting c)
     (are : AreFloods t c floods) (number : Place → Option ℕ) (joins : Joins) (source : Sources)
     (net : IsLabelNet t c floods number joins source) where
-  -- If a cell's label is a source, it has a walk of crest at most any bound on the cell's level.
+  -- If a cell's label is a source, the label has a walk of crest at most any bound on the level.
   source_walk : (p : Place) (a : ℕ) (l : HasTileLevel t c floods p) (m : ℤ) →
       IsDataCell t p → number p ≡ Some a → l.level ≤ℤ m → IsSome (source a) → (walk : List Spill)
       × IsWalk joins source a walk × (walk_crest source a walk ≤ℤ m)
@@ -242,7 +238,8 @@ module _ (t : Terrain) (c : Cutting) (floods : List Flood) (h : IsCutting c)
   HasLowWalk a m = (walk : List Spill) × IsWalk joins source a walk
       × (walk_crest source a walk ≤ℤ m)
 
-  -- If both levels are at most m, a low walk from q's label gives one from p's, if bypasses do.
+  -- If the levels of neighbours p and q are at most m, a low walk from q's label gives one from p's
+  -- label. Where a third cell bypasses p and q, a premise gives the walk from p's label.
   walk_over : (p q : Place) (a b : ℕ) (m : ℤ) (l : HasTileLevel t c floods p)
       (k : HasTileLevel t c floods q) → IsNeighbour t p q → number p ≡ Some a → number q ≡ Some b →
       l.level ≤ℤ m → k.level ≤ℤ m

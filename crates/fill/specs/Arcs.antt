@@ -1,5 +1,5 @@
--- The arcs of each label, as linked lists over one list of joins. For each join, `previous` has the
--- numbers of the joins before it in its two labels' lists. Numbers count from 1, and 0 is none.
+-- The arcs of each label, as linked lists over one list of joins. For each label of a join,
+-- `previous` has the number of the previous join with it. Numbers count from 1, and 0 is none.
 -- Private.
 use Rattle.std.specs.Prelude.{ℕ, zero, suc, ◌≤◌, ◌<◌, ◌==◌, if◌then◌else◌, Bool, true, false, pos, List, [], ◌∷◌, map, length, slice_index_or}
 use Rattle.std.specs.List.{range_with_len}
@@ -9,7 +9,7 @@ use Rattle.fill.specs.declared.spills.Join.{Join}
 use Rattle.fill.specs.declared.arcs.PreviousJoins.{PreviousJoins}
 use Rattle.fill.specs.declared.arcs.Link.{Link}
 
--- The arc of a join from one of its labels, and the join before it in that label's list.
+-- The arc of a join from one of its labels, and the previous join with that label.
 abbrev pub link_from : ℕ → Join → PreviousJoins → Link
 link_from label j b =
     if j.from == label then record { arc = arc_of j; before = b.from }

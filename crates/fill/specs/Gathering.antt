@@ -197,7 +197,8 @@ abbrev pub IsTileWithRow : Cutting → ℕ → ℕ → ℕ → Type 0
 IsTileWithRow c tile row other = other ≡ row / c.side * across c + tile % across c
 
 -- The joins of these pairs of places, the first before the second in row order, have been added,
--- except those left out. Joins of the same labels may have been merged.
+-- except those left out. Joins of the same labels may have been merged. No join of other pairs has
+-- been added.
 pub record Adds (marks : Marks) (out : LeftOutJoins) (pairs : Place → Place → Type 0)
     (old new : List Join) : Type 0 where
   pub kept : (j : Join) → Contains old j → Covered new j

@@ -85,7 +85,7 @@ pub record AreSourcesOf (t : Terrain) (c : Cutting) (floods : List Flood)
   pub size : length sources ≡ c.cols * c.rows
   pub right : (g : Graph) → g.sources ≡ sources → AreSpillSources t c floods g
 
--- The spill graph of these floods. A node is the index of a label's place in row order.
+-- The spill graph of these floods. Its nodes are the indexes of the grid's places in row order.
 pub record IsGraphOf (t : Terrain) (c : Cutting) (floods : List Flood) (g : Graph) : Type 0 where
   pub count : g.nodes ≡ c.cols * c.rows
   pub joined : (a b : ℕ) (h : ℤ) → a ≢ b → IsPass t c floods a b h →
@@ -122,7 +122,8 @@ pub record AreEntries (entry : ℕ → Option ℤ) (count : ℕ) (list : List (O
   pub size : length list ≡ count
   pub each : (k : ℕ) → k < count → slice_index_or list k None ≡ entry k
 
--- The greater of each height and its entry of `spills`, None if that is; `labels` has the indexes.
+-- The greater of each height and the entry of `spills` whose index `labels` has. None if that entry
+-- is None.
 abbrev pub AreGreater : List ℤ → List ℕ → List (Option ℤ) → List (Option ℤ) → Type 0
 AreGreater heights labels spills raised =
     AreEntries (λ i. greater_of (Some (slice_index_or heights i (pos 0)))

@@ -15,14 +15,14 @@ use std::marker::Model;
 /// The end of a list. Here joins are numbered from 1.
 const NO_JOIN: usize = 0;
 
-/// The joins before a join, in the lists of its two labels.
+/// For each label of a join, the number of the previous join with that label, or [`NO_JOIN`].
 #[derive(Clone, Copy)]
 struct PreviousJoins {
     from: usize,
     to: usize,
 }
 
-/// A join's arc from one of its labels, and the join before it in the label's list.
+/// A join's arc from one of its labels, and the previous join with that label.
 #[derive(Clone, Copy)]
 struct Link {
     arc: Spill,
@@ -74,7 +74,7 @@ impl Model for ArcLists {
 }
 
 impl ArcLists {
-    /// Makes lists for `labels` labels; each join is an arc from both of its labels.
+    /// Makes lists for `labels` labels; each join gives an arc from each of its two labels.
     pub(crate) fn of_joins(
         alloc: Global,
         labels: usize,
@@ -117,7 +117,6 @@ impl ArcLists {
         self.lasts[label as usize] != NO_JOIN
     }
 
-    /// Returns the arcs from a label.
     pub(crate) fn arcs(&self, alloc: Global, label: u32) -> Result<SmallVec<Spill, 8>, AllocError>
         requires { label < length self.now }
         ensures { IfOk result (λ v. v.items ≡ slice_index_or self.now label []) }
@@ -132,7 +131,7 @@ impl ArcLists {
         Ok(arcs)
     }
 
-    /// Queues each neighbour of `from` that has no label and whose crest gets lower.
+    /// Queues each neighbour of `from` that has no source in `labels` and whose crest gets lower.
     #[inline]
     pub(crate) fn spread(
         &self,

@@ -31,7 +31,7 @@ use tile_jobs::{Gate, JobFault, Work};
 use tile_maps::Runner;
 use tiles::Tiling;
 
-/// A tile's flood, and the joins inside the tile, except those left out.
+/// A tile's flood, and the joins inside the tile, except those that [`LeftOut`] names.
 #[derive(Drop)]
 struct FloodWithJoins {
     flood: TileFlood,
@@ -75,7 +75,6 @@ impl<'a> Work for FloodJobs<'a> {
     }
 }
 
-/// Splits the results into the floods and the lists of joins.
 fn into_lists(
     alloc: Global,
     tiles: Vec<FloodWithJoins>,

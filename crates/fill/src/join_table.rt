@@ -8,9 +8,9 @@ use crate::spills::Join;
 use std::alloc::{AllocError, Global};
 use std::marker::Model;
 
-/// Slots at first for each row and column; the sum is rounded up to a power of two.
+/// The first number of slots for each row and column, before rounding up to a power of two.
 ///
-/// Enough for most tiles, and no more, since the job of each tile clears all slots.
+/// It is enough for most tiles. More slots would cost time, since each tile's job writes them all.
 const SLOTS_A_LINE: usize = 16;
 
 /// The first capacity for joins, for each row and column, so that few lists grow.
@@ -40,7 +40,7 @@ impl Model for JoinTable {
     ghost view = { λ table. table.joins.items };
 }
 
-/// Returns the slot of two labels at a probe: first their own, then those after.
+/// Returns the slot `probe` slots after the own slot of two labels, wrapping round at the end.
 /// Fibonacci hashing spreads labels: they are indexes into a table, and many are close together.
 #[inline(always)]
 fn slot_of(from: u32, to: u32, probe: usize, slots: usize) -> usize
@@ -56,7 +56,7 @@ fn slot_of(from: u32, to: u32, probe: usize, slots: usize) -> usize
     (own.wrapping_add(probe) & (slots - 1)).min(slots - 1)
 }
 
-/// Returns the slot of the join with these labels, or a free one.
+/// Returns the slot of a listed join with the labels of `join`, or a free slot.
 /// Returns the labels' own slot if [`MOST_PROBES`] slots hold other joins.
 #[inline(always)]
 fn slot_for(joins: &[Join], slots: &[usize], join: Join) -> usize
@@ -75,7 +75,6 @@ fn slot_for(joins: &[Join], slots: &[usize], join: Join) -> usize
     slot_of(join.from, join.to, 0, slots.len())
 }
 
-/// Writes the index of each join into its slot.
 fn fill_slots(joins: &[Join], slots: &mut [usize])
     requires { 0 < length slots.old }
     ensures { length slots.new ≡ length slots.old }
@@ -86,8 +85,8 @@ fn fill_slots(joins: &[Join], slots: &mut [usize])
     }
 }
 
-/// Lowers the join at an index to `join`, if that is lower and has its labels.
-/// Returns whether the labels are the same; `false` if there is no join at the index.
+/// Replaces the join at index `at` by `join`, if both have the same labels and `join` is lower.
+/// Returns whether both have the same labels; `false` if there is no join at the index.
 #[inline(always)]
 fn lowers(joins: &mut Vec<Join>, at: usize, join: Join) -> bool
     ensures lowered { OnTrue result (AddsCovered joins.old.items (join ∷ []) joins.new.items) }
@@ -107,7 +106,7 @@ fn lowers(joins: &mut Vec<Join>, at: usize, join: Join) -> bool
 }
 
 impl JoinTable {
-    /// Makes a table for a tile, whose rows and columns add up to `lines`.
+    /// Makes a table for a tile whose rows and columns add up to `lines`.
     pub(crate) fn new(alloc: Global, lines: u32) -> Result<Self, AllocError>
         requires { lines ≤ 8192 }
         ensures { IfOk result (λ table. table ≡ []) }
@@ -126,7 +125,7 @@ impl JoinTable {
     fn grow(&mut self) -> Result<(), AllocError>
         ensures { OnOk result (self.new ≡ self.old) }
     {
-        // Never saturates, but a plain product needs a bound from the prover.
+        // Never saturates, but a plain product would need a proof that it fits.
         let count = self.slots.len().saturating_mul(2);
         let mut slots = vec![in self.alloc; usize::MAX; count]?;
         fill_slots(&self.joins, &mut slots);
@@ -134,7 +133,7 @@ impl JoinTable {
         Ok(())
     }
 
-    /// Doubles the slots if there are more than half as many joins.
+    /// Doubles the number of slots if there are more than half as many joins as slots.
     #[inline(always)]
     fn make_room(&mut self) -> Result<(), AllocError>
         ensures { OnOk result (self.new ≡ self.old) }
@@ -145,7 +144,7 @@ impl JoinTable {
         self.grow()
     }
 
-    /// Returns the joins without spare capacity: those of all tiles live at once.
+    /// Returns the joins without spare capacity, since the joins of all tiles are kept at once.
     pub(crate) fn into_joins(self) -> Vec<Join>
         ensures { result.items ≡ self }
     {

@@ -14,7 +14,8 @@ use terrain::Cell;
 /// joins of cells that touch at a corner, where the detour by a third cell is as low.
 #[derive(Drop)]
 pub(crate) struct LeftOut<'a> {
-    /// The heights of end cells by label number; for other labels no data, or no entry.
+    /// The height of each label that is an end cell; no data or no entry for another label.
+    /// Labels are indexed as the joins have them: in one tile's table, or over all tiles.
     pub(crate) sources: &'a [Cell],
     pub(crate) bypassed: bool,
 }
@@ -50,7 +51,6 @@ fn is_source(sources: &[Cell], node: u32) -> bool
     }
 }
 
-/// Returns whether both labels have heights in `sources`.
 #[inline(always)]
 fn are_both_sources(sources: &[Cell], from: u32, to: u32) -> bool
     ensures { result ≡ are_both_sources sources.now from to }
@@ -58,7 +58,7 @@ fn are_both_sources(sources: &[Cell], from: u32, to: u32) -> bool
     is_source(sources, from) && is_source(sources, to)
 }
 
-/// Returns the join of two marks with different labels, unless both are sources.
+/// Returns the join of two marks with different labels, unless both labels are sources.
 #[inline(always)]
 pub(crate) fn join_of(sources: &[Cell], from: CellLabel, to: Option<CellLabel>) -> Option<Join>
     ensures { joins_of sources.now from to ≡ option_to_list result }
@@ -78,8 +78,8 @@ pub(crate) fn join_of(sources: &[Cell], from: CellLabel, to: Option<CellLabel>) 
 }
 
 /// Returns whether to leave out the join of two cells that touch at a corner.
-/// With `bypassed`, true if the level of the cell between is at most that of one of the two. Then
-/// its joins with both are as low.
+/// With `bypassed`, true if the level of the cell between is at most the greater of theirs. Then
+/// the joins of the cell between with both are as low.
 #[inline(always)]
 pub(crate) fn is_left_out(
     left_out: &LeftOut<'_>,

@@ -4,13 +4,14 @@
 //! the full graph; [`filled`] leaves out two kinds of joins that lower no filled height. The items
 //! of `cell_floods` and `floods` that single stages need are exported here.
 //!
-//! Modules: first `filling`, then the parts of `filled`, last those of the graph by places:
+//! Modules: first `filling`, then the other parts of [`filled`], last those of [`SpillGraph`] and
+//! [`raise`]:
 //!
 //! - `filling`: `filled`, which runs all stages
 //! - `numbers`: the numbers of labels, and the heights of end cells by number
 //! - `marks`: the level and the label of a cell
 //! - `left_out`: which joins are left out, since they lower no filled height
-//! - `rim_cells`: the joins of cells that have a neighbour after them off the tile
+//! - `rim_cells`: the joins of cells in a tile's last row, first column and last column
 //! - `join_table`: the joins of one tile, by their labels
 //! - `inner_joins`: the joins inside a tile
 //! - `rim_joins`: the joins over a tile's rim

@@ -28,7 +28,6 @@ fn node_or_first(tiling: &Tiling, label: Option<Place>) -> u32
     }
 }
 
-/// Adds the nodes of these labels.
 fn push_nodes(
     nodes: &mut Vec<u32>,
     tiling: &Tiling,
@@ -44,7 +43,7 @@ fn push_nodes(
     Ok(())
 }
 
-/// Returns the node of each label, by number.
+/// Returns the node of each label by number, and 0 for an entry without a label.
 pub(crate) fn label_nodes(
     alloc: Global,
     tiling: &Tiling,
@@ -60,7 +59,7 @@ pub(crate) fn label_nodes(
     Ok(nodes)
 }
 
-/// Returns the join of the places of two labels; `None` if they are one place.
+/// Returns a join by the nodes of its labels' places; `None` if they are one place.
 #[inline(always)]
 fn place_join(join: Join, nodes: &[u32]) -> Option<Join>
     requires from { join.from < length nodes.now }
@@ -79,7 +78,7 @@ fn place_join(join: Join, nodes: &[u32]) -> Option<Join>
     Some(placed)
 }
 
-/// Returns these joins by place, in both directions, without those of one place.
+/// Returns these joins by place, in both directions, without joins of a place with itself.
 pub(crate) fn placed_joins(
     alloc: Global,
     joins: &[Join],

@@ -16,7 +16,7 @@ use terrain::{Cell, Height, NoMemory, Place};
 use tile_maps::TileMap;
 use tiles::Tiling;
 
-/// A tile's levels, and the least crests in the spill graph of its table's labels.
+/// A tile's levels and label indexes, and its labels' least crests in the spill graph.
 #[derive(Drop)]
 struct RaisedTile<'a> {
     heights: &'a [Height],
@@ -36,7 +36,7 @@ fn cell(height: Option<Height>) -> Cell
     }
 }
 
-/// Returns the least crest of a label as a cell, without data if `label` is `None`.
+/// Returns the least crest of a label as a cell, without data if there is no label or no crest.
 #[inline(always)]
 fn spill_cell(levels: &LabelLevels, number: usize, label: Option<Place>) -> Cell
     requires { number < length levels.now }
@@ -119,7 +119,7 @@ impl<'a> RaisedTile<'a> {
     }
 }
 
-/// The map of filled heights, by the floods and least crests of the spill graph.
+/// The map of filled heights, made from tile floods and the least crests of labels.
 #[derive(Drop)]
 pub(crate) struct RaisedTiles {
     pub(crate) tiling: Tiling,

@@ -26,7 +26,6 @@ fn spill(tiling: &Tiling, levels: &[Option<Height>], label: Option<Place>) -> Op
     levels[node_of(tiling, label) as usize]
 }
 
-/// Returns the least crests of these labels in the spill graph.
 fn spills_of(
     alloc: Global,
     tiling: &Tiling,
@@ -44,7 +43,7 @@ fn spills_of(
     Ok(spills)
 }
 
-/// Returns the greater of a level and its label's least crest; `None` if that is.
+/// Returns the greater of a cell's level and its label's least crest; `None` without a crest.
 #[inline(always)]
 fn greater(height: Height, spill: Option<Height>) -> Option<Height>
     ensures { result ≡ greater_of (Some height) spill }

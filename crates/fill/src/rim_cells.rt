@@ -1,6 +1,6 @@
 //! The joins of cells whose four places after them are not all in the tile: [`push_rim_cells`].
 //!
-//! A [`MarkedCells`] has the mark, level and label, of each cell, and selects cells to join with.
+//! A [`MarkedCells`] has the mark (level and label) of each cell, and selects cells to join with.
 ghost use Rattle.std.specs.Prelude.{◌≡◌, ◌+◌, ◌<◌, ◌≤◌, ◌∷◌, [], List, Bool, Some, true, OnOk};
 ghost use Rattle.terrain.specs.declared.place.Place.{Place};
 ghost use Rattle.tiles.specs.Cutting.{IsInBounds, IsWithinLimits};
@@ -29,16 +29,16 @@ pub(crate) trait MarkedCells {
         ensures { result ≡ wanted self.now place };
 }
 
-/// A list to which joins are added.
 pub(crate) trait JoinList {
     ghost joins: { Self → List Join };
 
-    /// Adds a join, or lowers a listed one of the same labels to it if that is higher.
+    /// Adds a join. Of the new join and a listed join of the same labels, a list may keep only the
+    /// lower.
     fn add(&mut self, join: Join) -> Result<(), AllocError>
         ensures { OnOk result (AddsCovered (joins self.old) (join ∷ []) (joins self.new)) };
 }
 
-/// Adds the join of two marks with different labels, unless both are sources.
+/// Adds the join of two marks with different labels, unless both labels are sources.
 #[inline(always)]
 pub(crate) fn push_join<J: JoinList>(
     joins: &mut J,
@@ -149,7 +149,7 @@ fn push_row<C: MarkedCells, J: JoinList>(
     Ok(())
 }
 
-/// Adds the wanted joins of those cells of a row whose four places after are not all in the tile.
+/// Adds the wanted joins of a row's cells whose four places after them are not all in the tile.
 /// These are all cells of the tile's last row, and the first and last cell of any other row.
 pub(crate) fn push_rim_cells<C: MarkedCells, J: JoinList>(
     joins: &mut J,

@@ -49,7 +49,6 @@ fn is_near(bounds: Bounds, place: Place) -> bool
 }
 
 impl<'a> CellsAround<'a> {
-    /// Makes the cells around a tile with these bounds.
     fn new(tiles: &'a NumberedFloods<'a>, tile: u32, bounds: Bounds) -> Self
         requires tile { tile < tile_count tiles.now.tiling.now }
         requires bounds { bounds ≡ bounds_of tiles.now.tiling.now tile }
@@ -96,8 +95,8 @@ impl<'a> CellsAround<'a> {
         }
     }
 
-    /// Returns the tile of a place of the grid.
-    /// Near this tile, where all neighbours after its cells lie, it does not divide.
+    /// Returns the tile of a place of the grid, without a division if the place is near this tile.
+    /// All neighbours after this tile's cells are near it.
     #[inline(always)]
     fn tile_of(&self, place: Place) -> u32
         requires { IsWithin self.now.tiles.now.tiling.now place }
@@ -152,7 +151,7 @@ impl JoinList for Vec<Join> {
     }
 }
 
-/// Adds joins of a tile's cells to cells after them off it, except those left out.
+/// Adds the joins of a tile's cells with later cells of other tiles, except those left out.
 pub(crate) fn push_rim_joins(
     joins: &mut Vec<Join>,
     tiles: &NumberedFloods<'_>,

@@ -46,7 +46,7 @@ fn put_ends(heights: &mut Vec<Option<Height>>, tiling: &Tiling, flood: &TileFloo
     }
 }
 
-/// Returns the heights of labels that are end cells, in row order of the grid.
+/// Returns, for each place in row order of the grid, its height if it is a label and an end cell.
 pub(crate) fn label_sources(
     alloc: Global,
     tiling: &Tiling,

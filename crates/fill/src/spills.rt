@@ -24,6 +24,7 @@ use terrain::{Height, NoMemory};
 use tiles::Tiling;
 
 /// Two joined labels, and the height in units at which water passes between them.
+/// A label is given by its index in a tile's table, its number or the node of its place.
 #[derive(Clone, Copy, Debug, PartialEq, Eq, PartialOrd, Ord)]
 pub struct Join {
     pub from: u32,
@@ -117,7 +118,6 @@ fn end_of(joins: &[Join], start: usize, node: u32) -> usize
     end
 }
 
-/// Returns the arcs of these joins.
 fn arcs_of(alloc: Global, joins: &[Join]) -> Result<SmallVec<Spill, 8>, AllocError>
     ensures { IfOk result (λ v. v.items ≡ map arc_of joins.now) }
 {

@@ -13,14 +13,15 @@ use Rattle.std.proofs.lemmas.List.Elements.{All-contains, All-contains_itself}
 use Rattle.std.proofs.lemmas.List.Sorted.{Contains-permutation, IsPermutation-sym}
 use Rattle.std.proofs.lemmas.Option.{same_Some}
 
--- Some walk from the entry's node has its height as crest and ends at its label.
+-- Some walk from the entry's node has the entry's height as crest and ends at the entry's label.
 abbrev pub HasWalk : Joins → Sources → Candidate → Type 0
 HasWalk joins source w =
     (walk : List Spill) × IsWalk joins source w.node walk × (crest source w.node walk ≡ w.height.0)
     × (end_of w.node walk ≡ w.label)
 
--- The invariant of a flood: nodes with labels have final levels, and each entry has a walk. Of the
--- other nodes, each source and each neighbour of a node with a label has an entry low enough.
+-- The invariant of a flood: nodes with labels have final levels, and each entry has a walk. Each
+-- source without a label has an entry, at most at its height. Each unlabelled neighbour of a node
+-- with a label has an entry, at most at its crest by that node.
 pub record IsFlooding (joins : Joins) (source : Sources) (nodes : ℕ) (levels : List (Option ℤ))
     (labels : List (Option ℕ)) (waiting : List Candidate) : Type 0 where
   pub levels_size : length levels ≡ nodes
@@ -64,7 +65,6 @@ replicated x zero k = refl
 replicated x (suc n) zero = refl
 replicated x (suc n) (suc k) = replicated x n k
 
--- After entry x is added, the queue contains x and each old entry.
 pub held_in : {x : Candidate} {old new : List Candidate} → PutsIn x old new → (y : Candidate) →
     Contains (x ∷ old) y → Contains new y
 held_in {x} {old} {new} perm y h = Contains-permutation (x ∷ old) new y perm h
@@ -119,7 +119,6 @@ first_open labels old now rest x s perm bound is_open =
           ]);
     }
 
--- If only entries of nodes with labels left and the queue is empty, all old entries were such.
 pub all_done : (labels : List (Option ℕ)) (old now : List Candidate) → OnlyDoneLeft labels old now →
     HasNone now → All (IsDone labels) old
 all_done labels old now s none = all_by_contains (IsDone labels) old (λ y h.
@@ -185,7 +184,6 @@ source_more source n h now new w s is node label height perm = record {
   ];
 }
 
--- Levels that are all `None` note the sources below node 0, which are none.
 pub none_noted : (source : Sources) (nodes : ℕ) → HasSourcesNoted 0 source (replicate nodes None)
 none_noted source nodes = record {
   each = λ a below. absurd (omega (arith, below));

@@ -25,7 +25,6 @@ where-at (m ∷ marks) [] i e = absurd (omega (arith, e))
 where-at (m ∷ marks) (h ∷ heights) zero e = refl
 where-at (m ∷ marks) (h ∷ heights) (suc i) e = where-at marks heights i (omega (arith, e))
 
--- A marked number is a height, also if it is `lack`.
 pub noted_marked : (m : Bool) (h : ℤ) → m ≡ true → noted m h ≡ Some h
 noted_marked m h is = cond-true _ _ _ is
 
@@ -65,7 +64,6 @@ pub where-lacking : (n : ℕ) →
 where-lacking zero = refl
 where-lacking (suc n) = ap (λ z. None ∷ z) (where-lacking n)
 
--- A truth value of which `T` holds is `true`.
 true_from : (b : Bool) → T b → b ≡ true
 true_from true h = refl
 true_from false h = absurd h
@@ -105,7 +103,6 @@ no_higher_is marks heights seen i h size view s =
     ∙ ap (λ (l : List (Option ℤ)). get_or l i None) view ∙ s.1 in
     (ap is_some here, subst (λ z. z ≤ℤ h) (sym (from_noted _ _ s.0 here)) s.2)
 
--- A stored number is also the number stored for its entry, marked or not.
 stored_number : (m : Bool) (h : ℤ) → h ≡ height_or_lack (noted m h)
 stored_number true h = refl
 stored_number false h = elim (cases_Bool (int_eq h lack)) [

@@ -48,7 +48,7 @@ passed_low labels levels from arc waiting h s noted low = passed labels from arc
     let x = s.queue arc.to h none noted in
     (x.0, x.1, x.2, trans _ _ _ x.3 low))
 
--- Where the neighbour's entry by an arc was added to the queue, the arc was followed (`Queues`).
+-- `Queues` holds of an arc once the neighbour's entry by this arc is added to the queue.
 pub neighbour_queued : (labels : List (Option ℕ)) (from : Candidate) (arc : Spill) (old new :
     List Candidate) → PutsIn (candidate_by from arc) old new → Queues labels from (arc ∷ []) old new
 neighbour_queued labels from arc old new perm = record {
@@ -160,7 +160,7 @@ no_arcs labels from waiting = record {
   reached = λ k d below. absurd (omega (arith, below));
 }
 
--- Where some arcs were followed, and then others, all of them were followed.
+-- If `Queues` holds of some arcs, and then of others, it holds of all of them.
 pub more_arcs : (labels : List (Option ℕ)) (from : Candidate)
     (arcs last : List Spill) (old now new : List Candidate) → Queues labels from arcs old now →
     Queues labels from last now new → Queues labels from (arcs ++ last) old new

@@ -14,11 +14,9 @@ use Rattle.floods.specs.declared.queue.Candidate.{Candidate}
 use Rattle.floods.specs.Flood.{candidate_order, entries_of, all_entries, AreOrdered, IsListed, PutsIn, HasNone}
 use Rattle.floods.proofs.Heaps.{all_by_contains, replicated}
 
--- An entry not less than another by `candidate_order` is at most as high.
 order_le : (x y : Candidate) → is_lt (candidate_order x y) ≡ false → x.height.0 ≤ℤ y.height.0
 order_le x y e = by_lt_z y.height.0 x.height.0 (λ less. absurd (grind arith)) (λ h. h)
 
--- An entry that is an upper bound of others by `candidate_order` is at most as high as each.
 pub above_top : (w : Candidate) (others : List Candidate) → IsUpperBound candidate_order w others →
     All (λ x. w.height.0 ≤ℤ x.height.0) others
 above_top w others upper =
@@ -83,7 +81,6 @@ put_in_heap x lists old new perm =
     IsPermutation-trans _ _ _ (IsPermutation-sym _ _ (IsPermutation-middle low x old))
     (IsPermutation-append_right low (x ∷ old) new perm)
 
--- If `end` is at most `first` and the heap is empty, the queue has no entry.
 pub all_empty : (base : ℤ) (first end : ℕ) (lists : List (List Candidate))
     (others : List Candidate) → AreOrdered base first end lists others → end ≤ first →
     length others ≡ 0 → HasNone (all_entries lists others)
@@ -206,7 +203,8 @@ pub where_none : {X P : Type 0} (r : Option X) → P → IfNone r P
 where_none None h = h
 where_none (Some x) h = tt
 
--- If `end` is at most `first`, the order holds for any base and ordered heap, `first` and `end` 0.
+-- If `end` is at most `first`, the order also holds with any base, any heap in order, and `first`
+-- and `end` 0.
 pub base_moved : (base level : ℤ) (first end : ℕ) (lists : List (List Candidate))
     (old new : List Candidate) → AreOrdered base first end lists old → end ≤ first →
     IsHeap candidate_order new → AreOrdered level 0 0 lists new

@@ -169,7 +169,6 @@ still_waits labels old new w a h t n none x =
       ]
     ]
 
--- A node still without a label is not the node that got its label now.
 other_open : (labels : List (Option ℕ)) (n label a : ℕ) → n < length labels →
     entry_of (set labels n (Some label)) a ≡ None → a ≢ n
 other_open labels n label a below none e = none_some (entry_of (set labels n (Some label)) n) label

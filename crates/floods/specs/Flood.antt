@@ -62,7 +62,8 @@ entry_of xs a = slice_index_or xs a None
 abbrev pub IsDone : List (Option ℕ) → Candidate → Type 0
 IsDone labels w = IsSome (entry_of labels w.node)
 
--- w is a lowest entry of unlabelled nodes. None is new; at most w and labelled nodes' are gone.
+-- w is a lowest entry of unlabelled nodes. No entry is added. At most w and entries of labelled
+-- nodes are gone.
 pub record TakesLowest (labels : List (Option ℕ)) (old : List Candidate) (w : Candidate)
     (new : List Candidate) : Type 0 where
   pub was_open : entry_of labels w.node ≡ None
@@ -71,7 +72,7 @@ pub record TakesLowest (labels : List (Option ℕ)) (old : List Candidate) (w : 
   pub left : All (Contains old) new
   pub kept : All (λ x. IsDone labels x ⊎ (x ≡ w) ⊎ Contains new x) old
 
--- A neighbour's entry: at the greater of the join's spill height and the height of `from`.
+-- A neighbour's entry: at the greater of the arc's height and that of `from`, with `from`'s label.
 abbrev pub candidate_by : Candidate → Spill → Candidate
 candidate_by from arc = record {
   height = record { 0 = int_max arc.height from.height.0 };
@@ -107,7 +108,7 @@ HasCandidate waiting a h = (w : Candidate) × Contains waiting w × (w.node ≡ 
 abbrev pub IsCandidateBy : Candidate → List Spill → Candidate → Type 0
 IsCandidateBy from arcs w = (arc : Spill) × Contains arcs arc × (w ≡ candidate_by from arc)
 
--- These arcs of `from` were followed: old entries stay, each new one is of some arc's neighbour.
+-- These arcs of `from` were followed: old entries stay, each added one is of some arc's neighbour.
 -- Each such neighbour without a label has an entry at most at its crest by that arc.
 pub record Queues (labels : List (Option ℕ)) (from : Candidate) (arcs : List Spill)
     (old : List Candidate) (new : List Candidate) : Type 0 where

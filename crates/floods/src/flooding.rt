@@ -29,7 +29,7 @@ pub struct FloodedNet {
     pub labels: NodeLabels,
 }
 
-/// Queues all sources, and notes their heights as levels.
+/// Queues all sources, and sets their levels to their heights.
 fn queue_sources<N: Net>(
     alloc: Global,
     net: &N,
@@ -77,7 +77,7 @@ pub fn flood_net<N: Net>(alloc: Global, net: &N) -> Result<FloodedNet, NoMemory>
     let mut queue = queue_sources(alloc, net, &mut levels)?;
     while let Some(waiting) = next_unlabelled(&mut queue, &labels) {
         let Reverse(height) = waiting.height;
-        // Noted when the node was queued, but the contract of `Net::spread` does not promise that.
+        // The level was set when the node was queued, but `Net::spread` does not promise that.
         levels.put(waiting.node, height);
         labels.put(waiting.node, waiting.label);
         net.spread(alloc, &mut queue, &waiting, &labels, &mut levels)?;
@@ -85,7 +85,6 @@ pub fn flood_net<N: Net>(alloc: Global, net: &N) -> Result<FloodedNet, NoMemory>
     Ok(FloodedNet { levels, labels })
 }
 
-/// Copies the levels to a list of options.
 fn list_of_levels(alloc: Global, levels: &HeightList) -> Result<Vec<Option<Height>>, AllocError>
     ensures { IfOk result (λ v. v.items ≡ levels.now) }
 {
@@ -96,7 +95,6 @@ fn list_of_levels(alloc: Global, levels: &HeightList) -> Result<Vec<Option<Heigh
     Ok(list)
 }
 
-/// Copies the labels to a list of options.
 fn list_of_labels(alloc: Global, labels: &NodeLabels) -> Result<Vec<Option<u32>>, AllocError>
     ensures { IfOk result (λ v. v.items ≡ labels.now) }
 {

@@ -8,7 +8,8 @@ use std::marker::Model;
 use terrain::Height;
 
 /// The number stored for a missing height.
-/// No number is greater, so [`HeightList::is_no_higher`] seldom has to read `greatest` for it.
+/// No number is greater, so [`HeightList::is_no_higher`] reads `greatest` only if its `height` is
+/// this number.
 const LACK: Height = Height::MAX;
 
 /// A list of optional heights, in 9 bytes an entry. An `Option<Height>` takes 16.
@@ -30,7 +31,6 @@ impl Model for HeightList {
     ghost view = { λ l. heights_where l.greatest.items l.heights.items };
 }
 
-/// Returns whether a number is [`LACK`].
 #[inline(always)]
 fn is_lack(height: Height) -> bool
     ensures { result ≡ int_eq height lack }
@@ -39,7 +39,6 @@ fn is_lack(height: Height) -> bool
 }
 
 impl HeightList {
-    /// Makes a list of `count` missing heights.
     pub(crate) fn all_none(alloc: Global, count: usize) -> Result<Self, AllocError>
         ensures { IfOk result (λ l. l ≡ replicate count None) }
     {
@@ -80,7 +79,6 @@ impl HeightList {
         noted <= height && (!is_lack(noted) || self.greatest[index as usize])
     }
 
-    /// Sets an entry to a height.
     #[inline(always)]
     pub(crate) fn put(&mut self, index: u32, height: Height)
         requires { index < length self.old }

@@ -1,7 +1,7 @@
 //! The trait of nets, whose nodes are joined at spill heights: [`Net`].
 //!
 //! A net may override [`Net::spread`] to queue neighbours without listing them, and
-//! [`Net::next_candidate`] to skip runs of nodes without sources.
+//! [`Net::next_candidate`] to skip runs of nodes that are no sources.
 ghost use Rattle.std.specs.Prelude.{◌≡◌, ◌<◌, ◌≤◌, ℕ, ℤ, Option, IfOk, OnOk, length};
 ghost use Rattle.floods.specs.Walk.{HasJust, HasNoSource};
 ghost use Rattle.floods.specs.Flood.{candidates_in, InOrder, Spreads, AreNoted};
@@ -48,7 +48,7 @@ pub trait Net {
         requires { node < node_count self.now }
         ensures { result ≡ source_height self.now node };
 
-    /// Returns the first node from `from` on that may be a source, or the node count.
+    /// Returns a node from `from` on, or the node count. No node that it skips is a source.
     /// A net that can exclude many nodes at once skips them here.
     #[inline]
     fn next_candidate(&self, from: u32) -> u32
@@ -60,7 +60,9 @@ pub trait Net {
         from
     }
 
-    /// Queues each neighbour of `from` that has no label and whose crest gets lower.
+    /// Queues each neighbour of `from` that has no label and gets a new level.
+    /// The new level is the greater of the join's spill height and `from.height`.
+    /// An unlabelled neighbour gets it in `levels` if it has no level or a higher one.
     ///
     /// # Errors
     ///

@@ -36,7 +36,6 @@ pub fn label_of(number: u32) -> Option<u32>
 }
 
 impl NodeLabels {
-    /// Makes a list for `nodes` nodes, none of which has a label.
     pub(crate) fn none(alloc: Global, nodes: usize) -> Result<Self, AllocError>
         ensures { IfOk result (λ l. l ≡ replicate nodes None) }
     {
@@ -44,7 +43,6 @@ impl NodeLabels {
         Ok(NodeLabels { numbers })
     }
 
-    /// Returns whether a node has a label.
     #[inline(always)]
     pub(crate) fn has(&self, node: u32) -> bool
         requires { node < length self.now }
@@ -53,7 +51,6 @@ impl NodeLabels {
         self.numbers[node as usize] != NO_LABEL
     }
 
-    /// Sets the label of a node.
     #[inline(always)]
     pub(crate) fn put(&mut self, node: u32, label: u32)
         requires node { node < length self.old }

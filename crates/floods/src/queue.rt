@@ -14,7 +14,7 @@ use std::cmp::Reverse;
 use std::collections::BinaryHeap;
 use terrain::Height;
 
-/// A queued node, with the crest of a walk from it to the source `label`.
+/// A queued node; `height` is the crest of a walk from it to the source `label`.
 /// Entries compare by `height` alone; the lowest is the greatest, for a max-heap.
 #[derive(Clone, Copy)]
 #[derive_where(PartialEq, Eq, PartialOrd, Ord)]
@@ -30,7 +30,7 @@ pub struct Candidate {
 /// A tile of 256 by 256 cells mostly spans fewer heights.
 const MOST_LISTS: usize = 512;
 
-/// The least number of lists. A net too small for so many has none: there the heap is as fast.
+/// The least number of lists, where a net has any. In a smaller net the heap alone is as fast.
 const LEAST_LISTS: usize = 16;
 
 /// The least number of nodes for each list, so that making the lists is cheap.
@@ -54,7 +54,6 @@ pub struct Queue {
     others: BinaryHeap<Candidate>,
 }
 
-/// Returns the number of lists, for a net of `nodes` nodes.
 fn list_count(nodes: usize) -> usize
     ensures { result ≤ MOST_LISTS }
 {
@@ -66,7 +65,6 @@ fn list_count(nodes: usize) -> usize
     }
 }
 
-/// Makes `count` empty lists, each with capacity [`FIRST_CAPACITY`].
 fn empty_lists(alloc: Global, count: usize) -> Result<Vec<Vec<Candidate>>, AllocError>
     ensures { IfOk result (λ v. entries_of v.items ≡ replicate count []) }
 {
@@ -163,7 +161,8 @@ impl Queue {
         self.lists_below(height)
     }
 
-    /// Takes a lowest entry of the heap, if any. If `end <= first`, its height becomes `base`.
+    /// Takes a lowest entry of the heap, if any.
+    /// If `end <= first`, all lists are empty, and the entry's height becomes `base`.
     #[inline]
     fn pop_heap(&mut self) -> Option<Candidate>
         requires order { InOrder self.old }
@@ -207,7 +206,6 @@ impl Queue {
         }
     }
 
-    /// Adds an entry.
     #[inline(always)]
     pub(crate) fn put(&mut self, waiting: Candidate) -> Result<(), AllocError>
         requires { InOrder self.old }
@@ -226,7 +224,8 @@ impl Queue {
     }
 }
 
-/// Takes a lowest node without a label, if any; drops labelled nodes before it.
+/// Takes a lowest entry whose node has no label, if any.
+/// Drops the entries of labelled nodes that it meets before.
 #[inline(always)]
 pub(crate) fn next_unlabelled(queue: &mut Queue, labels: &NodeLabels) -> Option<Candidate>
     requires order { InOrder queue.old }
@@ -244,8 +243,9 @@ pub(crate) fn next_unlabelled(queue: &mut Queue, labels: &NodeLabels) -> Option<
     None
 }
 
-/// Queues the neighbour `arc.to` if it has no label and its crest gets lower.
-/// Its crest by `from` is the greater of `arc.height` and the level of `from`. `levels` notes it.
+/// Queues the neighbour `arc.to` if it has no label and gets a new level.
+/// The new level is the greater of `arc.height` and `from.height`.
+/// An unlabelled neighbour gets it in `levels` if it has no level or a higher one.
 ///
 /// # Errors
 ///
@@ -284,7 +284,6 @@ pub fn queue_neighbour(
     Ok(())
 }
 
-/// Queues each neighbour of `from` that has no label and whose crest gets lower.
 #[inline]
 pub(crate) fn queue_neighbours(
     queue: &mut Queue,

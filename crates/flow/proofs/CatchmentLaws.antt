@@ -20,7 +20,7 @@ use Rattle.flow.proofs.Reaching.{IsEnding, reached_early, drains_at, drains_from
 use Rattle.flow.proofs.Sending.{and_on}
 use Rattle.flow.proofs.Windows.{any_in_range, sum_of_cells}
 
--- The first index whose entry passes p.
+-- `at` is the first index whose entry passes p; `position_from` counts from i.
 pub record IsPosition {X : Type 0} (p : X → Bool) (i : ℕ) (xs : List X) : Type 0 where
   pub at : ℕ
   pub found : position_from p i xs ≡ Some (i + at)
@@ -52,7 +52,6 @@ or_none : (b : Bool) → (b || false) ≡ b
 or_none true = refl
 or_none false = refl
 
--- Gauges with one number are at one place.
 pub same_gauge : (gauges : List Place) (p q : Place) → list_any (is_place p) gauges ≡ true →
     list_any (is_place q) gauges ≡ true → gauge_number gauges p ≡ gauge_number gauges q → p ≡ q
 same_gauge gauges p q a b same =

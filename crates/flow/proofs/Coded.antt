@@ -1,4 +1,4 @@
--- If every flow path ends, those from data cells contain only data cells.
+-- If every flow path ends, the paths from data cells contain only data cells.
 use Rattle.std.proofs.Common.{◌≡◌, ℕ, zero, suc, ◌+◌, ◌<◌, ◌≤◌, ◌⊎◌, inl, inr, true, Option, None, Some, is_some, unwrap_or, sym, ap, ◌∙◌, arith}
 use Rattle.std.specs.Option.{option_and_then}
 use Rattle.std.proofs.lemmas.Bool.{cases_lt}
@@ -33,7 +33,6 @@ pub follow_stays : (d : Directed) (p : Place) (k m : ℕ) → k ≤ m →
     next d (follow d p k) ≡ follow d p k → follow d p m ≡ follow d p k
 follow_stays d p = stays_from (follow d p) (λ a b e. ap (next d) e)
 
--- a + b moves are a moves, then b moves.
 pub follow_more : (d : Directed) (p : Place) (a b : ℕ) →
     follow d (follow d p a) b ≡ follow d p (a + b)
 follow_more d p a zero = let z : a ≡ a + 0 = omega arith in ap (follow d p) z
@@ -74,7 +73,6 @@ coded_along d ends p c k = elim (cases_coded d (follow d p k)) [
   ]
 ]
 
--- If every flow path ends, a data cell whose water stays is an outlet.
 pub outlet_from_stays : (d : Directed) → AllFlowEnds d → (p : Place) → IsCoded d p → next d p ≡ p →
     IsOutlet d p
 outlet_from_stays d ends p c e = sym (ap (code_at d) (follow_stays d p 0 (moves d) (omega arith) e))

@@ -14,7 +14,6 @@ use Rattle.terrain.proofs.Places.{cases_place, entry-inside, entry-below, entry-
 use Rattle.flow.specs.CutCodes.{AreCutCodes, HaveCodes, number_of_index}
 use Rattle.flow.proofs.CutPaths.{position_push}
 
--- Setting the entry at g changes no other entry.
 entry_set_other : (cols rows : ℕ) (xs : List (Option ℕ)) (x : Option ℕ) (p g : Place) →
     g.col < cols → p ≢ g →
     entry_at cols rows (set xs (index_of cols g) x) p ≡ entry_at cols rows xs p
@@ -32,7 +31,8 @@ entry_set_other cols rows xs x p g col apart = elim (cases_lt p.row rows) [
   ]
 ]
 
--- Codes cut at the first k gauges become, with 0 at gauge k, codes cut at the first k + 1.
+-- Setting the code at gauge k to 0 turns codes cut at the first k gauges into codes cut at the
+-- first k + 1. Gauges are counted from 0.
 pub cut_next : (cols rows : ℕ) (codes : List (Option ℕ)) (gauges : List Place) (k : ℕ)
     (cut new : List (Option ℕ)) (d : Place) →
     length codes ≡ cols * rows → k < length gauges → let g = get_or gauges k d in
@@ -69,7 +69,6 @@ cut_next cols rows codes gauges k cut new d size below inside made was =
           ∙ was.elsewhere p parts.0;
     }
 
--- A place with a code is in the grid.
 some_inside : (cols rows : ℕ) (codes : List (Option ℕ)) (p : Place) (o : Option ℕ) →
     entry_at cols rows codes p ≡ o → is_some o ≡ true → (p.row < rows) × (p.col < cols)
 some_inside cols rows codes p None e some = absurd (false≢true some)
@@ -90,7 +89,8 @@ index_at cols n gauges k i d e below same read =
     read ∙ ap (λ m. index_of m (get_or gauges k d)) same
     ∙ ap (λ (q : Place). index_of cols q) (get_or_default gauges k d e below)
 
--- The number of index i among k + 1 gauges is that among k, or else k + 1 if gauge k has index i.
+-- The number of index i among the first k + 1 gauges is its number among the first k. Without one
+-- there, it is k + 1 if gauge k, counted from 0, has index i.
 pub number_next : (cols : ℕ) (gauges : List Place) (k i : ℕ) (d : Place) → k < length gauges →
     number_of_index cols (take (k + 1) gauges) i ≡ option_or (number_of_index cols
     (take k gauges) i) (cond (index_of cols (get_or gauges k d) == i) (Some (k + 1)) None)

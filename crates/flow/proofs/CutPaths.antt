@@ -23,7 +23,7 @@ use Rattle.flow.proofs.Piece.{match_none, match_some}
 use Rattle.flow.proofs.Reaching.{IsEnding, reached_early}
 use Rattle.flow.proofs.Windows.{mapped_next}
 
--- The first of n values of f that passes the test. In `IsAbsent` none of them does.
+-- `at` is the index of the first of n values of f that passes the test.
 pub record IsFirst {X : Type 0} (test : X → Bool) (f : ℕ → X) (n : ℕ) : Type 0 where
   pub at : ℕ
   pub below : at < n

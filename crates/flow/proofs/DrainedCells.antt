@@ -46,7 +46,6 @@ pub inflow_sum : (d : Directed) (t : Cutting) (p : Place) →
     inflow_of d t p ≡ sum_below (λ c. entered d t p (cell d c)) (d.rows * d.cols)
 inflow_sum d t p = sum_of_cells (entered d t p) d.cols d.rows
 
--- A data cell that passes the test counts 1.
 pub counted_on : (d : Directed) (q : Place) (b : Bool) → IsCoded d q → b ≡ true →
     cond {A = ℕ} (is_some (code_at d q) && b) 1 0 ≡ 1
 counted_on d q b is y =

@@ -18,7 +18,6 @@ stays_from {X} x step k (suc m) le stop = elim (cases_eq k (suc m)) [
 ]
 
 module _ (x : ℕ → ℕ) (step : (a b : ℕ) → x a ≡ x b → x (suc a) ≡ x (suc b)) where
-  -- If a value occurs twice, the sequence repeats.
   again : (a b : ℕ) → x a ≡ x b → (t : ℕ) → x (a + t) ≡ x (b + t)
   again a b same zero = ap x (add-zero a) ∙ same ∙ sym (ap x (add-zero b))
   again a b same (suc t) =
@@ -109,7 +108,7 @@ pub end-onward : (links : List ℕ) → AreStreams links → (i : ℕ) → i < l
     end_of links (onward links i) ≡ end_of links i
 end-onward links s i h = node_after-first links i (length links) ∙ s.ends i h
 
--- A node whose path ends where that of `from` does.
+-- The path of `node` ends where the path of `from` ends.
 abbrev pub IsOnPath : List ℕ → ℕ → ℕ → Type 0
 IsOnPath links from node = (node < length links) × (end_of links node ≡ end_of links from)
 
@@ -136,7 +135,6 @@ sum_of_next : (f : ℕ → ℕ) (n : ℕ) → sum_below (λ k. f (suc k)) n + f 
 sum_of_next f zero = refl
 sum_of_next f (suc n) = omega (arith, sum_of_next f n)
 
--- A move from a node that is no end leaves one move less.
 pub moves_fall : (links : List ℕ) → AreStreams links → (i : ℕ) → i < length links →
     onward links i ≢ i → moves_left links (onward links i) + 1 ≡ moves_left links i
 moves_fall links s i h on =
@@ -150,7 +148,8 @@ moves_fall links s i h on =
     ∙ ap (λ b. cond {A = ℕ} (eqb (node_after links i (suc k)) b) 0 1) (end-onward links s i h)) in
     omega (arith, next, sum_of_next left (length links), here, last)
 
--- The moves left, plus 1 while the node's end is unknown. It falls as ends are noted along a path.
+-- The moves left, plus 1 while the node's end is unknown. The sum falls as ends are noted along a
+-- path.
 abbrev pub marks_left : List ℕ → List ℕ → ℕ → ℕ
 marks_left links ends i = moves_left links i + cond {A = ℕ} (eqb (get_or ends i 0) unknown_mark) 1 0
 
@@ -174,7 +173,6 @@ marks_fall links ends i last s f h unknown known =
       )
     ]
 
--- If each known end is right, noting the end of one more node keeps them right.
 pub found_more : (links ends : List ℕ) (node end : ℕ) → AreFound links ends → node < length links →
     end ≡ end_of links node → AreFound links (set ends node end)
 found_more links ends node end f h e = record {

@@ -17,7 +17,6 @@ use Rattle.drainage.specs.Drained.{Drained, IsDraining, directed_of}
 use Rattle.flow.specs.Catchments.{fault_of_gauge, gauges_fault}
 use Rattle.flow.specs.CutCodes.{HaveCodes}
 
--- A place in the grid has a fault exactly if it has no data.
 pub fault_inside : (t : Terrain) (i : ℕ) (p : Place) → p.row < t.rows → p.col < t.cols →
     sink_fault_of t i p ≡ (if is_none (height_at t p) then Some (OnNodata i) else None)
 fault_inside t i p row col =

@@ -21,7 +21,6 @@ abbrev pub link_in : Directed → Bounds → ℕ → ℕ
 link_in d b i =
     if is_in_bounds b (next d (place_in b i)) then index_in b (next d (place_in b i)) else i
 
--- 1 for a data cell, and 0 for NODATA.
 abbrev pub weight_in : Directed → Bounds → ℕ → ℕ
 weight_in d b i = if is_some (code_at d (place_in b i)) then 1 else 0
 
@@ -87,13 +86,13 @@ module _ (d : Directed) (c : Cutting) (tile : ℕ) (b : Bounds) (links : List �
       link_is i h ∙ link-in d b i (subst (λ (q : Place). IsInBounds b q) (sym e) (in_place i h))
       ∙ ap (index_in b) e ∙ index_in-place_in b i
 
-  -- If the next cell downstream is in the tile, the link leads to it.
   pub link_place : (i : ℕ) → i < length links → IsInBounds b (next d (place_in b i)) →
       place_in b (onward links i) ≡ next d (place_in b i)
   link_place i h y = ap (place_in b) (link_is i h ∙ link-in d b i y)
       ∙ place_in-index_in b (next d (place_in b i)) y
 
-  -- k moves from node j along links lead where at most k moves of the flow path lead.
+  -- k moves along links from node j lead where the first `met` moves of the flow path lead, inside
+  -- the bounds. `met` is k, unless the path along links has ended after k moves.
   pub record Tracks (j k : ℕ) : Type 0 where
     pub met : ℕ
     pub few : met ≤ k
@@ -183,7 +182,6 @@ module _ (d : Directed) (c : Cutting) (tile : ℕ) (b : Bounds) (links : List �
       (λ l h. eq-eqb _ _ (tile_is (follow d q l) (way l (omega arith))
       ∙ sym (tile_is q (way 0 (omega arith)))))
 
-  -- The end of a data cell's path along links is its exit.
   pub exit_is : (i : ℕ) → i < length links → IsCoded d (place_in b i) →
       IsExitOf d c (place_in b i) (place_in b (end_of links i))
   exit_is i h is =

@@ -23,7 +23,6 @@ module _ (b : Bounds) (r k : ℕ) (interior : IsInterior b r k) where
   at_here = let row : b.top + r - b.top ≡ r = omega arith in
       omega (arith, ap (λ (n : ℕ). n * b.cols) row)
 
-  -- A code that points into the tile gives the link to that cell.
   linked : (code : Option ℕ) (q : Place) → unwrap_or (option_and_then (λ c. place_toward c here)
       code) here ≡ q → IsInBounds b q → index_in b q ≡ link_by b (r * b.cols + k) code
   linked code q e inside =

@@ -97,7 +97,6 @@ module _ (o : Outlets) (flows : List Flow) (n : EndNumbers) (b : Bounds) where
       sym (cond-false {A = ℕ} _ (number_at o.cutting.cols n (listed_outlet o flows e)) 0
       (ne_eqb (index_in b e) i (λ own. other (same_Some exit (index_in b e) some ∙ own))))
 
--- Index r * b.cols + k has the place in row r and column k of the bounds, if k < b.cols.
 pub place_in_row : (b : Bounds) (r k : ℕ) → k < b.cols →
     place_in b (r * b.cols + k) ≡ make_place (b.top + r) (b.left + k)
 place_in_row b r k h =

@@ -53,7 +53,6 @@ module _ (d : Directed) (t : Cutting) (flows : List Flow) (o : Outlets) (n : End
   same_cols : o.cutting.cols ≡ d.cols
   same_cols = ap (λ (c : Cutting). c.cols) s.same_cutting ∙ sym s.are_flows.of_tiles.size.0
 
-  -- `number_at` gives the last cell of p's flow path the number that `end_number` gives p.
   number_of_last : (p : Place) → number_at o.cutting.cols n (Some (last_of d p)) ≡ end_number d n p
   number_of_last p = ap (λ cols. n.number (index_of cols (last_of d p))) same_cols
 
@@ -71,7 +70,6 @@ module _ (d : Directed) (t : Cutting) (flows : List Flow) (o : Outlets) (n : End
       subst (λ (x : Option Place). IfSome x (λ q. index_of o.cutting.cols q < n.cells))
       (sym (s.are_outlets.outlets e cell)) below
 
-  -- The number of each data cell is below `uncounted`, the stored count of NODATA.
   number_few : (p : Place) → IsCoded d p → end_number d n p < uncounted
   number_few p is = s.few (index_of d.cols (last_of d p)) (last_below p is)
 

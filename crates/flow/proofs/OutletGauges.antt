@@ -25,7 +25,6 @@ use Rattle.flow.proofs.Reaching.{IsEnding, cell_back, cell_below, reached_early}
 use Rattle.flow.proofs.Sums.{sum_more}
 use Rattle.flow.proofs.Windows.{whole_bounds}
 
--- The values of f over two adjoining ranges, one after the other, are those over the whole.
 map_ranges : {X : Type 0} (f : ℕ → X) (a n m : ℕ) → map f (range_with_len a n)
     ++ map f (range_with_len (a + n) m) ≡ map f (range_with_len a (n + m))
 map_ranges f a zero m =
@@ -125,7 +124,6 @@ module _ {X : Type 0} (f : ℕ → X) (p t : X → Bool) (j : ℕ) (here : p (f 
         ]
   ]
 
--- If some place in a list filtered by t passes p, some place passes both.
 any_filtered : (p t : Place → Bool) (xs : List Place) → list_any p (filter t xs) ≡ true →
     (x : Place) × (p x ≡ true) × (t x ≡ true)
 any_filtered p t [] some = absurd (false≢true some)

@@ -274,7 +274,6 @@ module _ (v : View (Option ℕ)) (b : Bounds) (cells : List (Option ℕ)) (links
         (λ code is. count_of upstream up p h (record { code = code; is = is })));
   }
 
--- The codes in a tile's flow are those of the tile.
 pub codes_from : (d : Directed) (t : Cutting) (tile : ℕ) (f : Flow) → IsCutting t →
     tile < tile_count t → IsTileExits d t tile f → AreTileCodes d (bounds_of t tile) f.codes
 codes_from d t tile f cutting below right = record {

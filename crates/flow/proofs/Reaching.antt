@@ -16,7 +16,6 @@ use Rattle.flow.proofs.Windows.{whole_bounds, some_in_range, any_in_range, every
 use Rattle.flow.proofs.Ending.{early_stop}
 use Rattle.flow.proofs.Coded.{IsCoded, coded_along, coded_inside, outlet_stays, follow_stays, follow_more, StopsAt, cycle_stops}
 
--- If the first k moves from q stay in its tile, each of these moves leads to a place of the tile.
 pub still_at : (d : Directed) (t : Cutting) (q : Place) (k : ℕ) → stays d t q k ≡ true → (l : ℕ) →
     l ≤ k → tile_of_place t (follow d q l) ≡ tile_of_place t q
 still_at d t q k still l le = eqb-true _ _ (every_in_range
@@ -59,7 +58,6 @@ module _ (d : Directed) (s : IsEnding d) where
   in_grid p is = let i = coded_inside d p is in
       (omega arith, omega (arith, i.0), omega arith, omega (arith, i.1))
 
-  -- A data cell's index is below the number of cells.
   pub cell_below : (p : Place) → IsCoded d p →
       index_in (whole_bounds d.cols d.rows) p < d.rows * d.cols
   cell_below p is = index_in_below (whole_bounds d.cols d.rows) p (in_grid p is)
@@ -188,7 +186,7 @@ module _ (d : Directed) (s : IsEnding d) where
     inside = λ l lt le. (let z : l ≡ suc a = omega arith in ap (follow d q) z ∙ leads);
   }
 
--- Move k of the path of q enters p from another tile.
+-- Counted from 0, move k of the flow path of q enters p from another tile.
 abbrev pub enters : Directed → Cutting → Place → Place → ℕ → Bool
 enters d t p q k = is_place p (follow d q (k + 1))
     && not (eqb (tile_of_place t (follow d q k)) (tile_of_place t p))

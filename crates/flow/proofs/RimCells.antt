@@ -10,7 +10,7 @@ use Rattle.tiles.proofs.Cut.{in_bounds_parts, in_bounds_from}
 use Rattle.flow.specs.RimGraph.{side_cell}
 
 module _ (l b : Bounds) where
-  -- p is the cell of a side number, and has that number.
+  -- p is the cell with this side number.
   pub record IsCellOf (side : ℕ) (p : Place) : Type 0 where
     pub inside : IsInBounds b p
     pub number : side_number l b p ≡ side
@@ -41,7 +41,6 @@ module _ (l b : Bounds) where
       ∙ and_from _ _ (in_bounds_from b p i) (eq-eqb _ _ refl))
       ∙ ap Some back
 
--- A cell's rim number is its tile times the stride, plus its side number.
 pub number_from_side : (t : Cutting) (tile side : ℕ) (p : Place) → IsInTile t tile p →
     side_number (bounds_of t 0) (bounds_of t tile) p ≡ side →
     rim_number t p ≡ tile * stride (bounds_of t 0) + side

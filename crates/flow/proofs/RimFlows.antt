@@ -41,7 +41,6 @@ read_of_tile read t flows p tile flow x count at below is value =
     value ∙ ap (option_and_then read) (sym (slice_get_read flows (length flows) tile flow refl
     (omega (arith, below, count)) is) ∙ ap (slice_get flows) at)
 
--- A code points to one of the eight places around.
 toward_touches : (p q : Place) (code : ℕ) → place_toward code p ≡ Some q → Touches p q
 toward_touches p q code e = elim (cases_option (way_of code)) [
   | inl none ↦ absurd (none-some q
@@ -82,7 +81,6 @@ target_listed t flows targets made i h =
     ap (λ l. get_or l i None) made
     ∙ get_or-map-range_with_len (target_by t flows) 0 (number_count t) i i None h (omega arith)
 
--- The target of rim number tile * stride + side is `target_in` of the tile's flow and side.
 pub target_in_tile : (t : Cutting) (flows : List Flow) (tile side : ℕ) (f : Flow) →
     side < stride (bounds_of t 0) → slice_get flows tile ≡ Some f →
     target_by t flows (tile * stride (bounds_of t 0) + side) ≡ target_in (bounds_of t 0) f side
@@ -150,7 +148,6 @@ module _ (d : Directed) (t : Cutting) (flows : List Flow) (s : AreFlowsOf d t fl
             ∙ ap (λ (o : Option Place). unwrap_or o p) q.1)) (toward_touches p q.0 c.coded.code q.1)
       ]
 
-  -- A cell whose direction leads into another tile lies on the rim.
   on_side : (p : Place) → Crosses p → IsSide (bounds_of t (tile_of_place t p)) p
   on_side p c a b e =
       let w = within_of p c.coded in
@@ -175,7 +172,6 @@ module _ (d : Directed) (t : Cutting) (flows : List Flow) (s : AreFlowsOf d t fl
   going_out f p =
       cond {A = Option Place} (is_in_bounds f.bounds (next_in f p)) None (Some (next_in f p))
 
-  -- If a cell's direction leads into another tile, the next cell is outside the tile's bounds.
   out_of_bounds : (p : Place) → Crosses p →
       is_in_bounds (bounds_of t (tile_of_place t p)) (next d p) ≡ false
   out_of_bounds p c =
@@ -296,7 +292,6 @@ module _ (d : Directed) (t : Cutting) (flows : List Flow) (s : AreFlowsOf d t fl
     pub out : next_exit_by t flows q
         ≡ cond {A = Option Place} (is_outlet_code (code_at d e)) None (Some e)
 
-  -- The exit of a data cell is a data cell in the same tile.
   pub exit_in_tile : (q e : Place) → IsCoded d q → IsExitOf d t q e →
       IsCoded d e × (tile_of_place t e ≡ tile_of_place t q)
   exit_in_tile q e is x =
@@ -308,7 +303,6 @@ module _ (d : Directed) (t : Cutting) (flows : List Flow) (s : AreFlowsOf d t fl
         sym (ap (tile_of_place t) x.3) ∙ there,
       )
 
-  -- An exit is its own exit.
   pub exit_of_exit : (e x : Place) → IsExitCell d t e → IsExitOf d t e x → x ≡ e
   exit_of_exit e x cell h = elim (cases_eq h.0 0) [
     | inl z ↦ sym h.3 ∙ ap (follow d e) z
@@ -469,7 +463,8 @@ module _ (d : Directed) (t : Cutting) (flows : List Flow) (s : AreFlowsOf d t fl
         (λ i h. stop_within (moves d) i (omega (arith, h, links_size))
         (λ q e. stops_of (rim_place t i) (target_from i q e).crosses.coded))
 
-    -- The water of i and of a node j on its path ends at one outlet.
+    -- Rim number j has a target, and the flow paths of its cell and of the cell of i end at one
+    -- outlet.
     record OnWay (i j : ℕ) : Type 0 where
       pub entry : Place
       pub target : target_by t flows j ≡ Some entry

@@ -34,7 +34,6 @@ sent-sum t k (Some q) f n = cond-sum (eqb (rim_number t q) k) f n
 
 module _ (d : Directed) (t : Cutting) (flows : List Flow) (s : AreFlowsOf d t flows)
     (counts : AreTileCounts d t flows) where
-  -- A place that water enters from another tile lies on the rim.
   entry_side : (p : Place) → Crosses d t flows s p →
       IsSide (bounds_of t (tile_of_place t (next d p))) (next d p)
   entry_side p c a b e =
@@ -88,7 +87,7 @@ module _ (d : Directed) (t : Cutting) (flows : List Flow) (s : AreFlowsOf d t fl
       (one_move d e q p a first (λ z. c.apart (ap (tile_of_place t) (first ∙ sym z))))
       (one_move d e q p b second (λ z. x.apart (ap (tile_of_place t) (second ∙ sym z)))))
 
-  -- 1 if the water of cell c passes exit i and enters p there, else 0.
+  -- 1 if cell number c's flow path contains exit i, whose target has p's rim number, else 0.
   abbrev piece : Place → ℕ → ℕ → ℕ
   piece p c i =
       sent_to t (rim_number t p) (target_by t flows i) (drained d (rim_place t i) (cell d c))
@@ -167,7 +166,6 @@ module _ (d : Directed) (t : Cutting) (flows : List Flow) (s : AreFlowsOf d t fl
         ]
   ]
 
-  -- A place off the rim has inflow 0.
   inflow_none : (p : Place) → rim_place t (rim_number t p) ≢ p → inflow_of d t p ≡ 0
   inflow_none p off = inflow_sum d t p ∙ sum_below-none (λ c. entered d t p (cell d c))
       (d.rows * d.cols) (λ c h. elim (cases_Bool (is_some (code_at d (cell d c)))) [

@@ -1,4 +1,4 @@
--- The number of cells that drain through an exit into another tile is its total along links.
+-- The total of an exit into another tile, along links, is how many cells' flow paths contain it.
 use Rattle.std.proofs.Common.{◌≡◌, ◌≢◌, ℕ, suc, ◌+◌, ◌-◌, ◌*◌, ◌<◌, ◌≤◌, ◌⊎◌, inl, inr, true, false, cond, ◌&&◌, eqb, List, length, get_or, Option, None, Some, is_some, sym, ap, subst, refl, ◌∙◌, arith, unwrap_or}
 use Rattle.std.specs.Option.{option_and_then}
 use Rattle.std.proofs.lemmas.Option.{none-some, MatchOption-at_some}
@@ -29,7 +29,7 @@ module _ (d : Directed) (t : Cutting) (flows : List Flow) (s : AreFlowsOf d t fl
   pub ending : IsEnding d
   ending = ending_of d t s.ends s.cutting s.of_tiles.size
 
-  -- If the path of q leaves a tile at place c, then c is the exit e of q or is after e.
+  -- If q's flow path leaves a tile at c, c is the exit e of q, or the path leaves by e before c.
   crossing_at : (q e c : Place) → IsExitOf d t q e → (m : ℕ) → follow d q m ≡ c →
       Crosses d t flows s c →
       (c ≡ e)
@@ -50,7 +50,8 @@ module _ (d : Directed) (t : Cutting) (flows : List Flow) (s : AreFlowsOf d t fl
     ]
   ]
 
-  -- An exit's weight is how many cells' paths reach it without leaving its tile, itself included.
+  -- The weight of an exit into another tile is how many cells' flow paths reach it without leaving
+  -- their tile, itself included.
   pub weight_targeted : (j : ℕ) (q : Place) → target_by t flows j ≡ Some q →
       rim_weight t flows j ≡ all_drained_inside d t (rim_place t j)
   weight_targeted j q e =
@@ -91,7 +92,7 @@ module _ (d : Directed) (t : Cutting) (flows : List Flow) (s : AreFlowsOf d t fl
           ]
         ]
 
-    -- An exit is linked to the exit of the place that its water enters, if that leaves its tile.
+    -- Exit e is linked to the exit of the place that e flows into, if both lead into other tiles.
     link_on : (e : Place) → Crosses d t flows s e → (is : IsCoded d (next d e)) →
         Crosses d t flows s (exit_here d t flows s (next d e) is).0 →
         onward links (rim_number t e) ≡ rim_number t (exit_here d t flows s (next d e) is).0
@@ -103,7 +104,7 @@ module _ (d : Directed) (t : Cutting) (flows : List Flow) (s : AreFlowsOf d t fl
         ∙ ap (number_or t (rim_number t e)) (x.1.out
         ∙ cond-false {A = Option Place} _ None (Some x.0) (not_outlet d t flows s x.0 to))
 
-    -- Water of a cell that reaches exit i does so inside its tile, or by one exit linked to it.
+    -- A flow path from cell c to exit i stays in the tile of c, or passes one exit linked to i.
     module _ (i : ℕ) (q : Place) (target : target_by t flows i ≡ Some q) (c : Place)
         (is : IsCoded d c) where
       abbrev In : Place → Type 0
@@ -258,14 +259,13 @@ module _ (d : Directed) (t : Cutting) (flows : List Flow) (s : AreFlowsOf d t fl
                     is (drains_at d ending c _ is x.from (sym place)),
               )
 
-    -- No other number is linked to one that is no exit into another tile.
     none_leads : (i j : ℕ) → target_by t flows i ≡ None → j < number_count t →
         leads_to links j i ≡ false
     none_leads i j none h = false_from_ne_true _ (λ y. (let o = leads_out i j h y in
         none-some (next d o.0.to) (sym none ∙ ap (target_by t flows) (sym o.1)
         ∙ target_on d t flows s o.0.to o.0.crosses)))
 
-    -- 1 if j is linked to i and the water of cell c passes exit j, else 0.
+    -- 1 if j is linked to i and the flow path of cell number c contains exit j, else 0.
     abbrev over : ℕ → ℕ → ℕ → ℕ
     over i c j = cond {A = ℕ} (leads_to links j i) (drained d (rim_place t j) (cell d c)) 0
 

@@ -22,7 +22,6 @@ counted_inside codes a i b h =
     ∙ ap (λ l. count_by is_outlet_code (take a codes) + count_by is_outlet_code l)
     (sym (take-take i (b - a) (drop a codes) (omega (arith, h))))
 
--- The counts that the jobs return are those of their runs.
 pub runs_given : (r : CodeRuns) (counts : List RunCounts) →
     AllGiven (λ k c. IsRunCounted (run_codes r k) c) (length counts) counts →
     (k : ℕ) (c : RunCounts) → slice_get counts k ≡ Some c → IsRunCounted (run_codes r k) c
@@ -30,7 +29,6 @@ runs_given r counts given k c there =
     subst (IsRunCounted (run_codes r k)) (get_or_from_slice_get counts k c c there)
     (given k c (slice_get_within counts k c there))
 
--- A run starts no earlier than the run before it.
 next_start : (r : CodeRuns) (k : ℕ) → run_start r k ≤ run_start r (k + 1)
 next_start r k =
     let more : (k + 1) * r.run_length ≡ k * r.run_length + r.run_length = omega arith in

@@ -123,7 +123,6 @@ upstream_from links weights waits upstream streams s some = record {
       }) i h);
 }
 
--- 1 if node i has not sent, else 0.
 abbrev pub unsent_one : List ℕ → ℕ → ℕ
 unsent_one waits i = cond {A = ℕ} (has_sent waits i) 0 1
 

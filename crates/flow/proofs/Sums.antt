@@ -33,7 +33,6 @@ sum_below-none f zero none = refl
 sum_below-none f (suc n) none =
     omega (arith, sum_below-none f n (λ i h. none i (omega arith)), none n (omega arith))
 
--- A sum of n terms of at most 1 is at most n.
 pub sum_below-few : (f : ℕ → ℕ) (n : ℕ) → ((i : ℕ) → i < n → f i ≤ 1) → sum_below f n ≤ n
 sum_below-few f zero le = omega arith
 sum_below-few f (suc n) le =
@@ -61,7 +60,6 @@ sum_below-except f g (suc n) i h same = elim (cases_eq i n) [
   )
 ]
 
--- A sum above 0 has a term above 0.
 pub some_term : (f : ℕ → ℕ) (n : ℕ) → 0 < sum_below f n → (i : ℕ) × (i < n) × (0 < f i)
 some_term f zero h = absurd (omega arith)
 some_term f (suc n) h = elim (cases_lt 0 (f n)) [
@@ -72,7 +70,6 @@ some_term f (suc n) h = elim (cases_lt 0 (f n)) [
 pub sum_more : (f : ℕ → ℕ) (n : ℕ) → sum_below f (n + 1) ≡ sum_below f n + f n
 sum_more f n = rw add-one refl
 
--- A sum over a + n numbers is the sum of its two parts.
 pub sum_below-split : (f : ℕ → ℕ) (a n : ℕ) →
     sum_below f (a + n) ≡ sum_below f a + sum_below (λ i. f (a + i)) n
 sum_below-split f a zero = ap (sum_below f) (add-zero a) ∙ omega arith
@@ -82,26 +79,22 @@ sum_below-split f a (suc n) =
     sum_below-split f a n in
     ap (sum_below f) next ∙ omega arith
 
--- The sum of the first terms is at most the whole.
 pub sum_below-part : (f : ℕ → ℕ) (k n : ℕ) → k ≤ n → sum_below f k ≤ sum_below f n
 sum_below-part f k n le =
     let whole : k + (n - k) ≡ n = omega arith in
     omega (arith, sum_below-split f k (n - k), ap (sum_below f) whole)
 
--- A double sum is the same in either order.
 pub exchange : (f : ℕ → ℕ → ℕ) (n m : ℕ) →
     sum_below (λ i. sum_below (f i) m) n ≡ sum_below (λ j. sum_below (λ i. f i j) n) m
 exchange f zero m = sym (sum_below-none (λ j. 0) m (λ j h. refl))
 exchange f (suc n) m = ap (λ k. k + sum_below (f n) m) (exchange f n m)
     ∙ sym (sum_below-add (λ j. sum_below (λ i. f i j) n) (f n) m)
 
--- If all terms but term i are 0, the sum is term i.
 pub one_term : (f : ℕ → ℕ) (n i : ℕ) → i < n → ((j : ℕ) → j < n → j ≢ i → f j ≡ 0) →
     sum_below f n ≡ f i
 one_term f n i h none =
     omega (arith, sum_below-except f (λ _. 0) n i h none, sum_below-none (λ _. 0) n (λ j l. refl))
 
--- The sum if b is true, else 0, is the sum of the terms, each taken if b is true, else 0.
 pub cond-sum : (b : Bool) (f : ℕ → ℕ) (n : ℕ) →
     cond {A = ℕ} b (sum_below f n) 0 ≡ sum_below (λ c. cond {A = ℕ} b (f c) 0) n
 cond-sum true f n = refl

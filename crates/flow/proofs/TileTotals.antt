@@ -35,12 +35,11 @@ module _ (d : Directed) (e : IsEnding d) (t : Cutting) (tile : ℕ) (b : Bounds)
         λ z. l.1 (sym (index_in-place_in b j) ∙ ap (index_in b) z ∙ index_in-place_in b i),
       )
 
-  -- 1 if q is a data cell and is p, else 0.
   abbrev own : Place → Place → ℕ
   own p q = cond {A = ℕ} (is_some (code_at d q) && is_place p q) 1 0
 
-  -- The water of one cell q. T says which moves of its path count, and R which places they reach.
-  -- `over` is 1 if a move that counts enters place i from outside the bounds, else 0.
+  -- The flow path of one data cell q. T k: its first k moves count. R p: such moves reach p.
+  -- `over` is 1 if a move that counts enters cell i from outside the bounds, else 0.
   module _ (q : Place) (is : IsCoded d q) (i : ℕ) (h : i < length links) (R : Place → Bool)
       (T : ℕ → Type 0) (start : T 0)
       (from : (p : Place) → R p ≡ true → (k : ℕ) × (follow d q k ≡ p) × T k)
@@ -161,7 +160,7 @@ module _ (d : Directed) (e : IsEnding d) (t : Cutting) (tile : ℕ) (b : Bounds)
                   )
             ]
 
-  -- If each cell's water at i is its own, what enters and what donors pass on, so is the sum.
+  -- If each q's term at i is `own` plus `over` plus its terms at i's donors, so are sums over q.
   tallied : (R : Place → Place → Bool) (over : Place → Place → ℕ) (i : ℕ) → i < length links →
       ((q : Place) → IsCoded d q → cond {A = ℕ} (is_some (code_at d q) && R (place_in b i) q) 1 0
       ≡ own (place_in b i) q + over (place_in b i) q + sum_below (λ j. cond {A = ℕ} (leads_to links
@@ -268,7 +267,8 @@ module _ (d : Directed) (e : IsEnding d) (t : Cutting) (tile : ℕ) (b : Bounds)
     );
   }
 
-  -- Without inflows, totals count the cells whose paths reach a cell in the tile, itself included.
+  -- Without inflows, totals count the cells whose flow paths reach a cell without leaving the tile,
+  -- itself included.
   pub own_totals : (weights : List ℕ) → AreTileWeights d b weights →
       AreTotals links weights (λ i. all_drained_inside d t (place_in b i))
   own_totals weights weighed = record {

@@ -30,7 +30,6 @@ grid_flow d t codes draining cuts e = record {
       (falling_ends d draining);
 }
 
--- The map of directions of a drained terrain is within the limits, and its flow paths end.
 pub drained_ending : (d : Drained) → IsTerrain d.terrain → IsDraining d → IsEnding (directed_of d)
 drained_ending d terrain draining = record {
   ends = falling_ends d draining;

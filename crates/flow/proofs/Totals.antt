@@ -13,7 +13,6 @@ leads_parts links j i y = let w = and_parts _ _ y in
 pub leads_from : (links : List ℕ) (j i : ℕ) → onward links j ≡ i → j ≢ i → leads_to links j i ≡ true
 leads_from links j i e ne = and_from _ _ (eq-eqb _ _ e) (not_from_false _ (ne_eqb _ _ ne))
 
--- A node that is linked to itself leads to no node.
 pub leads_end : (links : List ℕ) (node i : ℕ) → onward links node ≡ node →
     leads_to links node i ≡ false
 leads_end links node i e =
@@ -25,7 +24,7 @@ leads_self links i = and_right _ (not (eqb i i)) (not_from_true _ (eq-eqb i i re
 module _ (links : List ℕ)
     (streams : AreStreams links) (P : ℕ → ℕ → Type 0) (step : (k i : ℕ) → i < length links →
     ((j : ℕ) → j < length links → leads_to links j i ≡ true → P k j) → P (suc k) i) where
-  -- A path of k moves that leads to node i, without an end before it.
+  -- k moves along links from `from` lead to node i, and none of them begins at an end.
   record Chain (k i : ℕ) : Type 0 where
     pub from : ℕ
     pub inside : from < length links
@@ -53,7 +52,7 @@ module _ (links : List ℕ)
   by_chains (suc k) i h none =
       step k i h (λ j l on. by_chains k j l (λ c. none (chain_on k j i on c)))
 
-  -- A property of a node that follows from that of its donors holds of every node.
+  -- If P (k + 1) of a node follows from P k of its donors, P (length links) holds of every node.
   pub each_downstream : (i : ℕ) → i < length links → P (length links) i
   each_downstream i h = by_chains (length links) i h (λ c. (let r = early_end links streams.inside
       c.from c.inside (length links) (streams.ends c.from c.inside) in c.goes r.0 r.1 r.2))
@@ -85,7 +84,7 @@ pub totals_le : (links : List ℕ) → AreStreams links → (w f g : ℕ → ℕ
 totals_le links streams w f g low high = each_downstream links streams (λ _ i. f i ≤ g i)
     (λ _ i h before. omega (arith, low i h, high i h, sums_le links i f g before))
 
--- f of each node is the node's weight plus f of its donors.
+-- f of each node is the node's weight plus the sum of f over its donors.
 pub record AreTotals (links weights : List ℕ) (f : ℕ → ℕ) : Type 0 where
   pub each : (i : ℕ) → i < length links → f i ≡ get_or weights i 0 + upstream_sum links f i
 

@@ -30,7 +30,7 @@ abbrev pub catchment : Directed → List Place → Place → ℕ
 catchment d gauges p =
     option_map_or (gauge_number gauges) (find (λ q. list_any (is_place q) gauges) (flow_path d p)) 0
 
--- The catchment of each data cell.
+-- The values are the catchments of the data cells, in row order; `None` at NODATA.
 abbrev pub AreCatchments : Directed → List Place → List (Option ℕ) → Type 0
 AreCatchments d gauges values = IsMapOf d (catchment d gauges) values
 

@@ -15,7 +15,7 @@ use Rattle.flow.specs.RimGraph.{side_cell, target_by}
 abbrev pub through_by : Cutting → List Flow → Place → Option ℕ
 through_by t flows p = option_and_then (λ f. through_in f p) (slice_get flows (tile_of_place t p))
 
--- How many cells' paths first leave their own tile by one exit; 0 where no exit leads out.
+-- How many cells' flow paths first leave their own tile by one exit; 0 where no exit leads out.
 abbrev pub weight_or : Option ℕ → Option Place → ℕ
 weight_or through None = 0
 weight_or through (Some entry) = unwrap_or through 0 + 1
@@ -31,12 +31,13 @@ abbrev pub sent_to : Cutting → ℕ → Option Place → ℕ → ℕ
 sent_to t k None amount = 0
 sent_to t k (Some entry) amount = if rim_number t entry == k then amount else 0
 
--- The amount that rim number i sends to number k: its weight and the sum upstream, or 0.
+-- The amount that rim number i sends to number k: its weight and its sum from upstream if its
+-- target has number k, else 0.
 abbrev pub entering : Cutting → List (Option Place) → List ℕ → List ℕ → ℕ → ℕ → ℕ
 entering t targets weights upstream k i =
     sent_to t k (slice_index_or targets i None) (slice_index upstream i + slice_index weights i)
 
--- The inflow of each rim number: the sum of what all rim numbers send to it.
+-- The inflow of each rim number: the sum of the amounts that all rim numbers send to it.
 pub record AreEntering (t : Cutting) (targets : List (Option Place))
     (weights upstream listed : List ℕ) : Type 0 where
   pub size : length listed ≡ number_count t

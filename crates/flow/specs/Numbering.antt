@@ -41,7 +41,7 @@ abbrev pub IsEndNumberAt : Cutting → List Flow → Outlets → EndNumbers → 
 IsEndNumberAt t flows outlets n p entry =
     (d : Directed) → IsNumbering d t flows outlets n → IsValueAt d (end_number d n) p entry
 
--- An exit in the bounds and in the grid; its outlet, if it has one, has a number.
+-- A place in the bounds and in the grid; the outlet listed for it, if any, has a number.
 pub record IsExitOfTile (outlets : Outlets) (flows : List Flow) (n : EndNumbers) (b : Bounds)
     (e : Place) : Type 0 where
   pub inside : IsInBounds b e

@@ -91,7 +91,8 @@ rim_outlet t flows ends i = option_and_then
 abbrev pub rim_outlets_by : Cutting → List Flow → List ℕ → List (Option Place)
 rim_outlets_by t flows ends = map (rim_outlet t flows ends) (range_with_len 0 (number_count t))
 
--- The outlet of an exit: the exit itself, or the outlet listed for its rim number, if any.
+-- The outlet of an exit: the exit itself if it is an outlet, else the one listed for its rim
+-- number, if any.
 abbrev pub outlet_by : Cutting → List Flow → List (Option Place) → Place → Option Place
 outlet_by t flows outlets p =
     if is_outlet_code (code_in t flows p) then Some p

@@ -3,7 +3,7 @@
 use Rattle.std.specs.Prelude.{◌≡◌, ℕ, ◌+◌, ◌<◌, Bool, true, false, not, ◌&&◌, ◌==◌, if◌then◌else◌, List, length, slice_index}
 use Rattle.flow.specs.Streams.{leads_to, sum_below}
 
--- The entry in `waits` of a node that has sent.
+-- The entry in `waits` of a node that has sent, or of an end that has its sum.
 abbrev pub sent_mark : ℕ
 sent_mark = 4294967295
 
@@ -18,13 +18,14 @@ donor links i j = if leads_to links j i then 1 else 0
 abbrev pub waiting : List ℕ → List ℕ → ℕ → ℕ → ℕ
 waiting links waits i j = if leads_to links j i && not (has_sent waits j) then 1 else 0
 
--- The amount that node j has sent to node i: its own weight and its sum from upstream.
+-- The amount that donor j has sent to node i: its weight and its sum from upstream. Otherwise 0.
 abbrev pub sent_on : List ℕ → List ℕ → List ℕ → List ℕ → ℕ → ℕ → ℕ
 sent_on links weights waits upstream i j =
     if leads_to links j i && has_sent waits j then slice_index upstream j + slice_index weights j
     else 0
 
--- A node's sum is what its donors sent. Until it sends, `waits` counts its donors yet to send.
+-- A node's sum is the amount that its donors have sent. Until it sends, `waits` counts its donors
+-- that have not. The donors of a node that has sent have all sent.
 pub record IsSending (links weights waits upstream : List ℕ) : Type 0 where
   pub waits_size : length waits ≡ length links
   pub upstream_size : length upstream ≡ length links

@@ -1,4 +1,5 @@
 -- Nodes numbered from 0, each linked to the next one downstream. An end is linked to itself.
+-- A node's path follows links from the node.
 -- Source: a forest, given by the parent of each node.
 -- Public.
 use Rattle.std.specs.Prelude.{◌≡◌, ℕ, zero, suc, ◌+◌, ◌<◌, Bool, not, ◌&&◌, ◌==◌, if◌then◌else◌, List, length, slice_index}
@@ -34,7 +35,8 @@ leads_to links j i = onward links j == i && not (j == i)
 abbrev pub upstream_sum : List ℕ → (ℕ → ℕ) → ℕ → ℕ
 upstream_sum links f i = sum_below (λ j. if leads_to links j i then f j else 0) (length links)
 
--- The sum of the weights of nodes that reach node i in fewer than k moves; i does so in 0.
+-- The sum of the weights of all nodes that reach node i in fewer than k moves. Node i reaches
+-- itself in 0 moves.
 abbrev pub total_within : List ℕ → List ℕ → ℕ → ℕ → ℕ
 total_within links weights zero i = 0
 total_within links weights (suc k) i =

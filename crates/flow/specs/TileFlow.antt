@@ -92,7 +92,7 @@ pub record IsTileFlow (d : Directed) (c : Cutting) (tile : ℕ) (f : Flow) : Typ
   pub exits : IsTileExits d c tile f
   pub counts : IsTileCounts d c tile f
 
--- One flow for each tile, in tile order.
+-- One flow for each tile, in tile order, with the tile's exits and counts.
 pub record AreTileFlows (d : Directed) (c : Cutting) (flows : List Flow) : Type 0 where
   pub size : (d.cols ≡ c.cols) × (d.rows ≡ c.rows)
   pub count : length flows ≡ tile_count c

@@ -29,7 +29,7 @@ pub record AreTileCodes (d : Directed) (b : Bounds) (cells : List (Option ℕ)) 
   pub size : length cells ≡ b.rows * b.cols
   pub each : (i : ℕ) → i < b.rows * b.cols → slice_index_or cells i None ≡ code_at d (place_in b i)
 
--- The link of cell i with this code: the index downstream; i where none is in the bounds.
+-- The link of cell i with this code: the index of the next cell in the bounds, or i without one.
 abbrev pub link_by : Bounds → ℕ → Option ℕ → ℕ
 link_by b i code =
     let p = place_in b i in
@@ -61,7 +61,7 @@ through_list cells upstream = map
 abbrev pub ends_by : List ℕ → List ℕ
 ends_by links = map (end_of links) (range_with_len 0 (length links))
 
--- The index where each rim cell's path along links ends, by side number.
+-- The index where each rim cell's path ends, by side number, where b counts as the largest tile.
 abbrev pub rim_ends_by : Bounds → List ℕ → List ℕ
 rim_ends_by b links =
     map (λ side. end_of links (index_in b (side_place b b side))) (range_with_len 0 (stride b))

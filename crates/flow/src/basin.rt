@@ -18,8 +18,11 @@ use tiles::Tiling;
 
 /// Returns each cell's basin: the number of the outlet that ends its flow path.
 ///
-/// Outlets are numbered from 1 in row order. Each of three stages has as many jobs as tiles: they
-/// count outlets in runs of codes, find each tile's exits, and number each tile's cells.
+/// Outlets are numbered from 1 in row order. Values are in row order; NODATA has
+/// [`Count::no_data`].
+///
+/// Each of three stages has as many jobs as tiles: they count outlets in runs of codes, find each
+/// tile's exits, and number each tile's cells.
 ///
 /// # Errors
 ///

@@ -46,7 +46,6 @@ pub(crate) fn tile_links(
     Ok(links)
 }
 
-/// Appends the links of one row of the tile.
 #[inline(always)]
 fn push_links(
     links: &mut Vec<u32>,
@@ -70,7 +69,6 @@ fn push_links(
     Ok(())
 }
 
-/// Returns the link of the cell in this row and column of the tile.
 #[inline(always)]
 fn link_at(bounds: Bounds, row: u32, col: u32, code: Option<Code>) -> u32
     requires small { IsSmall bounds }
@@ -134,7 +132,6 @@ pub(crate) fn is_place(place: Place, other: Place) -> bool
     place.row == other.row && place.col == other.col
 }
 
-/// Returns the link of the cell with this index and place.
 #[inline(always)]
 fn link_of(bounds: Bounds, index: u32, place: Place, code: Option<Code>) -> u32
     requires small { IsSmall bounds }

@@ -57,6 +57,7 @@ impl<'a> TileMap for Counting<'a> {
 }
 
 /// Returns each cell's accumulation: how many other cells' flow paths contain it.
+/// Values are in row order; NODATA has [`Count::no_data`].
 /// Each tile has two jobs: one finds its flow, and a later one its accumulations.
 ///
 /// # Errors
@@ -135,7 +136,8 @@ fn weights_with_inflows(
     Ok(weights)
 }
 
-/// Returns each data cell's weight plus those upstream, less 1; NODATA has no count.
+/// Returns each data cell's weight plus the weights upstream, less 1.
+/// NODATA has no count.
 #[tactic(auto, using(crate::proofs::Windows::mapped_next))]
 fn counts(
     alloc: Global,

@@ -16,8 +16,9 @@ use std::alloc::{AllocError, Global};
 use terrain::Place;
 use tiles::{Bounds, Tiling};
 
-/// For each rim number, the place that its water enters, if any, and its link.
-/// A link leads to the next exit into another tile; a number without one is linked to itself.
+/// The target, if any, and the link of each rim number (`Tiling::rim_number`).
+/// A target is the place in another tile that the number's cell flows into. A link is the rim
+/// number of the next exit into another tile, or the number itself without one.
 #[derive(Drop)]
 pub(crate) struct Crossings {
     pub(crate) targets: Vec<Option<Place>>,
@@ -25,7 +26,7 @@ pub(crate) struct Crossings {
 }
 
 impl Crossings {
-    /// Finds the targets and links of all rim numbers, by the tiles' flows in tile order.
+    /// Finds the targets and links from the flows of all tiles, given in tile order.
     pub(crate) fn of(
         alloc: Global,
         tiling: &Tiling,
@@ -60,7 +61,7 @@ fn next_exit(tiling: &Tiling, flows: &[TileFlow], entry: Place) -> Option<Place>
     flows[tiling.tile_of(entry) as usize].next_exit(entry)
 }
 
-/// Returns the place in another tile that the cell of `side` flows into, if any.
+/// Returns the place in another tile that side number `side` leads to, if any.
 #[inline(always)]
 fn target_of(largest: Bounds, flow: &TileFlow, side: u32) -> Option<Place>
     requires largest { IsWithinLimits largest }

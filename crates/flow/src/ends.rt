@@ -28,7 +28,6 @@ pub(crate) fn unknown_ends(alloc: Global, links: &[u32]) -> Result<Vec<u32>, All
     vec![in alloc; UNKNOWN; links.len()]
 }
 
-/// Fills in the end of each node's path.
 fn find_ends(links: &[u32], ends: &mut [u32])
     requires streams { AreStreams links.now }
     requires few { length links.now ≤ 2 ^ 30 }
@@ -40,7 +39,8 @@ fn find_ends(links: &[u32], ends: &mut [u32])
     }
 }
 
-/// Returns the end of a node's path, and notes it for nodes up to the first with a known end.
+/// Returns the end of a node's path.
+/// Notes it for the path's nodes that come before the first with a known end.
 pub(crate) fn find_end(links: &[u32], ends: &mut [u32], node: usize) -> u32
     requires streams { AreStreams links.now }
     requires few { length links.now ≤ 2 ^ 30 }
@@ -70,7 +70,8 @@ pub(crate) fn end_of(links: &[u32], from: usize) -> u32
     node as u32
 }
 
-/// Returns the end of a node's path, along links to it or to a node with a known end.
+/// Returns the end of a node's path.
+/// Follows links to it, or to a node whose end is known.
 #[inline]
 fn end_from(links: &[u32], ends: &[u32], from: usize) -> u32
     requires streams { AreStreams links.now }
@@ -90,7 +91,7 @@ fn end_from(links: &[u32], ends: &[u32], from: usize) -> u32
     ends[node]
 }
 
-/// Notes `last` for the nodes of a path, up to the first with a known end.
+/// Notes `last` for the path's nodes that come before the first with a known end.
 fn mark_path(links: &[u32], ends: &mut [u32], from: usize, last: u32)
     requires streams { AreStreams links.now }
     requires few { length links.now ≤ 2 ^ 30 }

@@ -98,7 +98,8 @@ impl Inflows {
     }
 }
 
-/// Adds the amount of each rim number of a tile to the weight of its cell, if it has one.
+/// Adds the inflow listed for each rim number of a tile to the weight of its cell.
+/// A rim number without a cell adds nothing.
 fn add_all(tiling: &Tiling, listed: &[u32], tile: u32, weights: &mut [u32])
     requires tile { tile < tile_count tiling.now }
     requires listed { length listed.now ≡ number_count tiling.now }
@@ -121,7 +122,6 @@ fn add_all(tiling: &Tiling, listed: &[u32], tile: u32, weights: &mut [u32])
     }
 }
 
-/// Adds `amount` to the weight of `cell`, if there is a cell.
 #[inline(always)]
 fn add_at(cell: Option<Place>, amount: u32, bounds: Bounds, weights: &mut [u32])
     requires small { IsSmall bounds }
@@ -149,7 +149,7 @@ fn through_at(tiling: &Tiling, flows: &[TileFlow], place: Place) -> Option<u32>
     flows[tiling.tile_of(place) as usize].through(place)
 }
 
-/// Returns how many cells' flow paths first leave their own tile at this rim number, maybe 0.
+/// Returns how many cells' flow paths first leave their own tile at this rim number.
 fn weight_of(tiling: &Tiling, flows: &[TileFlow], targets: &[Option<Place>], number: u32) -> u32
     requires flows { (d : Directed) × AreFlowsOf d tiling.now flows.now
         × AreTileCounts d tiling.now flows.now }
@@ -210,7 +210,6 @@ fn send_all(
     }
 }
 
-/// Adds `amount` to the inflow of `target`, if there is a target.
 fn send(tiling: &Tiling, target: Option<Place>, amount: u32, listed: &mut [u32])
     requires within { IfSome target (IsWithin tiling.now) }
     requires size { length listed.old ≡ number_count tiling.now }

@@ -1,7 +1,7 @@
-//! Flow accumulation and catchments over a map of directions.
+//! Flow accumulation, basins and catchments of a map of directions.
 //!
 //! Begin with [`accumulation`], [`basins`] and [`catchments`]. Callers with jobs of their own use
-//! [`tile_flow`] inside tiles and [`RimLinks`] between them. Uses `drainage` and `tile_maps`.
+//! [`tile_flow`] inside tiles and [`RimLinks`] between them.
 //!
 //! Modules: the maps, then flow inside a tile, then between tiles, then outlet numbers and laws:
 //!
@@ -10,15 +10,15 @@
 //! - `catchment`: `catchments`
 //! - `gauges`: faults and numbers of gauges
 //! - `numbering`: numbers cells by the ends of their flow paths
-//! - `end_numbers`: the trait for numbers of cells where paths end
+//! - `end_numbers`: the trait for numbers of cells where flow paths end
 //! - `flowing`: the flows of all tiles
 //! - `tile`: the flow of one tile
 //! - `cells`: codes, links and weights of a tile
 //! - `streams`: weights summed along links
 //! - `ends`: where paths along links end
-//! - `rim`: rim cells and where their paths end
+//! - `rim`: rim cells and where their paths along links end
 //! - `crossings`: flow from tile to tile
-//! - `inflows`: how many cells' paths enter each rim cell
+//! - `inflows`: how many cells' flow paths enter each rim cell from another tile
 //! - `outlets`: the outlet of each exit
 //! - `links`: `RimLinks`, inflows and outlets together
 //! - `outlet_numbers`: numbers of outlets

@@ -44,7 +44,7 @@ impl<'a> Model for RimLinks<'a> {
 }
 
 impl<'a> RimLinks<'a> {
-    /// Links the flows of all tiles, given in tile order.
+    /// Finds the inflows and outlets from the flows of all tiles, given in tile order.
     ///
     /// # Errors
     ///

@@ -56,7 +56,6 @@ impl<'a> Runs<'a> {
         self.length
     }
 
-    /// Returns the codes of a run.
     pub(crate) fn codes(&self, run: u32) -> &'a [Option<Code>]
         ensures value { result.now ≡ run_codes self.now run }
         ensures few { length result.now < 2 ^ 32 - 1 }
@@ -85,7 +84,6 @@ pub struct RunCounts {
 }
 
 impl RunCounts {
-    /// Counts the outlets of a run.
     fn of_run(alloc: Global, run: &[Option<Code>]) -> Result<RunCounts, AllocError>
         requires { length run.now < 2 ^ 32 - 1 }
         ensures { IfOk result (IsRunCounted run.now) }

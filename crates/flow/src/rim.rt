@@ -1,7 +1,8 @@
-//! The rim cells of a tile, and where their paths end inside the tile.
+//! The rim cells of a tile, and where their paths along links end.
 //!
 //! A side number is a rim cell's number in its tile (`Bounds::side_number`); a rim number is its
-//! number among the rim cells of all tiles (`Tiling::rim_number`).
+//! number among the rim cells of all tiles (`Tiling::rim_number`). Side numbers depend on the size
+//! of the largest tile: `side_cell` gets it, and `rim_ends` takes the tile itself as the largest.
 ghost use Rattle.std.specs.Prelude.{◌≡◌, ◌*◌, ◌^◌, ◌<◌, ◌≤◌, length, IfOk, IfSome};
 ghost use Rattle.tiles.specs.Cutting.{IsInBounds, IsWithinLimits, index_in};
 ghost use Rattle.tiles.specs.RimNumbers.{stride};
@@ -35,7 +36,7 @@ pub(crate) fn side_cell(largest: Bounds, bounds: Bounds, side: u32) -> Option<Pl
     }
 }
 
-/// Returns the index where each rim cell's path ends in the tile, by side number.
+/// Returns the index where each rim cell's path along links ends, by side number.
 pub(crate) fn rim_ends(alloc: Global, bounds: Bounds, links: &[u32]) -> Result<Vec<u32>, AllocError>
     requires small { IsSmall bounds }
     requires some_row { 1 ≤ bounds.rows }
@@ -48,7 +49,8 @@ pub(crate) fn rim_ends(alloc: Global, bounds: Bounds, links: &[u32]) -> Result<V
     ends_of_sides(alloc, bounds, links, &mut found)
 }
 
-/// Returns the index where each rim cell's path ends, noting ends in `found`.
+/// Returns the index where each rim cell's path along links ends.
+/// Notes ends in `found`.
 #[tactic(auto, using(crate::proofs::Windows::mapped_next))]
 fn ends_of_sides(
     alloc: Global,
@@ -72,8 +74,8 @@ fn ends_of_sides(
     Ok(ends)
 }
 
-/// Returns the index where a cell's path ends in its tile.
-/// `rim_ends` has it for rim cells; other cells follow their links.
+/// Returns the index where a cell's path along links ends.
+/// Reads it from `rim_ends` for a rim cell, and follows links for any other.
 pub(crate) fn end_in(bounds: Bounds, links: &[u32], rim_ends: &[u32], place: Place) -> u32
     requires small { IsSmall bounds }
     requires inside { IsInBounds bounds place }

@@ -9,16 +9,15 @@ ghost use Rattle.flow.specs.Sending.{IsSending, AreDonorCounts, AreZeros};
 use std::alloc::{AllocError, Global};
 
 /// The entry in `waits` of a node that has sent its sum downstream.
+/// An end gets it too, once its sum is complete.
 const SENT: u32 = u32::MAX;
 
-/// Returns a list of `len` zeros.
 pub(crate) fn zeros(alloc: Global, len: usize) -> Result<Vec<u32>, AllocError>
     ensures { IfOk result (λ v. AreZeros len v.items) }
 {
     vec![in alloc; 0; len]
 }
 
-/// Counts each node's donors.
 fn count_donors(links: &[u32], counts: &mut [u32])
     requires streams { AreStreams links.now }
     requires few { length links.now ≤ 2 ^ 30 }

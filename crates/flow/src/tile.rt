@@ -1,6 +1,7 @@
 //! The flow inside one tile: [`tile_flow`].
 //!
-//! A flow has each cell's link and exit and, if counted, how many others reach it in the tile.
+//! A flow has each cell's code, link and exit. A flow with counts also has, for each cell, how many
+//! other cells' flow paths reach it inside the tile.
 ghost use Rattle.std.specs.Prelude.{◌≡◌, ◌<◌, length, slice_index_or, IfOk, IfSome, None};
 ghost use Rattle.std.specs.Option.{option_map};
 ghost use Rattle.terrain.specs.StoredCells.{uncounted};
@@ -22,17 +23,19 @@ use std::marker::Model;
 use terrain::{Count, NoMemory, Place};
 use tiles::{Bounds, TileView};
 
-/// The flow inside one tile: each cell's exit, and its count if the flow has counts.
+/// The flow inside one tile: each data cell's exit and, with counts, its count.
+/// A cell's count is how many other cells' flow paths reach it inside the tile.
 #[derive(Drop)]
 pub struct TileFlow {
     bounds: Bounds,
     codes: Vec<Option<Code>>,
     // For each cell the index of the next one downstream, or its own if none is in the tile.
     links: Vec<u32>,
-    // How many other cells' paths reach each cell in the tile; empty in a flow without counts.
+    // How many other cells' flow paths reach each cell inside the tile; empty without counts.
     upstream: Vec<u32>,
-    // The index where each rim cell's path ends, by side number. For other cells `end_in` follows
-    // the links. The path of a cell without data ends at once, and `where_data` returns `None`.
+    // The index where each rim cell's path along links ends, by `Bounds::side_number` with this
+    // tile as the largest. For other cells `end_in` follows the links. A cell without data is
+    // linked to itself, and `exit_at` returns `None` for it.
     rim_ends: Vec<u32>,
 }
 
@@ -175,7 +178,6 @@ impl TileFlow {
     }
 }
 
-/// Returns whether the code is that of an outlet.
 #[inline(always)]
 pub(crate) fn is_outlet(code: Option<Code>) -> bool
     ensures { result ≡ is_outlet_code code }

@@ -73,7 +73,6 @@ ends_above ps k i d p h at = rw (get_or_from_slice_get ps k p d at) at h
 pub later : (ps : List Piece) (k i j : ℕ) → AreUpTo ps k i → i ≤ j → AreUpTo ps k j
 later ps k i j before h m p less at = omega (arith, before m p less at)
 
--- Each index below the extent has a ramp.
 pub reached : (ps : List Piece) (i : ℕ) → i < extent ps → (r : Ramp) × (ramp_at ps i ≡ Some r)
 unfolding extent
 reached [] i h = absurd (omega arith)
@@ -83,7 +82,6 @@ reached (p ∷ ps) i h = elim (cases_lt i p.end) [
       (rest.0, ramp_at-later p ps i later ∙ rest.1)
 ]
 
--- After one more piece, the extent is the greater of the old extent and the piece's end.
 added_extent : (ps : List Piece) (p : Piece) → extent (ps ++ p ∷ []) ≡ max (extent ps) p.end
 unfolding extent
 added_extent [] p = omega arith

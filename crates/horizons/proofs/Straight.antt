@@ -1,4 +1,4 @@
--- The difference of two ramps is straight: a sign at two slopes holds between them.
+-- The difference of two ramps is straight: a sign that it has at two slopes holds between them.
 use Rattle.std.proofs.Common.{◌≡◌, ℕ, ◌+◌, ◌-◌, ◌*◌, ◌<◌, ◌≤◌, Bool, true, false, List, Some, pos, ◌*ℤ◌, sym, ap, subst, ◌∙◌, arith, inl, inr}
 use Rattle.std.specs.Prelude.{slice_get}
 use borrow.Author.Differences.{up, down, true_is_lt, false_is_lt}

@@ -37,7 +37,7 @@ impl Model for Horizon {
     ghost invariant = { λ h. h.end ≡ extent h.pieces.items };
 }
 
-/// The piece of a horizon at which the next lookup begins, if indexes rise.
+/// The position of the piece at which the next lookup begins; indexes of lookups must not fall.
 #[derive(Clone, Copy)]
 pub struct Cursor {
     pub piece: usize,
@@ -138,6 +138,7 @@ impl Horizon {
     }
 
     /// Returns the piece at an index, and moves the cursor to it.
+    /// The cursor must have been used on this horizon only, and at no greater index.
     #[inline(always)]
     pub fn piece(&self, cursor: &mut Cursor, index: usize) -> Piece
         requires index { index < extent self.now }
@@ -152,7 +153,7 @@ impl Horizon {
     }
 
     /// Returns whether the horizon hides target `index`, which is `rise` above the eye.
-    /// The cursor must not have been used at a greater index.
+    /// The cursor must have been used on this horizon only, and at no greater index.
     #[inline(always)]
     pub fn hides(&self, cursor: &mut Cursor, index: usize, target: Target, rise: Value) -> bool
         requires index { index < extent self.now }

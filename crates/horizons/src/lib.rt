@@ -1,9 +1,9 @@
-//! Horizons: how high ground rises between an observer and each of many targets.
+//! Horizons: how high the ground rises between an observer and each of many targets.
 //!
 //! Targets are sorted by slope: cells aside per row or column outward from the observer. A
 //! [`Horizon`] is a function of a target's index, made of pieces that are straight over the slope.
-//! [`push_greater`] adds the greater of two ramps. All is computed in whole numbers, at the slopes
-//! of targets only. Each `end` is exclusive.
+//! [`push_greater`] extends a horizon by the greater of two ramps at each target. All is computed
+//! in whole numbers, at the slopes of targets only. Each `end` is exclusive.
 //!
 //! Modules, callers first:
 //!

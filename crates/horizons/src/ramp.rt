@@ -12,7 +12,8 @@ pub type Value = i64;
 type Product = i128;
 
 /// A straight line over the slope `s`: `(gain * s + level) / lines`.
-/// Its value is the ground's rise above the eye in units, and `s` cells aside, per `Target::line`.
+/// The slope is a target's cells aside per row or column outward. The value is the ground's rise
+/// above the eye, in units per row or column outward.
 #[derive(Clone, Copy, PartialEq)]
 pub struct Ramp {
     pub gain: Value,

@@ -1,4 +1,5 @@
--- Lists to which one item is appended: their length, and what holds of each item.
+-- A list with one item appended is longer by one. A property of the old items and of the new one is
+-- a property of all.
 use Rattle.std.proofs.Common.{◌≡◌, ℕ, ◌+◌, inl, inr, List, [], ◌∷◌, ◌++◌, length, Some, slice_get, subst, sym, ap, ◌∙◌, arith}
 use Rattle.std.proofs.lemmas.Bool.{cases_lt}
 use Rattle.std.proofs.lemmas.Option.{slice_get_within}

@@ -27,7 +27,7 @@ fn number(level: Height, steps: u32, edge: bool, ways: [Option<(Height, u32)>; 8
 
 const NONE: Option<(Height, u32)> = None;
 
-/// An edge cell drains to the steeper of two lower cells; without any it has 0.
+/// An edge cell drains to the steeper of two lower cells; without a lower cell it has code 0.
 #[test]
 fn code_of_one_cell(rt: HostRuntime) {
     let (side, corner, n) = (Some((15, 0)), Some((13, 0)), NONE);
@@ -38,7 +38,7 @@ fn code_of_one_cell(rt: HostRuntime) {
     assert_eq!(rt; number(20, 0, true, [same, same, n, n, n, n, n, n]), 0);
 }
 
-/// Drops decide, then steps, then the smallest code; without drops an edge cell has 0.
+/// Drops decide, then steps, then the smallest code; an edge cell without drops has code 0.
 #[test]
 fn codes_of_surroundings(rt: HostRuntime) {
     let (side, corner, s) = (Some((15, 0)), Some((13, 0)), Some((20, 0)));

@@ -97,7 +97,7 @@ fn valley_through_two_tiles(rt: HostRuntime) {
 }
 
 /// Asserts the filled heights of the valley, for tiles of this side.
-/// With `--fail-alloc` the run may also return a fault of memory.
+/// With `rt try --fail-alloc`, filling may also be refused memory.
 fn expect_filled_or_refused<R: Abort + Threads + Wait + Sync>(rt: &R, alloc: Global, side: u32) {
     let grid = land(rt, alloc, 6, 3, VALLEY);
     let tiling = cut(rt, &grid, side);
@@ -107,7 +107,7 @@ fn expect_filled_or_refused<R: Abort + Threads + Wait + Sync>(rt: &R, alloc: Glo
     }
 }
 
-/// The first tile's two low cells have one label, with joins inside the tile and over its rim.
+/// The first tile's two low cells have one label. It has joins inside the tile and over its rim.
 #[test]
 fn refused_memory_is_told(rt: HostRuntime) {
     expect_filled_or_refused(&rt, rt.alloc(), 3);

@@ -13,7 +13,6 @@ use std::process::Abort;
 use terrain::{NoMemory, Place};
 use tiles::Tiling;
 
-/// Finds the flow of a tile.
 pub(crate) fn flow_of(
     alloc: Global,
     tiling: &Tiling,
@@ -48,7 +47,6 @@ pub(crate) fn flows_of(
     Ok(flows)
 }
 
-/// Links the flows of tiles over their rims.
 fn links_of<'a>(
     alloc: Global,
     tiling: &Tiling,

@@ -19,14 +19,12 @@ pub(crate) fn land(rt: &impl Abort, alloc: Global, cols: u32, rows: u32, heights
     read_text(alloc, 0, text.as_bytes()).expect(rt, "a grid")
 }
 
-/// Cuts the grid into tiles of this side.
 pub(crate) fn cut(rt: &impl Abort, grid: &Grid, side: u32) -> Tiling
     ensures { Cuts result grid.now.terrain }
 {
     Tiling::new(grid.cols(), grid.rows(), side).expect(rt, "a tiling")
 }
 
-/// Returns the heights of cells.
 pub(crate) fn heights_of(rt: &impl Abort, alloc: Global, cells: &[Cell]) -> Vec<Option<Height>> {
     let mut heights = Vec::new(alloc);
     for cell in cells {

@@ -38,7 +38,7 @@ pub(crate) struct Maps {
     pub(crate) basins: &'static str,
 }
 
-/// Returns whether the values are those of a grid.
+/// Returns whether the values equal the heights of a grid; `None` equals NODATA.
 pub(crate) fn agree(values: &[Option<u32>], wanted: &Grid) -> bool {
     let cells = wanted.cells();
     values.len() == cells.len()
@@ -57,7 +57,6 @@ fn numbers(alloc: Global, codes: &[Option<Code>]) -> Result<Vec<Option<u32>>, No
     Ok(numbers)
 }
 
-/// Returns the values of counts.
 pub(crate) fn values_of(alloc: Global, counts: &[Count]) -> Result<Vec<Option<u32>>, AllocError> {
     counts.iter().map(|count| count.value()).collect(alloc)
 }

@@ -94,7 +94,7 @@ fn four_nodes(rt: HostRuntime) -> Result<(), Fail> {
     Ok(())
 }
 
-/// With `--fail-alloc` the flood returns a fault, or the right levels and labels.
+/// With `rt try --fail-alloc`, the flood returns a fault, or the right levels and labels.
 #[test]
 fn refused_memory_is_told(rt: HostRuntime) {
     let sources = [None, None, Some(2), None];

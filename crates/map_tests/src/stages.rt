@@ -12,7 +12,6 @@ use terrain::Grid;
 use tile_jobs::{JobFault, NoGate};
 use tiles::Tiling;
 
-/// Fills a grid, without a gate.
 pub(crate) fn filled_grid<R: Threads + Wait + Sync>(
     rt: &R,
     alloc: Global,
@@ -26,7 +25,6 @@ pub(crate) fn filled_grid<R: Threads + Wait + Sync>(
     filled(rt, alloc, grid, tiling, workers, &NoGate)
 }
 
-/// Finds the directions of a filled grid, without a gate.
 pub(crate) fn directions_of<R: Threads + Wait + Sync>(
     rt: &R,
     alloc: Global,

@@ -183,8 +183,8 @@ fn level_ground(rt: HostRuntime) {
     maps.expect(&rt, rt.alloc());
 }
 
-/// The first 16 codes of one terrain are all outlets, of the other none. The other has
-/// a river along row 0 to the row's end, a ridge, and pairs whose second cell is an outlet.
+/// Outlets are counted in groups of 16 codes. The first 16 codes of one terrain are all outlets, of
+/// the other none. The other has a river along row 0, a ridge, and pairs that each have an outlet.
 #[test]
 fn outlets_of_several_runs(rt: HostRuntime) {
     let fives =

@@ -1,4 +1,4 @@
--- Faults of tiles, sinks and gauges; added sinks change none of these faults.
+-- A fault of tiles, sinks or gauges forbids the map; added sinks do not change which fault does.
 use Rattle.std.proofs.Common.{◌≡◌, ℕ, ◌<◌, ◌≤◌, true, false, eqb, length, List, [], ◌∷◌, Option, None, Some, Err, sym, ap, subst, refl, ◌∙◌}
 use Rattle.std.specs.Option.{option_map, option_or}
 use Rattle.std.proofs.lemmas.Bool.{le-ltb, lt-ltb, cond-false, cond-true}
@@ -21,7 +21,7 @@ use Rattle.relief.specs.MapText.{IsMapOfText, IsMapText}
 use Rattle.relief.specs.Refusals.{tiles_of, gauge_fault, observer_fault, named_place_fault, request_fault, IsWorkRefusal}
 use Rattle.relief.proofs.Viewing.{forbidden}
 
--- for a grid that was read, `grid_with_sinks` is `raster_with_sinks`, without named sinks too
+-- a grid as read has no sinks, so `raster_with_sinks` with an empty list leaves it unchanged
 drained_text : (scale : ℕ) (text : List ℕ) (g : Raster) (sinks : List Place) →
     IsGridText scale text g → grid_with_sinks sinks g ≡ raster_with_sinks g sinks
 drained_text scale text g [] is = ap (λ (named : List Place). record g {
@@ -43,7 +43,6 @@ map_of_text w text map g is made = (
   subst (λ (r : Raster). IsMapText r w.map map) (drained_text w.scale text g w.sinks is) made,
 )
 
--- added sinks do not change the fault that forbids the map
 pub fault_without : (w : Request) (g : Raster) (sinks : List Place) →
     request_fault w (grid_with_sinks sinks g) ≡ request_fault w g
 fault_without w g [] = refl

@@ -1,4 +1,4 @@
--- `Runs` from the contracts of reading, making and writing.
+-- The contracts of reading, making and writing imply `Runs`.
 use Rattle.std.proofs.Common.{◌≡◌, ℕ, ◌+◌, List, Option, None, Some, Ok, Err, refl, sym, subst, ◌∙◌, arith}
 use Rattle.terrain.specs.Raster.{Raster}
 use Rattle.ascii_grid.specs.Device.{Device, Writes}

@@ -107,7 +107,6 @@ request_forbids w g f e = go (nat_lt most_tiles (tiles_of g w.tile)) e where
   go true h = let same : Tiling TooManyTiles ≡ f = cc in subst Forbids same tt
   go false h = sinks (sinks_fault g.terrain w.sinks) h
 
--- a fault that forbids the map is a work refusal
 pub forbidden : (w : Request) (g : Raster) (f : RunFault) → request_fault w g ≡ Some f →
     IsWorkRefusal w g f
 forbidden w g (Jobs fault) h = absurd (request_forbids w g _ h)
@@ -119,7 +118,6 @@ forbidden w g (Grid fault) h = h
 forbidden w g Read h = h
 forbidden w g Write h = h
 
--- a work refusal at the grid of a text is a run refusal at the text
 pub work_refused : (w : Request) (text : List ℕ) (g : Raster) (f : RunFault) →
     IsGridText w.scale text g → IsWorkRefusal w g f → IsRunRefusal w text f
 work_refused w text g (Jobs fault) is h = (g, is, h)
@@ -131,7 +129,6 @@ work_refused w text g (Grid fault) is h = absurd (request_forbids w g _ h)
 work_refused w text g Read is h = tt
 work_refused w text g Write is h = absurd (request_forbids w g _ h)
 
--- a work refusal is no fault of a device
 pub work_is_no_device : (w : Request) (g : Raster) (f : RunFault) → IsWorkRefusal w g f →
     (f ≡ Read → ⊥) × (f ≡ Write → ⊥)
 work_is_no_device w g (Jobs fault) h = (λ e. cc, λ e. cc)

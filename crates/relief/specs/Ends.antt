@@ -17,8 +17,8 @@ abbrev pub WritesLine : {D : Type 0} → (D → Option (List ℕ)) → Device D 
 WritesLine contents old new text =
     (written : Result ⊤ WriteFailed) × Writes contents old new text written
 
--- A complete run leaves the error device unchanged and has status 0. A fault has its line written
--- and has its own status.
+-- After `Ok` the status is 0 and the error device is unchanged. After a fault the status is the
+-- fault's, and the fault's line was written to the error device as `WritesLine` says.
 abbrev pub EndsAs : {E : Type 0} → (E → Option (List ℕ)) → Device E → Device E → Result ⊤ RunFault →
     ℕ → Type 0
 EndsAs lines errors reported result status = MatchResult result
@@ -50,8 +50,9 @@ pub record IsRefusalText (words : List Text) (text : List ℕ) : Type 0 where
   pub bad_sink : (place : ℕ) → HasBadSink words place →
       text ≡ codes "relief: bad sink word " ++ decimal place ++ codes "\n"
 
--- Nothing was read. Either the words ask for help or the version, which goes to the writer. Or they
--- are refused, with a message on the error device. Or memory was refused.
+-- Nothing was read. Status 0: the words ask for help or the version, and a text went to the writer.
+-- Status 1: the words are refused, and a message went to the error device. Status 3: memory was
+-- refused, and nothing was written.
 pub record EndsUnread {R W E : Type 0} (contents : W → Option (List ℕ))
     (lines : E → Option (List ℕ)) (words : List Text) (reader left : Device R)
     (writer grown : Device W) (errors reported : Device E) (status : ℕ) : Type 0 where
@@ -72,7 +73,8 @@ EndsProgram remaining contents lines words reader left writer grown errors repor
     ⊎ ((request : Request) × RequestFor words request
     × EndsRun remaining contents lines request reader left writer grown errors reported status)
 
--- Help goes to the writer, status 0; other messages to the error device, 1; refused memory: 3.
+-- Help or the version goes to the writer, with status 0. Other messages go to the error device,
+-- with status 1. Where memory was refused, nothing is written and the status is 3.
 abbrev pub EndsShowing : {W E : Type 0} → (W → Option (List ℕ)) → (E → Option (List ℕ)) →
     ErrorKind → Device W → Device W → Device E → Device E → ℕ → Type 0
 EndsShowing contents lines kind writer grown errors reported status =

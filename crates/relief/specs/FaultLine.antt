@@ -117,7 +117,8 @@ fault_line fault =
     codes "relief: " ++ decimal t.number ++ codes " " ++ t.name
     ++ option_map_or (λ d. codes " " ++ d) t.detail [] ++ codes "\n"
 
--- The exit status: 3 if memory or a thread was refused, 4 if a device failed, otherwise 2.
+-- The exit status for a fault's number: 3 if memory or a thread was refused, 4 if a device failed,
+-- otherwise 2.
 abbrev pub status_of : ℕ → ℕ
 status_of number =
     if number == 12 || number == 32 then 3 else if number == 51 || number == 52 then 4 else 2

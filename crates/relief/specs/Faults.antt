@@ -16,7 +16,7 @@ abbrev pub of_input : InputFault → RunFault
 of_input (input.Grid fault) = Grid fault
 of_input input.Read = Read
 
--- A fault of jobs is `Jobs` for a viewshed too, as for every map.
+-- A fault of jobs becomes `Jobs`; all other faults of a viewshed become `Sight`.
 abbrev pub of_sight : SightFault → RunFault
 of_sight (sight.Jobs fault) = Jobs fault
 of_sight fault = Sight fault

@@ -8,7 +8,7 @@ use Rattle.ascii_grid.specs.Text.{heights_text, counts_text}
 use Rattle.relief.specs.declared.making.MadeMap.{MadeMap}
 use Rattle.relief.specs.declared.making.MadeMap.TheVariants.{Heights, Codes, Counts}
 
--- The grid with these sinks; without any, the grid unchanged.
+-- The grid with these sinks, each once, in place of its own; for no sinks, the grid unchanged.
 abbrev pub grid_with_sinks : List Place → Raster → Raster
 grid_with_sinks [] g = g
 grid_with_sinks (p ∷ rest) g = raster_with_sinks g (p ∷ rest)

@@ -1,5 +1,6 @@
--- Which fault a run may return: the first of these. The text's fault, memory for its cells, or a
--- read; too many tiles; sinks; gauges or observers; other memory or a thread; a failed write.
+-- Which fault a run may return: the first of these. A fault of the text, refused memory for its
+-- cells, or a failed read; too many tiles; faulty sinks; faulty gauges, observers, target height or
+-- radius; other refused memory or a refused thread; a failed write.
 -- Trust base.
 use Rattle.std.specs.Prelude.{◌≡◌, ℕ, ◌<◌, nat_lt, ⊤, if◌then◌else◌, List, Option, None, Some, option_map}
 use Rattle.std.specs.Option.{option_or}
@@ -46,8 +47,8 @@ request_fault w g =
     if nat_lt most_tiles (tiles_of g w.tile) then Some (Tiling TooManyTiles)
     else option_or (named_place_fault w g) (option_map Sight (observer_fault g w.map))
 
--- A run may return the fault for this grid: the one that forbids the map. If none does, memory may
--- be refused, or a thread if there is more than one worker.
+-- A run on this grid may return the fault: the fault forbids the map, or none does and the fault is
+-- refused memory or, with several workers, a refused thread.
 abbrev pub IsWorkRefusal : Request → Raster → RunFault → Type 0
 IsWorkRefusal w g (Jobs jobs.Memory) = request_fault w g ≡ None
 IsWorkRefusal w g (Jobs jobs.NoThread) = (request_fault w g ≡ None) × (1 < w.workers)

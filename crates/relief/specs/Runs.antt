@@ -11,8 +11,8 @@ use Rattle.request.specs.Request.{Request}
 use Rattle.relief.specs.MapText.{IsMapOfText}
 use Rattle.relief.specs.Refusals.{IsRunRefusal}
 
--- A run of the request `w`. `remaining` are the bytes still to be read and `contents` the bytes
--- written, if they are known.
+-- A run of the request `w`. `remaining` gives the bytes that a reader has still to return, and
+-- `contents` the bytes written to a writer, if they are known.
 pub record Runs {R W T : Type 0} (remaining : R → Option (List ℕ)) (contents : W → Option (List ℕ))
     (w : Request) (reader left : Device R) (writer grown : Device W)
     (result : Result T RunFault) : Type 0 where

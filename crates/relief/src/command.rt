@@ -22,7 +22,7 @@ use tile_jobs::{Gate, NoGate};
 
 /// A [`Gate`] that reports the progress of a run.
 pub trait Progress: Gate {
-    /// With `--progress`, called once after the run, before the line of its fault is written.
+    /// Called once after a run with `--progress`, before the line of its fault is written.
     fn finish(&self);
 }
 
@@ -57,7 +57,7 @@ fn show<W: Write>(text: &str, out: &mut Counted<W>, status: u8) -> u8
 }
 
 /// Writes the text of an error of `clap`, and returns the exit status.
-/// Help and the version go to `writer`, refusals to `errors`. Refused memory writes nothing.
+/// Help and the version go to `writer`, refusals to `errors`. If memory is refused, writes nothing.
 fn show_error<W: Write, E: Write>(
     alloc: Global,
     error: &Error,
@@ -84,8 +84,10 @@ fn show_error<W: Write, E: Write>(
 
 /// Runs the program on `words`, its name first, and returns the exit status.
 ///
-/// 0: done. 1: words refused. 2: text, tiles, a sink, a gauge or an observer refused. 3: memory or
-/// a thread refused. 4: a device failed. An empty list counts as the program's name alone.
+/// 0: done. 1: words refused. 2: text, tiles, a sink, a gauge, an observer, target height or radius
+/// refused. 3: memory or a thread refused. 4: a device failed.
+///
+/// An empty list counts as the program's name alone.
 ///
 /// Help and the version go to `writer`. `errors` gets the line of a fault, the place of the first
 /// bad observer, gauge or sink word, or the message of `clap`. If such writes fail, the status is
@@ -162,7 +164,6 @@ pub fn run_words_reported<
     }
 }
 
-/// Runs a map, and calls `progress` if the options ask for it.
 fn run_reported<H: Threads + Wait + Sync, R: Read, W: Write, P: Progress + Sync>(
     rt: &H,
     alloc: Global,

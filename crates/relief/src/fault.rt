@@ -19,7 +19,8 @@ pub enum RunFault {
     Grid(GridFault),
     /// The grid has too many tiles of the requested side.
     Tiling(TilingFault),
-    /// Memory or a thread was refused.
+    /// A thread was refused, or memory other than for the text's cells.
+    /// No run returns `BadWorkers`.
     Jobs(JobFault),
     /// The observers, the target height or the radius are refused.
     Sight(SightFault),
@@ -60,7 +61,6 @@ impl From<JobFault> for RunFault {
     }
 }
 
-// A fault of jobs is `Jobs` for a viewshed too, as for every map.
 impl From<SightFault> for RunFault {
     ghost from_gives = { λ fault reported. reported ≡ of_sight fault };
 

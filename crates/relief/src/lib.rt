@@ -1,7 +1,7 @@
 //! Makes maps of terrain grids, from bytes to bytes, and runs the program `relief`.
 //!
-//! [`run`] reads a grid and writes one map; its contract `Runs` is the headline of
-//! `docs/promises.md`. [`run_words`] parses the command line first. Depends on all stages.
+//! [`run`] reads a grid and writes one map. Its contract `Runs` is the main promise of
+//! `docs/promises.md`. [`run_words`] parses a command line and runs what it requests.
 //!
 //! Modules, callers first:
 //!

@@ -24,13 +24,14 @@ use tile_maps::Runner;
 /// read. Nothing is written before the map is complete, and nothing is allocated after the first
 /// byte written.
 ///
-/// The contract does not model the bytes of standard input and output. For them it gives failures,
-/// the number of bytes moved, and that `writer` is unchanged until the map is complete.
+/// The contract does not model the bytes of standard input and output. For them it gives the counts
+/// of failures and of bytes moved. A fault other than a failed write leaves `writer` unchanged.
 ///
 /// # Errors
 ///
-/// The first of these: a fault of the text or a failed read; too many tiles; a fault of the sinks;
-/// a fault of the gauges or observers; memory or a thread refused; a failed write.
+/// The first of these: a fault of the text, refused memory for its cells or a failed read; too many
+/// tiles; a fault of the sinks; a fault of the gauges, observers, target height or radius; other
+/// refused memory or a refused thread; a failed write.
 ///
 /// # Examples
 ///

@@ -1,4 +1,4 @@
-//! The program `relief`: passes its arguments and standard streams to `run_words_reported`.
+//! The program `relief`: calls `run_words_reported` on its arguments and streams.
 #![tactic(auto)]
 
 mod progress;
@@ -17,7 +17,8 @@ const WORDS_REFUSED: u8 = 1;
 const NO_MEMORY: u8 = 3;
 
 /// The length of the list that [`keep_freed_lists`] frees, in bytes.
-/// With the allocator's header the list takes one page less than the C library's limit, 32 MiB.
+/// With the allocator's header the list takes one page less than 32 MiB. Freeing a longer list
+/// would not change what the C library keeps.
 const LONGEST_KEPT: usize = (1 << 25) - (1 << 13);
 
 /// Returns the exit status for unreadable words. Writes a line if a word is not UTF-8.

@@ -86,8 +86,8 @@ impl Stage {
 
 /// A [`Gate`] that reports the progress of each stage of a run.
 ///
-/// On a terminal it replaces one line at most ten times a second, and clears the line when the
-/// stage ends, so that the map may follow. Elsewhere it writes a line whenever a further tenth is
+/// On a terminal it replaces one line at most ten times a second. It clears the line when the stage
+/// ends, as the map may be written there. Elsewhere it writes a line whenever a further tenth is
 /// finished. A line that cannot be allocated or written is dropped.
 #[derive(Drop)]
 pub struct ProgressReport<'a, R> {

@@ -23,7 +23,7 @@ use Rattle.request.specs.Request.{Request, IsRequest}
 
 -- ---- subcommands and options
 
--- Accepts the whole numbers from low to high.
+-- A parser that accepts the whole numbers from low to high.
 abbrev pub from_to : ℕ → ℕ → ValueParser
 from_to low high = Signed (pos low) (pos high)
 
@@ -101,19 +101,19 @@ abbrev pub map_shape : Text → Shape
 map_shape name = record
     (new_shape name) { rules = tile_rule ∷ workers_rule ∷ scale_rule ∷ progress_rule ∷ [] }
 
--- A drainage map other than catchments, which takes sink words.
+-- The subcommand of a drainage map other than catchments. It takes sink words.
 abbrev pub drainage_shape : Text → Shape
 drainage_shape name = record (new_shape name) {
   rules = tile_rule ∷ workers_rule ∷ scale_rule ∷ progress_rule ∷ sinks_rule ∷ [];
 }
 
--- Catchments, which take sinks by `--sink` and gauge words.
+-- The subcommand of catchments. It takes gauge words, and sinks by `--sink`.
 abbrev pub catchments_shape : Shape
 catchments_shape = record (new_shape (codes "catchments")) {
   rules = tile_rule ∷ workers_rule ∷ scale_rule ∷ progress_rule ∷ sink_rule ∷ gauges_rule ∷ [];
 }
 
--- A viewshed, which takes observer words.
+-- The subcommand of a viewshed. It takes observer words, `--target` and `--radius`.
 abbrev pub view_shape : Shape
 view_shape = record (new_shape (codes "view")) {
   rules = tile_rule ∷ workers_rule ∷ scale_rule ∷ progress_rule ∷ target_rule ∷ radius_rule
@@ -136,7 +136,7 @@ program_app = record {
 
 -- ---- what a command line requests
 
--- The error of `clap` displays help or the version.
+-- An error of `clap` of this kind displays help or the version.
 abbrev pub IsHelp : ErrorKind → Type 0
 IsHelp kind = (kind ≡ DisplayHelp) ⊎ (kind ≡ DisplayVersion)
 

@@ -23,7 +23,7 @@ pub fn basins_of_sinks()
     ensures { BasinsOfSinks }
 {}
 
-/// Proves of one command line that `--sink` names sinks and words name gauges.
+/// Proves that in one command line `--sink` names the sinks and a word the gauge.
 #[tactic(auto, using(crate::proofs::Requests::catchments_of_a_gauge))]
 pub fn catchments_of_a_gauge()
     ensures { CatchmentsOfAGauge }

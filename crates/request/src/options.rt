@@ -1,4 +1,4 @@
-//! A map and its options; tile side, workers and scale are within limits: [`Options`].
+//! [`Options`]: a map and its options, with tile side, workers and scale within limits.
 ghost use Rattle.std.specs.Prelude.{◌≡◌, [], false, IfSome, IfNone, IfOk, IfErr};
 ghost use Rattle.request.specs.Request.{AreLimits, IsView};
 

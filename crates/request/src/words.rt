@@ -88,7 +88,6 @@ fn read_words<T: FromWord + Drop>(alloc: Global, words: &[&str]) -> Result<Vec<T
     Ok(items)
 }
 
-/// Parses observer words.
 fn observers_of(alloc: Global, words: &[&str]) -> Result<Vec<Observer>, WordsFault>
     ensures some { IfOk result (λ v. Spell observer_of (map (λ w. w.now) words.now) v.items) }
     ensures none { IfErr result
@@ -101,7 +100,6 @@ fn observers_of(alloc: Global, words: &[&str]) -> Result<Vec<Observer>, WordsFau
     }
 }
 
-/// Parses gauge words.
 fn gauges_of(alloc: Global, words: &[&str]) -> Result<Vec<Place>, WordsFault>
     ensures some { IfOk result (λ v. Spell sink_of (map (λ w. w.now) words.now) v.items) }
     ensures none { IfErr result
@@ -114,7 +112,6 @@ fn gauges_of(alloc: Global, words: &[&str]) -> Result<Vec<Place>, WordsFault>
     }
 }
 
-/// Parses sink words.
 fn sinks_of(alloc: Global, words: &[&str]) -> Result<Vec<Place>, WordsFault>
     ensures some { IfOk result (λ v. Spell sink_of (map (λ w. w.now) words.now) v.items) }
     ensures none { IfErr result
@@ -127,7 +124,6 @@ fn sinks_of(alloc: Global, words: &[&str]) -> Result<Vec<Place>, WordsFault>
     }
 }
 
-/// Returns the requested viewshed.
 fn view_of(alloc: Global, found: &ArgMatches<'_>) -> Result<Map, WordsFault>
     ensures some { IfOk result (Names (codes "view") (rows_of (found_of found.now))) }
     ensures none { IfErr result (IsMapFault (codes "view") (rows_of (found_of found.now))) }
@@ -147,7 +143,6 @@ fn view_of(alloc: Global, found: &ArgMatches<'_>) -> Result<Map, WordsFault>
     })
 }
 
-/// Returns the requested catchments.
 fn catchments_of(alloc: Global, found: &ArgMatches<'_>) -> Result<Map, WordsFault>
     ensures some { IfOk result (Names (codes "catchments") (rows_of (found_of found.now))) }
     ensures none { IfErr result (IsMapFault (codes "catchments") (rows_of (found_of found.now))) }
@@ -187,7 +182,6 @@ fn sinks_given(alloc: Global, name: &str, found: &ArgMatches<'_>) -> Result<Vec<
     sinks_of(alloc, words)
 }
 
-/// Returns whether `--progress` is given.
 fn progress_given(found: &ArgMatches<'_>) -> bool
     ensures { result ≡ is_given (codes "progress") (rows_of (found_of found.now)) }
 {
@@ -231,7 +225,7 @@ fn requested_options<'a>(alloc: Global, words: &'a [&'a str]) -> Result<Options,
     let Some(options) = with_options(map, found) else {
         return Err(WordsFault::NoMap);
     };
-    // `Err` is a viewshed unchanged, for which `sinks` is empty.
+    // `Err` has the options of a viewshed, for which `sinks` is empty.
     match options.with_sinks(sinks) {
         Ok(options) => Ok(options),
         Err(options) => Ok(options),

@@ -34,7 +34,7 @@ impl Crowd {
         })
     }
 
-    /// Waits until a job has entered more than `before` times; false on giving up.
+    /// Waits until a job has entered more than `before` times; returns false on giving up.
     fn enters_again(&self, job: &AtomicU64, before: u64) -> bool {
         for _ in 0..MOST_LOOKS {
             if job.load(Ordering::SeqCst) > before {

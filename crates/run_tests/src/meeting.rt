@@ -143,7 +143,7 @@ fn tiles_meet_at_each_stage(rt: HostRuntime) {
     gate.expect(&rt, 2, 4, "catchments");
 }
 
-/// `filled` has two stages for tiles with inner cells, too.
+/// `filled` has two stages also for tiles that have cells inside their rim.
 #[test]
 fn tiles_with_inner_cells_meet(rt: HostRuntime) {
     let alloc = rt.alloc();

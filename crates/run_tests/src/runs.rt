@@ -50,7 +50,7 @@ impl Read for Endless {
     }
 }
 
-/// A writer of `each` bytes a call, `room` in all; then an error, or 0 if `stuck`.
+/// A writer of at most `each` bytes a call and `room` in all; then an error, or 0 if `stuck`.
 #[derive(Drop)]
 struct Short {
     taken: Vec<u8>,
@@ -92,7 +92,7 @@ impl Write for Short {
     }
 }
 
-/// Numbers of workers. One worker reads and writes without jobs, several with jobs.
+/// Numbers of workers. Several workers read in batches and write by jobs; one does neither.
 const WORKERS: [u32; 3] = [1, 2, 8];
 
 /// Runs `fill` on the bowl, and asserts the bytes written and the failures.

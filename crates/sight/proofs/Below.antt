@@ -1,4 +1,4 @@
--- Ground of one height that no cell of a line near the rays exceeds hides what the line blocks.
+-- Ground of one height, which no cell of a line near the rays exceeds, hides what the line blocks.
 use Rattle.std.proofs.Common.{arith, refl, sym, ap, ◌∙◌, ◌≡◌, ◌+◌, ◌-◌, ◌<◌, ◌≤◌, ◌⊎◌, ℕ, ℤ, pos, ◌+ℤ◌, ◌-ℤ◌, ◌*ℤ◌, ◌≤ℤ◌, ◌<ℤ◌, true, List, length, Option, None, Some, get_or, inl, inr}
 use borrow.Author.Differences.{true_is_lt}
 use Rattle.std.specs.Int.{int_div_euclid}
@@ -29,7 +29,6 @@ offsets_rise k a b s t some more slope low high =
     let on = low_onward a s.offset t.offset s.line t.line k some slope low.low in
     smaller a b t.line (omega (arith, ints, on, high.high))
 
--- a ray that passes among the cells from `offset` to `offset` passes that cell
 pub passes_one : (k : ℕ) (offset : ℤ) (t : Target) → PassesAmong k offset offset t →
     Passes k offset t
 passes_one k offset t among = record { low = among.low; high = among.high }

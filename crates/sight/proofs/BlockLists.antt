@@ -1,4 +1,4 @@
--- Lists of upper bounds of the heights of blocks, and of blocks of blocks.
+-- Upper bounds of near blocks, bounded 8 by 8, bound far blocks. Lists of bounds may be joined.
 use Rattle.std.proofs.Common.{arith, refl, sym, ap, subst, ◌∙◌, ◌≡◌, ◌+◌, ◌-◌, ◌*◌, ◌/◌, ◌%◌, ◌<◌, ◌≤◌, ℕ, ℤ, List, [], ◌∷◌, ◌++◌, length, length-append, get_or, get_or-take, get_or-drop, drop, slice_range, ◌≤ℤ◌, Option, None, Some, inl, inr}
 use Rattle.std.proofs.lemmas.Bool.{cases_lt}
 use Rattle.std.proofs.lemmas.List.{get_or_past}
@@ -28,7 +28,6 @@ pub run_at : (cells : List (Option ℤ)) (a b i : ℕ) → i < b - a →
 run_at cells a b i below = get_or-take (b - a) (drop a cells) i None below
     ∙ get_or-drop a cells i None
 
--- row r of a block is at or past the block's first row, and before the next block's
 pub in_block : (size r block : ℕ) → 0 < size → r / size ≡ block → (block * size ≤ r)
     × (r < block * size + size)
 in_block size r block some is =
@@ -49,7 +48,7 @@ few_blocks size cells some = elim (cases_lt cells (blocks_in size cells)) [
   | inr few ↦ few
 ]
 
--- the entries of blocks, for a terrain of permitted size, meet `IsGround`, one entry a block
+-- the entries of a terrain's blocks are ground of one cell a block, within the limits
 pub ground_of_tops : (size : ℕ) (t : Terrain) (tops : List (Option ℤ)) → 0 < size →
     (1 ≤ t.cols) × (t.cols ≤ 4096) → (1 ≤ t.rows) × (t.rows ≤ 4096) → AreTops size t tops
     → IsGround (blocks_in size t.cols) (blocks_in size t.rows) tops

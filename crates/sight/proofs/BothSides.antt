@@ -1,4 +1,4 @@
--- The marks of a window that the lines on both sides of an observer leave.
+-- Two passes, over the lines on each side of an observer, leave exactly the marks of open cells.
 use Rattle.std.proofs.Common.{arith, refl, sym, ap, ◌∙◌, ◌≡◌, ◌+◌, ◌-◌, ◌*◌, ◌<◌, ◌≤◌, ℕ, ℤ, pos, ◌+ℤ◌, ◌-ℤ◌, Bool, true, false, not, ◌&&◌, List, Option, None, get_or, unwrap_or, inl, inr}
 use Rattle.std.specs.Int.{abs_diff}
 use Rattle.std.specs.List.{list_any, range_with_len}
@@ -14,7 +14,6 @@ use Rattle.sightlines.specs.declared.walk.Sightline.{Sightline}
 use Rattle.sight.specs.declared.window.Window.{Window}
 use Rattle.sight.proofs.Families.{walk_is_blocked}
 
--- a target's height above 0 is the eye's plus the target's rise above the eye
 rises : (e g h : ℤ) → g +ℤ h ≡ e +ℤ ((g +ℤ h) -ℤ e)
 rises e g h = omega (arith, ints)
 
@@ -32,7 +31,7 @@ lines_block cells f height n x y at away =
     walk_is_blocked cells f n y (rise_at cells f height n y) (sightline_to cells f height x y)
     (ap axis (sym at)) refl refl high away
 
--- nothing blocks a walk to the observer's own line or the next, which meets no crossing
+-- a walk of at most one step meets no crossing, so nothing blocks it
 none_between : (cells : List (Option ℤ)) (l : Sightline) → steps_of l ≤ 1 →
     walk_blocks cells l ≡ false
 none_between cells l few =

@@ -99,7 +99,7 @@ rank_at rays targets ranks n rank within are at =
     ap (slice_get targets) (sym (get_or_from_slice_get ranks n rank 0 has))
     ∙ are.each n t (slice_get-get_or rays n (record { offset = pos 0; line = 0 }) within)
 
--- a lookup stays right if only cursor and last rank change and the cursor may be used there
+-- a lookup stays right if only cursor and last rank change, and the cursor may be used at that rank
 pub looked_on : (cells : List (Option ℤ)) (f : Family) (targets : List Target) (k : ℕ) (old new :
     SweepLookup) → LooksFrom cells f targets k old → new.line ≡ old.line → new.sweep ≡ old.sweep
     → IsUpTo new.sweep.highest new.cursor new.last → LooksFrom cells f targets new.line new
@@ -125,7 +125,6 @@ and_true : (a b : Bool) → b ≡ true → (a && b) ≡ a
 and_true true b h = h
 and_true false b h = refl
 
--- the new mark of a blocked cell is false; `left_open`: that of any other cell is the old one
 left_blocked : (cells : List (Option ℤ)) (f : Family) (w : Window) (height : ℕ) (old : List Bool)
     (n y : ℕ) → is_blocked_before cells f n y (rise_at cells f height n y) n ≡ true →
     mark_left cells f w height old n y ≡ false
@@ -144,7 +143,7 @@ same_target : (f : Family) (t : Target) (m z y : ℕ) → IsAtCell f y t → t �
 same_target f t m z y stands e =
     (ap (λ q. q.line) (sym e), omega (arith, ints, stands.offset, ap (λ q. q.offset) e))
 
--- cells of rays below index `end` have their new mark; other cells have the old or the new one
+-- on lines from 2 on, cells of rays below `end` have their new mark, others the old or the new one
 pub record AreHiddenBelow (cells : List (Option ℤ)) (f : Family) (w : Window) (height : ℕ)
     (rays : List Target) (end : ℕ) (old new : List Bool) : Type 0 where
   pub size : length new ≡ length old

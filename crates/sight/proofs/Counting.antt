@@ -1,4 +1,4 @@
--- The values of a tile, after each observer.
+-- After each observer, a tile's values count the observers so far.
 use Rattle.std.proofs.Common.{arith, refl, sym, ap, ◌∙◌, ◌≡◌, ◌+◌, ◌-◌, ◌*◌, ◌/◌, ◌%◌, ◌<◌, ℕ, ℤ, Bool, true, false, List, length, get_or, take, Option, None, Some, option_map, slice_get, inl, inr}
 use Rattle.std.proofs.lemmas.Bool.{cases_lt}
 use Rattle.std.proofs.lemmas.List.{get_or_past, length-take}
@@ -68,7 +68,6 @@ passed t os target radius i d b values less before none = record {
       ∙ value_counted t os target radius i d p false less (none p inside);
 }
 
--- if a cell's entry, m for data and None for NODATA, is Some n, then n is m
 value_few : (h : Option ℤ) (n m : ℕ) → option_map (λ _. m) h ≡ Some n → n ≡ m
 value_few None n m e = absurd (cc)
 value_few (Some x) n m e = cc

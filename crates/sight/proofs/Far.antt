@@ -1,4 +1,4 @@
--- Places outside of the radius of an observer.
+-- If the nearest place of some bounds is outside an observer's radius, all their places are.
 use Rattle.std.proofs.Common.{arith, ◌≡◌, ◌+◌, ◌-◌, ◌*◌, ◌<◌, ◌≤◌, ℕ, false, max, min}
 use Rattle.std.specs.Int.{abs_diff}
 use Rattle.std.proofs.lemmas.Bool.{leb-false, lt-leb}
@@ -13,7 +13,6 @@ nearest : (a from count x : ℕ) → from ≤ x → x < from + count →
     abs_diff a (max from (min a (from + count - 1))) ≤ abs_diff a x
 nearest a from count x low high = omega arith
 
--- if the nearest place of the bounds is outside the radius, all are
 pub all_far : (eye near p : Place) (b : Bounds) (radius : ℕ) → near.row ≡ max b.top
     (min eye.row (b.top + b.rows - 1)) → near.col ≡ max b.left (min eye.col (b.left + b.cols - 1))
     → is_near eye near radius ≡ false → IsInBounds b p → is_near eye p radius ≡ false

@@ -1,4 +1,4 @@
--- A horizon raised to the ground of a line, piece by piece.
+-- Pushes, piece by piece, raise a horizon to the ground of a line.
 use Rattle.std.proofs.Common.{arith, refl, ap, negsuc, ◌∙◌, ◌≡◌, ℕ, ◌+◌, ◌-◌, ◌*◌, ◌<◌, ◌≤◌, ℤ, pos, ◌+ℤ◌, ◌-ℤ◌, ◌*ℤ◌, ◌≤ℤ◌, ◌<ℤ◌, subst, true, List, [], Option, Some, inl, inr}
 use Rattle.std.specs.Prelude.{slice_get}
 use Rattle.std.proofs.lemmas.Bool.{cases_lt}
@@ -31,7 +31,8 @@ before_to targets k m offset u are at_m before i t below at_i =
     high_back offset t.offset u.offset t.line u.line k (are.each i t at_i).line.0
     (slope_up targets i m t u are (omega arith) at_i at_m) before
 
--- if ray `from` passes `offset`, rays `from` on before `last + 1` pass among `offset` to `last`
+-- if ray `from` passes `offset`, it and the later rays that cross before `last + 1` pass among the
+-- cells from `offset` to `last`
 pub passes_onward : (targets : List Target) (k from end i : ℕ) (offset last : ℤ) (u t : Target) →
     AreTargets targets → slice_get targets from ≡ Some u → Passes k offset u →
     AreBefore targets k (last +ℤ pos 1) end

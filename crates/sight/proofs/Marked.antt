@@ -1,4 +1,4 @@
--- Marks of the places of some bounds, place by place.
+-- Marks set place by place, and the marks that a sweep leaves, are right for their places.
 use Rattle.std.proofs.Common.{arith, sym, ap, subst, ◌∙◌, ◌≡◌, ◌+◌, ◌<◌, ℕ, Bool, false, List, length, get_or, set, inl, inr}
 use Rattle.std.proofs.lemmas.Bool.{cases_eq}
 use Rattle.std.proofs.lemmas.List.{length-set, get_or-set_same, get_or-set_other}
@@ -29,7 +29,7 @@ marked_more b Holds p marks i x inside at before is = record {
   ];
 }
 
--- of marks that are right for the first crossings, a sweep leaves those of the seen places
+-- from marks right for the first crossings, a sweep leaves exactly the marks of seen places
 pub left_seen : (b : Bounds) (t : Terrain) (o : Observer) (target radius : ℕ)
     (old new : List Bool) → AreMarked b (MarksSeenIfOpen t o target radius) old →
     AreLeft b (λ (p : Place). is_open t o p target) old new

@@ -18,7 +18,6 @@ or_between : (a b c : Bool) → (a || (b || c)) ≡ ((a || b) || c)
 or_between true b c = refl
 or_between false b c = refl
 
--- a range longer by one has a passing number exactly if the range has one or the next passes
 pub any_next : (p : ℕ → Bool) (a n : ℕ) →
     list_any p (range_with_len a (n + 1)) ≡ (list_any p (range_with_len a n) || p (a + n))
 any_next p a zero = let same : a + 0 ≡ a = omega arith in rw same (or_none (p a))

@@ -1,4 +1,4 @@
--- Which marks are kept after the sweeps over columns and over rows.
+-- The sweep over columns leaves the marks of places that no column crossing blocks; rows alike.
 use Rattle.std.proofs.Common.{arith, sym, ap, ◌∙◌, ◌≡◌, ◌+◌, ◌-◌, ◌*◌, ◌<◌, ◌≤◌, ℕ, ℤ, pos, ◌+ℤ◌, Bool, true, false, not, ◌&&◌, List, Option, get_or, unwrap_or}
 use Rattle.std.proofs.lemmas.Nat.{mul-add-lt}
 use Rattle.terrain.specs.Raster.{Terrain}
@@ -14,7 +14,6 @@ use Rattle.sight.specs.declared.sides.Coordinate.{Coordinate}
 use Rattle.sightlines.specs.declared.walk.Sightline.{Sightline}
 use Rattle.sightlines.proofs.Crossings.{height_is, column_blocks-walk, row_blocks-walk}
 
--- the columns as a coordinate: those of the observer's cell and of the tile
 abbrev pub columns_at : Bounds → Place → Coordinate
 columns_at b p =
     record { at = p.col; stride = 1; tile = record { first = b.left; cells = b.cols; stride = 1 } }

@@ -1,4 +1,4 @@
--- The ramp of a line's ground between two cells, and where rays cross the line.
+-- The ramp between two cells hides what their ground blocks. Rays cross lines inside the side.
 use Rattle.std.proofs.Common.{arith, refl, sym, ap, ◌∙◌, ◌≡◌, ◌+◌, ◌-◌, ◌*◌, ◌/◌, ◌%◌, ◌<◌, ◌≤◌, ℕ, ℤ, pos, negsuc, ◌+ℤ◌, ◌-ℤ◌, ◌*ℤ◌, ◌≤ℤ◌, ◌<ℤ◌, int_lt, false, Option, None, Some, inl, inr}
 use borrow.Author.Differences.{up, down}
 use Rattle.std.proofs.lemmas.Int.{ints}
@@ -9,14 +9,12 @@ use Rattle.sightlines.specs.Walk.{is_above}
 use Rattle.sightlines.proofs.Ground.{above_both, weighed_height-some}
 use Rattle.sight.proofs.Products.{sum_times, rest_times, times_between}
 
--- adding one number to both sides does not change a comparison
 moved : (a b d : ℤ) → int_lt (a +ℤ d) (b +ℤ d) ≡ int_lt a b
 moved a b d = grind (arith, ints)
 
 lt_moved : (x y a b d : ℤ) → x ≡ a +ℤ d → y ≡ b +ℤ d → int_lt x y ≡ int_lt a b
 lt_moved x y a b d p q = rw (p, q) (moved a b d)
 
--- r near and m far heights add up to r + m near heights and m times far less near
 ground_gains : (near far : ℤ) (r m : ℕ) →
     ((pos r *ℤ near) +ℤ (pos m *ℤ far)) ≡ (near *ℤ pos (r + m)) +ℤ ((far -ℤ near) *ℤ pos m)
 ground_gains near far r m = omega (arith, ints, rest_times far near (pos m))
@@ -25,7 +23,7 @@ sight_rises : (e rise : ℤ) (k r : ℕ) →
     ((e *ℤ pos r) +ℤ ((e +ℤ rise) *ℤ pos k)) ≡ (rise *ℤ pos k) +ℤ (e *ℤ pos (r + k))
 sight_rises e rise k r = omega (arith, ints, sum_times e rise (pos k))
 
--- at a ray m n-ths past the cell at `offset`, a ramp is n times its base plus m steps
+-- where a ray is m n-ths past the cell at `offset`, a ramp's value is n bases and m steps
 pub ramp_gains : (base step offset j : ℤ) (n k m : ℕ) → j *ℤ pos k ≡ (offset *ℤ pos n) +ℤ pos m
     → ((step *ℤ pos k) *ℤ j) +ℤ ((base -ℤ (step *ℤ offset)) *ℤ pos n) ≡ (base *ℤ pos n)
     +ℤ (pos m *ℤ step)
@@ -78,7 +76,6 @@ shown_between near far e rise offset j n k m below few is =
         ≡ (((near -ℤ e) *ℤ pos n) +ℤ (pos m *ℤ step)) +ℤ (e *ℤ pos n)
     raised near e step n m = omega (arith, ints, rest_times near e (pos n))
 
--- a crossing whose near cell is NODATA cannot block
 pub not_shown_near : (far : Option ℤ) (n m : ℕ) (z : ℤ) → m < n →
     is_above None (n - m) far m z ≡ false
 not_shown_near far n m z h = rw (weighed_height-some None (n - m) (omega arith)) refl

@@ -14,7 +14,6 @@ use Rattle.sight.specs.declared.fault.SightFault.TheVariants.{BadEye, Jobs, Outs
 use Rattle.std.proofs.lemmas.Bool.{ltb-true, ltb-false, and_parts, or_parts, not-false}
 use Rattle.sight.specs.Viewed.{IsFaultless}
 
--- the optional fault o is not fault f
 abbrev pub IsNot : {F : Type 0} → F → Option F → Type 0
 IsNot f o = o ≡ Some f → ⊥
 
@@ -91,7 +90,7 @@ inside_from t i o e =
     (not-false (ltb o.row t.rows && ltb o.col t.cols) parts.0) in
     (ltb-true o.row t.rows both.0, ltb-true o.col t.cols both.1)
 
--- if no place has a fault, all observers are inside the grid
+-- if no observer's place has a fault, all observers are inside the grid
 no_place_fault : (t : Terrain) (i : ℕ) (os : List Observer) → is_none (place_fault t i os) ≡ true →
     (k : ℕ) (d : Observer) → k < length os → IsInside t (place_of (get_or os k d))
 no_place_fault t i [] e k d h = absurd (omega arith)

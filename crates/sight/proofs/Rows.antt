@@ -16,7 +16,6 @@ corner = record { row = 0; col = 0; eye = 0 } ∷ []
 abbrev pub values_from_corner : Terrain → List ℕ
 values_from_corner t = map (viewshed_value t corner 0 8192) (places t.cols t.rows)
 
--- a terrain and the values of its places
 abbrev pub ValueRow : Type 0
 ValueRow = Terrain × List ℕ
 
@@ -24,7 +23,8 @@ abbrev pub HaveValues : List ValueRow → Type 0
 HaveValues rows =
     map (λ (row : ValueRow). values_from_corner row.0) rows ≡ map (λ (row : ValueRow). row.1) rows
 
--- ground at a line of sight, above one; NODATA, which blocks nothing; averages above one, at one
+-- in turn: ground at the line of sight, and above it; NODATA, which blocks nothing; an average
+-- above the line, and at it
 small_grids : HaveValues (
     (land 3 1 (up 0 ∷ up 5 ∷ up 10 ∷ []), 1 ∷ 1 ∷ 1 ∷ [])
     ∷ (land 3 1 (up 0 ∷ up 6 ∷ up 10 ∷ []), 1 ∷ 1 ∷ 0 ∷ [])

@@ -17,7 +17,6 @@ use Rattle.sightlines.proofs.Levels.{times_small, between_small}
 use Rattle.sightlines.proofs.Toward.{lead_up_is, lead_down_is}
 use Rattle.sight.proofs.Rays.{ramp_gains, shown_between, not_shown_near, not_shown_far, cell_is, stays_inside}
 
--- the quotient of `div_euclid`, times the divisor, is not above the number
 pub floor_low : (z : ℤ) (n : ℕ) → 0 < n → (int_div_euclid z (pos n) *ℤ pos n) ≤ℤ z
 floor_low (pos a) n some = omega (arith, ints, div-add-mod' a n)
 floor_low (negsuc a) n some = omega (arith, ints, div-add-mod' a n, mod_below a n some)
@@ -35,7 +34,7 @@ floor_small (pos a) n some h =
 floor_small (negsuc a) n some h =
     omega (arith, ints, mul-le (a / n) 1 (a / n) n (omega arith) (omega arith), div-add-mod' a n)
 
--- the ray to a target on line n crosses line k m n-ths past the cell at `offset`, for some m < n
+-- for a target on line n, its ray crosses line k at m n-ths past the cell at `offset`, with m < n
 pub past : (k : ℕ) (offset : ℤ) (t : Target) → Passes k offset t → (m : ℕ) × (m < t.line)
     × ((t.offset *ℤ pos k) ≡ (offset *ℤ pos t.line) +ℤ pos m)
 past k offset t p =
@@ -146,7 +145,7 @@ pub level_small : (near far e offset : ℤ) → IsHeight near → IsHeight far �
 level_small near far e offset a b is few = rest_small (near -ℤ e) ((far -ℤ near) *ℤ offset)
     (base_small near e a is) (tilt_within near far offset a b few)
 
--- a ramp is a weighted sum of its two cells' heights above the eye
+-- a ramp's value is a weighted sum of its two cells' heights above the eye
 mixed : (near far e : ℤ) (r m : ℕ) → ((near -ℤ e) *ℤ pos (r + m)) +ℤ (pos m *ℤ (far -ℤ near))
     ≡ ((near -ℤ e) *ℤ pos r) +ℤ ((far -ℤ e) *ℤ pos m)
 mixed near far e r m = omega (

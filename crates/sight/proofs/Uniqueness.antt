@@ -1,4 +1,5 @@
--- Terrain, observers, target and radius have at most one viewshed; a map of all values is one.
+-- Terrain, observers, target and radius have at most one viewshed. A map of all viewshed values is
+-- a viewshed.
 use Rattle.std.proofs.Common.{arith, sym, ap, ◌∙◌, ◌≡◌, ◌*◌, ◌/◌, ◌%◌, ◌<◌, ℕ, ℤ, List, map, get_or, Option, None, Some, option_map, MatchOption}
 use Rattle.std.specs.List.{range_with_len}
 use Rattle.std.proofs.lemmas.List.FromFn.{fill_by_all}

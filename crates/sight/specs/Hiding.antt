@@ -11,7 +11,8 @@ use Rattle.sight.specs.declared.window.Window.{Window}
 abbrev pub IsInRun : CellRun → ℕ → Type 0
 IsInRun r x = (r.first ≤ x) × (x < r.first + r.cells)
 
--- The lines' run and strides are within 4096, the side is in the family's, each cell has a mark.
+-- The run across the lines ends by 4096, and strides are at most 4096. The run along the lines is
+-- in the family's side. Each cell has a mark.
 pub record IsWindow (f : Family) (w : Window) (marks : List Bool) : Type 0 where
   pub lines : w.lines.first + w.lines.cells ≤ 4096
   pub first : f.side.first ≤ w.side.first
@@ -20,8 +21,8 @@ pub record IsWindow (f : Family) (w : Window) (marks : List Bool) : Type 0 where
   pub inside : (x y : ℕ) → x < w.lines.cells → y < w.side.cells →
       x * w.lines.stride + y * w.side.stride < length marks
 
--- Different cells have different marks. Along one coordinate marks are adjacent; along the other
--- they are at least as far apart as the first coordinate's run has cells.
+-- Along one coordinate marks are adjacent; along the other they are at least as far apart as the
+-- first coordinate's run has cells. So different cells have different marks.
 pub record IsApart (w : Window) : Type 0 where
   pub apart : ((w.side.stride ≡ 1) × (w.side.cells ≤ w.lines.stride))
       ⊎ ((w.lines.stride ≡ 1) × (w.lines.cells ≤ w.side.stride))

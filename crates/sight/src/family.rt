@@ -1,6 +1,8 @@
-//! A family of crossings: all those with the lines on one side of an observer.
+//! A family of crossings: with the columns, or the rows, on one side of an observer.
 //!
-//! Lines count outward from 1. `Family::span` returns the ground that a ray meets on a line.
+//! These columns or rows are the family's lines, and count outward from 1. A ray is a line of sight
+//! without its heights, given by its target. `Family::span` returns the ground that a ray meets on
+//! a line.
 ghost use Rattle.std.specs.Prelude.{◌≡◌, ◌↔◌, ℕ, ◌^◌, ◌≤◌, IsTrue, true, pos, ◌+ℤ◌, ◌-ℤ◌, ◌*ℤ◌, ◌≤ℤ◌, ◌<ℤ◌, ◌<◌, ℤ, None, Some, MatchOption, unsigned_abs};
 ghost use Rattle.std.specs.Bool.{OnTrue};
 ghost use Rattle.horizons.specs.declared.target.Target.{Target};
@@ -35,7 +37,8 @@ pub struct Side {
     pub cells: u32,
 }
 
-/// The crossings with the columns, or rows, on one side of an eye; `eye` is its height above 0.
+/// The crossings with the columns, or the rows, on one side of an observer.
+/// `eye` is the eye's level, in units.
 #[derive(Clone, Copy)]
 pub struct Family {
     pub lines: Lines,
@@ -45,7 +48,8 @@ pub struct Family {
 
 /// The ground that a ray meets on a line, as a ramp.
 /// The ray passes over the cell at `offset`, or between it and the next. The ramp holds for this
-/// ray and those of no lower slope that cross before `last + 1`; with `alone` for this ray only.
+/// ray, and for rays of no lower slope that cross the line before the cell at `last + 1`. With
+/// `alone` it holds for this ray only.
 #[derive(Clone, Copy)]
 pub struct Span {
     pub offset: i32,
@@ -76,7 +80,7 @@ fn is_at_centre(target: Target, line: u32, offset: i32) -> bool
     target.offset * line as i32 == offset * target.line as i32
 }
 
-/// Returns the ramp of targets that the sweep has passed, above all ground.
+/// Returns a ramp above all ground, for the targets that the sweep has passed.
 /// One ramp for all of them keeps the horizon short.
 #[inline(always)]
 pub(crate) fn passed() -> Ramp
@@ -90,7 +94,6 @@ pub(crate) fn passed() -> Ramp
 }
 
 impl Family {
-    /// Returns the offset of the first cell of the side from the observer.
     #[inline(always)]
     pub(crate) fn first_offset(self) -> i32
         requires family { IsFamily self }
@@ -100,7 +103,6 @@ impl Family {
         self.side.first as i32 - self.side.at as i32
     }
 
-    /// Returns the offset just past the last cell of the side.
     #[inline(always)]
     pub(crate) fn end_offset(self) -> i32
         requires family { IsFamily self }

@@ -1,4 +1,4 @@
-//! The faults of a viewshed: numbers 41 to 45, and the faults of its jobs.
+//! The faults of a viewshed, which `relief` reports as 41 to 45, and of its jobs.
 use tile_jobs::JobFault;
 
 /// Why a viewshed is refused.

@@ -1,4 +1,4 @@
-//! Collects the rays to the marked cells of a window, line by line.
+//! Collects the rays of a window's marked cells, line by line.
 ghost use Rattle.std.specs.Prelude.{◌≡◌, ℕ, ◌+◌, ◌-◌, ◌*◌, ◌^◌, ◌<◌, ◌≤◌, length, IfOk, OnOk};
 ghost use Rattle.sight.specs.Sweep.{IsFamily, IsLine};
 ghost use Rattle.sight.specs.Hiding.{target_at, AreRays, Crosses, IsWindow};
@@ -39,7 +39,6 @@ impl Family {
         }
     }
 
-    /// Returns the target at a cell of a line.
     #[inline(always)]
     fn target_at(self, line: u32, cell: u32) -> Target
         requires family { IsFamily self }
@@ -52,7 +51,7 @@ impl Family {
         }
     }
 
-    /// Appends the rays to the marked cells of one line.
+    /// Appends the ray of each marked cell of one line to `rays`.
     fn gather_line(
         self,
         window: Window,
@@ -80,7 +79,7 @@ impl Family {
         Ok(())
     }
 
-    /// Returns the rays to all marked cells of a window on lines 2 and beyond.
+    /// Returns the rays of all marked cells of a window on lines 2 and beyond.
     /// No line is before line 1, so nothing hides its cells.
     pub(crate) fn gather(
         self,

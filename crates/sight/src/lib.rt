@@ -1,14 +1,14 @@
 //! Viewsheds: how many observers see each cell of a terrain grid.
 //!
-//! Begin with [`viewshed`]; [`sees`] tests one line of sight. The cells of each tile that one
-//! observer sees are marked by walks along lines of sight or by one sweep over the tile. Depends on
-//! `terrain`, `tiles`, `tile_jobs`, `tile_maps`, `horizons` and `sightlines`.
+//! Begin with [`viewshed`]; [`sees`] tests one line of sight. Walks along lines of sight, or one
+//! sweep over the tile, mark the cells of a tile that one observer sees. Depends on `terrain`,
+//! `tiles`, `tile_jobs`, `tile_maps`, `horizons` and `sightlines`.
 //!
 //! Modules, callers first:
 //!
 //! - `viewing`: `viewshed`, which runs all stages
 //! - `judging`: finds the first fault of observers, target height and radius
-//! - `fault`: faults 41 to 45, and faults of jobs
+//! - `fault`: the faults of a viewshed and of its jobs
 //! - `tops`: the greatest heights of blocks of cells
 //! - `tile`: the viewshed values of one tile
 //! - `reach`: whether a tile has a cell within the radius
@@ -18,7 +18,7 @@
 //! - `looking`: looks up in the horizon which targets of a line are hidden
 //! - `sweep`: a horizon, raised line by line
 //! - `line_ground`: raises a horizon to the ground of one line
-//! - `gathering`: collects the rays to marked cells, line by line
+//! - `gathering`: collects the rays of marked cells, line by line
 //! - `ranks`: sorts rays by slope
 //! - `rising`: how far a target rises above the eye
 //! - `family`: the lines on one side of the observer, and the ground that rays meet there

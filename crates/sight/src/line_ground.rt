@@ -25,8 +25,8 @@ fn is_before(target: Target, line: u32, offset: i32) -> bool
     (target.offset as i64) * (line as i64) < (offset as i64) * (target.line as i64)
 }
 
-/// Bisects for the end of the targets whose rays cross before the cell at `offset`.
-/// Target `low` is one of them; the end is at most `high`.
+/// Bisects for the end of the targets whose rays cross a line before a cell.
+/// The cell is at `offset`. Target `low` is one of them; the end is at most `high`.
 fn bisect(targets: &[Target], low: usize, high: usize, line: u32, offset: i32) -> usize
     requires targets { AreTargets targets.now }
     requires line { line ≤ 4096 }
@@ -49,8 +49,9 @@ fn bisect(targets: &[Target], low: usize, high: usize, line: u32, offset: i32) -
     past
 }
 
-/// Returns the end of the targets whose rays cross before the cell at `offset`.
-/// Target `from` is one of them; the result is at most `end`. Doubles its leaps, then bisects.
+/// Returns the end of the targets whose rays cross a line before a cell.
+/// The cell is at `offset`. Target `from` is one of them; the result is at most `end`. Doubles its
+/// leaps, then bisects.
 #[inline]
 fn count_before(targets: &[Target], from: usize, end: usize, line: u32, offset: i32) -> usize
     requires targets { AreTargets targets.now }
@@ -112,7 +113,7 @@ fn count_before_side(family: Family, line: u32, targets: &[Target]) -> usize
 }
 
 /// Whether a piece's ramp may be ground of the line just before `line`.
-/// A line's ground mostly rises above that of the line before: `raise` does not test such a piece.
+/// The ground of `line` mostly rises above such a piece, so `raise` does not test it.
 #[inline(always)]
 fn is_of_last_line(piece: Piece, line: u32) -> bool
     requires line { 0 < line }

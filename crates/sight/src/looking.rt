@@ -47,7 +47,7 @@ impl SweepLookup {
         })
     }
 
-    /// Sweeps on to a line, which is not before the current one.
+    /// Sweeps the lines from the current one to before `line`, the next current one.
     pub(crate) fn go_to(
         &mut self,
         cells: &[Cell],

@@ -23,10 +23,10 @@ const USUAL_SIDE: u32 = 256;
 /// From this average of crossings per sampled walk on, a default tile is swept.
 const SWEPT_CROSSINGS: u32 = 128;
 
-/// Tiles with shorter sides count as having this side, in cells, in the choice.
+/// The least side of a tile, in cells, by which the limit on crossings is scaled.
 const SWEPT_SIDE: u32 = 64;
 
-/// Which crossings of a line of sight are tested: all, or those beside the target.
+/// Which crossings of a line of sight are tested: all, or those nearest the target.
 #[derive(Clone, Copy)]
 pub enum Check {
     Whole,
@@ -97,7 +97,6 @@ impl<'a> Viewing<'a> {
         }
     }
 
-    /// Sets the marks of one row of a tile.
     fn mark_row(
         &self,
         check: Check,
@@ -132,7 +131,6 @@ impl<'a> Viewing<'a> {
         }
     }
 
-    /// Returns the mark that a check gives one cell.
     #[inline(always)]
     fn mark_of(
         &self,

@@ -116,7 +116,7 @@ impl<'a> Viewing<'a> {
             row: observer.row,
             col: observer.col,
         };
-        // an observer's cell has data; for a cell without data the definition takes 0 too
+        // an observer's cell has data; for one without data `height_of` in the specs is 0 too
         let ground = height_at(cells, stands.index_in(cols));
         let eye = level(ground.unwrap_or(0), observer.eye);
         let columns = Coordinate {

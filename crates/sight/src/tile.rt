@@ -20,7 +20,7 @@ use tile_jobs::Gate;
 use tile_maps::TileMap;
 use tiles::{Bounds, Tiling};
 
-/// A viewshed to make: a grid, its block heights and tiling, and valid observers.
+/// A viewshed to make: a grid, its block heights and tiling, and arguments without fault.
 #[derive(Drop)]
 pub struct Viewing<'a> {
     pub grid: &'a Grid,
@@ -76,8 +76,8 @@ impl<'a> Viewing<'a> {
         is_any_in_reach(eye, bounds, self.radius)
     }
 
-    /// Adds each observer to the values of the tile's cells that the observer sees.
-    /// `seen` is overwritten. Each observer is one part of the tile's job for the gate.
+    /// Adds to each value of a tile the number of observers that see its cell.
+    /// Overwrites `seen`. Each observer is one part of the tile's job: `gate` is called after it.
     fn count_observers<G: Gate>(
         &self,
         alloc: Global,

@@ -41,7 +41,8 @@ fn top_cell(top: Option<Height>) -> Cell
     }
 }
 
-/// Cells cut into blocks of `size` by `size`, smaller at the east and south edges.
+/// Cells cut into blocks of `size` by `size`.
+/// Blocks at the east and south edges may be smaller.
 #[derive(Drop)]
 struct Blocks<'a> {
     cells: &'a [Cell],
@@ -53,7 +54,6 @@ struct Blocks<'a> {
 }
 
 impl<'a> Blocks<'a> {
-    /// Returns the number of blocks.
     fn count(&self) -> usize
         ensures value { result ≡ block_count self.now.size
             (ground_of self.now.cols self.now.rows self.now.cells.now) }

@@ -11,7 +11,8 @@ pub struct CellRun {
     pub stride: usize,
 }
 
-/// A part of the grid whose cells have marks: its runs across and along lines.
+/// A part of the grid whose cells have marks.
+/// `lines` is its run of cells across a family's lines, `side` its run along them.
 #[derive(Clone, Copy)]
 pub struct Window {
     pub lines: CellRun,
@@ -19,7 +20,6 @@ pub struct Window {
 }
 
 impl CellRun {
-    /// Whether a coordinate is in the run.
     #[inline(always)]
     pub(crate) fn has(self, coordinate: u32) -> bool
         requires { self.first + self.cells < 2 ^ 32 }

@@ -17,7 +17,6 @@ use Rattle.std.proofs.lemmas.Int.{ints}
 use Rattle.sightlines.specs.declared.walk.Axis.{Axis}
 use Rattle.sightlines.specs.declared.walk.Sightline.{Sightline}
 
--- `is_above` is equal for equal near cells, if the far cells are equal too or their weight is 0
 above_same : (near near' far far' : Option ℤ) (v w : ℕ) (z : ℤ) → near ≡ near' →
     (0 < w → far ≡ far') → is_above near v far w z ≡ is_above near' v far' w z
 above_same near near' far far' v w z e same =
@@ -26,7 +25,6 @@ above_same near near' far far' v w z e same =
       | inr none ↦ let w_is : w ≡ 0 = omega arith in rw (e, w_is) refl
     ]
 
--- inside the grid, the height at row r and column c is the list's entry at the place's index i
 pub height_is : (t : Terrain) (r c i : ℕ) → r < t.rows → c < t.cols → i ≡ r * t.cols + c →
     height_at t (record { row = r; col = c }) ≡ get_or t.cells i None
 height_is t r c i a b e = entry-inside t.cols t.rows t.cells (record { row = r; col = c }) a b

@@ -15,7 +15,6 @@ are_heights t is i h at = elim (cases_lt i (length t.cells)) [
   | inr past ↦ let none = get_or_past t.cells i None past in absurd (cc)
 ]
 
--- where a cell has no height or one within the limits, its height, or 0 if none, is within them
 pub ground_is_height : (height : Option ℤ) → ((h : ℤ) → height ≡ Some h → IsHeight h) →
     IsHeight (unwrap_or height (pos 0))
 ground_is_height None are = (omega (arith, ints), omega (arith, ints))
@@ -24,7 +23,6 @@ ground_is_height (Some h) are = are h refl
 pub height_fits : (h : ℤ) → IsHeight h → FitsSigned w64 h
 height_fits h is = omega (arith, ints, is)
 
--- a height within the limits is within them after a conversion to 64 bits and back
 pub kept : (h : ℤ) → IsHeight h → IsHeight (to_z w64 (of_z w64 h))
 kept h is = rw (to_z-of_z w64 h (height_fits h is)) is
 

@@ -15,7 +15,6 @@ rises : (e f : ℤ) (k m r : ℕ) → ((e *ℤ pos r) +ℤ (f *ℤ pos (k + m)))
     ≡ ((e *ℤ pos (r + m)) +ℤ (f *ℤ pos k)) +ℤ ((f *ℤ pos m) -ℤ (e *ℤ pos m))
 rises e f k m r = omega (arith, ints)
 
--- m more steps, up to step n, add f * m - e * m to the sight
 pub sight_on : (e f : ℤ) (n k m : ℕ) → k + m ≤ n →
     sight e f n (k + m) ≡ sight e f n k +ℤ ((f *ℤ pos m) -ℤ (e *ℤ pos m))
 sight_on e f n k m h = let split : n - k ≡ (n - (k + m)) + m = omega arith in
@@ -29,7 +28,6 @@ pub times_small : (a b : ℤ) (m n : ℕ) → unsigned_abs a ≤ m → unsigned_
 times_small a b m n p q =
     omega (arith, unsigned_abs-mul a b, mul-le (unsigned_abs a) (unsigned_abs b) m n p q)
 
--- in absolute value, levels of at most m, with weights of at most n together, sum to at most m * n
 pub between_small : (e f : ℤ) (m r k n : ℕ) → unsigned_abs e ≤ m → unsigned_abs f ≤ m → r + k ≤ n →
     unsigned_abs ((e *ℤ pos r) +ℤ (f *ℤ pos k)) ≤ m * n
 between_small e f m r k n p q few =

@@ -1,4 +1,4 @@
--- Lines above blocks: where they are between two steps, and that no crossing blocks there.
+-- Between two steps, no crossing blocks a line that is above the blocks that it meets there.
 use Rattle.std.proofs.Common.{arith, refl, sym, ap, subst, ◌∙◌, ◌≡◌, ◌+◌, ◌-◌, ◌*◌, ◌/◌, ◌<◌, ◌≤◌, ℕ, ℤ, pos, ◌+ℤ◌, ◌*ℤ◌, ◌≤ℤ◌, false, int_lt, List, Option, None, Some, get_or, min, max, inl, inr}
 use borrow.Author.Differences.{up, down}
 use Rattle.std.proofs.lemmas.Int.{ints}
@@ -123,7 +123,6 @@ sight_between e f z n i j k low high few one two =
     ap (λ x. (e *ℤ pos (n - j)) +ℤ (f *ℤ pos x)) j_is in
     rw at_k (sight_parts e f z i (k - i) (j - k) (n - j) (rw at_i at one) (rw at_j at two))
 
--- a weighted sum of two heights is at most z, if v + w times each height is
 mixed : (g h z : ℤ) (v w : ℕ) → (pos (v + w) *ℤ g) ≤ℤ z → (pos (v + w) *ℤ h) ≤ℤ z →
     (pos v *ℤ g +ℤ pos w *ℤ h) ≤ℤ z
 mixed g h z v w one two =
@@ -198,7 +197,7 @@ not_blocked cells line k some inside low_at =
     (λ part h is. rw all (low_at (b + 1) (omega arith) (omega arith)
     (whole_lt line.side n k some (omega arith) part) h (ap (λ x. get_or cells x None) beside ∙ is)))
 
--- a step between two others does not block, if all blocks between these are low at both
+-- a step from i to before j does not block, if all blocks between steps i and j are low at both
 pub step_passed : (size : ℕ) (cells tops : List (Option ℤ)) (line : Sightline) (s : BlockStrides)
     (i j k block : ℕ) (start end : Step)
     → 0 < steps_of line → i ≤ k → k < j → j ≤ steps_of line → IsAt line i start → IsAt line j end →
@@ -259,7 +258,6 @@ step_above size cells tops line s peak i k start some low high at_start is_top i
     below_peak None p h is all = absurd is
     below_peak (Some x) p h is all = omega (arith, ints, is, all x refl)
 
--- row r of `rows` rows is in one of the blocks of these rows
 pub block_before : (size r rows : ℕ) → 0 < size → r < rows → r / size < blocks_in size rows
 block_before size r rows some below =
     let next : (size + r) / size ≡ r / size + 1 = add-div_left r some in

@@ -5,7 +5,6 @@ use Rattle.std.proofs.lemmas.Bool.{or_from, cases_lt, false_from_ne_true, true_f
 use Rattle.std.proofs.lemmas.List.Folds.{list_any_at}
 use Rattle.std.proofs.lemmas.List.FromFn.{length-range_with_len, get_or-range_with_len}
 
--- some number of a range from a on passes if its number a + k does
 pub any_at : (p : ℕ → Bool) (a n k : ℕ) → k < n → p (a + k) ≡ true →
     list_any p (range_with_len a n) ≡ true
 any_at p a n k h here =
@@ -13,7 +12,6 @@ any_at p a n k h here =
     ∙ here in
     list_any_at p (range_with_len a n) k 0 (omega (arith, length-range_with_len a n)) at
 
--- if none of a range passes, its number k does not
 pub none_at : (p : ℕ → Bool) (a n k : ℕ) → list_any p (range_with_len a n) ≡ false → a ≤ k →
     k < a + n → p k ≡ false
 none_at p a n k none low high =
@@ -36,7 +34,6 @@ none_joined p a m b n e one two =
       | inr after ↦ none_at p b n k two after (omega arith)
     ])
 
--- if none passes and the next number does not, none passes in the range longer by one
 pub any_more : (p : ℕ → Bool) (a n : ℕ) → list_any p (range_with_len a n) ≡ false →
     p (a + n) ≡ false → list_any p (range_with_len a (n + 1)) ≡ false
 any_more p a n none next = none_joined p a n (a + n) 1 refl none (or_from _ _ next refl)

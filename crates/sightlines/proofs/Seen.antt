@@ -8,7 +8,6 @@ use Rattle.sightlines.specs.Walk.{walk_blocks, over_columns, over_rows, IsLevel,
 use Rattle.terrain.specs.declared.observer.Observer.{Observer}
 use Rattle.sightlines.proofs.Crossings.{column_blocks-walk, row_blocks-walk, columns_in_list, rows_in_list, walk_back}
 
--- with data in both cells, within the radius, a target is seen exactly if neither walk is blocked
 seen_is : (t : Terrain) (o : Observer) (q : Place) (target radius : ℕ) (from to : ℤ) →
     IsInside t (place_of o) → IsInside t q
     → height_at t (place_of o) ≡ Some from → height_at t q ≡ Some to →
@@ -31,7 +30,6 @@ out_of_reach false b c = refl
 out_of_reach true true c = refl
 out_of_reach true false c = refl
 
--- no place outside the radius is seen
 pub unseen : (t : Terrain) (o : Observer) (q : Place) (target radius : ℕ) →
     is_near (place_of o) q radius ≡ false → is_seen t o q target radius ≡ false
 unseen t o q target radius far =
@@ -100,7 +98,7 @@ pub hidden_by_rows : (seen a b : Bool) → seen ≡ (not a && not b) → b ≡ t
 hidden_by_rows seen true b is blocked = sym is
 hidden_by_rows seen false b is blocked = sym (is ∙ ap not blocked)
 
--- a row crossing that blocks hides the target; where none was found, `is_open` decides
+-- a target is seen exactly if no tested row crossing blocks and the line is open
 pub seen_if_open : (seen is_open a b rows : Bool) → seen ≡ (not a && not b) → seen ≡ is_open →
     (rows ≡ true → b ≡ true) → (not rows && is_open) ≡ seen
 seen_if_open seen is_open a b true is same reported = hidden_by_rows seen a b is (reported refl)

@@ -1,4 +1,4 @@
--- The index and part of a walk's next step, and that its cells are in the list.
+-- A walk's pace gives the index and the part of its next step, whose cells are in the list.
 use Rattle.std.proofs.Common.{arith, ap, ◌≡◌, ◌+◌, ◌*◌, ◌^◌, ◌/◌, ◌%◌, ◌<◌, ◌≤◌, ℕ, ℤ, Option, List, length, max, inl, inr}
 use Rattle.std.specs.Int.{abs_diff}
 use Rattle.std.proofs.lemmas.Bool.{cases_lt}
@@ -51,7 +51,6 @@ index_passes lead side n k pace e h p passed =
     (whole_at lead n (k + 1)) (whole_at side n (k + 1)) 1 one two.0 in
     (omega (arith, both, p.ahead, p.behind, p.beside), two.1)
 
--- the whole cell is at most the greater end of its axis
 pub whole_le : (a : Axis) (n k : ℕ) → 0 < n → k ≤ n → whole_at a n k ≤ max a.from a.to
 whole_le a n k some h =
     let t = toward a.from a.to n k in
@@ -65,7 +64,6 @@ whole_le a n k some h =
       | inr low ↦ low
     ]
 
--- if the part is above 0, the next cell too is at most the greater end of the axis
 pub whole_lt : (a : Axis) (n k : ℕ) → 0 < n → k ≤ n → 0 < part_at a n k →
     whole_at a n k + 1 ≤ max a.from a.to
 whole_lt a n k some h parts =

@@ -6,7 +6,6 @@ use Rattle.std.proofs.lemmas.Bool.{cases_lt, lt-ltb, le-ltb}
 use Rattle.std.proofs.lemmas.Nat.{div-mul-add, mod-mul-add, div-add-mod', mul-le, mod_below}
 use Rattle.sightlines.specs.Sight.{toward, onward}
 
--- if t + back * n = x * n + m, with m below n, t by n has the quotient x - back and remainder m
 pub quotient_is : (t x n m back : ℕ) → t + back * n ≡ x * n + m → m < n → (t / n + back ≡ x)
     × (t % n ≡ m)
 quotient_is t x n m back e below =
@@ -88,7 +87,6 @@ lead_whole a b n k e some h =
       | inr high ↦ rw (lead_down a b n k (omega arith) h) (mod-mul-add (b + (n - k)) n 0 some)
     ]
 
--- if b = a + n, the whole cell at step k is a + k
 pub lead_up_is : (a b n k : ℕ) → b ≡ a + n → 0 < n → k ≤ n → toward a b n k / n ≡ a + k
 lead_up_is a b n k e some h = rw (lead_up a b n k e h) (div-mul-add (a + k) n 0 some)
 

@@ -11,7 +11,7 @@ use Rattle.sightlines.specs.declared.walk.Step.{Step}
 use Rattle.sightlines.specs.declared.passing.BlockStrides.{BlockStrides}
 use Rattle.sightlines.specs.declared.tops.MaxHeights.{MaxHeights}
 
--- The number of blocks, side by side, that hold n cells.
+-- The number of blocks, side by side, that hold a row of n cells.
 abbrev pub blocks_in : ℕ → ℕ → ℕ
 blocks_in size n = (n + (size - 1)) / size
 
@@ -41,7 +41,8 @@ pub record IsTops (t : Terrain) (tops : MaxHeights) : Type 0 where
   pub height : IsHeight tops.peak
   pub peak : IsPeak tops.far.items tops.peak
 
--- No height up to the line's greater ends is above its block's entry, found by strides `s`.
+-- No height of a cell up to the greater end of each coordinate is above the entry of its block. In
+-- the list of entries, neighbouring blocks are the strides `s` apart.
 pub record AreTopsAlong (size : ℕ) (cells tops : List (Option ℤ)) (l : Sightline)
     (s : BlockStrides) : Type 0 where
   pub heights : AreHeights tops
@@ -55,8 +56,8 @@ pub record AreTopsAlong (size : ℕ) (cells tops : List (Option ℤ)) (l : Sight
 abbrev pub IsLow : Option ℤ → ℕ → ℤ → Type 0
 IsLow top n z = MatchOption top (Unit {0}) (λ m. (pos n *ℤ m) ≤ℤ z)
 
--- All blocks that a line can meet between two steps are low at both steps, where the leading
--- coordinate stays in block `block` between these.
+-- Each block that a line can meet between two steps is low at both, if between them the leading
+-- coordinate stays in block `block`.
 abbrev pub AreLowBetween : ℕ → List (Option ℤ) → BlockStrides → Sightline → ℕ → Step → Step → Type 0
 AreLowBetween size tops s l block start end =
     (cell : ℕ) → min start.whole end.whole ≤ cell → cell ≤ max start.whole end.whole + 1 →

@@ -23,8 +23,8 @@ longest_radius = 8192
 abbrev pub toward : ℕ → ℕ → ℕ → ℕ → ℕ
 toward a b n k = a * (n - k) + b * k
 
--- `toward` in signed numbers, for n above 0 and k up to n: with q cells from a to the whole cell
--- and m n-ths past it, (b - a) * k = q * n + m, and m is below n.
+-- For n above 0 and k up to n, the point of `toward` is q cells and m n-ths of a cell from a. In
+-- signed numbers (b - a) * k = q * n + m, and m is below n.
 abbrev pub CrossingsAreOnTheLine : Type 0
 CrossingsAreOnTheLine =
     (a b n k : ℕ) → 0 < n → k ≤ n
@@ -110,7 +110,8 @@ is_near p q radius =
 abbrev pub place_of : Observer → Place
 place_of o = record { row = o.row; col = o.col }
 
--- No crossing blocks the line from the observer's eye to `target` units above a place.
+-- No crossing blocks the line from the observer's eye to `target` units above a place. The ground
+-- of a NODATA cell at its ends counts as 0.
 abbrev pub is_open : Terrain → Observer → Place → ℕ → Bool
 is_open t o q target =
     let p = place_of o in

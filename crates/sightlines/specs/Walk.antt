@@ -89,7 +89,8 @@ IsOver cells lead side =
 abbrev pub AreHeights : List (Option ℤ) → Type 0
 AreHeights cells = (i : ℕ) (h : ℤ) → slice_index_or cells i None ≡ Some h → IsHeight h
 
--- The level is within 2 ^ 50 of 0: a height is within 10 ^ 15, eye or target add up to 10 ^ 6.
+-- The level is within 2 ^ 50 of 0. A height is within 10 ^ 15, and an eye or a target is at most
+-- 10 ^ 6 above the height of its cell.
 abbrev pub IsLevel : ℤ → Type 0
 IsLevel z = unsigned_abs z ≤ 2 ^ 50
 

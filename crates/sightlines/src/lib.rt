@@ -1,10 +1,10 @@
 //! One line of sight over a terrain grid: whether an observer sees a place.
 //!
-//! A line of sight runs from an observer's eye to a height above a cell. It is tested where it
-//! crosses the columns and the rows of cell centres. The earth counts as flat.
+//! A line of sight runs from an observer's eye to a target on or above a cell's ground. It is
+//! tested where it crosses the columns and the rows of cell centres. The earth counts as flat.
 //!
-//! [`sees`] tests crossings until one blocks. [`sees_past_blocks`] returns the same result and
-//! skips blocks of cells below the line. Depends on `terrain` alone.
+//! [`sees`] tests crossings until one hides the target. [`sees_past_blocks`] returns the result of
+//! `sees` and skips blocks of cells below the line. Depends on `terrain` alone.
 //!
 //! Modules, callers first:
 //!
@@ -13,7 +13,7 @@
 //! - `walk`: steps from crossing to crossing
 //! - `tops`: the greatest heights of blocks
 //! - `reach`: whether a place is within the radius
-//! - `laws`: theorems about the definitions
+//! - `laws`: a theorem about the definitions
 #![tactic(auto)]
 
 pub mod laws;

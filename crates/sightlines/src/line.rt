@@ -1,6 +1,7 @@
 //! Whether an observer sees a place: [`sees`], [`sees_past_blocks`].
 //!
-//! [`sees_past_blocks`] first tests crossings about as far from the observer as earlier blockers.
+//! [`sees_past_blocks`] first tests crossings about as far from the observer as those that hid
+//! earlier targets.
 ghost use Rattle.std.specs.Prelude.{◌≡◌, ◌<◌, ◌≤◌, pos, ◌+ℤ◌, true, false, not, ◌&&◌, MatchOption};
 ghost use Rattle.terrain.specs.Raster.{IsHeight};
 ghost use Rattle.terrain.specs.Neighbours.{IsInside};
@@ -26,7 +27,7 @@ pub fn level(height: Height, above: u32) -> i64
 }
 
 /// The line of sight from a target to an observer, in two forms.
-/// `columns` tests the crossings with columns, `rows` those with rows.
+/// `columns` is tested at the crossings with columns, `rows` at those with rows.
 #[derive(Clone, Copy)]
 pub(crate) struct Sightlines {
     pub columns: Sightline,
@@ -92,9 +93,11 @@ fn lines_of_sight(
 
 /// Returns whether an observer sees a place, at `target_height` above its ground.
 ///
-/// The observer's cell and the target must have data and be at most `radius` cells apart. No
-/// crossing of the line with a column or row of cell centres may block. A crossing blocks where the
-/// ground, a straight slope between two centres, is above the line; not where NODATA takes part.
+/// It is seen exactly if the observer's cell and the place have data, are at most `radius` cells
+/// apart and no crossing blocks. Crossings are where the line meets a column or a row of cell
+/// centres between the two. One blocks if the ground, a straight slope between two centres, is
+/// above the line. A crossing in which a NODATA cell takes part cannot block. `target_height` is in
+/// units.
 ///
 /// # Examples
 ///
@@ -154,7 +157,8 @@ fn is_blocked_from(cells: &[Cell], line: Sightline, first: u32, crossings: u32) 
 }
 
 /// Returns false only if the observer does not see the place.
-/// Tests the data, the radius and the first crossings beside the target, which block most often.
+/// If the result is true, the place is seen unless an untested crossing blocks. Tests the data, the
+/// radius and the crossings nearest to the target, which block most often.
 #[inline(always)]
 pub fn may_see(
     grid: &Grid,
@@ -194,7 +198,7 @@ fn is_blocked_near(cells: &[Cell], line: Sightline, left: u32) -> bool
     is_blocked_from(cells, line, first, NEARBY_CROSSINGS)
 }
 
-/// The crossing that hides a target, `left` steps before the observer.
+/// A crossing that hides a target, `left` steps before the observer.
 /// It is a crossing with a row if `over_rows`, else with a column.
 #[derive(Clone, Copy)]
 pub(crate) struct Blocker {
@@ -203,7 +207,7 @@ pub(crate) struct Blocker {
 }
 
 impl Blocker {
-    /// Whether a crossing about as far away as the blocker hides the target of `lines`.
+    /// Whether a crossing about as far from the observer hides the target of `lines`.
     #[inline(always)]
     fn hides(self, cells: &[Cell], lines: Sightlines) -> bool
         requires heights { AreHeights cells.now }
@@ -240,13 +244,14 @@ impl Blocker {
 /// Columns share an entry if they are a multiple of `COLUMNS` apart.
 const COLUMNS: usize = 256;
 
-/// The blockers of earlier targets, and the number of crossings not skipped.
-/// `above` has a column's last blocker, `None` before any or if the last target tested was seen.
+/// The blockers of earlier targets, and a count of crossings tested.
+/// `above` has a column's last blocker, or `None` before any and after a seen target.
 #[derive(Clone, Copy)]
 pub struct WalkCache {
     last: Blocker,
     above: [Option<Blocker>; COLUMNS],
-    /// The number of crossings that walks did not skip, at most 2^32 - 1.
+    /// The number of crossings in the runs that walks tested, at most 2^32 - 1.
+    /// Walks test or skip runs of crossings. A run that a blocker cuts short counts whole.
     pub crossings_tested: u32,
 }
 
@@ -308,8 +313,8 @@ fn along_rows(size: u32, cols: u32) -> BlockStrides
 }
 
 /// Returns the result of [`sees`], and skips blocks of cells below the line.
-/// `tops` has the blocks' greatest heights. Crossings about as far from the observer as the earlier
-/// blockers, kept in `walked`, are tested first: they often hide the next target too.
+/// `tops` has the blocks' greatest heights; `walked` keeps the crossings that hid earlier targets.
+/// Crossings about as far from the observer are tested first: they often hide this target too.
 ///
 /// # Examples
 ///

@@ -64,7 +64,8 @@ fn are_low(tops: &[Cell], first: usize, stride: usize, count: u32, weight: u32, 
 }
 
 /// Returns true only if no block met between two steps is above the line.
-/// Tests only blocks at `lead_block` of the leading coordinate, in which the line must stay.
+/// Tests the blocks at `lead_block` of the leading coordinate alone. Between the two steps the line
+/// must not leave them.
 #[inline(always)]
 fn is_above_blocks(
     tops: &[Cell],
@@ -99,8 +100,8 @@ fn is_above_blocks(
 }
 
 /// Returns a step from `first` to below `end` with ground above the line, if any.
-/// Skips near blocks below the line; `tops` has their greatest heights. Adds the crossings of runs
-/// not skipped to `crossings_tested`.
+/// Skips near blocks below the line; `tops` has their greatest heights. Adds the crossings of each
+/// run that it tests to `crossings_tested`.
 #[inline(always)]
 fn blocking_step_past_near_blocks(
     cells: &[Cell],
@@ -156,9 +157,9 @@ fn is_clear(peak: Height, line: Sightline, here: Step) -> bool
 }
 
 /// Returns a step between a line's two ends with ground above the line, if any.
-/// The walk ends once the line cannot fall below the peak. It does not skip the near block where it
-/// begins, which is seldom below the line; later it skips far or near blocks below the line. Adds
-/// the crossings of runs not skipped to `crossings_tested`. Compiled out of line.
+/// The walk ends once the line cannot fall below the peak. It tests the near block where it begins,
+/// which is seldom below the line; later it skips far or near blocks below the line. Adds the
+/// crossings of each run that it tests to `crossings_tested`.
 #[inline(never)]
 pub(crate) fn blocking_step_past_blocks(
     cells: &[Cell],

@@ -10,7 +10,7 @@ pub const NEAR_BLOCK: u32 = 16;
 /// The side of a far block, in cells: 8 near blocks.
 pub const FAR_BLOCK: u32 = 128;
 
-/// The greatest heights of a grid's blocks, in row order, and a bound of all heights.
+/// The greatest heights of a grid's blocks, in row order, and an upper bound.
 /// A block without data is a NODATA cell of its list.
 #[derive(Drop)]
 pub struct MaxHeights {
@@ -22,7 +22,7 @@ pub struct MaxHeights {
     pub peak: Height,
 }
 
-/// Returns into how many blocks of `size` cells a row of `cells` cells is cut.
+/// Returns how many blocks, `size` cells wide, hold a row of `cells` cells.
 #[inline(always)]
 pub fn blocks_in(size: u32, cells: u32) -> usize
     requires size { (0 < size) × (size ≤ 4096) }

@@ -18,7 +18,7 @@ pub struct Axis {
 }
 
 /// A line of sight from one level to another, along two coordinates.
-/// Between its ends it is tested at each cell of `lead`, the leading one, between cells of `side`.
+/// Between its ends it is tested at each cell of `lead`, its leading coordinate.
 #[derive(Clone, Copy)]
 pub struct Sightline {
     pub lead: Axis,
@@ -28,7 +28,7 @@ pub struct Sightline {
 }
 
 /// The place and the level of a line at one of its steps.
-/// On `side` it is `part` parts past cell `whole`. A cell has as many parts as the line has steps.
+/// On `side` the line is `part` parts past cell `whole`. As many parts as steps make a cell.
 /// `sight` is the line's level times the number of steps.
 #[derive(Clone, Copy)]
 pub struct Step {
@@ -143,7 +143,7 @@ impl Axis {
     }
 }
 
-/// The move of a line on its `side` coordinate in the steps of one near block.
+/// The move of a line on its `side` coordinate in the 16 steps of a whole near block.
 /// It is `ahead` cells less `behind`, and `part` parts; `rise` is the change of [`Step::sight`].
 #[derive(Clone, Copy)]
 pub struct Leap {
@@ -154,7 +154,6 @@ pub struct Leap {
 }
 
 impl Leap {
-    /// Returns the leap of a line.
     #[inline(always)]
     pub(crate) fn new(line: Sightline) -> Self
         requires line { IsSightline line }
@@ -204,7 +203,7 @@ impl Leap {
 }
 
 /// Returns a height times a weight.
-/// It is within ±4,096 * 10^15, so the sum of two such products fits.
+/// The product is within ±4,096 * 10^15, so the sum of two such products fits in 64 bits.
 #[inline(always)]
 pub(crate) fn weigh(height: Height, weight: u32) -> i64
     requires weight { weight ≤ 4096 }
@@ -215,7 +214,9 @@ pub(crate) fn weigh(height: Height, weight: u32) -> i64
     weight as i64 * height
 }
 
-/// Whether the ground between cells `index` and `index + beside` is above `sight`.
+/// Whether the weighted ground between two neighbouring cells is above `sight`.
+/// The cells are at `index` and `index + beside`. A cell of weight 0 takes no part. Where a NODATA
+/// cell takes part, the result is false.
 #[inline(always)]
 fn is_higher(
     cells: &[Cell],
@@ -245,7 +246,7 @@ fn is_higher(
 }
 
 /// The change of the near cell's index, and of the part past it, at each step.
-/// The index grows by `ahead` less `behind`, and by `beside` where the part fills a cell.
+/// The index grows by `ahead` less `behind`, and by `beside` more where the part fills a cell.
 #[derive(Clone, Copy)]
 pub struct Pace {
     steps: u32,
@@ -256,7 +257,6 @@ pub struct Pace {
 }
 
 impl Pace {
-    /// Returns the pace of a walk along a line.
     #[inline(always)]
     pub(crate) fn new(line: Sightline) -> Self
         requires line { IsSightline line }

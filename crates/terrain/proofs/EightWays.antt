@@ -30,7 +30,6 @@ place_parts (Some r) (Some c) q e =
     let s = same_Some (make_place r c) q e in
     (ap (λ (z : Place). Some z.row) s, ap (λ (z : Place). Some z.col) s)
 
--- two rows, or two columns, that differ by at most 1
 abbrev Near : ℕ → ℕ → Type 0
 Near n m = (m ≤ n + 1) × (n ≤ m + 1)
 
@@ -81,7 +80,6 @@ Touches-from_ways p q h = way_touches p q h.0 h.1 h.2
 here : (n m : ℕ) → n ≡ m → Some n ≡ Some m
 here n m e = ap (λ k. Some k) e
 
--- each other place that touches a place is one of the eight around it
 Contains-ways_from : (p q : Place) → Touches p q → p ≢ q → Contains (ways_from p) (Some q)
 Contains-ways_from p q h d =
     let a = h.row_down in
@@ -120,7 +118,6 @@ Contains-ways_from p q h d =
       ]
     ]
 
--- a statement that holds for each of the eight directions holds for every number below 8
 pub eight : (P : ℕ → Type 0) → P 0 → P 1 → P 2 → P 3 → P 4 → P 5 → P 6 → P 7 → (n : ℕ) → n < 8 → P n
 eight P a b c d e f g h zero l = a
 eight P a b c d e f g h (suc zero) l = b
@@ -132,13 +129,11 @@ eight P a b c d e f g h (suc (suc (suc (suc (suc (suc zero)))))) l = g
 eight P a b c d e f g h (suc (suc (suc (suc (suc (suc (suc zero))))))) l = h
 eight P a b c d e f g h (suc (suc (suc (suc (suc (suc (suc (suc n)))))))) l = absurd (omega arith)
 
--- a direction's code points to the place in that direction
 pub toward-code : (p : Place) (way : ℕ) → way < 8 →
     place_toward (code_of (Some way)) p ≡ place_on way p
 toward-code p = eight (λ way. place_toward (code_of (Some way)) p
     ≡ place_on way p) refl refl refl refl refl refl refl refl
 
--- each other place that touches a place lies in one of the eight directions from it
 pub way_to : (p q : Place) → Touches p q → p ≢ q → (way : ℕ) × (way < 8) × (place_on way p ≡ Some q)
 way_to p q t differ = let at = Contains-ways_from p q t differ in
     (at.0, at.1, get_or_default (ways_from p) at.0 None (Some q) at.1 ∙ at.2)
@@ -190,8 +185,8 @@ zip_some {X = X} {Y = Y} f g (Some q) x y e = at (f q) (g q) refl refl e
         ∙ ap (λ (z : Option Y). option_zip (Some a) z) v) ∙ e) in
         (q, refl, u ∙ ap Some both.0, v ∙ ap Some both.1)
 
--- `q` is the place in direction `way` from `p`. In the row order of bounds of `cols` columns, which
--- begin at row `top` and column `left`, the index of `q` is the one beside `at` in this direction.
+-- `q` is the place in direction `way` from `p`. Bounds of `cols` columns begin at row `top` and
+-- column `left`; in their row order, the index of `q` is entry `way` of `around_index cols at`.
 pub record IsOnWay (top left cols at : ℕ) (p : Place) (way : ℕ) (q : Place) : Type 0 where
   pub on : place_on way p ≡ Some q
   pub index : (q.row - top) * cols + (q.col - left) ≡ get_or (around_index cols at) way 0

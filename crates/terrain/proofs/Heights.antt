@@ -13,7 +13,6 @@ use Rattle.terrain.specs.Neighbours.{height_at, height_of, index_of}
 use Rattle.terrain.specs.declared.place.Place.{Place}
 use Rattle.terrain.proofs.Places.{inside_from_entry, entry-inside, index_below}
 
--- the width of `Height`
 abbrev pub height_width : Width
 height_width = w64
 
@@ -27,13 +26,11 @@ height_fits z low high = fits_signed_from_abs height_width z (omega (arith, heig
 pub height_is : (t : Terrain) (p : Place) (h : ℤ) → height_at t p ≡ Some h → height_of t p ≡ h
 height_is t p h e = ap (λ (o : Option ℤ). unwrap_or o (pos 0)) e
 
--- if all heights of a list are within their limits, the height at an index is
 pub listed_height : (cells : List (Option ℤ)) (i : ℕ) (h : ℤ) → All (λ c. IfSome c IsHeight) cells →
     i < length cells → get_or cells i None ≡ Some h → IsHeight h
 listed_height cells i h heights within e = MatchOption-at_some _ _ h e
     (All-get_or (λ (c : Option ℤ). IfSome c IsHeight) cells i None within heights)
 
--- the height at a place of a terrain is within its limits
 pub height_in : (t : Terrain) (q : Place) (h : ℤ) → IsTerrain t → height_at t q ≡ Some h →
     IsHeight h
 height_in t q h lawful e =

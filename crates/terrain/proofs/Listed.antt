@@ -16,7 +16,6 @@ pub is_place_from : (p q : Place) → p ≡ q → is_place p q ≡ true
 is_place_from p q e = subst (λ r.
     is_place p r ≡ true) e (and_from (p.row == p.row) _ (eq-eqb _ _ refl) (eq-eqb _ _ refl))
 
--- a place that the search finds is in the list
 pub listed_from_any : (p : Place) (places : List Place) → list_any (is_place p) places ≡ true →
     Contains places p
 listed_from_any p places h = Contains-from_any place_is p places h

@@ -17,7 +17,6 @@ none_of_both : (a b : Option SinkFault) → option_or a b ≡ None → (a ≡ No
 none_of_both None b h = (refl, h)
 none_of_both (Some f) b h = absurd (cc)
 
--- the place is in the grid and has data
 abbrev pub IsSound : Terrain → Place → Type 0
 IsSound t p = IsInside t p × IsDataCell t p
 
@@ -58,7 +57,6 @@ few_sinks t sinks h = elim (cases_Bool (nat_lt most_sinks (length sinks))) [
   | inr few ↦ few
 ]
 
--- sinks without a fault are in the grid and have data
 pub sinks_sound : (t : Terrain) (sinks : List Place) → sinks_fault t sinks ≡ None →
     All (IsSound t) sinks
 sinks_sound t sinks h = all_sound t 0 sinks (sym (cond-false _ _ _ (few_sinks t sinks h)) ∙ h)

@@ -12,7 +12,6 @@ trans x y z a b = omega (arith, ints, a, b)
 pub max_comm : (x y : ℤ) → int_max x y ≡ int_max y x
 max_comm x y = omega (arith, ints, clamps)
 
--- the greater of two numbers is at least the first
 pub max_left : (x y : ℤ) → x ≤ℤ int_max x y
 max_left x y = omega (arith, ints, clamps)
 

@@ -9,7 +9,6 @@ use Rattle.terrain.specs.declared.place.Place.{Place}
 abbrev pub make_place : ℕ → ℕ → Place
 make_place r c = record { row = r; col = c }
 
--- places with equal rows and equal columns are equal
 pub same_place : (p q : Place) → p.row ≡ q.row → p.col ≡ q.col → p ≡ q
 same_place p q a b = ap (λ r. make_place r p.col) a ∙ ap (λ c. make_place q.row c) b
 
@@ -24,7 +23,6 @@ cases_place p q =
       | inr n ↦ inr (λ e. n (ap (λ (r : Place). r.row) e))
     ]
 
--- inside the grid, the entry at a place is the list's entry at the place's index
 pub entry_or-inside : {X : Type 0} (cols rows : ℕ) (xs : List X) (none : X) (p : Place) →
     p.row < rows → p.col < cols → entry_or cols rows xs none p ≡ get_or xs (index_of cols p) none
 entry_or-inside cols rows xs none p a b =
@@ -34,7 +32,6 @@ pub entry-inside : {X : Type 0} (cols rows : ℕ) (xs : List (Option X)) (p : Pl
     p.col < cols → entry_at cols rows xs p ≡ get_or xs (index_of cols p) None
 entry-inside cols rows xs p a b = entry_or-inside cols rows xs None p a b
 
--- there is no entry south of the last row
 pub entry-below : {X : Type 0} (cols rows : ℕ) (xs : List (Option X)) (p : Place) → rows ≤ p.row →
     entry_at cols rows xs p ≡ None
 entry-below cols rows xs p a = cond-false _ _ _ (and_left _ _ (le-ltb _ _ a))
@@ -55,7 +52,6 @@ inside_from_entry cols rows xs p x e =
       | inr n ↦ let h = entry-below cols rows xs p n in absurd (cc)
     ]
 
--- places with equal indices are equal, if their columns are in the grid
 pub index_injective : (cols : ℕ) (p q : Place) → p.col < cols → q.col < cols →
     index_of cols p ≡ index_of cols q → p ≡ q
 index_injective cols p q a b e =
@@ -67,15 +63,13 @@ pub index_below : (cols rows : ℕ) (p : Place) → p.row < rows → p.col < col
     index_of cols p < cols * rows
 index_below cols rows p a b = mul-add-lt p.row cols p.col rows a b
 
--- the place comes before this row and column, in row order
 abbrev pub IsBefore : Place → ℕ → ℕ → Type 0
 IsBefore q row col = (q.row < row) ⊎ ((q.row ≡ row) × (q.col < col))
 
--- no place that touches `p` and comes before the row and column is a gap
 abbrev pub HasNoGapBefore : (Place → Type 0) → Place → ℕ → ℕ → Type 0
 HasNoGapBefore is_gap p row col = (q : Place) → Touches p q → IsBefore q row col → is_gap q → ⊥
 
--- a place at the grid's end has a gap around, if each place south or east of the grid is a gap
+-- a place at the grid's end has a gap around it, if each place south or east of the grid is a gap
 pub gap_at_end : {G : Place → Type 0} (cols rows : ℕ) (p : Place) →
     ((q : Place) → (rows ≤ q.row) ⊎ (cols ≤ q.col) → G q) →
     (p.row ≡ 0) ⊎ (p.row + 1 ≡ rows) ⊎ (p.col ≡ 0) ⊎ (p.col + 1 ≡ cols) → HasGapWhere G p
@@ -102,7 +96,6 @@ gap_at_end cols rows p outside (inr (inr (inr e))) = inr (inr (
   outside _ (inr (omega (arith, e))),
 ))
 
--- a place with a gap around has one by a second rule too, if each gap around is one by that rule
 pub gap_where : {P Q : Place → Type 0} (p : Place) → ((q : Place) → Touches p q → P q → Q q) →
     HasGapWhere P p → HasGapWhere Q p
 gap_where p f (inl e) = inl e

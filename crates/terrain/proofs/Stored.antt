@@ -8,7 +8,6 @@ use Rattle.std.proofs.lemmas.Bool.Decides.{Decides-int_eq}
 use Rattle.terrain.specs.StoredCells.{stored_cell, no_data, stored_count, uncounted}
 use Rattle.terrain.proofs.cell.Cell.TheLaws.{the_inverse_ok}
 
--- the stored number of a cell is the number that the cell was made from
 pub stored_inverse : (z : ℤ) → unwrap_or (stored_cell z) no_data ≡ z
 stored_inverse z = ap (λ c. c.stored) (the_inverse_ok (record { stored = z }) tt)
 

@@ -28,7 +28,7 @@ sink_fault_of t index p =
     else if is_none (height_at t p) then Some (OnNodata index)
     else None
 
--- The fault of the first faulty sink, if any; the list's entries count from this index.
+-- The fault of the first faulty sink, if any; the list's entries count from `index`.
 abbrev pub first_sink_fault : Terrain → ℕ → List Place → Option SinkFault
 first_sink_fault t index [] = None
 first_sink_fault t index (p ∷ rest) =
@@ -47,7 +47,7 @@ with_sinks t sinks = record t { sinks = sinks }
 abbrev pub raster_with_sinks : Raster → List Place → Raster
 raster_with_sinks g sinks = record g { terrain = with_sinks g.terrain (each_once sinks) }
 
--- A list of sinks with a fault is refused with it; without a fault, the only error is `Memory`.
+-- The fault of a list of sinks, if any, is the result's error. Else the only error is `Memory`.
 pub record RefusesSinks {T : Type 0} (fault : Option SinkFault)
     (result : Result T SinkFault) : Type 0 where
   pub reported : (f : SinkFault) → fault ≡ Some f → result ≡ Err f

@@ -27,7 +27,8 @@ impl From<AllocError> for NoMemory {
     }
 }
 
-/// A coordinate of the lower left cell: of its centre if `centre`, else its corner.
+/// The x or y coordinate of the lower left cell, as the header spells it.
+/// It is that of the cell's centre if `centre`, else that of its lower left corner.
 #[derive(Drop)]
 pub struct Anchor {
     pub centre: bool,
@@ -176,8 +177,9 @@ impl Frame {
         &self.header.nodata
     }
 
-    /// Returns the frame's grid with as many `cells` in place of its own cells.
-    /// Their heights must occur in the grid: they are then in range and not the NODATA value.
+    /// Returns the frame's grid with `cells` in place of its own cells.
+    /// `cells` must have one cell for each place, each without data or with a height of the grid.
+    /// Such heights are in range and not the NODATA value.
     ///
     /// # Errors
     ///
@@ -306,7 +308,7 @@ impl Grid {
         self.at(place).is_some() && (self.has_gap_around(place) || is_one_of(self.sinks(), place))
     }
 
-    /// Whether `place`, or a place around it, is outside the grid or has no data.
+    /// Returns whether `place`, or a place around it, is outside the grid or has no data.
     fn has_gap_around(&self, place: Place) -> bool
         requires { IsInside self.now.terrain place }
         ensures { IsTrue result ↔ HasGapAround self.now.terrain place }
@@ -326,8 +328,9 @@ impl Grid {
         false
     }
 
-    /// Returns the grid with a copy of as many `cells` in place of its own cells.
-    /// Their heights must occur in the grid: they are then in range and not the NODATA value.
+    /// Returns a copy of the grid with a copy of `cells` in place of its own cells.
+    /// `cells` must have one cell for each place, each without data or with a height of the grid.
+    /// Such heights are in range and not the NODATA value.
     ///
     /// # Errors
     ///
@@ -342,7 +345,7 @@ impl Grid {
         self.frame.with_cells(alloc, Vec::from_slice(alloc, cells)?)
     }
 
-    /// Returns each of `sinks` once, their first fault, or [`SinkFault::Memory`].
+    /// Returns each of `sinks` once, or else their first fault or [`SinkFault::Memory`].
     fn checked_sinks(&self, alloc: Global, sinks: &[Place]) -> Result<Vec<Place>, SinkFault>
         ensures named { IfOk result (λ v. v.items ≡ each_once sinks.now) }
         ensures sound { OnOk result (sinks_fault self.now.terrain sinks.now ≡ None) }
@@ -376,7 +379,8 @@ impl Grid {
         Ok(self.frame.with_parts(cells, sinks))
     }
 
-    /// Replaces the sinks, each once, and copies no cells. An error drops the grid.
+    /// Replaces the grid's sinks by `sinks`, each once, without a copy of the cells.
+    /// An error drops the grid.
     ///
     /// # Errors
     ///

@@ -12,7 +12,7 @@ use std::alloc::{AllocError, Global};
 /// The greatest length of a list of sinks, repeats counted.
 pub const MOST_SINKS: usize = 1_024;
 
-/// Why a list of places is refused as sinks. Its entries count from 0.
+/// Why a list of sinks is refused. Indices count the list's entries from 0.
 #[derive(Clone, Copy, Debug, PartialEq, Eq)]
 pub enum SinkFault {
     /// The sink at this index lies outside the grid.
@@ -33,7 +33,6 @@ impl From<AllocError> for SinkFault {
     }
 }
 
-/// Returns the fault of `sink`, the entry at `index` of a list, or `None`.
 fn sink_fault_at(grid: &Grid, sink: Place, index: u32) -> Option<SinkFault>
     ensures { result ≡ sink_fault_of grid.now.terrain index sink }
 {
@@ -46,7 +45,6 @@ fn sink_fault_at(grid: &Grid, sink: Place, index: u32) -> Option<SinkFault>
     None
 }
 
-/// Returns the fault of the first sink outside the grid or without data, or `None`.
 fn first_bad_sink(grid: &Grid, sinks: &[Place]) -> Option<SinkFault>
     requires { length sinks.now ≤ most_sinks }
     ensures { result ≡ first_sink_fault grid.now.terrain 0 sinks.now }
@@ -71,7 +69,6 @@ pub fn sinks_fault(grid: &Grid, sinks: &[Place]) -> Option<SinkFault>
     first_bad_sink(grid, sinks)
 }
 
-/// Returns whether `places` contains `place`.
 pub(crate) fn is_one_of(places: &[Place], place: Place) -> bool
     ensures { result ≡ list_any (is_place place) places.now }
 {

@@ -1,4 +1,4 @@
--- The text of all runs in order, and a reader that is fed them one by one.
+-- Runs in order are the whole text, and feeding them one by one feeds the whole text.
 use Rattle.std.proofs.Common.{◌≡◌, ℕ, ◌+◌, ◌<◌, List, [], ◌∷◌, ◌++◌, length, take, drop, get_or, map, Ok, Err, Result, ap, sym, subst, ◌∙◌}
 use Rattle.std.specs.List.{concat}
 use Rattle.std.proofs.lemmas.List.{append-nil, append_assoc, map-append, take_more, take-append-drop}
@@ -19,7 +19,6 @@ pub joined-take : {X : Type 0} (f : X → List ℕ) (runs : List X) (job : ℕ) 
 joined-take f runs job d h = ap (λ z. concat (map f z)) (take_more runs job d h)
     ∙ joined-push f (take job runs) (get_or runs job d)
 
--- the text of the first runs, and then that of the later ones, is the text of all runs
 pub joined-rest : {X : Type 0} (f : X → List ℕ) (runs : List X) (job : ℕ) →
     concat (map f (take job runs)) ++ concat (map f (drop job runs)) ≡ concat (map f runs)
 joined-rest f runs job =
@@ -40,7 +39,7 @@ joined-cut f runs more run len rest back piece pushed front behind all =
     ∙ ap (λ z. concat (map f runs) ++ z) (take-append-drop len rest)
     ∙ all
 
--- the runs with a last one appended are the whole text, if the runs and that one together are
+-- where the last run completes the text, the runs with it appended are the whole text
 pub joined-last : {X : Type 0} (f : X → List ℕ) (runs more : List X) (run : X) (piece : List ℕ) →
     more ≡ runs ++ run ∷ [] → concat (map f runs) ++ f run ≡ piece → concat (map f more) ≡ piece
 joined-last f runs more run piece pushed all = ap (λ z. concat (map f z)) pushed

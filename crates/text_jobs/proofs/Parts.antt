@@ -10,14 +10,12 @@ use Rattle.ascii_grid.specs.Text.{rows_text}
 use Rattle.ascii_grid.proofs.RowText.{pieces_more, rows_text-add, rows_take, whole_rows}
 use Rattle.text_jobs.specs.Parts.{part_text}
 
--- a part below the number of parts has at least one row
 pub first_row_below : (rows each part : ℕ) → 0 < each → part < div_ceil rows each →
     part * each < rows
 first_row_below rows each part some below =
     let times = mul-le-mul_right each (let e : part + 1 ≤ div_ceil rows each = omega arith in e) in
     omega (arith, times, (div_ceil_times rows each some).1)
 
--- the cells of a part lie within the list
 pub part_within : (n cols each part count : ℕ) → part * each < n / cols →
     count ≡ min each (n / cols - part * each) → (part * each + count) * cols ≤ n
 part_within n cols each part count below e =

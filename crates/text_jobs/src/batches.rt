@@ -8,7 +8,7 @@ use std::io::Read;
 
 /// The most pieces of a batch.
 ///
-/// Not 256: a batch and the unfinished word before it hold at most 1 MiB of text together.
+/// Not 256: with the unfinished word before it, a batch reads at most 1 MiB ahead of the cells.
 const BATCH_PIECES: usize = 255;
 
 /// The most bytes of a batch.

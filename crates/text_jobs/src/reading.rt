@@ -13,7 +13,9 @@ use terrain::Grid;
 use tile_jobs::{Gate, MOST_JOBS};
 use tile_maps::Runner;
 
-/// The least bytes of a long batch's front: no job parses the header or a cut word in it.
+/// The fewest first bytes of a long batch that the caller's thread parses.
+///
+/// They may hold the header, or the rest of a word that the batch before cut.
 const FRONT_BYTES: usize = 4096;
 
 /// Reads a grid from a device, by several workers.

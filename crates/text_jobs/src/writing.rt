@@ -1,6 +1,7 @@
 //! Writes maps by several workers.
 //!
-//! Jobs make the text of all rows before the first byte is written: nothing is allocated later.
+//! With several workers, jobs make the text of all rows before the first byte is written. After it
+//! nothing is allocated.
 ghost use Rattle.std.specs.Prelude.{◌≡◌, ◌++◌, ◌*◌, ◌-◌, ◌/◌, ◌^◌, ◌<◌, ◌≤◌, length, IfSome};
 ghost use Rattle.std.specs.List.{flat_map};
 ghost use Rattle.terrain.specs.declared.word.TheConstants.{MOST_WORD_BYTES};
@@ -21,7 +22,7 @@ use tile_maps::Runner;
 /// The most cells of which one job makes the text.
 const JOB_CELLS: usize = 65_536;
 
-/// One job for every `rows_each` rows of a map, and for a rest; it returns their text.
+/// Jobs that return the text of `rows_each` rows each, the last of the rows that remain.
 #[derive(Drop)]
 struct LineJobs<'a, E> {
     cells: &'a [E],

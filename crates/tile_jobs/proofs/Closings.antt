@@ -42,7 +42,7 @@ pub mark_shows : (marked : Bool) (u : Log) → IsSeated marked u → marked ≡ 
 mark_shows true u is e = let b = is.2 in omega arith
 mark_shows false u is e = absurd (true≢false (sym e))
 
--- One more job popped: with the rest of the deal, the popped jobs are the deal from k on.
+-- After one more pop the popped jobs, then the rest of the deal, are still the deal from k on.
 pub part_more : (d p : List ℕ) (k t j : ℕ) → t ≡ k + length p → p ++ drop t d ≡ drop k d →
     j ∷ drop (suc t) d ≡ drop t d → (p ++ j ∷ []) ++ drop (suc t) d ≡ drop k d
 part_more d p k t j at e next = append_assoc p (j ∷ []) (drop (suc t) d) ∙ ap (λ l. p ++ l) next ∙ e

@@ -100,7 +100,6 @@ times_deal j seats v y =
       | false ↦ omega arith
     ]
 
--- The deal of v has only numbers below `jobs` with remainder v.
 pub deal_is : (jobs seats v y : ℕ) → 0 < times y (deal jobs seats v) → (y < jobs) × (y % seats ≡ v)
 deal_is zero seats v y n = absurd (omega arith)
 deal_is (suc j) seats v y n =
@@ -174,7 +173,6 @@ feed_parts jobs seats v t j rest e =
     sym (jobs_append (take t all) (Job j ∷ rest)) ∙ ap (λ l. jobs_of (take t all ++ l)) e
     ∙ ap jobs_of (take-append-drop t all) ∙ feed_jobs jobs seats v
 
--- A job of the feed is below `jobs` and has remainder v.
 pub feed_is : (jobs seats v t j : ℕ) (rest : List Entry) →
     Job j ∷ rest ≡ drop t (feed jobs seats v) → (j < jobs) × (j % seats ≡ v)
 feed_is jobs seats v t j rest e =

@@ -21,7 +21,6 @@ no_list : All IsRising ([] ∷ [])
 no_list =
     All-cons IsRising [] [] (λ i k d l low. absurd (omega arith)) (λ k d low. absurd (omega arith))
 
--- A pass that may take has the deque's numbers.
 pub names : (items : List Entry) (views : List Log) (h : Lawful items views) (port : ℕ) (u : Log) →
     get_elem? views port ≡ some u → CanTake u → (u.jobs ≡ h.jobs) × (u.seats ≡ h.seats)
     × (u.deque ≡ h.v)

@@ -12,9 +12,9 @@ use Rattle.tile_jobs.specs.Rule.{share}
 abbrev pub DequeId : Type 0
 DequeId = RowsId × Global
 
--- One seat's end of one deque: the deque's numbers, the jobs that the seat took there, and whether
--- the seat took its end mark. `seen` counts the entries that the seat saw taken from the deque.
--- It is 0 for the owner, and before the seat first tries to steal there.
+-- One seat's end (handle) of one deque: the deque's numbers, the jobs that the seat took there, and
+-- whether the seat took its end mark. `seen` counts the entries that the seat saw taken from the
+-- deque. It is 0 for the owner, and before the seat first tries to steal there.
 pub record EndState : Type 0 where
   pub id : DequeId
   pub jobs : ℕ
@@ -199,7 +199,7 @@ abbrev pub IsFresh : ℕ → ℕ → ℕ → EndState → Type 0
 IsFresh jobs seats v e =
     (e.jobs ≡ jobs) × (e.seats ≡ seats) × (e.deque ≡ v) × (e.took ≡ []) × (e.marked ≡ false)
 
--- Element v of the list is an end of deque v, and nothing was taken at it.
+-- Each element v of the list is an end of deque v, and nothing was taken at it.
 abbrev pub AllFresh : ℕ → ℕ → List EndState → Type 0
 AllFresh jobs seats es =
     (v : ℕ) (d : EndState) → v < length es → IsFresh jobs seats v (get_or es v d)
@@ -213,7 +213,7 @@ pub record IsDeal (jobs seats : ℕ) (ss : List SeatState) : Type 0 where
   pub ends : (s k : ℕ) (d : SeatState) (e : EndState) → s < seats → suc k < seats →
       (get_or (get_or ss s d).others k e).id ≡ (get_or ss (skip s k) d).own.id
 
--- A deque that is being closed: the owner's list, the other ends' lists, and the marks.
+-- A deque that is being closed: the owner's list, the lists of the ends joined to it, the marks.
 pub record ClosingState : Type 0 where
   pub id : DequeId
   pub jobs : ℕ
@@ -221,7 +221,7 @@ pub record ClosingState : Type 0 where
   pub deque : ℕ
   pub took : List ℕ
   pub gathered : List ℕ
-  -- how many ends were joined, the owner's included; how many marks were taken, by `close` too
+  -- the number of ends joined, with the owner's; the number of marks taken at these, by `close` too
   pub back : ℕ
   pub marks : ℕ
   pub marked : Bool

@@ -22,7 +22,7 @@ HaveHeads n v rows id = (s : ℕ) (d : Vec EndState Global) (e : EndState) → s
     (0 < length (slice_index_or rows s d).items)
     × ((slice_index_or (slice_index_or rows s d).items 0 e).id ≡ id)
 
--- Each new row lacks its first end; only the row of seat v is unchanged.
+-- Each new row is the old one without its first end; only the row of seat v is unchanged.
 abbrev pub WithoutHeads : ℕ → ℕ → Rows → Rows → Type 0
 WithoutHeads n v rows new = (s : ℕ) (d : Vec EndState Global) → s < n →
     (slice_index_or new s d).items

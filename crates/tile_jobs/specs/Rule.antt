@@ -1,9 +1,10 @@
 -- The pushes and takes on one deque, and the invariant `Lawful` that they keep. The dealer pushes
--- jobs, then end marks. Then the owner pops and the other seats steal, each until it gets a mark.
--- A pass is a right to act on the deque, with a view (`Log`) of what it did. A push changes the
--- view of its pass as `dealing` says, a pop or a steal as `Took` says; other views stay. Before the
--- first take the dealer splits off a pass for each other seat, which may take one mark
--- (`after_split`, `split_off`). At the end each is joined to the owner's (`taken_back`, `spent`).
+-- jobs, then end marks. Then the owner pops and the other seats steal, each at most until its first
+-- mark. A pass is a right to act on the deque, with a view (`Log`) of its pushes and takes. A push
+-- changes the view of its pass as `dealing` says, a pop or steal as `Took` says. Other views stay.
+-- Before the first take the dealer splits off a pass for each seat but the owner. Such a pass may
+-- take one mark (`after_split`, `split_off`). At the end it is joined to the owner's (`taken_back`,
+-- `spent`).
 -- Private.
 use Rattle.std.specs.Prelude.{◌≡◌, ℕ, zero, suc, ◌+◌, ◌-◌, ◌%◌, ◌<◌, ◌≤◌, ◌⊎◌, true, false, List, [], ◌∷◌, ◌++◌, length, take, drop, All}
 use Rattle.std.specs.List.{concat}
@@ -27,7 +28,7 @@ all_taken v = v.took ++ concat v.gathered
 abbrev pub taken : Log → ℕ
 taken v = length (all_taken v) + v.marks
 
--- The number of end marks that a pass took or may take.
+-- The number of end marks that a pass took or may take, with those of the passes joined to it.
 abbrev pub share : Log → ℕ
 share v = v.marks_due + v.marks
 
@@ -150,7 +151,7 @@ taken_back u w = record u {
   gathered = u.gathered ++ (w.took ∷ w.gathered);
 }
 
--- One entry was taken, and it is the next in the order pushed.
+-- One entry was taken: the one at index `taken u` in the order pushed.
 abbrev pub TookNext : Log → List Entry → Log → Type 0
 TookNext u xs w = Took u xs w
     × ((rest : List Entry) × (xs ++ rest ≡ drop (taken u) (feed u.jobs u.seats u.deque)))

@@ -101,7 +101,7 @@ pub struct Closed {
 /// A board of numbered jobs: deals them to seats, and lists those taken and left at the end.
 ///
 /// Each seat owns a deque and may steal from the others. After its jobs a deque has one end mark
-/// for each seat; once a seat takes one, the deque has no job left. The seats hold all state, and
+/// for each seat. Once a mark is taken, the deque has no job left. The seats hold all state, and
 /// may move to other threads.
 pub struct Board;
 

@@ -10,7 +10,7 @@ use crate::ends::{OtherEnd, OwnEnd};
 use std::alloc::{AllocError, Global};
 use std::marker::Model;
 
-/// A deque that has all its jobs and end marks, and of which some ends are still to be made.
+/// A deque that has all its jobs and end marks, and still lacks the ends of some seats.
 #[derive(Drop)]
 pub struct Dealer {
     worker: Deque,
@@ -25,7 +25,7 @@ impl Model for Dealer {
 }
 
 /// Returns how many of the jobs below `jobs` deque `v` gets.
-/// The deque gets one in each whole round over the seats, and one in a last round that reaches `v`.
+/// Each whole round over the seats gives it one job, and so does a partial round that reaches it.
 #[tactic(auto, using(std::proofs::lemmas::Bool::Decides::nat_tests, crate::proofs::Rounds::deal_count))]
 fn count_jobs(jobs: u32, seats: u32, v: u32) -> u32
     requires { v < seats }

@@ -1,6 +1,6 @@
 //! Deals the jobs to all deques and makes the seats.
 //!
-//! Each seat has an end of every deque.
+//! Each seat has an end of every deque, which is its handle there.
 ghost use Rattle.std.specs.Prelude.{◌≡◌, ℕ, ◌++◌, ◌∷◌, [], ◌<◌, ◌≤◌, ◌==◌, cond, vec_len, slice_index_or, IfOk, OnOk};
 ghost use Rattle.tile_jobs.specs.Ends.{EndState, SeatState, seat_of, fresh, without, AllFresh};
 
@@ -90,7 +90,7 @@ pub(crate) fn seat_all(alloc: Global, jobs: u32, ends: Ends) -> Result<Vec<Seat>
     let mut seats = Vec::with_capacity(alloc, owns.len())?;
     let mut number = 0;
     for own in owns {
-        // Cheap: `remove` moves at most 64 rows forward.
+        // Cheap: `remove` moves at most 63 rows forward.
         let others = rows.remove(0);
         seats
             .push(Seat::new(alloc, number, own, others, jobs)?)

@@ -1,7 +1,7 @@
 //! One deque of the board: its protocol, and the calls that push, pop and steal.
 //!
-//! A pass is the right to act on a deque, and its view ([`Log`]) records what it did. A push, a
-//! pop or a steal changes the view of one pass only.
+//! A pass is a right to act on the deque. Its view ([`Log`]) records its pushes, pops and steals,
+//! each of which changes the view of no other pass.
 ghost use Rattle.std.specs.Prelude.{◌≡◌, ℕ, suc, ◌<◌, true, [], ◌∷◌, drop, IfNone, MatchOption};
 ghost use Rattle.crossbeam_deque.specs.Handles.{taken, view, IsPassOf, stealer_deque, worker_view, worker_flavor, stealer_flavor, worker_index, worker_capacity, SameWorker, SamePass};
 ghost use Rattle.tile_jobs.specs.Board.{deal, feed};
@@ -22,7 +22,7 @@ pub enum Entry {
 
 /// The view of one pass, for proofs: no value of it exists at run time.
 pub struct Log {
-    // the board's jobs and seats, and the deque's number
+    // the board's numbers of jobs and seats, and the deque's number
     pub jobs: u64,
     pub seats: u64,
     pub deque: u64,
@@ -31,12 +31,12 @@ pub struct Log {
     pub pushed: u64,
     // true for a stealing pass: all entries were pushed before it was split off
     pub ready: bool,
-    // the number of end marks that the pass may still take, and the number that it took
+    // how many end marks the pass may still take and how many it took, with those of joined passes
     pub marks_due: u64,
     pub marks: u64,
     // the jobs taken by this pass
     pub took: LinkedList<u32>,
-    // the lists of the passes that were joined to this one
+    // the lists of jobs taken by the passes that were joined to this one
     pub gathered: LinkedList<LinkedList<u32>>,
 }
 
@@ -77,7 +77,7 @@ impl DequeKey for Brand {
     ghost deque = { 0 };
 }
 
-/// The outcome of a push on the deque that `D` names: `dealing` with one more push.
+/// The outcome of a push on the deque that `D` names: the view `dealing`, one push on.
 pub struct Deals<D> {
     place: PhantomData<D>,
 }
@@ -100,7 +100,7 @@ impl Outcome<Entry, Log> for Takes {
     ghost empty = { λ _. ⊥ };
 }
 
-/// The outcome of taking the next entry in the order pushed. The deque is never found empty.
+/// The outcome of taking one entry, as `TookNext` says. The deque is never found empty.
 pub struct TakesNext;
 
 impl Outcome<Entry, Log> for TakesNext {
@@ -130,7 +130,7 @@ impl Join<Log> for SplitsEnd {
     ghost spent = { spent };
 }
 
-/// The fact that the owner's and joined lists have each dealt job once, no other.
+/// The fact that the owner's and joined lists have each dealt job once and no other.
 pub struct Whole;
 
 impl Lesson<Entry, Log> for Whole {

@@ -1,4 +1,4 @@
-//! A seat's ends, which are its handles of the deques. It pops at its own and steals at the others.
+//! A seat's ends: its handle of each deque. The seat pops at its own end and steals at the others.
 ghost use Rattle.std.specs.Prelude.{◌≡◌, ◌≤◌, true, false, cond, length, vec_len, MatchOption};
 ghost use Rattle.crossbeam_deque.specs.Handles.{taken, view as pass_view, IsPassOf, worker_deque, stealer_deque, worker_view, worker_flavor, stealer_flavor};
 ghost use Rattle.tile_jobs.specs.Ends.{EndState, end_of, IsOwn, IsOther, TookJob, Kept, LostSteal, SameElsewhere};

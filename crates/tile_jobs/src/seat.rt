@@ -1,6 +1,6 @@
 //! A seat: one worker's access to all deques of its board.
 //!
-//! [`Seat::try_take`] takes the next job of the own deque, or tries to steal one.
+//! [`Seat::try_take`] takes the first job of the seat's own deque, or tries to steal one.
 ghost use Rattle.std.specs.Prelude.{◌≡◌, ◌≤◌, [], vec_capacity, IfOk};
 ghost use Rattle.tile_jobs.specs.Ends.{SeatState, seat_of, IsSeat, SameSeat, MarksStay, HasAllMarks};
 ghost use Rattle.tile_jobs.specs.Take.{MatchTake, TakesJob, LosesRace, FindsNone};
@@ -26,7 +26,7 @@ pub enum Take {
 pub struct Seat {
     number: u32,
     own: OwnEnd,
-    // the ends of the other deques, in the order of the deques
+    // one end (handle) of each other deque, in the order of the deques
     others: Vec<OtherEnd>,
     taken: Vec<u32>,
 }
@@ -62,7 +62,7 @@ impl Seat {
         })
     }
 
-    /// The capacity of the list of jobs taken: at least the number of the board's jobs.
+    /// Returns the capacity of the list of jobs taken, at least the board's number of jobs.
     pub(crate) fn capacity(&self) -> usize
         ensures { self.now.own.jobs ≤ result }
     {
@@ -85,9 +85,9 @@ impl Seat {
     /// Takes the first job of the seat's own deque, or else tries to steal one.
     ///
     /// Tries at most one steal at each other deque, from the next seat's to the last, then from the
-    /// first. A seat gets the jobs of one deque in rising order. Never allocates and never waits.
+    /// first on. A seat gets the jobs of one deque in rising order. Never allocates or waits.
     ///
-    /// Returns [`Take::Empty`] once this seat took each deque's end mark, which no job follows.
+    /// Returns [`Take::Empty`] once this seat took one end mark of each deque. No job follows them.
     /// Returns [`Take::Again`] only if a steal of this call lost a race to another seat.
     ///
     /// # Examples

@@ -4,15 +4,15 @@ ghost use Rattle.std.specs.Prelude.{◌≡◌, ℕ, ◌<◌, IfOk, IfErr};
 use crate::JobFault;
 use std::alloc::Global;
 
-/// Work that is split into numbered jobs. All workers share one value.
+/// Work that is split into numbered jobs. All workers share one `Work` value.
 pub trait Work {
     /// The result of one job.
     type Out;
 
-    // The number of jobs: only jobs below it may run.
+    // Only jobs below this number may run.
     ghost most: { Self → ℕ };
 
-    // Relates a job's number to the results that it may return.
+    // Relates a job's number to each result that the job may return.
     ghost gives: { Self → ℕ → Self.Out → Type 0 };
 
     /// Runs one job.

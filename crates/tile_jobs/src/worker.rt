@@ -1,4 +1,4 @@
-//! Runs one worker, which takes jobs by its seat until none is left or one fails.
+//! Runs one worker, which takes jobs through its seat until none is left or a fault occurs.
 ghost use Rattle.std.specs.Prelude.{◌≤◌};
 ghost use Rattle.tile_jobs.specs.Ends.{IsNew};
 ghost use Rattle.tile_jobs.specs.Workers.{IsOutcome};

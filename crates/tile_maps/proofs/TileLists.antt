@@ -1,4 +1,4 @@
--- Lists of a tile's entries, appended one by one.
+-- A tile's list, to which entries are appended one by one.
 use Rattle.std.proofs.Common.{◌≡◌, ℕ, ◌+◌, ◌-◌, ◌*◌, ◌<◌, inl, inr, List, ◌∷◌, ◌++◌, [], get_or, Option, None, slice_get, sym, ap, subst, ◌∙◌, arith}
 use Rattle.std.proofs.lemmas.Bool.{cases_eq}
 use Rattle.std.proofs.lemmas.List.{length_push}
@@ -12,7 +12,6 @@ use Rattle.tiles.proofs.SliceGet.{slice_get-append_left, slice_get-append_right}
 use Rattle.tiles.proofs.TileOrder.{index_in_below, index_in_tile_is, tile_entry-in}
 use Rattle.tile_maps.specs.Maps.{AreMadeBelow, IsMadeTile}
 
--- places inside bounds that have one index in their row order are equal
 pub within_injective : (b : Bounds) (p q : Place) → IsInBounds b p → IsInBounds b q →
     index_in b p ≡ index_in b q → p ≡ q
 within_injective b p q i j e =
@@ -22,7 +21,6 @@ within_injective b p q i j e =
     let col : p.col - b.left ≡ q.col - b.left = ap (λ (r : Place). r.col) one in
     same_place p q (omega (arith, i.0, j.0)) (omega (arith, i.2, j.2))
 
--- a list made for the places before p, with an entry of `Has p` appended, is made up to p
 pub made_push : {X : Type 0} (b : Bounds) (Has : Place → X → Type 0) (p : Place) (list : List X)
     (x : X) → IsInBounds b p →
     AreMadeBelow b Has (index_in b p) list → Has p x →
@@ -40,7 +38,7 @@ made_push {X} b Has p list x inside before here = record {
   ];
 }
 
--- `made_push` for the place at a row and a column counted from the bounds' first
+-- `made_push` for the place in this row and column, counted from the first of the bounds
 pub made_next : {X : Type 0} (b : Bounds) (Has : Place → X → Type 0) (row col : ℕ) (list : List X)
     (x : X) → row < b.rows → col < b.cols →
     AreMadeBelow b Has (row * b.cols + col) list → Has (make_place (b.top + row) (b.left + col)) x →
@@ -56,7 +54,6 @@ made_next {X} b Has row col list x below beside before here =
     (made_push b Has p list x (omega arith, omega arith, omega arith, omega arith)
     (subst (λ (n : ℕ). AreMadeBelow b Has n list) (sym at) before) here)
 
--- a list made for all places of a tile's bounds (`AreMadeBelow`) is the tile's (`IsMadeTile`)
 pub made_tile : {X : Type 0} (c : Cutting) (tile : ℕ) (b : Bounds) (Has : Place → X → Type 0)
     (list : List X) → IsCutting c → b ≡ bounds_of c tile →
     AreMadeBelow b Has (b.rows * b.cols) list → IsMadeTile c tile Has list
@@ -70,7 +67,6 @@ made_tile c tile b Has list lawful e made = record {
       made.each p within (index_in_below b p within) entry (ap (slice_get list) at ∙ is);
 }
 
--- `Has` holds of the entry of a tile's list at each place of the tile
 pub entry_of_tile : {X : Type 0} (c : Cutting) (tile : ℕ) (Has : Place → Option X → Type 0)
     (list : List (Option X)) → IsCutting c → IsMadeTile c tile Has list →
     (p : Place) → IsInTile c tile p → Has p (tile_entry c tile list p)

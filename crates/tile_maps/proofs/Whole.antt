@@ -21,14 +21,12 @@ module _ {X : Type 0} (c : Cutting) (Has : Place → X → Type 0) (n : ℕ)
       (get_or_from_slice_get lists.items tile list list e)
       (given tile list (omega (arith, lists.ok.0, count, slice_get_within lists.items tile list e)))
 
-  -- there is one list for each tile, with an entry for each of its cells
   pub lists_of_tiles : AreTileLists c lists.items
   lists_of_tiles = record {
     count = omega (arith, lists.ok.0, count, all);
     each = λ tile list e. (made_at tile list e).size;
   }
 
-  -- the joined list has an entry for each place of the grid, and `Has` holds of each entry
   pub made_whole : (whole : List X) → IsCutting c → IsPutBack c lists.items whole →
       IsMadeMap c Has whole
   made_whole whole lawful put = record {
@@ -46,7 +44,6 @@ module _ {X : Type 0} (c : Cutting) (Has : Place → X → Type 0) (n : ℕ)
         ];
   }
 
--- a list with one entry for each cell of a tile is the tile's, if `Has` holds of each entry
 pub tile_of_entries : {X : Type 0} (c : Cutting) (tile : ℕ) (Has : Place → Option X → Type 0)
     (list : List (Option X)) → length list ≡ cell_count c tile →
     ((p : Place) → IsInTile c tile p → Has p (tile_entry c tile list p)) →
@@ -60,7 +57,6 @@ tile_of_entries {X} c tile Has list size each = record {
       (each p i);
 }
 
--- `Has` holds of a map's entry at each place of the grid
 pub entry_of_map : {X : Type 0} (c : Cutting) (Has : Place → Option X → Type 0)
     (whole : List (Option X)) → IsMadeMap c Has whole → (p : Place) → IsWithin c p →
     Has p (entry_at c.cols c.rows whole p)

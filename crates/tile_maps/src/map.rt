@@ -8,7 +8,7 @@ use std::alloc::Global;
 use terrain::NoMemory;
 use tiles::Tiling;
 
-/// A map of a grid that makes its entries tile by tile. Threads share it.
+/// A map of a grid whose entries are made tile by tile. Worker threads share it.
 pub trait TileMap {
     /// The map's value at a cell.
     type Entry;

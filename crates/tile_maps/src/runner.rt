@@ -25,7 +25,6 @@ pub struct Runner<'a, R, G> {
     pub gate: &'a G,
 }
 
-/// Jobs that make a map's lists, one for each tile.
 #[derive(Drop)]
 struct TileJobs<'a, M> {
     map: &'a M,

@@ -10,7 +10,6 @@ use Rattle.tiles.proofs.Quotients.{piece_begins, piece_of, pieces_some, piece_is
 abbrev pub make_bounds : ℕ → ℕ → ℕ → ℕ → Bounds
 make_bounds top left rows cols = record { top = top; left = left; rows = rows; cols = cols }
 
--- each tile is in one of the rows of tiles, and in one of the columns of tiles
 pub tile_row : (t : Cutting) (tile : ℕ) → IsCutting t → tile < tile_count t →
     tile / across t < down t
 tile_row t tile h l =
@@ -20,7 +19,6 @@ tile_row t tile h l =
 pub tile_col : (t : Cutting) (tile : ℕ) → IsCutting t → tile % across t < across t
 tile_col t tile h = mod_below tile (across t) (pieces_some t.cols t.side h.some_side h.some_col)
 
--- a tile begins inside the grid
 pub tile_top : (t : Cutting) (tile : ℕ) → IsCutting t → tile < tile_count t →
     tile / across t * t.side < t.rows
 tile_top t tile h l = piece_begins t.rows t.side (tile / across t) h.some_side (tile_row t tile h l)
@@ -28,7 +26,6 @@ tile_top t tile h l = piece_begins t.rows t.side (tile / across t) h.some_side (
 pub tile_left : (t : Cutting) (tile : ℕ) → IsCutting t → tile % across t * t.side < t.cols
 tile_left t tile h = piece_begins t.cols t.side (tile % across t) h.some_side (tile_col t tile h)
 
--- a tile's bounds have a cell, lie in the grid, and are no longer than the side
 pub bounds_inside : (t : Cutting) (tile : ℕ) → IsCutting t → tile < tile_count t →
     AreBounds t (bounds_of t tile)
 bounds_inside t tile h l =
@@ -44,7 +41,6 @@ bounds_inside t tile h l =
       cols_inside = omega arith;
     }
 
--- a place's column of tiles exists; its tile is in the place's row and column of tiles
 pub place_col_piece : (t : Cutting) (p : Place) → IsCutting t → IsWithin t p →
     p.col / t.side < across t
 place_col_piece t p h w = piece_of t.cols t.side p.col h.some_side w.1
@@ -59,7 +55,6 @@ pub tile_of_place_col : (t : Cutting) (p : Place) → IsCutting t → IsWithin t
 tile_of_place_col t p h w =
     mod-mul-add (p.row / t.side) (across t) (p.col / t.side) (place_col_piece t p h w)
 
--- the tile of a place is one of the grid's
 pub tile_of_place_below : (t : Cutting) (p : Place) → IsCutting t → IsWithin t p →
     tile_of_place t p < tile_count t
 tile_of_place_below t p h w =
@@ -67,7 +62,6 @@ tile_of_place_below t p h w =
     (piece_of t.rows t.side p.row h.some_side w.0)
     (place_col_piece t p h w)
 
--- a tile's places lie in its bounds
 pub in_bounds : (t : Cutting) (tile : ℕ) (p : Place) → IsCutting t → IsInTile t tile p →
     IsInBounds (bounds_of t tile) p
 in_bounds t tile p h i =
@@ -82,7 +76,6 @@ in_bounds t tile p h i =
     let w = i.0 in
     (omega arith, omega arith, omega arith, omega arith)
 
--- places in a tile's bounds lie in the tile
 pub in_tile : (t : Cutting) (tile : ℕ) (p : Place) → IsCutting t → tile < tile_count t →
     IsInBounds (bounds_of t tile) p → IsInTile t tile p
 in_tile t tile p h l i =
@@ -96,7 +89,6 @@ in_tile t tile p h l i =
     ap (λ n. n * across t + p.col / t.side) r ∙ ap (λ n. tile / across t * across t + n) c in
     ((omega arith, omega arith), e ∙ div-add-mod' tile (across t))
 
--- bounds that equal a tile's are `AreBounds`, and hold exactly the tile's places
 pub inside_from_value : (t : Cutting) (tile : ℕ) (b : Bounds) → IsCutting t → tile < tile_count t →
     b ≡ bounds_of t tile → AreBounds t b
 inside_from_value t tile b h l e =
@@ -120,7 +112,6 @@ bounds_from t tile a n m e f g =
     ∙ ap (λ i. make_bounds (tile / i * t.side) (tile % i * t.side)
     (min t.side (t.rows - tile / i * t.side)) (min t.side (t.cols - tile % i * t.side))) e
 
--- `is_in_bounds` decides `IsInBounds`
 pub in_bounds_parts : (b : Bounds) (p : Place) → is_in_bounds b p ≡ true → IsInBounds b p
 in_bounds_parts b p e =
     let a = and_parts _ _ e in

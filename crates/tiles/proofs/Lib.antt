@@ -7,7 +7,7 @@ pub mod RimSteps
 pub mod Outer
 pub mod Members
 pub mod RimNumbered
--- views, and the tiles' lists joined
+-- views, and the tiles' lists merged
 pub mod SliceGet
 pub mod Shown
 pub mod TileRows

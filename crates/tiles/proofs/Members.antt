@@ -27,7 +27,6 @@ Contains-cons_cases y xs x h = at_cons y xs x h.0 h.1 h.2
 Contains-nil : {X : Type 0} (x : X) → Contains [] x → ⊥
 Contains-nil x h = absurd (omega (arith, h.1))
 
--- a filtered list has exactly the members that pass the test
 Contains-filter : {X : Type 0} (test : X → Bool) (xs : List X) (x : X) → Contains xs x →
     test x ≡ true → Contains (filter test xs) x
 Contains-filter test [] x h e = absurd (Contains-nil x h)
@@ -63,7 +62,6 @@ Contains-from_filter test (y ∷ ys) x h =
           let r = Contains-from_filter test ys x k in (Contains-there y ys x r.0, r.1)
     ]
 
--- a range of n numbers from a on has exactly the numbers from a up to, but without, a + n
 Contains-range : (a n k : ℕ) → a ≤ k → k < a + n → Contains (range_with_len a n) k
 Contains-range a zero k h l = absurd (omega (arith, h, l))
 Contains-range a (suc n) k h l =
@@ -122,7 +120,6 @@ Contains-from_flat_map f (z ∷ zs) y h =
 abbrev row_places : Bounds → ℕ → List Place
 row_places b r = map (make_place r) (range_with_len b.left b.cols)
 
--- `places_in` lists exactly the places in the bounds
 pub Contains-places_in : (b : Bounds) (p : Place) → IsInBounds b p → Contains (places_in b) p
 Contains-places_in b p h =
     Contains-flat_map (row_places b) (range_with_len b.top b.rows) p.row p
@@ -144,7 +141,6 @@ Contains-from_places_in b p h =
       omega (arith, col, cols.1),
     )
 
--- `rim_places` lists exactly the tile's places that are on its rim
 pub Contains-rim_places : (t : Cutting) (tile : ℕ) (p : Place) → IsCutting t → IsInTile t tile p →
     is_on_rim t p ≡ true → Contains (rim_places t tile) p
 Contains-rim_places t tile p h i e =

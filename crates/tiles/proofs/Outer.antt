@@ -1,4 +1,4 @@
--- The places that pass a test among those of the first directions, direction by direction.
+-- One more direction adds at most one place to those in the first directions that pass a test.
 use Rattle.std.proofs.Common.{◌≡◌, ℕ, ◌+◌, ◌<◌, Bool, List, [], ◌∷◌, ◌++◌, length, get_or, take, filter, Option, None, Some, ap, refl, ◌∙◌}
 use Rattle.std.specs.Option.{option_to_list}
 use Rattle.std.specs.List.{filter_map}

@@ -1,4 +1,4 @@
--- The list of the grid, joined row by row, and each row tile by tile.
+-- The tiles' lists are merged into the grid's list row by row, and each row tile by tile.
 use Rattle.std.proofs.Common.{◌≡◌, ℕ, ◌+◌, ◌-◌, ◌*◌, ◌/◌, ◌%◌, ◌<◌, ◌≤◌, min, List, ◌++◌, length, drop, Option, Some, None, sym, ap, subst, refl, ◌∙◌, arith, inl, inr, slice_get, slice_range, Vec}
 use Rattle.std.specs.declared.alloc.Global.{Global}
 use Rattle.std.specs.Prelude.{option_and_then}
@@ -68,7 +68,7 @@ pub crossed_below : (t : Cutting) (row column : ℕ) → IsCutting t → row < t
 crossed_below t row column h r c = mul-add-lt (row / t.side) (across t) column (down t)
     (piece_of t.rows t.side row h.some_side r) c
 
--- the tile where a row meets a column of tiles has that row, and the column's left and width
+-- the tile where a row meets a column of tiles has that row, and the column's left edge and width
 pub crossed_at : (t : Cutting) (row column : ℕ) → IsCutting t → row < t.rows → column < across t →
     let b = bounds_of t (row / t.side * across t + column) in (b.top ≤ row) × (row < b.top + b.rows)
     × (b.left ≡ column * t.side) × (b.cols ≡ min t.side (t.cols - column * t.side))
@@ -86,7 +86,7 @@ crossed_at t row column h r c =
       ap (λ n. min t.side (t.cols - n)) left,
     )
 
--- the joined list's length with the rows before `row`, and `row` in its first `column` tiles
+-- the length of the grid's list up to the end of `row` in its first `column` tiles
 abbrev pub crossed_length : Cutting → ℕ → ℕ → ℕ
 crossed_length t row column = row * t.cols + min t.cols (column * t.side)
 
@@ -101,7 +101,7 @@ pub crossed_all : (t : Cutting) (row : ℕ) → IsCutting t →
 crossed_all t row h =
     let a = (div_ceil_times t.cols t.side h.some_side).0 in omega (arith, a)
 
--- a joined list stays one with the row's next `width` entries appended, each from its tile's list
+-- `IsPutBackBelow` is kept when the row's next `width` entries, each from its tile, are appended
 pub IsPutBackBelow-more : {X : Type 0} (t : Cutting) (lists : List (Vec X Global))
     (row left width n : ℕ) (whole part : List X) → left + width ≤ t.cols → n ≡ row * t.cols + left →
     IsPutBackBelow t lists n whole → length part ≡ width →
@@ -126,7 +126,7 @@ IsPutBackBelow-more t lists row left width n whole part fits e h size each = rec
       ];
 }
 
--- a joined list stays one with the row's cells in one more column of tiles appended
+-- `IsPutBackBelow` is kept when the row's entries in one more column of tiles are appended
 pub crosses_more : {X : Type 0} (t : Cutting) (lists : List (Vec X Global)) (row column first : ℕ)
     (whole part next : List X) → IsCutting t → row < t.rows → column < across t →
     first ≡ row / t.side * across t → next ≡ whole ++ part → IsPutBackBelow t lists
@@ -149,7 +149,6 @@ crosses_more t lists row column first whole part next h r c e f k is =
     (λ p w q a b. ap (λ m. slice_get part (p.col - m)) (sym left)
     ∙ i.each p w q (omega (arith, left, a)) (omega (arith, left, width, b)))))
 
--- the list is complete once all rows are appended
 pub IsPutBack-from_below : {X : Type 0} (t : Cutting) (lists : List (Vec X Global))
     (whole : List X) → IsPutBackBelow t lists (t.rows * t.cols) whole → IsPutBack t lists whole
 IsPutBack-from_below t lists whole h = record {
@@ -157,7 +156,6 @@ IsPutBack-from_below t lists whole h = record {
   each = λ p w. h.each p w (omega (arith, mul-add-lt p.row t.cols p.col t.rows w.0 w.1));
 }
 
--- the entry of the joined list at a place is that of its tile's list
 pub entry_at-put_back : {X : Type 0} (t : Cutting) (lists : List (Vec (Option X) Global))
     (whole : List (Option X)) (tile : ℕ) (list : Vec (Option X) Global) (p : Place) →
     IsPutBack t lists whole → IsInTile t tile p → slice_get lists tile ≡ Some list →

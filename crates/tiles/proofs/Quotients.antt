@@ -1,18 +1,16 @@
--- Numbers below n cut into pieces of s numbers: the piece of a number, and the count of pieces.
+-- The numbers below n are cut into pieces: piece k has those from k * s on, before (k + 1) * s.
 use Rattle.std.proofs.Common.{◌≡◌, ℕ, ◌+◌, ◌-◌, ◌*◌, ◌/◌, ◌<◌, ◌≤◌, sym, ap, ◌∙◌, arith, inl, inr}
 use Rattle.std.specs.Int.{div_ceil}
 use Rattle.std.proofs.lemmas.Bool.{cases_lt}
 use Rattle.std.proofs.lemmas.Grind.{div_ceil_times}
 use Rattle.std.proofs.lemmas.Nat.{mul-le, div-mul-add, mod_below, div-add-mod'}
 
--- each piece begins below n
 pub piece_begins : (n s k : ℕ) → 0 < s → k < div_ceil n s → k * s < n
 piece_begins n s k p h =
     let a = div_ceil_times n s p in
     let b = mul-le (k + 1) s (div_ceil n s) s (omega arith) (omega arith) in
     grind (arith, a.1, b)
 
--- piece k is among the pieces if it begins below n
 pub piece_counts : (n s k : ℕ) → 0 < s → k * s < n → k < div_ceil n s
 piece_counts n s k p h =
     elim (cases_lt k (div_ceil n s)) [
@@ -22,15 +20,12 @@ piece_counts n s k p h =
           absurd (omega (arith, a.0, b))
     ]
 
--- each number lies in a piece
 pub piece_of : (n s x : ℕ) → 0 < s → x < n → x / s < div_ceil n s
 piece_of n s x p h = piece_counts n s (x / s) p (omega (arith, div-add-mod' x s))
 
--- there is a piece if n is not 0
 pub pieces_some : (n s : ℕ) → 0 < s → 0 < n → 0 < div_ceil n s
 pieces_some n s p h = piece_counts n s 0 p (omega arith)
 
--- a number from the first of piece k on, and before the next piece, lies in piece k
 pub piece_is : (s k x : ℕ) → k * s ≤ x → x < k * s + s → x / s ≡ k
 piece_is s k x a b =
     let e : k * s + (x - k * s) ≡ x = omega arith in

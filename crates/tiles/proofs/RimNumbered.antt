@@ -10,7 +10,6 @@ use Rattle.tiles.specs.Cutting.{Cutting, IsCutting, IsWithin, IsInBounds, across
 use Rattle.tiles.proofs.Cut.{in_bounds, tile_of_place_below}
 use Rattle.tiles.specs.RimNumbers.{stride, side_number, side_place, number_count, rim_number, rim_place}
 
--- if the place is in neither the first nor last row nor the first column, it is in the last column
 abbrev pub IsSide : Bounds → Place → Type 0
 IsSide b p = p.row ≢ b.top → p.row + 1 ≢ b.top + b.rows → p.col ≢ b.left →
     p.col + 1 ≡ b.left + b.cols

@@ -9,21 +9,18 @@ use Rattle.tiles.specs.declared.bounds.Bounds.{Bounds}
 use Rattle.tiles.specs.Cutting.{is_first_or_last, places_in}
 use Rattle.tiles.specs.RimLeft.{rim_from}
 
--- n places of a row, from column c on
 abbrev pub row_from : ℕ → ℕ → ℕ → List Place
 row_from r c n = map (make_place r) (range_with_len c n)
 
--- the places of n rows of the bounds, from row r on
 abbrev pub rows_from : Bounds → ℕ → ℕ → List Place
 rows_from b r n = flat_map (λ s. row_from s b.left b.cols) (range_with_len r n)
 
--- a filter keeps a first place that passes
 pub filter_first : (test : Place → Bool) (r c n : ℕ) (rest : List Place) →
     test (make_place r c) ≡ true → filter test (row_from r c (suc n) ++ rest) ≡ make_place r c
     ∷ filter test (row_from r (c + 1) n ++ rest)
 filter_first test r c n rest e = cond-true _ _ _ e
 
--- a filter drops the first k places if none passes
+-- a filter drops a row's first k places if none of them passes
 pub filter_skip : (test : Place → Bool) (r c k m n d : ℕ) (rest : List Place) →
     n ≡ k + m → d ≡ c + k → ((j : ℕ) → j < k → test (make_place r (c + j)) ≡ false) →
     filter test (row_from r c n ++ rest) ≡ filter test (row_from r d m ++ rest)
@@ -45,7 +42,6 @@ filter_skip test r c (suc k) m n d rest e f none =
     ∙ cond-false _ _ _ first
     ∙ filter_skip test r (c + 1) k m (k + m) d rest refl (omega arith) others
 
--- from the first place on, `rim_from` is the whole rim
 pub rim_start : (b : Bounds) → 1 ≤ b.rows →
     rim_from b (make_place b.top b.left) ≡ filter (is_first_or_last b) (places_in b)
 rim_start b h =
@@ -58,7 +54,6 @@ rim_start b h =
     ∙ ap (λ i. filter test (row_from b.top b.left b.cols ++ rows_from b (b.top + 1) i)) m
     ∙ ap (λ i. filter test (rows_from b b.top i)) e
 
--- after the last place of a row the rim goes on with the first of the next row
 pub rim_row_end : (b : Bounds) (p : Place) →
     p.col + 1 ≡ b.left + b.cols → p.row + 1 < b.top + b.rows → is_first_or_last b p ≡ true →
     rim_from b p ≡ p ∷ rim_from b (make_place (p.row + 1) b.left)
@@ -74,7 +69,6 @@ rim_row_end b p h l e =
     ∙ ap (λ i. p ∷ filter test (row_from (p.row + 1) b.left i
     ++ rows_from b (p.row + 1 + 1) (b.top + b.rows - (p.row + 1 + 1)))) w
 
--- a place in no first or last row or column is not on the rim
 pub inside_fails : (b : Bounds) (r c : ℕ) → r ≢ b.top → r + 1 ≢ b.top + b.rows → c ≢ b.left →
     c + 1 ≢ b.left + b.cols → is_first_or_last b (make_place r c) ≡ false
 inside_fails b r c h i j k = grind (arith, nat_tests, h, i, j, k)
@@ -101,7 +95,6 @@ rim_across b p last left l h top bottom e =
     (last - p.col) last rest skipped end none)
     ∙ ap (λ i. p ∷ filter test (row_from p.row last i ++ rest)) (sym m)
 
--- a rim place in neither the first nor last row nor the last column is in the first column
 pub in_first_col : (b : Bounds) (p : Place) → is_first_or_last b p ≡ true → p.row ≢ b.top →
     p.row + 1 ≢ b.top + b.rows → p.col + 1 ≢ b.left + b.cols → p.col ≡ b.left
 in_first_col b p e h i j = grind (arith, nat_tests, e, h, i, j)

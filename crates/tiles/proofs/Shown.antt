@@ -18,7 +18,6 @@ row_end t b i h l =
     let k : b.top + i < t.rows = omega arith in
     let f = row_fits (b.top + i) t.cols t.rows t.cols k (omega arith) in grind (arith, f, c)
 
--- a shown place is inside the grid
 pub shown_within : (t : Cutting) (tile : ℕ) (p : Place) → is_shown t tile p ≡ true → IsWithin t p
 shown_within t tile p e =
     let a = and_parts _ _ e in
@@ -27,7 +26,6 @@ shown_within t tile p e =
     let d = and_parts _ _ c.0 in
     let w = and_parts _ _ d.0 in (ltb-true _ _ w.0, ltb-true _ _ w.1)
 
--- a shown place has an index in the grid's list
 pub shown_index : {X : Type 0} (v : View X) (p : Place) → IsView v →
     is_shown v.cutting v.tile p ≡ true → index_of v.cutting.cols p < length v.cells
 shown_index v p h e =

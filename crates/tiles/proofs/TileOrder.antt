@@ -38,7 +38,6 @@ place_in-index_in b p h =
     (ap (λ n. b.top + n) (div-mul-add (p.row - b.top) b.cols (p.col - b.left) c) ∙ omega arith)
     (ap (λ n. b.left + n) (mod-mul-add (p.row - b.top) b.cols (p.col - b.left) c) ∙ omega arith)
 
--- `entry_in` reads the list at places of the bounds, and is `None` at all others
 pub entry_in-inside : {X : Type 0} (b : Bounds) (entries : List (Option X)) (p : Place) →
     IsInBounds b p → entry_in b entries p ≡ get_or entries (index_in b p) None
 entry_in-inside b entries p h = cond-true _ _ _ (in_bounds_from b p h)
@@ -50,7 +49,6 @@ bounds_from_entry b entries p x e = elim (cases_Bool (is_in_bounds b p)) [
   | inr outside ↦ absurd (none-some x (sym (cond-false _ _ _ outside) ∙ e))
 ]
 
--- the place at an index of a tile's row order lies in the tile
 pub place_in_tile : (t : Cutting) (tile i : ℕ) → IsCutting t → tile < tile_count t →
     i < cell_count t tile → IsInTile t tile (place_in (bounds_of t tile) i)
 place_in_tile t tile i h l k =
@@ -61,7 +59,6 @@ pub index_in_tile_is : (t : Cutting) (tile : ℕ) (p : Place) → tile_of_place 
     index_in_tile t p ≡ index_in (bounds_of t tile) p
 index_in_tile_is t tile p e = ap (λ n. index_in (bounds_of t n) p) e
 
--- at a place of the tile, `tile_entry` reads the list at the place's index
 pub tile_entry-in : {X : Type 0} (t : Cutting) (tile : ℕ) (entries : List (Option X)) (p : Place) →
     IsInTile t tile p →
     tile_entry t tile entries p ≡ get_or entries (index_in (bounds_of t tile) p) None

@@ -92,7 +92,7 @@ is_in_bounds b p = nat_le b.top p.row && nat_lt p.row (b.top + b.rows) && nat_le
 abbrev pub IsWithinLimits : Bounds → Type 0
 IsWithinLimits b = (b.top + b.rows ≤ longest_axis) × (b.left + b.cols ≤ longest_axis)
 
--- The bounds have a cell, lie in the grid, and are no larger than a tile.
+-- The bounds have a cell, lie in the grid, and have at most `side` rows and `side` columns.
 pub record AreBounds (t : Cutting) (b : Bounds) : Type 0 where
   pub some_row : 1 ≤ b.rows
   pub some_col : 1 ≤ b.cols

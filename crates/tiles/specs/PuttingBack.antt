@@ -1,4 +1,4 @@
--- A grid's list while it is joined from its tiles' lists. Source: this project.
+-- A grid's list while its tiles' lists are merged into it. Source: this project.
 -- Private.
 use Rattle.std.specs.Prelude.{◌≡◌, ℕ, ◌+◌, ◌-◌, ◌<◌, ◌≤◌, List, length, slice_get, Vec}
 use Rattle.std.specs.declared.alloc.Global.{Global}

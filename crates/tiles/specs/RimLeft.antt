@@ -17,7 +17,8 @@ places_from b p =
 abbrev pub rim_from : Bounds → Place → List Place
 rim_from b p = filter (is_first_or_last b) (places_from b p)
 
--- The place is on the rim, or one column past the end of the last row, where the rim ends.
+-- The bounds have a cell and are within limits. The place is on the rim, or one column past the end
+-- of the last row, where the rim ends.
 pub record IsRimState (b : Bounds) (p : Place) : Type 0 where
   pub some_row : 1 ≤ b.rows
   pub some_col : 1 ≤ b.cols

@@ -1,4 +1,4 @@
-//! Cuts a grid into square tiles, and joins the lists of all tiles into one list of the grid.
+//! Cuts a grid into square tiles, and merges the lists of all tiles into one list of the grid.
 //!
 //! Begin with [`Tiling`]: [`Tiling::bounds`], [`Tiling::view`] and [`Tiling::put_back`].
 //! Tiles are numbered in row order.
@@ -6,7 +6,7 @@
 //! Modules, callers first; `tiling` and `view` use each other:
 //!
 //! - `rim_numbers`: numbers for the rim cells of all tiles
-//! - `tiling`: a grid cut into tiles, and the tiles' lists joined
+//! - `tiling`: a grid cut into tiles, and the tiles' lists merged
 //! - `view`: a borrowed view of a tile and the cells next to it
 //! - `rim`: a tile's outermost cells
 //! - `bounds`: the position and size of a tile

@@ -30,7 +30,6 @@ impl Model for Rim {
 }
 
 impl Rim {
-    /// Returns an iterator over the rim of these bounds.
     #[tactic(auto, using(crate::proofs::RimSteps::rim_start))]
     pub(crate) fn of_bounds(bounds: Bounds) -> Self
         requires rows { (1 ≤ bounds.rows) × (bounds.top + bounds.rows ≤ longest_axis) }
@@ -65,7 +64,7 @@ impl Iterator for Rim {
     }
 }
 
-/// Returns the rim's place after `place`, or else the place past the last row's end.
+/// Returns the rim place after `place`; after the last, one column past the last row's end.
 #[inline(always)]
 fn next_on_rim(bounds: Bounds, place: Place) -> Place
     requires state { IsRimState bounds place }

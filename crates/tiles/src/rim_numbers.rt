@@ -1,7 +1,8 @@
 //! Numbers for the rim cells of all tiles, computed without a table.
 //!
 //! Each tile has as many numbers as two rows and two columns of the largest tile have cells.
-//! Rows and columns share corners, so some numbers have no cell. `flow` links rim cells by number.
+//! A corner is in a row and a column, and some tiles are smaller, so some numbers have no cell.
+//! `flow` links rim cells by number.
 ghost use Rattle.std.specs.Prelude.{◌≡◌, ◌+◌, ◌*◌, ◌^◌, ◌<◌, ◌≤◌, true};
 ghost use Rattle.tiles.specs.Cutting.{IsInBounds, IsWithin, IsWithinLimits, bounds_of, is_on_rim, tile_count};
 ghost use Rattle.tiles.specs.RimNumbers.{stride, side_number, side_place, number_count, rim_number, rim_place};

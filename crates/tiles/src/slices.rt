@@ -1,7 +1,6 @@
-//! Parts and elements of slices, at indices that contracts prove in range.
+//! Parts and elements of slices, at indices that contracts require to be in range.
 ghost use Rattle.std.specs.Prelude.{◌≡◌, ◌+◌, ◌<◌, ◌≤◌, length, Some, slice_get, slice_range};
 
-/// Returns `len` cells from index `from` on.
 #[inline(always)]
 pub(crate) fn part<T>(cells: &[T], from: usize, len: usize) -> &[T]
     requires { from + len ≤ length cells.now }
@@ -11,7 +10,6 @@ pub(crate) fn part<T>(cells: &[T], from: usize, len: usize) -> &[T]
     &cells[from..from + len]
 }
 
-/// Returns the cell at `index`.
 #[inline(always)]
 pub(crate) fn element<T>(cells: &[T], index: usize) -> &T
     requires { index < length cells.now }

@@ -1,6 +1,6 @@
-//! A grid cut into tiles: each place has one tile.
+//! A grid cut into tiles: each place is in exactly one tile.
 //!
-//! [`Tiling::put_back`] joins the lists of all tiles into one list of the grid.
+//! [`Tiling::put_back`] merges the lists of all tiles into one list of the grid.
 ghost use Rattle.std.specs.Prelude.{◌≡◌, ◌↔◌, ◌⊎◌, ◌+◌, ◌*◌, ◌/◌, ◌<◌, ◌≤◌, ◌++◌, filter, length, IfOk, OnOk, Err};
 ghost use Rattle.std.specs.Option.{option_to_list};
 ghost use Rattle.smallvec.specs.SmallVec.{HasRoomFor, small_vec_len};
@@ -145,7 +145,6 @@ impl Tiling {
         place.row / self.side * self.across + place.col / self.side
     }
 
-    /// Returns the number of tiles in a row of tiles.
     #[inline(always)]
     fn across(&self) -> u32
         ensures value { result ≡ across self.now }
@@ -242,7 +241,7 @@ impl Tiling {
         TileView::new(*self, tile, self.bounds(tile), cells)
     }
 
-    /// Joins the tiles' lists, each in row order, into the grid's list in row order.
+    /// Merges the tiles' lists, each in row order, into the grid's list in row order.
     ///
     /// # Errors
     ///
@@ -262,7 +261,6 @@ impl Tiling {
         Ok(whole)
     }
 
-    /// Appends one row of the grid to `whole`, from the lists of the tiles that the row crosses.
     fn push_row<T: Copy + Drop>(
         &self,
         results: &[Vec<T>],

@@ -84,7 +84,7 @@ impl<'a, T> TileView<'a, T> {
     }
 
     /// Returns three cells: west of `place`, at `place` and east of it.
-    /// The three need not be in the tile. Returns `None` if one of them is outside the grid.
+    /// They may lie anywhere in the grid. Returns `None` if one of them is outside it.
     #[inline(always)]
     pub fn beside(&self, place: Place) -> Option<&'a [T]>
         requires { place.col < 4294967295 }

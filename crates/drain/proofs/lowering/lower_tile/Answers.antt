@@ -20,7 +20,6 @@ module _ (c : Then-next-run-2) where
   entry_at = slice_get-get_or c.args.entries.now c.loop-next.next none
       (omega (arith, c.if-next-run-2.true, c.requires.run.below))
 
-  -- the next entry is for the run's tile
   entry_own : tile_of_place c.args.input.now.tiling.now next_entry.change.place ≡ c.args.run.tile
   entry_own = (c.requires.entries next_entry (c.loop-next.next, entry_at)).inside.1
       ∙ c.requires.run.own c.loop-next.next next_entry c.loop-next.invariant.after

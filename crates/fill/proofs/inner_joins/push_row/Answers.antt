@@ -7,7 +7,7 @@ use Rattle.fill.specs.Gathering.{IsInner, IsOnRimRow, mark_in}
 use Rattle.fill.proofs.Adding.{adds_as, adds_then}
 use Rattle.fill.proofs.inner_joins.push_row.Goals as goal
 
--- The cells of a row are those on the rim and the inner cells.
+-- The cells of a row above the last are those of `IsOnRimRow` and the inner cells.
 row_parts : (b : Bounds) (row : ℕ) → b.top ≤ row → row + 1 < b.top + b.rows → (p : Place) →
     (IsInBounds b p × (p.row ≡ row)) ↔ (IsOnRimRow b row p ⊎ (IsInner b p × (p.row ≡ row)))
 row_parts b row above below p = (

@@ -39,7 +39,7 @@ returns-then-near-place g c =
     (sym c.is_wanted.ensures ∙ cc c.if-not-is_wanted.false) added) (rw
     (ap (λ (z : LeftOutJoins). z.sources) c.left_out.view_is) at c.push_join.ensures)
 
--- The cell below or the one beside bypasses the join.
+-- The cell below bypasses the join.
 pub returns-then-is_left_out : goal.returns-then-is_left_out
 returns-then-is_left_out g c =
     let marks = g.C.MarkedCells.marks c.args.cells.now in

@@ -5,7 +5,6 @@ use Rattle.sightlines.proofs.Toward.{lead_up_is, lead_down_is}
 use Rattle.sightlines.proofs.passing.block_end.Goals as goal
 use Rattle.sightlines.proofs.passing.block_end.Goals.{then-line, else-line}
 
--- a number in the same block as x has the same quotient by the block's size
 same_block : (x y size : ℕ) → 0 < size → x / size * size ≤ y → y < x / size * size + size →
     y / size ≡ x / size
 same_block x y size some low high =

@@ -5,7 +5,6 @@ use Rattle.ascii_grid.specs.Reader.{Feeds}
 use Rattle.ascii_grid.proofs.Feeding.{Feeds-more, Feeds-stopped}
 use Rattle.text_jobs.proofs.reading.feed_batch.Goals as goal
 
--- the front and the rest together are the piece
 whole : (piece front rest : List ℕ) (n : ℕ) → front ≡ take n piece → rest ≡ drop n piece →
     front ++ rest ≡ piece
 whole piece front rest n first last = ap (λ z. z ++ rest) first ∙ ap (λ z. take n piece ++ z) last

@@ -5,7 +5,6 @@ use Rattle.horizons.specs.Horizons.{AreUpTo}
 use Rattle.horizons.proofs.Pieces.{ramp_of_piece, within_extent, later}
 use Rattle.horizons.proofs.horizon.Horizon.piece.Goals as goal
 
--- The piece returned is the horizon's piece at the position found.
 found : (c : goal.After-result-1) →
     slice_get c.self.inside.pieces.items c.first_above-cursor.result ≡ Some c.index.result.now
 found c =

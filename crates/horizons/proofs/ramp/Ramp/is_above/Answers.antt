@@ -7,7 +7,6 @@ use Rattle.horizons.specs.Horizons.{IsRampAt, value_at}
 use Rattle.horizons.proofs.Sizes.{long_product, product_is}
 use Rattle.horizons.proofs.ramp.Ramp.is_above.Goals as goal
 
--- the value of a ramp times the lines of another
 value_times : (r s : Ramp) (t : Target) → IsRampAt r t → IsRampAt s t →
     let p = long_product (value_at r t) (pos s.lines) in
     FitsSigned w128 p × (to_z w128 (of_z w128 p) ≡ value_at r t *ℤ pos s.lines)

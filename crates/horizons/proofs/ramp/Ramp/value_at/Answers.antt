@@ -7,7 +7,7 @@ use Rattle.horizons.specs.Horizons.{IsTarget, value_at}
 use Rattle.horizons.proofs.Sizes.{back, back_short, back_long, long_product, product_is}
 use Rattle.horizons.proofs.ramp.Ramp.value_at.Goals as goal
 
--- the value of a ramp at a target, as it is computed
+-- The sum that the code computes in 128 bits is `value_at` of the target.
 value_is : (r : Ramp) (t : Target) → FitsSigned w64 r.gain → FitsSigned w64 r.level → IsTarget t →
     to_z w128 (of_z w128 (long_product r.gain (to_z w32 (of_z w32 t.offset))))
     +ℤ to_z w128 (of_z w128 (long_product r.level (pos t.line))) ≡ value_at r t
