@@ -9,7 +9,7 @@ use Rattle.std.proofs.Math.Seq.{take-add}
 use Rattle.terrain.specs.Words.{Word, is_word, is_separator, words, ended_words}
 use Rattle.terrain.specs.Decimal.{scaled_value}
 use Rattle.ascii_grid.specs.GridText.{words_fault, height_fault}
-use Rattle.ascii_grid.specs.Reading.{flat, IsParted, HasWords, HasJudged, AreHeights, IsWordFault}
+use Rattle.ascii_grid.specs.Reading.{flat, IsParted, HasWords, HasAdded, AreHeights, IsWordFault}
 use Rattle.decimals.specs.Plain.{IsPlain}
 use Rattle.ascii_grid.specs.declared.fault.GridFault.{GridFault}
 use Rattle.ascii_grid.specs.declared.fault.GridFault.TheVariants.{TooLong, Memory}
@@ -18,7 +18,7 @@ use Rattle.ascii_grid.specs.declared.builder.Stage.TheVariants.{AtHeights}
 use Rattle.ascii_grid.specs.declared.tokenizer.Tokenizer.{Tokenizer}
 use Rattle.ascii_grid.proofs.Parting.{words-parted, IsParted-byte, IsParted-separator}
 use Rattle.ascii_grid.proofs.Judging.{Pairs, HasBegun-more}
-use Rattle.ascii_grid.proofs.JudgedWords.{at_heights, is_memory, word_fault, long_fault, height_word}
+use Rattle.ascii_grid.proofs.AddedWords.{at_heights, is_memory, word_fault, long_fault, height_word}
 
 -- ---- the bytes kept
 
@@ -48,13 +48,13 @@ words-last p text h some =
     words-parted text h.ended h.last h.parted ∙ ap (λ z. h.ended ++ z) (filter-word h.last more)
 
 pub ended_ok : (p : Tokenizer) (j : GridBuilder) (text : List ℕ) (h : HasWords p text) →
-    0 < length p.word → length p.word ≤ 64 → HasJudged j (h.ended ++ p.word ∷ []) →
-    HasJudged j (words text)
+    0 < length p.word → length p.word ≤ 64 → HasAdded j (h.ended ++ p.word ∷ []) →
+    HasAdded j (words text)
 ended_ok p j text h some short k =
     let size = ap length h.front in
     let same : p.word ≡ h.last = h.front
     ∙ take_all 65 h.last (omega (arith, length-take 65 h.last)) in
-    subst (HasJudged j) (ap (λ w. h.ended ++ w ∷ []) same ∙ sym (words-last p text h some)) k
+    subst (HasAdded j) (ap (λ w. h.ended ++ w ∷ []) same ∙ sym (words-last p text h some)) k
 
 pub ended_fault : (p : Tokenizer) (text : List ℕ) (f : GridFault) (h : HasWords p text) →
     0 < length p.word → (64 < length p.word → f ≡ TooLong) → IsWordFault p.builder.scale (h.ended
@@ -85,12 +85,12 @@ words_after_byte p p' text b h e builder word = record {
   ended = h.ended;
   last = h.last ++ b ∷ [];
   parted = IsParted-byte text h.ended h.last b h.parted e;
-  judged = subst (λ j. HasJudged j h.ended) (sym builder) h.judged;
+  judged = subst (λ j. HasAdded j h.ended) (sym builder) h.judged;
   front = word;
 }
 
 pub words_after_separator : (p p' : Tokenizer) (text : List ℕ) (b : ℕ) →
-    HasWords p text → is_separator b ≡ true → (p'.word ≡ []) × HasJudged p'.builder (words text) →
+    HasWords p text → is_separator b ≡ true → (p'.word ≡ []) × HasAdded p'.builder (words text) →
     HasWords p' (text ++ b ∷ [])
 words_after_separator p p' text b h e k = record {
   ended = words text;

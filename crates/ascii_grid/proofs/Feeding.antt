@@ -11,13 +11,13 @@ use Rattle.terrain.specs.Words.{Word, words, ended_words}
 use Rattle.terrain.specs.Raster.{Raster, IsLawful}
 use Rattle.ascii_grid.specs.GridText.{most_bytes, words_fault, end_fault, fault_so_far, text_fault, judged_words, grid_of, AsksForCells, AsksAtHeight, AsksInText, IsGridText, IsRefusal, IsRefusalSoFar}
 use Rattle.std.specs.Result.{result_err}
-use Rattle.ascii_grid.specs.Reader.{Reader, IsReading, HasTaken, Feeds}
+use Rattle.ascii_grid.specs.Reader.{Reader, IsReading, WasFed, Feeds}
 use Rattle.ascii_grid.specs.Reading.{HasWords, IsWordFault, IsEndFault}
 use Rattle.ascii_grid.specs.declared.fault.GridFault.{GridFault}
 use Rattle.ascii_grid.specs.declared.fault.GridFault.TheVariants.{TooLong}
 use Rattle.ascii_grid.specs.declared.tokenizer.Tokenizer.{Tokenizer}
 use Rattle.ascii_grid.proofs.Judging.{option_or-none, or_none}
-use Rattle.ascii_grid.proofs.JudgedWords.{judged_none, reported_further}
+use Rattle.ascii_grid.proofs.AddedWords.{judged_none, reported_further}
 use Rattle.ascii_grid.proofs.Stays.{ended-more, ended-words, words_fault-more, asks-more}
 use Rattle.ascii_grid.proofs.Spelled.{lawful_words}
 
@@ -200,15 +200,15 @@ lawful_text d text g few h =
 
 -- ---- what a reader was fed
 
-pub reading : (r : Reader) (text : List ℕ) → r.fault ≡ None → HasTaken r text → IsReading r text
+pub reading : (r : Reader) (text : List ℕ) → r.fault ≡ None → WasFed r text → IsReading r text
 reading r text e h = MatchOption-at_none (IsReading r text) (IsRefusalSoFar r.scale text) e h
 
-pub answered : (r : Reader) (text : List ℕ) (f : GridFault) → r.fault ≡ Some f → HasTaken r text →
+pub answered : (r : Reader) (text : List ℕ) (f : GridFault) → r.fault ≡ Some f → WasFed r text →
     IsRefusalSoFar r.scale text f
 answered r text f e h = MatchOption-at_some (IsReading r text) (IsRefusalSoFar r.scale text) f e h
 
 pub answered_more : (r : Reader) (text more : List ℕ) (f : GridFault) → r.fault ≡ Some f →
-    HasTaken r text → HasTaken r (text ++ more)
+    WasFed r text → WasFed r (text ++ more)
 answered_more r text more f e h =
     subst (λ o. MatchOption o (IsReading r (text ++ more)) (IsRefusalSoFar r.scale (text ++ more)))
     (sym e) (refusal_stays r.scale text more f (answered r text f e h))
@@ -216,7 +216,7 @@ answered_more r text more f e h =
 -- ---- a piece
 
 pub fed_fault : (r : Reader) (text piece : List ℕ) (within : ℕ) (f : GridFault) →
-    within ≡ min (length piece) (most_bytes - r.count) → r.fault ≡ None → HasTaken r text →
+    within ≡ min (length piece) (most_bytes - r.count) → r.fault ≡ None → WasFed r text →
     ((t : List ℕ) → HasWords r.words t → (n : ℕ) × (n ≤ length (take within piece))
     × IsWordFault r.words.builder.scale (ended_words (t ++ take n (take within piece))) f) →
     IsRefusalSoFar r.words.builder.scale (text ++ piece) f
@@ -246,7 +246,7 @@ fed_fault r text piece within f cut none h fault =
 
 -- a text that a piece makes too long has the fault `TooLong`, if its first 2^29 bytes have none
 pub fed_long : (r : Reader) (p : Tokenizer) (text piece : List ℕ) (within : ℕ) →
-    within ≡ min (length piece) (most_bytes - r.count) → r.fault ≡ None → HasTaken r text → within
+    within ≡ min (length piece) (most_bytes - r.count) → r.fault ≡ None → WasFed r text → within
     < length piece → ((t : List ℕ) → HasWords r.words t → HasWords p (t ++ take within piece)) →
     fault_so_far p.builder.scale (text ++ piece) ≡ Some TooLong
 fed_long r p text piece within cut none h over next =
@@ -262,7 +262,7 @@ fed_long r p text piece within cut none h over next =
 
 -- after a piece that fits and has no fault, the reader holds the words of the text and the piece
 pub fed_all : (r r' : Reader) (text piece : List ℕ) →
-    r.fault ≡ None → HasTaken r text → length piece ≤ most_bytes - r.count →
+    r.fault ≡ None → WasFed r text → length piece ≤ most_bytes - r.count →
     ((t : List ℕ) → HasWords r.words t → HasWords r'.words (t ++ piece)) → r'.words.builder.scale
     ≡ r'.scale → r'.count ≡ r.count + length piece → IsReading r' (text ++ piece)
 fed_all r r' text piece none h few next scale count =
@@ -276,7 +276,7 @@ fed_all r r' text piece none h few next scale count =
     }
 
 pub fed_whole : (r r' : Reader) (text piece : List ℕ) (within : ℕ) → within
-    ≡ min (length piece) (most_bytes - r.count) → r.fault ≡ None → HasTaken r text → length piece
+    ≡ min (length piece) (most_bytes - r.count) → r.fault ≡ None → WasFed r text → length piece
     ≤ within → ((t : List ℕ) → HasWords r.words t → HasWords r'.words (t ++ take within piece)) →
     r'.words.builder.scale ≡ r'.scale → r'.count ≡ r.count + within → IsReading r' (text ++ piece)
 fed_whole r r' text piece within cut none h all next scale count =
@@ -291,14 +291,14 @@ faultless r text h = rw (← h.same_scale) (few_so_far r.words.builder.scale tex
 
 -- if a result's fault is the reader's, `Ok` means no fault so far, and `Err` a refusal so far
 has_fault : {T : Type 0} (b : Reader) (text : List ℕ) (r : Result T GridFault)
-    → b.fault ≡ result_err r → HasTaken b text
+    → b.fault ≡ result_err r → WasFed b text
     → OnOk r (fault_so_far b.scale text ≡ None) × IfErr r (λ f. IsRefusalSoFar b.scale text f)
 has_fault b text (Ok x) e h = (faultless b text (reading b text e h), tt)
 has_fault b text (Err f) e h = (tt, answered b text f e h)
 
 -- `Feeds` holds if scale and old fault stay, the piece is taken, and the result has b's fault
 pub Feeds-taken : {T : Type 0} (a b : Reader) (piece : List ℕ) (r : Result T GridFault)
-    → b.scale ≡ a.scale → ((text : List ℕ) → HasTaken a text → HasTaken b (text ++ piece))
+    → b.scale ≡ a.scale → ((text : List ℕ) → WasFed a text → WasFed b (text ++ piece))
     → b.fault ≡ result_err r → ((f : GridFault) → a.fault ≡ Some f → r ≡ Err f) → Feeds a b piece r
 Feeds-taken a b piece r scale taken fault again = record {
   scale = scale;

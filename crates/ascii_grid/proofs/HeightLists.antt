@@ -18,7 +18,7 @@ use Rattle.ascii_grid.specs.declared.builder.Stage.TheVariants.{AtHeights}
 use Rattle.ascii_grid.specs.declared.tokenizer.Tokenizer.{Tokenizer}
 use Rattle.ascii_grid.proofs.Parting.{words-parted, IsParted-none, IsParted-byte, IsParted-separator}
 use Rattle.ascii_grid.proofs.Judging.{Pairs, HasBegun-more, heights_fault-append}
-use Rattle.ascii_grid.proofs.JudgedWords.{at_heights, judged-heights, words-after, height_fault-none, place_of}
+use Rattle.ascii_grid.proofs.AddedWords.{at_heights, judged-heights, words-after, height_fault-none, place_of}
 use Rattle.ascii_grid.proofs.Stays.{parted}
 use Rattle.ascii_grid.proofs.Ending.{parted_word, parted_ended}
 
@@ -215,9 +215,10 @@ HasWords-more p p' text piece parser cells h none stage k word header same judge
     }
 
 -- among the heights, the stored NODATA word is the header's
-pub form_nodata : (p : Tokenizer) (text : List ℕ) → HasWords p text → p.builder.stage ≡ AtHeights →
+pub stored_nodata : (p : Tokenizer) (text : List ℕ) → HasWords p text →
+    p.builder.stage ≡ AtHeights →
     p.builder.nodata ≡ nodata_for (header_words (ended_words text))
-form_nodata p text h stage =
+stored_nodata p text h stage =
     let there = at_heights p.builder h.ended h.judged stage in
     let header =
     (words-after p.builder.header h.judged.pairs h.judged.rest h.judged.header there.0).0 in

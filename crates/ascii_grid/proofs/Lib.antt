@@ -6,7 +6,7 @@ pub mod Cells
 -- one more word: the header, the heights, the first fault
 pub mod Keys
 pub mod Judging
-pub mod JudgedWords
+pub mod AddedWords
 pub mod Stays
 -- a text in pieces, up to its end
 pub mod Ending

@@ -7,13 +7,13 @@ use Rattle.terrain.specs.Raster.{Raster}
 use Rattle.ascii_grid.specs.Device.{Device}
 use Rattle.ascii_grid.specs.GridText.{IsGridText, IsRefusal, fault_so_far}
 use Rattle.ascii_grid.specs.Input.{ReadsGrid, ReadsPiece, Takes}
-use Rattle.ascii_grid.specs.Reader.{Reader, HasTaken, Feeds}
+use Rattle.ascii_grid.specs.Reader.{Reader, WasFed, Feeds}
 use Rattle.ascii_grid.specs.declared.fault.GridFault.{GridFault}
 use Rattle.ascii_grid.specs.declared.input.InputFault.{InputFault}
 use Rattle.ascii_grid.specs.declared.input.InputFault.TheVariants.{Grid, Read}
 use Rattle.ascii_grid.proofs.Feeding.{stays}
 use Rattle.ascii_grid.proofs.Moved.{read_more}
-use Rattle.ascii_grid.proofs.Taking.{IsTaking, not_too_long, consumed_front, consumed_end}
+use Rattle.ascii_grid.proofs.Taking.{HasFedSoFar, not_too_long, consumed_front, consumed_end}
 
 same_grid_fault : (f g : GridFault) →
     ◌≡◌ {A = Result Raster InputFault} (Err (Grid f)) (Err (Grid g)) → f ≡ g
@@ -21,16 +21,16 @@ same_grid_fault f g e = cc
 
 still_faultless :
     {R : Type 0} (remaining : R → Option (List ℕ)) (first old : Device R) (scale taken : ℕ)
-    (r r' : Reader) (bytes : List ℕ) (held : IsTaking remaining first old scale r taken) →
+    (r r' : Reader) (bytes : List ℕ) (held : HasFedSoFar remaining first old scale r taken) →
     Feeds r r' bytes (Ok (tt {0})) → fault_so_far scale (held.text ++ bytes) ≡ None
 still_faultless remaining first old scale taken r r' bytes held feeds =
     subst (λ (d : ℕ). fault_so_far d (held.text ++ bytes) ≡ None) held.scale_kept
     (feeds.ok held.text held.fed)
 
 pub piece_taken : {R : Type 0} (remaining : R → Option (List ℕ)) (first old new : Device R)
-    (scale taken room n : ℕ) (r r' : Reader) → IsTaking remaining first old scale r taken →
+    (scale taken room n : ℕ) (r r' : Reader) → HasFedSoFar remaining first old scale r taken →
     ReadsPiece remaining old new r r' room (Ok (Some n)) →
-    IsTaking remaining first new scale r' (taken + n)
+    HasFedSoFar remaining first new scale r' (taken + n)
 piece_taken remaining first old new scale taken room n r r' held step =
     let feeds = subst (λ (z : Result (Unit {0}) GridFault).
     Feeds r r' step.bytes z) step.answered.0 step.feeds in
@@ -58,7 +58,7 @@ piece_sound remaining old new room n r r' step =
 -- the bytes read before and the bytes of one more piece are at most 2^29 + 1 together
 abbrev takes : {R : Type 0} (remaining : R → Option (List ℕ)) (first old new : Device R)
     (scale taken room : ℕ) (r r' : Reader) (result : Result (Option ℕ) InputFault) →
-    IsTaking remaining first old scale r taken → ReadsPiece remaining old new r r' room result →
+    HasFedSoFar remaining first old scale r taken → ReadsPiece remaining old new r r' room result →
     room ≤ 536870913 - taken → Takes remaining first new
 takes remaining first old new scale taken room r r' result held step fits = record {
   bytes = held.text ++ step.bytes;
@@ -69,17 +69,17 @@ takes remaining first old new scale taken room r r' result held step fits = reco
 -- at the end of the text, a result that is right for the reader's text is right for the device's
 pub pieces_ended : {R : Type 0} (remaining : R → Option (List ℕ)) (first old new : Device R)
     (scale taken room : ℕ) (r r' : Reader) (result : Result Raster InputFault) →
-    IsTaking remaining first old scale r taken →
+    HasFedSoFar remaining first old scale r taken →
     ReadsPiece remaining old new r r' room (Ok None) → room ≤ 536870913 - taken →
-    ((text : List ℕ) → HasTaken r' text → IfOk result (λ g. IsGridText r'.scale text g)) →
-    ((text : List ℕ) (f : GridFault) → HasTaken r' text → result ≡ Err (Grid f) →
+    ((text : List ℕ) → WasFed r' text → IfOk result (λ g. IsGridText r'.scale text g)) →
+    ((text : List ℕ) (f : GridFault) → WasFed r' text → result ≡ Err (Grid f) →
     IsRefusal r'.scale text f) → result ≢ Err Read → ReadsGrid remaining scale first new result
 pieces_ended remaining first old new scale taken room r r' result held step fits grid fault sound =
     let feeds = subst (λ (z : Result (Unit {0}) GridFault).
     Feeds r r' step.bytes z) step.answered.0 step.feeds in
     let took = takes remaining first old new scale taken room r r' (Ok None) held step fits in
     let scale_kept : r'.scale ≡ scale = feeds.scale ∙ held.scale_kept in
-    let all : HasTaken r' took.bytes = feeds.taken held.text held.fed in
+    let all : WasFed r' took.bytes = feeds.taken held.text held.fed in
     let made : IfOk result (λ g. IsGridText scale took.bytes g) =
     rw scale_kept at (grid took.bytes all) in
     record {
@@ -87,7 +87,7 @@ pieces_ended remaining first old new scale taken room r r' result held step fits
       grid = IfOk-weaker result (λ g. IsGridText scale took.bytes g) _ (λ g is.
           (is, step.answered.2)) made;
       fault = λ text f reported is.
-          let whole = subst (λ (z : List ℕ). HasTaken r' z)
+          let whole = subst (λ (z : List ℕ). WasFed r' z)
           (consumed_end _ _ text took.bytes reported took.read.known step.answered.2) all in
           rw scale_kept at (fault text f whole is);
       read = λ bad. absurd (sound bad);
@@ -97,7 +97,7 @@ pieces_ended remaining first old new scale taken room r r' result held step fits
 
 pub piece_refused : {R : Type 0} (remaining : R → Option (List ℕ))
     (first old new : Device R) (scale taken room : ℕ) (r r' : Reader) (f : GridFault) →
-    IsTaking remaining first old scale r taken → ReadsPiece remaining old new r r' room
+    HasFedSoFar remaining first old scale r taken → ReadsPiece remaining old new r r' room
     (Err (Grid f)) → room ≤ 536870913 - taken → ReadsGrid remaining scale first new (Err (Grid f))
 piece_refused remaining first old new scale taken room r r' f held step fits =
     let feeds = subst (λ (z : Result (Unit {0}) GridFault).
@@ -117,7 +117,7 @@ piece_refused remaining first old new scale taken room r r' f held step fits =
     }
 
 pub piece_failed : {R : Type 0} (remaining : R → Option (List ℕ)) (first old new : Device R)
-    (scale taken room : ℕ) (r r' : Reader) → IsTaking remaining first old scale r taken →
+    (scale taken room : ℕ) (r r' : Reader) → HasFedSoFar remaining first old scale r taken →
     ReadsPiece remaining old new r r' room (Err Read) → room ≤ 536870913 - taken →
     ReadsGrid remaining scale first new (Err Read)
 piece_failed remaining first old new scale taken room r r' held step fits =
@@ -134,7 +134,7 @@ piece_failed remaining first old new scale taken room r r' held step fits =
 
 pub piece_stopped : {R : Type 0} (remaining : R → Option (List ℕ))
     (first old new : Device R) (scale taken room : ℕ) (r r' : Reader) (e : InputFault) →
-    IsTaking remaining first old scale r taken → ReadsPiece remaining old new r r' room (Err e) →
+    HasFedSoFar remaining first old scale r taken → ReadsPiece remaining old new r r' room (Err e) →
     room ≤ 536870913 - taken → ReadsGrid remaining scale first new (Err e)
 piece_stopped remaining first old new scale taken room r r' (Grid f) held step fits =
     piece_refused remaining first old new scale taken room r r' f held step fits

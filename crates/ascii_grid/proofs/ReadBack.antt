@@ -22,7 +22,7 @@ use Rattle.ascii_grid.specs.GridText.{IsGridText, most_bytes, words_fault, end_f
 use Rattle.ascii_grid.specs.Text.{line_text, anchor_text, header_text, rows_text, cell_text, height_text, heights_text}
 use Rattle.ascii_grid.proofs.ReadBackDecimals.{decimal_clean, digits_clean}
 use Rattle.ascii_grid.proofs.Decimals.{decimal_value, decimal_are_digits, decimal_word, decimal_digits}
-use Rattle.ascii_grid.proofs.JudgedWords.{is_short}
+use Rattle.ascii_grid.proofs.AddedWords.{is_short}
 use Rattle.ascii_grid.proofs.Judging.{words-begun}
 use Rattle.ascii_grid.proofs.Feeding.{few_fault}
 use Rattle.ascii_grid.proofs.ReadBackCells.{ReadsAs, reads_cell, no_heights_fault, cells_again}

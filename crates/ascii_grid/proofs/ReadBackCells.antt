@@ -16,7 +16,7 @@ use Rattle.ascii_grid.specs.Header.{begins_with_letter, is_long, nodata_for, mis
 use Rattle.ascii_grid.specs.GridText.{same_value, is_nodata, spelled_cell, is_cell, cells_wanted, heights_fault}
 use Rattle.ascii_grid.specs.Text.{height_text, cell_text, last_digits, decimals_text}
 use Rattle.ascii_grid.proofs.Cells.{nodata_by_value}
-use Rattle.ascii_grid.proofs.JudgedWords.{is_short, height_fault-none}
+use Rattle.ascii_grid.proofs.AddedWords.{is_short, height_fault-none}
 use Rattle.ascii_grid.proofs.Parting.{IsClean}
 use Rattle.ascii_grid.proofs.ReadBackDecimals.{decimal_clean, decimal_begins, before_first-at, after_first-at}
 use Rattle.std.proofs.lemmas.List.{append-nil, length-append, take_at, drop_all}

@@ -9,15 +9,15 @@ use Rattle.std.proofs.lemmas.List.Sums.{split_at_first, passes_at_first}
 use Rattle.terrain.specs.Words.{is_separator, is_word}
 use Rattle.terrain.specs.Decimal.{without_sign, is_point, is_exponent_mark, mantissa, whole_part, fraction, has_exponent, are_digits, is_decimal}
 use Rattle.ascii_grid.specs.Header.{begins_with_letter}
-use Rattle.decimals.proofs.Scaled.{PassesNoDigit, no_separator, any-digits, after_first-none}
+use Rattle.decimals.proofs.Scaled.{IsFalseOnDigits, no_separator, any-digits, after_first-none}
 use Rattle.ascii_grid.proofs.Parting.{IsClean}
 
 abbrev pub is_sign : ℕ → Bool
 is_sign b = b == 43 || b == 45
 
 -- a test that is false for digits, signs, the point and the exponent marks
-record PassesNoByte (q : ℕ → Bool) : Type 0 where
-  digits : PassesNoDigit q
+record IsFalseOnDecimalBytes (q : ℕ → Bool) : Type 0 where
+  digits : IsFalseOnDigits q
   plus : q 43 ≡ false
   minus : q 45 ≡ false
   point : q 46 ≡ false
@@ -67,7 +67,7 @@ one_of P b m n h x y = elim (or_cases (b == m) (b == n) h) [
   | inr e ↦ subst P (sym (eqb-true b n e)) y
 ]
 
-signed_bytes : (q : ℕ → Bool) → PassesNoByte q → (w : List ℕ) →
+signed_bytes : (q : ℕ → Bool) → IsFalseOnDecimalBytes q → (w : List ℕ) →
     list_any q (without_sign w) ≡ false → list_any q w ≡ false
 signed_bytes q none [] h = refl
 signed_bytes q none (b ∷ bs) h = elim (cases_Bool (is_sign b)) [
@@ -90,7 +90,7 @@ digits_all : (bs : List ℕ) → are_digits bs ≡ true → list_all is_ascii_di
 digits_all bs h = (and_parts (is_word bs) (list_all is_ascii_digit bs) h).1
 
 -- if the exponent, if any, is digits with or without a sign, none of its bytes passes `q`
-exponent_bytes : (q : ℕ → Bool) → PassesNoByte q → (w : List ℕ) →
+exponent_bytes : (q : ℕ → Bool) → IsFalseOnDecimalBytes q → (w : List ℕ) →
     (not (has_exponent w) || are_digits (without_sign (after_first is_exponent_mark w))) ≡ true →
     list_any q (after_first is_exponent_mark w) ≡ false
 exponent_bytes q none w h = elim (or_cases (not (has_exponent w))
@@ -101,7 +101,7 @@ exponent_bytes q none w h = elim (or_cases (not (has_exponent w))
           (digits_all (without_sign (after_first is_exponent_mark w)) d))
     ]
 
-mantissa_bytes : (q : ℕ → Bool) → PassesNoByte q → (w : List ℕ) →
+mantissa_bytes : (q : ℕ → Bool) → IsFalseOnDecimalBytes q → (w : List ℕ) →
     are_digits (whole_part w ++ fraction w) ≡ true → list_any q (mantissa w) ≡ false
 mantissa_bytes q none w h =
     let all = sym (list_all-append is_ascii_digit (whole_part w) (fraction w))
@@ -113,7 +113,7 @@ mantissa_bytes q none w h =
     (any-digits q (whole_part w) none.digits parts.0)
     (any-digits q (fraction w) none.digits parts.1)
 
-decimal_bytes : (q : ℕ → Bool) → PassesNoByte q → (w : List ℕ) → is_decimal w ≡ true →
+decimal_bytes : (q : ℕ → Bool) → IsFalseOnDecimalBytes q → (w : List ℕ) → is_decimal w ≡ true →
     list_any q w ≡ false
 decimal_bytes q none w h =
     let parts = and_parts (are_digits (whole_part w ++ fraction w)) (not (has_exponent w)
@@ -123,7 +123,7 @@ decimal_bytes q none w h =
     (mantissa_bytes q none w parts.0)
     (ap (list_any q) (exponent_of_unsigned w) ∙ exponent_bytes q none w parts.1))
 
-no_separators : PassesNoByte is_separator
+no_separators : IsFalseOnDecimalBytes is_separator
 no_separators = record {
   digits = no_separator;
   plus = refl;
@@ -146,7 +146,7 @@ digits_clean bs h k = record { some = h; plain = any-digits is_separator bs no_s
 is_other_letter : ℕ → Bool
 is_other_letter b = is_ascii_alphabetic b && not (is_exponent_mark b)
 
-no_other_letters : PassesNoByte is_other_letter
+no_other_letters : IsFalseOnDecimalBytes is_other_letter
 unfolding is_other_letter
 no_other_letters = record {
   digits = λ b low high. rw (lt-leb 65 b (omega arith), lt-leb 97 b (omega arith)) refl;

@@ -16,7 +16,7 @@ use Rattle.terrain.specs.Raster.{lowest, highest, IsHeight, is_height, IsHeaderW
 use Rattle.ascii_grid.specs.Header.{fills, header_words, height_words, pairs, key_left, pair_for, value_for, word_for, nodata_for, is_long, is_value, bad_value, key_fault, value_fault, header_fault, missing_fault, no_value_fault}
 use Rattle.ascii_grid.specs.GridText.{AsksForCells, same_value, is_nodata, is_cell, spelled_cell, cells_wanted, height_fault, heights_fault, words_fault, end_fault, grid_of}
 use Rattle.ascii_grid.specs.Slots.{anchor_at, is_given, is_centre, IsWhole, raster_of}
-use Rattle.ascii_grid.specs.Reading.{flat, given, slots_of, AreHeights, HasJudged, IsEndFault}
+use Rattle.ascii_grid.specs.Reading.{flat, given, slots_of, AreHeights, HasAdded, IsEndFault}
 use Rattle.ascii_grid.specs.declared.fault.Key.{Key}
 use Rattle.ascii_grid.specs.declared.fault.Key.TheVariants.{Ncols, Nrows, Xll, Yll, Cellsize, Nodata}
 use Rattle.ascii_grid.specs.declared.fault.GridFault.{GridFault}
@@ -26,7 +26,7 @@ use Rattle.ascii_grid.specs.declared.builder.GridBuilder.{GridBuilder}
 use Rattle.ascii_grid.specs.declared.builder.Stage.TheVariants.{AtKey, AtValue, AtHeights}
 use Rattle.ascii_grid.proofs.Keys.{slot_filled}
 use Rattle.ascii_grid.proofs.Judging.{Pairs, or_none, then_none, else_none, pairs-flat, words-flat, words-whole, key_left-flat, is_given-slots_of, missing_of-slots_of, number-of_pair}
-use Rattle.ascii_grid.proofs.JudgedWords.{at_key, at_value, at_heights, place_of, words-after, paired, judged_none, is_memory, reported, not_memory_missing}
+use Rattle.ascii_grid.proofs.AddedWords.{at_key, at_value, at_heights, place_of, words-after, paired, judged_none, is_memory, reported, not_memory_missing}
 
 -- ---- a header whose words have no fault
 
@@ -154,7 +154,7 @@ cells_ok d header place (w ∷ hs) h none =
 
 -- ---- the fault at the end
 
-pub end-value : (j : GridBuilder) (ws : List Word) (slot : Key) (centre : Bool) → HasJudged j ws →
+pub end-value : (j : GridBuilder) (ws : List Word) (slot : Key) (centre : Bool) → HasAdded j ws →
     j.stage ≡ AtValue slot centre → end_fault ws ≡ Some (NoValue slot)
 end-value j ws slot centre h e =
     let there = at_value j ws h slot centre e in
@@ -166,7 +166,7 @@ end-value j ws slot centre h e =
     let left : key_left (flat h.pairs ++ k ∷ []) ≡ Some k = key_left-flat h.pairs (k ∷ []) in
     rw (header, left, there.2.key_is) refl
 
-pub end-missing : (j : GridBuilder) (ws : List Word) (f : GridFault) (h : HasJudged j ws) →
+pub end-missing : (j : GridBuilder) (ws : List Word) (f : GridFault) (h : HasAdded j ws) →
     j.stage ≡ AtKey → missing_fault (flat h.pairs) ≡ Some f → IsEndFault ws f
 end-missing j ws f h e missing =
     let same = at_key j ws h e in
@@ -176,7 +176,7 @@ end-missing j ws f h e missing =
     reported (AsksForCells ws) (end_fault ws) f (ap is_memory (there ∙ sym missing)
     ∙ not_memory_missing (flat h.pairs)) there
 
-pub end-memory : (j : GridBuilder) (ws : List Word) (f : GridFault) (h : HasJudged j ws) →
+pub end-memory : (j : GridBuilder) (ws : List Word) (f : GridFault) (h : HasAdded j ws) →
     j.stage ≡ AtKey → f ≡ Memory → missing_fault (flat h.pairs) ≡ None → IsEndFault ws f
 end-memory j ws f h e m whole =
     let same = at_key j ws h e in
@@ -199,7 +199,7 @@ some_wanted header none missing =
     (size_between (word_for Nrows header) (value_of header Nrows none given.rows).0).0
 
 -- where a key comes next and the header is whole, the fault at the end is `TooFew` with 0
-pub end-none : (j j' : GridBuilder) (ws : List Word) (h : HasJudged j ws) → j.stage ≡ AtKey →
+pub end-none : (j j' : GridBuilder) (ws : List Word) (h : HasAdded j ws) → j.stage ≡ AtKey →
     AreHeights j' h.pairs [] → end_fault ws ≡ Some (TooFew 0)
 end-none j j' ws h e heights =
     let are = words-whole h.pairs h.header.keys in
@@ -208,7 +208,7 @@ end-none j j' ws h e heights =
     some_wanted (flat h.pairs) h.header.faultless heights.whole in omega (arith, k)) in
     ap end_fault (at_key j ws h e) ∙ rw (are.0, paired h.pairs, heights.whole, are.1, some) refl
 
-pub end-heights : (j : GridBuilder) (ws : List Word) (h : HasJudged j ws) →
+pub end-heights : (j : GridBuilder) (ws : List Word) (h : HasAdded j ws) →
     j.stage ≡ AtHeights → end_fault ws
     ≡ cond (nat_lt (length j.cells.items) j.wanted) (Some (TooFew (length j.cells.items))) None
 end-heights j ws h e =
@@ -293,12 +293,12 @@ lawful_words d ws few faultless end =
       apart = cells.1.1;
     }
 
-pub whole-grid : (j : GridBuilder) (ws : List Word) → HasJudged j ws → j.stage ≡ AtHeights →
+pub whole-grid : (j : GridBuilder) (ws : List Word) → HasAdded j ws → j.stage ≡ AtHeights →
     IsWhole j.header
 whole-grid j ws h e =
     subst IsWhole (sym h.header.slots) (whole_slots h.pairs (at_heights j ws h e).1.whole)
 
-pub spelled-grid : (j : GridBuilder) (ws : List Word) → HasJudged j ws → j.stage ≡ AtHeights →
+pub spelled-grid : (j : GridBuilder) (ws : List Word) → HasAdded j ws → j.stage ≡ AtHeights →
     raster_of j.header j.scale j.nodata j.cells.items ≡ grid_of j.scale ws
 spelled-grid j ws h e =
     let there = at_heights j ws h e in
@@ -311,7 +311,7 @@ spelled-grid j ws h e =
     ∙ are.0) (ap height_words h.words ∙ are.1)
 
 pub lawful-grid : (j : GridBuilder) (ws : List Word) →
-    HasJudged j ws → j.stage ≡ AtHeights → j.scale ≤ 6 → j.wanted ≤ length j.cells.items →
+    HasAdded j ws → j.stage ≡ AtHeights → j.scale ≤ 6 → j.wanted ≤ length j.cells.items →
     IsLawful (raster_of j.header j.scale j.nodata j.cells.items)
 lawful-grid j ws h e scale enough =
     subst IsLawful (sym (spelled-grid j ws h e))

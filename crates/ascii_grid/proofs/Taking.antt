@@ -7,16 +7,16 @@ use Rattle.std.proofs.lemmas.Option.{same_Some}
 use Rattle.terrain.specs.Words.{ended_words}
 use Rattle.ascii_grid.specs.Device.{Device, HasRead}
 use Rattle.ascii_grid.specs.GridText.{fault_so_far, words_fault, most_bytes}
-use Rattle.ascii_grid.specs.Reader.{Reader, HasTaken}
+use Rattle.ascii_grid.specs.Reader.{Reader, WasFed}
 use Rattle.ascii_grid.specs.declared.fault.GridFault.TheVariants.{TooLong}
 use Rattle.ascii_grid.proofs.Judging.{or_none}
 use Rattle.ascii_grid.proofs.Feeding.{many_so_far}
 
 -- `taken` bytes of the device were fed to the reader, without a fault so far
-pub record IsTaking {R : Type 0} (remaining : R → Option (List ℕ)) (first now : Device R)
+pub record HasFedSoFar {R : Type 0} (remaining : R → Option (List ℕ)) (first now : Device R)
     (scale : ℕ) (r : Reader) (taken : ℕ) : Type 0 where
   pub text : List ℕ
-  pub fed : HasTaken r text
+  pub fed : WasFed r text
   pub faultless : fault_so_far scale text ≡ None
   pub scale_kept : r.scale ≡ scale
   pub size : length text ≡ taken

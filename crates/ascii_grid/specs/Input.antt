@@ -39,13 +39,13 @@ pub record CanRead {R : Type 0} (reader : Reader) (device : Device R)
 
 -- The result of reading and feeding a piece: its length, or `None` at the end of the text. A fault
 -- of the piece's words comes before a failed read, which is then not counted.
-abbrev pub IsAnswered : ℕ → Option (List ℕ) → Result (Unit {0}) GridFault → ℕ → ℕ →
+abbrev pub IsPieceResult : ℕ → Option (List ℕ) → Result (Unit {0}) GridFault → ℕ → ℕ →
     Result (Option ℕ) InputFault → Type 0
-IsAnswered count left fed old new (Ok (Some n)) =
+IsPieceResult count left fed old new (Ok (Some n)) =
     (fed ≡ Ok tt) × (new ≡ old) × (n ≡ count) × (0 < n)
-IsAnswered count left fed old new (Ok None) = (fed ≡ Ok tt) × (new ≡ old) × IsAtEnd left
-IsAnswered count left fed old new (Err (Grid f)) = (fed ≡ Err f) × (new ≡ old)
-IsAnswered count left fed old new (Err Read) = (fed ≡ Ok tt) × (new ≡ old + 1)
+IsPieceResult count left fed old new (Ok None) = (fed ≡ Ok tt) × (new ≡ old) × IsAtEnd left
+IsPieceResult count left fed old new (Err (Grid f)) = (fed ≡ Err f) × (new ≡ old)
+IsPieceResult count left fed old new (Err Read) = (fed ≡ Ok tt) × (new ≡ old + 1)
 
 -- A piece of the text, no longer than the buffer, was read from the device and fed to the reader.
 pub record ReadsPiece {R : Type 0} (remaining : R → Option (List ℕ)) (old new : Device R)
@@ -55,5 +55,5 @@ pub record ReadsPiece {R : Type 0} (remaining : R → Option (List ℕ)) (old ne
   pub feeds : Feeds before after bytes fed
   pub read : HasRead remaining old new bytes
   pub within : length bytes ≤ room
-  pub answered : IsAnswered (length bytes) (remaining new.device) fed old.failures new.failures
+  pub answered : IsPieceResult (length bytes) (remaining new.device) fed old.failures new.failures
       result

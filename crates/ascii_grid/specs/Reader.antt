@@ -22,18 +22,18 @@ pub record IsReading (r : Reader) (text : List ℕ) : Type 0 where
   pub short : length text ≤ most_bytes
 
 -- The reader was fed this text. It holds the text's words, or has returned a fault of the text.
-abbrev pub HasTaken : Reader → List ℕ → Type 0
-HasTaken r text = MatchOption r.fault (IsReading r text) (IsRefusalSoFar r.scale text)
+abbrev pub WasFed : Reader → List ℕ → Type 0
+WasFed r text = MatchOption r.fault (IsReading r text) (IsRefusalSoFar r.scale text)
 
 -- The reader was fed one more piece, with this result. The fault of a word is returned once a
 -- separator has ended the word, and again for each later piece.
 pub record Feeds {T : Type 0} (old new : Reader) (piece : List ℕ)
     (result : Result T GridFault) : Type 0 where
   pub scale : new.scale ≡ old.scale
-  pub taken : (text : List ℕ) → HasTaken old text → HasTaken new (text ++ piece)
-  pub ok : (text : List ℕ) → HasTaken old text →
+  pub taken : (text : List ℕ) → WasFed old text → WasFed new (text ++ piece)
+  pub ok : (text : List ℕ) → WasFed old text →
       OnOk result (fault_so_far old.scale (text ++ piece) ≡ None)
-  pub err : (text : List ℕ) → HasTaken old text →
+  pub err : (text : List ℕ) → WasFed old text →
       IfErr result (λ f. IsRefusalSoFar old.scale (text ++ piece) f)
   pub fault : new.fault ≡ result_err result
   pub again : (f : GridFault) → old.fault ≡ Some f → result ≡ Err f

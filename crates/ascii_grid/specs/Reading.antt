@@ -78,7 +78,7 @@ IsAt j ps rest (AtValue slot centre) = (k : Word) × (rest ≡ k ∷ []) × Awai
 IsAt j ps rest AtHeights = HasBegun rest × AreHeights j ps rest
 
 -- These words were read without a fault, as pairs of the header and then the rest.
-pub record HasJudged (j : GridBuilder) (ws : List Word) : Type 0 where
+pub record HasAdded (j : GridBuilder) (ws : List Word) : Type 0 where
   pub pairs : List (Word × Word)
   pub rest : List Word
   pub words : ws ≡ flat pairs ++ rest
@@ -105,5 +105,5 @@ pub record HasWords (p : Tokenizer) (text : List ℕ) : Type 0 where
   pub ended : List Word
   pub last : Word
   pub parted : IsParted text ended last
-  pub judged : HasJudged p.builder ended
+  pub judged : HasAdded p.builder ended
   pub front : p.word ≡ take KEPT_BYTES last

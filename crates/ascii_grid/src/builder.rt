@@ -9,7 +9,7 @@ ghost use Rattle.ascii_grid.specs.HeightList.{IsHeightWord};
 ghost use Rattle.std.specs.List.{All};
 ghost use Rattle.ascii_grid.specs.GridText.{spelled_cell, height_fault, end_fault, grid_of};
 ghost use Rattle.ascii_grid.specs.Meaning.{meaning_of};
-ghost use Rattle.ascii_grid.specs.Reading.{flat, IsHeaderOf, AreHeights, HasJudged, IsWordFault, IsEndFault};
+ghost use Rattle.ascii_grid.specs.Reading.{flat, IsHeaderOf, AreHeights, HasAdded, IsWordFault, IsEndFault};
 
 use crate::cell::{Meaning, cell, value_cell};
 use crate::fault::{GridFault, Key};
@@ -48,7 +48,7 @@ pub(crate) struct GridBuilder {
 impl GridBuilder {
     pub(crate) fn new(alloc: Global, scale: u8) -> Self
         ensures scale { result.scale ≡ scale }
-        ensures none { HasJudged result [] }
+        ensures none { HasAdded result [] }
     {
         GridBuilder {
             alloc,
@@ -66,8 +66,8 @@ impl GridBuilder {
     pub(crate) fn add_word(&mut self, word: &[u8]) -> Result<(), GridFault>
         ensures scale { self.new.scale ≡ self.old.scale }
         ensures long { MOST_WORD_BYTES < length word.now → result ≡ Err GridFault.TooLong }
-        ensures word { (ws : List Word) → HasJudged self.old ws → MatchResult result
-            (λ _. HasJudged self.new (ws ++ word.now ∷ []))
+        ensures word { (ws : List Word) → HasAdded self.old ws → MatchResult result
+            (λ _. HasAdded self.new (ws ++ word.now ∷ []))
             (IsWordFault self.old.scale (ws ++ word.now ∷ [])) }
     {
         if word.len() > MOST_WORD_BYTES {
@@ -95,9 +95,9 @@ impl GridBuilder {
 
     /// Returns the grid that the words spell, or the fault at their end, or `Memory`.
     pub(crate) fn finish(mut self) -> Result<Grid, GridFault>
-        requires judged { (ws : List Word) × HasJudged self ws }
+        requires judged { (ws : List Word) × HasAdded self ws }
         requires scale { self.scale ≤ 6 }
-        ensures { (ws : List Word) → HasJudged self ws → MatchResult result
+        ensures { (ws : List Word) → HasAdded self ws → MatchResult result
             (λ g. (end_fault ws ≡ None) × (g ≡ grid_of self.scale ws)) (IsEndFault ws) }
     {
         match self.stage {

@@ -1,7 +1,7 @@
 //! Reads a grid from a device, piece by piece.
 ghost use Rattle.std.specs.Prelude.{◌≡◌, ◌≢◌, ◌≤◌, ◌-◌, ◌^◌, ◌<◌, ℕ, List, length, None, Err, IfOk};
 ghost use Rattle.ascii_grid.specs.Input.{ReadsGrid, ReadsPiece, CanRead};
-ghost use Rattle.ascii_grid.specs.Reader.{HasTaken};
+ghost use Rattle.ascii_grid.specs.Reader.{WasFed};
 ghost use Rattle.ascii_grid.specs.GridText.{IsGridText, IsRefusal};
 
 use crate::counted::Counted;
@@ -123,9 +123,9 @@ fn read_piece<R: Read>(
 }
 
 fn finish_grid(grid_reader: GridReader) -> Result<Grid, InputFault>
-    ensures grid { (text : List ℕ) → HasTaken grid_reader text →
+    ensures grid { (text : List ℕ) → WasFed grid_reader text →
         IfOk result (λ g. IsGridText grid_reader.scale text g) }
-    ensures fault { (text : List ℕ) (f : _) → HasTaken grid_reader text →
+    ensures fault { (text : List ℕ) (f : _) → WasFed grid_reader text →
         result ≡ Err (InputFault.Grid f) → IsRefusal grid_reader.scale text f }
     ensures sound { result ≢ Err InputFault.Read }
 {

@@ -7,7 +7,7 @@ ghost use Rattle.terrain.specs.Words.{ended_words};
 ghost use Rattle.ascii_grid.specs.Header.{header_words, nodata_for};
 ghost use Rattle.ascii_grid.specs.GridText.{IsGridText, IsRefusal};
 ghost use Rattle.ascii_grid.specs.HeightList.{AreCells};
-ghost use Rattle.ascii_grid.specs.Reader.{HasTaken, Feeds};
+ghost use Rattle.ascii_grid.specs.Reader.{WasFed, Feeds};
 
 use crate::fault::GridFault;
 use crate::heights::HeightParser;
@@ -38,7 +38,7 @@ pub struct GridReader {
 
 impl Model for GridReader {
     ghost use Rattle.std.specs.Prelude.{ℕ, List, ◌≤◌};
-    ghost use Rattle.ascii_grid.specs.Reader.{Reader, HasTaken};
+    ghost use Rattle.ascii_grid.specs.Reader.{Reader, WasFed};
 
     ghost Value = { Reader };
 
@@ -49,7 +49,7 @@ impl Model for GridReader {
       count = r.taken;
     } };
 
-    ghost invariant = { λ r. (r.words.builder.scale ≤ 6) × ((text : List ℕ) × HasTaken (record {
+    ghost invariant = { λ r. (r.words.builder.scale ≤ 6) × ((text : List ℕ) × WasFed (record {
       scale = r.words.builder.scale;
       fault = r.fault;
       words = r.words;
@@ -63,7 +63,7 @@ impl GridReader {
         requires { scale ≤ 6 }
         ensures scale { result.scale ≡ scale }
         ensures fault { result.fault ≡ None }
-        ensures taken { HasTaken result [] }
+        ensures taken { WasFed result [] }
     {
         GridReader {
             words: Tokenizer::new(alloc, scale),
@@ -106,7 +106,7 @@ impl GridReader {
     pub fn height_parser(&self) -> Option<HeightParser>
         ensures sound { OnSome result (self.now.fault ≡ None) }
         ensures scale { IfSome result (λ parser. parser.scale ≡ self.now.scale) }
-        ensures nodata { (text : List ℕ) → HasTaken self.now text →
+        ensures nodata { (text : List ℕ) → WasFed self.now text →
             IfSome result (λ parser. parser.nodata ≡ nodata_for (header_words (ended_words text))) }
     {
         if let Some(_) = self.fault {
@@ -161,9 +161,9 @@ impl GridReader {
     /// The text's first fault, or [`GridFault::Memory`]. Returns a fault of [`feed`](Self::feed)
     /// again.
     pub fn finish(self) -> Result<Grid, GridFault>
-        ensures grid { (text : List ℕ) → HasTaken self text →
+        ensures grid { (text : List ℕ) → WasFed self text →
             IfOk result (λ g. IsGridText self.scale text g) }
-        ensures fault { (text : List ℕ) → HasTaken self text →
+        ensures fault { (text : List ℕ) → WasFed self text →
             IfErr result (λ f. IsRefusal self.scale text f) }
         ensures again { (f : GridFault) → self.fault ≡ Some f → result ≡ Err f }
     {

@@ -6,7 +6,7 @@ ghost use Rattle.std.specs.Prelude.{◌≡◌, ℕ, ◌≤◌, ◌++◌, [], ◌
 ghost use Rattle.terrain.specs.Words.{is_separator, words, ended_words};
 ghost use Rattle.ascii_grid.specs.Header.{header_words, nodata_for};
 ghost use Rattle.ascii_grid.specs.HeightList.{AreCells};
-ghost use Rattle.ascii_grid.specs.Reading.{HasJudged, HasWords, IsWordFault};
+ghost use Rattle.ascii_grid.specs.Reading.{HasAdded, HasWords, IsWordFault};
 
 use crate::builder::{GridBuilder, Stage};
 use crate::fault::GridFault;
@@ -157,7 +157,7 @@ impl Tokenizer {
     pub(crate) fn end_word(&mut self) -> Result<(), GridFault>
         ensures scale { self.new.builder.scale ≡ self.old.builder.scale }
         ensures words { (text : List ℕ) → HasWords self.old text → MatchResult result
-            (λ _. (self.new.word ≡ []) × HasJudged self.new.builder (words text))
+            (λ _. (self.new.word ≡ []) × HasAdded self.new.builder (words text))
             (IsWordFault self.old.builder.scale (words text)) }
     {
         if self.word.as_bytes().is_empty() {

@@ -108,14 +108,14 @@ size-kept x n size h e =
           rw (same, h, high) refl
     ]
 
-abbrev pub PassesNoDigit : (ℕ → Bool) → Type 0
-PassesNoDigit p = (b : ℕ) → 48 ≤ b → b ≤ 57 → p b ≡ false
+abbrev pub IsFalseOnDigits : (ℕ → Bool) → Type 0
+IsFalseOnDigits p = (b : ℕ) → 48 ≤ b → b ≤ 57 → p b ≡ false
 
 pub digit_bounds : (b : ℕ) → is_ascii_digit b ≡ true → (48 ≤ b) × (b ≤ 57)
 digit_bounds b h = let k = and_parts (nat_le 48 b) (nat_le b 57) h in
     (leb-true 48 b k.0, leb-true b 57 k.1)
 
-pub any-digits : (p : ℕ → Bool) (xs : List ℕ) → PassesNoDigit p →
+pub any-digits : (p : ℕ → Bool) (xs : List ℕ) → IsFalseOnDigits p →
     list_all is_ascii_digit xs ≡ true → list_any p xs ≡ false
 any-digits p [] none h = refl
 any-digits p (x ∷ xs) none h =
@@ -123,13 +123,13 @@ any-digits p (x ∷ xs) none h =
     let b = digit_bounds x k.0 in
     or_from (p x) (list_any p xs) (none x b.0 b.1) (any-digits p xs none k.1)
 
-pub no_exponent : PassesNoDigit is_exponent_mark
+pub no_exponent : IsFalseOnDigits is_exponent_mark
 no_exponent b low high = rw (ne_eqb b 101 (λ e. omega arith), ne_eqb b 69 (λ e. omega arith)) refl
 
-pub no_point : PassesNoDigit is_point
+pub no_point : IsFalseOnDigits is_point
 no_point b low high = ne_eqb b 46 (λ e. omega arith)
 
-pub no_separator : PassesNoDigit is_separator
+pub no_separator : IsFalseOnDigits is_separator
 no_separator b low high = rw (
   ne_eqb b 32 (λ e. omega arith),
   ne_eqb b 9 (λ e. omega arith),

@@ -11,14 +11,14 @@ use Rattle.terrain.specs.Neighbours.{IsDataCell, entry_at, index_of}
 use Rattle.terrain.specs.declared.place.Place.{Place}
 use Rattle.tiles.specs.declared.bounds.Bounds.{Bounds}
 use Rattle.tiles.specs.Cutting.{Cutting, IsCutting, Cuts, View, bounds_of}
-use Rattle.tile_maps.specs.Maps.{AreMadeBelow}
+use Rattle.tile_maps.specs.Maps.{IsMadeUpTo}
 use Rattle.drainage.specs.StepCounts.{known, no_count}
 use Rattle.drainage.proofs.ToldCounts.{known_number}
 use Rattle.drainage.proofs.Reach.{data_inside}
-use Rattle.drain.specs.Beginning.{IsEdgeOrHasLower, IsBegun, IsBegunSpot, AreBegun, AreBegunSpots}
+use Rattle.drain.specs.Beginning.{IsEdgeOrHasLower, IsInitialCount, IsBegunSpot, AreInitialCounts, AreBegunSpots}
 use Rattle.drain.specs.Entering.{sinkless_terrain}
 use Rattle.drain.specs.Lowering.{place_at}
-use Rattle.drain.specs.Rounds.{AreWalked, IsSource, IsRound}
+use Rattle.drain.specs.Rounds.{AreWalked, HasCountZero, IsRound}
 use Rattle.drain.specs.Steps.{DrainsAtOnce}
 use Rattle.drain.specs.Window.{AreCounts, AreWindowCounts, AreShown, IsCopied, IsSearched, IsSpot, Shows, area_of, count_on, known_counts, spot_index}
 use Rattle.drain.proofs.DrainedLemmas.{same_terrain}
@@ -32,10 +32,10 @@ use Rattle.drain.proofs.Unique.{at_place, place_at-index_of}
 
 -- the initial count of a place is that of each spot that shows it
 pub begun_shown : (t : Terrain) (b : Bounds) (s q : Place) (n : ℕ) → Shows b s q → n ≤ no_count →
-    IsBegun (IsEdgeOrHasLower t) q (known n) → IsBegunSpot (IsEdgeOrHasLower t) b s n
+    IsInitialCount (IsEdgeOrHasLower t) q (known n) → IsBegunSpot (IsEdgeOrHasLower t) b s n
 begun_shown t b s q n there few here = (
   few,
-  λ p shows. subst (λ (r : Place). IsBegun (IsEdgeOrHasLower t) r (known n))
+  λ p shows. subst (λ (r : Place). IsInitialCount (IsEdgeOrHasLower t) r (known n))
       (shows_same b s q p there shows) here,
   λ off. absurd (shows_none b s q there off),
 )
@@ -173,8 +173,8 @@ module _ (t : Terrain) (sinks : List Place) (index : ℕ) (b : Bounds) (counts :
             absurd (elim off [ inl a ↦ omega (arith, a, on.0) | inr a ↦ omega (arith, a, on.1) ]),
       )
 
-one_begun : (Drains : Place → Type 0) (p : Place) (x y : Option ℕ) → IsBegun Drains p x →
-    IsBegun Drains p y → x ≡ y
+one_begun : (Drains : Place → Type 0) (p : Place) (x y : Option ℕ) → IsInitialCount Drains p x →
+    IsInitialCount Drains p y → x ≡ y
 one_begun Drains p None None f g = refl
 one_begun Drains p (Some n) y f g = let drains = (f.only n refl).0 in f.zero drains
     ∙ sym (g.zero drains)
@@ -196,7 +196,7 @@ module _ (t : Terrain) (b : Bounds) (counts : List ℕ) (begun : List (Option �
     | inr past ↦ omega (arith, get_or_past counts k 0 (omega (arith, are.size)))
   ]
 
-  pub begun_window : AreBegun t begun → AreWindowCounts t.cols t.rows begun b counts
+  pub begun_window : AreInitialCounts t begun → AreWindowCounts t.cols t.rows begun b counts
   begun_window first = record {
     shown = map known counts;
     size = length-map counts known ∙ are.size;
@@ -209,18 +209,18 @@ module _ (t : Terrain) (b : Bounds) (counts : List ℕ) (begun : List (Option �
     value = known_again counts begun_small;
   }
     where
-      value : (p : Place) (n : ℕ) → IsBegun (DrainsAtOnce t) p (known n) →
+      value : (p : Place) (n : ℕ) → IsInitialCount (DrainsAtOnce t) p (known n) →
           known n ≡ entry_at t.cols t.rows begun p
       value p n is =
           one_begun (DrainsAtOnce t) p (known n) (entry_at t.cols t.rows begun p) is (entry p)
         where
-          entry : (p : Place) → IsBegun (DrainsAtOnce t) p (entry_at t.cols t.rows begun p)
+          entry : (p : Place) → IsInitialCount (DrainsAtOnce t) p (entry_at t.cols t.rows begun p)
           entry p = record {
             zero = λ drains. (first.each p (data_inside t p (drains_data t p drains))).zero drains;
             only = λ n e. (first.each p (inside_from_entry t.cols t.rows begun p n e)).only n e;
           }
 
-begun_at : (t : Terrain) (p : Place) → (count : Option ℕ) × IsBegun (DrainsAtOnce t) p count
+begun_at : (t : Terrain) (p : Place) → (count : Option ℕ) × IsInitialCount (DrainsAtOnce t) p count
 begun_at t p = elim (drains_at_once t p) [
   | inl drains ↦
       (Some 0, record { zero = λ _. refl; only = λ n e. (drains, same_Some n 0 (sym e)) })
@@ -233,7 +233,7 @@ begun_at t p = elim (drains_at_once t p) [
 abbrev begun_in : Terrain → ℕ → Option ℕ
 begun_in t k = (begun_at t (place_at t.cols k)).0
 
-pub some_begun : (t : Terrain) → (begun : List (Option ℕ)) × AreBegun t begun
+pub some_begun : (t : Terrain) → (begun : List (Option ℕ)) × AreInitialCounts t begun
 some_begun t =
     let count = t.cols * t.rows in
     let begun = map (begun_in t) (range_with_len 0 count) in (
@@ -245,7 +245,7 @@ some_begun t =
             ∙ get_or-map-range_with_len (begun_in t) 0 count (index_of t.cols p)
             (index_of t.cols p) None (index_below t.cols t.rows p inside.0 inside.1) (omega arith)
             ∙ ap (λ q. (begun_at t q).0) (place_at-index_of t.cols p inside.1) in
-            subst (λ (o : Option ℕ). IsBegun (DrainsAtOnce t) p o) (sym at) (begun_at t p).1;
+            subst (λ (o : Option ℕ). IsInitialCount (DrainsAtOnce t) p o) (sym at) (begun_at t p).1;
       },
     )
 
@@ -254,9 +254,9 @@ pub begun_round : (t : Terrain) (v : View (Option ℤ)) (c : Cutting) (tile : �
     (levels : List (Option ℤ)) (old new : List ℕ) (list begun : List (Option ℕ)) →
     v ≡ record { cutting = c; tile = tile; cells = t.cells } → Cuts c t → IsCutting v.cutting →
     b ≡ bounds_of v.cutting v.tile → AreShown v.cutting.cols v.cutting.rows v.cells None b levels →
-    AreBegunSpots (DrainsAtOnce t) b old → AreBegun t begun → IsSearched b levels old new →
-    AreMadeBelow b (IsCopied b new) (b.rows * b.cols) list →
-    IsRound (IsSource (sinkless_terrain c t.cells) begun)
+    AreBegunSpots (DrainsAtOnce t) b old → AreInitialCounts t begun → IsSearched b levels old new →
+    IsMadeUpTo b (IsCopied b new) (b.rows * b.cols) list →
+    IsRound (HasCountZero (sinkless_terrain c t.cells) begun)
     (sinkless_terrain c t.cells) c tile begun list
 begun_round t v c tile b levels old new list begun e cuts lawful bounds shown are first finished
     out =
@@ -267,7 +267,8 @@ begun_round t v c tile b levels old new list begun e cuts lawful bounds shown ar
     let input =
     subst (λ (n : ℕ). AreWindowCounts n c.rows begun b old) (sym cuts.0) (subst (λ (n : ℕ).
     AreWindowCounts t.cols n begun b old) (sym cuts.1) (begun_window t b old begun are first)) in
-    let walks = subst (λ (x : Terrain). AreWalked (IsSource x begun) x begun) (same_terrain t c.cols
+    let walks = subst (λ (x : Terrain). AreWalked (HasCountZero x begun) x begun)
+    (same_terrain t c.cols
     c.rows t.cells cuts.0 cuts.1 refl) (begun_counting t begun first).walked in
     round_from w (record { cutting = c; tile = tile; cells = begun })
     b levels old new list here.0 here.1 here.2 input walks finished out

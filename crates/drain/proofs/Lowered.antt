@@ -12,7 +12,7 @@ use Rattle.terrain.specs.declared.place.Place.{Place}
 use Rattle.tiles.specs.declared.bounds.Bounds.{Bounds}
 use Rattle.tiles.specs.Cutting.{Cutting, IsCutting, IsWithin, IsInTile, IsInBounds, bounds_of, tile_of_place}
 use Rattle.tiles.proofs.Cut.{in_bounds, in_tile, tile_of_place_below}
-use Rattle.drain.specs.Rounds.{IsSource, IsWalked, AreCounting}
+use Rattle.drain.specs.Rounds.{HasCountZero, IsWalked, AreCounting}
 use Rattle.drain.specs.Lowering.{count_of, counts_in, total, AreLevel, IsEvenInside, IsChange, IsLowered, IsReported, IsLoweredTo, IsEntered, IsAmong, MaySpread}
 use Rattle.drain.specs.declared.changes.Change.{Change}
 use Rattle.drain.specs.declared.changes.Entry.{Entry}
@@ -55,7 +55,7 @@ pub small : (t : Terrain) (steps : List (Option ℕ)) (k : ℕ) → AreCounting 
 small t steps k counting = elim (cases_lt k (t.cols * t.rows)) [
   | inl below ↦ at_place (λ (i : ℕ). count_of steps i ≤ 2 ^ 24) t.cols t.rows (λ p row col.
       let here =
-      small_walk (IsSource t steps) t p (entry_at t.cols t.rows steps p) (counting.walked p) in
+      small_walk (HasCountZero t steps) t p (entry_at t.cols t.rows steps p) (counting.walked p) in
       let same = ap (λ (o : Option ℕ). unwrap_or o (2 ^ 24))
       (entry-inside t.cols t.rows steps p row col) in omega (arith, here, same)) k below
   | inr past ↦ (let none = ap (λ (o : Option ℕ). unwrap_or o (2 ^ 24))
@@ -152,7 +152,7 @@ module _ (t : Terrain) (c : Cutting) (tile : ℕ) (steps : List (Option ℕ)) wh
 
   -- `IsLoweredTo` holds after a change is appended and its cell has the count of the change
   pub reached_put : (old new : Lowered) (x : Change) →
-      IsInTile c tile x.place → IsWalked (IsSource t steps) t x.place x.count →
+      IsInTile c tile x.place → IsWalked (HasCountZero t steps) t x.place x.count →
       x.count < counts_in c tile steps old (index_of c.cols x.place) →
       ((k : ℕ) → counts_in c tile steps old k ≤ count_of steps k) →
       counts_in c tile steps new (index_of c.cols x.place) ≡ x.count → ((k : ℕ) →

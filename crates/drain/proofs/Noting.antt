@@ -10,7 +10,7 @@ use Rattle.std.proofs.lemmas.List.Sorted.{Contains-permutation, IsPermutation-sy
 use Rattle.terrain.specs.Raster.{Terrain}
 use Rattle.terrain.specs.Neighbours.{height_at, entry_at, index_of, Touches}
 use Rattle.terrain.proofs.Places.{entry-inside}
-use Rattle.drain.specs.Rounds.{IsSource, AreCounting}
+use Rattle.drain.specs.Rounds.{HasCountZero, AreCounting}
 use Rattle.drain.proofs.Few.{data_on_level_walk}
 use Rattle.drain.proofs.TileRound.{walked_on, some_of_known}
 use Rattle.drain.proofs.Lowered.{small}
@@ -129,7 +129,7 @@ entry_from c levels steps from to tile counting within count inside touch level 
     (sym (entry-inside c.cols c.rows steps from.place within.0 within.1))) (omega arith) in
     let walk = MatchOption-at_some _ _ from.count known (counting.walked from.place) in
     let is_data =
-    data_on_level_walk (IsSource t steps) t (λ p input. input.0) from.place walk.1 walk.2 in
+    data_on_level_walk (HasCountZero t steps) t (λ p input. input.0) from.place walk.1 walk.2 in
     let differ : to ≢ from.place = λ e. (let same =
     ap (λ (q : Place). count_of steps (index_of c.cols q)) e in omega (arith, same, less, count)) in
     record {

@@ -9,9 +9,9 @@ use Rattle.drainage.specs.Filled.{IsFilled}
 use Rattle.terrain.specs.Sinks.{with_sinks}
 use Rattle.terrain.specs.declared.place.Place.{Place}
 use Rattle.tiles.specs.Cutting.{Cutting, Cuts, IsCutting, tile_of_place, IsInTile, tile_entry}
-use Rattle.drain.specs.Beginning.{HasZeros, AreBegun, IsQuiet}
+use Rattle.drain.specs.Beginning.{HasZeros, AreInitialCounts, KeepsCounts}
 use Rattle.drain.specs.Steps.{DrainsAtOnce, IsLevelWalk, IsFlatWalk, IsSteps, AreSteps}
-use Rattle.drain.specs.Rounds.{IsSource, IsWalked, AreWalked, IsOneAbove, IsRound, AreCounting, AreFinal}
+use Rattle.drain.specs.Rounds.{HasCountZero, IsWalked, AreWalked, IsAtMostOneAbove, IsRound, AreCounting, AreFinal}
 use Rattle.drain.proofs.Counted.{has_steps}
 use Rattle.drainage.proofs.Reach.{data_inside}
 use Rattle.terrain.proofs.Options.{cases_option}
@@ -67,7 +67,7 @@ are_walked_to A B t sinks steps to walked p =
 module _ (t : Terrain) (steps : List (Option ℕ)) (zeros : HasZeros t steps)
     (all_walked : AreWalked (DrainsAtOnce t) t steps)
     (near : (p q : Place) → IsNeighbour t p q → height_at t q ≡ height_at t p →
-    IsOneAbove (entry_at t.cols t.rows steps p) (entry_at t.cols t.rows steps q)) where
+    IsAtMostOneAbove (entry_at t.cols t.rows steps p) (entry_at t.cols t.rows steps q)) where
   -- a flat walk of fewer than 2^24 moves bounds the count of its first cell
   count_steps : (rest : List Place) (p : Place) → IsFlatWalk t p rest → length rest < 2 ^ 24 →
       (n : ℕ) × (entry_at t.cols t.rows steps p ≡ Some n) × (n ≤ length rest)
@@ -113,30 +113,31 @@ pub in_own_tile : (t : Terrain) (c : Cutting) (p : Place) → Cuts c t → (p.ro
 in_own_tile t c p cuts inside =
     ((omega (arith, inside.0, cuts.1), omega (arith, inside.1, cuts.0)), refl)
 
-pub begun_input : (t : Terrain) (counts : List (Option ℕ)) → AreBegun t counts → (p : Place) →
-    DrainsAtOnce t p → IsSource t counts p
+pub begun_input : (t : Terrain) (counts : List (Option ℕ)) → AreInitialCounts t counts →
+    (p : Place) →
+    DrainsAtOnce t p → HasCountZero t counts p
 begun_input t counts begun p drains = let is = drains_data t p drains in
     (is, (begun.each p (data_inside t p is)).zero drains)
 
-input_drains : (t : Terrain) (counts : List (Option ℕ)) → AreBegun t counts → (p : Place) →
-    IsSource t counts p → DrainsAtOnce t p
+input_drains : (t : Terrain) (counts : List (Option ℕ)) → AreInitialCounts t counts → (p : Place) →
+    HasCountZero t counts p → DrainsAtOnce t p
 input_drains t counts begun p input = ((begun.each p (data_inside t p input.0)).only 0 input.1).0
 
 -- each known initial count is 0, the length of a walk without moves
 pub begun_walked : (Ends : Place → Type 0) (t : Terrain) (counts : List (Option ℕ)) →
-    AreBegun t counts → ((p : Place) → DrainsAtOnce t p → Ends p) → AreWalked Ends t counts
+    AreInitialCounts t counts → ((p : Place) → DrainsAtOnce t p → Ends p) → AreWalked Ends t counts
 begun_walked Ends t counts begun to p =
     if_some (entry_at t.cols t.rows counts p) (IsWalked Ends t p) (λ n e.
     let at = (begun.each p (inside_from_entry t.cols t.rows counts p n e)).only n e in
     (omega (arith, at.1), [], to p at.0, sym at.1))
 
 -- known initial counts are lengths of level walks to cells of count 0, also without the sinks
-pub begun_counting : (t : Terrain) (counts : List (Option ℕ)) → AreBegun t counts →
+pub begun_counting : (t : Terrain) (counts : List (Option ℕ)) → AreInitialCounts t counts →
     AreCounting (with_sinks t []) counts
 begun_counting t counts begun = record {
   size = begun.size;
-  walked = are_walked_to (IsSource t counts) (IsSource t counts) t [] counts (λ p input.
-      input) (begun_walked (IsSource t counts) t counts begun (begun_input t counts begun));
+  walked = are_walked_to (HasCountZero t counts) (HasCountZero t counts) t [] counts (λ p input.
+      input) (begun_walked (HasCountZero t counts) t counts begun (begun_input t counts begun));
 }
 
 -- a round of walks to A is a round of walks to B, if A implies B, with any sinks
@@ -154,7 +155,7 @@ round_to A B t sinks c tile old new to round = record {
 }
 
 pub counts_are_steps : (t : Terrain) (c : Cutting) (steps : List (Option ℕ)) (lists : ℕ →
-    List (Option ℕ)) → Cuts c t → IsCutting c → HasZeros t steps → IsQuiet t c steps lists →
+    List (Option ℕ)) → Cuts c t → IsCutting c → HasZeros t steps → KeepsCounts t c steps lists →
     IsTerrain t → IsFilled t t.cells → length steps ≡ t.cols * t.rows → AreSteps t steps
 counts_are_steps t c steps lists cuts cutting zeros quiet lawful filled size =
     still_is_steps t steps zeros
@@ -171,12 +172,14 @@ counts_are_steps t c steps lists cuts cutting zeros quiet lawful filled size =
 
 -- in a filled terrain, final counts that rounds reach from the initial counts are the steps
 pub final_is_steps : (c : Cutting) (t : Terrain) (begun steps : List (Option ℕ)) → Cuts c t →
-    IsTerrain t → IsFilled t t.cells → AreBegun t begun → AreFinal c (with_sinks t []) begun steps →
+    IsTerrain t → IsFilled t t.cells → AreInitialCounts t begun →
+    AreFinal c (with_sinks t []) begun steps →
     AreSteps t steps
 final_is_steps c t begun steps cuts lawful filled first finished =
     still_is_steps t steps
     (λ p drains. ((finished.same_sources p).0 (begun_input t begun first p drains)).1)
-    (are_walked_to (IsSource t steps) (DrainsAtOnce t) (with_sinks t []) t.sinks steps (λ p input.
+    (are_walked_to (HasCountZero t steps) (DrainsAtOnce t) (with_sinks t []) t.sinks steps
+    (λ p input.
     input_drains t begun first p ((finished.same_sources p).1 input)) finished.counting.walked)
     (λ p q next level.
     let inside = in_own_tile t c p cuts (data_inside t p next.from_data) in

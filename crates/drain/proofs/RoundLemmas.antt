@@ -11,7 +11,7 @@ use Rattle.tiles.specs.Cutting.{Cutting, IsCutting, IsWithin, AreTileLists, IsPu
 use Rattle.tiles.proofs.Cut.{tile_of_place_below}
 use Rattle.tiles.proofs.PutBack.{entry_at-put_back}
 use Rattle.drainage.proofs.Reach.{data_inside}
-use Rattle.drain.specs.Rounds.{IsSource, HaveSameSources, IsWalked, IsOneAbove, IsRound, AreCounting, AreFinal}
+use Rattle.drain.specs.Rounds.{HasCountZero, HaveSameSources, IsWalked, IsAtMostOneAbove, IsRound, AreCounting, AreFinal}
 use Rattle.drain.specs.Lowering.{AreLevel, IsAmong, IsEvenInside, IsTileAnswer, count_of, total}
 use Rattle.drain.specs.Entering.{sinkless_terrain, AreEntered}
 use Rattle.drain.specs.Rounding.{Rounding, IsRounding, levels_of, AreAnswered, IsRunAnswer, IsGiven, ArePut, IsNext}
@@ -29,7 +29,8 @@ pub record AreCarried (t : Terrain) (old new : List (Option ℕ)) : Type 0 where
   pub size : length new ≡ t.cols * t.rows
   pub kept : (p : Place) (m : ℕ) → entry_at t.cols t.rows old p ≡ Some m →
       (n : ℕ) × (entry_at t.cols t.rows new p ≡ Some n) × (n ≤ m)
-  pub walked : (p : Place) → IfSome (entry_at t.cols t.rows new p) (IsWalked (IsSource t old) t p)
+  pub walked : (p : Place) →
+      IfSome (entry_at t.cols t.rows new p) (IsWalked (HasCountZero t old) t p)
 
 pub carried_input_same : (t : Terrain) (old new : List (Option ℕ)) → AreCarried t old new →
     HaveSameSources t old new
@@ -37,7 +38,7 @@ carried_input_same t old new carried p = (
   λ input. (let n = carried.kept p 0 input.1 in
       (input.0, n.1 ∙ ap Some (let none : n.0 ≡ 0 = omega (arith, n.2) in none))),
   λ input. (let walk = MatchOption-at_some _ _ 0 input.1 (carried.walked p) in
-      ended (IsSource t old) t p walk.1 walk.2 walk.3),
+      ended (HasCountZero t old) t p walk.1 walk.2 walk.3),
 )
 
 pub carried_counting : (c : Cutting) (levels : List (Option ℤ)) (old new : List (Option ℕ)) →
@@ -46,19 +47,22 @@ carried_counting c levels old new carried =
     let t = sinkless_terrain c levels in
     record {
       size = carried.size;
-      walked = λ p. if_some (entry_at t.cols t.rows new p) (IsWalked (IsSource t new) t p) (λ n e.
-          walked_to (IsSource t old) (IsSource t new) t [] (λ q input. (carried_input_same t old new
+      walked = λ p. if_some (entry_at t.cols t.rows new p) (IsWalked (HasCountZero t new) t p)
+          (λ n e.
+          walked_to (HasCountZero t old) (HasCountZero t new) t [] (λ q input.
+          (carried_input_same t old new
           carried q).0 input) p n (MatchOption-at_some _ _ n e (carried.walked p)));
     }
 
-pub one_above : (m n : Option ℕ) → unwrap_or m (2 ^ 24) ≤ unwrap_or n (2 ^ 24) + 1 → IsOneAbove m n
+pub one_above : (m n : Option ℕ) → unwrap_or m (2 ^ 24) ≤ unwrap_or n (2 ^ 24) + 1 →
+    IsAtMostOneAbove m n
 one_above None n le k e less = absurd (let is : unwrap_or n (2 ^ 24) ≡ k =
     ap (λ (o : Option ℕ). unwrap_or o (2 ^ 24)) e in omega (arith, is, le, less))
 one_above (Some m) n le k e less = (let is : unwrap_or n (2 ^ 24) ≡ k =
     ap (λ (o : Option ℕ). unwrap_or o (2 ^ 24)) e in (m, refl, omega (arith, is, le)))
 
 pub above_one : (m n : Option ℕ) → unwrap_or m (2 ^ 24) ≤ 2 ^ 24 → unwrap_or n (2 ^ 24) ≤ 2 ^ 24 →
-    IsOneAbove m n → unwrap_or m (2 ^ 24) ≤ unwrap_or n (2 ^ 24) + 1
+    IsAtMostOneAbove m n → unwrap_or m (2 ^ 24) ≤ unwrap_or n (2 ^ 24) + 1
 above_one m None few small above = omega (arith, few)
 above_one m (Some n) few small above = elim (cases_lt n (2 ^ 24 - 1)) [
   | inl less ↦ (let at = above n refl less in let is : unwrap_or m (2 ^ 24) ≡ at.0 =
@@ -189,7 +193,7 @@ module _ (r : Rounding) (outs : List (Vec Change Global)) (new : List (Option �
           )
         ];
     walked = λ p. if_some (entry_at r.cutting.cols r.cutting.rows new p)
-        (IsWalked (IsSource (levels_of r) r.steps) (levels_of r) p) (λ n e.
+        (IsWalked (HasCountZero (levels_of r) r.steps) (levels_of r) p) (λ n e.
         let within = inside_from_entry r.cutting.cols r.cutting.rows new p n e in
         let here = entry-inside r.cutting.cols r.cutting.rows new p within.0 within.1 in
         let there = entry-inside r.cutting.cols r.cutting.rows r.steps p within.0 within.1 in
@@ -202,9 +206,10 @@ module _ (r : Rounding) (outs : List (Vec Change Global)) (new : List (Option �
               let walk = (a.1.lowered.each x reported.1.3).walked in
               let place = place_of x p reported.1 within reported.2 in
               let same : x.count ≡ n = same_Some x.count n (sym reported.3 ∙ sym here ∙ e) in
-              subst (λ (k : ℕ). IsWalked (IsSource (levels_of r) r.steps) (levels_of r) p k) same
+              subst (λ (k : ℕ). IsWalked (HasCountZero (levels_of r) r.steps)
+              (levels_of r) p k) same
               (subst (λ (q : Place).
-              IsWalked (IsSource (levels_of r) r.steps) (levels_of r) q x.count) place walk))
+              IsWalked (HasCountZero (levels_of r) r.steps) (levels_of r) q x.count) place walk))
         ]);
   }
 
@@ -306,15 +311,16 @@ few_none n k le less = omega arith
 module _ (c : Cutting) (levels : List (Option ℤ)) (old : List (Option ℕ))
     (lists : List (Vec (Option ℕ) Global)) (count : length lists ≡ tile_count c)
     (given : (j : ℕ) (d : Vec (Option ℕ) Global) → j < tile_count c →
-    IsRound (IsSource (sinkless_terrain c levels) old) (sinkless_terrain c levels) c j old
+    IsRound (HasCountZero (sinkless_terrain c levels) old) (sinkless_terrain c levels) c j old
     (get_or lists j d).items) where
   round_at : (tile : ℕ) (list : Vec (Option ℕ) Global) → slice_get lists tile ≡ Some list → IsRound
-      (IsSource (sinkless_terrain c levels) old) (sinkless_terrain c levels) c tile old list.items
+      (HasCountZero (sinkless_terrain c levels) old)
+      (sinkless_terrain c levels) c tile old list.items
   round_at tile list at =
       let below : tile < tile_count c =
       subst (λ (k : ℕ). tile < k) count (slice_get_within lists tile list at) in
       subst (λ (v : Vec (Option ℕ) Global). IsRound
-      (IsSource (sinkless_terrain c levels) old) (sinkless_terrain c levels) c tile old v.items)
+      (HasCountZero (sinkless_terrain c levels) old) (sinkless_terrain c levels) c tile old v.items)
       (get_or_from_slice_get lists tile list list at) (given tile list below)
 
   pub first_lists : AreTileLists c lists
@@ -341,7 +347,8 @@ module _ (c : Cutting) (levels : List (Option ℤ)) (old : List (Option ℕ))
         let n = (round_at (tile_of_place c p) list.0 list.1).kept p m (within, refl) e in
         (n.0, here ∙ n.1, n.2);
     walked = λ p. if_some (entry_at c.cols c.rows whole p)
-        (IsWalked (IsSource (sinkless_terrain c levels) old) (sinkless_terrain c levels) p) (λ n e.
+        (IsWalked (HasCountZero (sinkless_terrain c levels) old) (sinkless_terrain c levels) p)
+        (λ n e.
         let within = inside_from_entry c.cols c.rows whole p n e in
         let list = list_of p lawful within in
         let here =

@@ -11,7 +11,7 @@ use Rattle.tiles.specs.declared.bounds.Bounds.{Bounds}
 use Rattle.tiles.specs.Cutting.{Cutting, View, AreBounds, bounds_of, is_within, is_shown, cell_shown, row_shown}
 use Rattle.drainage.specs.StepCounts.{known}
 use Rattle.drain.specs.Window.{IsInner, IsCopied, count_on, spot_index, area_of, IsSpot, Shows, IsOff, IsShown, AreMadeSpots, AreShownBelow, AreShown}
-use Rattle.tile_maps.specs.Maps.{AreMadeBelow}
+use Rattle.tile_maps.specs.Maps.{IsMadeUpTo}
 use Rattle.drain.proofs.Spreading.{spot_below}
 use Rattle.tile_maps.proofs.TileLists.{made_next}
 use Rattle.tiles.proofs.TileRows.{row_has}
@@ -186,9 +186,9 @@ shown_whole {X = X} cols rows entries none b c end shown same whole f = (
 
 pub copied_next : (b : Bounds) (counts : List ℕ) (row col : ℕ) (list : List (Option ℕ))
     (x : Option ℕ) → row < b.rows → col < b.cols →
-    AreMadeBelow b (IsCopied b counts) (row * b.cols + col) list →
+    IsMadeUpTo b (IsCopied b counts) (row * b.cols + col) list →
     x ≡ known (count_on b counts (make_place (row + 1) (col + 1))) →
-    AreMadeBelow b (IsCopied b counts) (row * b.cols + (col + 1)) (list ++ x ∷ [])
+    IsMadeUpTo b (IsCopied b counts) (row * b.cols + (col + 1)) (list ++ x ∷ [])
 copied_next b counts row col list x below beside before is =
     made_next b (IsCopied b counts) row col list x below beside before
     (λ s shows. is ∙ ap (λ (r : Place). known (count_on b counts r)) (sym (same_place s

@@ -4,7 +4,7 @@ use Rattle.terrain.specs.Raster.{Terrain}
 use Rattle.terrain.proofs.Places.{make_place}
 use Rattle.tiles.specs.declared.bounds.Bounds.{Bounds}
 use Rattle.tiles.specs.Cutting.{Cutting, IsCutting, Cuts, AreBounds}
-use Rattle.tile_maps.specs.Maps.{AreMadeBelow, IsMadeMap}
+use Rattle.tile_maps.specs.Maps.{IsMadeUpTo, IsMadeMap}
 use Rattle.tile_maps.proofs.TileLists.{made_next}
 use Rattle.tile_maps.proofs.Whole.{map_of_size}
 use Rattle.drain.specs.Beginning.{IsPartOf}
@@ -12,8 +12,8 @@ use Rattle.drain.specs.Directions.{IsCodeAt, AreDirections}
 
 pub coded_next : (t : Terrain) (b : Bounds) (row col : ℕ) (list : List (Option ℕ)) (x : Option ℕ) →
     row < b.rows → col < b.cols →
-    AreMadeBelow b (IsCodeAt t) (row * b.cols + col) list → IsCodeAt t (make_place (b.top + row)
-    (b.left + col)) x → AreMadeBelow b (IsCodeAt t) (row * b.cols + (col + 1)) (list ++ x ∷ [])
+    IsMadeUpTo b (IsCodeAt t) (row * b.cols + col) list → IsCodeAt t (make_place (b.top + row)
+    (b.left + col)) x → IsMadeUpTo b (IsCodeAt t) (row * b.cols + (col + 1)) (list ++ x ∷ [])
 coded_next t b = made_next b (IsCodeAt t)
 
 -- a tile's bounds lie in the terrain that is cut

@@ -10,8 +10,8 @@ use Rattle.terrain.specs.declared.place.Place.{Place}
 use Rattle.tiles.specs.declared.bounds.Bounds.{Bounds}
 use Rattle.tiles.specs.Cutting.{Cutting, IsCutting, IsInBounds, IsInTile, bounds_of, tile_entry, View, terrain_of}
 use Rattle.tiles.proofs.Cut.{in_bounds}
-use Rattle.drain.specs.Rounds.{IsSource, IsWalked, AreWalked, IsOneAbove, IsRound}
-use Rattle.tile_maps.specs.Maps.{AreMadeBelow, IsMadeTile}
+use Rattle.drain.specs.Rounds.{HasCountZero, IsWalked, AreWalked, IsAtMostOneAbove, IsRound}
+use Rattle.tile_maps.specs.Maps.{IsMadeUpTo, IsMadeTile}
 use Rattle.tile_maps.proofs.TileLists.{made_tile, entry_of_tile}
 use Rattle.drainage.specs.StepCounts.{known, no_count}
 use Rattle.drainage.proofs.ToldCounts.{known-some, known-none}
@@ -44,7 +44,7 @@ is_on {X = X} cols rows entries b s o x shown is =
 -- Each known count is the length of a level walk from the place of its spot to a cell of count 0.
 IsSound : Terrain → List (Option ℕ) → Bounds → List ℕ → Type 0
 IsSound t steps b counts = (s : Place) → IsSpot b s → count_on b counts s < no_count →
-    (p : Place) × Shows b s p × IsWalked (IsSource t steps) t p (count_on b counts s)
+    (p : Place) × Shows b s p × IsWalked (HasCountZero t steps) t p (count_on b counts s)
 
 count-known : (b : Bounds) (shown : List (Option ℕ)) (s : Place) →
     length shown ≡ area_of b → IsSpot b s →
@@ -58,7 +58,7 @@ some_of_known (Some m) n e less = ap Some (sym e)
 
 sound_begin : (t : Terrain) (b : Bounds) (steps shown : List (Option ℕ)) →
     length shown ≡ area_of b → AreShown t.cols t.rows steps None b shown →
-    AreWalked (IsSource t steps) t steps → IsSound t steps b (known_counts shown)
+    AreWalked (HasCountZero t steps) t steps → IsSound t steps b (known_counts shown)
 unfolding IsSound
 sound_begin t b steps shown size on walked = λ s spot less.
     let n = count_on b (known_counts shown) s in
@@ -85,8 +85,8 @@ apart_places b s r p q f g ne e =
 
 -- a walk of m moves from a neighbour of equal height gives one of m + 1, if that is below 2^24
 pub walked_on : (t : Terrain) (steps : List (Option ℕ)) (p q : Place) (m n : ℕ) →
-    IsNeighbour t q p → height_at t p ≡ height_at t q → IsWalked (IsSource t steps) t p m →
-    n ≡ m + 1 → n < 2 ^ 24 → IsWalked (IsSource t steps) t q n
+    IsNeighbour t q p → height_at t p ≡ height_at t q → IsWalked (HasCountZero t steps) t p m →
+    n ≡ m + 1 → n < 2 ^ 24 → IsWalked (HasCountZero t steps) t q n
 walked_on t steps p q m n next level walk is less =
     (less, p ∷ walk.1, (next, level, walk.2), omega (arith, walk.3, is))
 
@@ -95,12 +95,12 @@ sound_moved : (t : Terrain) (steps : List (Option ℕ)) (b : Bounds) (levels : L
     IsSound t steps b some →
     IsSpot b s → IsSpot b r → Touches s r → s ≢ r → level_on b levels s ≡ level_on b levels r →
     n ≡ count_on b some s + 1 → n < no_count → (q : Place) × Shows b r q
-    × IsWalked (IsSource t steps) t q n
+    × IsWalked (HasCountZero t steps) t q n
 unfolding IsSound
 sound_moved t steps b levels some s r n on sound spot other touch differ level is less =
     let from = sound s spot (omega (arith, is)) in
     let known_place =
-    data_on_level_walk (IsSource t steps) t (λ z input. input.0) from.0 from.2.1 from.2.2 in
+    data_on_level_walk (HasCountZero t steps) t (λ z input. input.0) from.0 from.2.1 from.2.2 in
     let height = height_is t from.0 known_place in
     let here : level_on b levels s ≡ Some (height_of t from.0) = (on s spot).0 from.0 from.1
     ∙ height in
@@ -120,24 +120,25 @@ sound_moved t steps b levels some s r n on sound spot other touch differ level i
 
 sound_set : (t : Terrain) (steps : List (Option ℕ))
     (b : Bounds) (counts : List ℕ) (r : Place) (n : ℕ) → length counts ≡ area_of b → IsSpot b r →
-    IsSound t steps b counts → ((q : Place) × Shows b r q × IsWalked (IsSource t steps) t q n) →
+    IsSound t steps b counts → ((q : Place) × Shows b r q × IsWalked (HasCountZero t steps) t q n) →
     IsSound t steps b (set counts (spot_index b r) n)
 unfolding IsSound
 sound_set t steps b counts r n size spot sound moved_to = λ s inside less. elim (cases_place s r) [
   | inl e ↦ (let at : count_on b (set counts (spot_index b r) n) r ≡ n =
       get_or-set_same counts (spot_index b r) n 0 (omega (arith, size, spot_below b r spot)) in
       subst (λ (x : Place). (p : Place) × Shows b x p
-      × IsWalked (IsSource t steps) t p (count_on b (set counts (spot_index b r) n) x)) (sym e) (
+      × IsWalked (HasCountZero t steps) t p (count_on b (set counts (spot_index b r) n) x))
+      (sym e) (
         moved_to.0,
         moved_to.1,
-        subst (λ m. IsWalked (IsSource t steps) t moved_to.0 m) (sym at) moved_to.2,
+        subst (λ m. IsWalked (HasCountZero t steps) t moved_to.0 m) (sym at) moved_to.2,
       ))
   | inr ne ↦ (let apart : spot_index b s ≢ spot_index b r =
       λ i. ne (index_injective (b.cols + 2) s r inside.1 spot.1 i) in
       let at : count_on b (set counts (spot_index b r) n) s ≡ count_on b counts s =
       get_or-set_other counts (spot_index b r) (spot_index b s) n 0 apart in
       let was = sound s inside (omega (arith, at)) in
-      (was.0, was.1, subst (λ m. IsWalked (IsSource t steps) t was.0 m) (sym at) was.2))
+      (was.0, was.1, subst (λ m. IsWalked (HasCountZero t steps) t was.0 m) (sym at) was.2))
 ]
 
 sound_after : (t : Terrain) (steps : List (Option ℕ)) (b : Bounds) (levels : List (Option ℤ))
@@ -205,7 +206,7 @@ known-if n P h = elim (cases_lt n no_count) [
 ]
 
 count_small : (t : Terrain) (b : Bounds) (s : Place) (steps : List (Option ℕ)) (o : Option ℕ) →
-    IsShown t.cols t.rows steps None b s o → AreWalked (IsSource t steps) t steps →
+    IsShown t.cols t.rows steps None b s o → AreWalked (HasCountZero t steps) t steps →
     unwrap_or o no_count ≤ no_count
 count_small t b s steps None on walks = omega arith
 count_small t b s steps (Some n) on walks =
@@ -214,7 +215,7 @@ count_small t b s steps (Some n) on walks =
 
 pub counts_small : (t : Terrain) (b : Bounds) (steps shown : List (Option ℕ)) →
     length shown ≡ area_of b → AreShown t.cols t.rows steps None b shown →
-    AreWalked (IsSource t steps) t steps → AreCounts (known_counts shown)
+    AreWalked (HasCountZero t steps) t steps → AreCounts (known_counts shown)
 counts_small t b steps shown size seen walks k = elim (cases_lt k (area_of b)) [
   | inl less ↦ at_place (λ i. get_or (known_counts shown) i 0 ≤ no_count) (b.cols + 2) (b.rows + 2)
       (λ s row col. omega (
@@ -234,8 +235,9 @@ module _ (t : Terrain) (c : Cutting) (tile : ℕ) (b : Bounds) (steps shown : Li
     (cutting : IsCutting c) (bounds : b ≡ bounds_of c tile)
     (on : AreShown t.cols t.rows t.cells None b levels) (size : length shown ≡ area_of b)
     (seen : AreShown t.cols t.rows steps None b shown) (walks :
-    AreWalked (IsSource t steps) t steps) (finished : IsSearched b levels (known_counts shown) new)
-    (out : AreMadeBelow b (IsCopied b new) (b.rows * b.cols) list) where
+    AreWalked (HasCountZero t steps) t steps) (finished : IsSearched b levels
+    (known_counts shown) new)
+    (out : IsMadeUpTo b (IsCopied b new) (b.rows * b.cols) list) where
   in_bounds_of : (p : Place) → IsInTile c tile p → IsInBounds b p
   in_bounds_of p i =
       subst (λ (z : Bounds). IsInBounds z p) (sym bounds) (in_bounds c tile p cutting i)
@@ -260,25 +262,25 @@ module _ (t : Terrain) (c : Cutting) (tile : ℕ) (b : Bounds) (steps shown : Li
       ∙ ap (λ (o : Option ℕ). unwrap_or o no_count) ((seen s spot).0 q f ∙ e)
 
   walked_here : (p : Place) → IsInTile c tile p →
-      IfSome (tile_entry c tile list p) (IsWalked (IsSource t steps) t p)
+      IfSome (tile_entry c tile list p) (IsWalked (HasCountZero t steps) t p)
   unfolding IsSound
   walked_here p i =
       let inner = spot_inner b p (in_bounds_of p i) in
       let sound = sound_after t steps b levels
       (known_counts shown) new on (length-map shown (λ (o : Option ℕ). unwrap_or o no_count)
       ∙ size) small (sound_begin t b steps shown size seen walks) finished.spread in
-      subst (λ (o : Option ℕ). IfSome o (IsWalked (IsSource t steps) t p)) (sym (entry_is p i))
-      (known-if (count_on b new (spot_of b p)) (IsWalked (IsSource t steps) t p) (λ less.
+      subst (λ (o : Option ℕ). IfSome o (IsWalked (HasCountZero t steps) t p)) (sym (entry_is p i))
+      (known-if (count_on b new (spot_of b p)) (IsWalked (HasCountZero t steps) t p) (λ less.
       place_one p inner.1 (sound (spot_of b p) (spot_from_inner b (spot_of b p) inner.0) less)))
     where
       place_one : (p : Place) → Shows b (spot_of b p) p → (q : Place) × Shows b (spot_of b p) q
-          × IsWalked (IsSource t steps) t q (count_on b new (spot_of b p)) →
-          IsWalked (IsSource t steps) t p (count_on b new (spot_of b p))
-      place_one p f h = subst (λ (x : Place). IsWalked (IsSource t steps) t x
+          × IsWalked (HasCountZero t steps) t q (count_on b new (spot_of b p)) →
+          IsWalked (HasCountZero t steps) t p (count_on b new (spot_of b p))
+      place_one p f h = subst (λ (x : Place). IsWalked (HasCountZero t steps) t x
           (count_on b new (spot_of b p))) (shows_same b (spot_of b p) h.0 p h.1 f) h.2
 
   near_here : (p q : Place) → IsInTile c tile p → IsNeighbour t p q → height_at t q
-      ≡ height_at t p → IsOneAbove (tile_entry c tile list p) (entry_at t.cols t.rows steps q)
+      ≡ height_at t p → IsAtMostOneAbove (tile_entry c tile list p) (entry_at t.cols t.rows steps q)
   near_here p q i next level m e less =
       let inner = spot_inner b p (in_bounds_of p i) in
       let s = spot_of b p in
@@ -293,7 +295,7 @@ module _ (t : Terrain) (c : Cutting) (tile : ℕ) (b : Bounds) (steps shown : Li
 
   within_here : (p q : Place) → IsInTile c tile p → IsInTile c tile q →
       IsNeighbour t p q → height_at t q ≡ height_at t p →
-      IsOneAbove (tile_entry c tile list p) (tile_entry c tile list q)
+      IsAtMostOneAbove (tile_entry c tile list p) (tile_entry c tile list q)
   within_here p q i j next level m e less =
       let to = spot_inner b p (in_bounds_of p i) in
       let from = spot_inner b q (in_bounds_of q j) in
@@ -326,7 +328,7 @@ module _ (t : Terrain) (c : Cutting) (tile : ℕ) (b : Bounds) (steps shown : Li
         omega (arith, fewer, was),
       )
 
-  pub is_round : IsRound (IsSource t steps) t c tile steps list
+  pub is_round : IsRound (HasCountZero t steps) t c tile steps list
   is_round = record {
     size = handed.size;
     walked = walked_here;
@@ -348,7 +350,8 @@ input_to v w b old cutting tile bounds input =
     cutting input))
 
 pub input_small : (t : Terrain) (b : Bounds) (steps : List (Option ℕ)) (old : List ℕ) →
-    AreWindowCounts t.cols t.rows steps b old → AreWalked (IsSource t steps) t steps → AreCounts old
+    AreWindowCounts t.cols t.rows steps b old → AreWalked (HasCountZero t steps) t steps →
+    AreCounts old
 input_small t b steps old input walks = subst (λ (xs : List ℕ). AreCounts xs) (sym input.value)
     (counts_small t b steps input.shown input.size input.seen walks)
 
@@ -357,9 +360,9 @@ pub round_from : (v : View (Option ℤ)) (w : View (Option ℕ)) (b : Bounds) (l
     IsCutting v.cutting →
     b ≡ bounds_of v.cutting v.tile → AreShown v.cutting.cols v.cutting.rows v.cells None b levels →
     AreWindowCounts v.cutting.cols v.cutting.rows w.cells b old →
-    AreWalked (IsSource (terrain_of v) w.cells) (terrain_of v) w.cells →
-    IsSearched b levels old new → AreMadeBelow b (IsCopied b new) (b.rows * b.cols) list →
-    IsRound (IsSource (terrain_of v) w.cells) (terrain_of v) v.cutting v.tile w.cells list
+    AreWalked (HasCountZero (terrain_of v) w.cells) (terrain_of v) w.cells →
+    IsSearched b levels old new → IsMadeUpTo b (IsCopied b new) (b.rows * b.cols) list →
+    IsRound (HasCountZero (terrain_of v) w.cells) (terrain_of v) v.cutting v.tile w.cells list
 round_from v w b levels old new list cutting bounds on input walks finished out =
     is_round (terrain_of v) v.cutting v.tile b w.cells input.shown levels new list cutting bounds on
     input.size input.seen walks

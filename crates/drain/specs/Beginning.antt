@@ -21,21 +21,21 @@ abbrev pub IsEdgeOrHasLower : Terrain → Place → Type 0
 IsEdgeOrHasLower t p = HasLower t p ⊎ IsEdge t p
 
 -- The count of p is 0 if `Drains` holds for p, and `None` otherwise.
-pub record IsBegun (Drains : Place → Type 0) (p : Place) (count : Option ℕ) : Type 0 where
+pub record IsInitialCount (Drains : Place → Type 0) (p : Place) (count : Option ℕ) : Type 0 where
   pub zero : Drains p → count ≡ Some 0
   pub only : (n : ℕ) → count ≡ Some n → Drains p × (n ≡ 0)
 
 -- The initial counts in row order: 0 at each cell that drains at once, `None` elsewhere.
-pub record AreBegun (t : Terrain) (counts : List (Option ℕ)) : Type 0 where
+pub record AreInitialCounts (t : Terrain) (counts : List (Option ℕ)) : Type 0 where
   pub size : length counts ≡ t.cols * t.rows
   pub each : (p : Place) → IsInside t p →
-      IsBegun (DrainsAtOnce t) p (entry_at t.cols t.rows counts p)
+      IsInitialCount (DrainsAtOnce t) p (entry_at t.cols t.rows counts p)
 
 -- The initial count at a spot, which is a place of a tile's window. It is the initial count of the
 -- grid's place there, and unknown north or west of the grid.
 abbrev pub IsBegunSpot : (Place → Type 0) → Bounds → Place → ℕ → Type 0
 IsBegunSpot Drains b s count = (count ≤ no_count)
-    × ((p : Place) → Shows b s p → IsBegun Drains p (known count))
+    × ((p : Place) → Shows b s p → IsInitialCount Drains p (known count))
     × (IsOff b s → known count ≡ None)
 
 -- The initial counts of a tile and the places around it: 0 where `Drains` holds, else unknown.
@@ -47,7 +47,7 @@ abbrev pub HasZeros : Terrain → List (Option ℕ) → Type 0
 HasZeros t counts = (p : Place) → DrainsAtOnce t p → entry_at t.cols t.rows counts p ≡ Some 0
 
 -- A round over all tiles changes no count; `lists` has the counts of each tile after it.
-pub record IsQuiet (t : Terrain) (c : Cutting) (steps : List (Option ℕ))
+pub record KeepsCounts (t : Terrain) (c : Cutting) (steps : List (Option ℕ))
     (lists : ℕ → List (Option ℕ)) : Type 0 where
   pub rounds : (tile : ℕ) → tile < tile_count c →
       IsRound (DrainsAtOnce t) t c tile steps (lists tile)

@@ -6,7 +6,7 @@ use Rattle.terrain.specs.Neighbours.{index_of}
 use Rattle.terrain.specs.declared.place.Place.{Place}
 use Rattle.tiles.specs.declared.bounds.Bounds.{Bounds}
 use Rattle.tiles.specs.Cutting.{Cutting, IsInTile}
-use Rattle.drain.specs.Rounds.{IsSource, IsWalked}
+use Rattle.drain.specs.Rounds.{HasCountZero, IsWalked}
 use Rattle.drain.specs.Lowering.{AreLevel, IsAmong, count_of}
 use Rattle.drain.specs.declared.changes.Entry.{Entry}
 use Rattle.drain.specs.declared.changes.Run.{Run}
@@ -24,7 +24,7 @@ sinkless_terrain c levels = record { cols = c.cols; rows = c.rows; cells = level
 -- a cell of count 0.
 pub record IsEntry (t : Terrain) (c : Cutting) (steps : List (Option ℕ)) (e : Entry) : Type 0 where
   pub inside : IsInTile c e.tile e.change.place
-  pub walked : IsWalked (IsSource t steps) t e.change.place e.change.count
+  pub walked : IsWalked (HasCountZero t steps) t e.change.place e.change.count
   pub less : e.change.count < count_of steps (index_of c.cols e.change.place)
 
 -- Each element of the list is an entry.

@@ -7,7 +7,7 @@ use Rattle.terrain.specs.Neighbours.{height_at, index_of, IsNeighbour}
 use Rattle.terrain.specs.declared.place.Place.{Place}
 use Rattle.tiles.specs.declared.bounds.Bounds.{Bounds}
 use Rattle.tiles.specs.Cutting.{Cutting, IsWithin, IsInTile, bounds_of, is_in_bounds, tile_of_place}
-use Rattle.drain.specs.Rounds.{IsSource, IsWalked, AreCounting}
+use Rattle.drain.specs.Rounds.{HasCountZero, IsWalked, AreCounting}
 use Rattle.drain.specs.declared.changes.Change.{Change}
 use Rattle.drain.specs.declared.changes.Entry.{Entry}
 use Rattle.drain.specs.declared.lowering.Lowered.{Lowered}
@@ -60,7 +60,7 @@ pub record IsEvenInside (t : Terrain) (c : Cutting) (tile : ℕ) (counts : ℕ �
 pub record IsChange (t : Terrain) (c : Cutting) (tile : ℕ) (steps : List (Option ℕ))
     (counts : ℕ → ℕ) (x : Change) : Type 0 where
   pub inside : IsInTile c tile x.place
-  pub walked : IsWalked (IsSource t steps) t x.place x.count
+  pub walked : IsWalked (HasCountZero t steps) t x.place x.count
   pub less : x.count < count_of steps (index_of c.cols x.place)
   pub least : counts (index_of c.cols x.place) ≤ x.count
 

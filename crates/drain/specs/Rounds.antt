@@ -10,12 +10,12 @@ use Rattle.tiles.specs.Cutting.{Cutting, IsCutting, IsInTile, tile_count, tile_e
 use Rattle.drain.specs.Steps.{IsLevelWalk}
 
 -- The cell is a source: it has data and the count 0.
-abbrev pub IsSource : Terrain → List (Option ℕ) → Place → Type 0
-IsSource t steps p = IsDataCell t p × (entry_at t.cols t.rows steps p ≡ Some 0)
+abbrev pub HasCountZero : Terrain → List (Option ℕ) → Place → Type 0
+HasCountZero t steps p = IsDataCell t p × (entry_at t.cols t.rows steps p ≡ Some 0)
 
 -- The two lists of counts have 0 at the same data cells.
 abbrev pub HaveSameSources : Terrain → List (Option ℕ) → List (Option ℕ) → Type 0
-HaveSameSources t old new = (p : Place) → IsSource t old p ↔ IsSource t new p
+HaveSameSources t old new = (p : Place) → HasCountZero t old p ↔ HasCountZero t new p
 
 -- The count is below 2^24, and some level walk from p to a cell of `Ends` has this many moves.
 abbrev pub IsWalked : (Place → Type 0) → Terrain → Place → ℕ → Type 0
@@ -27,8 +27,8 @@ abbrev pub AreWalked : (Place → Type 0) → Terrain → List (Option ℕ) → 
 AreWalked Ends t steps = (p : Place) → IfSome (entry_at t.cols t.rows steps p) (IsWalked Ends t p)
 
 -- If the other count is known and below 2^24 - 1, this one is known and at most one above it.
-abbrev pub IsOneAbove : Option ℕ → Option ℕ → Type 0
-IsOneAbove count other =
+abbrev pub IsAtMostOneAbove : Option ℕ → Option ℕ → Type 0
+IsAtMostOneAbove count other =
     (m : ℕ) → other ≡ Some m → m < 2 ^ 24 - 1 → (n : ℕ) × (count ≡ Some n) × (n ≤ m + 1)
 
 -- The new counts of a tile after one round from the old counts of the grid, in row order.
@@ -39,11 +39,11 @@ pub record IsRound (Ends : Place → Type 0) (t : Terrain) (c : Cutting) (tile :
       IfSome (tile_entry c tile new p) (IsWalked Ends t p)
   -- a new count is at most one above each known old count of a neighbour on the flat
   pub near : (p q : Place) → IsInTile c tile p → IsNeighbour t p q → height_at t q ≡ height_at t p →
-      IsOneAbove (tile_entry c tile new p) (entry_at t.cols t.rows old q)
+      IsAtMostOneAbove (tile_entry c tile new p) (entry_at t.cols t.rows old q)
   -- inside the tile a new count is at most one above each known one of a neighbour on the flat
   pub within : (p q : Place) → IsInTile c tile p → IsInTile c tile q → IsNeighbour t p q →
       height_at t q ≡ height_at t p →
-      IsOneAbove (tile_entry c tile new p) (tile_entry c tile new q)
+      IsAtMostOneAbove (tile_entry c tile new p) (tile_entry c tile new q)
   -- no count rises or is lost
   pub kept : (p : Place) (m : ℕ) → IsInTile c tile p → entry_at t.cols t.rows old p ≡ Some m →
       (n : ℕ) × (tile_entry c tile new p ≡ Some n) × (n ≤ m)
@@ -52,12 +52,12 @@ pub record IsRound (Ends : Place → Type 0) (t : Terrain) (c : Cutting) (tile :
 pub record IsTileStill (t : Terrain) (c : Cutting) (tile : ℕ)
     (steps : List (Option ℕ)) : Type 0 where
   pub near : (p q : Place) → IsInTile c tile p → IsNeighbour t p q → height_at t q ≡ height_at t p →
-      IsOneAbove (entry_at t.cols t.rows steps p) (entry_at t.cols t.rows steps q)
+      IsAtMostOneAbove (entry_at t.cols t.rows steps p) (entry_at t.cols t.rows steps q)
 
 -- Each known count is the length of a level walk to a source.
 pub record AreCounting (t : Terrain) (steps : List (Option ℕ)) : Type 0 where
   pub size : length steps ≡ t.cols * t.rows
-  pub walked : AreWalked (IsSource t steps) t steps
+  pub walked : AreWalked (HasCountZero t steps) t steps
 
 -- The final counts: each known one is the length of a level walk to a source of `input`, and no
 -- round would change them.

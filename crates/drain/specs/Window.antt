@@ -5,7 +5,7 @@ use Rattle.std.specs.Prelude.{◌≡◌, ◌≢◌, ℕ, ◌+◌, ◌*◌, ◌<�
 use Rattle.terrain.specs.Neighbours.{entry_or, index_of, Touches}
 use Rattle.terrain.specs.declared.place.Place.{Place}
 use Rattle.tiles.specs.declared.bounds.Bounds.{Bounds}
-use Rattle.tile_maps.specs.Maps.{AreMadeBelow}
+use Rattle.tile_maps.specs.Maps.{IsMadeUpTo}
 use Rattle.drainage.specs.StepCounts.{known, no_count}
 
 -- The number of spots.
@@ -151,7 +151,7 @@ pub record IsSearched (b : Bounds) (levels : List (Option ℤ)) (old new : List 
 -- The counts of a tile after a round from the old counts of its window.
 abbrev pub IsRoundOf : Bounds → List (Option ℤ) → List ℕ → List (Option ℕ) → Type 0
 IsRoundOf b levels old list = (new : List ℕ) × IsSearched b levels old new
-    × AreMadeBelow b (IsCopied b new) (b.rows * b.cols) list
+    × IsMadeUpTo b (IsCopied b new) (b.rows * b.cols) list
 
 -- The counts of the window are the values of its spots, as numbers.
 pub record AreWindowCounts (cols rows : ℕ) (entries : List (Option ℕ)) (b : Bounds)

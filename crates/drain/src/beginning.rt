@@ -6,7 +6,7 @@ ghost use Rattle.std.specs.Prelude.{◌≡◌, ℕ, ◌+◌, ◌*◌, ◌<◌, �
 ghost use Rattle.std.specs.Bool.{MatchBool};
 ghost use Rattle.terrain.specs.Neighbours.{IsInside, height_at};
 ghost use Rattle.drainage.specs.StepCounts.{known, no_count};
-ghost use Rattle.drain.specs.Beginning.{IsEdgeOrHasLower, IsGapOrLower, IsOutermost, IsBegun, IsBegunSpot, AreBegunSpots, IsPartOf};
+ghost use Rattle.drain.specs.Beginning.{IsEdgeOrHasLower, IsGapOrLower, IsOutermost, IsInitialCount, IsBegunSpot, AreBegunSpots, IsPartOf};
 ghost use Rattle.drain.specs.Steps.{DrainsAtOnce};
 ghost use Rattle.drain.specs.Window.{AreMadeSpots, IsSpot};
 
@@ -78,7 +78,7 @@ fn is_edge_or_has_lower(grid: &Grid, place: Place, level: Height) -> bool
 #[inline(always)]
 fn begin_at(grid: &Grid, place: Place) -> u32
     requires { IsInside grid.now.terrain place }
-    ensures begun { IsBegun (IsEdgeOrHasLower grid.now.terrain) place (known result) }
+    ensures begun { IsInitialCount (IsEdgeOrHasLower grid.now.terrain) place (known result) }
     ensures few { result ≤ no_count }
 {
     match grid.at(place) {

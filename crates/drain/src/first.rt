@@ -5,7 +5,7 @@
 ghost use Rattle.std.specs.Prelude.{ℕ, List, Option, IfOk};
 ghost use Rattle.tile_jobs.specs.Fault.{RefusesWorkers};
 ghost use Rattle.tiles.specs.Cutting.{Cuts, IsCutting};
-ghost use Rattle.drain.specs.Beginning.{AreBegun};
+ghost use Rattle.drain.specs.Beginning.{AreInitialCounts};
 ghost use Rattle.drain.specs.Rounds.{HaveSameSources, AreCounting};
 ghost use Rattle.drain.specs.Lowering.{IsEvenInside, count_of};
 ghost use Rattle.drain.specs.Entering.{sinkless_terrain};
@@ -33,8 +33,8 @@ struct FirstRound<'a> {
 impl<'a> Work for FirstRound<'a> {
     ghost use Rattle.std.specs.Prelude.{ℕ, List, Option};
     ghost use Rattle.tiles.specs.Cutting.{tile_count};
-    ghost use Rattle.drain.specs.Beginning.{AreBegun};
-    ghost use Rattle.drain.specs.Rounds.{IsSource, IsRound};
+    ghost use Rattle.drain.specs.Beginning.{AreInitialCounts};
+    ghost use Rattle.drain.specs.Rounds.{HasCountZero, IsRound};
     ghost use Rattle.drain.specs.Entering.{sinkless_terrain};
 
     type Out = Vec<StepCount>;
@@ -42,8 +42,8 @@ impl<'a> Work for FirstRound<'a> {
     ghost most = { λ f. tile_count f.tiling.now };
 
     ghost gives = { λ f tile out. let t = sinkless_terrain f.tiling.now f.grid.now.terrain.cells in
-        (begun : List (Option ℕ)) → AreBegun f.grid.now.terrain begun →
-        IsRound (IsSource t begun) t f.tiling.now tile begun out.items };
+        (begun : List (Option ℕ)) → AreInitialCounts f.grid.now.terrain begun →
+        IsRound (HasCountZero t begun) t f.tiling.now tile begun out.items };
 
     fn run(&self, alloc: Global, job: u32) -> Result<Vec<StepCount>, JobFault> {
         let levels = self.tiling.view(self.grid.cells(), job);
@@ -64,7 +64,8 @@ pub(crate) fn first_round<R: Threads + Wait + Sync, G: Gate + Sync>(
     ensures lawful { IfOk result (λ _. IsCutting tiling.now) }
     ensures counting { IfOk result
         (λ v. AreCounting (sinkless_terrain tiling.now grid.now.terrain.cells) v.items) }
-    ensures begun { IfOk result (λ v. (begun : List (Option ℕ)) × AreBegun grid.now.terrain begun
+    ensures begun { IfOk result (λ v. (begun : List (Option ℕ)) ×
+        AreInitialCounts grid.now.terrain begun
         × HaveSameSources (sinkless_terrain tiling.now grid.now.terrain.cells) begun v.items) }
     ensures even { IfOk result (λ v. (tile : ℕ) →
         IsEvenInside (sinkless_terrain tiling.now grid.now.terrain.cells) tiling.now tile

@@ -6,7 +6,7 @@ ghost use Rattle.terrain.specs.declared.place.Place.{Place};
 ghost use Rattle.drainage.specs.Filled.{IsFilled};
 ghost use Rattle.tiles.specs.Cutting.{Cutting, IsCutting, Cuts};
 ghost use Rattle.drain.specs.Steps.{IsSteps, AreSteps};
-ghost use Rattle.drain.specs.Beginning.{HasZeros, IsQuiet};
+ghost use Rattle.drain.specs.Beginning.{HasZeros, KeepsCounts};
 ghost use Rattle.drain.specs.Directions.{IsDirection, AreDirections};
 ghost use Rattle.drain.specs.Steepness.{direction_of};
 ghost use Rattle.drain.specs.Fitting.{IsAround};
@@ -14,7 +14,7 @@ ghost use Rattle.drain.specs.declared.around.Around.{Around};
 
 /// A cell has at most one number of steps.
 #[tactic(auto, using(crate::proofs::Local::one_number_of_steps))]
-pub fn steps_are_one()
+pub fn steps_are_unique()
     ensures { (t : Terrain) (p : Place) (m n : ℕ) → IsSteps t p m → IsSteps t p n → m ≡ n }
 {}
 
@@ -48,7 +48,7 @@ pub fn direction_is_of_cell()
 
 /// A terrain has at most one map of directions.
 #[tactic(auto, using(crate::proofs::Unique::one_list_of_directions))]
-pub fn directions_are_one()
+pub fn directions_are_unique()
     ensures { (t : Terrain) (codes others : List (Option ℕ)) → AreDirections t codes →
         AreDirections t others → codes ≡ others }
 {}
@@ -56,8 +56,8 @@ pub fn directions_are_one()
 /// In a filled terrain, counts that a round leaves unchanged are the steps.
 /// The round must be over all tiles, and each cell that drains at once must have the count 0.
 #[tactic(auto, using(crate::proofs::Quiet::counts_are_steps))]
-pub fn quiet_is_counted()
+pub fn kept_counts_are_steps()
     ensures { (t : Terrain) (c : Cutting) (steps : List (Option ℕ)) (lists : ℕ → List (Option ℕ)) →
         IsTerrain t → IsFilled t t.cells → Cuts c t → IsCutting c → length steps ≡ t.cols * t.rows →
-        HasZeros t steps → IsQuiet t c steps lists → AreSteps t steps }
+        HasZeros t steps → KeepsCounts t c steps lists → AreSteps t steps }
 {}

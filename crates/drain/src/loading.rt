@@ -5,7 +5,7 @@ ghost use Rattle.std.specs.Prelude.{◌≡◌, ◌+◌, ◌-◌, ◌*◌, ◌<�
 ghost use Rattle.terrain.specs.declared.place.Place.{Place};
 ghost use Rattle.tiles.specs.Cutting.{IsCutting, AreBounds, bounds_of};
 ghost use Rattle.drain.specs.Window.{area_of, IsSpot, IsOff, Shows, IsShown, AreShown, AreShownBelow, AreWindowCounts, IsCopied};
-ghost use Rattle.tile_maps.specs.Maps.{AreMadeBelow};
+ghost use Rattle.tile_maps.specs.Maps.{IsMadeUpTo};
 
 use crate::window::Window;
 use drainage::{NO_COUNT, StepCount};
@@ -186,9 +186,9 @@ fn copy_counts_along(
 ) -> Result<(), AllocError>
     requires size { length counts.now ≡ area_of window.now.bounds }
     requires row { row < window.now.bounds.rows }
-    requires list { AreMadeBelow window.now.bounds (IsCopied window.now.bounds counts.now)
+    requires list { IsMadeUpTo window.now.bounds (IsCopied window.now.bounds counts.now)
         (row * window.now.bounds.cols) list.old.items }
-    ensures { OnOk result (AreMadeBelow window.now.bounds (IsCopied window.now.bounds counts.now)
+    ensures { OnOk result (IsMadeUpTo window.now.bounds (IsCopied window.now.bounds counts.now)
         ((row + 1) * window.now.bounds.cols) list.new.items) }
 {
     for col in 0..window.bounds.cols {
@@ -208,7 +208,7 @@ pub(crate) fn copy_counts(
     counts: &[u32],
 ) -> Result<Vec<StepCount>, AllocError>
     requires { length counts.now ≡ area_of window.now.bounds }
-    ensures { IfOk result (λ v. AreMadeBelow window.now.bounds
+    ensures { IfOk result (λ v. IsMadeUpTo window.now.bounds
         (IsCopied window.now.bounds counts.now) (window.now.bounds.rows * window.now.bounds.cols)
         v.items) }
 {

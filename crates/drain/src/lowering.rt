@@ -8,7 +8,7 @@ ghost use Rattle.terrain.specs.declared.place.Place.{Place};
 ghost use Rattle.terrain.specs.Neighbours.{height_at, index_of, Touches};
 ghost use Rattle.tiles.specs.Cutting.{IsWithin, IsInTile, bounds_of, tile_count, tile_of_place};
 ghost use Rattle.drain.specs.declared.changes.Entry.{Entry};
-ghost use Rattle.drain.specs.Rounds.{IsSource, IsWalked, AreCounting};
+ghost use Rattle.drain.specs.Rounds.{HasCountZero, IsWalked, AreCounting};
 ghost use Rattle.drain.specs.Entering.{sinkless_terrain, AreEntries, IsRun};
 ghost use Rattle.drain.specs.Lowering.{IsEvenInside, IsLoweredTo, IsTileAnswer, MaySpread, count_of, counts_in};
 
@@ -99,7 +99,7 @@ fn lower(
         let t = sinkless_terrain c input.now.levels.now in
         change.count < counts_in c (tile_of_place c change.place) input.now.steps.now lowered.old
         (index_of c.cols change.place) →
-        IsWalked (IsSource t input.now.steps.now) t change.place change.count }
+        IsWalked (HasCountZero t input.now.steps.now) t change.place change.count }
     requires low { let c = input.now.tiling.now in
         (k : ℕ) → counts_in c (tile_of_place c change.place) input.now.steps.now lowered.old k
         ≤ count_of input.now.steps.now k }

@@ -11,7 +11,7 @@ ghost use Rattle.drain.specs.Steps.{AreSteps};
 ghost use Rattle.drain.specs.Directions.{IsCodeAt};
 ghost use Rattle.drain.specs.Beginning.{IsOutermost, IsPartOf};
 ghost use Rattle.drain.specs.Fitting.{IsAround};
-ghost use Rattle.tile_maps.specs.Maps.{AreMadeBelow};
+ghost use Rattle.tile_maps.specs.Maps.{IsMadeUpTo};
 
 use crate::around::Around;
 use crate::beginning::is_outermost;
@@ -117,9 +117,9 @@ fn codes_along(
     requires steps { AreSteps grid.now.terrain steps.now }
     requires inside { IsPartOf grid.now.terrain bounds }
     requires row { row < bounds.rows }
-    requires codes { AreMadeBelow bounds (IsCodeAt grid.now.terrain) (row * bounds.cols)
+    requires codes { IsMadeUpTo bounds (IsCodeAt grid.now.terrain) (row * bounds.cols)
         codes.old.items }
-    ensures { OnOk result (AreMadeBelow bounds (IsCodeAt grid.now.terrain) ((row + 1) * bounds.cols)
+    ensures { OnOk result (IsMadeUpTo bounds (IsCodeAt grid.now.terrain) ((row + 1) * bounds.cols)
         codes.new.items) }
 {
     for col in 0..bounds.cols {
@@ -142,7 +142,7 @@ pub(crate) fn codes_of_tile(
     requires lawful { IsTerrain grid.now.terrain }
     requires steps { AreSteps grid.now.terrain steps.now }
     requires inside { IsPartOf grid.now.terrain bounds }
-    ensures { IfOk result (λ codes. AreMadeBelow bounds (IsCodeAt grid.now.terrain)
+    ensures { IfOk result (λ codes. IsMadeUpTo bounds (IsCodeAt grid.now.terrain)
         (bounds.rows * bounds.cols) codes.items) }
 {
     let mut codes = Vec::with_capacity(alloc, bounds.rows as usize * bounds.cols as usize)?;

@@ -14,7 +14,7 @@ pub fn each_has_filled_height()
 
 /// A cell has at most one filled height.
 #[tactic(auto, using(crate::proofs::Uniqueness::one_filled_height))]
-pub fn filled_heights_are_one()
+pub fn filled_heights_are_unique()
     ensures { (t : Terrain) (p : Place) (l m : ℤ) → IsFilledHeight t p l → IsFilledHeight t p m →
         l ≡ m }
 {}

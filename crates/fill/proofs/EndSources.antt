@@ -17,7 +17,7 @@ use Rattle.cell_floods.proofs.TileWindows.{data_within}
 use Rattle.cell_floods.proofs.Windows.{data_is}
 use Rattle.fill.specs.Ends.{IsEndAt, PutsEnds, put_end}
 use Rattle.fill.specs.Spills.{AreFloods, AreSpillSources, AreSourcesOf}
-use Rattle.fill.proofs.Rims.{has_tile_level, end_label, list_there, among_is}
+use Rattle.fill.proofs.LabelNets.{has_tile_level, end_label, list_there, among_is}
 use Rattle.fill.proofs.CellMarks.{label_entry}
 
 -- `PutsEnds`, but of the first `count` entries of the table alone.

@@ -31,7 +31,7 @@ use Rattle.fill.proofs.Adding.{no_join}
 use Rattle.fill.proofs.CellMarks.{label_entry, marked_within}
 use Rattle.fill.proofs.LabelGraphs.{leads_back}
 use Rattle.fill.proofs.Numbered.{AreLawful, IsNumbered, numbered, number_below, number_label, has_mark, ends_length, fit_of}
-use Rattle.fill.proofs.Rims.{neighbour_back, level_has_data, list_there, among_is}
+use Rattle.fill.proofs.LabelNets.{neighbour_back, level_has_data, list_there, among_is}
 
 and_turned : (a b : Bool) → (a && b) ≡ (b && a)
 and_turned true true = refl

@@ -4,7 +4,7 @@ use Rattle.std.specs.Prelude.{slice_get}
 use Rattle.std.proofs.lemmas.Bool.{cases_eq}
 use Rattle.std.proofs.lemmas.List.{get_or-map, get_or_append_left, get_or_push, length-map, length_push}
 use Rattle.std.proofs.lemmas.Option.{get_or_from_slice_get, slice_get-get_or, slice_get_cases, slice_get_within, same_Some}
-use Rattle.tile_jobs.specs.Answers.{AllGiven}
+use Rattle.tile_jobs.specs.Answers.{AreResults}
 use Rattle.terrain.specs.Raster.{Terrain}
 use Rattle.tiles.specs.Cutting.{Cutting, IsCutting, Cuts, tile_count}
 use Rattle.cell_floods.specs.TileFlood.{Flood, IsTileFlood}
@@ -30,7 +30,7 @@ image_at {Y = Y} g xs ys i y is there =
     ]
 
 module _ (t : Terrain) (c : Cutting) (tiles : List FloodWithJoins) (n : ℕ) (size : length tiles ≡ n)
-    (given : AllGiven (λ job (x : FloodWithJoins). IsTileFlood t c job x.flood
+    (given : AreResults (λ job (x : FloodWithJoins). IsTileFlood t c job x.flood
     × IsInnerOf true x.flood x.joins.items) n tiles)
     (floods : List Flood) (floods_are : floods ≡ map (λ (x : FloodWithJoins). x.flood) tiles) where
   here : (tile : ℕ) (x : FloodWithJoins) → slice_get tiles tile ≡ Some x →

@@ -2,7 +2,7 @@
 mod CellMarks
 mod NearTiles
 -- Raising by the least crests of any net of labels.
-mod Rims
+mod LabelNets
 -- The spill graph by number.
 mod Adding
 mod Firsts

@@ -27,7 +27,7 @@ use Rattle.fill.specs.Spills.{AreFloods, level_among, label_among}
 use Rattle.fill.specs.declared.marks.CellLabel.{CellLabel}
 use Rattle.floods.specs.declared.net.Spill.{Spill}
 use Rattle.fill.proofs.CellMarks.{some_below, marked, marked_within, mark_from_tile, mark_some}
-use Rattle.fill.proofs.Rims.{IsLabelNet, LeadsRound, neighbour_back, level_has_data, has_tile_level, among_is, list_there}
+use Rattle.fill.proofs.LabelNets.{IsLabelNet, LeadsRound, neighbour_back, level_has_data, has_tile_level, among_is, list_there}
 
 -- If `g` and `h` give lists of equal lengths for each item, so they do together for the first `i`.
 flat_same : {X Y Z : Type 0} (g : X → List Y) (h : X → List Z) (xs : List X) (i : ℕ) →

@@ -37,7 +37,7 @@ use Rattle.cell_floods.proofs.Where.{levels_where-length, levels_where-at}
 use Rattle.fill.proofs.Gathered.{labels_within}
 use Rattle.cell_floods.proofs.TileWindows.{data_within}
 use Rattle.terrain.proofs.Options.{cases_option, match_of, none_some}
-use Rattle.fill.proofs.Rims.{HasTileLevel, IsLabelNet, has_tile_level, among_is, rims, list_there}
+use Rattle.fill.proofs.LabelNets.{HasTileLevel, IsLabelNet, has_tile_level, among_is, rims, list_there}
 use Rattle.std.specs.List.{Contains, All}
 use Rattle.std.proofs.lemmas.Option.{MatchOption-at_some, MatchOption-at_none, slice_get_within, same_Some}
 use Rattle.std.proofs.lemmas.List.Elements.{All-contains, All-from_get_or}

@@ -131,7 +131,7 @@ impl ArcLists {
         Ok(arcs)
     }
 
-    /// Queues each neighbour of `from` that has no source in `labels` and whose crest gets lower.
+    /// Queues each neighbour of `from` that has no source in `labels` and gets a lower crest.
     #[inline]
     pub(crate) fn spread(
         &self,

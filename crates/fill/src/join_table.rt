@@ -88,7 +88,7 @@ fn fill_slots(joins: &[Join], slots: &mut [usize])
 /// Replaces the join at index `at` by `join`, if both have the same labels and `join` is lower.
 /// Returns whether both have the same labels; `false` if there is no join at the index.
 #[inline(always)]
-fn lowers(joins: &mut Vec<Join>, at: usize, join: Join) -> bool
+fn lower_join(joins: &mut Vec<Join>, at: usize, join: Join) -> bool
     ensures lowered { OnTrue result (AddsCovered joins.old.items (join ∷ []) joins.new.items) }
     ensures other { OnFalse result (joins.new ≡ joins.old) }
 {
@@ -161,7 +161,7 @@ impl JoinList for JoinTable {
     fn add(&mut self, join: Join) -> Result<(), AllocError> {
         let slot = slot_for(&self.joins, &self.slots, join);
         let at = self.slots[slot];
-        if lowers(&mut self.joins, at, join) {
+        if lower_join(&mut self.joins, at, join) {
             return Ok(());
         }
         self.slots[slot] = self.joins.len();

@@ -5,7 +5,7 @@ use Rattle.std.proofs.lemmas.List.{get_or-set_same, get_or-set_other}
 use Rattle.std.proofs.Math.ListN.{length-set}
 use Rattle.drainage.proofs.Pigeonhole.{pigeonhole}
 use Rattle.flow.specs.Streams.{AreStreams, onward, node_after, end_of, sum_below}
-use Rattle.flow.specs.Finding.{AreFound, IsKnown, unknown_mark}
+use Rattle.flow.specs.Finding.{AreKnownEnds, IsKnown, unknown_mark}
 use Rattle.flow.proofs.Sums.{bit_le, sum_below-same}
 
 -- A sequence whose next value depends on the last alone stays where it stops.
@@ -109,11 +109,11 @@ pub end-onward : (links : List ℕ) → AreStreams links → (i : ℕ) → i < l
 end-onward links s i h = node_after-first links i (length links) ∙ s.ends i h
 
 -- The path of `node` ends where the path of `from` ends.
-abbrev pub IsOnPath : List ℕ → ℕ → ℕ → Type 0
-IsOnPath links from node = (node < length links) × (end_of links node ≡ end_of links from)
+abbrev pub SharesEnd : List ℕ → ℕ → ℕ → Type 0
+SharesEnd links from node = (node < length links) × (end_of links node ≡ end_of links from)
 
 pub next_on_path : (links : List ℕ) → AreStreams links → (from node : ℕ) →
-    IsOnPath links from node → IsOnPath links from (onward links node)
+    SharesEnd links from node → SharesEnd links from (onward links node)
 next_on_path links s from node on = (s.inside node on.0, end-onward links s node on.0 ∙ on.1)
 
 pub end-along : (links : List ℕ) → AreStreams links → (i : ℕ) → i < length links → (k : ℕ) →
@@ -153,7 +153,7 @@ moves_fall links s i h on =
 abbrev pub marks_left : List ℕ → List ℕ → ℕ → ℕ
 marks_left links ends i = moves_left links i + cond {A = ℕ} (eqb (get_or ends i 0) unknown_mark) 1 0
 
-pub marks_fall : (links ends : List ℕ) (i last : ℕ) → AreStreams links → AreFound links ends →
+pub marks_fall : (links ends : List ℕ) (i last : ℕ) → AreStreams links → AreKnownEnds links ends →
     i < length links → get_or ends i 0 ≡ unknown_mark → last ≢ unknown_mark →
     marks_left links (set ends i last) (onward links i) < marks_left links ends i
 marks_fall links ends i last s f h unknown known =
@@ -173,8 +173,9 @@ marks_fall links ends i last s f h unknown known =
       )
     ]
 
-pub found_more : (links ends : List ℕ) (node end : ℕ) → AreFound links ends → node < length links →
-    end ≡ end_of links node → AreFound links (set ends node end)
+pub found_more : (links ends : List ℕ) (node end : ℕ) → AreKnownEnds links ends →
+    node < length links →
+    end ≡ end_of links node → AreKnownEnds links (set ends node end)
 found_more links ends node end f h e = record {
   size = length-set ends node end ∙ f.size;
   right = λ i l known. elim (cases_eq i node) [

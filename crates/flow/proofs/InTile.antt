@@ -93,14 +93,14 @@ module _ (d : Directed) (c : Cutting) (tile : ℕ) (b : Bounds) (links : List �
 
   -- k moves along links from node j lead where the first `met` moves of the flow path lead, inside
   -- the bounds. `met` is k, unless the path along links has ended after k moves.
-  pub record Tracks (j k : ℕ) : Type 0 where
+  pub record FollowsLinks (j k : ℕ) : Type 0 where
     pub met : ℕ
     pub few : met ≤ k
     pub way : (l : ℕ) → l ≤ met → IsInBounds b (follow d (place_in b j) l)
     pub here : place_in b (node_after links j k) ≡ follow d (place_in b j) met
     pub done : (met ≡ k) ⊎ IsStop links j k
 
-  stopped : (j k : ℕ) → Tracks j k → IsStop links j k → Tracks j (suc k)
+  stopped : (j k : ℕ) → FollowsLinks j k → IsStop links j k → FollowsLinks j (suc k)
   stopped j k t stop = record {
     met = t.met;
     few = omega (arith, t.few);
@@ -117,7 +117,7 @@ module _ (d : Directed) (c : Cutting) (tile : ℕ) (b : Bounds) (links : List �
     | inr ne ↦ way l (omega arith)
   ]
 
-  pub tracks : (j : ℕ) → j < length links → (k : ℕ) → Tracks j k
+  pub tracks : (j : ℕ) → j < length links → (k : ℕ) → FollowsLinks j k
   tracks j h zero = record {
     met = 0;
     few = omega arith;

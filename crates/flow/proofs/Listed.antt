@@ -12,7 +12,7 @@ use Rattle.tiles.proofs.TileOrder.{index_in-place_in, place_in-index_in}
 use Rattle.flow.specs.TileFlow.{Flow, directed_by}
 use Rattle.flow.specs.TileLinks.{where_data, through_list, exits_by}
 use Rattle.flow.specs.RimGraph.{Outlets, listed_outlet}
-use Rattle.flow.specs.Numbering.{EndNumbers, IsExitOfTile, number_at, exit_number_by}
+use Rattle.flow.specs.Numbering.{EndNumbers, IsNumberedPlace, number_at, exit_number_by}
 use Rattle.std.proofs.Math.Nat.{suc-mul}
 use Rattle.std.proofs.lemmas.Nat.{div-mul-add, mod-mul-add}
 use Rattle.terrain.proofs.Places.{make_place, same_place, entry-inside}
@@ -67,14 +67,15 @@ exit_index_is b cells ends i h = index_of_placed b (get_or cells i None) (get_or
 module _ (o : Outlets) (flows : List Flow) (n : EndNumbers) (b : Bounds) where
   -- The place q at the index of an exit x of the tile is an exit of the tile.
   pub exit_placed : (exit : ℕ) (x : Option Place) (q : Place) → q ≡ place_in b exit → Some exit
-      ≡ option_map (index_in b) x → IfSome x (IsExitOfTile o flows n b) → IsExitOfTile o flows n b q
+      ≡ option_map (index_in b) x → IfSome x (IsNumberedPlace o flows n b) →
+      IsNumberedPlace o flows n b q
   exit_placed exit None q at some is = absurd (none-some exit (sym some))
   exit_placed exit (Some e) q at some is =
-      subst (λ (p : Place). IsExitOfTile o flows n b p) (sym (place_in-index_in b e is.inside)
+      subst (λ (p : Place). IsNumberedPlace o flows n b p) (sym (place_in-index_in b e is.inside)
       ∙ ap (place_in b) (sym (same_Some exit (index_in b e) some)) ∙ sym at) is
 
   pub exit_number_own : (i exit : ℕ) (x : Option Place) → Some exit ≡ option_map (index_in b) x →
-      exit ≡ i → IfSome x (IsExitOfTile o flows n b) →
+      exit ≡ i → IfSome x (IsNumberedPlace o flows n b) →
       number_at o.cutting.cols n (listed_outlet o flows (place_in b exit))
       ≡ exit_number_by o flows n b i x
   exit_number_own i exit None some own is = absurd (none-some exit (sym some))

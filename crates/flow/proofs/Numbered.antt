@@ -19,7 +19,7 @@ use Rattle.flow.specs.Counts.{IsValueAt}
 use Rattle.flow.specs.TileFlow.{Flow, exit_in, IsTileExits, IsExitOf, IsExitCell}
 use Rattle.flow.specs.Whole.{is_outlet_code, make_directed}
 use Rattle.flow.specs.RimGraph.{AreFlowsOf, AreOutlets, Outlets, listed_outlet}
-use Rattle.flow.specs.Numbering.{EndNumbers, end_number, outlet_numbers, IsNumbering, IsReady, AreReady, IsExitOfTile, number_at, exit_number_by, exit_numbers_by, cell_number, cell_numbers_by}
+use Rattle.flow.specs.Numbering.{EndNumbers, end_number, outlet_numbers, IsNumbering, IsReady, AreReady, IsNumberedPlace, number_at, exit_number_by, exit_numbers_by, cell_number, cell_numbers_by}
 use Rattle.flow.proofs.Coded.{IsCoded, cases_coded, coded_along, coded_inside}
 use Rattle.flow.proofs.Piece.{match_none, match_some}
 use Rattle.flow.proofs.RimFlows.{within_of, last_same, exit_in_tile, exit_of_exit}
@@ -118,13 +118,13 @@ module _ (d : Directed) (t : Cutting) (flows : List Flow) (o : Outlets) (n : End
 
     -- Each exit in the list is in the tile, and its outlet has a number.
     exit_of_tile : (p : Place) → IsInTile t tile p →
-        IfSome (get_or f.exits (index_in f.bounds p) None) (IsExitOfTile o flows n f.bounds)
+        IfSome (get_or f.exits (index_in f.bounds p) None) (IsNumberedPlace o flows n f.bounds)
     exit_of_tile p i = elim (cases_coded d p) [
-      | inl none ↦ subst (λ (x : Option Place). IfSome x (IsExitOfTile o flows n f.bounds))
+      | inl none ↦ subst (λ (x : Option Place). IfSome x (IsNumberedPlace o flows n f.bounds))
           (sym (no_exit p i none)) tt
       | inr is ↦
           let h = has_exit p i is in
-          subst (λ (x : Option Place). IfSome x (IsExitOfTile o flows n f.bounds)) (sym h.listed)
+          subst (λ (x : Option Place). IfSome x (IsNumberedPlace o flows n f.bounds)) (sym h.listed)
           (record {
             inside = in_flow h.exit h.inside;
             within = subst (λ (c : Cutting). IsWithin c h.exit) (sym s.same_cutting) h.inside.0;
@@ -136,7 +136,7 @@ module _ (d : Directed) (t : Cutting) (flows : List Flow) (o : Outlets) (n : End
     tile_ready = record {
       size = cell_size;
       exits = λ i. elim (cases_lt i (length f.exits)) [
-        | inr far ↦ subst (λ (x : Option Place). IfSome x (IsExitOfTile o flows n f.bounds))
+        | inr far ↦ subst (λ (x : Option Place). IfSome x (IsNumberedPlace o flows n f.bounds))
             (sym (get_or_past f.exits i None far)) tt
         | inl below ↦
             let tile_below : tile < tile_count t =
@@ -144,7 +144,7 @@ module _ (d : Directed) (t : Cutting) (flows : List Flow) (o : Outlets) (n : End
             let inside = subst (λ (b : Bounds). IsInTile t tile (place_in b i))
             (sym right.bounds) (place_in_tile t tile i s.are_flows.cutting tile_below
             (omega (arith, below, cell_size))) in
-            subst (λ k. IfSome (get_or f.exits k None) (IsExitOfTile o flows n f.bounds))
+            subst (λ k. IfSome (get_or f.exits k None) (IsNumberedPlace o flows n f.bounds))
             (index_in-place_in f.bounds i) (exit_of_tile (place_in f.bounds i) inside)
       ];
     }

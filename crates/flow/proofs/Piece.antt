@@ -14,7 +14,7 @@ use Rattle.drainage.specs.Following.{Directed, code_at}
 use Rattle.drainage.specs.Drained.{AllFlowEnds}
 use Rattle.flow.specs.Streams.{AreStreams, AreUpstream, AreEnds, end_of, total}
 use Rattle.flow.specs.TileFlow.{Flow, directed_by, through_in, through_of, IsExitOf, IsFlow, IsTileExits, IsTileCounts}
-use Rattle.flow.specs.TileLinks.{link_by, AreTileCodes, IsSmall, links_by, weights_by, where_data, through_list, ends_by, rim_ends_by, exits_by, flow_by, AreFlowLists}
+use Rattle.flow.specs.TileLinks.{link_by, AreTileCodes, EndsInLargestGrid, links_by, weights_by, where_data, through_list, ends_by, rim_ends_by, exits_by, flow_by, AreFlowLists}
 use Rattle.flow.proofs.Totals.{total_is}
 use Rattle.flow.proofs.Reaching.{IsEnding, ending_of}
 use Rattle.flow.proofs.DrainedCells.{all_drained_inside, drained_inside_few, through_is as drained_inside_through}
@@ -22,7 +22,7 @@ use Rattle.flow.proofs.Coded.{IsCoded, cases_coded}
 use Rattle.flow.proofs.InTile.{AreTileLinks, AreTileWeights, IsPiece, tile_streams, exit_is}
 use Rattle.flow.proofs.TileTotals.{own_totals}
 
-pub small_bounds : (t : Cutting) (b : Bounds) → IsCutting t → AreBounds t b → IsSmall b
+pub small_bounds : (t : Cutting) (b : Bounds) → IsCutting t → AreBounds t b → EndsInLargestGrid b
 small_bounds t b h a = record {
   some_col = a.some_col;
   few_rows = omega (arith, h.few_rows, a.rows_inside);

@@ -357,7 +357,7 @@ module _ (d : Directed) (t : Cutting) (flows : List Flow) (s : AreFlowsOf d t fl
   ]
 
   -- Rim number i has a next exit into another tile, `to`, and is linked to its number.
-  pub record Goes (i : ℕ) : Type 0 where
+  pub record NextExit (i : ℕ) : Type 0 where
     pub to : Place
     pub crosses : Crosses to
     pub steps : ℕ
@@ -365,7 +365,7 @@ module _ (d : Directed) (t : Cutting) (flows : List Flow) (s : AreFlowsOf d t fl
     pub way : follow d (rim_place t i) (suc steps) ≡ to
     pub link : rim_link t flows i ≡ rim_number t to
 
-  pub record Stops (i : ℕ) : Type 0 where
+  pub record LastExit (i : ℕ) : Type 0 where
     pub to : Place
     pub steps : ℕ
     pub way : follow d (rim_place t i) (suc steps) ≡ to
@@ -376,7 +376,7 @@ module _ (d : Directed) (t : Cutting) (flows : List Flow) (s : AreFlowsOf d t fl
   abbrev link_by : ℕ → Option Place → ℕ
   link_by i o = number_or t i (option_and_then (λ q. next_exit_by t flows q) o)
 
-  pub targets_on : (i : ℕ) (q : Place) → target_by t flows i ≡ Some q → Goes i ⊎ Stops i
+  pub targets_on : (i : ℕ) (q : Place) → target_by t flows i ≡ Some q → NextExit i ⊎ LastExit i
   targets_on i q e =
       let x = target_from i q e in
       let is = (target_within i q e).0 in
@@ -465,17 +465,17 @@ module _ (d : Directed) (t : Cutting) (flows : List Flow) (s : AreFlowsOf d t fl
 
     -- Rim number j has a target, and the flow paths of its cell and of the cell of i end at one
     -- outlet.
-    record OnWay (i j : ℕ) : Type 0 where
+    record SharesOutlet (i j : ℕ) : Type 0 where
       pub entry : Place
       pub target : target_by t flows j ≡ Some entry
       pub last : last_of d (rim_place t j) ≡ last_of d (rim_place t i)
 
-    step_on : (i j : ℕ) → j < number_count t → OnWay i j → OnWay i (onward links j)
+    step_on : (i j : ℕ) → j < number_count t → SharesOutlet i j → SharesOutlet i (onward links j)
     step_on i j h o =
         let c = (target_from j o.entry o.target).crosses in
         elim (targets_on j o.entry o.target) [
-          | inr e ↦ subst (λ (n : ℕ). OnWay i n) (sym (link_at j h ∙ e.link)) o
-          | inl g ↦ subst (λ (n : ℕ). OnWay i n) (sym (link_at j h ∙ g.link)) (record {
+          | inr e ↦ subst (λ (n : ℕ). SharesOutlet i n) (sym (link_at j h ∙ e.link)) o
+          | inl g ↦ subst (λ (n : ℕ). SharesOutlet i n) (sym (link_at j h ∙ g.link)) (record {
             entry = next d g.to;
             target = target_on g.to g.crosses;
             last = ap (last_of d) (back g.to g.crosses)
@@ -484,7 +484,7 @@ module _ (d : Directed) (t : Cutting) (flows : List Flow) (s : AreFlowsOf d t fl
         ]
 
     on_way : (i : ℕ) → i < number_count t → (q : Place) → target_by t flows i ≡ Some q → (k : ℕ) →
-        OnWay i (node_after links i k)
+        SharesOutlet i (node_after links i k)
     on_way i h q e zero = record { entry = q; target = e; last = refl }
     on_way i h q e (suc k) =
         step_on i (node_after links i k) (omega

@@ -20,7 +20,7 @@ use Rattle.flow.proofs.Windows.{some_in_range, any_in_range, every_in_range}
 use Rattle.flow.proofs.Totals.{each_downstream, totals_are, sums_same, leads_parts, leads_from}
 use Rattle.terrain.proofs.Options.{cases_option}
 use Rattle.flow.proofs.Coded.{IsCoded, coded_along, coded_from_some, outlet_stays, follow_stays, follow_more, follow_first}
-use Rattle.flow.proofs.RimFlows.{Crosses, Goes, flow_of, within_of, back, target_on, target_from, exit_here, not_outlet, to_below, targets_on, untargeted, links_size, link_at, rim_streams}
+use Rattle.flow.proofs.RimFlows.{Crosses, NextExit, flow_of, within_of, back, target_on, target_from, exit_here, not_outlet, to_below, targets_on, untargeted, links_size, link_at, rim_streams}
 use Rattle.flow.proofs.Reaching.{IsEnding, ending_of, still_at, still_from, reached_early, drains_at, drains_from, EntersRegion, stays_or_enters, never_enters, enters_from_one}
 use Rattle.flow.proofs.DrainedCells.{cell, drained, all_drained, drained_few, drained_inside, all_drained_inside, drained_inside_few, through_is, counted_on, counted_off, counted_none}
 
@@ -79,7 +79,8 @@ module _ (d : Directed) (t : Cutting) (flows : List Flow) (s : AreFlowsOf d t fl
   module _ (links : List ℕ) (made : links ≡ rim_links_by t flows) where
     -- If j is linked to i, water from j leaves the next tile by exit i.
     leads_out : (i j : ℕ) → j < number_count t →
-        leads_to links j i ≡ true → (g : Goes d t flows s j) × (rim_number t g.to ≡ i) × (q : Place)
+        leads_to links j i ≡ true → (g : NextExit d t flows s j) × (rim_number t g.to ≡ i) ×
+        (q : Place)
         × (target_by t flows j ≡ Some q)
     leads_out i j h y =
         let l = leads_parts links j i y in
@@ -127,7 +128,7 @@ module _ (d : Directed) (t : Cutting) (flows : List Flow) (s : AreFlowsOf d t fl
       ]
         where
           crosses_over : (j m : ℕ) →
-              follow d c m ≡ rim_place t j → (g : Goes d t flows s j) → g.to ≡ rim_place t i →
+              follow d c m ≡ rim_place t j → (g : NextExit d t flows s j) → g.to ≡ rim_place t i →
               tile_of_place t (next d (rim_place t j)) ≢ tile_of_place t (rim_place t j) →
               ((k : ℕ) → follow d c k ≡ rim_place t i → (x : EntersRegion d ending In c k) →
               follow d c x.from ≡ rim_place t j → ⊥) → ⊥

@@ -6,7 +6,7 @@ use Rattle.std.proofs.Math.Seq.{take-add, take-length}
 use Rattle.std.proofs.lemmas.List.{get_or_default, take-take, length-take}
 use Rattle.std.proofs.lemmas.List.Sums.{sum_by-append, sum_by_more, count_by-le-length}
 use Rattle.std.proofs.lemmas.Option.{get_or_from_slice_get, slice_get_cases, slice_get_within}
-use Rattle.tile_jobs.specs.Answers.{AllGiven}
+use Rattle.tile_jobs.specs.Answers.{AreResults}
 use Rattle.flow.specs.Whole.{is_outlet_code}
 use Rattle.flow.specs.OutletRuns.{CodeRuns, AreCodeRuns, IsRunCounted, AreRunsCounted, run_start, run_codes}
 use Rattle.flow.specs.declared.outlet_runs.RunCounts.{RunCounts}
@@ -23,7 +23,7 @@ counted_inside codes a i b h =
     (sym (take-take i (b - a) (drop a codes) (omega (arith, h))))
 
 pub runs_given : (r : CodeRuns) (counts : List RunCounts) →
-    AllGiven (λ k c. IsRunCounted (run_codes r k) c) (length counts) counts →
+    AreResults (λ k c. IsRunCounted (run_codes r k) c) (length counts) counts →
     (k : ℕ) (c : RunCounts) → slice_get counts k ≡ Some c → IsRunCounted (run_codes r k) c
 runs_given r counts given k c there =
     subst (IsRunCounted (run_codes r k)) (get_or_from_slice_get counts k c c there)

@@ -9,7 +9,7 @@ use Rattle.drainage.proofs.Ends.{falling_ends}
 use Rattle.terrain.specs.Neighbours.{entry_at, IsDataCell}
 use Rattle.terrain.specs.Raster.{IsTerrain}
 use Rattle.terrain.specs.declared.place.Place.{Place}
-use Rattle.tile_jobs.specs.Answers.{AllGiven}
+use Rattle.tile_jobs.specs.Answers.{AreResults}
 use Rattle.flow.specs.Whole.{make_directed, IsGridFlow}
 use Rattle.flow.specs.Counts.{IsMapOf, IsValueAt}
 use Rattle.flow.proofs.Coded.{IsCoded, coded_from_some}
@@ -48,7 +48,7 @@ pub jobs_gave : {X E : Type 0} (P : ℕ → X → Type 0) (r : Result (Vec X Glo
     (Q : List X → Type 0) → n ≡ m →
     ((outs : List X) → length outs ≡ m → ((k : ℕ) (x : X) → slice_get outs k ≡ Some x → P k x) →
     Q outs) →
-    IfOk r (λ v. vec_len v ≡ n) → IfOk r (λ v. AllGiven P n v.items) → IfOk r (λ v. Q v.items)
+    IfOk r (λ v. vec_len v ≡ n) → IfOk r (λ v. AreResults P n v.items) → IfOk r (λ v. Q v.items)
 jobs_gave P (Ok v) n m Q same made len given = made v.items (omega (arith, v.ok.0, len, same))
     (λ k x there. subst (P k) (get_or_from_slice_get v.items k x x there)
     (given k x (omega (arith, v.ok.0, len, slice_get_within v.items k x there))))

@@ -11,6 +11,6 @@ abbrev pub IsKnown : List ℕ → ℕ → Type 0
 IsKnown ends i = slice_index ends i ≢ unknown_mark
 
 -- Each known entry is the end of its node's path.
-pub record AreFound (links ends : List ℕ) : Type 0 where
+pub record AreKnownEnds (links ends : List ℕ) : Type 0 where
   pub size : length ends ≡ length links
   pub right : (i : ℕ) → i < length links → IsKnown ends i → slice_index ends i ≡ end_of links i

@@ -42,19 +42,19 @@ IsEndNumberAt t flows outlets n p entry =
     (d : Directed) → IsNumbering d t flows outlets n → IsValueAt d (end_number d n) p entry
 
 -- A place in the bounds and in the grid; the outlet listed for it, if any, has a number.
-pub record IsExitOfTile (outlets : Outlets) (flows : List Flow) (n : EndNumbers) (b : Bounds)
+pub record IsNumberedPlace (outlets : Outlets) (flows : List Flow) (n : EndNumbers) (b : Bounds)
     (e : Place) : Type 0 where
   pub inside : IsInBounds b e
   pub within : IsWithin outlets.cutting e
   pub numbered : IfSome (listed_outlet outlets flows e)
       (λ q. index_of outlets.cutting.cols q < n.cells)
 
--- The premises of a tile's job: an entry for each cell, and exits with `IsExitOfTile`.
+-- The premises of a tile's job: an entry for each cell, and exits with `IsNumberedPlace`.
 pub record IsReady (t : Cutting) (flows : List Flow) (outlets : Outlets) (n : EndNumbers) (tile : ℕ)
     (f : Flow) : Type 0 where
   pub size : length f.exits ≡ cell_count t tile
   pub exits : (i : ℕ) →
-      IfSome (slice_index_or f.exits i None) (IsExitOfTile outlets flows n f.bounds)
+      IfSome (slice_index_or f.exits i None) (IsNumberedPlace outlets flows n f.bounds)
 
 -- The premises of all jobs: one flow for each tile, with `IsReady`.
 pub record AreReady (t : Cutting) (flows : List Flow) (outlets : Outlets)

@@ -14,8 +14,9 @@ use Rattle.flow.specs.Whole.{is_outlet_code}
 use Rattle.tiles.specs.RimNumbers.{stride, side_number, side_place, number_count, rim_number, rim_place}
 
 -- The flow has the exits of a tile, and its counts if `counted`.
-abbrev pub IsFound : Directed → Cutting → Bool → ℕ → Flow → Type 0
-IsFound d t counted tile f = IsTileExits d t tile f × (counted ≡ true → IsTileCounts d t tile f)
+abbrev pub IsFlowOfTile : Directed → Cutting → Bool → ℕ → Flow → Type 0
+IsFlowOfTile d t counted tile f = IsTileExits d t tile f × (counted ≡ true →
+    IsTileCounts d t tile f)
 
 -- One flow for each tile, with its exits, in a map of directions whose flow paths all end.
 pub record AreFlowsOf (d : Directed) (t : Cutting) (flows : List Flow) : Type 0 where

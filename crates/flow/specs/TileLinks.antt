@@ -12,7 +12,7 @@ use Rattle.flow.specs.TileFlow.{Flow, IsFlow}
 use Rattle.tiles.specs.RimNumbers.{stride, side_place}
 
 -- The bounds have a column, and end within the largest grid.
-pub record IsSmall (b : Bounds) : Type 0 where
+pub record EndsInLargestGrid (b : Bounds) : Type 0 where
   pub some_col : 1 ≤ b.cols
   pub few_rows : b.top + b.rows ≤ longest_axis
   pub few_cols : b.left + b.cols ≤ longest_axis

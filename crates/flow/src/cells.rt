@@ -4,7 +4,7 @@ ghost use Rattle.terrain.specs.Ways.{place_toward};
 ghost use Rattle.tiles.specs.Cutting.{IsInBounds, bounds_of, place_in};
 ghost use Rattle.terrain.specs.Neighbours.{is_place};
 ghost use Rattle.flow.specs.TileFlow.{directed_by};
-ghost use Rattle.flow.specs.TileLinks.{AreTileCodes, IsInterior, IsSmall, link_by, first_links, links_by, weights_by};
+ghost use Rattle.flow.specs.TileLinks.{AreTileCodes, IsInterior, EndsInLargestGrid, link_by, first_links, links_by, weights_by};
 
 use drainage::Code;
 use std::alloc::{AllocError, Global};
@@ -35,7 +35,7 @@ pub(crate) fn tile_links(
     bounds: Bounds,
     cells: &[Option<Code>],
 ) -> Result<Vec<u32>, AllocError>
-    requires small { IsSmall bounds }
+    requires small { EndsInLargestGrid bounds }
     requires size { length cells.now ≡ bounds.rows * bounds.cols }
     ensures { IfOk result (λ v. v.items ≡ links_by bounds cells.now) }
 {
@@ -53,7 +53,7 @@ fn push_links(
     row: u32,
     cells: &[Option<Code>],
 ) -> Result<(), AllocError>
-    requires small { IsSmall bounds }
+    requires small { EndsInLargestGrid bounds }
     requires size { length cells.now ≡ bounds.rows * bounds.cols }
     requires row { row < bounds.rows }
     requires links { links.old.items ≡ first_links bounds cells.now (row * bounds.cols) }
@@ -71,7 +71,7 @@ fn push_links(
 
 #[inline(always)]
 fn link_at(bounds: Bounds, row: u32, col: u32, code: Option<Code>) -> u32
-    requires small { IsSmall bounds }
+    requires small { EndsInLargestGrid bounds }
     requires row { row < bounds.rows }
     requires col { col < bounds.cols }
     ensures { result ≡ link_by bounds (row * bounds.cols + col) code }
@@ -89,7 +89,7 @@ fn link_at(bounds: Bounds, row: u32, col: u32, code: Option<Code>) -> u32
 /// Returns whether all eight places around the cell lie in the tile.
 #[inline(always)]
 fn is_interior(bounds: Bounds, row: u32, col: u32) -> bool
-    requires small { IsSmall bounds }
+    requires small { EndsInLargestGrid bounds }
     requires row { row < bounds.rows }
     requires col { col < bounds.cols }
     ensures { IsTrue result ↔ IsInterior bounds row col }
@@ -100,7 +100,7 @@ fn is_interior(bounds: Bounds, row: u32, col: u32) -> bool
 /// Returns the link of an interior cell. No direction leaves the tile there.
 #[inline(always)]
 fn interior_link(bounds: Bounds, row: u32, col: u32, code: Option<Code>) -> u32
-    requires small { IsSmall bounds }
+    requires small { EndsInLargestGrid bounds }
     requires interior { IsInterior bounds row col }
     ensures { result ≡ link_by bounds (row * bounds.cols + col) code }
 {
@@ -134,7 +134,7 @@ pub(crate) fn is_place(place: Place, other: Place) -> bool
 
 #[inline(always)]
 fn link_of(bounds: Bounds, index: u32, place: Place, code: Option<Code>) -> u32
-    requires small { IsSmall bounds }
+    requires small { EndsInLargestGrid bounds }
     requires inside { IsInBounds bounds place }
     requires place { place ≡ place_in bounds index }
     ensures { result ≡ link_by bounds index code }

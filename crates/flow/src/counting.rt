@@ -13,9 +13,9 @@ ghost use Rattle.flow.specs.Inflows.{listed_inflow};
 ghost use Rattle.terrain.specs.declared.place.Place.{Place as AtPlace};
 
 use crate::cells::tile_weights;
-use crate::crossings::Crossings;
 use crate::flowing::flow_tiles;
 use crate::inflows::Inflows;
+use crate::rim_graph::RimGraph;
 use crate::streams::upstream_weights;
 use crate::tile::{TileFlow, count_where_data};
 use drainage::{Code, Directions};
@@ -90,9 +90,9 @@ pub fn accumulation<R: Threads + Wait + Sync, G: Gate + Sync>(
         gate,
     };
     let flows = flow_tiles(&runner, d.codes(), tiling, true)?;
-    let crossings = Crossings::of(alloc, tiling, &flows)?;
-    let inflows = Inflows::join(alloc, tiling, &flows, &crossings)?;
-    drop(crossings);
+    let rim_graph = RimGraph::of(alloc, tiling, &flows)?;
+    let inflows = Inflows::join(alloc, tiling, &flows, &rim_graph)?;
+    drop(rim_graph);
     runner.map_tiles(Counting {
         tiling,
         flows,

@@ -3,7 +3,7 @@
 //! The `while` loops have labels, by which proofs name them.
 ghost use Rattle.std.specs.Prelude.{◌≡◌, ◌^◌, ◌<◌, ◌≤◌, ℕ, length, IfOk};
 ghost use Rattle.flow.specs.Streams.{AreStreams, AreEnds, end_of};
-ghost use Rattle.flow.specs.Finding.{AreFound, IsKnown};
+ghost use Rattle.flow.specs.Finding.{AreKnownEnds, IsKnown};
 
 use std::alloc::{AllocError, Global};
 
@@ -23,7 +23,7 @@ pub(crate) fn ends(alloc: Global, links: &[u32]) -> Result<Vec<u32>, AllocError>
 
 /// Returns a list of ends for all nodes, each still unknown.
 pub(crate) fn unknown_ends(alloc: Global, links: &[u32]) -> Result<Vec<u32>, AllocError>
-    ensures { IfOk result (λ v. AreFound links.now v.items) }
+    ensures { IfOk result (λ v. AreKnownEnds links.now v.items) }
 {
     vec![in alloc; UNKNOWN; links.len()]
 }
@@ -31,7 +31,7 @@ pub(crate) fn unknown_ends(alloc: Global, links: &[u32]) -> Result<Vec<u32>, All
 fn find_ends(links: &[u32], ends: &mut [u32])
     requires streams { AreStreams links.now }
     requires few { length links.now ≤ 2 ^ 30 }
-    requires found { AreFound links.now ends.old }
+    requires found { AreKnownEnds links.now ends.old }
     ensures { AreEnds links.now ends.new }
 {
     for node in 0..links.len() {
@@ -44,10 +44,10 @@ fn find_ends(links: &[u32], ends: &mut [u32])
 pub(crate) fn find_end(links: &[u32], ends: &mut [u32], node: usize) -> u32
     requires streams { AreStreams links.now }
     requires few { length links.now ≤ 2 ^ 30 }
-    requires found { AreFound links.now ends.old }
+    requires found { AreKnownEnds links.now ends.old }
     requires inside { node < length links.now }
     ensures value { result ≡ end_of links.now node }
-    ensures found { AreFound links.now ends.new }
+    ensures found { AreKnownEnds links.now ends.new }
     ensures kept { (i : ℕ) → IsKnown ends.old i → IsKnown ends.new i }
     ensures marked { IsKnown ends.new node }
 {
@@ -76,7 +76,7 @@ pub(crate) fn end_of(links: &[u32], from: usize) -> u32
 fn end_from(links: &[u32], ends: &[u32], from: usize) -> u32
     requires streams { AreStreams links.now }
     requires few { length links.now ≤ 2 ^ 30 }
-    requires found { AreFound links.now ends.now }
+    requires found { AreKnownEnds links.now ends.now }
     requires inside { from < length links.now }
     ensures { result ≡ end_of links.now from }
 {
@@ -95,10 +95,10 @@ fn end_from(links: &[u32], ends: &[u32], from: usize) -> u32
 fn mark_path(links: &[u32], ends: &mut [u32], from: usize, last: u32)
     requires streams { AreStreams links.now }
     requires few { length links.now ≤ 2 ^ 30 }
-    requires found { AreFound links.now ends.old }
+    requires found { AreKnownEnds links.now ends.old }
     requires inside { from < length links.now }
     requires last { last ≡ end_of links.now from }
-    ensures found { AreFound links.now ends.new }
+    ensures found { AreKnownEnds links.now ends.new }
     ensures kept { (i : ℕ) → IsKnown ends.old i → IsKnown ends.new i }
     ensures marked { IsKnown ends.new from }
 {

@@ -27,12 +27,12 @@ impl<'a> Work for FlowTiles<'a> {
     type Out = TileFlow;
 
     ghost use Rattle.tiles.specs.Cutting.{tile_count};
-    ghost use Rattle.flow.specs.RimGraph.{IsFound};
+    ghost use Rattle.flow.specs.RimGraph.{IsFlowOfTile};
     ghost use Rattle.flow.specs.Whole.{make_directed};
 
     ghost most = { λ w. tile_count w.tiling.now };
 
-    ghost gives = { λ w job out. IsFound
+    ghost gives = { λ w job out. IsFlowOfTile
         (make_directed w.tiling.now.cols w.tiling.now.rows w.codes.now) w.tiling.now w.counted job
         out };
 

@@ -6,14 +6,14 @@ ghost use Rattle.drainage.specs.Following.{Directed};
 ghost use Rattle.flow.specs.Streams.{sum_below};
 ghost use Rattle.flow.specs.Sending.{AreZeros};
 ghost use Rattle.flow.specs.TileFlow.{AreTileCounts};
-ghost use Rattle.flow.specs.TileLinks.{IsSmall};
+ghost use Rattle.flow.specs.TileLinks.{EndsInLargestGrid};
 ghost use Rattle.tiles.specs.RimNumbers.{number_count};
 ghost use Rattle.flow.specs.RimGraph.{AreFlowsOf, rim_links_by, targets_by};
 ghost use Rattle.flow.specs.Inflows.{AreEntering, AreInflows, adds_at, entering, inflow_by, listed_inflow, rim_weight, rim_weights_by, sent_to, through_by};
 
 use crate::cells::is_place;
-use crate::crossings::Crossings;
 use crate::rim::side_cell;
+use crate::rim_graph::RimGraph;
 use crate::streams::{upstream_weights, zeros};
 use crate::tile::TileFlow;
 use std::alloc::{AllocError, Global};
@@ -47,19 +47,19 @@ impl Inflows {
         alloc: Global,
         tiling: &Tiling,
         flows: &[TileFlow],
-        crossings: &Crossings,
+        rim_graph: &RimGraph,
     ) -> Result<Inflows, AllocError>
         requires flows { (d : Directed) × AreFlowsOf d tiling.now flows.now
             × AreTileCounts d tiling.now flows.now }
-        requires targets { crossings.now.targets.items ≡ targets_by tiling.now flows.now }
-        requires links { crossings.now.links.items ≡ rim_links_by tiling.now flows.now }
+        requires targets { rim_graph.now.targets.items ≡ targets_by tiling.now flows.now }
+        requires links { rim_graph.now.links.items ≡ rim_links_by tiling.now flows.now }
         ensures cutting { IfOk result (λ i. i.cutting ≡ tiling.now) }
         ensures inflows { IfOk result (λ i. (d : Directed) → AreFlowsOf d tiling.now flows.now →
             AreTileCounts d tiling.now flows.now → AreInflows d tiling.now i) }
     {
-        let targets = &crossings.targets;
+        let targets = &rim_graph.targets;
         let weights = rim_weights(alloc, tiling, flows, targets)?;
-        let upstream = upstream_weights(alloc, &crossings.links, &weights)?;
+        let upstream = upstream_weights(alloc, &rim_graph.links, &weights)?;
         let mut listed = zeros(alloc, tiling.number_count() as usize)?;
         send_all(tiling, targets, &weights, &upstream, &mut listed);
         Ok(Inflows {
@@ -124,7 +124,7 @@ fn add_all(tiling: &Tiling, listed: &[u32], tile: u32, weights: &mut [u32])
 
 #[inline(always)]
 fn add_at(cell: Option<Place>, amount: u32, bounds: Bounds, weights: &mut [u32])
-    requires small { IsSmall bounds }
+    requires small { EndsInLargestGrid bounds }
     requires inside { IfSome cell (IsInBounds bounds) }
     requires size { length weights.old ≡ bounds.rows * bounds.cols }
     requires fits { (p : AtPlace) → IsInBounds bounds p →

@@ -17,7 +17,7 @@
 //! - `streams`: weights summed along links
 //! - `ends`: where paths along links end
 //! - `rim`: rim cells and where their paths along links end
-//! - `crossings`: flow from tile to tile
+//! - `rim_graph`: flow from tile to tile
 //! - `inflows`: how many cells' flow paths enter each rim cell from another tile
 //! - `outlets`: the outlet of each exit
 //! - `links`: `RimLinks`, inflows and outlets together
@@ -30,7 +30,6 @@ mod basin;
 mod catchment;
 mod cells;
 mod counting;
-mod crossings;
 mod end_numbers;
 mod ends;
 mod flowing;
@@ -43,6 +42,7 @@ mod outlet_numbers;
 mod outlet_runs;
 mod outlets;
 mod rim;
+mod rim_graph;
 mod streams;
 mod tile;
 

@@ -8,9 +8,9 @@ ghost use Rattle.drainage.specs.Following.{Directed};
 ghost use Rattle.flow.specs.TileFlow.{AreTileFlows};
 ghost use Rattle.flow.specs.Links.{AreLinks, inflow_in, outlet_in};
 
-use crate::crossings::Crossings;
 use crate::inflows::Inflows;
 use crate::outlets::Outlets;
+use crate::rim_graph::RimGraph;
 use crate::tile::TileFlow;
 use std::alloc::Global;
 use std::marker::Model;
@@ -68,9 +68,9 @@ impl<'a> RimLinks<'a> {
     {
         // The call brings the prover `IsCutting` of the tiling, which `cols` ensures.
         prove!(tiling.cols() > 0);
-        let crossings = Crossings::of(alloc, tiling, flows)?;
-        let inflows = Inflows::join(alloc, tiling, flows, &crossings)?;
-        let outlets = Outlets::join(alloc, tiling, flows, &crossings)?;
+        let rim_graph = RimGraph::of(alloc, tiling, flows)?;
+        let inflows = Inflows::join(alloc, tiling, flows, &rim_graph)?;
+        let outlets = Outlets::join(alloc, tiling, flows, &rim_graph)?;
         Ok(RimLinks {
             flows,
             inflows,

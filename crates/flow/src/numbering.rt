@@ -10,12 +10,12 @@ ghost use Rattle.flow.specs.Streams.{AreEnds};
 ghost use Rattle.flow.specs.Whole.{IsGridFlow, make_directed};
 ghost use Rattle.flow.specs.TileLinks.{links_by};
 ghost use Rattle.flow.specs.RimGraph.{listed_outlet};
-ghost use Rattle.flow.specs.Numbering.{AreReady, IsExitOfTile, end_number, number_at, exit_number_by, exit_numbers_by, cell_number, cell_numbers_by};
+ghost use Rattle.flow.specs.Numbering.{AreReady, IsNumberedPlace, end_number, number_at, exit_number_by, exit_numbers_by, cell_number, cell_numbers_by};
 
-use crate::crossings::Crossings;
 use crate::end_numbers::EndNumbering;
 use crate::flowing::flow_tiles;
 use crate::outlets::Outlets;
+use crate::rim_graph::RimGraph;
 use crate::tile::TileFlow;
 use drainage::Code;
 use std::alloc::{AllocError, Global};
@@ -70,7 +70,7 @@ impl<'a, N: EndNumbering> Numbering<'a, N> {
     ) -> Result<Vec<u32>, AllocError>
         requires ends { AreEnds (links_by flow.now.bounds flow.now.codes) ends.now }
         requires exits { (i : ℕ) → IfSome (slice_index_or flow.now.exits i None)
-            (IsExitOfTile self.now.outlets self.now.flows.items (N.numbers self.now.numbers)
+            (IsNumberedPlace self.now.outlets self.now.flows.items (N.numbers self.now.numbers)
             flow.now.bounds) }
         ensures { IfOk result (λ v. v.items
             ≡ exit_numbers_by self.now.outlets self.now.flows.items (N.numbers self.now.numbers)
@@ -88,7 +88,7 @@ impl<'a, N: EndNumbering> Numbering<'a, N> {
         requires ends { AreEnds (links_by flow.now.bounds flow.now.codes) ends.now }
         requires index { index < length flow.now.exits }
         requires exit { IfSome (slice_index_or flow.now.exits index None)
-            (IsExitOfTile self.now.outlets self.now.flows.items (N.numbers self.now.numbers)
+            (IsNumberedPlace self.now.outlets self.now.flows.items (N.numbers self.now.numbers)
             flow.now.bounds) }
         ensures { result ≡ exit_number_by self.now.outlets self.now.flows.items
             (N.numbers self.now.numbers) flow.now.bounds index
@@ -136,9 +136,9 @@ pub(crate) fn number_cells<R: Threads + Wait + Sync, G: Gate + Sync, N: EndNumbe
     ensures workers { RefusesWorkers runner.now.workers result }
 {
     let flows = flow_tiles(runner, codes, tiling, false)?;
-    let crossings = Crossings::of(runner.alloc, tiling, &flows)?;
-    let outlets = Outlets::join(runner.alloc, tiling, &flows, &crossings)?;
-    drop(crossings);
+    let rim_graph = RimGraph::of(runner.alloc, tiling, &flows)?;
+    let outlets = Outlets::join(runner.alloc, tiling, &flows, &rim_graph)?;
+    drop(rim_graph);
     runner.map_tiles(Numbering {
         tiling,
         flows,

@@ -6,8 +6,8 @@ ghost use Rattle.tiles.specs.RimNumbers.{number_count};
 ghost use Rattle.flow.specs.RimGraph.{AreFlowsOf, AreOutlets, targets_by, rim_links_by, rim_outlet, rim_outlets_by, listed_outlet, exit_by};
 
 use crate::cells::is_place;
-use crate::crossings::{Crossings, code_of};
 use crate::ends::ends;
+use crate::rim_graph::{RimGraph, code_of};
 use crate::tile::{TileFlow, is_outlet};
 use std::alloc::{AllocError, Global};
 use std::marker::Model;
@@ -40,17 +40,17 @@ impl Outlets {
         alloc: Global,
         tiling: &Tiling,
         flows: &[TileFlow],
-        crossings: &Crossings,
+        rim_graph: &RimGraph,
     ) -> Result<Outlets, AllocError>
         requires flows { (d : Directed) × AreFlowsOf d tiling.now flows.now }
-        requires targets { crossings.now.targets.items ≡ targets_by tiling.now flows.now }
-        requires links { crossings.now.links.items ≡ rim_links_by tiling.now flows.now }
+        requires targets { rim_graph.now.targets.items ≡ targets_by tiling.now flows.now }
+        requires links { rim_graph.now.links.items ≡ rim_links_by tiling.now flows.now }
         ensures cutting { IfOk result (λ o. o.cutting ≡ tiling.now) }
         ensures outlets { IfOk result (λ o. (d : Directed) → AreFlowsOf d tiling.now flows.now →
             AreOutlets d tiling.now flows.now o) }
     {
-        let ends = ends(alloc, &crossings.links)?;
-        let outlets = rim_outlets(alloc, tiling, flows, &crossings.targets, &ends)?;
+        let ends = ends(alloc, &rim_graph.links)?;
+        let outlets = rim_outlets(alloc, tiling, flows, &rim_graph.targets, &ends)?;
         Ok(Outlets {
             tiling: *tiling,
             outlets,

@@ -7,8 +7,8 @@ ghost use Rattle.std.specs.Prelude.{◌≡◌, ◌*◌, ◌^◌, ◌<◌, ◌≤
 ghost use Rattle.tiles.specs.Cutting.{IsInBounds, IsWithinLimits, index_in};
 ghost use Rattle.tiles.specs.RimNumbers.{stride};
 ghost use Rattle.flow.specs.Streams.{AreStreams, end_of};
-ghost use Rattle.flow.specs.Finding.{AreFound};
-ghost use Rattle.flow.specs.TileLinks.{IsSmall, rim_ends_by};
+ghost use Rattle.flow.specs.Finding.{AreKnownEnds};
+ghost use Rattle.flow.specs.TileLinks.{EndsInLargestGrid, rim_ends_by};
 ghost use Rattle.flow.specs.RimGraph.{side_cell};
 
 use crate::cells::is_place;
@@ -38,7 +38,7 @@ pub(crate) fn side_cell(largest: Bounds, bounds: Bounds, side: u32) -> Option<Pl
 
 /// Returns the index where each rim cell's path along links ends, by side number.
 pub(crate) fn rim_ends(alloc: Global, bounds: Bounds, links: &[u32]) -> Result<Vec<u32>, AllocError>
-    requires small { IsSmall bounds }
+    requires small { EndsInLargestGrid bounds }
     requires some_row { 1 ≤ bounds.rows }
     requires size { length links.now ≡ bounds.rows * bounds.cols }
     requires streams { AreStreams links.now }
@@ -58,12 +58,12 @@ fn ends_of_sides(
     links: &[u32],
     found: &mut [u32],
 ) -> Result<Vec<u32>, AllocError>
-    requires small { IsSmall bounds }
+    requires small { EndsInLargestGrid bounds }
     requires some_row { 1 ≤ bounds.rows }
     requires size { length links.now ≡ bounds.rows * bounds.cols }
     requires streams { AreStreams links.now }
     requires few { length links.now ≤ 2 ^ 30 }
-    requires found { AreFound links.now found.old }
+    requires found { AreKnownEnds links.now found.old }
     ensures { IfOk result (λ v. v.items ≡ rim_ends_by bounds links.now) }
 {
     let mut ends = Vec::with_capacity(alloc, bounds.side_count() as usize)?;
@@ -77,7 +77,7 @@ fn ends_of_sides(
 /// Returns the index where a cell's path along links ends.
 /// Reads it from `rim_ends` for a rim cell, and follows links for any other.
 pub(crate) fn end_in(bounds: Bounds, links: &[u32], rim_ends: &[u32], place: Place) -> u32
-    requires small { IsSmall bounds }
+    requires small { EndsInLargestGrid bounds }
     requires inside { IsInBounds bounds place }
     requires size { length links.now ≡ bounds.rows * bounds.cols }
     requires streams { AreStreams links.now }

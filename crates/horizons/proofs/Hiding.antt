@@ -4,7 +4,7 @@ use borrow.Author.Differences.{up, down, true_is_lt}
 use Rattle.std.proofs.lemmas.Bool.{cases_lt, cases_Bool}
 use Rattle.std.proofs.lemmas.Int.{ints}
 use Rattle.std.proofs.lemmas.Nat.{mul-le}
-use Rattle.horizons.specs.Horizons.{value_at, hides_by, is_above, IsRampAt}
+use Rattle.horizons.specs.Horizons.{value_at, ramp_hides, is_above, IsRampAt}
 use Rattle.horizons.specs.Merging.{greater_at}
 use Rattle.horizons.specs.declared.target.Target.{Target}
 use Rattle.horizons.specs.declared.ramp.Ramp.{Ramp}
@@ -24,7 +24,7 @@ passed_on x y a b c d k l some more less h =
 
 hides_more : (r s : Ramp) (t : Target) (x : ℤ) → 0 < r.lines → 0 < s.lines →
     (value_at r t *ℤ pos s.lines) ≤ℤ (value_at s t *ℤ pos r.lines)
-    → hides_by r t x ≡ true → hides_by s t x ≡ true
+    → ramp_hides r t x ≡ true → ramp_hides s t x ≡ true
 hides_more r s t x some more h e =
     let is =
     passed_on (up x) (down x) (up (value_at r t)) (down (value_at r t)) (up (value_at s t)) (down
@@ -33,7 +33,7 @@ hides_more r s t x some more h e =
 
 -- If ramp r is not above ramp s at a target and hides it, s hides it too.
 pub hides_if_not_above : (r s : Ramp) (t : Target) (x : ℤ) → IsRampAt r t → IsRampAt s t →
-    is_above r s t ≡ false → hides_by r t x ≡ true → hides_by s t x ≡ true
+    is_above r s t ≡ false → ramp_hides r t x ≡ true → ramp_hides s t x ≡ true
 hides_if_not_above r s t x is_r is_s not =
     hides_more r s t x is_r.lines.0 is_s.lines.0 (omega (arith, ints, not))
 
@@ -47,11 +47,11 @@ either_hides' true b h = h refl
 either_hides' false b h = refl
 
 pub greater_hides : (r s : Ramp) (t : Target) (x : ℤ) → IsRampAt r t → IsRampAt s t →
-    hides_by (greater_at s r t) t x ≡ (hides_by r t x || hides_by s t x)
+    ramp_hides (greater_at s r t) t x ≡ (ramp_hides r t x || ramp_hides s t x)
 greater_hides r s t x is_r is_s = elim (cases_Bool (is_above s r t)) [
-  | inl above ↦ rw above (either_hides' (hides_by r t x) (hides_by s t x)
+  | inl above ↦ rw above (either_hides' (ramp_hides r t x) (ramp_hides s t x)
       (hides_more r s t x is_r.lines.0 is_s.lines.0 (omega (arith, ints, above))))
-  | inr not ↦ rw not (either_hides (hides_by r t x) (hides_by s t x)
+  | inr not ↦ rw not (either_hides (ramp_hides r t x) (ramp_hides s t x)
       (hides_more s r t x is_s.lines.0 is_r.lines.0 (omega (arith, ints, not))))
 ]
 

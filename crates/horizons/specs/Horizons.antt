@@ -28,8 +28,8 @@ abbrev pub value_at : Ramp → Target → ℤ
 value_at r t = (r.gain *ℤ t.offset) +ℤ (r.level *ℤ pos t.line)
 
 -- A ramp hides a target of this rise: its value at the target's slope is above rise / line.
-abbrev pub hides_by : Ramp → Target → ℤ → Bool
-hides_by r t rise = int_lt (rise *ℤ pos r.lines) (value_at r t)
+abbrev pub ramp_hides : Ramp → Target → ℤ → Bool
+ramp_hides r t rise = int_lt (rise *ℤ pos r.lines) (value_at r t)
 
 -- Ramp r is above ramp s at the slope of a target.
 abbrev pub is_above : Ramp → Ramp → Target → Bool
@@ -52,7 +52,7 @@ extent (p ∷ ps) = max p.end (extent ps)
 
 -- A horizon hides the target of this index and rise.
 abbrev pub hides : List Piece → ℕ → Target → ℤ → Bool
-hides ps i t rise = option_map_or (λ r. hides_by r t rise) (ramp_at ps i) false
+hides ps i t rise = option_map_or (λ r. ramp_hides r t rise) (ramp_at ps i) false
 
 -- The horizon covers all targets, with a ramp within bounds at each.
 pub record IsOver (targets : List Target) (ps : List Piece) : Type 0 where

@@ -1,7 +1,7 @@
 //! A ramp: a straight line over the slopes of lines of sight.
 ghost use Rattle.std.specs.Prelude.{◌≡◌, ℤ, ◌^◌, ◌≤◌, false, unsigned_abs};
 ghost use Rattle.horizons.specs.declared.target.Target.{Target};
-ghost use Rattle.horizons.specs.Horizons.{IsTarget, IsRampAt, value_at, hides_by, is_above};
+ghost use Rattle.horizons.specs.Horizons.{IsTarget, IsRampAt, value_at, ramp_hides, is_above};
 
 use crate::target::Target;
 
@@ -25,7 +25,7 @@ impl Ramp {
     /// Returns the ramp of no ground. It hides no target whose rise is within ±2^51.
     pub fn nothing() -> Self
         ensures below { (t : Target) (rise : ℤ) → IsTarget t → unsigned_abs rise ≤ 2 ^ 51 →
-            hides_by result t rise ≡ false }
+            ramp_hides result t rise ≡ false }
         ensures at { (t : Target) → IsTarget t → IsRampAt result t }
     {
         Ramp {
@@ -64,7 +64,7 @@ impl Ramp {
     pub fn hides(self, target: Target, rise: Value) -> bool
         requires target { IsTarget target }
         requires at { IsRampAt self target }
-        ensures { result ≡ hides_by self target rise }
+        ensures { result ≡ ramp_hides self target rise }
     {
         Product::from(self.value_at(target)) > Product::from(rise) * Product::from(self.lines)
     }

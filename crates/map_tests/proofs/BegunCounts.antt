@@ -9,7 +9,7 @@ use Rattle.terrain.proofs.Places.{index_below, index_injective, entry-inside}
 use Rattle.terrain.specs.Raster.{Terrain}
 use Rattle.terrain.specs.Neighbours.{IsInside, index_of}
 use Rattle.terrain.specs.declared.place.Place.{Place}
-use Rattle.drain.specs.Beginning.{IsBegun, AreBegun}
+use Rattle.drain.specs.Beginning.{IsInitialCount, AreInitialCounts}
 use Rattle.drain.specs.Steps.{IsLower, HasLower, DrainsAtOnce}
 use Rattle.drainage.proofs.Reach.{data_inside}
 
@@ -34,7 +34,7 @@ none_lower t p none (q, lower) =
     none q within (index_below t.cols t.rows q within.0 within.1) lower
 
 begun_at : (t : Terrain) (p : Place) (drains : Bool) → IsTrue drains ↔ DrainsAtOnce t p →
-    IsBegun (DrainsAtOnce t) p (then_some drains 0)
+    IsInitialCount (DrainsAtOnce t) p (then_some drains 0)
 begun_at t p true is = record {
   zero = λ _. refl;
   only = λ n e. (is.0 refl, sym (same_Some _ _ e));
@@ -48,21 +48,21 @@ begun_at t p false is = record {
 pub record AreBegunBelow (t : Terrain) (end : ℕ) (counts : List (Option ℕ)) : Type 0 where
   pub size : length counts ≡ end
   pub each : (p : Place) → IsInside t p → index_of t.cols p < end →
-      IsBegun (DrainsAtOnce t) p (get_or counts (index_of t.cols p) None)
+      IsInitialCount (DrainsAtOnce t) p (get_or counts (index_of t.cols p) None)
 
 push_begun : (t : Terrain) (here : Place) (index : ℕ) (counts : List (Option ℕ)) (x : Option ℕ) →
     IsInside t here → index_of t.cols here ≡ index → AreBegunBelow t index counts →
-    IsBegun (DrainsAtOnce t) here x → AreBegunBelow t (index + 1) (counts ++ x ∷ [])
+    IsInitialCount (DrainsAtOnce t) here x → AreBegunBelow t (index + 1) (counts ++ x ∷ [])
 push_begun t here index counts x within at before begun = record {
   size = length_push counts x ∙ ap (λ n. n + 1) before.size;
   each = λ p inside below. elim (cases_eq (index_of t.cols p) index) [
     | inl e ↦
-        subst (λ (o : Option ℕ). IsBegun (DrainsAtOnce t) p o) (sym (ap (λ (n : ℕ).
+        subst (λ (o : Option ℕ). IsInitialCount (DrainsAtOnce t) p o) (sym (ap (λ (n : ℕ).
         get_or (counts ++ x ∷ []) n None) e ∙ get_or_push counts x None index before.size))
-        (subst (λ (q : Place). IsBegun (DrainsAtOnce t) q x)
+        (subst (λ (q : Place). IsInitialCount (DrainsAtOnce t) q x)
         (index_injective t.cols here p within.1 inside.1 (at ∙ sym e)) begun)
     | inr ne ↦ (let lower : index_of t.cols p < index = omega arith in
-        subst (λ (o : Option ℕ). IsBegun (DrainsAtOnce t) p o) (sym
+        subst (λ (o : Option ℕ). IsInitialCount (DrainsAtOnce t) p o) (sym
         (get_or_append_left counts (x ∷ []) None (index_of t.cols p) (omega (arith, before.size))))
         (before.each p inside lower))
   ];
@@ -76,10 +76,10 @@ begun_next t here index counts drains within at before is =
     push_begun t here index counts (then_some drains 0) within at before (begun_at t here drains is)
 
 pub all_begun : (t : Terrain) (counts : List (Option ℕ)) →
-    AreBegunBelow t (t.cols * t.rows) counts → AreBegun t counts
+    AreBegunBelow t (t.cols * t.rows) counts → AreInitialCounts t counts
 all_begun t counts begun = record {
   size = begun.size;
-  each = λ p inside. subst (λ (o : Option ℕ). IsBegun (DrainsAtOnce t) p o)
+  each = λ p inside. subst (λ (o : Option ℕ). IsInitialCount (DrainsAtOnce t) p o)
       (sym (entry-inside t.cols t.rows counts p inside.0 inside.1))
       (begun.each p inside (index_below t.cols t.rows p inside.0 inside.1));
 }

@@ -3,7 +3,7 @@ ghost use Rattle.std.specs.Prelude.{◌≡◌, ◌*◌, ◌<◌, ◌↔◌, IfOk
 ghost use Rattle.terrain.specs.Raster.{Terrain};
 ghost use Rattle.terrain.specs.Neighbours.{IsInside, Touches, index_of};
 ghost use Rattle.tiles.specs.Cutting.{Cuts, tile_count};
-ghost use Rattle.drain.specs.Beginning.{AreBegun};
+ghost use Rattle.drain.specs.Beginning.{AreInitialCounts};
 ghost use Rattle.drain.specs.Steps.{IsLower, HasLower, DrainsAtOnce};
 
 use crate::ground::{PIT_OF_TWO, cut, land};
@@ -69,7 +69,7 @@ fn drains_at_once(grid: &Grid, place: Place) -> bool
 
 /// Returns the first counts: 0 at each cell that drains at once, elsewhere `None`.
 fn begun(alloc: Global, grid: &Grid) -> Result<Vec<Option<u32>>, AllocError>
-    ensures { IfOk result (λ v. AreBegun grid.now.terrain v.items) }
+    ensures { IfOk result (λ v. AreInitialCounts grid.now.terrain v.items) }
 {
     let mut counts = Vec::new(alloc);
     for index in 0..grid.cols() * grid.rows() {
@@ -90,7 +90,7 @@ fn round(
     ghost terrain: { Terrain }
     requires own { terrain ≡ grid.now.terrain }
     requires cuts { Cuts tiling.now terrain }
-    requires begun { AreBegun terrain begun.now }
+    requires begun { AreInitialCounts terrain begun.now }
     requires tile { tile < tile_count tiling.now }
 {
     let levels = tiling.view(grid.cells(), tile);

@@ -18,17 +18,17 @@ use Rattle.relief.specs.declared.fault.RunFault.TheVariants.{Tiling, Sight, Sink
 use Rattle.relief.specs.Faults.{of_sinks}
 use Rattle.relief.specs.MadeMap.{grid_with_sinks}
 use Rattle.relief.specs.MapText.{IsMapOfText, IsMapText}
-use Rattle.relief.specs.Refusals.{tiles_of, gauge_fault, observer_fault, named_place_fault, request_fault, IsWorkRefusal}
+use Rattle.relief.specs.Refusals.{tiles_of, gauge_fault, view_fault, named_place_fault, request_fault, IsFaultOnGrid}
 use Rattle.relief.proofs.Viewing.{forbidden}
 
 -- a grid as read has no sinks, so `raster_with_sinks` with an empty list leaves it unchanged
-drained_text : (scale : ℕ) (text : List ℕ) (g : Raster) (sinks : List Place) →
+read_grid_has_no_sinks : (scale : ℕ) (text : List ℕ) (g : Raster) (sinks : List Place) →
     IsGridText scale text g → grid_with_sinks sinks g ≡ raster_with_sinks g sinks
-drained_text scale text g [] is = ap (λ (named : List Place). record g {
+read_grid_has_no_sinks scale text g [] is = ap (λ (named : List Place). record g {
   terrain =
       record g.terrain { sinks = named };
 }) (ap (λ (r : Raster). r.terrain.sinks) is.grid)
-drained_text scale text g (p ∷ rest) is = refl
+read_grid_has_no_sinks scale text g (p ∷ rest) is = refl
 
 pub drained_some : (g : Raster) (sinks : List Place) → eqb (length sinks) 0 ≡ false →
     raster_with_sinks g sinks ≡ grid_with_sinks sinks g
@@ -40,7 +40,8 @@ pub map_of_text : (w : Request) (text map : List ℕ) (g : Raster) → IsGridTex
 map_of_text w text map g is made = (
   g,
   is,
-  subst (λ (r : Raster). IsMapText r w.map map) (drained_text w.scale text g w.sinks is) made,
+  subst (λ (r : Raster). IsMapText r w.map map)
+      (read_grid_has_no_sinks w.scale text g w.sinks is) made,
 )
 
 pub fault_without : (w : Request) (g : Raster) (sinks : List Place) →
@@ -49,7 +50,7 @@ fault_without w g [] = refl
 fault_without w g (p ∷ rest) = refl
 
 pub refusal_without : (w : Request) (g : Raster) (f : RunFault) (sinks : List Place) →
-    IsWorkRefusal w (grid_with_sinks sinks g) f → IsWorkRefusal w g f
+    IsFaultOnGrid w (grid_with_sinks sinks g) f → IsFaultOnGrid w g f
 refusal_without w g f [] h = h
 refusal_without w g f (p ∷ rest) h = h
 
@@ -58,19 +59,19 @@ pub request_of_many : (w : Request) (g : Raster) → most_tiles < tiles_of g w.t
 request_of_many w g many = cond-true _ _ _ (lt-ltb _ _ many)
 
 pub request_of_few : (w : Request) (g : Raster) → tiles_of g w.tile ≤ most_tiles → request_fault w g
-    ≡ option_or (named_place_fault w g) (option_map Sight (observer_fault g w.map))
+    ≡ option_or (named_place_fault w g) (option_map Sight (view_fault g w.map))
 request_of_few w g few = cond-false _ _ _ (le-ltb _ _ few)
 
 pub request_of_sound : (w : Request) (g : Raster) → tiles_of g w.tile ≤ most_tiles →
-    named_place_fault w g ≡ None → request_fault w g ≡ option_map Sight (observer_fault g w.map)
+    named_place_fault w g ≡ None → request_fault w g ≡ option_map Sight (view_fault g w.map)
 request_of_sound w g few sound = request_of_few w g few
-    ∙ ap (λ o. option_or o (option_map Sight (observer_fault g w.map))) sound
+    ∙ ap (λ o. option_or o (option_map Sight (view_fault g w.map))) sound
 
 pub place_refused : (w : Request) (g : Raster) (f : RunFault) → tiles_of g w.tile ≤ most_tiles →
-    named_place_fault w g ≡ Some f → IsWorkRefusal w g f
+    named_place_fault w g ≡ Some f → IsFaultOnGrid w g f
 place_refused w g f few at_fault =
     forbidden w g f (request_of_few w g few
-    ∙ ap (λ o. option_or o (option_map Sight (observer_fault g w.map))) at_fault)
+    ∙ ap (λ o. option_or o (option_map Sight (view_fault g w.map))) at_fault)
 
 no_sinks : (a : Option SinkFault) (b : Option RunFault) → option_or (option_map Sinks a) b ≡ None →
     a ≡ None
@@ -102,7 +103,7 @@ pub fault_of_gauges : (w : Request) (g : Raster) → sinks_fault g.terrain w.sin
 fault_of_gauges w g e =
     ap (λ o. option_or (option_map Sinks o) (option_map Gauges (gauge_fault g w.map))) e
 
-unseen : (g : Raster) (m : Map) → ¬ IsView m → observer_fault g m ≡ None
+unseen : (g : Raster) (m : Map) → ¬ IsView m → view_fault g m ≡ None
 unseen g Fill drains = refl
 unseen g Flow drains = refl
 unseen g Accumulate drains = refl
@@ -114,10 +115,10 @@ unseen g (View observers target radius) drains = absurd (drains tt)
 pub sinks_refused : {T : Type 0} (w : Request) (g : Raster) (f : SinkFault) →
     (IsView w.map → w.sinks ≡ []) →
     eqb (length w.sinks) 0 ≡ false → tiles_of g w.tile ≤ most_tiles → named_place_fault w g ≡ None →
-    RefusesSinks {T = T} (sinks_fault g.terrain w.sinks) (Err f) → IsWorkRefusal w g (of_sinks f)
+    RefusesSinks {T = T} (sinks_fault g.terrain w.sinks) (Err f) → IsFaultOnGrid w g (of_sinks f)
 sinks_refused w g f none some few sound h =
     let drains : ¬ IsView w.map = λ view. (let empty : eqb (length w.sinks) 0 ≡ true =
     ap (λ (ps : List Place). eqb (length ps) 0) (none view) in cc) in
-    subst (λ (k : SinkFault). IsWorkRefusal w g (of_sinks k))
+    subst (λ (k : SinkFault). IsFaultOnGrid w g (of_sinks k))
     (sym (h.memory (sound_sinks w g sound) f refl))
     (request_of_sound w g few sound ∙ ap (λ o. option_map Sight o) (unseen g w.map drains))

@@ -13,7 +13,7 @@ use Rattle.request.specs.Request.{Request}
 use Rattle.relief.specs.Faults.{of_input}
 use Rattle.relief.specs.MadeMap.{grid_with_sinks}
 use Rattle.relief.specs.MapText.{IsMapText}
-use Rattle.relief.specs.Refusals.{request_fault, IsWorkRefusal}
+use Rattle.relief.specs.Refusals.{request_fault, IsFaultOnGrid}
 use Rattle.relief.specs.Runs.{Runs}
 use Rattle.ascii_grid.proofs.Taking.{consumed_end}
 use Rattle.relief.proofs.Draining.{fault_without, map_of_text}
@@ -58,7 +58,7 @@ module _ {R W : Type 0} (remaining : R → Option (List ℕ)) (contents : W → 
   whole text reported = subst (λ (z : List ℕ). IsGridText w.scale z g) (consumed_end _ _ text
       reads.taken.bytes reported reads.taken.read.known reads.grid.1) reads.grid.0
 
-  pub making_refused : (f : RunFault) → IsWorkRefusal w g f →
+  pub making_refused : (f : RunFault) → IsFaultOnGrid w g f →
       Runs {T = Unit {0}} remaining contents w reader left writer writer (Err f)
   making_refused f refusal =
       let other = work_is_no_device w g f refusal in record {

@@ -13,7 +13,7 @@ use Rattle.flow.specs.declared.gauges.GaugeFault.{GaugeFault}
 use Rattle.flow.specs.declared.gauges.GaugeFault.TheVariants as gauges
 use Rattle.relief.specs.Faults.{of_gauges, of_sight}
 use Rattle.request.specs.Request.{Request}
-use Rattle.relief.specs.Refusals.{gauge_fault, observer_fault, named_place_fault, request_fault, IsWorkRefusal, tiles_of, IsRunRefusal}
+use Rattle.relief.specs.Refusals.{gauge_fault, view_fault, named_place_fault, request_fault, IsFaultOnGrid, tiles_of, IsFaultOnText}
 use Rattle.std.specs.Prelude.{⊤, nat_lt}
 use Rattle.terrain.specs.Sinks.{sinks_fault}
 use Rattle.terrain.specs.declared.sinks.SinkFault.{SinkFault}
@@ -29,7 +29,7 @@ no_fault (Some f) workers x h = let bad = h.reported f refl in absurd (cc)
 
 -- a viewshed's fault that forbids the map, and is not of jobs, is a work refusal
 sight_refused : (w : Request) (g : Raster) (f : SightFault) → ((x : JobFault) → f ≡ sight.Jobs x →
-    ⊥) → request_fault w g ≡ Some (Sight f) → IsWorkRefusal w g (of_sight f)
+    ⊥) → request_fault w g ≡ Some (Sight f) → IsFaultOnGrid w g (of_sight f)
 sight_refused w g (sight.Outside i) other h = h
 sight_refused w g (sight.OnNodata i) other h = h
 sight_refused w g sight.TooManyObservers other h = h
@@ -40,7 +40,7 @@ sight_refused w g (sight.Jobs x) other h = absurd (other x refl)
 module _ (w : Request) (g : Raster) (some : 1 ≤ w.workers) (few : w.workers ≤ 64)
     (ready : request_fault w g ≡ None) where
   pub job_refused : (x : JobFault) → (x ≡ jobs.BadWorkers → (w.workers ≡ 0) ⊎ (64 < w.workers)) →
-      (x ≡ jobs.NoThread → 1 < w.workers) → IsWorkRefusal w g (Jobs x)
+      (x ≡ jobs.NoThread → 1 < w.workers) → IsFaultOnGrid w g (Jobs x)
   job_refused jobs.Memory bad_workers no_thread = ready
   job_refused jobs.BadWorkers bad_workers no_thread =
       absurd (elim (bad_workers refl) [ inl none ↦ omega arith | inr many ↦ omega arith ])
@@ -56,10 +56,10 @@ pub view_refused :
     {T : Type 0} (w : Request) (g : Raster) (fault : Option SightFault) (f : SightFault) →
     1 ≤ w.workers → w.workers ≤ 64 → ((x : JobFault) → fault ≡ Some (sight.Jobs x) → ⊥)
     → request_fault w g ≡ option_map Sight fault → RefusesSight {T = T} fault w.workers (Err f) →
-    IsWorkRefusal w g (of_sight f)
+    IsFaultOnGrid w g (of_sight f)
 view_refused w g None f some few other is h =
     let reported = of_jobs sight.Jobs f (h.jobs refl f refl) in
-    subst (λ (s : SightFault). IsWorkRefusal w g (of_sight s)) (sym reported.1)
+    subst (λ (s : SightFault). IsFaultOnGrid w g (of_sight s)) (sym reported.1)
     (job_refused w g some few is reported.0 (λ e. (h.bad_workers refl).0 (ap Err (reported.1
     ∙ ap sight.Jobs e))) (λ e. h.no_thread (ap Err (reported.1 ∙ ap sight.Jobs e))))
 view_refused w g (Some k) f some few other is h =
@@ -70,10 +70,10 @@ view_refused w g (Some k) f some few other is h =
 pub catchments_refused : {T : Type 0} (w : Request) (g : Raster) (fault : Option GaugeFault)
     (f : GaugeFault) → 1 ≤ w.workers → w.workers ≤ 64 → fault ≡ None
     → request_fault w g ≡ None → RefusesGauges {T = T} fault w.workers (Err f) →
-    IsWorkRefusal w g (of_gauges f)
+    IsFaultOnGrid w g (of_gauges f)
 catchments_refused w g fault f some few sound is h =
     let reported = of_jobs gauges.Jobs f (h.jobs sound f refl) in
-    subst (λ (k : GaugeFault). IsWorkRefusal w g (of_gauges k)) (sym reported.1)
+    subst (λ (k : GaugeFault). IsFaultOnGrid w g (of_gauges k)) (sym reported.1)
     (job_refused w g some few is reported.0 (λ e. (h.bad_workers sound).0 (ap Err (reported.1
     ∙ ap gauges.Jobs e))) (λ e. h.no_thread (ap Err (reported.1 ∙ ap gauges.Jobs e))))
 
@@ -93,22 +93,22 @@ request_forbids w g f e = go (nat_lt most_tiles (tiles_of g w.tile)) e where
   sights (Some s) h = let same : Sight s ≡ f = cc in subst Forbids same tt
 
   of_gauge : (o : Option GaugeFault) → option_or (option_map Gauges o)
-      (option_map Sight (observer_fault g w.map)) ≡ Some f → Forbids f
-  of_gauge None h = sights (observer_fault g w.map) h
+      (option_map Sight (view_fault g w.map)) ≡ Some f → Forbids f
+  of_gauge None h = sights (view_fault g w.map) h
   of_gauge (Some s) h = let same : Gauges s ≡ f = cc in subst Forbids same tt
 
   sinks : (o : Option SinkFault) → option_or (option_or (option_map Sinks o) (option_map Gauges
-      (gauge_fault g w.map))) (option_map Sight (observer_fault g w.map)) ≡ Some f → Forbids f
+      (gauge_fault g w.map))) (option_map Sight (view_fault g w.map)) ≡ Some f → Forbids f
   sinks None h = of_gauge (gauge_fault g w.map) h
   sinks (Some s) h = let same : Sinks s ≡ f = cc in subst Forbids same tt
 
   go : (t : Bool) → cond t (Some (Tiling TooManyTiles)) (option_or (named_place_fault w g)
-      (option_map Sight (observer_fault g w.map))) ≡ Some f → Forbids f
+      (option_map Sight (view_fault g w.map))) ≡ Some f → Forbids f
   go true h = let same : Tiling TooManyTiles ≡ f = cc in subst Forbids same tt
   go false h = sinks (sinks_fault g.terrain w.sinks) h
 
 pub forbidden : (w : Request) (g : Raster) (f : RunFault) → request_fault w g ≡ Some f →
-    IsWorkRefusal w g f
+    IsFaultOnGrid w g f
 forbidden w g (Jobs fault) h = absurd (request_forbids w g _ h)
 forbidden w g (Tiling fault) h = h
 forbidden w g (Sight fault) h = h
@@ -119,7 +119,7 @@ forbidden w g Read h = h
 forbidden w g Write h = h
 
 pub work_refused : (w : Request) (text : List ℕ) (g : Raster) (f : RunFault) →
-    IsGridText w.scale text g → IsWorkRefusal w g f → IsRunRefusal w text f
+    IsGridText w.scale text g → IsFaultOnGrid w g f → IsFaultOnText w text f
 work_refused w text g (Jobs fault) is h = (g, is, h)
 work_refused w text g (Tiling fault) is h = (g, is, h)
 work_refused w text g (Sight fault) is h = (g, is, h)
@@ -129,7 +129,7 @@ work_refused w text g (Grid fault) is h = absurd (request_forbids w g _ h)
 work_refused w text g Read is h = tt
 work_refused w text g Write is h = absurd (request_forbids w g _ h)
 
-pub work_is_no_device : (w : Request) (g : Raster) (f : RunFault) → IsWorkRefusal w g f →
+pub work_is_no_device : (w : Request) (g : Raster) (f : RunFault) → IsFaultOnGrid w g f →
     (f ≡ Read → ⊥) × (f ≡ Write → ⊥)
 work_is_no_device w g (Jobs fault) h = (λ e. cc, λ e. cc)
 work_is_no_device w g (Tiling fault) h = (λ e. cc, λ e. cc)

@@ -50,70 +50,70 @@ abbrev pub detailed : ℕ → List ℕ → List ℕ → FaultParts
 detailed number name detail = record { number = number; name = name; detail = Some detail }
 
 -- The parts of the line for faults of the grid text.
-abbrev pub grid_telling : GridFault → FaultParts
-grid_telling grid.UnknownKey = plain 1 (codes "UnknownKey")
-grid_telling (grid.RepeatedKey slot) = detailed 2 (codes "RepeatedKey") (slot_text slot)
-grid_telling (grid.MissingKey slot) = detailed 3 (codes "MissingKey") (slot_text slot)
-grid_telling (grid.BadSize slot) = detailed 4 (codes "BadSize") (slot_text slot)
-grid_telling (grid.BadPlace slot) = detailed 5 (codes "BadPlace") (slot_text slot)
-grid_telling grid.BadNodata = plain 6 (codes "BadNodata")
-grid_telling (grid.BadHeight place) = detailed 7 (codes "BadHeight") (decimal place)
-grid_telling (grid.TooFew heights) = detailed 8 (codes "TooFew") (decimal heights)
-grid_telling grid.TooMany = plain 9 (codes "TooMany")
-grid_telling (grid.NoValue slot) = detailed 10 (codes "NoValue") (slot_text slot)
-grid_telling grid.TooLong = plain 11 (codes "TooLong")
-grid_telling grid.Memory = plain 12 (codes "Memory")
+abbrev pub grid_fault_parts : GridFault → FaultParts
+grid_fault_parts grid.UnknownKey = plain 1 (codes "UnknownKey")
+grid_fault_parts (grid.RepeatedKey slot) = detailed 2 (codes "RepeatedKey") (slot_text slot)
+grid_fault_parts (grid.MissingKey slot) = detailed 3 (codes "MissingKey") (slot_text slot)
+grid_fault_parts (grid.BadSize slot) = detailed 4 (codes "BadSize") (slot_text slot)
+grid_fault_parts (grid.BadPlace slot) = detailed 5 (codes "BadPlace") (slot_text slot)
+grid_fault_parts grid.BadNodata = plain 6 (codes "BadNodata")
+grid_fault_parts (grid.BadHeight place) = detailed 7 (codes "BadHeight") (decimal place)
+grid_fault_parts (grid.TooFew heights) = detailed 8 (codes "TooFew") (decimal heights)
+grid_fault_parts grid.TooMany = plain 9 (codes "TooMany")
+grid_fault_parts (grid.NoValue slot) = detailed 10 (codes "NoValue") (slot_text slot)
+grid_fault_parts grid.TooLong = plain 11 (codes "TooLong")
+grid_fault_parts grid.Memory = plain 12 (codes "Memory")
 
 -- The parts of the line for faults of the tiling.
-abbrev pub tiling_telling : TilingFault → FaultParts
-tiling_telling tiling.BadSide = plain 21 (codes "BadSide")
-tiling_telling tiling.TooManyTiles = plain 22 (codes "TooManyTiles")
+abbrev pub tiling_fault_parts : TilingFault → FaultParts
+tiling_fault_parts tiling.BadSide = plain 21 (codes "BadSide")
+tiling_fault_parts tiling.TooManyTiles = plain 22 (codes "TooManyTiles")
 
 -- The parts of the line for faults of memory, workers and threads.
-abbrev pub jobs_telling : JobFault → FaultParts
-jobs_telling jobs.Memory = plain 12 (codes "Memory")
-jobs_telling jobs.BadWorkers = plain 31 (codes "BadWorkers")
-jobs_telling jobs.NoThread = plain 32 (codes "NoThread")
+abbrev pub jobs_fault_parts : JobFault → FaultParts
+jobs_fault_parts jobs.Memory = plain 12 (codes "Memory")
+jobs_fault_parts jobs.BadWorkers = plain 31 (codes "BadWorkers")
+jobs_fault_parts jobs.NoThread = plain 32 (codes "NoThread")
 
 -- The parts of the line for faults of a viewshed.
-abbrev pub sight_telling : SightFault → FaultParts
-sight_telling (sight.Outside i) = detailed 41 (codes "Outside") (decimal i)
-sight_telling (sight.OnNodata i) = detailed 42 (codes "OnNodata") (decimal i)
-sight_telling sight.TooManyObservers = plain 43 (codes "TooManyObservers")
-sight_telling (sight.BadEye None) = plain 44 (codes "BadEye")
-sight_telling (sight.BadEye (Some i)) = detailed 44 (codes "BadEye") (decimal i)
-sight_telling sight.BadRadius = plain 45 (codes "BadRadius")
-sight_telling (sight.Jobs fault) = jobs_telling fault
+abbrev pub sight_fault_parts : SightFault → FaultParts
+sight_fault_parts (sight.Outside i) = detailed 41 (codes "Outside") (decimal i)
+sight_fault_parts (sight.OnNodata i) = detailed 42 (codes "OnNodata") (decimal i)
+sight_fault_parts sight.TooManyObservers = plain 43 (codes "TooManyObservers")
+sight_fault_parts (sight.BadEye None) = plain 44 (codes "BadEye")
+sight_fault_parts (sight.BadEye (Some i)) = detailed 44 (codes "BadEye") (decimal i)
+sight_fault_parts sight.BadRadius = plain 45 (codes "BadRadius")
+sight_fault_parts (sight.Jobs fault) = jobs_fault_parts fault
 
 -- The parts of the line for faults of named sinks.
-abbrev pub sinks_telling : SinkFault → FaultParts
-sinks_telling (sinks.Outside i) = detailed 46 (codes "SinkOutside") (decimal i)
-sinks_telling (sinks.OnNodata i) = detailed 47 (codes "SinkOnNodata") (decimal i)
-sinks_telling sinks.TooManySinks = plain 48 (codes "TooManySinks")
-sinks_telling sinks.Memory = jobs_telling jobs.Memory
+abbrev pub sinks_fault_parts : SinkFault → FaultParts
+sinks_fault_parts (sinks.Outside i) = detailed 46 (codes "SinkOutside") (decimal i)
+sinks_fault_parts (sinks.OnNodata i) = detailed 47 (codes "SinkOnNodata") (decimal i)
+sinks_fault_parts sinks.TooManySinks = plain 48 (codes "TooManySinks")
+sinks_fault_parts sinks.Memory = jobs_fault_parts jobs.Memory
 
 -- The parts of the line for faults of gauges.
-abbrev pub gauges_telling : GaugeFault → FaultParts
-gauges_telling (gauges.Outside i) = detailed 61 (codes "GaugeOutside") (decimal i)
-gauges_telling (gauges.OnNodata i) = detailed 62 (codes "GaugeOnNodata") (decimal i)
-gauges_telling gauges.TooManyGauges = plain 63 (codes "TooManyGauges")
-gauges_telling (gauges.Jobs fault) = jobs_telling fault
+abbrev pub gauges_fault_parts : GaugeFault → FaultParts
+gauges_fault_parts (gauges.Outside i) = detailed 61 (codes "GaugeOutside") (decimal i)
+gauges_fault_parts (gauges.OnNodata i) = detailed 62 (codes "GaugeOnNodata") (decimal i)
+gauges_fault_parts gauges.TooManyGauges = plain 63 (codes "TooManyGauges")
+gauges_fault_parts (gauges.Jobs fault) = jobs_fault_parts fault
 
 -- The parts of the line for each fault of a run.
-abbrev pub telling : RunFault → FaultParts
-telling (Grid fault) = grid_telling fault
-telling (Tiling fault) = tiling_telling fault
-telling (Jobs fault) = jobs_telling fault
-telling (Sight fault) = sight_telling fault
-telling (Sinks fault) = sinks_telling fault
-telling (Gauges fault) = gauges_telling fault
-telling Read = plain 51 (codes "Read")
-telling Write = plain 52 (codes "Write")
+abbrev pub fault_parts : RunFault → FaultParts
+fault_parts (Grid fault) = grid_fault_parts fault
+fault_parts (Tiling fault) = tiling_fault_parts fault
+fault_parts (Jobs fault) = jobs_fault_parts fault
+fault_parts (Sight fault) = sight_fault_parts fault
+fault_parts (Sinks fault) = sinks_fault_parts fault
+fault_parts (Gauges fault) = gauges_fault_parts fault
+fault_parts Read = plain 51 (codes "Read")
+fault_parts Write = plain 52 (codes "Write")
 
 -- The line of a fault: `relief: NUMBER NAME`, then a space and the detail if there is one.
 abbrev pub fault_line : RunFault → List ℕ
 fault_line fault =
-    let t = telling fault in
+    let t = fault_parts fault in
     codes "relief: " ++ decimal t.number ++ codes " " ++ t.name
     ++ option_map_or (λ d. codes " " ++ d) t.detail [] ++ codes "\n"
 
@@ -125,4 +125,4 @@ status_of number =
 
 -- The exit status of a fault.
 abbrev pub fault_status : RunFault → ℕ
-fault_status fault = status_of (telling fault).number
+fault_status fault = status_of (fault_parts fault).number

@@ -25,10 +25,10 @@ abbrev pub tiles_of : Raster → ℕ → ℕ
 tiles_of g side = tile_count (record { cols = g.terrain.cols; rows = g.terrain.rows; side = side })
 
 -- The fault of a viewshed's observers, target height or radius; other maps have none.
-abbrev pub observer_fault : Raster → Map → Option SightFault
-observer_fault g (View observers target radius) =
+abbrev pub view_fault : Raster → Map → Option SightFault
+view_fault g (View observers target radius) =
     observers_fault g.terrain observers.items target radius
-observer_fault g map = None
+view_fault g map = None
 
 -- The fault of the gauges of catchments; other maps have none.
 abbrev pub gauge_fault : Raster → Map → Option GaugeFault
@@ -45,19 +45,19 @@ named_place_fault w g =
 abbrev pub request_fault : Request → Raster → Option RunFault
 request_fault w g =
     if nat_lt most_tiles (tiles_of g w.tile) then Some (Tiling TooManyTiles)
-    else option_or (named_place_fault w g) (option_map Sight (observer_fault g w.map))
+    else option_or (named_place_fault w g) (option_map Sight (view_fault g w.map))
 
 -- A run on this grid may return the fault: the fault forbids the map, or none does and the fault is
 -- refused memory or, with several workers, a refused thread.
-abbrev pub IsWorkRefusal : Request → Raster → RunFault → Type 0
-IsWorkRefusal w g (Jobs jobs.Memory) = request_fault w g ≡ None
-IsWorkRefusal w g (Jobs jobs.NoThread) = (request_fault w g ≡ None) × (1 < w.workers)
-IsWorkRefusal w g fault = request_fault w g ≡ Some fault
+abbrev pub IsFaultOnGrid : Request → Raster → RunFault → Type 0
+IsFaultOnGrid w g (Jobs jobs.Memory) = request_fault w g ≡ None
+IsFaultOnGrid w g (Jobs jobs.NoThread) = (request_fault w g ≡ None) × (1 < w.workers)
+IsFaultOnGrid w g fault = request_fault w g ≡ Some fault
 
 -- A run may return the fault for this text. All but `Grid` and `Read` require that the text spells
 -- a grid.
-abbrev pub IsRunRefusal : Request → List ℕ → RunFault → Type 0
-IsRunRefusal w text (Grid fault) = IsRefusal w.scale text fault
-IsRunRefusal w text Read = ⊤
-IsRunRefusal w text Write = (g : Raster) × IsGridText w.scale text g × (request_fault w g ≡ None)
-IsRunRefusal w text fault = (g : Raster) × IsGridText w.scale text g × IsWorkRefusal w g fault
+abbrev pub IsFaultOnText : Request → List ℕ → RunFault → Type 0
+IsFaultOnText w text (Grid fault) = IsRefusal w.scale text fault
+IsFaultOnText w text Read = ⊤
+IsFaultOnText w text Write = (g : Raster) × IsGridText w.scale text g × (request_fault w g ≡ None)
+IsFaultOnText w text fault = (g : Raster) × IsGridText w.scale text g × IsFaultOnGrid w g fault

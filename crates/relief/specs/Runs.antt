@@ -9,7 +9,7 @@ use Rattle.relief.specs.declared.fault.RunFault.{RunFault}
 use Rattle.relief.specs.declared.fault.RunFault.TheVariants.{Read, Write}
 use Rattle.request.specs.Request.{Request}
 use Rattle.relief.specs.MapText.{IsMapOfText}
-use Rattle.relief.specs.Refusals.{IsRunRefusal}
+use Rattle.relief.specs.Refusals.{IsFaultOnText}
 
 -- A run of the request `w`. `remaining` gives the bytes that a reader has still to return, and
 -- `contents` the bytes written to a writer, if they are known.
@@ -24,7 +24,7 @@ pub record Runs {R W T : Type 0} (remaining : R → Option (List ℕ)) (contents
       × HasWritten contents writer grown map × IsAtEnd (remaining left.device))
   -- If the reader's whole text is known, a fault is one that a run may return for it.
   pub refused : (text : List ℕ) → remaining reader.device ≡ Some text →
-      IfErr result (λ f. IsRunRefusal w text f)
+      IfErr result (λ f. IsFaultOnText w text f)
   -- Unless a write failed, a fault leaves the writer unchanged.
   pub unwritten : IfErr result (λ f. f ≢ Write → grown ≡ writer)
   -- If a write failed, a front part of the map was written, perhaps nothing or all of it.

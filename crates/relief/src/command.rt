@@ -8,8 +8,8 @@ ghost use Rattle.relief.specs.FaultLine.{fault_line, fault_status};
 ghost use Rattle.relief.specs.Runs.{Runs};
 
 use crate::fault::RunFault;
+use crate::fault_line::{tell, tell_bad_word};
 use crate::running::{run, run_gated};
-use crate::telling::{tell, tell_bad_word};
 use ascii_grid::{Counted, WriteFailed};
 use clap::Error;
 use clap::error::ErrorKind;

@@ -1,6 +1,6 @@
 //! The faults of a run, with their numbers, names and exit statuses.
 ghost use Rattle.std.specs.Prelude.{◌≡◌, ◌≤◌, length, option_map};
-ghost use Rattle.relief.specs.FaultLine.{telling, grid_telling, tiling_telling, jobs_telling, sight_telling, sinks_telling, gauges_telling, fault_status, status_of, plain, detailed, slot_text, detail_text};
+ghost use Rattle.relief.specs.FaultLine.{fault_parts, grid_fault_parts, tiling_fault_parts, jobs_fault_parts, sight_fault_parts, sinks_fault_parts, gauges_fault_parts, fault_status, status_of, plain, detailed, slot_text, detail_text};
 ghost use Rattle.relief.specs.declared.fault.RunFault.TheVariants.{Tiling, Jobs, Write};
 ghost use Rattle.relief.specs.Faults.{of_gauges, of_input, of_sight, of_sinks};
 
@@ -135,7 +135,7 @@ impl Model for Notice {
 impl RunFault {
     /// Returns the fault's number, from 1 to 63.
     pub fn number(&self) -> u8
-        ensures { result ≡ (telling self.now).number }
+        ensures { result ≡ (fault_parts self.now).number }
     {
         self.notice().number
     }
@@ -150,7 +150,7 @@ impl RunFault {
 
     /// Returns the parts of the fault's line.
     pub(crate) fn notice(&self) -> Notice
-        ensures { result ≡ telling self.now }
+        ensures { result ≡ fault_parts self.now }
     {
         match self {
             RunFault::Grid(fault) => grid_notice(fault),
@@ -198,7 +198,7 @@ fn detailed(number: u8, name: &'static [u8], detail: Detail) -> Notice
 }
 
 fn grid_notice(fault: &GridFault) -> Notice
-    ensures { result ≡ grid_telling fault.now }
+    ensures { result ≡ grid_fault_parts fault.now }
 {
     match fault {
         GridFault::UnknownKey => plain(1, b"UnknownKey"),
@@ -217,7 +217,7 @@ fn grid_notice(fault: &GridFault) -> Notice
 }
 
 fn tiling_notice(fault: &TilingFault) -> Notice
-    ensures { result ≡ tiling_telling fault.now }
+    ensures { result ≡ tiling_fault_parts fault.now }
 {
     match fault {
         TilingFault::BadSide => plain(21, b"BadSide"),
@@ -226,7 +226,7 @@ fn tiling_notice(fault: &TilingFault) -> Notice
 }
 
 fn jobs_notice(fault: &JobFault) -> Notice
-    ensures { result ≡ jobs_telling fault.now }
+    ensures { result ≡ jobs_fault_parts fault.now }
 {
     match fault {
         JobFault::Memory => plain(12, b"Memory"),
@@ -236,7 +236,7 @@ fn jobs_notice(fault: &JobFault) -> Notice
 }
 
 fn sight_notice(fault: &SightFault) -> Notice
-    ensures { result ≡ sight_telling fault.now }
+    ensures { result ≡ sight_fault_parts fault.now }
 {
     match fault {
         SightFault::Outside(place) => detailed(41, b"Outside", Detail::Count(*place)),
@@ -250,7 +250,7 @@ fn sight_notice(fault: &SightFault) -> Notice
 }
 
 fn sinks_notice(fault: &SinkFault) -> Notice
-    ensures { result ≡ sinks_telling fault.now }
+    ensures { result ≡ sinks_fault_parts fault.now }
 {
     match fault {
         SinkFault::Outside(place) => detailed(46, b"SinkOutside", Detail::Count(*place)),
@@ -261,7 +261,7 @@ fn sinks_notice(fault: &SinkFault) -> Notice
 }
 
 fn gauges_notice(fault: &GaugeFault) -> Notice
-    ensures { result ≡ gauges_telling fault.now }
+    ensures { result ≡ gauges_fault_parts fault.now }
 {
     match fault {
         GaugeFault::Outside(place) => detailed(61, b"GaugeOutside", Detail::Count(*place)),

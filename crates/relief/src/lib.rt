@@ -8,25 +8,25 @@
 //! - `command`: `run_words`, from a command line to an exit status
 //! - `running`: `run`, from bytes to bytes
 //! - `making`: cuts tiles, adds sinks and makes the map
-//! - `telling`: writes the line of a fault
+//! - `fault_line`: writes the line of a fault
 //! - `fault`: faults with their numbers, names and exit statuses
 //! - `laws`: theorems about the definitions
 #![tactic(auto)]
 
 mod command;
 mod fault;
+mod fault_line;
 pub mod laws;
 mod making;
 mod running;
-mod telling;
 
 pub use ascii_grid::{Counted, GridFault, Key, Place, SinkFault, WriteFailed};
 pub use command::{Progress, run_words, run_words_reported};
 pub use fault::RunFault;
+pub use fault_line::tell;
 pub use flow::GaugeFault;
 pub use request::{Map, Options, VERSION, parse_observer, parse_sink};
 pub use running::{run, run_gated};
 pub use sight::{Observer, SightFault};
-pub use telling::tell;
 pub use tile_jobs::{Gate, JobFault, NoGate};
 pub use tiles::TilingFault;

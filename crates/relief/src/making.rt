@@ -8,7 +8,7 @@ ghost use Rattle.drainage.specs.Filled.{IsFilledGrid};
 ghost use Rattle.flow.specs.Catchments.{gauges_fault};
 ghost use Rattle.relief.specs.MadeMap.{grid_with_sinks, made_text, FitsGrid};
 ghost use Rattle.relief.specs.MapText.{IsMapText, IsDrainage};
-ghost use Rattle.relief.specs.Refusals.{IsWorkRefusal, gauge_fault, observer_fault, named_place_fault, request_fault, tiles_of};
+ghost use Rattle.relief.specs.Refusals.{IsFaultOnGrid, gauge_fault, view_fault, named_place_fault, request_fault, tiles_of};
 
 use crate::fault::RunFault;
 use drain::directions;
@@ -91,9 +91,9 @@ pub(crate) fn prepare(
     ensures grid { IfOk result (λ p. p.0 ≡ grid_with_sinks options.now.sinks grid) }
     ensures cuts { IfOk result (λ p. Cuts p.1 p.0.terrain) }
     ensures sound { IfOk result (λ p. request_fault options.now p.0
-        ≡ option_map RunFault.Sight (observer_fault p.0 options.now.map)) }
+        ≡ option_map RunFault.Sight (view_fault p.0 options.now.map)) }
     ensures gauges { IfOk result (λ p. gauge_fault p.0 options.now.map ≡ None) }
-    ensures fault { IfErr result (λ f. IsWorkRefusal options.now grid f) }
+    ensures fault { IfErr result (λ f. IsFaultOnGrid options.now grid f) }
 {
     let tiling = cut(&grid, options.tile())?;
     if let Some(fault) = named_place_fault(options, &grid) {
@@ -118,12 +118,12 @@ pub(crate) fn make_map<H: Threads + Wait + Sync, G: Gate + Sync>(
 ) -> Result<MadeMap, RunFault>
     requires cuts { Cuts tiling.now grid.terrain }
     requires sound { request_fault options.now grid
-        ≡ option_map RunFault.Sight (observer_fault grid options.now.map) }
+        ≡ option_map RunFault.Sight (view_fault grid options.now.map) }
     requires gauges { gauge_fault grid options.now.map ≡ None }
     ensures map { IfOk result (λ m. IsMapText grid options.now.map (made_text m)) }
     ensures size { IfOk result (λ m. FitsGrid m) }
     ensures ready { OnOk result (request_fault options.now grid ≡ None) }
-    ensures fault { IfErr result (λ f. IsWorkRefusal options.now grid f) }
+    ensures fault { IfErr result (λ f. IsFaultOnGrid options.now grid f) }
 {
     let workers = options.workers();
     match options.map() {

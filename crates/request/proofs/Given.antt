@@ -16,9 +16,9 @@ use Rattle.clap.specs.declared.parser.matches.Found.{Found}
 use Rattle.clap.proofs.WalkLemmas.{raw_values-rows}
 use Rattle.terrain.specs.declared.observer.Observer.{Observer}
 use Rattle.request.specs.CommandLine.{HasNumber, HasObservers, IsFirstBad, Names, Spell, sink_words, words_of}
-use Rattle.request.specs.PlaceWords.{observer_of, sink_of}
+use Rattle.request.specs.PlaceWords.{observer_of, place_of_word}
 use Rattle.request.specs.Request.{IsView}
-use Rattle.request.specs.WordsFaults.{IsBadObserverAfter, IsBadGaugeAfter, IsFaultBy}
+use Rattle.request.specs.WordsFaults.{IsBadObserverAfter, IsBadGaugeAfter, IsFaultWith}
 use Rattle.request.specs.declared.words.WordsFault.{WordsFault}
 use Rattle.request.specs.declared.words.WordsFault.TheVariants.{Clap, BadObserver, BadGauge, BadSink, NoMap}
 use Rattle.request.specs.declared.map.Map.{Map}
@@ -165,24 +165,25 @@ map_without_bad_gauge name rows Accumulate place n bad = let no =
 map_without_bad_gauge name rows Basins place n bad = let no =
     named_catchments name 98 bad.0 (ap (λ (t : Text). slice_index t 0) n) in absurd (omega arith)
 map_without_bad_gauge name rows (Catchments gauges) place n bad =
-    none_bad sink_of _ gauges.items place n.1 bad.1
+    none_bad place_of_word _ gauges.items place n.1 bad.1
 map_without_bad_gauge name rows (View os t r) place n bad = let no =
     named_catchments name 118 bad.0 (ap (λ (t : Text). slice_index t 0) n.0) in absurd (omega arith)
 
 pub view_without_sinks : (name : Text) (rows : List Row) (m : Map) → Names name rows m → IsView m →
-    Spell sink_of (sink_words name rows) []
+    Spell place_of_word (sink_words name rows) []
 view_without_sinks name rows Fill named view = absurd view
 view_without_sinks name rows Flow named view = absurd view
 view_without_sinks name rows Accumulate named view = absurd view
 view_without_sinks name rows Basins named view = absurd view
 view_without_sinks name rows (Catchments gauges) named view = absurd view
 view_without_sinks name rows (View os t r) named view =
-    subst (λ (n : Text). Spell sink_of (sink_words n rows) []) (sym named.0) refl
+    subst (λ (n : Text). Spell place_of_word (sink_words n rows) []) (sym named.0) refl
 
 module _ {Observer Gauge Bad WrongGauge : ℕ → Type 0} {Missing NoMapThen : Type 0} where
   pub fault_weaker : (f : WordsFault) → ((place : ℕ) → Observer place → Bad place) →
       ((place : ℕ) → Gauge place → WrongGauge place) → (Missing → NoMapThen)
-      → IsFaultBy Observer Gauge (λ _. ⊥) Missing f → IsFaultBy Bad WrongGauge (λ _. ⊥) NoMapThen f
+      → IsFaultWith Observer Gauge (λ _. ⊥) Missing f →
+          IsFaultWith Bad WrongGauge (λ _. ⊥) NoMapThen f
   fault_weaker (Clap e) observer gauge missing h = h
   fault_weaker (BadObserver place) observer gauge missing h = observer place h
   fault_weaker (BadGauge place) observer gauge missing h = gauge place h

@@ -11,9 +11,9 @@ use Rattle.clap.specs.declared.parser.matches.ArgMatches.TheViews.{out-SubComman
 use Rattle.clap.specs.declared.parser.matches.SubCommand.{SubCommand}
 use Rattle.clap.proofs.OnLiterals.{clap_on_literals}
 use Rattle.request.specs.CommandLine.{HasBadGauge, HasBadObserver, HasBadSink, HasOptions, IsFirstBad, Names, Spell, RequestFor, is_given, program_app, sink_words, words_given}
-use Rattle.request.specs.PlaceWords.{sink_of}
+use Rattle.request.specs.PlaceWords.{place_of_word}
 use Rattle.request.specs.Request.{AreLimits, IsView, Request}
-use Rattle.request.specs.WordsFaults.{IsBadObserverAfter, IsBadGaugeAfter, IsFaultBy, IsFaultOf, IsMapFault}
+use Rattle.request.specs.WordsFaults.{IsBadObserverAfter, IsBadGaugeAfter, IsFaultWith, IsFaultOf, IsMapFault}
 use Rattle.request.specs.declared.words.WordsFault.{WordsFault}
 use Rattle.request.specs.declared.words.WordsFault.TheVariants.{Clap, BadObserver, BadGauge, BadSink, NoMap}
 use Rattle.request.specs.declared.map.Map.{Map}
@@ -78,7 +78,7 @@ module _ (words : List Text) (accepted : fault_of program_app words ≡ []) wher
         (same_found _ bad.command.found) (refl, bad.first)
 
     pub requested : (map : Map) (request : Request) →
-        Names n rs map → request.map ≡ map → Spell sink_of (sink_words n rs) request.sinks →
+        Names n rs map → request.map ≡ map → Spell place_of_word (sink_words n rs) request.sinks →
         HasOptions rs request.tile request.workers request.scale →
         AreLimits request.tile request.workers request.scale
         → request.progress ≡ is_given (codes "progress") rs →
@@ -119,12 +119,15 @@ module _ (words : List Text) (accepted : fault_of program_app words ≡ []) wher
       λ place bad. h.2 place (bad_gauge_after place bad),
     )
 
-    words_of_bad : (place : ℕ) → HasBadSink words place → IsFirstBad sink_of (sink_words n rs) place
+    words_of_bad : (place : ℕ) → HasBadSink words place →
+        IsFirstBad place_of_word (sink_words n rs) place
     words_of_bad place bad = subst (λ (p : Text × List Row).
-        IsFirstBad sink_of (sink_words p.0 p.1) place) (same_found _ bad.command.found) bad.first
+        IsFirstBad place_of_word (sink_words p.0 p.1) place)
+            (same_found _ bad.command.found) bad.first
 
     pub sinks_refused : (map : Map) → Names n rs map → (f : WordsFault) →
-        IsFaultBy (λ _. ⊥) (λ _. ⊥) (IsFirstBad sink_of (sink_words n rs)) ⊥ f → IsFaultOf words f
+        IsFaultWith (λ _. ⊥) (λ _. ⊥) (IsFirstBad place_of_word (sink_words n rs)) ⊥ f →
+            IsFaultOf words f
     sinks_refused map named (Clap e) h = inl h
     sinks_refused map named (BadObserver place) h = absurd h
     sinks_refused map named (BadGauge place) h = absurd h
@@ -139,7 +142,7 @@ module _ (words : List Text) (accepted : fault_of program_app words ≡ []) wher
     sinks_refused map named NoMap h = absurd h
 
     pub options_refused : (map : Map) (sinks : List Place) → Names n rs map →
-        Spell sink_of (sink_words n rs) sinks
+        Spell place_of_word (sink_words n rs) sinks
         → ((tile workers scale : ℕ) → AreLimits tile workers scale →
         HasOptions rs tile workers scale → ⊥) → IsFaultOf words NoMap
     options_refused map sinks named spelled never = (
@@ -148,7 +151,7 @@ module _ (words : List Text) (accepted : fault_of program_app words ≡ []) wher
           (λ (p : Text × List Row). HasOptions p.1 request.tile request.workers request.scale)
           (same_found _ w.command.found) w.options),
       λ place bad. map_without_bad n rs map place named (bad_after place bad),
-      λ place bad. none_bad sink_of _ sinks place spelled (words_of_bad place bad),
+      λ place bad. none_bad place_of_word _ sinks place spelled (words_of_bad place bad),
       λ place bad. map_without_bad_gauge n rs map place named (bad_gauge_after place bad),
     )
 
@@ -165,8 +168,8 @@ module _ (words : List Text) (accepted : fault_of program_app words ≡ []) wher
     pub bad_sink_requests_none : (place : ℕ) → HasBadSink words place → (request : Request) →
         ¬ RequestFor words request
     bad_sink_requests_none place bad request w =
-        none_bad sink_of _ request.sinks place
-        (subst (λ (p : Text × List Row). Spell sink_of (sink_words p.0 p.1) request.sinks)
+        none_bad place_of_word _ request.sinks place
+        (subst (λ (p : Text × List Row). Spell place_of_word (sink_words p.0 p.1) request.sinks)
         (same_found _ w.command.found) w.sinks)
         (words_of_bad place bad)
 

@@ -13,7 +13,7 @@ use Rattle.terrain.specs.declared.observer.Observer.{Observer}
 use Rattle.terrain.specs.declared.place.Place.{Place}
 use Rattle.request.specs.CommandLine.{AreRefused, AskForHelp, HasNumber, HasOptions, IsHelp, Names, Spell, RequestFor, is_given, program_app, sink_words}
 use Rattle.request.specs.Laws.{AreSame, BasinsOfSinks, CatchmentsOfAGauge, FillAlone, HelpOfView, NoSideOfZero, VersionAlone, ViewWithRadius}
-use Rattle.request.specs.PlaceWords.{sink_of}
+use Rattle.request.specs.PlaceWords.{place_of_word}
 use Rattle.request.specs.Request.{Request}
 use Rattle.request.specs.declared.map.Map.{Map}
 use Rattle.request.specs.declared.map.Map.TheVariants.{Fill, Flow, Accumulate, Basins, Catchments, View}
@@ -104,7 +104,7 @@ one_request words request other a b =
       same_number a.rows (codes "workers") _ _ a.options.1 options.1,
       same_number a.rows (codes "scale") _ _ a.options.2 options.2,
       same_somes request.sinks other.sinks (sym a.sinks ∙ subst (λ (p : Text × List Row).
-          Spell sink_of (sink_words p.0 p.1) other.sinks) command b.sinks),
+          Spell place_of_word (sink_words p.0 p.1) other.sinks) command b.sinks),
       a.progress ∙ ap (λ (p : Text × List Row). is_given (codes "progress") p.1) (sym command)
           ∙ sym b.progress,
     )

@@ -18,7 +18,7 @@ use Rattle.terrain.specs.declared.observer.Observer.{Observer}
 use Rattle.terrain.specs.declared.place.Place.{Place}
 use Rattle.request.specs.declared.map.Map.{Map}
 use Rattle.request.specs.declared.map.Map.TheVariants.{Fill, Flow, Accumulate, Basins, Catchments, View}
-use Rattle.request.specs.PlaceWords.{observer_of, sink_of}
+use Rattle.request.specs.PlaceWords.{observer_of, place_of_word}
 use Rattle.request.specs.Request.{Request, IsRequest}
 
 -- ---- subcommands and options
@@ -179,7 +179,7 @@ HasObservers rows observers = Spell observer_of (words_of (codes "observers") ro
 
 -- The gauge words spell these gauges.
 abbrev pub HasGauges : List Row → List Place → Type 0
-HasGauges rows gauges = Spell sink_of (words_of (codes "gauges") rows) gauges
+HasGauges rows gauges = Spell place_of_word (words_of (codes "gauges") rows) gauges
 
 -- The subcommand of this name with these values requests this map.
 abbrev pub Names : Text → List Row → Map → Type 0
@@ -208,7 +208,7 @@ pub record RequestFor (words : List Text) (request : Request) : Type 0 where
   pub rows : List Row
   pub command : AreCommand words name rows
   pub map : Names name rows request.map
-  pub sinks : Spell sink_of (sink_words name rows) request.sinks
+  pub sinks : Spell place_of_word (sink_words name rows) request.sinks
   pub options : HasOptions rows request.tile request.workers request.scale
   pub progress : request.progress ≡ is_given (codes "progress") rows
   pub limits : IsRequest request
@@ -228,7 +228,7 @@ pub record HasBadObserver (words : List Text) (place : ℕ) : Type 0 where
 pub record HasBadGauge (words : List Text) (place : ℕ) : Type 0 where
   pub rows : List Row
   pub command : AreCommand words (codes "catchments") rows
-  pub first : IsFirstBad sink_of (words_of (codes "gauges") rows) place
+  pub first : IsFirstBad place_of_word (words_of (codes "gauges") rows) place
 
 -- The words name a map, and the first sink word that is no sink is at this place from 0.
 pub record HasBadSink (words : List Text) (place : ℕ) : Type 0 where
@@ -237,7 +237,7 @@ pub record HasBadSink (words : List Text) (place : ℕ) : Type 0 where
   pub command : AreCommand words name rows
   pub map : Map
   pub named : Names name rows map
-  pub first : IsFirstBad sink_of (sink_words name rows) place
+  pub first : IsFirstBad place_of_word (sink_words name rows) place
 
 -- The words of the command line; an empty list counts as the program's name alone.
 abbrev pub words_given : List Text → List Text

@@ -30,5 +30,5 @@ sink_of_parts (row ∷ col ∷ []) =
 sink_of_parts parts = None
 
 -- The place that a gauge or sink word `ROW,COL` spells, or `None`.
-abbrev pub sink_of : List ℕ → Option Place
-sink_of word = sink_of_parts (slice_split (λ b. b == 44) word)
+abbrev pub place_of_word : List ℕ → Option Place
+place_of_word word = sink_of_parts (slice_split (λ b. b == 44) word)

@@ -6,7 +6,7 @@ use Rattle.clap.specs.Faults.{fault_of}
 use Rattle.clap.specs.Kinds.{HasKind}
 use Rattle.clap.specs.declared.error.kind.ErrorKind.TheVariants.{OutOfMemory}
 use Rattle.request.specs.declared.map.Map.{Map}
-use Rattle.request.specs.PlaceWords.{observer_of, sink_of}
+use Rattle.request.specs.PlaceWords.{observer_of, place_of_word}
 use Rattle.request.specs.Request.{Request}
 use Rattle.request.specs.CommandLine.{HasBadGauge, HasBadObserver, HasBadSink, IsFirstBad, Names, RequestFor, program_app, words_of}
 use Rattle.request.specs.declared.words.WordsFault.{WordsFault}
@@ -21,16 +21,16 @@ IsBadWord Bad (NoMemory e) = ⊤
 
 -- Memory was refused; or `Observer`, `Gauge` or `Sink` holds of the place of the bad word; or the
 -- fault is `NoMap` and `Missing` holds.
-abbrev pub IsFaultBy : (ℕ → Type 0) → (ℕ → Type 0) → (ℕ → Type 0) → Type 0 → WordsFault → Type 0
-IsFaultBy Observer Gauge Sink Missing (Clap e) = kind_of e ≡ OutOfMemory
-IsFaultBy Observer Gauge Sink Missing (BadObserver place) = Observer place
-IsFaultBy Observer Gauge Sink Missing (BadGauge place) = Gauge place
-IsFaultBy Observer Gauge Sink Missing (BadSink place) = Sink place
-IsFaultBy Observer Gauge Sink Missing NoMap = Missing
+abbrev pub IsFaultWith : (ℕ → Type 0) → (ℕ → Type 0) → (ℕ → Type 0) → Type 0 → WordsFault → Type 0
+IsFaultWith Observer Gauge Sink Missing (Clap e) = kind_of e ≡ OutOfMemory
+IsFaultWith Observer Gauge Sink Missing (BadObserver place) = Observer place
+IsFaultWith Observer Gauge Sink Missing (BadGauge place) = Gauge place
+IsFaultWith Observer Gauge Sink Missing (BadSink place) = Sink place
+IsFaultWith Observer Gauge Sink Missing NoMap = Missing
 
 -- Memory was refused.
-abbrev pub IsWant : WordsFault → Type 0
-IsWant fault = IsFaultBy (λ _. ⊥) (λ _. ⊥) (λ _. ⊥) ⊥ fault
+abbrev pub IsNoMemory : WordsFault → Type 0
+IsNoMemory fault = IsFaultWith (λ _. ⊥) (λ _. ⊥) (λ _. ⊥) ⊥ fault
 
 -- The subcommand is `view`, and the first word that is no observer is at this place.
 abbrev pub IsBadObserverAfter : Text → List Row → ℕ → Type 0
@@ -40,7 +40,7 @@ IsBadObserverAfter name rows place =
 -- The subcommand is `catchments`, and the first word that is no gauge is at this place.
 abbrev pub IsBadGaugeAfter : Text → List Row → ℕ → Type 0
 IsBadGaugeAfter name rows place =
-    (name ≡ codes "catchments") × IsFirstBad sink_of (words_of (codes "gauges") rows) place
+    (name ≡ codes "catchments") × IsFirstBad place_of_word (words_of (codes "gauges") rows) place
 
 -- The subcommand with these values requests no map, and no observer or gauge word is bad.
 abbrev pub IsNoMap : Text → List Row → Type 0
@@ -50,7 +50,8 @@ IsNoMap name rows = ((map : Map) → ¬ Names name rows map)
 
 -- The fault of a subcommand with these values, apart from sink words.
 abbrev pub IsMapFault : Text → List Row → WordsFault → Type 0
-IsMapFault name rows = IsFaultBy (IsBadObserverAfter name rows) (IsBadGaugeAfter name rows) (λ _. ⊥)
+IsMapFault name rows = IsFaultWith (IsBadObserverAfter name rows) (IsBadGaugeAfter name rows)
+    (λ _. ⊥)
     (IsNoMap name rows)
 
 -- The words have this fault.

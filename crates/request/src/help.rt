@@ -110,7 +110,7 @@ tiles.\n\n\
 Exit status:\n  \
 0  the map was written, or help or the version\n  \
 1  a word of the command line was refused\n  \
-2  the text, the tiles, a sink, a gauge or an observer was refused\n  \
+2  the text, the tiles, a sink, a gauge, an observer, the target or the radius was refused\n  \
 3  memory or a thread was refused\n  \
 4  reading or writing failed\n\
 A fault is one line on standard error: relief: NUMBER NAME [DETAIL]\n\
@@ -138,8 +138,8 @@ relief: bad observer word K
       A file name stands where observers belong: give the grid by <. Or the word is not three whole numbers
       ROW,COL,EYE, as 120,340,2000: it has decimals, a sign, a number too large, two or four.
 relief: NUMBER NAME [DETAIL]
-   1 UnknownKey          a header word that is none of the six (dx, north:), a cut header, a height that is a word
-                         (nan), or a GeoTIFF: write a grid text with square cells (gdal_translate -of AAIGrid)
+   1 UnknownKey          a header word that is no key (dx, north:), a cut header, a height that is a word (nan), or
+                         a GeoTIFF: write a grid text with square cells (gdal_translate -of AAIGrid)
    2 RepeatedKey KEY     a header word given twice, or both corner and centre of an axis: take one out
    3 MissingKey KEY      the heights begin and KEY was not given: add it; for ncols also an empty file, a byte
                          order mark, UTF-16 or gzip: save it as plain text, or gunzip it
@@ -151,8 +151,9 @@ relief: NUMBER NAME [DETAIL]
    8 TooFew COUNT        the text ended after COUNT heights: it was cut off, or the header gives another size
    9 TooMany             words follow the last height: the header gives another size, or take them out
   10 NoValue KEY         the text ended after a header word: it was cut off
-  11 TooLong             a word past 64 bytes: take out the line of a projection, write fewer decimals; or a text
-                         past 2^29 bytes: write fewer decimals, or cut a part out
+  11 TooLong             a word past 64 bytes: a GeoTIFF (see 1), gzip (see 3), the line of a projection (take it
+                         out) or many decimals (write fewer); or a text past 2^29 bytes: write fewer decimals, or
+                         cut a part out
   12 Memory              out of memory: a smaller grid, or more memory
   21 BadSide             the side of tiles is not 1 to 4096: the command line refuses this before
   22 TooManyTiles        more than 65536: a larger --tile

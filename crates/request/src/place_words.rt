@@ -2,7 +2,7 @@
 ghost use Rattle.std.specs.Prelude.{◌≡◌, ◌==◌, ◌∷◌, [], ℕ, List, Option, Some, None, IfSome, IfNone, if◌then◌else◌};
 ghost use Rattle.std.specs.List.{slice_split, position};
 ghost use Rattle.terrain.specs.Decimal.{number_of};
-ghost use Rattle.request.specs.PlaceWords.{is_number, observer_of, sink_of};
+ghost use Rattle.request.specs.PlaceWords.{is_number, observer_of, place_of_word};
 
 use decimals::whole_number;
 use terrain::{Observer, Place};
@@ -27,9 +27,9 @@ impl FromWord for Observer {
 }
 
 impl FromWord for Place {
-    ghost use Rattle.request.specs.PlaceWords.{sink_of};
+    ghost use Rattle.request.specs.PlaceWords.{place_of_word};
 
-    ghost spelled = { sink_of };
+    ghost spelled = { place_of_word };
 
     fn from_word(word: &str) -> Option<Self> {
         parse_sink(word)
@@ -86,7 +86,7 @@ pub fn parse_observer(word: &str) -> Option<Observer>
 ///
 /// Each number has 1 to 10 digits and is below 2^32.
 pub fn parse_sink(word: &str) -> Option<Place>
-    ensures { result ≡ sink_of word.now }
+    ensures { result ≡ place_of_word word.now }
 {
     let (row, col) = split_at_comma(word.as_bytes())?;
     if let Some((_, _)) = split_at_comma(col) {

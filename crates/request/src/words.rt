@@ -2,9 +2,9 @@
 ghost use Rattle.std.specs.Prelude.{◌≡◌, ℕ, [], map, codes, IfOk, IfErr, IfSome, IfNone};
 ghost use Rattle.clap.specs.Words.{found_of, rows_of};
 ghost use Rattle.request.specs.CommandLine.{HasNumber, HasOptions, IsFirstBad, Names, Spell, RequestFor, is_given, sink_words, words_given};
-ghost use Rattle.request.specs.PlaceWords.{observer_of, sink_of};
+ghost use Rattle.request.specs.PlaceWords.{observer_of, place_of_word};
 ghost use Rattle.request.specs.Request.{AreLimits};
-ghost use Rattle.request.specs.WordsFaults.{IsBadWord, IsFaultBy, IsFaultOf, IsMapFault, IsWant};
+ghost use Rattle.request.specs.WordsFaults.{IsBadWord, IsFaultWith, IsFaultOf, IsMapFault, IsNoMemory};
 ghost use Rattle.request.specs.declared.words.BadWord.TheVariants.{NoMemory};
 ghost use Rattle.request.specs.declared.words.WordsFault.TheVariants.{Clap};
 
@@ -42,7 +42,7 @@ impl From<Error> for WordsFault {
 }
 
 impl From<AllocError> for WordsFault {
-    ghost from_gives = { λ _ fault. IsWant fault };
+    ghost from_gives = { λ _ fault. IsNoMemory fault };
 
     fn from(error: AllocError) -> Self {
         WordsFault::Clap(Error::from(error))
@@ -91,7 +91,7 @@ fn read_words<T: FromWord + Drop>(alloc: Global, words: &[&str]) -> Result<Vec<T
 fn observers_of(alloc: Global, words: &[&str]) -> Result<Vec<Observer>, WordsFault>
     ensures some { IfOk result (λ v. Spell observer_of (map (λ w. w.now) words.now) v.items) }
     ensures none { IfErr result
-        (IsFaultBy (IsFirstBad observer_of (map (λ w. w.now) words.now)) (λ _. ⊥) (λ _. ⊥) ⊥) }
+        (IsFaultWith (IsFirstBad observer_of (map (λ w. w.now) words.now)) (λ _. ⊥) (λ _. ⊥) ⊥) }
 {
     match read_words(alloc, words) {
         Ok(observers) => Ok(observers),
@@ -101,9 +101,9 @@ fn observers_of(alloc: Global, words: &[&str]) -> Result<Vec<Observer>, WordsFau
 }
 
 fn gauges_of(alloc: Global, words: &[&str]) -> Result<Vec<Place>, WordsFault>
-    ensures some { IfOk result (λ v. Spell sink_of (map (λ w. w.now) words.now) v.items) }
+    ensures some { IfOk result (λ v. Spell place_of_word (map (λ w. w.now) words.now) v.items) }
     ensures none { IfErr result
-        (IsFaultBy (λ _. ⊥) (IsFirstBad sink_of (map (λ w. w.now) words.now)) (λ _. ⊥) ⊥) }
+        (IsFaultWith (λ _. ⊥) (IsFirstBad place_of_word (map (λ w. w.now) words.now)) (λ _. ⊥) ⊥) }
 {
     match read_words(alloc, words) {
         Ok(gauges) => Ok(gauges),
@@ -113,9 +113,9 @@ fn gauges_of(alloc: Global, words: &[&str]) -> Result<Vec<Place>, WordsFault>
 }
 
 fn sinks_of(alloc: Global, words: &[&str]) -> Result<Vec<Place>, WordsFault>
-    ensures some { IfOk result (λ v. Spell sink_of (map (λ w. w.now) words.now) v.items) }
+    ensures some { IfOk result (λ v. Spell place_of_word (map (λ w. w.now) words.now) v.items) }
     ensures none { IfErr result
-        (IsFaultBy (λ _. ⊥) (λ _. ⊥) (IsFirstBad sink_of (map (λ w. w.now) words.now)) ⊥) }
+        (IsFaultWith (λ _. ⊥) (λ _. ⊥) (IsFirstBad place_of_word (map (λ w. w.now) words.now)) ⊥) }
 {
     match read_words(alloc, words) {
         Ok(sinks) => Ok(sinks),
@@ -171,9 +171,9 @@ fn map_of(alloc: Global, name: &str, found: &ArgMatches<'_>) -> Result<Map, Word
 /// Returns the sinks given for the map of this name; a viewshed has none.
 fn sinks_given(alloc: Global, name: &str, found: &ArgMatches<'_>) -> Result<Vec<Place>, WordsFault>
     ensures some { IfOk result
-        (λ v. Spell sink_of (sink_words name.now (rows_of (found_of found.now))) v.items) }
-    ensures none { IfErr result (IsFaultBy (λ _. ⊥) (λ _. ⊥)
-        (IsFirstBad sink_of (sink_words name.now (rows_of (found_of found.now)))) ⊥) }
+        (λ v. Spell place_of_word (sink_words name.now (rows_of (found_of found.now))) v.items) }
+    ensures none { IfErr result (IsFaultWith (λ _. ⊥) (λ _. ⊥)
+        (IsFirstBad place_of_word (sink_words name.now (rows_of (found_of found.now)))) ⊥) }
 {
     if name == "view" {
         return Ok(Vec::new(alloc));

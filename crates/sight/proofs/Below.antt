@@ -8,7 +8,7 @@ use Rattle.std.proofs.lemmas.Bool.{cases_lt}
 use Rattle.std.proofs.lemmas.Option.{slice_get-get_or}
 use Rattle.horizons.specs.declared.target.Target.{Target}
 use Rattle.horizons.specs.declared.ramp.Ramp.{Ramp}
-use Rattle.horizons.specs.Horizons.{AreTargets, IsSlopeUpTo, hides_by, value_at}
+use Rattle.horizons.specs.Horizons.{AreTargets, IsSlopeUpTo, ramp_hides, value_at}
 use Rattle.horizons.proofs.Straight.{slope_up}
 use Rattle.sightlines.specs.Blocks.{IsTopOf}
 use Rattle.sight.specs.Hiding.{height_at}
@@ -94,7 +94,7 @@ record Blocker (cells : List (Option ℤ)) (f : Family) (k : ℕ) (offset rise :
   pub inside : (cell < f.side.cells) × (next < f.side.cells)
   pub here : height_at cells f k cell ≡ Some near
   pub there : height_at cells f k next ≡ Some far
-  pub hides : hides_by (ramp_of f k offset near far) t rise ≡ true
+  pub hides : ramp_hides (ramp_of f k offset near far) t rise ≡ true
 
 blocker : (cells : List (Option ℤ)) (f : Family) (k y : ℕ) (offset rise : ℤ) (t : Target) →
     IsFamily f → IsAtCell f y t → k < t.line → Passes k offset t →
@@ -158,8 +158,8 @@ blocker cells f k y offset rise t is stands later passes blocks =
 
 -- if the ground between two cells hides a target, so does ground of a height that neither exceeds
 level_hides : (f : Family) (k : ℕ) (offset near far top rise : ℤ) (t : Target) → Passes k offset t →
-    near ≤ℤ top → far ≤ℤ top → hides_by (ramp_of f k offset near far) t rise ≡ true →
-    hides_by (level_ramp f k top) t rise ≡ true
+    near ≤ℤ top → far ≤ℤ top → ramp_hides (ramp_of f k offset near far) t rise ≡ true →
+    ramp_hides (level_ramp f k top) t rise ≡ true
 level_hides f k offset near far top rise t passes a b hides =
     let m = past k offset t passes in
     let value = ramp_between f k m.0 offset near far t m.1 m.2 in
@@ -195,7 +195,7 @@ pub top_blocks :
     (cells : List (Option ℤ)) (f : Family) (k y : ℕ) (low high offset rise top : ℤ) (t : Target) →
     IsFamily f → IsAtCell f y t → k < t.line → Passes k offset t → low ≤ℤ offset → offset ≤ℤ high
     → IsTopNear cells f k low high (Some top) → line_blocks cells f t.line y rise k ≡ true →
-    hides_by (level_ramp f k top) t rise ≡ true
+    ramp_hides (level_ramp f k top) t rise ≡ true
 top_blocks cells f k y low high offset rise top t is stands later passes a b near blocks =
     let by = blocker cells f k y offset rise t is stands later passes blocks in
     let next : (pos by.next ≡ pos by.cell) ⊎ (pos by.next ≡ pos by.cell +ℤ pos 1) =

@@ -11,7 +11,7 @@ use Rattle.terrain.specs.declared.place.Place.{Place}
 use Rattle.terrain.proofs.Places.{make_place}
 use Rattle.tiles.specs.declared.bounds.Bounds.{Bounds}
 use Rattle.tiles.specs.Cutting.{IsInBounds, index_in}
-use Rattle.tile_maps.specs.Maps.{AreMadeBelow}
+use Rattle.tile_maps.specs.Maps.{IsMadeUpTo}
 use Rattle.sightlines.specs.Sight.{is_seen}
 use Rattle.sight.specs.Viewshed.{viewshed_value}
 use Rattle.sight.specs.Viewed.{value_at, HasValue, counted, AreAtMost}
@@ -38,11 +38,11 @@ value_counted t os target radius i d p false less e =
 -- counting the marks of observer i turns the values of the first i into those of the first i + 1
 pub looked : (t : Terrain) (os : List Observer) (target radius i : ℕ) (d : Observer) (b : Bounds)
     (old new : List (Option ℕ)) (seen : List Bool) → i < length os
-    → AreMadeBelow b (HasValue t (take i os) target radius) (b.rows * b.cols) old →
+    → IsMadeUpTo b (HasValue t (take i os) target radius) (b.rows * b.cols) old →
     AreMarked b (MarksSeen t (get_or os i d) target radius) seen
     → length new ≡ length old →
     ((k : ℕ) → get_or new k None ≡ counted (get_or old k None) (get_or seen k false))
-    → AreMadeBelow b (HasValue t (take (i + 1) os) target radius) (b.rows * b.cols) new
+    → IsMadeUpTo b (HasValue t (take (i + 1) os) target radius) (b.rows * b.cols) new
 looked t os target radius i d b old new seen less before marks size each = record {
   size = size ∙ before.size;
   each = λ p inside below entry is.
@@ -59,9 +59,9 @@ looked t os target radius i d b old new seen less before marks size each = recor
 -- where observer i sees no cell of the tile, values of the first i are those of the first i + 1
 pub passed : (t : Terrain) (os : List Observer) (target radius i : ℕ) (d : Observer) (b : Bounds)
     (values : List (Option ℕ)) → i < length os
-    → AreMadeBelow b (HasValue t (take i os) target radius) (b.rows * b.cols) values →
+    → IsMadeUpTo b (HasValue t (take i os) target radius) (b.rows * b.cols) values →
     ((p : Place) → IsInBounds b p → is_seen t (get_or os i d) p target radius ≡ false)
-    → AreMadeBelow b (HasValue t (take (i + 1) os) target radius) (b.rows * b.cols) values
+    → IsMadeUpTo b (HasValue t (take (i + 1) os) target radius) (b.rows * b.cols) values
 passed t os target radius i d b values less before none = record {
   size = before.size;
   each = λ p inside below entry is. before.each p inside below entry is
@@ -101,7 +101,7 @@ module _ (b : Bounds) (k : ℕ) (below : k < b.rows * b.cols) where
       omega (arith, rows, whole)
 
 pub few : (t : Terrain) (os : List Observer) (target radius i : ℕ)
-    (b : Bounds) (values : List (Option ℕ)) → AreMadeBelow b (HasValue t (take i os) target radius)
+    (b : Bounds) (values : List (Option ℕ)) → IsMadeUpTo b (HasValue t (take i os) target radius)
     (b.rows * b.cols) values → AreAtMost i values
 few t os target radius i b values made k n e = elim (cases_lt k (length values)) [
   | inl less ↦

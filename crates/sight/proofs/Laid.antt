@@ -7,7 +7,7 @@ use Rattle.std.proofs.lemmas.Nat.{mul-le}
 use Rattle.horizons.specs.declared.target.Target.{Target}
 use Rattle.horizons.specs.declared.ramp.Ramp.{Ramp}
 use Rattle.horizons.specs.declared.horizon.Piece.{Piece}
-use Rattle.horizons.specs.Horizons.{AreTargets, IsTarget, IsSlopeUpTo, IsPushed, IsOver, IsRampAt, extent, ramp_at, hides_by}
+use Rattle.horizons.specs.Horizons.{AreTargets, IsTarget, IsSlopeUpTo, IsPushed, IsOver, IsRampAt, extent, ramp_at, ramp_hides}
 use Rattle.horizons.specs.Merging.{IsGreaterPushed, greater_at}
 use Rattle.horizons.proofs.Hiding.{greater_hides, greater_is_ramp, either_hides}
 use Rattle.horizons.proofs.Straight.{slope_up}
@@ -131,7 +131,7 @@ pub hidden_raised : (cells : List (Option ℤ)) (f : Family) (targets : List Tar
     slice_get targets i ≡ Some t → Raises cells f k highest i t ramp
 hidden_raised cells f targets k i from end highest ramp t over is hidden low high at = record {
   at = over.each i t ramp at is;
-  hides = λ y rise stands later small. either_hides (hides_by ramp t rise) (line_blocks cells f
+  hides = λ y rise stands later small. either_hides (ramp_hides ramp t rise) (line_blocks cells f
       t.line y rise k) (hidden i t low high at y rise stands later) ∙ (rw is refl);
 }
 

@@ -6,7 +6,7 @@ use Rattle.std.proofs.lemmas.Option.{same_Some, slice_get_within}
 use Rattle.horizons.specs.declared.target.Target.{Target}
 use Rattle.horizons.specs.declared.ramp.Ramp.{Ramp}
 use Rattle.horizons.specs.declared.horizon.Piece.{Piece}
-use Rattle.horizons.specs.Horizons.{IsTarget, AreTargets, IsPushed, IsOver, IsRampAt, extent, ramp_at, hides_by}
+use Rattle.horizons.specs.Horizons.{IsTarget, AreTargets, IsPushed, IsOver, IsRampAt, extent, ramp_at, ramp_hides}
 use Rattle.sight.specs.Sweep.{RaisesBelow, HidesBefore, line_blocks, is_blocked_before}
 use Rattle.sight.specs.declared.family.Family.{Family}
 
@@ -62,7 +62,7 @@ hides_next cells f targets k old new some before whole raises = record {
 pub none_hides : (targets : List Target) (ramp : Ramp) (h : List Piece) → AreTargets targets →
     IsPushed [] (length targets) ramp h
     → ((t : Target) (rise : ℤ) → IsTarget t → unsigned_abs rise ≤ 2 ^ 51 →
-    hides_by ramp t rise ≡ false) → ((t : Target) → IsTarget t → IsRampAt ramp t)
+    ramp_hides ramp t rise ≡ false) → ((t : Target) → IsTarget t → IsRampAt ramp t)
     → (cells : List (Option ℤ)) (f : Family) → HidesBefore cells f targets 1 h
 unfolding extent
 none_hides targets ramp h are pushed below is cells f =

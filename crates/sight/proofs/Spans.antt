@@ -7,7 +7,7 @@ use Rattle.std.proofs.lemmas.Bool.{cases_Bool}
 use Rattle.std.proofs.lemmas.Nat.{mul-le, div-add-mod', mod_below}
 use Rattle.terrain.specs.Raster.{IsHeight}
 use Rattle.horizons.specs.declared.target.Target.{Target}
-use Rattle.horizons.specs.Horizons.{IsTarget, IsRampAt, hides_by, value_at}
+use Rattle.horizons.specs.Horizons.{IsTarget, IsRampAt, ramp_hides, value_at}
 use Rattle.sightlines.specs.Sight.{sight}
 use Rattle.sightlines.specs.Walk.{is_above, whole_at, IsLevel}
 use Rattle.sight.specs.Sweep.{lead_of, lead_axis, line_blocks, ramp_of, IsFamily, IsLine, Passes, IsAtCell}
@@ -188,7 +188,7 @@ pub shows_ramp : (cells : List (Option ℤ)) (f : Family) (k c y : ℕ) (offset 
     (t : Target) → IsAtCell f y t → k < t.line → Passes k offset t → pos c ≡ pos f.side.at +ℤ offset
     → get_or cells (near_index f k c) None ≡ Some near →
     get_or cells (near_index f k c + f.side.stride) None ≡ Some far
-    → hides_by (ramp_of f k offset near far) t rise ≡ line_blocks cells f t.line y rise k
+    → ramp_hides (ramp_of f k offset near far) t rise ≡ line_blocks cells f t.line y rise k
 shows_ramp cells f k c y offset near far rise t stands later passes at some also =
     let m = past k offset t passes in
     let here = crossing_is cells f k c m.0 y offset rise t stands later m.1 m.2 at in
@@ -200,7 +200,7 @@ pub shows_centre : (cells : List (Option ℤ)) (f : Family) (k c y : ℕ) (offse
     (t : Target) → IsAtCell f y t → k < t.line → (t.offset *ℤ pos k) ≡ offset *ℤ pos t.line →
     pos c ≡ pos f.side.at +ℤ offset
     → get_or cells (near_index f k c) None ≡ Some near →
-    hides_by (ramp_of f k offset near near) t rise ≡ line_blocks cells f t.line y rise k
+    ramp_hides (ramp_of f k offset near near) t rise ≡ line_blocks cells f t.line y rise k
 shows_centre cells f k c y offset near rise t stands later centre at some =
     let is : (t.offset *ℤ pos k) ≡ (offset *ℤ pos t.line) +ℤ pos 0 = omega (arith, ints, centre) in
     let here = crossing_is cells f k c 0 y offset rise t stands later (omega arith) is at in

@@ -6,7 +6,7 @@ use Rattle.std.specs.List.{list_any, range_with_len}
 use Rattle.horizons.specs.declared.target.Target.{Target}
 use Rattle.horizons.specs.declared.ramp.Ramp.{Ramp}
 use Rattle.horizons.specs.declared.horizon.Piece.{Piece}
-use Rattle.horizons.specs.Horizons.{IsRampAt, IsOver, hides_by, hides, ramp_at}
+use Rattle.horizons.specs.Horizons.{IsRampAt, IsOver, ramp_hides, hides, ramp_at}
 use Rattle.sightlines.specs.Walk.{IsLevel, step_blocks}
 use Rattle.sightlines.specs.declared.walk.Axis.{Axis}
 use Rattle.sight.specs.declared.family.Family.{Family}
@@ -101,21 +101,21 @@ pub record Shows (cells : List (Option ℤ)) (f : Family) (k : ℕ) (t : Target)
     (r : Ramp) : Type 0 where
   pub at : IsRampAt r t
   pub hides : (y : ℕ) (rise : ℤ) → IsAtCell f y t → k < t.line → IsRise rise →
-      hides_by r t rise ≡ line_blocks cells f t.line y rise k
+      ramp_hides r t rise ≡ line_blocks cells f t.line y rise k
 
 -- The ramp hides each target of index `from` to below `end`, beyond line k, that line k blocks.
 abbrev pub IsHiddenOn : List (Option ℤ) → Family → List Target → ℕ → Ramp → ℕ → ℕ → Type 0
 IsHiddenOn cells f targets k r from end =
     (i : ℕ) (t : Target) → from ≤ i → i < end → slice_get targets i ≡ Some t
     → (y : ℕ) (rise : ℤ) → IsAtCell f y t → k < t.line →
-    line_blocks cells f t.line y rise k ≡ true → hides_by r t rise ≡ true
+    line_blocks cells f t.line y rise k ≡ true → ramp_hides r t rise ≡ true
 
 -- The ramp hides target t, beyond line k, exactly where the old horizon does or line k blocks it.
 pub record Raises (cells : List (Option ℤ)) (f : Family) (k : ℕ) (old : List Piece) (i : ℕ)
     (t : Target) (r : Ramp) : Type 0 where
   pub at : IsRampAt r t
   pub hides : (y : ℕ) (rise : ℤ) → IsAtCell f y t → k < t.line → IsRise rise →
-      hides_by r t rise ≡ (hides old i t rise || line_blocks cells f t.line y rise k)
+      ramp_hides r t rise ≡ (hides old i t rise || line_blocks cells f t.line y rise k)
 
 -- The new horizon hides each target below index `end`, if beyond line k, exactly where the old one
 -- does or line k blocks it.

@@ -2,7 +2,7 @@
 ghost use Rattle.std.specs.Prelude.{◌+◌, ◌-◌, ◌*◌, ◌<◌, ◌≤◌, IfOk, OnOk};
 ghost use Rattle.terrain.specs.declared.place.Place.{Place};
 ghost use Rattle.tiles.specs.Cutting.{IsInBounds};
-ghost use Rattle.tile_maps.specs.Maps.{AreMadeBelow};
+ghost use Rattle.tile_maps.specs.Maps.{IsMadeUpTo};
 
 use std::alloc::{AllocError, Global};
 use terrain::Place;
@@ -36,9 +36,9 @@ where
     requires small { bounds.left + bounds.cols ≤ 4096 }
     requires inside { (p : Place) → IsInBounds bounds p → M.inside map.now p }
     requires row { (bounds.top ≤ row) × (row < bounds.top + bounds.rows) }
-    requires list { AreMadeBelow bounds (M.has map.now) ((row - bounds.top) * bounds.cols)
+    requires list { IsMadeUpTo bounds (M.has map.now) ((row - bounds.top) * bounds.cols)
         list.old.items }
-    ensures { OnOk result (AreMadeBelow bounds (M.has map.now)
+    ensures { OnOk result (IsMadeUpTo bounds (M.has map.now)
         ((row + 1 - bounds.top) * bounds.cols) list.new.items) }
 {
     for col in bounds.left..bounds.left + bounds.cols {
@@ -58,7 +58,7 @@ where
     requires small { (bounds.top + bounds.rows ≤ 4096) × (bounds.left + bounds.cols ≤ 4096) }
     requires inside { (p : Place) → IsInBounds bounds p → M.inside map.now p }
     ensures { IfOk result
-        (λ v. AreMadeBelow bounds (M.has map.now) (bounds.rows * bounds.cols) v.items) }
+        (λ v. IsMadeUpTo bounds (M.has map.now) (bounds.rows * bounds.cols) v.items) }
 {
     let mut list = Vec::with_capacity(alloc, bounds.rows as usize * bounds.cols as usize)?;
     for row in bounds.top..bounds.top + bounds.rows {

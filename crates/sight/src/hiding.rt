@@ -47,11 +47,11 @@ pub(crate) fn hide(
 {
     let rays = family.gather(alloc, window, marks)?;
     let ranked = rank(alloc, &rays)?;
-    let mut look = SweepLookup::new(alloc, &ranked.targets)?;
+    let mut lookup = SweepLookup::new(alloc, &ranked.targets)?;
     for (number, ray) in rays.iter().enumerate() {
-        look.go_to(cells, family, ray.line, &ranked.targets)?;
+        lookup.go_to(cells, family, ray.line, &ranked.targets)?;
         let rise = family.rise(cells, *ray, height);
-        if look.hides(ranked.ranks[number] as usize, *ray, rise) {
+        if lookup.hides(ranked.ranks[number] as usize, *ray, rise) {
             family.unmark(window, *ray, marks);
         }
     }

@@ -53,7 +53,7 @@ fn bisect(targets: &[Target], low: usize, high: usize, line: u32, offset: i32) -
 /// The cell is at `offset`. Target `from` is one of them; the result is at most `end`. Doubles its
 /// leaps, then bisects.
 #[inline]
-fn count_before(targets: &[Target], from: usize, end: usize, line: u32, offset: i32) -> usize
+fn end_before(targets: &[Target], from: usize, end: usize, line: u32, offset: i32) -> usize
     requires targets { AreTargets targets.now }
     requires line { line ≤ 4096 }
     requires offset { unsigned_abs offset ≤ 2 ^ 26 }
@@ -92,7 +92,7 @@ fn end_of(span: Span, targets: &[Target], from: usize, end: usize, line: u32) ->
     if span.alone {
         return from + 1;
     }
-    count_before(targets, from, end, line, span.last + 1)
+    end_before(targets, from, end, line, span.last + 1)
 }
 
 /// Returns how many targets' rays cross a line before the side's first cell.
@@ -109,7 +109,7 @@ fn count_before_side(family: Family, line: u32, targets: &[Target]) -> usize
     if targets.is_empty() || !is_before(targets[0], line, first) {
         return 0;
     }
-    count_before(targets, 0, targets.len(), line, first)
+    end_before(targets, 0, targets.len(), line, first)
 }
 
 /// Whether a piece's ramp may be ground of the line just before `line`.

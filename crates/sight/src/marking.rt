@@ -1,4 +1,4 @@
-//! Marks the cells of a tile that one observer sees (`look`).
+//! Marks the cells of a tile that one observer sees (`mark_seen`).
 //!
 //! A sample of walks decides whether to walk to all cells or to sweep the tile. A sweep costs about
 //! the same on all ground; walks are long on open ground.
@@ -8,7 +8,7 @@ ghost use Rattle.tiles.specs.Cutting.{AreBounds, IsCutting};
 ghost use Rattle.sightlines.specs.Sight.{highest_eye, place_of};
 ghost use Rattle.sight.specs.Marks.{AreMarkedBelow, AreMarked, MarksSeen, IsMarkOf};
 
-use crate::tile::Viewing;
+use crate::tile::ViewshedInput;
 use sightlines::{WalkCache, may_see, sees_past_blocks};
 use std::alloc::{AllocError, Global};
 use terrain::{Observer, Place};
@@ -33,9 +33,9 @@ pub enum Check {
     FirstCrossings,
 }
 
-impl<'a> Viewing<'a> {
+impl<'a> ViewshedInput<'a> {
     /// Marks the cells of a tile that an observer sees, and no others.
-    pub(crate) fn look(
+    pub(crate) fn mark_seen(
         &self,
         alloc: Global,
         observer: &Observer,
@@ -51,7 +51,7 @@ impl<'a> Viewing<'a> {
             (MarksSeen self.now.grid.now.terrain observer.now self.now.target_height
             self.now.radius) seen.new) }
     {
-        if !self.walks_are_long(observer, bounds) {
+        if !self.is_sweep_cheaper(observer, bounds) {
             self.mark(Check::Whole, observer, bounds, seen);
             return Ok(());
         }
@@ -61,7 +61,7 @@ impl<'a> Viewing<'a> {
 
     /// Whether walks to a tile's cells cost more than a sweep, judged by a sample.
     /// The smaller the tile, the higher the limit, since fewer cells share a sweep's cost.
-    fn walks_are_long(&self, observer: &Observer, bounds: Bounds) -> bool
+    fn is_sweep_cheaper(&self, observer: &Observer, bounds: Bounds) -> bool
         requires lawful { IsCutting self.now.tiling.now }
         requires inside { AreBounds self.now.tiling.now bounds }
         requires observer { IsInside self.now.grid.now.terrain (place_of observer.now) }

@@ -8,7 +8,7 @@ use horizons::Target;
 use std::alloc::{AllocError, Global};
 
 /// The greatest offset of a target, in cells.
-const FURTHEST_ASIDE: i64 = 4_096;
+const GREATEST_OFFSET: i64 = 4_096;
 
 /// The slope of a ray, and the number of the ray.
 #[derive(Clone, Copy)]
@@ -31,7 +31,7 @@ fn slope_of(target: Target) -> u64
     requires { IsTarget target }
     ensures { result ≡ slope_of target }
 {
-    let shifted = target.offset as i64 + FURTHEST_ASIDE * target.line as i64;
+    let shifted = target.offset as i64 + GREATEST_OFFSET * target.line as i64;
     (shifted as u64) * (1 << 24) / target.line as u64
 }
 

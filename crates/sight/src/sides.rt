@@ -14,7 +14,7 @@ ghost use Rattle.sight.specs.Marks.{AreLeft};
 use crate::family::{Family, Lines, Side};
 use crate::heights::height_at;
 use crate::hiding::hide;
-use crate::tile::Viewing;
+use crate::tile::ViewshedInput;
 use crate::window::{CellRun, Window};
 use sightlines::level;
 use std::alloc::{AllocError, Global};
@@ -92,7 +92,7 @@ fn hide_on_both_sides(
     hide(alloc, cells, family.reverse(), window, height, marks)
 }
 
-impl<'a> Viewing<'a> {
+impl<'a> ViewshedInput<'a> {
     /// Removes the marks of places whose line of sight a crossing blocks.
     pub(crate) fn hide_blocked(
         &self,

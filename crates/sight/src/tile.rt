@@ -4,7 +4,7 @@ ghost use Rattle.std.specs.Bool.{OnFalse};
 ghost use Rattle.terrain.specs.Neighbours.{IsInside};
 ghost use Rattle.terrain.specs.declared.place.Place.{Place};
 ghost use Rattle.tiles.specs.Cutting.{AreBounds, IsInBounds, Cuts, IsCutting};
-ghost use Rattle.tile_maps.specs.Maps.{AreMadeBelow};
+ghost use Rattle.tile_maps.specs.Maps.{IsMadeUpTo};
 ghost use Rattle.std.proofs.Props.{props};
 ghost use Rattle.sightlines.specs.Blocks.{IsTops};
 ghost use Rattle.sightlines.specs.Sight.{is_seen, place_of};
@@ -22,7 +22,7 @@ use tiles::{Bounds, Tiling};
 
 /// A viewshed to make: a grid, its block heights and tiling, and arguments without fault.
 #[derive(Drop)]
-pub struct Viewing<'a> {
+pub struct ViewshedInput<'a> {
     pub grid: &'a Grid,
     pub tops: &'a MaxHeights,
     pub observers: &'a [Observer],
@@ -59,7 +59,7 @@ fn count_seen(seen: &[bool], values: &mut [Count])
     }
 }
 
-impl<'a> Viewing<'a> {
+impl<'a> ViewshedInput<'a> {
     /// Whether a tile has a place within the radius of an observer.
     fn reaches(&self, observer: &Observer, bounds: Bounds) -> bool
         requires lawful { IsCutting self.now.tiling.now }
@@ -89,17 +89,17 @@ impl<'a> Viewing<'a> {
         requires lawful { IsCutting self.now.tiling.now }
         requires inside { AreBounds self.now.tiling.now bounds }
         requires size { length seen.old ≡ bounds.rows * bounds.cols }
-        requires values { AreMadeBelow bounds
+        requires values { IsMadeUpTo bounds
             (HasValue self.now.grid.now.terrain [] self.now.target_height self.now.radius)
             (bounds.rows * bounds.cols) values.old }
-        ensures { OnOk result (AreMadeBelow bounds
+        ensures { OnOk result (IsMadeUpTo bounds
             (HasValue self.now.grid.now.terrain self.now.observers.now self.now.target_height
             self.now.radius)
             (bounds.rows * bounds.cols) values.new) }
     {
         for observer in self.observers {
             if self.reaches(observer, bounds) {
-                self.look(alloc, observer, bounds, seen)?;
+                self.mark_seen(alloc, observer, bounds, seen)?;
                 count_seen(seen, values);
             }
             gate.finish_part(self.observers.len());
@@ -109,7 +109,7 @@ impl<'a> Viewing<'a> {
 }
 
 // The values before any observer: 0, or no data.
-impl<'a> PlaceMap for Viewing<'a> {
+impl<'a> PlaceMap for ViewshedInput<'a> {
     ghost use Rattle.terrain.specs.Neighbours.{IsInside};
     ghost use Rattle.sight.specs.Viewed.{HasValue};
     ghost use Rattle.std.specs.Prelude.{[]};
@@ -130,31 +130,31 @@ impl<'a> PlaceMap for Viewing<'a> {
 
 /// A viewshed whose gate is called after each observer of a tile.
 #[derive(Drop)]
-pub struct GatedViewing<'a, 'g, G> {
-    pub viewing: Viewing<'a>,
+pub struct GatedViewshed<'a, 'g, G> {
+    pub input: ViewshedInput<'a>,
     pub gate: &'g G,
 }
 
-impl<'a, 'g, G: Gate> TileMap for GatedViewing<'a, 'g, G> {
+impl<'a, 'g, G: Gate> TileMap for GatedViewshed<'a, 'g, G> {
     ghost use Rattle.sight.specs.Viewed.{HasValue};
 
     type Entry = Count;
 
-    ghost cutting = { λ m. m.viewing.tiling.now };
+    ghost cutting = { λ m. m.input.tiling.now };
 
-    ghost has = { λ m. HasValue m.viewing.grid.now.terrain m.viewing.observers.now
-        m.viewing.target_height m.viewing.radius };
+    ghost has = { λ m. HasValue m.input.grid.now.terrain m.input.observers.now
+        m.input.target_height m.input.radius };
 
     fn tiling(&self) -> Tiling {
-        *self.viewing.tiling
+        *self.input.tiling
     }
 
     fn tile(&self, alloc: Global, tile: u32) -> Result<Vec<Count>, NoMemory> {
-        let viewing = &self.viewing;
-        let bounds = viewing.tiling.bounds(tile);
-        let mut values = entries(viewing, alloc, bounds)?;
+        let input = &self.input;
+        let bounds = input.tiling.bounds(tile);
+        let mut values = entries(input, alloc, bounds)?;
         let mut seen = vec![in alloc; false; values.len()]?;
-        viewing.count_observers(alloc, self.gate, bounds, &mut seen, &mut values)?;
+        input.count_observers(alloc, self.gate, bounds, &mut seen, &mut values)?;
         Ok(values)
     }
 }

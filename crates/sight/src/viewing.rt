@@ -6,7 +6,7 @@ ghost use Rattle.sight.specs.Refusals.{RefusesSight, observers_fault};
 
 use crate::fault::SightFault;
 use crate::judging::first_fault;
-use crate::tile::{GatedViewing, Viewing};
+use crate::tile::{GatedViewshed, ViewshedInput};
 use crate::tops::tops_of;
 use std::alloc::Global;
 use std::sync::Wait;
@@ -65,7 +65,7 @@ pub fn viewshed<R: Threads + Wait + Sync, G: Gate + Sync>(
         gate,
     };
     let tops = tops_of(&runner, grid, tiling.tiles())?;
-    let viewing = Viewing {
+    let input = ViewshedInput {
         grid,
         tops: &tops,
         observers,
@@ -73,6 +73,6 @@ pub fn viewshed<R: Threads + Wait + Sync, G: Gate + Sync>(
         radius,
         tiling,
     };
-    let values = runner.map_tiles(GatedViewing { viewing, gate })?;
+    let values = runner.map_tiles(GatedViewshed { input, gate })?;
     Ok(values)
 }

@@ -67,7 +67,7 @@ fn are_low(tops: &[Cell], first: usize, stride: usize, count: u32, weight: u32, 
 /// Tests the blocks at `lead_block` of the leading coordinate alone. Between the two steps the line
 /// must not leave them.
 #[inline(always)]
-fn is_above_blocks(
+fn is_clear_of_blocks(
     tops: &[Cell],
     size: u32,
     strides: BlockStrides,
@@ -133,7 +133,7 @@ fn blocking_step_past_near_blocks(
         let past = block_end(line, NEAR_BLOCK, step, end);
         let next = leap.to(line, step, here, past);
         let block = line.lead_at(step) / NEAR_BLOCK;
-        if !is_above_blocks(tops, NEAR_BLOCK, strides, line, block, here, next) {
+        if !is_clear_of_blocks(tops, NEAR_BLOCK, strides, line, block, here, next) {
             *crossings_tested = crossings_tested.saturating_add(past - step);
             if let Some(blocking) = blocking_step(cells, line, pace, here, step, past) {
                 return Some(blocking);
@@ -204,7 +204,7 @@ pub(crate) fn blocking_step_past_blocks(
         let next = line.at(end);
         let block = line.lead_at(first) / FAR_BLOCK;
         let is_whole = end - first == FAR_BLOCK;
-        if !is_whole || !is_above_blocks(&tops.far, FAR_BLOCK, far, line, block, start, next) {
+        if !is_whole || !is_clear_of_blocks(&tops.far, FAR_BLOCK, far, line, block, start, next) {
             if let Some(step) = blocking_step_past_near_blocks(
                 cells,
                 &tops.near,

@@ -6,7 +6,7 @@ ghost use Rattle.tile_jobs.specs.Workers.{IsOutcome};
 use crate::JobFault;
 use crate::gate::Gate;
 use crate::seat::{Seat, Take};
-use crate::slots::Answer;
+use crate::slots::JobResult;
 use crate::work::Work;
 use std::alloc::{AllocError, Global};
 use std::snapshot::Snapshot;
@@ -18,7 +18,7 @@ use std::thread::Promise;
 #[derive(Drop)]
 pub struct WorkerResult<T> {
     pub seat: Seat,
-    pub answers: Vec<Answer<T>>,
+    pub answers: Vec<JobResult<T>>,
 }
 
 /// Takes and runs jobs until no deque holds one, or a job or an allocation fails.
@@ -43,7 +43,9 @@ where
                 gate.enter(job);
                 let out = work.run(alloc, job)?;
                 gate.leave(job);
-                answers.push(Answer { job, out }).map_err(AllocError::from)?;
+                answers
+                    .push(JobResult { job, out })
+                    .map_err(AllocError::from)?;
             }
             Take::Again => thread::yield_now(),
             Take::Empty => break,

@@ -10,7 +10,7 @@ use Rattle.tiles.specs.Cutting.{Cutting, IsCutting, IsInBounds, IsInTile, bounds
 use Rattle.tiles.proofs.Cut.{in_bounds}
 use Rattle.tiles.proofs.SliceGet.{slice_get-append_left, slice_get-append_right}
 use Rattle.tiles.proofs.TileOrder.{index_in_below, index_in_tile_is, tile_entry-in}
-use Rattle.tile_maps.specs.Maps.{AreMadeBelow, IsMadeTile}
+use Rattle.tile_maps.specs.Maps.{IsMadeUpTo, IsMadeTile}
 
 pub within_injective : (b : Bounds) (p q : Place) → IsInBounds b p → IsInBounds b q →
     index_in b p ≡ index_in b q → p ≡ q
@@ -23,8 +23,8 @@ within_injective b p q i j e =
 
 pub made_push : {X : Type 0} (b : Bounds) (Has : Place → X → Type 0) (p : Place) (list : List X)
     (x : X) → IsInBounds b p →
-    AreMadeBelow b Has (index_in b p) list → Has p x →
-    AreMadeBelow b Has (index_in b p + 1) (list ++ x ∷ [])
+    IsMadeUpTo b Has (index_in b p) list → Has p x →
+    IsMadeUpTo b Has (index_in b p + 1) (list ++ x ∷ [])
 made_push {X} b Has p list x inside before here = record {
   size = length_push list x ∙ ap (λ n. n + 1) before.size;
   each = λ q within below entry is. elim (cases_eq (index_in b q) (index_in b p)) [
@@ -41,8 +41,8 @@ made_push {X} b Has p list x inside before here = record {
 -- `made_push` for the place in this row and column, counted from the first of the bounds
 pub made_next : {X : Type 0} (b : Bounds) (Has : Place → X → Type 0) (row col : ℕ) (list : List X)
     (x : X) → row < b.rows → col < b.cols →
-    AreMadeBelow b Has (row * b.cols + col) list → Has (make_place (b.top + row) (b.left + col)) x →
-    AreMadeBelow b Has (row * b.cols + (col + 1)) (list ++ x ∷ [])
+    IsMadeUpTo b Has (row * b.cols + col) list → Has (make_place (b.top + row) (b.left + col)) x →
+    IsMadeUpTo b Has (row * b.cols + (col + 1)) (list ++ x ∷ [])
 made_next {X} b Has row col list x below beside before here =
     let p = make_place (b.top + row) (b.left + col) in
     let row_is : b.top + row - b.top ≡ row = omega arith in
@@ -50,13 +50,13 @@ made_next {X} b Has row col list x below beside before here =
     let at : index_in b p ≡ row * b.cols + col = ap (λ (n : ℕ). n * b.cols
     + (b.left + col - b.left)) row_is ∙ ap (λ (n : ℕ). row * b.cols + n) col_is in
     let next : index_in b p + 1 ≡ row * b.cols + (col + 1) = omega (arith, at) in
-    subst (λ (n : ℕ). AreMadeBelow b Has n (list ++ x ∷ [])) next
+    subst (λ (n : ℕ). IsMadeUpTo b Has n (list ++ x ∷ [])) next
     (made_push b Has p list x (omega arith, omega arith, omega arith, omega arith)
-    (subst (λ (n : ℕ). AreMadeBelow b Has n list) (sym at) before) here)
+    (subst (λ (n : ℕ). IsMadeUpTo b Has n list) (sym at) before) here)
 
 pub made_tile : {X : Type 0} (c : Cutting) (tile : ℕ) (b : Bounds) (Has : Place → X → Type 0)
     (list : List X) → IsCutting c → b ≡ bounds_of c tile →
-    AreMadeBelow b Has (b.rows * b.cols) list → IsMadeTile c tile Has list
+    IsMadeUpTo b Has (b.rows * b.cols) list → IsMadeTile c tile Has list
 made_tile c tile b Has list lawful e made = record {
   size = made.size ∙ ap (λ (z : Bounds). z.rows * z.cols) e;
   each = λ p inside entry is.

@@ -5,7 +5,7 @@ use Rattle.std.proofs.lemmas.Option.{get_or_from_slice_get, slice_get-get_or, sl
 use Rattle.terrain.specs.Neighbours.{entry_at, index_of}
 use Rattle.terrain.specs.declared.place.Place.{Place}
 use Rattle.terrain.proofs.Places.{entry-inside, index_below}
-use Rattle.tile_jobs.specs.Answers.{AllGiven}
+use Rattle.tile_jobs.specs.Answers.{AreResults}
 use Rattle.tiles.specs.Cutting.{Cutting, IsCutting, IsInTile, IsWithin, AreTileLists, IsPutBack, cell_count, index_in_tile, tile_count, tile_entry, tile_of_place}
 use Rattle.tiles.proofs.Cut.{tile_of_place_below}
 use Rattle.tiles.proofs.TileOrder.{index_in_tile_is, tile_entry-in}
@@ -14,7 +14,7 @@ use Rattle.tile_maps.specs.Maps.{IsMadeTile, IsMadeMap}
 module _ {X : Type 0} (c : Cutting) (Has : Place → X → Type 0) (n : ℕ)
     (lists : Vec (Vec X Global) Global) (count : vec_len lists ≡ n) (all : n ≡ tile_count c)
     (given :
-    AllGiven (λ tile (list : Vec X Global). IsMadeTile c tile Has list.items) n lists.items) where
+    AreResults (λ tile (list : Vec X Global). IsMadeTile c tile Has list.items) n lists.items) where
   made_at : (tile : ℕ) (list : Vec X Global) → slice_get lists.items tile ≡ Some list →
       IsMadeTile c tile Has list.items
   made_at tile list e = subst (λ (v : Vec X Global). IsMadeTile c tile Has v.items)

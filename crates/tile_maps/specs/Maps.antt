@@ -9,7 +9,7 @@ use Rattle.tiles.specs.Cutting.{Cutting, index_in, IsInBounds, IsInTile, IsWithi
 
 -- The list has `end` entries, for the first places of the bounds in row order.
 -- `Has` holds of each entry at its place.
-pub record AreMadeBelow {X : Type 0} (b : Bounds) (Has : Place → X → Type 0) (end : ℕ)
+pub record IsMadeUpTo {X : Type 0} (b : Bounds) (Has : Place → X → Type 0) (end : ℕ)
     (list : List X) : Type 0 where
   pub size : length list ≡ end
   pub each : (p : Place) → IsInBounds b p → index_in b p < end → (entry : X) →

@@ -2,7 +2,7 @@
 //!
 //! [`Runner::run`] runs any jobs, and [`Runner::map_tiles`] makes a map.
 ghost use Rattle.std.specs.Prelude.{◌≡◌, ◌≤◌, vec_len, IfOk};
-ghost use Rattle.tile_jobs.specs.Answers.{AllGiven};
+ghost use Rattle.tile_jobs.specs.Answers.{AreResults};
 ghost use Rattle.tile_jobs.specs.Fault.{RefusesWorkers};
 ghost use Rattle.tile_maps.specs.Maps.{IsMadeMap};
 
@@ -62,7 +62,7 @@ impl<'a, R: Threads + Wait + Sync, G: Gate + Sync> Runner<'a, R, G> {
         requires jobs { jobs ≤ W.most work.now }
         requires few { jobs ≤ MOST_JOBS }
         ensures len { IfOk result (λ v. vec_len v ≡ jobs) }
-        ensures given { IfOk result (λ v. AllGiven (W.gives work.now) jobs v.items) }
+        ensures given { IfOk result (λ v. AreResults (W.gives work.now) jobs v.items) }
         ensures workers { RefusesWorkers self.now.workers result }
     {
         run_jobs(self.rt, self.alloc, work, jobs, self.workers, self.gate)

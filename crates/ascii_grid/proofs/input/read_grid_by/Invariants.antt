@@ -1,10 +1,10 @@
 use Rattle.std.proofs.Common.{◌≡◌, ◌-◌, ◌<◌, length, None}
-use Rattle.ascii_grid.proofs.Taking.{IsTaking}
+use Rattle.ascii_grid.proofs.Taking.{HasFedSoFar}
 use Rattle.ascii_grid.proofs.input.read_grid_by.Given as goal
 
 abbrev pub invariant-loop-count : goal.invariant-loop-count
 invariant-loop-count g l = record {
-  taking : IsTaking g.R.Read.remaining l.initial.reader l.reader l.scale l.grid_reader l.taken;
+  taking : HasFedSoFar g.R.Read.remaining l.initial.reader l.reader l.scale l.grid_reader l.taken;
   faultless : l.grid_reader.fault ≡ None;
   some : 0 < length l.buffer;
 }

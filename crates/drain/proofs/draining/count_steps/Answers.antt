@@ -1,6 +1,6 @@
 use Rattle.std.proofs.Common.{List, ℤ, Option, sym, ap, subst}
 use Rattle.terrain.specs.Raster.{Raster, Terrain, IsTerrain}
-use Rattle.drain.specs.Beginning.{AreBegun}
+use Rattle.drain.specs.Beginning.{AreInitialCounts}
 use Rattle.drain.specs.Entering.{sinkless_terrain}
 use Rattle.drain.specs.Rounds.{AreFinal}
 use Rattle.drain.proofs.DrainedLemmas.{same_terrain}
@@ -29,7 +29,7 @@ returns-clause-steps g c =
     (ap (λ (x : Raster). x.terrain.cells) c.grid-grid.ensures.value) in
     final_is_steps v t first.0 steps c.requires (subst (λ (x : Raster). IsTerrain x.terrain)
     c.grid-grid.ensures.value c.cells.ensures.lawful.terrain) c.grid-grid.ensures.own
-    (subst (λ (x : Raster). AreBegun x.terrain first.0) c.grid-grid.ensures.value first.1)
+    (subst (λ (x : Raster). AreInitialCounts x.terrain first.0) c.grid-grid.ensures.value first.1)
     (subst (λ (x : Terrain). AreFinal v x first.0 steps) (sym same) finished)
 
 pub run_rounds-requires-clause-counting : goal.run_rounds-requires-clause-counting

@@ -4,7 +4,7 @@ use Rattle.std.proofs.lemmas.Option.{MatchOption-at_some}
 use Rattle.terrain.specs.Raster.{Terrain}
 use Rattle.terrain.specs.Sinks.{with_sinks}
 use Rattle.tiles.specs.Cutting.{View, terrain_of}
-use Rattle.drain.specs.Rounds.{IsSource, AreWalked, IsRound}
+use Rattle.drain.specs.Rounds.{HasCountZero, AreWalked, IsRound}
 use Rattle.drain.specs.Steps.{DrainsAtOnce}
 use Rattle.drain.specs.Beginning.{HasZeros}
 use Rattle.drain.specs.Window.{AreCounts, IsSearched}
@@ -15,10 +15,10 @@ use Rattle.drain.proofs.draining.flat_steps.Goals as goal
 
 walks : (t : Terrain) (v : View (Option ℤ)) (steps : List (Option ℕ)) →
     terrain_of v ≡ with_sinks t [] → HasZeros t steps → AreWalked (DrainsAtOnce t) t steps →
-    AreWalked (IsSource (terrain_of v) steps) (terrain_of v) steps
+    AreWalked (HasCountZero (terrain_of v) steps) (terrain_of v) steps
 walks t v steps shown zeros walked =
-    subst (λ (x : Terrain). AreWalked (IsSource x steps) x steps) (sym shown)
-    (are_walked_to (DrainsAtOnce t) (IsSource t steps) t [] steps
+    subst (λ (x : Terrain). AreWalked (HasCountZero x steps) x steps) (sym shown)
+    (are_walked_to (DrainsAtOnce t) (HasCountZero t steps) t [] steps
     (λ p drains. (drains_data t p drains, zeros p drains)) walked)
 
 each_is : (xs : List (Option ℕ)) → map (λ x. x) xs ≡ xs
@@ -60,9 +60,9 @@ returns g c =
     (walks t v w.cells c.requires.0 c.requires.1.1.1.0 c.requires.1.1.1.1) finished round.2 in
     subst (λ (xs : List (Option ℕ)). IsRound (DrainsAtOnce t) t v.cutting v.tile w.cells xs)
     (sym (c.in_ok-step_numbers.ensures ∙ each_is c.deref-2.result.now ∙ c.deref-2.ensures.value))
-    (round_to (IsSource t w.cells) (DrainsAtOnce t)
+    (round_to (HasCountZero t w.cells) (DrainsAtOnce t)
     (with_sinks t []) t.sinks v.cutting v.tile w.cells list
     (λ p input. let walk = MatchOption-at_some _ _ 0 input.1 (c.requires.1.1.1.1 p) in
     ended (DrainsAtOnce t) t p walk.1 walk.2 walk.3)
-    (subst (λ (x : Terrain). IsRound (IsSource x w.cells) x v.cutting v.tile w.cells list)
+    (subst (λ (x : Terrain). IsRound (HasCountZero x w.cells) x v.cutting v.tile w.cells list)
     c.requires.0 made))

@@ -5,7 +5,7 @@ use Rattle.terrain.specs.declared.place.Place.{Place}
 use Rattle.tiles.specs.Cutting.{bounds_of, tile_of_place}
 use Rattle.drain.specs.Entering.{sinkless_terrain}
 use Rattle.drain.specs.Lowering.{counts_in}
-use Rattle.drain.specs.Rounds.{IsSource}
+use Rattle.drain.specs.Rounds.{HasCountZero}
 use Rattle.drain.proofs.Few.{data_on_level_walk}
 use Rattle.drain.proofs.Spreading.{touches_back}
 use Rattle.drain.proofs.TileRound.{walked_on}
@@ -32,7 +32,7 @@ lower-requires-clause-walked c = λ less.
     subst (λ (k : ℕ). from.count
     + 1 < counts_in v k steps c.args.lowered.now (index_of v.cols to)) c.requires.to.0.1 less in
     let level : height_at t to ≡ height_at t from.place = c.is_level.ensures.0 c.if-is_level.true in
-    let is_data = data_on_level_walk (IsSource t steps) t (λ p input.
+    let is_data = data_on_level_walk (HasCountZero t steps) t (λ p input.
     input.0) from.place c.requires.ready.change.walked.1 c.requires.ready.change.walked.2 in
     let differ : to ≢ from.place = λ e. (let same =
     ap (λ (q : Place). counts_in v tile steps c.args.lowered.now (index_of v.cols q)) e in

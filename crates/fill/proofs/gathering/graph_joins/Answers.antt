@@ -6,7 +6,7 @@ use Rattle.tiles.specs.Cutting.{IsInTile, IsWithin, tile_of_place}
 use Rattle.tiles.proofs.Cut.{tile_of_place_below}
 use Rattle.fill.specs.Gathering.{Adds, IsOutside, LeftOutJoins, mark_among}
 use Rattle.fill.proofs.Adding.{adds_none, adds_then, no_join}
-use Rattle.fill.proofs.Rims.{list_there}
+use Rattle.fill.proofs.LabelNets.{list_there}
 use Rattle.fill.proofs.Shifting.{inner_few, shift_adds, tile_adds}
 use Rattle.fill.proofs.gathering.graph_joins.Goals as goal
 

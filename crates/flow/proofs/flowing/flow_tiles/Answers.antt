@@ -1,6 +1,6 @@
 use Rattle.std.proofs.Common.{◌≡◌, List, true, refl}
 use Rattle.flow.specs.TileFlow.{Flow, AreTileCounts}
-use Rattle.flow.specs.RimGraph.{AreFlowsOf, IsFound}
+use Rattle.flow.specs.RimGraph.{AreFlowsOf, IsFlowOfTile}
 use Rattle.flow.specs.Whole.{make_directed}
 use Rattle.flow.proofs.Together.{jobs_gave}
 use Rattle.flow.proofs.flowing.flow_tiles.Goals as goal
@@ -9,7 +9,8 @@ pub returns-clause-flows : goal.returns-clause-flows
 returns-clause-flows g c =
     let t = c.args.tiling.now in
     let d = make_directed t.cols t.rows c.args.codes.now in
-    jobs_gave (IsFound d t c.args.counted) c.run.result _ _ (AreFlowsOf d t) c.tiles.ensures.value
+    jobs_gave (IsFlowOfTile d t c.args.counted) c.run.result _ _
+    (AreFlowsOf d t) c.tiles.ensures.value
     (λ outs count each. record {
       cutting = c.tiles.ensures.lawful;
       ends = c.requires.grid.ends;
@@ -21,7 +22,7 @@ pub returns-clause-counts : goal.returns-clause-counts
 returns-clause-counts g c =
     let t = c.args.tiling.now in
     let d = make_directed t.cols t.rows c.args.codes.now in
-    jobs_gave (IsFound d t c.args.counted) c.run.result _ _ (λ (outs : List Flow).
+    jobs_gave (IsFlowOfTile d t c.args.counted) c.run.result _ _ (λ (outs : List Flow).
     c.args.counted ≡ true → AreTileCounts d t outs) c.tiles.ensures.value
     (λ outs count each counted.
     record { each = λ k x there. (each k x there).1 counted }) c.run.ensures.len c.run.ensures.given

@@ -1,7 +1,7 @@
 use Rattle.std.proofs.Common.{◌∙◌, ℕ, ℤ, List, Option, sym, ap, subst}
 use Rattle.terrain.specs.Raster.{Terrain}
 use Rattle.tiles.specs.Cutting.{View, terrain_of}
-use Rattle.drain.specs.Beginning.{AreBegun}
+use Rattle.drain.specs.Beginning.{AreInitialCounts}
 use Rattle.drain.specs.Steps.{DrainsAtOnce}
 use Rattle.drain.proofs.DrainedLemmas.{same_terrain}
 use Rattle.drain.proofs.Quiet.{begun_input, begun_walked}
@@ -13,7 +13,7 @@ flat_steps-requires g c =
     let cut = c.args.tiling.now in
     let counts = c.view-steps.result.cells in
     let same = c.cells.ensures.value ∙ sym (ap (λ (x : Terrain). x.cells) c.requires.0) in
-    let begun = subst (λ (xs : List (Option ℕ)). AreBegun t xs)
+    let begun = subst (λ (xs : List (Option ℕ)). AreInitialCounts t xs)
     (sym (ap (λ (v : View (Option ℕ)). v.cells) c.view-steps.ensures)) c.requires.1.1.0 in (
       ap (λ (v : View (Option ℤ)). terrain_of v) c.view-levels.ensures ∙ sym (same_terrain t
           cut.cols cut.rows c.cells.result.now c.requires.1.0.0 c.requires.1.0.1 same),

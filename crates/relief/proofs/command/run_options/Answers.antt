@@ -1,6 +1,6 @@
 use Rattle.std.proofs.Common.{ℕ, Bool, true, false, ◌≤◌, ◌==◌, ◌||◌, if◌then◌else◌, refl, sym, subst, arith}
 use Rattle.relief.specs.Ends.{EndsAs}
-use Rattle.relief.specs.FaultLine.{status_of, telling}
+use Rattle.relief.specs.FaultLine.{status_of, fault_parts}
 use Rattle.relief.proofs.command.run_options.Goals as goal
 
 one_of_three : (a b : Bool) → (if a then 3 else if b then 4 else 2) ≤ 4
@@ -13,7 +13,7 @@ status_small number = one_of_three (number == 12 || number == 32) (number == 51 
 
 pub returns-in-Err-clause-small : goal.returns-in-Err-clause-small
 returns-in-Err-clause-small g c =
-    rw c.end_with.ensures.status (status_small (telling c.in-Err.fault).number)
+    rw c.end_with.ensures.status (status_small (fault_parts c.in-Err.fault).number)
 
 pub returns-in-Ok-clause-ends : goal.returns-in-Ok-clause-ends
 returns-in-Ok-clause-ends g c = record {

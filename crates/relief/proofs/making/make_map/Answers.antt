@@ -2,7 +2,7 @@ use Rattle.std.proofs.Common.{◌≡◌, ℕ, List, Option, None, ap, refl, subs
 use Rattle.std.specs.Option.{option_map}
 use Rattle.std.proofs.lemmas.Result.{err_from_is_err_and}
 use Rattle.relief.specs.declared.fault.RunFault.TheVariants.{Sight}
-use Rattle.relief.specs.Refusals.{gauge_fault, observer_fault}
+use Rattle.relief.specs.Refusals.{gauge_fault, view_fault}
 use Rattle.sight.specs.Refusals.{observers_fault}
 use Rattle.sight.proofs.Refused.{not_jobs}
 use Rattle.relief.proofs.Viewing.{catchments_refused, no_fault, view_refused}
@@ -94,7 +94,7 @@ returns-in_err-numbers-in-Catchments-clause-fault g c =
     let is : w.map ≡ Catchments c.in-Catchments.gauges = sym c.map.ensures ∙ c.in-Catchments.is in
     let asked : gauge_fault grid w.map ≡ gauges_fault grid.terrain gauges =
     ap (λ m. gauge_fault grid m) is in
-    let unseen : observer_fault grid w.map ≡ None = ap (λ m. observer_fault grid m) is in
+    let unseen : view_fault grid w.map ≡ None = ap (λ m. view_fault grid m) is in
     let sound = c.in_ok-frame-in-Catchments.ensures.gauges gauges ∙ sym asked ∙ c.requires.gauges in
     let refusals = rw (c.deref.ensures.value, c.workers-workers.ensures.value)
     at c.in_err-numbers-in-Catchments.ensures.refusals in
@@ -118,9 +118,9 @@ returns-in_err-counts-in-View-clause-fault g c =
     c.from_residual-in_err-counts-in-View.ensures.1 in
     let w = c.args.options.now in
     let grid = c.args.grid in
-    let asked : observer_fault grid w.map
+    let asked : view_fault grid w.map
     ≡ observers_fault grid.terrain c.in-View.observers.items c.in-View.target c.in-View.radius =
-    ap (λ m. observer_fault grid m) (sym c.map.ensures ∙ c.in-View.is) in
+    ap (λ m. view_fault grid m) (sym c.map.ensures ∙ c.in-View.is) in
     let refusals = rw (c.deref-in-View.ensures.value, c.workers-workers.ensures.value)
     at c.in_err-counts-in-View.ensures.refusals in
     rw (p.1, p.2) (view_refused w grid _ c.in_err-counts-in-View.field-0.0
@@ -132,8 +132,8 @@ pub returns-in_ok-counts-in-View-clause-ready : goal.returns-in_ok-counts-in-Vie
 returns-in_ok-counts-in-View-clause-ready g c =
     let w = c.args.options.now in
     let grid = c.args.grid in
-    let asked : observer_fault grid w.map
+    let asked : view_fault grid w.map
     ≡ observers_fault grid.terrain c.in-View.observers.items c.in-View.target c.in-View.radius =
-    ap (λ m. observer_fault grid m) (sym c.map.ensures ∙ c.in-View.is) in
+    ap (λ m. view_fault grid m) (sym c.map.ensures ∙ c.in-View.is) in
     c.requires.sound ∙ ap (λ o. option_map Sight o) (asked
     ∙ no_fault _ _ _ (rw c.deref-in-View.ensures.value at c.in_ok-counts-in-View.ensures.refusals))

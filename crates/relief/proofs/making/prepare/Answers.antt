@@ -4,7 +4,7 @@ use Rattle.std.proofs.lemmas.Result.{err_from_is_err_and}
 use Rattle.terrain.specs.Raster.{Raster}
 use Rattle.terrain.specs.Sinks.{raster_with_sinks}
 use Rattle.relief.specs.declared.fault.RunFault.TheVariants.{Sight}
-use Rattle.relief.specs.Refusals.{gauge_fault, observer_fault, request_fault}
+use Rattle.relief.specs.Refusals.{gauge_fault, view_fault, request_fault}
 use Rattle.relief.proofs.Draining.{drained_some, place_refused, sinks_refused, sound_gauges, request_of_many, request_of_sound}
 use Rattle.relief.proofs.making.prepare.Goals as goal
 
@@ -39,7 +39,7 @@ pub returns-clause-sound : goal.returns-clause-sound
 returns-clause-sound c =
     let w = c.args.options.now in
     let given : Raster = raster_with_sinks c.args.grid w.sinks in
-    subst (λ (r : Raster). request_fault w r ≡ option_map Sight (observer_fault r w.map))
+    subst (λ (r : Raster). request_fault w r ≡ option_map Sight (view_fault r w.map))
     (sym (rw c.sinks-sinks.ensures.value at c.in_ok-grid.ensures.grid))
     (request_of_sound w given (rw c.tile.ensures.value at c.in_ok-tiling.ensures.few)
     (sym c.named_place_fault.ensures ∙ c.in_default.is))

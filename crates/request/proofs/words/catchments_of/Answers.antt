@@ -2,7 +2,7 @@ use Rattle.std.proofs.Common.{rules, ◌≡◌, IfErr, refl, sym, subst, codes}
 use Rattle.std.proofs.lemmas.Result.{IfErr-weaker}
 use Rattle.clap.specs.Words.{found_of, rows_of}
 use Rattle.request.specs.CommandLine.{IsFirstBad}
-use Rattle.request.specs.PlaceWords.{sink_of}
+use Rattle.request.specs.PlaceWords.{place_of_word}
 use Rattle.request.specs.WordsFaults.{IsMapFault}
 use Rattle.request.proofs.Given.{fault_weaker, given_words}
 use Rattle.request.proofs.words.catchments_of.Goals as goal
@@ -15,7 +15,7 @@ returns-in_err-gauges-clause-none c =
     IfErr-weaker c.from_residual.result _ _ (λ y e. subst (IsMapFault (codes "catchments")
     (rows_of (found_of c.args.found.now))) (sym e) (fault_weaker c.in_err-gauges.field-0.0
     (λ place never. absurd never) (λ place bad.
-    (refl, subst (λ ws. IsFirstBad sink_of ws place) words bad)) (λ never. absurd never)
+    (refl, subst (λ ws. IsFirstBad place_of_word ws place) words bad)) (λ never. absurd never)
     c.in_err-gauges.ensures.none)) same
 
 pub returns-clause-some : goal.returns-clause-some

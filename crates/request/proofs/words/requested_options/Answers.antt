@@ -4,7 +4,7 @@ use Rattle.clap.specs.Words.{Text, found_of, rows_of}
 use Rattle.clap.specs.Faults.{fault_of, is_simple_and_free}
 use Rattle.clap.specs.Kinds.{HasKind}
 use Rattle.request.specs.CommandLine.{Spell, RequestFor, program_app}
-use Rattle.request.specs.PlaceWords.{sink_of}
+use Rattle.request.specs.PlaceWords.{place_of_word}
 use Rattle.request.specs.Request.{IsView}
 use Rattle.request.proofs.Requested.{accepted, found_in, map_refused, named_by, none_by, none_named, options_refused, program_free, sinks_refused, requested}
 use Rattle.request.proofs.Given.{view_without_sinks}
@@ -88,5 +88,5 @@ returns-clause-request c =
     subst (RequestFor words) (sym c.in-Err.ensures.view.0)
     (requested words (accepted _ words c.in_ok-command.ensures c.in_ok-matches.ensures.kinds)
     _ _ found c.in_ok-map.map c.in-Some-with_options.options
-    c.in_ok-map.ensures.some given.some.0 (subst (Spell sink_of _)
+    c.in_ok-map.ensures.some given.some.0 (subst (Spell place_of_word _)
     (sym given.some.1) none) given.some.2 given.limits given.progress (λ view. given.some.1))

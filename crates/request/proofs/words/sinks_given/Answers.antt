@@ -3,8 +3,8 @@ use Rattle.std.specs.Str.{bytes_eq}
 use Rattle.std.proofs.lemmas.Bool.{cond-false}
 use Rattle.clap.specs.Words.{Text, found_of, rows_of}
 use Rattle.request.specs.CommandLine.{IsFirstBad, Spell, sink_words}
-use Rattle.request.specs.PlaceWords.{sink_of}
-use Rattle.request.specs.WordsFaults.{IsFaultBy}
+use Rattle.request.specs.PlaceWords.{place_of_word}
+use Rattle.request.specs.WordsFaults.{IsFaultWith}
 use Rattle.request.proofs.Given.{given_words}
 use Rattle.request.proofs.words.sinks_given.Goals as goal
 
@@ -18,8 +18,10 @@ same c =
 
 pub returns-clause-some : goal.returns-clause-some
 returns-clause-some c = subst (λ (words : List Text).
-    IfOk c.sinks_of.result (λ v. Spell sink_of words v.items)) (same c) c.sinks_of.ensures.some
+    IfOk c.sinks_of.result (λ v. Spell place_of_word words v.items))
+        (same c) c.sinks_of.ensures.some
 
 pub returns-clause-none : goal.returns-clause-none
 returns-clause-none c = subst (λ (words : List Text). IfErr c.sinks_of.result
-    (IsFaultBy (λ _. ⊥) (λ _. ⊥) (IsFirstBad sink_of words) ⊥)) (same c) c.sinks_of.ensures.none
+    (IsFaultWith (λ _. ⊥) (λ _. ⊥) (IsFirstBad place_of_word words) ⊥))
+        (same c) c.sinks_of.ensures.none

@@ -1,7 +1,7 @@
 use Rattle.std.proofs.Common.{◌≡◌, ◌+◌, ◌-◌, ◌*◌, ℕ, ◌++◌, ◌∷◌, [], ap, subst, arith}
 use Rattle.terrain.proofs.Places.{make_place}
 use Rattle.tiles.specs.Cutting.{index_in}
-use Rattle.tile_maps.specs.Maps.{AreMadeBelow}
+use Rattle.tile_maps.specs.Maps.{IsMadeUpTo}
 use Rattle.tile_maps.proofs.TileLists.{made_push}
 use Rattle.sight.proofs.by_place.push_row.Goals as goal
 
@@ -16,7 +16,7 @@ loop-col-preserved g c =
     (omega (arith, c.requires.row), omega (arith, c.requires.row), omega arith, omega arith)
     c.loop-col.invariant c.entry.ensures in
     rw c.in_ok-push.ensures.items (subst
-    (λ (n : ℕ). AreMadeBelow b Has n (c.loop-col.list.items ++ c.entry.result ∷ [])) next more)
+    (λ (n : ℕ). IsMadeUpTo b Has n (c.loop-col.list.items ++ c.entry.result ∷ [])) next more)
 
 pub returns : goal.returns
 returns g c =
@@ -25,5 +25,5 @@ returns g c =
     let wide : c.loop-col.col - b.left ≡ b.cols = omega arith in
     let all : (c.args.row - b.top) * b.cols + (c.loop-col.col - b.left)
     ≡ (c.args.row + 1 - b.top) * b.cols = omega (arith, wide, ap (λ (n : ℕ). n * b.cols) up) in
-    subst (λ (n : ℕ). AreMadeBelow b (g.M.PlaceMap.has c.args.map.now) n c.loop-col.list.items)
+    subst (λ (n : ℕ). IsMadeUpTo b (g.M.PlaceMap.has c.args.map.now) n c.loop-col.list.items)
     all c.loop-col.invariant

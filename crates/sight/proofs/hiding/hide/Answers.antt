@@ -19,10 +19,10 @@ rank-requires-clause-each c i t at =
 pub loop-number-init : goal.loop-number-init
 loop-number-init c =
     let first =
-    rw c.deref-2.ensures.value at (c.in_ok-look.ensures c.args.cells.now c.args.family) in
+    rw c.deref-2.ensures.value at (c.in_ok-lookup.ensures c.args.cells.now c.args.family) in
     record {
       looks = subst (λ (k : ℕ). LooksFrom c.args.cells.now c.args.family
-          c.in_ok-ranked.ranked.targets.items k c.in_ok-look.look) (sym first.line) first;
+          c.in_ok-ranked.ranked.targets.items k c.in_ok-lookup.lookup) (sym first.line) first;
       some = omega (arith, first.line);
       line = λ u t after at.
           let here = ap (λ (xs : List Target). slice_get xs u) (sym c.deref-ray-items.ensures.value)
@@ -67,7 +67,7 @@ rise-rise-requires-clause-target c =
 
 pub hides-requires : goal.hides-requires
 hides-requires c =
-    let look = rw c.deref-in-loop-number.ensures.value at c.in_ok-go_to.ensures in
+    let lookup = rw c.deref-in-loop-number.ensures.value at c.in_ok-go_to.ensures in
     let ranked =
     rw (c.deref.ensures.value, sym c.deref-ray-items.ensures.value) at c.in_ok-ranked.ensures in
     let at = rank_at c.deref-ray-items.result.now c.in_ok-ranked.ranked.targets.items
@@ -77,11 +77,11 @@ hides-requires c =
     c.deref-ray-items.result.now c.loop-number.number c.deref-ray-items.ensures.value
     c.loop-number-test.true c.in_ok-rays.ensures.rays in
     record {
-      rank = omega (arith, look.hides.over.whole, slice_get_within _ c.index.result.now _ at);
-      cursor = look.cursor;
+      rank = omega (arith, lookup.hides.over.whole, slice_get_within _ c.index.result.now _ at);
+      cursor = lookup.cursor;
       target = ray_is_target c.args.family c.args.window c.args.marks.now _ c.requires.family
           c.requires.window ray;
-      at = λ r at_r. look.hides.over.each c.index.result.now _ r at at_r;
+      at = λ r at_r. lookup.hides.over.each c.index.result.now _ r at at_r;
     }
 
 pub unmark-requires-clause-window : goal.unmark-requires-clause-window
@@ -111,7 +111,7 @@ loop-number-preserved c =
     let are : AreRays f w old 4097 0 rays =
     rw c.deref-ray-items.ensures.value c.in_ok-rays.ensures.rays in
     let ray = (are.each n t at_t).0 in
-    let look : LooksFrom cells f targets t.line c.go_to.new.self =
+    let lookup : LooksFrom cells f targets t.line c.go_to.new.self =
     rw c.deref-in-loop-number.ensures.value at c.in_ok-go_to.ensures in
     let ranked =
     rw (c.deref.ensures.value, sym c.deref-ray-items.ensures.value) at c.in_ok-ranked.ensures in
@@ -120,13 +120,14 @@ loop-number-preserved c =
     let answer = rw (to_z-of_z w64 c.rise-rise.result (search rules)) at c.hides.ensures.answer in
     let reported : c.hides.result
     ≡ is_blocked_before cells f t.line ray.cell (rise_at cells f height t.line ray.cell) t.line =
-    answer ∙ look.hides.hides c.index.result.now t ray.cell c.rise-rise.result at_rank ray.stands
+    answer ∙
+    lookup.hides.hides c.index.result.now t ray.cell c.rise-rise.result at_rank ray.stands
     (omega arith) c.rise-rise.ensures.small
     ∙ ap (λ z. is_blocked_before cells f t.line ray.cell z t.line)
     (c.rise-rise.ensures.value ray.cell ray.stands) in
-    let line : c.hides.new.self.line ≡ t.line = c.hides.ensures.line ∙ look.line in
+    let line : c.hides.new.self.line ≡ t.line = c.hides.ensures.line ∙ lookup.line in
     record {
-      looks = looked_on cells f targets t.line c.go_to.new.self c.hides.new.self look
+      looks = looked_on cells f targets t.line c.go_to.new.self c.hides.new.self lookup
           c.hides.ensures.line c.hides.ensures.highest c.hides.ensures.cursor;
       some = omega (arith, line, ray.crosses.later);
       line = λ u s after at_s. omega (arith, line, are.sorted n u t s (omega arith) at_t at_s);

@@ -7,9 +7,9 @@ use Rattle.sight.proofs.hiding.hide.Given as goal
 
 abbrev pub invariant-loop-number : goal.invariant-loop-number
 invariant-loop-number l = record {
-  looks : LooksFrom l.cells l.family l.ranked.targets.items l.look.line l.look;
-  some : 0 < l.look.line;
+  looks : LooksFrom l.cells l.family l.ranked.targets.items l.lookup.line l.lookup;
+  some : 0 < l.lookup.line;
   line : (u : ℕ) (t : Target) → l.number ≤ u → slice_get l.ray-items u ≡ Some t →
-      l.look.line ≤ t.line;
+      l.lookup.line ≤ t.line;
   marks : AreHiddenBelow l.cells l.family l.window l.height l.ray-items l.number l.fn.marks l.marks;
 }

@@ -19,8 +19,8 @@ pub is_before-requires-clause-target : goal.is_before-requires-clause-target
 is_before-requires-clause-target c = c.requires.targets.each 0 _
     (first_is c.args.targets.now (sym c.is_empty.ensures ∙ c.if-is_empty.false))
 
-pub count_before-requires-clause-before : goal.count_before-requires-clause-before
-count_before-requires-clause-before c =
+pub end_before-requires-clause-before : goal.end_before-requires-clause-before
+end_before-requires-clause-before c =
     let first = c.first_offset-first.result in
     let back = back_short first (omega (arith, c.first_offset-first.ensures.small)) in
     let reported = rw back at c.is_before.ensures in
@@ -32,4 +32,4 @@ pub returns-clause-before : goal.returns-clause-before
 returns-clause-before c =
     let first = c.first_offset-first.result in
     let back = back_short first (omega (arith, c.first_offset-first.ensures.small)) in
-    rw (back, c.first_offset-first.ensures.value) at c.count_before.ensures.before
+    rw (back, c.first_offset-first.ensures.value) at c.end_before.ensures.before

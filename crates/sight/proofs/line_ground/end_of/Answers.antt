@@ -19,8 +19,8 @@ returns-then-span-clause-over c i u t low high at_u at =
       λ yes. same,
     )
 
-pub count_before-requires-clause-before : goal.count_before-requires-clause-before
-count_before-requires-clause-before c =
+pub end_before-requires-clause-before : goal.end_before-requires-clause-before
+end_before-requires-clause-before c =
     let targets = c.args.targets.now in
     let from = c.args.from in
     let last = c.args.span.last in
@@ -39,9 +39,9 @@ returns-clause-over c i u t low high at_u at =
     let last = c.args.span.last in
     let back = back_short last (omega (arith, c.requires.last)) in
     let next = back_short (last +ℤ pos 1) (omega (arith, ints, c.requires.last)) in
-    let before : AreBefore targets c.args.line (last +ℤ pos 1) c.count_before.result =
-    rw (back, next) at c.count_before.ensures.before in (
-      passes_onward targets c.args.line c.args.from c.count_before.result i offset last u t
+    let before : AreBefore targets c.args.line (last +ℤ pos 1) c.end_before.result =
+    rw (back, next) at c.end_before.ensures.before in (
+      passes_onward targets c.args.line c.args.from c.end_before.result i offset last u t
           c.requires.targets at_u (c.requires.passes u at_u) before low high at,
       λ yes. let no = c.if-span.false in absurd (cc),
     )

@@ -2,7 +2,7 @@ use Rattle.std.proofs.Common.{arith, refl, ◌∙◌, ◌≡◌, ◌-◌, pos, N
 use Rattle.std.proofs.lemmas.Bool.{OnTrue_from, OnTrue_at}
 use Rattle.std.proofs.lemmas.Int.{to_z-of_z}
 use Rattle.std.proofs.lemmas.Option.{slice_get-get_or}
-use Rattle.horizons.specs.Horizons.{hides_by}
+use Rattle.horizons.specs.Horizons.{ramp_hides}
 use Rattle.horizons.proofs.Hiding.{hides_if_not_above}
 use Rattle.horizons.proofs.Sizes.{back_short}
 use Rattle.sight.specs.Sweep.{IsHiddenOn, level_ramp}
@@ -66,7 +66,7 @@ returns c =
     passes_between c.args.targets.now (record { offset = pos 0; line = 0 }) c.args.line c.args.from
     c.args.piece.end i c.offset_at-low.result c.offset_at-high.result t c.requires.targets
     c.requires.range.1 c.offset_at-low.ensures.passes c.offset_at-high.ensures.passes low high at in
-    let hides : hides_by c.level_ramp.result t rise ≡ true = ap (λ r. hides_by r t rise) level
+    let hides : ramp_hides c.level_ramp.result t rise ≡ true = ap (λ r. ramp_hides r t rise) level
     ∙ top_blocks c.args.cells.now f k y c.offset_at-low.result c.offset_at-high.result ray.0 rise
     top t c.requires.family stands later ray.1 ray.2 ray.3 near blocks in
     hides_if_not_above c.level_ramp.result ramp t rise

@@ -58,11 +58,11 @@ returns-then-is_clear-2-clause-answer c =
     sym (rw all
     (none_joined p 1 (first - 1) first (n - first) (omega arith) c.loop-first.invariant.clear none))
 
-pub is_above_blocks-requires-clause-heights : goal.is_above_blocks-requires-clause-heights
-is_above_blocks-requires-clause-heights c = rw c.deref.ensures.value c.requires.far_tops.heights
+pub is_clear_of_blocks-requires-clause-heights : goal.is_clear_of_blocks-requires-clause-heights
+is_clear_of_blocks-requires-clause-heights c = rw c.deref.ensures.value c.requires.far_tops.heights
 
-pub is_above_blocks-requires-clause-lead : goal.is_above_blocks-requires-clause-lead
-is_above_blocks-requires-clause-lead c =
+pub is_clear_of_blocks-requires-clause-lead : goal.is_clear_of_blocks-requires-clause-lead
+is_clear_of_blocks-requires-clause-lead c =
     let line = c.args.line in
     omega (
       arith,
@@ -70,8 +70,8 @@ is_above_blocks-requires-clause-lead c =
       whole_le line.lead (steps_of line) c.loop-first.first (omega arith) (omega arith),
     )
 
-pub is_above_blocks-requires-clause-start : goal.is_above_blocks-requires-clause-start
-is_above_blocks-requires-clause-start c =
+pub is_clear_of_blocks-requires-clause-start : goal.is_clear_of_blocks-requires-clause-start
+is_clear_of_blocks-requires-clause-start c =
     let line = c.args.line in
     omega (
       arith,
@@ -79,8 +79,8 @@ is_above_blocks-requires-clause-start c =
       whole_le line.side (steps_of line) c.loop-first.first (omega arith) (omega arith),
     )
 
-pub is_above_blocks-requires-clause-end : goal.is_above_blocks-requires-clause-end
-is_above_blocks-requires-clause-end c =
+pub is_clear_of_blocks-requires-clause-end : goal.is_clear_of_blocks-requires-clause-end
+is_clear_of_blocks-requires-clause-end c =
     let line = c.args.line in
     omega (
       arith,
@@ -131,7 +131,7 @@ loop-first-preserved c =
     let here : whole_at line.lead (steps_of line) first / 128 ≡ block =
     ap (λ x. x / 128) (sym c.lead_at-block.ensures) in
     let low = rw c.deref.ensures.value at
-    (OnTrue_at c.if-not-is_above_blocks.false c.is_above_blocks.ensures) in
+    (OnTrue_at c.if-not-is_clear_of_blocks.false c.is_clear_of_blocks.ensures) in
     let none = none_from p first (end - first) (λ k above below. step_passed 128 c.args.cells.now
     c.args.tops.now.far.items line c.args.far first end k block c.loop-first.start c.at-next.result
     (omega arith) above (omega arith)
@@ -145,8 +145,8 @@ loop-first-preserved c =
           (omega arith) c.loop-first.invariant.clear none);
     }
 
-pub is_above_blocks-requires-clause-over : goal.is_above_blocks-requires-clause-over
-is_above_blocks-requires-clause-over c = rw c.deref.ensures.value c.requires.far_tops.over
+pub is_clear_of_blocks-requires-clause-over : goal.is_clear_of_blocks-requires-clause-over
+is_clear_of_blocks-requires-clause-over c = rw c.deref.ensures.value c.requires.far_tops.over
 
 pub blocking_step-requires : goal.blocking_step-requires
 blocking_step-requires c = record {

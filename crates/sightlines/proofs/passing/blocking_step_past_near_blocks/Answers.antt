@@ -6,8 +6,8 @@ use Rattle.sightlines.proofs.Ranges.{none_from, none_joined, any_within}
 use Rattle.sightlines.proofs.LowBlocks.{step_passed}
 use Rattle.sightlines.proofs.passing.blocking_step_past_near_blocks.Goals as goal
 
-pub is_above_blocks-requires-clause-lead : goal.is_above_blocks-requires-clause-lead
-is_above_blocks-requires-clause-lead c =
+pub is_clear_of_blocks-requires-clause-lead : goal.is_clear_of_blocks-requires-clause-lead
+is_clear_of_blocks-requires-clause-lead c =
     let line = c.args.line in
     omega (
       arith,
@@ -15,8 +15,8 @@ is_above_blocks-requires-clause-lead c =
       whole_le line.lead (steps_of line) c.loop-step.step (omega arith) (omega arith),
     )
 
-pub is_above_blocks-requires-clause-start : goal.is_above_blocks-requires-clause-start
-is_above_blocks-requires-clause-start c =
+pub is_clear_of_blocks-requires-clause-start : goal.is_clear_of_blocks-requires-clause-start
+is_clear_of_blocks-requires-clause-start c =
     let line = c.args.line in
     omega (
       arith,
@@ -24,8 +24,8 @@ is_above_blocks-requires-clause-start c =
       whole_le line.side (steps_of line) c.loop-step.step (omega arith) (omega arith),
     )
 
-pub is_above_blocks-requires-clause-end : goal.is_above_blocks-requires-clause-end
-is_above_blocks-requires-clause-end c =
+pub is_clear_of_blocks-requires-clause-end : goal.is_clear_of_blocks-requires-clause-end
+is_clear_of_blocks-requires-clause-end c =
     let line = c.args.line in
     omega (
       arith,
@@ -73,7 +73,7 @@ loop-step-preserved c =
     let all : past - first ≡ (step - first) + (past - step) = omega arith in
     let here : whole_at line.lead (steps_of line) step / 16 ≡ block =
     ap (λ x. x / 16) (sym c.lead_at-block.ensures) in
-    let low = OnTrue_at c.if-not-is_above_blocks.false c.is_above_blocks.ensures in
+    let low = OnTrue_at c.if-not-is_clear_of_blocks.false c.is_clear_of_blocks.ensures in
     let none = none_from p step (past - step) (λ k above below. step_passed 16 c.args.cells.now
     c.args.tops.now line c.args.strides step past k block c.loop-step.here c.to-next.result
     (omega arith) above (omega arith)

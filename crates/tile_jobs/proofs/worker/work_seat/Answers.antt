@@ -1,6 +1,6 @@
 use Rattle.std.proofs.Common.{rules, arith, refl, ◌≡◌, ◌<◌, [], ◌∷◌, ◌++◌, List}
 use Rattle.std.proofs.lemmas.Grind.{common_steps}
-use Rattle.tile_jobs.specs.declared.slots.Answer.{Answer}
+use Rattle.tile_jobs.specs.declared.slots.JobResult.{JobResult}
 use Rattle.tile_jobs.specs.Ends.{SeatState}
 use Rattle.tile_jobs.proofs.Answers.{answer_more}
 use Rattle.tile_jobs.proofs.Workers.{seat_trans, whole_more}
@@ -13,9 +13,9 @@ loop-preserved-in-Continue-branch-2 g c =
     let s : SeatState = c.loop.seat in
     let t : SeatState = c.try_take.new.self in
     let inv = c.loop.invariant in
-    let was : List (Answer _) = c.loop.answers.items in
+    let was : List (JobResult _) = c.loop.answers.items in
     let job = c.in-Job.job in
-    let a : Answer _ = record { job = job; out = c.in_ok-out-in-Job.out } in
+    let a : JobResult _ = record { job = job; out = c.in_ok-out-in-Job.out } in
     let took = c.in-Job.ensures.took in
     let items : c.push.new.self.items ≡ was ++ a ∷ [] = grind (arith, common_steps) in
     let low : job < s.own.jobs = took.below in

@@ -6,7 +6,7 @@ use Rattle.ascii_grid.proofs.Cells.{meaning_cell, meaning_nothing}
 use Rattle.std.proofs.lemmas.List.Elements.{All-push}
 use Rattle.ascii_grid.specs.HeightList.{ParserSettings, IsHeightWord}
 use Rattle.ascii_grid.proofs.HeightLists.{AreHeights-more}
-use Rattle.ascii_grid.proofs.JudgedWords.{is_short, place_of}
+use Rattle.ascii_grid.proofs.AddedWords.{is_short, place_of}
 use Rattle.ascii_grid.proofs.builder.GridBuilder.add_cell.Goals as goal
 
 pub returns-then-place-self-clause-word : goal.returns-then-place-self-clause-word

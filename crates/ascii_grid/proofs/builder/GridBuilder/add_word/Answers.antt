@@ -1,11 +1,11 @@
 use Rattle.std.proofs.Common.{◌++◌, ◌∷◌, [], ap, sym, ◌∙◌, refl, subst, arith, MatchResult, Some}
 use Rattle.std.proofs.lemmas.Result.{err_from_is_err_and}
 use Rattle.std.proofs.lemmas.List.{append-nil}
-use Rattle.ascii_grid.specs.Reading.{flat, HasJudged, IsWordFault}
+use Rattle.ascii_grid.specs.Reading.{flat, HasAdded, IsWordFault}
 use Rattle.ascii_grid.specs.declared.builder.GridBuilder.{GridBuilder}
 use Rattle.ascii_grid.specs.declared.builder.Stage.TheVariants.{AtValue}
 use Rattle.ascii_grid.proofs.Judging.{HasBegun-more}
-use Rattle.ascii_grid.proofs.JudgedWords.{is_memory, not_memory_slot, not_memory_bad_value, word_fault, judged-key, fault-key, judged-value, fault-value, long_fault, height_word, no_first_height, at_key, at_heights, same_header}
+use Rattle.ascii_grid.proofs.AddedWords.{is_memory, not_memory_slot, not_memory_bad_value, word_fault, judged-key, fault-key, judged-value, fault-value, long_fault, height_word, no_first_height, at_key, at_heights, same_header}
 use Rattle.ascii_grid.proofs.builder.GridBuilder.add_word.Goals as goal
 
 pub returns-then-word-gt-MOST_WORD_BYTES-clause-word :
@@ -81,5 +81,5 @@ returns-in_ok-begin_heights-in-AtKey-clause-word c = λ ws h.
     ∙ c.in_ok-begin_heights-in-AtKey.ensures.stage)
     (c.add_height-in-AtKey.ensures.word h.pairs [] begun) in
     subst (λ d. MatchResult c.add_height-in-AtKey.result
-    (λ _. HasJudged c.add_height-in-AtKey.new.self (ws ++ c.args.word.now ∷ []))
+    (λ _. HasAdded c.add_height-in-AtKey.new.self (ws ++ c.args.word.now ∷ []))
     (IsWordFault d (ws ++ c.args.word.now ∷ []))) (ap (λ (j : GridBuilder). j.scale) began) more

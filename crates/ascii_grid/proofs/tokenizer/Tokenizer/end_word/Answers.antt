@@ -1,7 +1,7 @@
 use Rattle.std.proofs.Common.{arith, ◌≡◌, ◌<◌, ◌≤◌, ◌++◌, ◌∷◌, [], length, sym, ◌∙◌, ap, subst, inl, inr}
 use Rattle.std.proofs.lemmas.Bool.{eqb-false, cases_lt}
 use Rattle.std.proofs.lemmas.Result.{err_from_is_err_and}
-use Rattle.ascii_grid.specs.Reading.{HasJudged, IsWordFault}
+use Rattle.ascii_grid.specs.Reading.{HasAdded, IsWordFault}
 use Rattle.ascii_grid.specs.declared.fault.GridFault.TheVariants.{TooLong}
 use Rattle.ascii_grid.proofs.Ending.{ended_ok, ended_fault}
 use Rattle.ascii_grid.proofs.tokenizer.Tokenizer.end_word.Goals as goal
@@ -38,7 +38,7 @@ returns-clause-words c = λ text h.
           (let e = c.in_ok-add_word.ensures.long far in absurd (cc))
       | inr near ↦ near
     ] in
-    let judged = subst (λ w. HasJudged c.add_word.new.self (h.ended ++ w ∷ [])) same
+    let judged = subst (λ w. HasAdded c.add_word.new.self (h.ended ++ w ∷ [])) same
     (c.in_ok-add_word.ensures.word h.ended h.judged) in (
       c.clear.ensures,
       ended_ok c.args.self.now c.add_word.new.self text h some

@@ -3,7 +3,7 @@ use Rattle.std.proofs.lemmas.Bool.{OnTrue_from, and_parts, eqb-true}
 use Rattle.std.proofs.lemmas.Int.{ints, to_z-of_z}
 use Rattle.horizons.specs.declared.target.Target.{Target}
 use Rattle.horizons.specs.declared.ramp.Ramp.{Ramp}
-use Rattle.horizons.specs.Horizons.{IsTarget, hides_by}
+use Rattle.horizons.specs.Horizons.{IsTarget, ramp_hides}
 use Rattle.horizons.proofs.Sizes.{back_short}
 use Rattle.sight.specs.Sweep.{IsCell, Passes, Shows, ramp_of}
 use Rattle.sightlines.proofs.Heights.{kept}
@@ -70,6 +70,6 @@ returns-clause-shows c =
     Shows cells f k t r in
     subst P same (λ t is_t passes. record {
       at = at t is_t passes;
-      hides = λ y rise stands later is. ap (λ r. hides_by r t rise) ramp ∙ shows_ramp cells f k
+      hides = λ y rise stands later is. ap (λ r. ramp_hides r t rise) ramp ∙ shows_ramp cells f k
           cell.0 y offset near far rise t stands later passes cell.2 here next;
     }))

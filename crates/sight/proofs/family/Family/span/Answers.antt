@@ -1,7 +1,7 @@
 use Rattle.std.proofs.Common.{arith, rules, refl, sym, ap, ◌∙◌, ◌≡◌, ◌+◌, ◌≤◌, pos, ◌*ℤ◌, ◌<ℤ◌, get_or, None, Some, w32, w64, to_z, of_z}
 use Rattle.std.proofs.lemmas.Int.{ints, to_z-of_z, by_lt_z}
 use Rattle.std.proofs.lemmas.Nat.{mul-le}
-use Rattle.horizons.specs.Horizons.{hides_by}
+use Rattle.horizons.specs.Horizons.{ramp_hides}
 use Rattle.horizons.proofs.Sizes.{back_short}
 use Rattle.sight.specs.Sweep.{lead_of}
 use Rattle.sight.proofs.Below.{among_shows, passes_one}
@@ -57,7 +57,7 @@ returns-in-Some-height_at-2-clause-shows c t is_t slope among alone =
     among_shows cells f k offset last c.ramp-ramp.result t is_t.line.0 (rw last_back at among)
     (λ passes. record {
       at = c.ramp-ramp.ensures.at t is_t passes;
-      hides = λ y rise stands later is. ap (λ r. hides_by r t rise) ramp
+      hides = λ y rise stands later is. ap (λ r. ramp_hides r t rise) ramp
           ∙ shows_ramp cells f k cell.0 y _ near far rise t stands later passes cell.2 here next;
     })
     (λ b past below passes. c.last_of.ensures.shows b t past below is_t passes)
@@ -131,7 +131,7 @@ returns-clause-shows c t is_t slope among alone =
     let same : t ≡ target = alone refl in
     record {
       at = c.ramp.ensures.at t is_t (passes_one k offset t among);
-      hides = λ y rise stands later is. ap (λ r. hides_by r t rise) ramp
+      hides = λ y rise stands later is. ap (λ r. ramp_hides r t rise) ramp
           ∙ shows_centre cells f k cell.0 y offset near rise t stands later
           (ap (λ u. u.offset *ℤ pos k) same ∙ centred ∙ ap (λ u. offset *ℤ pos u.line) (sym same))
           cell.2 here;

@@ -1,0 +1,371 @@
+-- The effect of one more word, and the fault that is returned for a word that has one.
+use Rattle.std.proofs.Common.{◌≡◌, ℕ, ◌+◌, ◌<◌, ◌≤◌, Bool, true, false, cond, List, [], ◌∷◌, ◌++◌, length, take, Option, None, Some, arith, refl, ap, sym, ◌∙◌, subst, inl, inr, nat_lt, ◌⊎◌, Result, MatchResult}
+use Rattle.std.specs.Prelude.{MatchOption, option_map}
+use Rattle.std.specs.Option.{option_or, option_map_or}
+use Rattle.std.specs.List.{list_any}
+use Rattle.std.proofs.Math.Bool.{or-false}
+use Rattle.std.proofs.lemmas.Bool.{cases_Bool, lt-ltb, le-ltb}
+use Rattle.std.proofs.lemmas.List.{append-nil, append_assoc, length-append, length-map}
+use Rattle.terrain.specs.Words.{Word}
+use Rattle.ascii_grid.specs.Header.{fills, slot_of, is_long, is_value, bad_value, begins_with_letter, header_words, height_words, key_left, nodata_for, header_fault, key_fault, value_fault, missing_fault}
+use Rattle.ascii_grid.specs.GridText.{AsksForCells, is_cell, spelled_cell, cells_wanted, words_fault, heights_fault, height_fault, AsksAtHeight, IsReported}
+use Rattle.ascii_grid.specs.Slots.{is_given, is_centre, with_value}
+use Rattle.ascii_grid.specs.Reading.{flat, slots_of, keys_before, IsHeaderOf, AwaitsValue, HasBegun, AreHeights, IsAt, HasAdded, IsWordFault}
+use Rattle.ascii_grid.specs.declared.fault.Key.{Key}
+use Rattle.ascii_grid.specs.declared.fault.GridFault.{GridFault}
+use Rattle.ascii_grid.specs.declared.fault.GridFault.TheVariants.{UnknownKey, RepeatedKey, TooLong, MissingKey, BadHeight, TooMany, Memory}
+use Rattle.ascii_grid.specs.declared.header.Header.{Header}
+use Rattle.ascii_grid.specs.declared.builder.Stage.{Stage}
+use Rattle.ascii_grid.specs.declared.builder.Stage.TheVariants.{AtKey, AtValue, AtHeights}
+use Rattle.ascii_grid.specs.declared.builder.GridBuilder.{GridBuilder}
+use Rattle.ascii_grid.proofs.Judging.{Pairs, or_none, then_none, words-flat, key_left-flat, flat-push, are_keys-push, header_fault-flat, list_any-keys_before, is_given-slots_of, with_value-slots_of, words_fault-flat, words_fault-key, words_fault-value, words_fault-heights, words-begun, heights_fault-push, HasBegun-more}
+use Rattle.std.proofs.lemmas.Result.{MatchResult-weaker}
+use Rattle.ascii_grid.specs.declared.fault.Key.TheVariants.{Ncols}
+
+-- ---- the stage
+
+pub at_key : (j : GridBuilder) (ws : List Word) (h : HasAdded j ws) → j.stage ≡ AtKey →
+    ws ≡ flat h.pairs
+at_key j ws h e = h.words ∙ ap (λ z. flat h.pairs ++ z) (rw e at h.at) ∙ append-nil (flat h.pairs)
+
+pub at_value : (j : GridBuilder) (ws : List Word) (h : HasAdded j ws) (slot : Key)
+    (centre : Bool) → j.stage ≡ AtValue slot centre → (k : Word) × (ws ≡ flat h.pairs ++ k ∷ [])
+    × AwaitsValue h.pairs k slot centre
+at_value j ws h slot centre e =
+    let there = rw e at h.at in
+    (there.0, h.words ∙ ap (λ z. flat h.pairs ++ z) there.1, there.2)
+
+pub at_heights : (j : GridBuilder) (ws : List Word) (h : HasAdded j ws) → j.stage ≡ AtHeights →
+    HasBegun h.rest × AreHeights j h.pairs h.rest
+at_heights j ws h e = subst (IsAt j h.pairs h.rest) e h.at
+
+-- ---- a key
+
+pub same_header : (h h' : Header) (ps : Pairs) → h' ≡ h → IsHeaderOf h ps → IsHeaderOf h' ps
+same_header h h' ps e k = record { keys = k.keys; faultless = k.faultless; slots = e ∙ k.slots }
+
+pub is_short : (w : Word) → length w ≤ 64 → is_long w ≡ false
+is_short w h = le-ltb 64 (length w) h
+
+repeats : (slot : Key) (ps : Pairs) →
+    list_any (fills slot) (keys_before ps []) ≡ is_given (slots_of ps) slot
+repeats slot ps = list_any-keys_before (fills slot) ps [] ∙ or-false _
+    ∙ sym (is_given-slots_of slot ps)
+
+abbrev fault_of_slot : Pairs → Option Key → Option GridFault
+fault_of_slot ps o = option_map_or (λ slot. cond (list_any (fills slot) (keys_before ps []))
+    (Some (RepeatedKey slot)) None) o (Some UnknownKey)
+
+key_fault-short : (ps : Pairs) (k : Word) → length k ≤ 64 →
+    key_fault (keys_before ps []) k ≡ fault_of_slot ps (slot_of k)
+key_fault-short ps k h = rw (is_short k h) refl
+
+slot_fault : (ps : Pairs) (o : Option Key) (f : GridFault) → MatchOption o (f ≡ UnknownKey) (λ slot.
+    (is_given (slots_of ps) slot ≡ true) × (f ≡ RepeatedKey slot)) → fault_of_slot ps o ≡ Some f
+slot_fault ps None f e = ap Some (sym e)
+slot_fault ps (Some slot) f e =
+    ap (λ b. cond b (Some (RepeatedKey slot)) None) (repeats slot ps ∙ e.0) ∙ ap Some (sym e.1)
+
+pub judged-key : (j j' : GridBuilder) (ws : List Word) (w : Word) (slot : Key) → HasAdded j ws →
+    j.stage ≡ AtKey → length w ≤ 64 → begins_with_letter w ≡ true → slot_of w ≡ Some slot →
+    is_given j.header slot ≡ false → j'.header ≡ j.header → j'.stage ≡ AtValue slot (is_centre w) →
+    HasAdded j' (ws ++ w ∷ [])
+judged-key j j' ws w slot h e short letter s free same stage =
+    let none : is_given (slots_of h.pairs) slot ≡ false =
+    ap (λ x. is_given x slot) (sym h.header.slots) ∙ free in
+    let awaits : AwaitsValue h.pairs w slot (is_centre w) =
+    record {
+      letter = letter;
+      faultless = key_fault-short h.pairs w short ∙ ap (fault_of_slot h.pairs) s
+          ∙ ap (λ b. cond b (Some (RepeatedKey slot)) None) (repeats slot h.pairs ∙ none);
+      key_is = s;
+      named = refl;
+      free = none;
+    } in
+    record {
+      pairs = h.pairs;
+      rest = w ∷ [];
+      words = ap (λ z. z ++ w ∷ []) (at_key j ws h e);
+      header = same_header j.header j'.header h.pairs same h.header;
+      at = rw stage (w, refl, awaits);
+    }
+
+pub next-key : (j : GridBuilder) (ws : List Word) (w : Word) (h : HasAdded j ws) →
+    j.stage ≡ AtKey → begins_with_letter w ≡ true →
+    words_fault j.scale (ws ++ w ∷ []) ≡ key_fault (keys_before h.pairs []) w
+next-key j ws w h e letter = ap (λ z. words_fault j.scale (z ++ w ∷ [])) (at_key j ws h e)
+    ∙ words_fault-key j.scale h.pairs w h.header.keys h.header.faultless letter
+
+pub fault-key : (j : GridBuilder) (ws : List Word) (w : Word) (f : GridFault) → HasAdded j ws →
+    j.stage ≡ AtKey → length w ≤ 64 → begins_with_letter w ≡ true →
+    MatchOption (slot_of w) (f ≡ UnknownKey) (λ slot. (is_given j.header slot ≡ true)
+    × (f ≡ RepeatedKey slot)) → words_fault j.scale (ws ++ w ∷ []) ≡ Some f
+fault-key j ws w f h e short letter m =
+    next-key j ws w h e letter ∙ key_fault-short h.pairs w short
+    ∙ slot_fault h.pairs (slot_of w) f (subst (λ x. MatchOption (slot_of w) (f ≡ UnknownKey)
+    (λ slot. (is_given x slot ≡ true) × (f ≡ RepeatedKey slot))) h.header.slots m)
+
+-- ---- a value
+
+value_fault-short : (k v : Word) (slot : Key) → length v ≤ 64 → slot_of k ≡ Some slot →
+    value_fault k v ≡ cond (is_value slot v) None (Some (bad_value slot))
+value_fault-short k v slot h s = rw (is_short v h, s) refl
+
+pub judged-value : (j j' : GridBuilder) (ws : List Word) (v : Word) (slot : Key) (centre : Bool) →
+    HasAdded j ws → j.stage ≡ AtValue slot centre → length v ≤ 64 → is_value slot v ≡ true →
+    j'.header ≡ with_value j.header slot centre v → j'.stage ≡ AtKey → HasAdded j' (ws ++ v ∷ [])
+judged-value j j' ws v slot centre h e short ok same stage =
+    let there = at_value j ws h slot centre e in
+    let k = there.0 in
+    let awaits = there.2 in
+    let fault : value_fault k v ≡ None = value_fault-short k v slot short awaits.key_is
+    ∙ ap (λ b. cond b None (Some (bad_value slot))) ok in
+    let words : ws ++ v ∷ [] ≡ flat (h.pairs ++ (k, v) ∷ []) = ap (λ z. z ++ v ∷ []) there.1
+    ∙ append_assoc (flat h.pairs) (k ∷ []) (v ∷ []) ∙ sym (flat-push h.pairs k v) in
+    let none : header_fault [] (flat h.pairs ++ k ∷ v ∷ []) ≡ None = header_fault-flat [] h.pairs (k
+    ∷ v ∷ []) ∙ rw (h.header.faultless, awaits.faultless, fault) refl in
+    record {
+      pairs = h.pairs ++ (k, v) ∷ [];
+      rest = [];
+      words = words ∙ sym (append-nil (flat (h.pairs ++ (k, v) ∷ [])));
+      header = record {
+        keys = are_keys-push h.pairs k v h.header.keys awaits.letter;
+        faultless = ap (header_fault []) (flat-push h.pairs k v) ∙ none;
+        slots = same ∙ ap (λ x. with_value x slot centre v) h.header.slots
+            ∙ ap (λ b. with_value (slots_of h.pairs) slot b v) awaits.named
+            ∙ with_value-slots_of slot h.pairs k v awaits.key_is awaits.free;
+      };
+      at = rw stage refl;
+    }
+
+pub next-value : (j : GridBuilder) (ws : List Word) (v : Word)
+    (slot : Key) (centre : Bool) (h : HasAdded j ws) (e : j.stage ≡ AtValue slot centre) →
+    words_fault j.scale (ws ++ v ∷ []) ≡ value_fault (at_value j ws h slot centre e).0 v
+next-value j ws v slot centre h e =
+    let there = at_value j ws h slot centre e in
+    ap (words_fault j.scale) (ap (λ z. z ++ v ∷ []) there.1
+    ∙ append_assoc (flat h.pairs) (there.0 ∷ []) (v ∷ []))
+    ∙ words_fault-value j.scale h.pairs there.0 v h.header.keys h.header.faultless there.2.letter
+    there.2.faultless
+
+pub fault-value : (j : GridBuilder) (ws : List Word) (v : Word) (slot : Key) (centre : Bool) →
+    HasAdded j ws → j.stage ≡ AtValue slot centre → length v ≤ 64 → is_value slot v ≡ false →
+    words_fault j.scale (ws ++ v ∷ []) ≡ Some (bad_value slot)
+fault-value j ws v slot centre h e short bad =
+    let there = at_value j ws h slot centre e in
+    next-value j ws v slot centre h e
+    ∙ value_fault-short there.0 v slot short there.2.key_is
+    ∙ ap (λ b. cond b None (Some (bad_value slot))) bad
+
+-- ---- heights
+
+pub words-after : (h : Header) (ps : Pairs) (hs : List Word) → IsHeaderOf h ps → HasBegun hs →
+    (header_words (flat ps ++ hs) ≡ flat ps) × (height_words (flat ps ++ hs) ≡ hs)
+words-after h ps hs k begun =
+    let both = words-flat ps hs k.keys in
+    let rest = words-begun hs begun in
+    (both.0 ∙ ap (λ z. flat ps ++ z) rest.0 ∙ append-nil (flat ps), both.1 ∙ rest.1)
+
+pub paired : (ps : Pairs) → key_left (flat ps) ≡ None
+paired ps = ap key_left (sym (append-nil (flat ps))) ∙ key_left-flat ps []
+
+-- after a whole header, heights of which the first is not too long ask for the list of cells
+pub asks : (h : Header) (ps : Pairs) (hs : List Word) → IsHeaderOf h ps →
+    HasBegun hs → missing_fault (flat ps) ≡ None → list_any is_long (take 1 hs) ≡ false →
+    AsksForCells (flat ps ++ hs)
+asks h ps hs k begun whole first =
+    let are = words-after h ps hs k begun in
+    record {
+      faultless = ap (header_fault []) are.0 ∙ k.faultless;
+      paired = ap key_left are.0 ∙ paired ps;
+      given = ap missing_fault are.0 ∙ whole;
+      first = ap (λ z. list_any is_long (take 1 z)) are.1 ∙ first;
+    }
+
+first_short : (d : ℕ) (header hs : List Word) (w : Word) → length w ≤ 64 →
+    heights_fault d header 0 hs ≡ None → list_any is_long (take 1 (hs ++ w ∷ [])) ≡ false
+first_short d header [] w short none = rw (is_short w short) refl
+first_short d header (x ∷ hs) w short none =
+    rw (then_none (is_long x) TooLong _ (or_none (height_fault d header 0 x) _ none).0).0 refl
+
+-- more heights are judged, if all heights have no fault and their cells are stored
+pub judged-heights : (j j' : GridBuilder) (ws : List Word) (ps : Pairs) (hs more : List Word) →
+    IsHeaderOf j.header ps → ws ≡ flat ps ++ hs → HasBegun (hs ++ more) → AreHeights j' ps (hs
+    ++ more) → j'.header ≡ j.header → j'.stage ≡ AtHeights → HasAdded j' (ws ++ more)
+judged-heights j j' ws ps hs more k e begun heights same stage = record {
+  pairs = ps;
+  rest = hs ++ more;
+  words = ap (λ z. z ++ more) e ∙ append_assoc (flat ps) hs more;
+  header = same_header j.header j'.header ps same k;
+  at = subst (IsAt j' ps (hs ++ more)) (sym stage) (begun, heights);
+}
+
+pub next-height : (d : ℕ) (ws : List Word) (ps : Pairs) (hs : List Word) (w : Word) (h : Header) →
+    IsHeaderOf h ps → ws ≡ flat ps ++ hs → HasBegun (hs ++ w ∷ []) → heights_fault d (flat ps) 0 hs
+    ≡ None → words_fault d (ws ++ w ∷ []) ≡ height_fault d (flat ps) (length hs) w
+next-height d ws ps hs w h k e begun none =
+    ap (words_fault d) (ap (λ z. z ++ w ∷ []) e ∙ append_assoc (flat ps) hs (w ∷ []))
+    ∙ words_fault-heights d ps (hs ++ w ∷ []) k.keys k.faultless begun
+    ∙ heights_fault-push d (flat ps) 0 hs w
+    ∙ ap (λ o. option_or o (height_fault d (flat ps) (0 + length hs) w)) none
+    ∙ ap (λ n. height_fault d (flat ps) n w) (omega arith)
+
+-- a whole header, faultless heights and one more of at most 64 bytes ask for the list of cells
+pub memory-height : (j : GridBuilder) (ws : List Word) (ps : Pairs) (hs : List Word) (w : Word)
+    (h : Header) → IsHeaderOf h ps → ws ≡ flat ps ++ hs → HasBegun (hs ++ w ∷ []) →
+    missing_fault (flat ps) ≡ None → heights_fault j.scale (flat ps) 0 hs ≡ None → length w ≤ 64 →
+    AsksAtHeight (ws ++ w ∷ [])
+memory-height j ws ps hs w h k e begun whole none short =
+    let words : ws ++ w ∷ [] ≡ flat ps ++ (hs ++ w ∷ []) = ap (λ z. z ++ w ∷ []) e
+    ∙ append_assoc (flat ps) hs (w ∷ []) in
+    rw words (
+      asks h ps (hs ++ w ∷ []) k begun whole (first_short j.scale (flat ps) hs w short none),
+      rw ((words-after h ps (hs ++ w ∷ []) k begun).1) (omega (arith, length-append hs (w ∷ []))),
+    )
+
+-- ---- the stored heights
+
+pub height_fault-none : (d : ℕ) (header : List Word) (place : ℕ) (w : Word) →
+    length w ≤ 64 → missing_fault header ≡ None → place < cells_wanted header →
+    is_cell d (nodata_for header) w ≡ true → height_fault d header place w ≡ None
+height_fault-none d header place w short whole room ok =
+    rw (is_short w short, whole, lt-ltb place (cells_wanted header) room, ok) refl
+
+pub place_of : (j : GridBuilder) (ps : Pairs) (hs : List Word) → AreHeights j ps hs →
+    length j.cells.items ≡ length hs
+place_of j ps hs h = ap length h.cells ∙ length-map hs (spelled_cell j.scale j.nodata)
+
+pub judged_none : (j : GridBuilder) (ws : List Word) → HasAdded j ws →
+    words_fault j.scale ws ≡ None
+judged_none j ws h = by_stage j.stage refl
+  where
+    by_stage : (s : Stage) → j.stage ≡ s → words_fault j.scale ws ≡ None
+    by_stage AtKey e =
+        ap (words_fault j.scale) (at_key j ws h e ∙ sym (append-nil (flat h.pairs)))
+        ∙ words_fault-flat j.scale h.pairs [] [] [] h.header.keys h.header.faultless refl refl
+    by_stage (AtValue slot centre) e =
+        let there = at_value j ws h slot centre e in
+        ap (words_fault j.scale) there.1
+        ∙ words_fault-key j.scale h.pairs there.0 h.header.keys h.header.faultless there.2.letter
+        ∙ there.2.faultless
+    by_stage AtHeights e =
+        let there = at_heights j ws h e in
+        ap (words_fault j.scale) h.words
+        ∙ words_fault-heights j.scale h.pairs h.rest h.header.keys h.header.faultless there.0
+        ∙ there.1.faultless
+
+abbrev pub is_memory : Option GridFault → Bool
+is_memory None = false
+is_memory (Some Memory) = true
+is_memory (Some f) = false
+
+not_memory_or : (o p : Option GridFault) → is_memory o ≡ false → is_memory p ≡ false →
+    is_memory (option_or o p) ≡ false
+not_memory_or None p h k = k
+not_memory_or (Some f) p h k = h
+
+pub not_memory_bad_value : (slot : Key) → is_memory (Some (bad_value slot)) ≡ false
+not_memory_bad_value Ncols = refl
+not_memory_bad_value slot = refl
+
+not_memory_cond : (b : Bool) (o p : Option GridFault) → is_memory o ≡ false → is_memory p ≡ false →
+    is_memory (cond b o p) ≡ false
+not_memory_cond true o p h k = h
+not_memory_cond false o p h k = k
+
+-- an unknown key or a repeated one is not want of memory
+pub not_memory_slot : (o : Option Key) (given : Key → Type 0) (f : GridFault) → MatchOption o (f
+    ≡ UnknownKey) (λ slot. given slot × (f ≡ RepeatedKey slot)) → is_memory (Some f) ≡ false
+not_memory_slot None given f e = ap (λ g. is_memory (Some g)) e
+not_memory_slot (Some slot) given f e = ap (λ g. is_memory (Some g)) e.1
+
+not_memory_missing_slot : (o : Option Key) → is_memory (option_map MissingKey o) ≡ false
+not_memory_missing_slot None = refl
+not_memory_missing_slot (Some slot) = refl
+
+pub not_memory_missing : (header : List Word) → is_memory (missing_fault header) ≡ false
+not_memory_missing header = not_memory_missing_slot _
+
+not_memory_height : (d : ℕ) (header : List Word) (place : ℕ) (w : Word) →
+    is_memory (height_fault d header place w) ≡ false
+not_memory_height d header place w =
+    not_memory_cond (is_long w) (Some TooLong) _ refl
+    (not_memory_or (missing_fault header) _ (not_memory_missing header)
+    (not_memory_cond (nat_lt place (cells_wanted header)) _ (Some TooMany) (not_memory_cond
+    (is_cell d (nodata_for header) w) None (Some (BadHeight place)) refl refl) refl))
+
+-- ---- the fault that is reported
+
+pub reported : (may_lack : Type 0) (o : Option GridFault) (f : GridFault) → is_memory o ≡ false →
+    o ≡ Some f → IsReported may_lack o f
+reported may_lack o Memory m h = absurd (let k : is_memory o ≡ true = ap is_memory h in cc)
+reported may_lack o f m h = h
+
+-- a reported fault stays one under weaker conditions
+pub reported_further : (may_lack may_lack' : Type 0) (o o' : Option GridFault) (f : GridFault) →
+    (may_lack → may_lack') → ((g : GridFault) → o ≡ Some g → o' ≡ Some g) →
+    IsReported may_lack o f → IsReported may_lack' o' f
+reported_further may_lack may_lack' o o' Memory lacks more h = lacks h
+reported_further may_lack may_lack' o o' f lacks more h = more f h
+
+pub word_fault : (d : ℕ) (ws : List Word) (f : GridFault) → is_memory (Some f) ≡ false →
+    words_fault d ws ≡ Some f → IsWordFault d ws f
+word_fault d ws f other h =
+    reported (AsksAtHeight ws) (words_fault d ws) f (ap is_memory h ∙ other) h
+
+pub memory_fault : (d : ℕ) (ws : List Word) (f : GridFault) → f ≡ Memory → AsksAtHeight ws →
+    IsWordFault d ws f
+memory_fault d ws f e h = rw e h
+
+pub long_fault : (j : GridBuilder) (ws : List Word) (w : Word) → HasAdded j ws → 64 < length w →
+    words_fault j.scale (ws ++ w ∷ []) ≡ Some TooLong
+long_fault j ws w h far = by_stage j.stage refl
+  where
+    long : is_long w ≡ true
+    long = lt-ltb 64 (length w) far
+
+    by_stage : (s : Stage) → j.stage ≡ s → words_fault j.scale (ws ++ w ∷ []) ≡ Some TooLong
+    by_stage AtKey e =
+        elim (cases_Bool (begins_with_letter w)) [
+          | inl letter ↦ next-key j ws w h e letter ∙ rw long refl
+          | inr begun ↦ next-height j.scale ws h.pairs [] w j.header h.header (at_key j ws h e
+              ∙ sym (append-nil (flat h.pairs))) begun refl ∙ rw long refl
+        ]
+    by_stage (AtValue slot centre) e = next-value j ws w slot centre h e ∙ rw long refl
+    by_stage AtHeights e =
+        let there = at_heights j ws h e in
+        next-height j.scale ws h.pairs h.rest w j.header h.header h.words
+        (HasBegun-more h.rest (w ∷ []) there.0) there.1.faultless ∙ rw long refl
+
+-- a stored cell makes the next height a judged word; a returned fault is a fault of the words
+pub height_word : {T : Type 0} (j j' : GridBuilder) (ws : List Word) (ps : Pairs) (hs : List Word)
+    (w : Word) (r : Result T GridFault) → IsHeaderOf j.header ps → ws ≡ flat ps ++ hs →
+    HasBegun (hs ++ w ∷ []) → AreHeights j ps hs → length w ≤ 64 → j'.header ≡ j.header →
+    j'.stage ≡ AtHeights → MatchResult r (λ _. AreHeights j' ps (hs ++ w ∷ [])) (λ f. (f ≡ Memory)
+    ⊎ (height_fault j.scale (flat ps) (length hs) w ≡ Some f)) →
+    MatchResult r (λ _. HasAdded j' (ws ++ w ∷ [])) (IsWordFault j.scale (ws ++ w ∷ []))
+height_word j j' ws ps hs w r k e begun heights short same stage m =
+    MatchResult-weaker r m (λ _ more.
+    judged-heights j j' ws ps hs (w ∷ []) k e begun more same stage)
+    (λ f why. elim why [
+      | inl lack ↦ memory_fault j.scale (ws ++ w ∷ []) f lack
+          (memory-height j ws ps hs w j.header k e begun heights.whole heights.faultless short)
+      | inr fault ↦ word_fault j.scale (ws ++ w ∷ []) f (ap is_memory (sym fault)
+          ∙ not_memory_height j.scale (flat ps) (length hs) w)
+          (next-height j.scale ws ps hs w j.header k e begun heights.faultless ∙ fault)
+    ])
+
+-- at the first height, a missing slot or want of memory is a fault of the words
+pub no_first_height : (j : GridBuilder) (ws : List Word) (w : Word)
+    (f : GridFault) (h : HasAdded j ws) → j.stage ≡ AtKey →
+    begins_with_letter w ≡ false → length w ≤ 64 → (missing_fault (flat h.pairs) ≡ Some f)
+    ⊎ ((f ≡ Memory) × (missing_fault (flat h.pairs) ≡ None)) → IsWordFault j.scale (ws ++ w ∷ []) f
+no_first_height j ws w f h stage begun short why =
+    let e = at_key j ws h stage ∙ sym (append-nil (flat h.pairs)) in
+    elim why [
+      | inl missing ↦ word_fault j.scale (ws ++ w ∷ []) f (ap is_memory (sym missing)
+          ∙ not_memory_missing (flat h.pairs)) (next-height j.scale ws h.pairs []
+          w j.header h.header e begun refl ∙ rw (is_short w short, missing) refl)
+      | inr lack ↦ memory_fault j.scale (ws ++ w ∷ []) f lack.0
+          (memory-height j ws h.pairs [] w j.header h.header e begun lack.1 refl short)
+    ]

@@ -1,0 +1,14 @@
+use Rattle.std.proofs.Common.{arith}
+use Rattle.flow.specs.RimGraph.{rim_link}
+use Rattle.flow.proofs.Windows.{mapped_all}
+use Rattle.flow.proofs.rim_graph.rim_links.Goals as goal
+
+pub returns : goal.returns
+returns c =
+    mapped_all (rim_link c.args.tiling.now c.args.flows.now) _ _ _ c.loop-number.invariant
+    (omega (
+      arith,
+      c.loop-number-test.false,
+      c.loop-number.auto.number-end,
+      c.number_count-count.ensures.value,
+    ))

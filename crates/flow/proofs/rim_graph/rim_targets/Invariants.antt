@@ -1,0 +1,9 @@
+use Rattle.std.proofs.Common.{◌≡◌, ◌*◌}
+use Rattle.tiles.specs.Cutting.{bounds_of}
+use Rattle.tiles.specs.RimNumbers.{stride}
+use Rattle.flow.specs.RimGraph.{first_targets}
+use Rattle.flow.proofs.rim_graph.rim_targets.Given as goal
+
+abbrev pub invariant-loop-tile : goal.invariant-loop-tile
+invariant-loop-tile l =
+    l.targets.items ≡ first_targets l.tiling l.flows (l.tile * stride (bounds_of l.tiling 0))

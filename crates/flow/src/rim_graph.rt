@@ -1,0 +1,154 @@
+//! Where water passes from tile to tile.
+//!
+//! For each rim cell: the place in another tile that its water enters, if any, and the exit by
+//! which the water leaves that tile, if it does.
+ghost use Rattle.std.specs.Prelude.{◌≡◌, ◌+◌, ◌*◌, ◌<◌, ◌≤◌, length, IfOk, OnOk};
+ghost use Rattle.tiles.specs.Cutting.{IsCutting, IsWithin, IsWithinLimits, bounds_of, tile_count};
+ghost use Rattle.drainage.specs.Following.{Directed};
+ghost use Rattle.tiles.specs.RimNumbers.{number_count, stride};
+ghost use Rattle.flow.specs.RimGraph.{code_in, AreFlowsOf, target_in, first_targets, targets_by, next_exit_by, rim_link, rim_links_by};
+
+use crate::cells::next_of;
+use crate::rim::side_cell;
+use crate::tile::TileFlow;
+use drainage::Code;
+use std::alloc::{AllocError, Global};
+use terrain::Place;
+use tiles::{Bounds, Tiling};
+
+/// The target, if any, and the link of each rim number (`Tiling::rim_number`).
+/// A target is the place in another tile that the number's cell flows into. A link is the rim
+/// number of the next exit into another tile, or the number itself without one.
+#[derive(Drop)]
+pub(crate) struct RimGraph {
+    pub(crate) targets: Vec<Option<Place>>,
+    pub(crate) links: Vec<u32>,
+}
+
+impl RimGraph {
+    /// Finds the targets and links from the flows of all tiles, given in tile order.
+    pub(crate) fn of(
+        alloc: Global,
+        tiling: &Tiling,
+        flows: &[TileFlow],
+    ) -> Result<RimGraph, AllocError>
+        requires { (d : Directed) × AreFlowsOf d tiling.now flows.now }
+        ensures targets { IfOk result (λ x. x.targets.items ≡ targets_by tiling.now flows.now) }
+        ensures links { IfOk result (λ x. x.links.items ≡ rim_links_by tiling.now flows.now) }
+    {
+        let targets = rim_targets(alloc, tiling, flows)?;
+        let links = rim_links(alloc, tiling, flows, &targets)?;
+        Ok(RimGraph { targets, links })
+    }
+}
+
+#[inline(always)]
+pub(crate) fn code_of(tiling: &Tiling, flows: &[TileFlow], place: Place) -> Option<Code>
+    requires count { length flows.now ≡ tile_count tiling.now }
+    requires within { IsWithin tiling.now place }
+    ensures value { result ≡ code_in tiling.now flows.now place }
+    ensures lawful { IsCutting tiling.now }
+{
+    flows[tiling.tile_of(place) as usize].code(place)
+}
+
+#[inline(always)]
+fn next_exit(tiling: &Tiling, flows: &[TileFlow], entry: Place) -> Option<Place>
+    requires count { length flows.now ≡ tile_count tiling.now }
+    requires within { IsWithin tiling.now entry }
+    ensures { result ≡ next_exit_by tiling.now flows.now entry }
+{
+    flows[tiling.tile_of(entry) as usize].next_exit(entry)
+}
+
+/// Returns the place in another tile that side number `side` leads to, if any.
+#[inline(always)]
+fn target_of(largest: Bounds, flow: &TileFlow, side: u32) -> Option<Place>
+    requires largest { IsWithinLimits largest }
+    requires some_row { 1 ≤ flow.now.bounds.rows }
+    requires side { side < stride largest }
+    ensures { result ≡ target_in largest flow.now side }
+{
+    let bounds = flow.bounds();
+    let place = side_cell(largest, bounds, side)?;
+    let next = next_of(flow.code(place), place);
+    if bounds.contains(next) {
+        None
+    } else {
+        Some(next)
+    }
+}
+
+/// Appends, for each side number of a tile, the place entered in another tile, if any.
+fn push_targets(
+    targets: &mut Vec<Option<Place>>,
+    tiling: &Tiling,
+    flows: &[TileFlow],
+    tile: u32,
+) -> Result<(), AllocError>
+    requires flows { (d : Directed) × AreFlowsOf d tiling.now flows.now }
+    requires tile { tile < tile_count tiling.now }
+    requires targets { targets.old.items
+        ≡ first_targets tiling.now flows.now (tile * stride (bounds_of tiling.now 0)) }
+    ensures { OnOk result
+        (targets.new.items
+        ≡ first_targets tiling.now flows.now ((tile + 1) * stride (bounds_of tiling.now 0))) }
+{
+    let largest = tiling.bounds(0);
+    let flow = &flows[tile as usize];
+    for side in 0..largest.side_count() {
+        targets.push(target_of(largest, flow, side))?;
+    }
+    Ok(())
+}
+
+/// Returns the place in another tile that each rim cell flows into, if any.
+fn rim_targets(
+    alloc: Global,
+    tiling: &Tiling,
+    flows: &[TileFlow],
+) -> Result<Vec<Option<Place>>, AllocError>
+    requires { (d : Directed) × AreFlowsOf d tiling.now flows.now }
+    ensures { IfOk result (λ v. v.items ≡ targets_by tiling.now flows.now) }
+{
+    let mut targets = Vec::with_capacity(alloc, tiling.number_count() as usize)?;
+    for tile in 0..tiling.tiles() {
+        push_targets(&mut targets, tiling, flows, tile)?;
+    }
+    Ok(targets)
+}
+
+/// Returns the rim number of the next exit into another tile, or `number` without one.
+fn link_of(tiling: &Tiling, flows: &[TileFlow], targets: &[Option<Place>], number: u32) -> u32
+    requires flows { (d : Directed) × AreFlowsOf d tiling.now flows.now }
+    requires targets { targets.now ≡ targets_by tiling.now flows.now }
+    requires number { number < number_count tiling.now }
+    ensures { result ≡ rim_link tiling.now flows.now number }
+{
+    let Some(entry) = targets[number as usize] else {
+        return number;
+    };
+    match next_exit(tiling, flows, entry) {
+        Some(exit) => tiling.rim_number(exit),
+        None => number,
+    }
+}
+
+#[tactic(auto, using(crate::proofs::Windows::mapped_next))]
+fn rim_links(
+    alloc: Global,
+    tiling: &Tiling,
+    flows: &[TileFlow],
+    targets: &[Option<Place>],
+) -> Result<Vec<u32>, AllocError>
+    requires flows { (d : Directed) × AreFlowsOf d tiling.now flows.now }
+    requires targets { targets.now ≡ targets_by tiling.now flows.now }
+    ensures { IfOk result (λ v. v.items ≡ rim_links_by tiling.now flows.now) }
+{
+    let count = tiling.number_count();
+    let mut links = Vec::with_capacity(alloc, count as usize)?;
+    for number in 0..count {
+        links.push(link_of(tiling, flows, targets, number))?;
+    }
+    Ok(links)
+}

@@ -1,0 +1,81 @@
+use Rattle.std.proofs.Common.{rules, arith, ◌≡◌, ◌+◌, ◌*◌, ◌≤◌, None, get_or, not, pos, ◌+ℤ◌, ap, sym, ◌∙◌, unwrap_or}
+use Rattle.std.specs.Int.{w64}
+use Rattle.std.proofs.lemmas.Int.{to_z-of_z}
+use Rattle.std.proofs.lemmas.Result.{on_ok_weaker}
+use Rattle.terrain.specs.Neighbours.{height_at, height_of}
+use Rattle.terrain.specs.declared.place.Place.{Place}
+use Rattle.sightlines.specs.Sight.{column_blocks, row_blocks, place_of}
+use Rattle.sightlines.specs.Walk.{AreHeights}
+use Rattle.sight.specs.Sides.{AreOpen, family_of, window_of}
+use Rattle.sightlines.proofs.Heights.{are_heights, ground_is_height, kept}
+use Rattle.sightlines.proofs.Crossings.{height_is}
+use Rattle.sight.proofs.PlacesLeft.{columns_at, rows_at, column_marks, row_marks, columns_left, rows_left, left_both}
+use Rattle.sight.proofs.tile.ViewshedInput.hide_blocked.Goals as goal
+
+pub level-eye-requires-clause-height : goal.level-eye-requires-clause-height
+level-eye-requires-clause-height c =
+    let t = c.args.self.now.grid.now.terrain in
+    let ground = c.unwrap_or.result in
+    let are : AreHeights c.cells-cells.result.now =
+    rw c.cells-cells.ensures.value (are_heights t c.cells-cells.ensures.lawful.terrain) in
+    kept ground (rw c.unwrap_or.ensures (ground_is_height c.height_at-ground.result
+    (λ h is. are _ h (sym c.height_at-ground.ensures ∙ is))))
+
+pub hide_on_both_sides-requires-clause-heights : goal.hide_on_both_sides-requires-clause-heights
+hide_on_both_sides-requires-clause-heights c = rw c.cells-cells.ensures.value
+    (are_heights c.args.self.now.grid.now.terrain c.cells-cells.ensures.lawful.terrain)
+
+pub hide_on_both_sides-requires-2-clause-heights : goal.hide_on_both_sides-requires-2-clause-heights
+hide_on_both_sides-requires-2-clause-heights c = rw c.cells-cells.ensures.value
+    (are_heights c.args.self.now.grid.now.terrain c.cells-cells.ensures.lawful.terrain)
+
+pub hide_on_both_sides-requires-clause-inside : goal.hide_on_both_sides-requires-clause-inside
+hide_on_both_sides-requires-clause-inside c x y in_x in_y =
+    column_marks c.args.bounds x y _ c.requires.size in_x in_y
+
+pub hide_on_both_sides-requires-2-clause-inside : goal.hide_on_both_sides-requires-2-clause-inside
+hide_on_both_sides-requires-2-clause-inside c x y in_x in_y =
+    row_marks c.args.bounds x y _ (omega (arith, c.requires.size)) in_x in_y
+
+pub returns : goal.returns
+returns c =
+    let self = c.args.self.now in
+    let t = self.grid.now.terrain in
+    let o = c.args.observer.now in
+    let p = place_of o in
+    let b = c.args.bounds in
+    let ground = c.unwrap_or.result in
+    let index : c.index_in.result ≡ p.row * t.cols + p.col =
+    rw c.cols-cols.ensures.value at c.index_in.ensures in
+    let at : get_or c.cells-cells.result.now c.index_in.result None ≡ height_at t p =
+    rw c.cells-cells.ensures.value (sym (height_is t p.row p.col c.index_in.result
+    c.requires.observer.0 c.requires.observer.1 index)) in
+    let level = rw (to_z-of_z w64 ground (search rules)) at c.level-eye.ensures.value in
+    let eye : c.level-eye.result ≡ height_of t p +ℤ pos o.eye = level ∙ ap (λ z.
+    z +ℤ pos o.eye) (c.unwrap_or.ensures ∙ ap (λ h. unwrap_or h (pos 0)) c.height_at-ground.ensures
+    ∙ ap (λ h. unwrap_or h (pos 0)) at) in
+    let back = to_z-of_z w64 c.level-eye.result (search rules) in
+    let e = height_of t p +ℤ pos o.eye in
+    let in_rows : b.top + b.rows ≤ t.rows =
+    omega (arith, c.requires.inside.rows_inside, self.cut) in
+    let in_cols : b.left + b.cols ≤ t.cols =
+    omega (arith, c.requires.inside.cols_inside, self.cut) in
+    let mid = c.hide_on_both_sides.new.marks in
+    let new = c.hide_on_both_sides-2.new.marks in
+    let open_columns : AreOpen t.cells (family_of (columns_at b p) (rows_at t b p) e)
+    (window_of (columns_at b p) (rows_at t b p)) self.target_height c.args.marks.now mid =
+    rw (c.cells-cells.ensures.value, c.cols-cols.ensures.value, back, eye)
+    at c.in_ok-hide_on_both_sides.ensures in
+    let open_rows = rw (c.cells-cells.ensures.value, c.cols-cols.ensures.value, back, eye)
+    at c.hide_on_both_sides-2.ensures in
+    let columns = columns_left t p b e self.target_height c.args.marks.now mid c.requires.observer
+    in_rows in_cols open_columns in
+    on_ok_weaker c.hide_on_both_sides-2.result
+    (λ (are : AreOpen t.cells (family_of (rows_at t b p) (columns_at b p) e)
+    (window_of (rows_at t b p) (columns_at b p)) self.target_height mid new).
+    left_both b (λ (q : Place).
+    not (column_blocks t p q e (height_of t q +ℤ pos self.target_height))) (λ (q : Place).
+    not (row_blocks t p q e (height_of t q +ℤ pos self.target_height)))
+    c.args.marks.now mid new columns
+    (rows_left t p b e self.target_height mid new c.requires.observer in_rows in_cols are))
+    open_rows

@@ -1,0 +1,17 @@
+use Rattle.std.proofs.Common.{◌≡◌, ◌-◌, ◌*◌, ℕ, subst, arith}
+use Rattle.sight.specs.Marks.{AreMarkedBelow, IsMarkOf}
+use Rattle.sight.proofs.tile.ViewshedInput.mark.Goals as goal
+
+pub loop-row-init : goal.loop-row-init
+loop-row-init c =
+    let none : c.args.bounds.top - c.args.bounds.top ≡ 0 = omega arith in
+    rw none (record { size = c.requires.size; each = λ p inside below. absurd (omega arith) })
+
+pub returns : goal.returns
+returns c =
+    let self = c.args.self.now in
+    let b = c.args.bounds in
+    let all : c.loop-row.row - b.top ≡ b.rows = omega arith in
+    subst (λ (n : ℕ). AreMarkedBelow b
+    (IsMarkOf c.args.check self.grid.now.terrain c.args.observer.now self.target_height self.radius)
+    (n * b.cols) c.loop-row.marks) all c.loop-row.invariant
