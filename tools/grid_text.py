@@ -37,8 +37,8 @@ class Header:
     pairs: dict
 
     def cell_at(self, x, y):
-        """The row and column of a point, or None where it lies outside the grid."""
-        row = self.rows - 1 - (y - self.south) // self.cell_size
+        """The row and column of a point, of a border the cell in the east or the south; None outside the grid."""
+        row = (self.south + self.rows * self.cell_size - y) // self.cell_size
         column = (x - self.west) // self.cell_size
         return (row, column) if 0 <= row < self.rows and 0 <= column < self.columns else None
 
