@@ -1,4 +1,4 @@
--- The effect of one more word, and the fault that is returned for a word that has one.
+-- The effect of one more word on a `GridBuilder`, and the fault of a word that has one.
 use Rattle.std.proofs.Common.{◌≡◌, ℕ, ◌+◌, ◌<◌, ◌≤◌, Bool, true, false, cond, List, [], ◌∷◌, ◌++◌, length, take, Option, None, Some, arith, refl, ap, sym, ◌∙◌, subst, inl, inr, nat_lt, ◌⊎◌, Result, MatchResult}
 use Rattle.std.specs.Prelude.{MatchOption, option_map}
 use Rattle.std.specs.Option.{option_or, option_map_or}
@@ -188,7 +188,7 @@ first_short d header [] w short none = rw (is_short w short) refl
 first_short d header (x ∷ hs) w short none =
     rw (then_none (is_long x) TooLong _ (or_none (height_fault d header 0 x) _ none).0).0 refl
 
--- more heights are judged, if all heights have no fault and their cells are stored
+-- a builder has added more heights, if all heights have no fault and it stores their cells
 pub judged-heights : (j j' : GridBuilder) (ws : List Word) (ps : Pairs) (hs more : List Word) →
     IsHeaderOf j.header ps → ws ≡ flat ps ++ hs → HasBegun (hs ++ more) → AreHeights j' ps (hs
     ++ more) → j'.header ≡ j.header → j'.stage ≡ AtHeights → HasAdded j' (ws ++ more)
@@ -337,7 +337,7 @@ long_fault j ws w h far = by_stage j.stage refl
         next-height j.scale ws h.pairs h.rest w j.header h.header h.words
         (HasBegun-more h.rest (w ∷ []) there.0) there.1.faultless ∙ rw long refl
 
--- a stored cell makes the next height a judged word; a returned fault is a fault of the words
+-- a result that is right for the next height is right for all words up to it
 pub height_word : {T : Type 0} (j j' : GridBuilder) (ws : List Word) (ps : Pairs) (hs : List Word)
     (w : Word) (r : Result T GridFault) → IsHeaderOf j.header ps → ws ≡ flat ps ++ hs →
     HasBegun (hs ++ w ∷ []) → AreHeights j ps hs → length w ≤ 64 → j'.header ≡ j.header →

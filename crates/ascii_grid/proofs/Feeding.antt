@@ -260,7 +260,7 @@ fed_long r p text piece within cut none h over next =
     ∙ ap (λ o. option_or o (Some TooLong)) (ap (λ z. words_fault p.builder.scale (ended_words z))
     in_time ∙ read_none p (text ++ take within piece) (next text k.words_of))
 
--- after a piece that fits and has no fault, the reader holds the words of the text and the piece
+-- after a piece that fits and has no fault, the reader has read the text and the piece
 pub fed_all : (r r' : Reader) (text piece : List ℕ) →
     r.fault ≡ None → WasFed r text → length piece ≤ most_bytes - r.count →
     ((t : List ℕ) → HasWords r.words t → HasWords r'.words (t ++ piece)) → r'.words.builder.scale
@@ -296,7 +296,7 @@ has_fault : {T : Type 0} (b : Reader) (text : List ℕ) (r : Result T GridFault)
 has_fault b text (Ok x) e h = (faultless b text (reading b text e h), tt)
 has_fault b text (Err f) e h = (tt, answered b text f e h)
 
--- `Feeds` holds if scale and old fault stay, the piece is taken, and the result has b's fault
+-- `Feeds` follows from its fields `scale`, `taken`, `fault` and `again`
 pub Feeds-taken : {T : Type 0} (a b : Reader) (piece : List ℕ) (r : Result T GridFault)
     → b.scale ≡ a.scale → ((text : List ℕ) → WasFed a text → WasFed b (text ++ piece))
     → b.fault ≡ result_err r → ((f : GridFault) → a.fault ≡ Some f → r ≡ Err f) → Feeds a b piece r

@@ -1,4 +1,4 @@
--- The header, the heights and the first fault of words that follow pairs of a key and a value.
+-- The header, the heights and the first fault of words that begin with pairs of a key and a value.
 use Rattle.std.proofs.Common.{◌≡◌, ℕ, ◌+◌, Bool, true, false, ◌||◌, cond, List, [], ◌∷◌, ◌++◌, length, Option, None, Some, arith, refl, ap, sym, ◌∙◌}
 use Rattle.std.specs.Prelude.{find, is_some, unwrap_or, option_map}
 use Rattle.std.specs.Option.{option_or}

@@ -1,4 +1,4 @@
--- The effect of one more byte on the ended and the unfinished words; the words of a written text.
+-- The effect of one more byte on ended words and the unfinished word; the words of written rows.
 use Rattle.std.proofs.Common.{◌≡◌, ℕ, ◌+◌, ◌-◌, ◌≤◌, Bool, true, false, not, cond, List, [], ◌∷◌, ◌++◌, length, take, arith, refl, ap, sym, ◌∙◌, inl, inr, zero, suc, ◌*◌, ◌<◌, drop, map}
 use Rattle.std.specs.Prelude.{filter}
 use Rattle.std.specs.List.{slice_split, onto_first, before_last, suffix_len, prefix_len, All, list_any, filter, join_with_byte}

@@ -33,7 +33,7 @@ xll_key x = cond x (codes "xllcenter") (codes "xllcorner")
 abbrev yll_key : Bool → Word
 yll_key y = cond y (codes "yllcenter") (codes "yllcorner")
 
--- the words of a grid's header, and then others; where `x` or `y` is true, its key names a centre
+-- the words of a grid's header, and then others; `x` and `y` say whether xll and yll are centres
 abbrev header_and : Bool → Bool → Raster → List Word → List Word
 header_and x y g rest =
     codes "ncols" ∷ decimal g.terrain.cols ∷ codes "nrows" ∷ decimal g.terrain.rows

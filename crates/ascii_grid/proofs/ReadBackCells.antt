@@ -27,7 +27,7 @@ use Rattle.std.proofs.lemmas.Fmt.{decimal_nonempty, length-decimal-le}
 use Rattle.decimals.proofs.Scaled.{are_digits_joined, before_first-none, scaled_value-digits, any-digits, no_exponent, no_point, after_first-none, bare_digits}
 use Rattle.ascii_grid.proofs.Decimals.{decimal_digits, last_digits_digits, length-last_digits, scaled_digits}
 
--- the text of a height without its sign
+-- the text at scale d of the height n; for the height -n, the text after its sign
 abbrev pub body : ℕ → ℕ → List ℕ
 body d n = decimal (n / 10 ^ d) ++ decimals_text d n
 

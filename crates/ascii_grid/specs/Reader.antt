@@ -14,14 +14,14 @@ pub record Reader : Type 0 where
   pub words : Tokenizer
   pub count : ℕ
 
--- The reader holds the words of this text, which has at most 2^29 bytes.
+-- The reader has read this text, of at most 2^29 bytes, and its ended words have no fault.
 pub record IsReading (r : Reader) (text : List ℕ) : Type 0 where
   pub words_of : HasWords r.words text
   pub same_scale : r.words.builder.scale ≡ r.scale
   pub size : r.count ≡ length text
   pub short : length text ≤ most_bytes
 
--- The reader was fed this text. It holds the text's words, or has returned a fault of the text.
+-- The reader was fed this text. It has read the whole text, or has returned a fault of the text.
 abbrev pub WasFed : Reader → List ℕ → Type 0
 WasFed r text = MatchOption r.fault (IsReading r text) (IsRefusalSoFar r.scale text)
 

@@ -42,7 +42,7 @@ abbrev pub keys_before : List (Word × Word) → List Word → List Word
 keys_before [] before = before
 keys_before (p ∷ ps) before = keys_before ps (p.0 ∷ before)
 
--- The header has these pairs' slots; their keys begin with a letter, and they have no fault.
+-- The header has the slots of these pairs, whose keys begin with a letter and which have no fault.
 pub record IsHeaderOf (h : Header) (ps : List (Word × Word)) : Type 0 where
   pub keys : list_all (λ (p : Word × Word). begins_with_letter p.0) ps ≡ true
   pub faultless : header_fault [] (flat ps) ≡ None

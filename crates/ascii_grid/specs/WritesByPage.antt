@@ -10,8 +10,8 @@ LosesNoByte contents old page_before new page_after text =
     (sent : List ℕ) × HasWritten contents old new sent × (sent ++ page_after ≡ page_before ++ text)
 
 -- A call writes this text by way of the page. On `Ok` all of it is in the device or the page, and
--- no failure was counted. On `Err` a front part of page and text, perhaps all, was written, and the
--- count of failures has risen by one.
+-- no failure was counted. On `Err` a front part of page and text, perhaps none or all, was written,
+-- and the count of failures has risen by one.
 pub record WritesByPage {W T E : Type 0} (contents : W → Option (List ℕ)) (old : Device W)
     (page_before : List ℕ) (new : Device W) (page_after : List ℕ) (text : List ℕ)
     (result : Result T E) : Type 0 where

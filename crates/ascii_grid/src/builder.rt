@@ -176,7 +176,6 @@ impl GridBuilder {
         self.add_cell(meaning)
     }
 
-    /// Adds the cell of the next height, or returns its fault.
     #[inline(always)]
     fn add_cell(&mut self, meaning: Meaning) -> Result<(), GridFault>
         ensures kept { self.new ≡ record self.old { cells = self.new.cells } }
@@ -229,7 +228,7 @@ impl GridBuilder {
         if place > most || cells.len() > most - place {
             return false;
         }
-        if !parser.is_of(self.scale, self.nodata.as_bytes()) {
+        if !parser.has_settings(self.scale, self.nodata.as_bytes()) {
             return false;
         }
         self.cells.extend_from_slice(cells).is_ok()

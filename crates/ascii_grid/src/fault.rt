@@ -11,7 +11,7 @@ pub enum Key {
     Nodata,
 }
 
-/// Why a text is no grid: its first fault, or want of memory.
+/// Why a text is refused: its first fault, or want of memory.
 #[derive(Clone, Copy, Debug, PartialEq, Eq)]
 pub enum GridFault {
     /// A word in a key's place begins with a letter and is no key.

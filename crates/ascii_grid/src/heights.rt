@@ -42,7 +42,7 @@ impl HeightParser {
     }
 
     /// Whether the parser has this scale and NODATA word.
-    pub(crate) fn is_of(&self, scale: u8, nodata: &[u8]) -> bool
+    pub(crate) fn has_settings(&self, scale: u8, nodata: &[u8]) -> bool
         ensures { IsTrue result → (self.now.scale ≡ scale) × (self.now.nodata ≡ nodata.now) }
     {
         self.scale == scale && self.nodata.as_bytes() == nodata

@@ -19,7 +19,7 @@ pub fn faults_stay()
 {}
 
 /// If a text so far may be refused with `Memory`, so may the text with any bytes after it.
-pub fn wants_stay()
+pub fn memory_refusals_stay()
     ensures { (d : ℕ) (text more : List ℕ) → IsRefusalSoFar d text Memory →
         IsRefusal d (text ++ more) Memory }
 {}

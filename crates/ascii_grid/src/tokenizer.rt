@@ -1,4 +1,4 @@
-//! Splits a text into words, and passes each to `GridBuilder`.
+//! Splits a text into words, and passes each word or its value to `GridBuilder`.
 //!
 //! A word is judged once a separator or the text's end follows it. Therefore the result does not
 //! depend on where the text is cut into pieces.
@@ -37,7 +37,7 @@ impl Tokenizer {
         }
     }
 
-    /// Splits the next bytes of the text, and judges each word that ends in them.
+    /// Splits the next bytes, and judges each word that a separator in them ends.
     pub(crate) fn take_all(&mut self, bytes: &[u8]) -> Result<(), GridFault>
         requires { self.old.builder.scale ≤ 6 }
         ensures scale { self.new.builder.scale ≡ self.old.builder.scale }
@@ -130,7 +130,7 @@ impl Tokenizer {
         }
     }
 
-    /// Adds the cells of bytes that a job has parsed. Returns whether it added them.
+    /// Adds the cells of bytes that a job parsed, or returns false and changes nothing.
     pub(crate) fn take_cells(&mut self, parser: &HeightParser, cells: &[Cell]) -> bool
         ensures scale { self.new.builder.scale ≡ self.old.builder.scale }
         ensures refused { result ≡ false → self.new ≡ self.old }

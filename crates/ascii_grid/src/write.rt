@@ -39,7 +39,7 @@ fn write_page<W: Write>(page: &mut Page, out: &mut Counted<W>) -> Result<(), Wri
     Ok(())
 }
 
-/// Writes the page to the device unless [`ENTRY_ROOM`] more bytes fit in the page.
+/// Empties the page into the device unless [`ENTRY_ROOM`] more bytes fit.
 #[inline(always)]
 fn make_room<W: Write>(page: &mut Page, out: &mut Counted<W>) -> Result<(), WriteFailed>
     requires { out.old.failures < 2 ^ 64 - 1 }
@@ -98,7 +98,7 @@ impl MapCell for Count {
     }
 }
 
-/// Writes one cell and the byte `end`, by way of the page.
+/// Adds one cell and the byte `end` to the page; a full page goes to the device.
 #[inline(always)]
 fn write_cell<E: MapCell, W: Write>(
     cell: E,
@@ -119,7 +119,7 @@ fn write_cell<E: MapCell, W: Write>(
     Ok(())
 }
 
-/// Writes one row of cells as a line, by way of the page.
+/// Adds one row of cells as a line to the page; full pages go to the device.
 fn write_row<E: MapCell, W: Write>(
     cells: &[E],
     scale: u8,
@@ -141,7 +141,7 @@ fn write_row<E: MapCell, W: Write>(
     write_cell(cells[last], b'\n', scale, nodata, page, out)
 }
 
-/// Writes the whole rows of cells as lines, by way of the page.
+/// Adds the complete rows of cells to the page; full pages go to the device.
 fn write_rows<E: MapCell, W: Write>(
     cells: &[E],
     cols: usize,
@@ -164,7 +164,7 @@ fn write_rows<E: MapCell, W: Write>(
     Ok(())
 }
 
-/// Writes the page and then the whole rows of cells, and flushes the device.
+/// Writes the page and then the complete rows of cells, and flushes the device.
 fn write_page_and_rows<E: MapCell, W: Write>(
     page: &mut Page,
     cells: &[E],
@@ -258,7 +258,7 @@ pub fn write_cells<E: MapCell, W: Write>(
     write_page_and_rows(&mut page, cells, cols, frame.scale(), nodata, out)
 }
 
-/// Returns the text of the whole rows of cells, one line for each row.
+/// Returns the text of the complete rows of cells, one line for each row.
 ///
 /// # Errors
 ///
@@ -296,7 +296,7 @@ fn write_texts<W: Write>(texts: &[Vec<u8>], out: &mut Counted<W>) -> Result<(), 
 
 /// Writes a map's header and the texts of its rows. Allocates nothing.
 ///
-/// Each text is what [`lines`] returns for some of the rows.
+/// The texts are those of [`lines`] for runs of rows, from north to south.
 ///
 /// # Errors
 ///

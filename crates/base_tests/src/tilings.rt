@@ -15,7 +15,6 @@ const fn place(row: u32, col: u32) -> Place
     Place { row, col }
 }
 
-/// Returns the tiling of a grid of this size into tiles of this side.
 fn cut(rt: &impl Abort, cols: u32, rows: u32, side: u32) -> Tiling
     ensures { result ≡ record { cols = cols; rows = rows; side = side } }
 {
@@ -166,15 +165,15 @@ fn rim_of_one_cell_ends(rt: HostRuntime) {
 fn has_rim_number(rt: &impl Abort, tiling: &Tiling, row: u32, col: u32, number: u32) {
     let place = place_in(rt, tiling, row, col);
     assert_eq!(rt; tiling.rim_number(place), number, "row {row}, column {col}");
-    assert!(rt; number < tiling.number_count());
+    assert!(rt; number < tiling.rim_number_count());
     assert_eq!(rt; tiling.rim_place(number), place, "number {number}");
 }
 
 #[test]
 fn rim_cells_numbered_tile_by_tile(rt: HostRuntime) {
     let tiling = cut(&rt, 5, 4, 3);
-    assert_eq!(rt; tiling.number_count(), 48);
-    assert_eq!(rt; tiling.numbers_of(3), (36, 12));
+    assert_eq!(rt; tiling.rim_number_count(), 48);
+    assert_eq!(rt; tiling.rim_numbers_of(3), (36, 12));
     for (row, col, number) in [
         (0, 1, 1),
         (2, 1, 4),

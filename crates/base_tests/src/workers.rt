@@ -141,7 +141,6 @@ fn run_squares<R: Threads + Wait + Sync>(
     run_jobs(rt, alloc, &Squares { most }, jobs, workers, &NoGate)
 }
 
-/// Runs `jobs` jobs with the gate `turns`.
 fn run_by_turns<R: Threads + Wait + Sync>(
     rt: &R,
     alloc: Global,
@@ -395,7 +394,6 @@ fn each_job_enters_once_and_then_runs_once(rt: HostRuntime) -> Result<(), Fail> 
     Ok(())
 }
 
-/// Asserts that no job ran twice.
 fn have_run_at_most_once(rt: &impl Abort, visits: &Visits) {
     for (job, visit) in visits.visits.iter().enumerate() {
         assert!(rt; visit.times().1 <= 1, "job {job}");

@@ -117,7 +117,7 @@ fn writes(rt: &impl Abort, grid: &Grid, taker: Taker, text: &[u8]) {
     assert_eq!(rt; taker.flushed, text.len());
 }
 
-/// Reads `text`, and asserts that its heights are written as `written`.
+/// Asserts that `text` spells these cells, and that they are written as `written`.
 fn writes_cells(
     rt: &impl Abort,
     alloc: Global,

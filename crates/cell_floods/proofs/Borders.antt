@@ -142,7 +142,6 @@ length-bordered_rows row cols count h =
     let last = length-replicate {A = Option ℤ} (cols + 2) None in
     omega (arith, len, joined, last)
 
--- The rows are those of the window.
 abbrev pub ShowRows : Terrain → Bounds → (ℕ → List (Option ℤ)) → Type 0
 ShowRows t w row = (r c : ℕ) → r < w.rows → c < w.cols →
     get_or (row r) c None ≡ height_at t (record { row = w.top + r; col = w.left + c })

@@ -14,7 +14,7 @@ use Rattle.floods.specs.declared.queue.Candidate.{Candidate}
 use Rattle.floods.specs.Flood.{entry_of, Queues, AreNoted, Relaxes}
 use Rattle.floods.specs.Notes.{height_or_lack}
 use Rattle.floods.specs.declared.queue.Queue.{Queue}
-use Rattle.floods.proofs.Noting.{passed_low, more_relaxed}
+use Rattle.floods.proofs.Noting.{no_entry_if_low, more_relaxed}
 use Rattle.floods.proofs.Noting.{no_arcs as no_arcs_yet}
 use Rattle.terrain.proofs.Orders.{trans, le_of_same}
 use Rattle.terrain.proofs.Options.{cases_option}
@@ -173,7 +173,7 @@ no_higher_arc cells labels levels from to height crest waiting noted is low =
           (sym (arc_none cells height to none)) (no_arcs_yet labels from waiting)
       | inr found ↦ subst (λ o. Queues labels from (cons_option o []) waiting waiting)
           (sym (arc_some cells height to found.0 found.1))
-          (passed_low labels levels from (record { to = to; height = int_max found.0 height })
+          (no_entry_if_low labels levels from (record { to = to; height = int_max found.0 height })
           waiting low.0 noted low.1 (trans _ _ _ low.2
           (le_of_same _ _ (is found.0 found.1 ∙ crest_by found.0 height from.height.0))))
     ]

@@ -40,7 +40,7 @@ near_shown v p q inside near = elim (cases_lt q.row v.cutting.rows) [
     | inr unseen ↦ sym (ap (λ (o : Option (Option ℤ)). unwrap_or o None) (cond-false _ _ _ unseen))
   ]
 
--- As `AreEndHeights`, for the first `count` labels.
+-- As `AreEndHeights`, for the first `count` entries of the table.
 pub record AreFirstEnds (t : Terrain) (places : List (Option Place)) (count : ℕ)
     (ends : List (Option ℤ)) : Type 0 where
   pub size : length ends ≡ count

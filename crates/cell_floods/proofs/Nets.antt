@@ -158,7 +158,6 @@ whole_filled t n levels labels net flooded =
             minus : (n : ℕ) → n ≡ n - 0
             minus n = omega arith
 
--- A row of a view has the width of its tile.
 row_shown_length : (v : View (Option ℤ)) → IsView v →
     AreRows (row_shown v) (bounds_of v.cutting v.tile).cols (bounds_of v.cutting v.tile).rows
 row_shown_length v is r below =

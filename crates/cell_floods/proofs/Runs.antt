@@ -2,7 +2,7 @@
 use Rattle.std.proofs.Common.{◌≡◌, ℕ, ◌+◌, ◌-◌, ◌<◌, ◌≤◌, ℤ, List, length, get_or, drop, slice_range, Option, None, IsSome, ◌∙◌, sym, ap, subst, arith}
 use Rattle.std.specs.List.{EachIndex}
 use Rattle.std.proofs.lemmas.List.{get_or-take, get_or-drop, length-take-le, length-drop}
-use Rattle.cell_floods.specs.Cells.{AreAllThere}
+use Rattle.cell_floods.specs.Cells.{HaveData}
 
 part_at : (entries : List (Option ℤ)) (first count index : ℕ) → index < count → get_or
     (slice_range entries first (first + count)) index None ≡ get_or entries (first + index) None
@@ -18,7 +18,7 @@ part_length entries first count inside =
 -- If each cell of a slice has data, so has each cell of the list at the slice's indexes.
 pub part_there : (entries : List (Option ℤ)) (first count : ℕ) → first + count ≤ length entries →
     EachIndex (slice_range entries first (first + count)) (λ k. IsSome (get_or
-    (slice_range entries first (first + count)) k None)) → AreAllThere entries first (first + count)
+    (slice_range entries first (first + count)) k None)) → HaveData entries first (first + count)
 part_there entries first count inside all index from below =
     let at : index ≡ first + (index - first) = omega (arith, from) in
     let low : index - first < length (slice_range entries first (first + count)) =
@@ -27,7 +27,7 @@ part_there entries first count inside all index from below =
     (arith, from, below)) ∙ ap (λ k. get_or entries k None) (sym at)) (all (index - first) low)
 
 pub there_part : (entries : List (Option ℤ)) (first count : ℕ) → first + count ≤ length entries →
-    AreAllThere entries first (first + count) → EachIndex (slice_range entries first
+    HaveData entries first (first + count) → EachIndex (slice_range entries first
     (first + count)) (λ k. IsSome (get_or (slice_range entries first (first + count)) k None))
 there_part entries first count inside all index below =
     let low : index < count = omega (arith, below, part_length entries first count inside) in

@@ -262,7 +262,7 @@ inner_labels b n levels labels size flooded =
       length-inner_rows labels b.cols b.rows (omega (arith, long)),
     )
 
--- Heights that stand for levels, and numbers that stand for labels, do so inside the border too.
+-- Heights that encode levels, and numbers that encode labels, still do so without the border.
 pub inner_lists : (b : Bounds) (levels : List (Option ℤ)) (labels : List (Option ℕ))
     (raw heights : List ℤ) (numbers nodes : List ℕ) → raw ≡ map height_or_lack levels →
     labels ≡ numbered_labels numbers → heights ≡ inner_rows raw b.cols b.rows →

@@ -54,7 +54,7 @@ has_gap_around n a = list_any (λ b. is_none (cell_at n b)) (cells_around n.stri
 abbrev pub is_sink : List Bool → ℕ → Bool
 is_sink sinks a = slice_index_or sinks a false
 
--- The height of a source, a sink or a data cell beside one without data; None at any other node.
+-- The height of a source: a sink, or a data cell beside a cell without data. Else None.
 abbrev pub source_of : Cells → ℕ → Option ℤ
 source_of n a = if has_gap_around n a || is_sink n.sinks a then cell_at n a else None
 
@@ -65,8 +65,8 @@ pub record IsBordered (n : Cells) : Type 0 where
   pub border : (a : ℕ) → IsSome (cell_at n a) → (n.stride < a) × (a + n.stride + 1 < length n.cells)
 
 -- Each cell from index `first` on and before `end` has data.
-abbrev pub AreAllThere : List (Option ℤ) → ℕ → ℕ → Type 0
-AreAllThere cells first end =
+abbrev pub HaveData : List (Option ℤ) → ℕ → ℕ → Type 0
+HaveData cells first end =
     (index : ℕ) → first ≤ index → index < end → IsSome (slice_index_or cells index None)
 
 -- The arc from a cell of this height to another cell, if that has data.

@@ -8,7 +8,7 @@ ghost use Rattle.std.specs.Bool.{OnTrue};
 ghost use Rattle.floods.specs.Walk.{HasNoSource};
 ghost use Rattle.floods.specs.Flood.{candidates_in, InOrder, Relaxes, AreNoted};
 ghost use Rattle.terrain.specs.Sinks.{with_sinks};
-ghost use Rattle.cell_floods.specs.Cells.{Cells, cells_around, arc_to, whole, IsNetOf, IsCellJoin, IsPassed, source_of, AreAllThere, bordered_rows, inner_rows, row_of};
+ghost use Rattle.cell_floods.specs.Cells.{Cells, cells_around, arc_to, whole, IsNetOf, IsCellJoin, IsPassed, source_of, HaveData, bordered_rows, inner_rows, row_of};
 ghost use Rattle.tiles.specs.Cutting.{bounds_of, row_shown, terrain_of};
 
 use crate::sinks::{is_sink, window_sinks};
@@ -44,7 +44,8 @@ impl Model for CellNet {
         (record { stride = n.stride; cells = n.cells.items; sinks = n.sinks.items }) };
 }
 
-/// The length of a run of nodes, skipped at once if a test shows that none is a source.
+/// The length of a run of nodes.
+/// A run is skipped at once if a test shows that none of its nodes is a source.
 const RUN: u32 = 16;
 
 /// Returns the eight nodes around one that is not on the border.
@@ -85,7 +86,8 @@ fn any_gap(cells: &[Cell], around: &[u32; 8]) -> bool
     around.iter().any(|&node| is_gap(cells, node))
 }
 
-/// Returns the arc from a cell of this height to node `to`; `None` if `to` has no data.
+/// Returns the arc from a cell of this height to node `to`, if that has data.
+/// An arc ([`Spill`]) is a join seen from one of its two nodes.
 #[inline(always)]
 fn arc_to(cells: &[Cell], height: Height, to: u32) -> Option<Spill>
     requires { to < length cells.now }
@@ -131,7 +133,7 @@ fn queue_neighbour_out_of_line(
 }
 
 /// Returns whether a neighbour needs no queueing.
-/// It has no data, or `noted` is at most the greater of its height and `top`.
+/// It has no data, or the crest `noted` for it is at most the greater of its height and `top`.
 #[inline(always)]
 fn is_passed(cell: Cell, top: Height, noted: Height) -> bool
     ensures { OnTrue result (IsPassed cell top noted) }
@@ -142,7 +144,7 @@ fn is_passed(cell: Cell, top: Height, noted: Height) -> bool
     top < NO_DATA && Cell::of(number) == cell && noted <= number.max(top)
 }
 
-/// Queues the cell `to`, if it has data and no label and its crest gets lower.
+/// Queues the cell `to` if it has data, no label, and its first or a lower crest is found.
 /// `height` is the height of the cell `from.node`, at most that cell's level.
 #[inline(always)]
 fn push_cell(
@@ -163,7 +165,7 @@ fn push_cell(
 {
     let Reverse(level) = from.height;
     let noted = levels.heights()[to as usize];
-    // Most calls return here.
+    // Most calls return here. No premise says that `height` is at most `level`, hence the `max`.
     if is_passed(cells[to as usize], height.max(level), noted) {
         return Ok(());
     }
@@ -240,7 +242,7 @@ pub(crate) fn have_data(cells: &[Cell]) -> bool
 #[inline(always)]
 fn have_data_from(cells: &[Cell], first: usize, count: usize) -> bool
     requires { first + count ≤ length cells.now }
-    ensures { IsTrue result ↔ AreAllThere cells.now first (first + count) }
+    ensures { IsTrue result ↔ HaveData cells.now first (first + count) }
 {
     have_data(&cells[first..first + count])
 }
@@ -337,7 +339,8 @@ impl Net for CellNet {
         }
     }
 
-    /// Tests runs from multiples of [`RUN`] alone, so a cell without data makes few tests fail.
+    /// Tests runs from multiples of [`RUN`] alone.
+    /// So a cell without data makes few tests fail.
     #[inline]
     fn next_candidate(&self, from: u32) -> u32 {
         let mut node = from;
@@ -357,7 +360,6 @@ fn push_gaps(list: &mut Vec<Cell>, count: usize) -> Result<(), AllocError>
     Ok(())
 }
 
-/// Adds a row, with a cell without data at either end.
 #[inline]
 fn push_row(list: &mut Vec<Cell>, row: &[Cell]) -> Result<(), AllocError>
     ensures { OnOk result (list.new.items ≡ list.old.items ++ (None ∷ row.now ++ None ∷ [])) }
@@ -472,7 +474,7 @@ impl CellNet {
     }
 }
 
-/// Returns the entries inside the border of a list over a [`CellNet`]'s nodes, in row order.
+/// Returns a list over a [`CellNet`]'s nodes without the border's entries.
 /// `cols` and `rows` are the size of the rectangle without its border.
 pub(crate) fn without_border<T: Copy>(
     alloc: Global,

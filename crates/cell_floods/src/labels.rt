@@ -82,7 +82,7 @@ fn place_of(bounds: Bounds, node: u32) -> Place
     }
 }
 
-/// Returns the index of a node's place in the table, 0 for `None`; adds the place if new.
+/// Returns the table's index of a node's place, 0 for `None`; adds a new place.
 /// `met` has the index for each node met before, and 0 for other nodes.
 #[inline(always)]
 fn index_of_label(

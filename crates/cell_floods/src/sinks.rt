@@ -35,7 +35,7 @@ pub(crate) fn node_in(bounds: Bounds, place: Place) -> usize
     row * (bounds.cols as usize + 2) + col
 }
 
-/// Returns for each node whether it is a cell of the bounds and one of these places.
+/// Returns for each node whether it is in the bounds and one of these places.
 /// The nodes are the cells of the bounds and their border. The list is empty if none is a sink.
 pub(crate) fn window_sinks(
     alloc: Global,

@@ -23,7 +23,7 @@ pub struct TileFlood {
     /// An entry for each cell: its level, if it has a label.
     heights: Vec<Height>,
     labels: Labels,
-    /// The height of each label that is an end cell, and no data for any other.
+    /// The height of each label that is an end cell, and no data for any other entry.
     ends: Vec<Cell>,
     ghost whole: { length heights.items ≡ length labels.indexes },
 }
@@ -126,7 +126,7 @@ impl TileFlood {
     }
 
     /// Returns the height of each label that is an end cell, in the order of the table.
-    /// Any other label has no data here.
+    /// Any other entry of the table has no data here.
     #[inline(always)]
     pub fn ends(&self) -> &[Cell]
         ensures value { result.now ≡ self.now.ends }

@@ -30,7 +30,7 @@ take-padded (suc d) k (x ∷ xs) h =
     ap (λ z. x ∷ z) (take-padded d k xs (omega arith))
     ∙ ap (λ n. x ∷ take d xs ++ replicate n 48) left
 
--- the number of a whole part and a padded fraction is a fold over the digits, then over the zeros
+-- successive folds over `a`, the first d digits of `xs` and the padding zeros give their number
 pub number_of-padded : (d : ℕ) (a xs : List ℕ) → number_of (a ++ take d (xs ++ replicate d 48))
     ≡ fold (λ n b. 10 * n + (b - 48)) (fold (λ n b. 10 * n + (b - 48)) (number_of a) (take d xs))
     (replicate (d - min d (length xs)) 48)
@@ -66,7 +66,7 @@ mantissa-plain : (w : Word) → has_exponent w ≡ false → mantissa w ≡ with
 mantissa-plain w h =
     before_first-none is_exponent_mark (without_sign w) (list_any-without_sign is_exponent_mark w h)
 
--- a word without an exponent has no scaled value unless its parts together are one or more digits
+-- a word without exponent has no scaled value unless whole part and fraction together are digits
 pub scaled_value-not_digits : (d : ℕ) (w a b : Word) → has_exponent w ≡ false →
     a ≡ before_first is_point (without_sign w) → b ≡ after_first is_point (without_sign w) →
     are_digits (a ++ b) ≡ false → scaled_value d w ≡ None

@@ -13,7 +13,7 @@ use Rattle.tiles.specs.declared.bounds.Bounds.{Bounds}
 use Rattle.tiles.specs.Cutting.{Cutting, IsCutting, Cuts, View, bounds_of}
 use Rattle.tile_maps.specs.Maps.{IsMadeUpTo}
 use Rattle.drainage.specs.StepCounts.{known, no_count}
-use Rattle.drainage.proofs.ToldCounts.{known_number}
+use Rattle.drainage.proofs.StoredCounts.{known_number}
 use Rattle.drainage.proofs.Reach.{data_inside}
 use Rattle.drain.specs.Beginning.{IsEdgeOrHasLower, IsInitialCount, IsBegunSpot, AreInitialCounts, AreBegunSpots}
 use Rattle.drain.specs.Entering.{sinkless_terrain}

@@ -81,7 +81,6 @@ module _ (t : Terrain) (p : Place) (level : ℤ) (cells : List (Option ℤ)) (at
         kept q touch (λ e. false≢true (sym gap ∙ sym (ap (λ (s : Place). is_some (height_at t s)) e)
         ∙ has)) (gap_at (height_at t q) gap)
 
--- an outermost data cell is an edge cell
 pub outermost_edge : (t : Terrain) (p : Place) (level : ℤ) → IsInside t p →
     height_at t p ≡ Some level → IsOutermost t p → IsEdge t p
 outermost_edge t p level inside is outer = (ap is_some is, gap t p outer)

@@ -5,7 +5,7 @@ use Rattle.terrain.proofs.Places.{inside_from_entry, index_below, index_injectiv
 use Rattle.terrain.specs.Raster.{Terrain, IsTerrain}
 use Rattle.terrain.specs.Neighbours.{index_of, IsDataCell, height_of}
 use Rattle.terrain.specs.declared.place.Place.{Place}
-use Rattle.drain.specs.Steps.{DrainsAtOnce, IsLevelWalk, IsFlatWalk, IsSteps}
+use Rattle.drain.specs.Steps.{DrainsAtOnce, IsWalkAtOneHeight, IsFlatWalk, IsSteps}
 use Rattle.drain.proofs.Local.{one_number_of_steps}
 use Rattle.drainage.proofs.Pigeonhole.{pigeonhole}
 use Rattle.drain.proofs.Counted.{height_is}
@@ -17,7 +17,8 @@ cell_on p [] (suc i) = p
 cell_on p (q ∷ rest) (suc i) = cell_on q rest i
 
 pub data_on_level_walk : (Ends : Place → Type 0) (t : Terrain) → ((p : Place) → Ends p →
-    IsDataCell t p) → (p : Place) (rest : List Place) → IsLevelWalk Ends t p rest → IsDataCell t p
+    IsDataCell t p) → (p : Place) (rest : List Place) → IsWalkAtOneHeight Ends t p rest →
+    IsDataCell t p
 data_on_level_walk Ends t end_data p [] w = end_data p w
 data_on_level_walk Ends t end_data p (q ∷ rest) w = w.0.from_data
 

@@ -13,7 +13,7 @@ use Rattle.tiles.specs.declared.bounds.Bounds.{Bounds}
 use Rattle.tiles.specs.Cutting.{Cutting, IsCutting, IsWithin, IsInTile, IsInBounds, bounds_of, tile_of_place}
 use Rattle.tiles.proofs.Cut.{in_bounds, in_tile, tile_of_place_below}
 use Rattle.drain.specs.Rounds.{HasCountZero, IsWalked, AreCounting}
-use Rattle.drain.specs.Lowering.{count_of, counts_in, total, AreLevel, IsEvenInside, IsChange, IsLowered, IsReported, IsLoweredTo, IsEntered, IsAmong, MaySpread}
+use Rattle.drain.specs.Lowering.{count_of, counts_in, total, AreEquallyHigh, IsRelaxedInside, IsChange, IsLowered, IsReported, IsLoweredTo, IsEntered, IsAmong, MaySpread}
 use Rattle.drain.specs.declared.changes.Change.{Change}
 use Rattle.drain.specs.declared.changes.Entry.{Entry}
 use Rattle.drain.specs.declared.lowering.Lowered.{Lowered}
@@ -39,9 +39,9 @@ total_less (suc n) f g low j below less = elim (cases_eq j n) [
 
 -- Inside the tile each count is at most one above those of neighbours of equal height. Neighbours
 -- whose changes wait at index `from` or above are excepted.
-pub record IsEvenButReported (t : Terrain) (c : Cutting) (tile : ℕ) (steps : List (Option ℕ))
+pub record IsRelaxedButReported (t : Terrain) (c : Cutting) (tile : ℕ) (steps : List (Option ℕ))
     (l : Lowered) (from : ℕ) : Type 0 where
-  pub within : (p q : Place) → IsInTile c tile p → IsInTile c tile q → AreLevel t p q →
+  pub within : (p q : Place) → IsInTile c tile p → IsInTile c tile q → AreEquallyHigh t p q →
       (counts_in c tile steps l (index_of c.cols p) ≤ counts_in c tile steps l (index_of c.cols q)
       + 1) ⊎ IsReported c tile steps l from q
 
@@ -241,11 +241,11 @@ module _ (t : Terrain) (c : Cutting) (tile : ℕ) (steps : List (Option ℕ)) wh
     ];
   }
 
-  -- `IsEvenButReported` still holds after an entry is applied
+  -- `IsRelaxedButReported` still holds after an entry is applied
   pub even_enter : (Done : Place → Type 0) (bound : ℕ) (old new : Lowered) (done : ℕ) →
-      done ≤ length old.changes.items → IsEvenButReported t c tile steps old done →
+      done ≤ length old.changes.items → IsRelaxedButReported t c tile steps old done →
       IsLoweredTo t c tile steps Done bound old new →
-      IsEvenButReported t c tile steps new done
+      IsRelaxedButReported t c tile steps new done
   even_enter Done bound old new done few even g = record {
     within = λ p q i j side. elim (g.reported q j.0) [
       | inr reported ↦ inr (reported.0, omega (arith, reported.1), reported.2)
@@ -256,12 +256,12 @@ module _ (t : Terrain) (c : Cutting) (tile : ℕ) (steps : List (Option ℕ)) wh
     ];
   }
 
-  -- `IsEvenButReported` holds from `done + 1` on after the change at index `done` has spread
+  -- `IsRelaxedButReported` holds from `done + 1` on after the change at index `done` has spread
   pub even_spread : (old new : Lowered) (done : ℕ) (from : Change) →
-      slice_get old.changes.items done ≡ Some from → IsEvenButReported t c tile steps old done →
+      slice_get old.changes.items done ≡ Some from → IsRelaxedButReported t c tile steps old done →
       IsLoweredTo t c tile steps (λ p. IsInTile c tile p
       × Touches from.place p × (height_at t p ≡ height_at t from.place)) (from.count + 1) old new →
-      IsEvenButReported t c tile steps new (done + 1)
+      IsRelaxedButReported t c tile steps new (done + 1)
   even_spread old new done from here even g = record {
     within = λ p q i j side. elim (g.reported q j.0) [
       | inr reported ↦ inr (
@@ -292,9 +292,9 @@ module _ (t : Terrain) (c : Cutting) (tile : ℕ) (steps : List (Option ℕ)) wh
     ];
   }
 
-  -- if no change waits, `IsEvenButReported` gives `IsEvenInside`
   pub even_end : (l : Lowered) (done : ℕ) → length l.changes.items ≤ done →
-      IsEvenButReported t c tile steps l done → IsEvenInside t c tile (counts_in c tile steps l)
+      IsRelaxedButReported t c tile steps l done → IsRelaxedInside t c tile
+      (counts_in c tile steps l)
   even_end l done all even = record {
     within = λ p q i j side. elim (even.within p q i j side) [
       | inl le ↦ le
@@ -344,9 +344,9 @@ ready_still t c steps b Done bound old new x ready reached = record {
 
 pub begun : (t : Terrain) (c : Cutting) (tile : ℕ) (steps : List (Option ℕ)) (l : Lowered) →
     ((k : ℕ) (row : Vec ℕ Global) → slice_get l.rows.items k ≡ Some row → row.items ≡ []) →
-    l.changes.items ≡ [] → IsEvenInside t c tile (count_of steps) →
+    l.changes.items ≡ [] → IsRelaxedInside t c tile (count_of steps) →
     IsLowered t c tile steps (counts_in c tile steps l) l.changes.items
-    × IsEvenButReported t c tile steps l 0
+    × IsRelaxedButReported t c tile steps l 0
 begun t c tile steps l none empty even =
     let same : (k : ℕ) → counts_in c tile steps l k ≡ count_of steps k =
     λ k. ap (λ (o : Option ℕ). unwrap_or o (count_of steps k)) (kept_none c tile l none k) in (
@@ -386,7 +386,6 @@ pub reached_tile : (t : Terrain) (c : Cutting) (tile other : ℕ) (steps : List 
 reached_tile t c tile other steps Done bound old new e f =
     subst (λ (k : ℕ). IsLoweredTo t c k steps Done bound old new) e f
 
--- `IsEntered` still holds if no count rises
 pub entered_low : (c : Cutting) (entries : List Entry) (from end : ℕ) (f g : ℕ → ℕ) →
     ((k : ℕ) → g k ≤ f k) → IsEntered c entries from end f → IsEntered c entries from end g
 entered_low c entries from end f g low is = record {

@@ -10,7 +10,7 @@ use Rattle.terrain.proofs.Places.{cases_place, index_injective}
 use Rattle.terrain.specs.Neighbours.{Touches}
 use Rattle.terrain.specs.declared.place.Place.{Place}
 use Rattle.tiles.specs.declared.bounds.Bounds.{Bounds}
-use Rattle.drain.specs.Window.{spot_index, area_of, IsSpot, IsInner, level_on, count_on, IsSpread, IsNear, AreNoted, IsReached, IsEvenBut, IsEven, moved}
+use Rattle.drain.specs.Window.{spot_index, area_of, IsSpot, IsInner, level_on, count_on, IsSpread, IsNear, AreNoted, IsReached, IsRelaxedBut, IsRelaxed, moved}
 use Rattle.drain.proofs.Spreading.{touches_back, spot_below, spot_from_inner, spread_none, spread_not_above, spread_on, sum-set}
 
 pub noted_none : (b : Bounds) (counts : List ℕ) (xs : List Place) → AreNoted b counts counts xs xs
@@ -157,11 +157,11 @@ reached_all f each = record {
 }
 
 -- if `IsNear` holds for each spot of the tile and the list has all whose counts changed,
--- `IsEvenBut` holds for the list
+-- `IsRelaxedBut` holds for the list
 pub even_begin :
     (b : Bounds) (levels : List (Option ℤ)) (old counts : List ℕ) (reached : List Place) →
     ((s : Place) → IsInner b s → IsNear b levels old counts s) → AreNoted b old counts [] reached →
-    IsEvenBut b levels counts reached 0
+    IsRelaxedBut b levels counts reached 0
 even_begin b levels old counts reached near noted = record {
   each = λ s r inner other touch level. elim (noted.each s inner) [
     | inl same ↦
@@ -170,11 +170,11 @@ even_begin b levels old counts reached near noted = record {
   ];
 }
 
--- `IsEvenBut` holds from `done + 1` on after the search has spread from the spot at index `done`
+-- `IsRelaxedBut` holds from `done + 1` on after the search has spread from the spot at index `done`
 pub even_spread : {b : Bounds} {levels : List (Option ℤ)} {counts new : List ℕ} {waiting after :
-    List Place} {done : ℕ} {spot : Place} → IsEvenBut b levels counts waiting done →
+    List Place} {done : ℕ} {spot : Place} → IsRelaxedBut b levels counts waiting done →
     slice_get waiting done ≡ Some spot → IsReached b levels spot
-    (Touches spot) counts new waiting after → IsEvenBut b levels new after (done + 1)
+    (Touches spot) counts new waiting after → IsRelaxedBut b levels new after (done + 1)
 even_spread {b} {levels} {counts} {new} {waiting} {after} {done} {spot} even here reached = record {
   each = λ s r inner other touch level. elim (even.each s r inner other touch level) [
     | inl le ↦ elim (reached.noted.each s inner) [
@@ -207,10 +207,9 @@ even_spread {b} {levels} {counts} {new} {waiting} {after} {done} {spot} even her
         ap (λ (p : Place). count_on b new p) (sym one) ∙ reached.own in
         omega (arith, from, same)
 
--- if no spot waits, `IsEvenBut` gives `IsEven`
 pub even_end :
     (b : Bounds) (levels : List (Option ℤ)) (counts : List ℕ) (waiting : List Place) (done : ℕ) →
-    IsEvenBut b levels counts waiting done → length waiting ≤ done → IsEven b levels counts
+    IsRelaxedBut b levels counts waiting done → length waiting ≤ done → IsRelaxed b levels counts
 even_end b levels counts waiting done even none = record {
   each = λ s r inner other touch level. elim (even.each s r inner other touch level) [
     | inl le ↦ le

@@ -16,21 +16,20 @@ use Rattle.drain.proofs.TileRound.{walked_on, some_of_known}
 use Rattle.drain.proofs.Lowered.{small}
 use Rattle.terrain.specs.declared.place.Place.{Place}
 use Rattle.tiles.specs.Cutting.{Cutting, IsWithin, tile_of_place}
-use Rattle.drain.specs.Lowering.{AreLevel, IsAmong, count_of}
-use Rattle.drain.specs.Entering.{sinkless_terrain, IsEntry, AreEntries, IsEvenOrEntered, AreEntered}
+use Rattle.drain.specs.Lowering.{AreEquallyHigh, IsAmong, count_of}
+use Rattle.drain.specs.Entering.{sinkless_terrain, IsEntry, AreEntries, IsRelaxedOrEntered, AreEntered}
 use Rattle.drain.specs.declared.changes.Change.{Change}
 use Rattle.drain.specs.declared.changes.Entry.{Entry}
 
 module _ (t : Terrain) (c : Cutting) (steps : List (Option ℕ)) where
-  -- `IsEvenOrEntered` still holds with a list that has all the old entries
   pub entered_still : (old new : List Entry) (p q : Place) → ((e : Entry) → IsAmong old e →
-      IsAmong new e) → IsEvenOrEntered c steps old p q → IsEvenOrEntered c steps new p q
+      IsAmong new e) → IsRelaxedOrEntered c steps old p q → IsRelaxedOrEntered c steps new p q
   entered_still old new p q kept (inl le) = inl le
   entered_still old new p q kept (inr reported) =
       inr (reported.0, kept reported.0 reported.1, reported.2, reported.3)
 
   pub noted_same : (Done : Place → Place → Type 0) (entries : List Entry) →
-      ((p q : Place) → Done p q → AreLevel t p q → IsEvenOrEntered c steps entries p q) →
+      ((p q : Place) → Done p q → AreEquallyHigh t p q → IsRelaxedOrEntered c steps entries p q) →
       AreEntered t c steps Done entries entries
   noted_same Done entries done = record { kept = λ e among. among; each = λ all. all; done = done }
 
@@ -39,7 +38,7 @@ module _ (t : Terrain) (c : Cutting) (steps : List (Option ℕ)) where
   noted_none Done entries none = noted_same Done entries (λ p q done side. absurd (none p q done))
 
   pub noted_then : (First Next Done : Place → Place → Type 0) (old mid new : List Entry) →
-      ((p q : Place) → Done p q → AreLevel t p q → First p q ⊎ Next p q) →
+      ((p q : Place) → Done p q → AreEquallyHigh t p q → First p q ⊎ Next p q) →
       AreEntered t c steps First old mid → AreEntered t c steps Next mid new →
       AreEntered t c steps Done old new
   noted_then First Next Done old mid new each f g = record {
@@ -52,7 +51,8 @@ module _ (t : Terrain) (c : Cutting) (steps : List (Option ℕ)) where
   }
 
   pub noted_all : (First Done : Place → Place → Type 0) (old new : List Entry) →
-      ((p q : Place) → Done p q → AreLevel t p q → First p q) → AreEntered t c steps First old new →
+      ((p q : Place) → Done p q → AreEquallyHigh t p q → First p q) →
+      AreEntered t c steps First old new →
       AreEntered t c steps Done old new
   noted_all First Done old new each f = record {
     kept = f.kept;
@@ -62,7 +62,7 @@ module _ (t : Terrain) (c : Cutting) (steps : List (Option ℕ)) where
 
   pub noted_push : (Done : Place → Place → Type 0) (old new : List Entry) (e : Entry) →
       new ≡ old ++ e ∷ [] → IsEntry t c steps e →
-      ((p q : Place) → Done p q → AreLevel t p q → (e.change.place ≡ p) × (e.change.count
+      ((p q : Place) → Done p q → AreEquallyHigh t p q → (e.change.place ≡ p) × (e.change.count
       ≤ count_of steps (index_of c.cols q) + 1)) → AreEntered t c steps Done old new
   noted_push Done old new e pushed entry reported =
       let last : slice_get new (length old) ≡ Some e = ap (λ (xs : List Entry). slice_get xs
@@ -102,7 +102,7 @@ among_in_order xs ys x same among =
 pub noted_in_order : (t : Terrain) (c : Cutting) (steps : List (Option ℕ)) (Done : Place → Place →
     Type 0) (new ys : List Entry) → IsPermutation new ys → AreEntered t c steps Done [] new →
     AreEntries t c steps ys
-    × ((p q : Place) → Done p q → AreLevel t p q → IsEvenOrEntered c steps ys p q)
+    × ((p q : Place) → Done p q → AreEquallyHigh t p q → IsRelaxedOrEntered c steps ys p q)
 noted_in_order t c steps Done new ys same noted = (
   λ e among. noted.each (λ d none. absurd (omega (arith, slice_get_within [] none.0 d none.1))) e
       (among_in_order ys new e (IsPermutation-sym new ys same) among),

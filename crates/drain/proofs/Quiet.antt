@@ -10,7 +10,7 @@ use Rattle.terrain.specs.Sinks.{with_sinks}
 use Rattle.terrain.specs.declared.place.Place.{Place}
 use Rattle.tiles.specs.Cutting.{Cutting, Cuts, IsCutting, tile_of_place, IsInTile, tile_entry}
 use Rattle.drain.specs.Beginning.{HasZeros, AreInitialCounts, KeepsCounts}
-use Rattle.drain.specs.Steps.{DrainsAtOnce, IsLevelWalk, IsFlatWalk, IsSteps, AreSteps}
+use Rattle.drain.specs.Steps.{DrainsAtOnce, IsWalkAtOneHeight, IsFlatWalk, IsSteps, AreSteps}
 use Rattle.drain.specs.Rounds.{HasCountZero, IsWalked, AreWalked, IsAtMostOneAbove, IsRound, AreCounting, AreFinal}
 use Rattle.drain.proofs.Counted.{has_steps}
 use Rattle.drainage.proofs.Reach.{data_inside}
@@ -28,9 +28,8 @@ pub match_from : {X : Type 0} {P : Type 0} {Q : X → Type 0} (o : Option X) →
 match_from None p q = p refl
 match_from (Some x) p q = q x refl
 
--- a walk of no moves begins at a cell of `Ends`
 pub ended : (Ends : Place → Type 0) (t : Terrain) (p : Place) (rest : List Place) →
-    IsLevelWalk Ends t p rest → length rest ≡ 0 → Ends p
+    IsWalkAtOneHeight Ends t p rest → length rest ≡ 0 → Ends p
 ended Ends t p [] walk none = walk
 ended Ends t p (q ∷ rest) walk none = absurd (omega (arith, none))
 
@@ -44,8 +43,8 @@ next_with t sinks p q next = record {
 }
 
 walk_to : (A B : Place → Type 0) (t : Terrain) (sinks : List Place) →
-    ((p : Place) → A p → B p) → (p : Place) (rest : List Place) → IsLevelWalk A t p rest →
-    IsLevelWalk B (with_sinks t sinks) p rest
+    ((p : Place) → A p → B p) → (p : Place) (rest : List Place) → IsWalkAtOneHeight A t p rest →
+    IsWalkAtOneHeight B (with_sinks t sinks) p rest
 walk_to A B t sinks to p [] walk = to p walk
 walk_to A B t sinks to p (q ∷ rest) walk =
     (next_with t sinks p q walk.0, walk.1, walk_to A B t sinks to q rest walk.2)
@@ -62,8 +61,9 @@ are_walked_to A B t sinks steps to walked p =
     if_some (entry_at t.cols t.rows steps p) (IsWalked B (with_sinks t sinks) p) (λ n e.
     walked_to A B t sinks to p n (MatchOption-at_some _ _ n e (walked p)))
 
--- Counts are the steps of a filled terrain under three conditions. They are 0 at cells that drain
--- at once and lengths of flat walks. None is more than one above a count beside it at equal height.
+-- Counts are the steps of a filled terrain under three conditions. Cells that drain at once have 0,
+-- and known counts are lengths of flat walks. `IsAtMostOneAbove` holds for neighbours of equal
+-- height.
 module _ (t : Terrain) (steps : List (Option ℕ)) (zeros : HasZeros t steps)
     (all_walked : AreWalked (DrainsAtOnce t) t steps)
     (near : (p q : Place) → IsNeighbour t p q → height_at t q ≡ height_at t p →
@@ -113,15 +113,15 @@ pub in_own_tile : (t : Terrain) (c : Cutting) (p : Place) → Cuts c t → (p.ro
 in_own_tile t c p cuts inside =
     ((omega (arith, inside.0, cuts.1), omega (arith, inside.1, cuts.0)), refl)
 
-pub begun_input : (t : Terrain) (counts : List (Option ℕ)) → AreInitialCounts t counts →
+pub begun_zeros : (t : Terrain) (counts : List (Option ℕ)) → AreInitialCounts t counts →
     (p : Place) →
     DrainsAtOnce t p → HasCountZero t counts p
-begun_input t counts begun p drains = let is = drains_data t p drains in
+begun_zeros t counts begun p drains = let is = drains_data t p drains in
     (is, (begun.each p (data_inside t p is)).zero drains)
 
-input_drains : (t : Terrain) (counts : List (Option ℕ)) → AreInitialCounts t counts → (p : Place) →
+zeros_drain : (t : Terrain) (counts : List (Option ℕ)) → AreInitialCounts t counts → (p : Place) →
     HasCountZero t counts p → DrainsAtOnce t p
-input_drains t counts begun p input = ((begun.each p (data_inside t p input.0)).only 0 input.1).0
+zeros_drain t counts begun p input = ((begun.each p (data_inside t p input.0)).only 0 input.1).0
 
 -- each known initial count is 0, the length of a walk without moves
 pub begun_walked : (Ends : Place → Type 0) (t : Terrain) (counts : List (Option ℕ)) →
@@ -131,16 +131,16 @@ begun_walked Ends t counts begun to p =
     let at = (begun.each p (inside_from_entry t.cols t.rows counts p n e)).only n e in
     (omega (arith, at.1), [], to p at.0, sym at.1))
 
--- known initial counts are lengths of level walks to cells of count 0, also without the sinks
+-- `AreCounting` holds for the initial counts, also without the sinks
 pub begun_counting : (t : Terrain) (counts : List (Option ℕ)) → AreInitialCounts t counts →
     AreCounting (with_sinks t []) counts
 begun_counting t counts begun = record {
   size = begun.size;
   walked = are_walked_to (HasCountZero t counts) (HasCountZero t counts) t [] counts (λ p input.
-      input) (begun_walked (HasCountZero t counts) t counts begun (begun_input t counts begun));
+      input) (begun_walked (HasCountZero t counts) t counts begun (begun_zeros t counts begun));
 }
 
--- a round of walks to A is a round of walks to B, if A implies B, with any sinks
+-- `IsRound` for walks to A gives `IsRound` for walks to B, if A implies B, with any sinks
 pub round_to : (A B : Place → Type 0) (t : Terrain) (sinks : List Place) (c : Cutting) (tile : ℕ)
     (old new : List (Option ℕ)) → ((p : Place) → A p → B p) →
     IsRound A t c tile old new → IsRound B (with_sinks t sinks) c tile old new
@@ -177,10 +177,10 @@ pub final_is_steps : (c : Cutting) (t : Terrain) (begun steps : List (Option ℕ
     AreSteps t steps
 final_is_steps c t begun steps cuts lawful filled first finished =
     still_is_steps t steps
-    (λ p drains. ((finished.same_sources p).0 (begun_input t begun first p drains)).1)
+    (λ p drains. ((finished.same_sources p).0 (begun_zeros t begun first p drains)).1)
     (are_walked_to (HasCountZero t steps) (DrainsAtOnce t) (with_sinks t []) t.sinks steps
     (λ p input.
-    input_drains t begun first p ((finished.same_sources p).1 input)) finished.counting.walked)
+    zeros_drain t begun first p ((finished.same_sources p).1 input)) finished.counting.walked)
     (λ p q next level.
     let inside = in_own_tile t c p cuts (data_inside t p next.from_data) in
     (finished.still (tile_of_place c p) (tile_of_place_below c p finished.cutting

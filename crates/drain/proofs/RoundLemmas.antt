@@ -11,10 +11,10 @@ use Rattle.tiles.specs.Cutting.{Cutting, IsCutting, IsWithin, AreTileLists, IsPu
 use Rattle.tiles.proofs.Cut.{tile_of_place_below}
 use Rattle.tiles.proofs.PutBack.{entry_at-put_back}
 use Rattle.drainage.proofs.Reach.{data_inside}
-use Rattle.drain.specs.Rounds.{HasCountZero, HaveSameSources, IsWalked, IsAtMostOneAbove, IsRound, AreCounting, AreFinal}
-use Rattle.drain.specs.Lowering.{AreLevel, IsAmong, IsEvenInside, IsTileAnswer, count_of, total}
+use Rattle.drain.specs.Rounds.{HasCountZero, HaveSameZeros, IsWalked, IsAtMostOneAbove, IsRound, AreCounting, AreFinal}
+use Rattle.drain.specs.Lowering.{AreEquallyHigh, IsAmong, IsRelaxedInside, IsTileResult, count_of, total}
 use Rattle.drain.specs.Entering.{sinkless_terrain, AreEntered}
-use Rattle.drain.specs.Rounding.{Rounding, IsRounding, levels_of, AreAnswered, IsRunAnswer, IsGiven, ArePut, IsNext}
+use Rattle.drain.specs.Rounding.{Rounding, IsRounding, levels_of, AreRoundResults, IsRunResult, IsGiven, ArePut, IsNext}
 use Rattle.drain.specs.declared.changes.Change.{Change}
 use Rattle.drain.specs.declared.changes.Entry.{Entry}
 use Rattle.drain.specs.declared.changes.Run.{Run}
@@ -23,8 +23,8 @@ use Rattle.std.specs.List.Sorted.{IsNonDecreasingBy, IsPermutation}
 use Rattle.drain.proofs.Noting.{noted_in_order}
 use Rattle.drain.proofs.Quiet.{if_some, ended, walked_to}
 
--- Known counts stay known and do not rise. Each known new count is the length of a level walk to a
--- cell of old count 0.
+-- Known counts stay known and do not rise. Each known new count is the length of a walk at one
+-- height to a cell of old count 0.
 pub record AreCarried (t : Terrain) (old new : List (Option ℕ)) : Type 0 where
   pub size : length new ≡ t.cols * t.rows
   pub kept : (p : Place) (m : ℕ) → entry_at t.cols t.rows old p ≡ Some m →
@@ -33,7 +33,7 @@ pub record AreCarried (t : Terrain) (old new : List (Option ℕ)) : Type 0 where
       IfSome (entry_at t.cols t.rows new p) (IsWalked (HasCountZero t old) t p)
 
 pub carried_input_same : (t : Terrain) (old new : List (Option ℕ)) → AreCarried t old new →
-    HaveSameSources t old new
+    HaveSameZeros t old new
 carried_input_same t old new carried p = (
   λ input. (let n = carried.kept p 0 input.1 in
       (input.0, n.1 ∙ ap Some (let none : n.0 ≡ 0 = omega (arith, n.2) in none))),
@@ -70,9 +70,8 @@ above_one m (Some n) few small above = elim (cases_lt n (2 ^ 24 - 1)) [
   | inr more ↦ omega (arith, few, more)
 ]
 
--- without entries the counts are final
 pub final_from : (r : Rounding) (input : List (Option ℕ)) → IsRounding r → length r.entries ≡ 0 →
-    HaveSameSources (levels_of r) input r.steps → AreFinal r.cutting (levels_of r) input r.steps
+    HaveSameZeros (levels_of r) input r.steps → AreFinal r.cutting (levels_of r) input r.steps
 final_from r input rounding none same =
     let c = r.cutting in
     record {
@@ -82,7 +81,7 @@ final_from r input rounding none same =
       still = λ tile below. record {
         near = λ p q inside next level.
             (let there = data_inside (levels_of r) q next.to_data in
-            let side : AreLevel (levels_of r) p q = record { next = next; level = level } in
+            let side : AreEquallyHigh (levels_of r) p q = record { next = next; level = level } in
             let le : count_of r.steps (index_of c.cols p) ≤ count_of r.steps (index_of c.cols q)
             + 1 = elim (cases_eq (tile_of_place c p) (tile_of_place c q)) [
               | inl one ↦ (rounding.even tile).within p q inside (there, sym one ∙ inside.1) side
@@ -103,7 +102,7 @@ final_from r input rounding none same =
 
 -- an empty run needs no changes
 pub idle_answer : (r : Rounding) (run : Run) (changes : List Change) → IsRounding r →
-    run.from ≡ run.end → changes ≡ [] → IsRunAnswer r run changes
+    run.from ≡ run.end → changes ≡ [] → IsRunResult r run changes
 idle_answer r run changes rounding idle none =
     let nobody : (x : Change) → IsAmong changes x → ⊥ = λ x among. omega (
       arith,
@@ -121,9 +120,9 @@ idle_answer r run changes rounding idle none =
       entered = record { each = λ k e past below at. absurd (omega (arith, past, below, idle)) };
     }
 
-module _ (r : Rounding) (outs : List (Vec Change Global)) (answered : AreAnswered r outs) where
+module _ (r : Rounding) (outs : List (Vec Change Global)) (answered : AreRoundResults r outs) where
   pub answer_of : (j : ℕ) (list : Vec Change Global) → slice_get outs j ≡ Some list →
-      (run : Run) × IsRunAnswer r run list.items
+      (run : Run) × IsRunResult r run list.items
   answer_of j list at = answered.each list (j, at)
 
   pub given_within : (x : Change) → IsGiven outs x → IsWithin r.cutting x.place
@@ -153,14 +152,14 @@ module _ (r : Rounding) (outs : List (Vec Change Global)) (answered : AreAnswere
       record { tile = 0; change = record { place = record { row = 0; col = 0 }; count = 0 } } in
       entry_given 0 (get_or r.entries 0 none) rounding (slice_get-get_or r.entries 0 none some)
 
--- after a round, no known count has risen, and `IsEvenInside` holds for each tile
+-- after a round, no known count has risen, and `IsRelaxedInside` holds for each tile
 module _ (r : Rounding) (outs : List (Vec Change Global)) (new : List (Option ℕ))
-    (rounding : IsRounding r) (answered : AreAnswered r outs)
+    (rounding : IsRounding r) (answered : AreRoundResults r outs)
     (put : ArePut r.cutting.cols r.steps new (IsGiven outs)) where
   -- no new count is above the one in the result of a job
   put_below : (tile from end : ℕ) (j : ℕ) (list : Vec Change Global) →
       slice_get outs j ≡ Some list →
-      (a : IsTileAnswer (levels_of r) r.cutting tile r.steps r.entries from end list.items) →
+      (a : IsTileResult (levels_of r) r.cutting tile r.steps r.entries from end list.items) →
       (p : Place) → IsWithin r.cutting p →
       count_of new (index_of r.cutting.cols p) ≤ a.counts (index_of r.cutting.cols p)
   put_below tile from end j list at a p within = elim (a.lowered.reported p within) [
@@ -213,7 +212,7 @@ module _ (r : Rounding) (outs : List (Vec Change Global)) (new : List (Option �
         ]);
   }
 
-  put_even : (tile : ℕ) → IsEvenInside (levels_of r) r.cutting tile (count_of new)
+  put_even : (tile : ℕ) → IsRelaxedInside (levels_of r) r.cutting tile (count_of new)
   put_even tile = record {
     within = λ p q i j side. elim (put.reported (index_of r.cutting.cols q)) [
       | inl same ↦
@@ -307,7 +306,7 @@ module _ (r : Rounding) (outs : List (Vec Change Global)) (new : List (Option �
 few_none : (n k : ℕ) → n ≤ k → k < n → ⊥
 few_none n k le less = omega arith
 
--- after the first round, no known count has risen, and `IsEvenInside` holds for each tile
+-- after the first round, no known count has risen, and `IsRelaxedInside` holds for each tile
 module _ (c : Cutting) (levels : List (Option ℤ)) (old : List (Option ℕ))
     (lists : List (Vec (Option ℕ) Global)) (count : length lists ≡ tile_count c)
     (given : (j : ℕ) (d : Vec (Option ℕ) Global) → j < tile_count c →
@@ -358,7 +357,7 @@ module _ (c : Cutting) (levels : List (Option ℤ)) (old : List (Option ℕ))
   }
 
   pub first_even : (whole : List (Option ℕ)) → IsCutting c → IsPutBack c lists whole → (tile : ℕ) →
-      IsEvenInside (sinkless_terrain c levels) c tile (count_of whole)
+      IsRelaxedInside (sinkless_terrain c levels) c tile (count_of whole)
   first_even whole lawful put tile = record {
     within = λ p q i j side.
         let list = list_of p lawful i.0 in
@@ -389,15 +388,15 @@ next_none r rounding = record {
 }
 
 -- two rounds that each keep the cells of count 0 keep them together
-input_on : (first second : Rounding) (third : List (Option ℕ)) → second.cutting ≡ first.cutting →
-    second.levels ≡ first.levels → HaveSameSources (levels_of first) first.steps second.steps →
-    HaveSameSources (levels_of second) second.steps third →
-    HaveSameSources (levels_of first) first.steps third
-input_on first second third e f one next =
-    let same : HaveSameSources (levels_of first) second.steps third =
-    subst (λ (c : Cutting). HaveSameSources (sinkless_terrain c first.levels) second.steps third) e
+zeros_on : (first second : Rounding) (third : List (Option ℕ)) → second.cutting ≡ first.cutting →
+    second.levels ≡ first.levels → HaveSameZeros (levels_of first) first.steps second.steps →
+    HaveSameZeros (levels_of second) second.steps third →
+    HaveSameZeros (levels_of first) first.steps third
+zeros_on first second third e f one next =
+    let same : HaveSameZeros (levels_of first) second.steps third =
+    subst (λ (c : Cutting). HaveSameZeros (sinkless_terrain c first.levels) second.steps third) e
     (subst (λ (xs : List (Option ℤ)).
-    HaveSameSources (sinkless_terrain second.cutting xs) second.steps third) f next) in
+    HaveSameZeros (sinkless_terrain second.cutting xs) second.steps third) f next) in
     λ p. (λ input. (same p).0 ((one p).0 input), λ input. (one p).1 ((same p).1 input))
 
 pub next_then : (first second third : Rounding) → IsNext first second → IsNext second third →
@@ -406,7 +405,7 @@ next_then first second third one next = record {
   rounding = next.rounding;
   same_cutting = next.same_cutting ∙ one.same_cutting;
   same_levels = next.same_levels ∙ one.same_levels;
-  same_sources = input_on first second third.steps one.same_cutting one.same_levels one.same_sources
+  same_sources = zeros_on first second third.steps one.same_cutting one.same_levels one.same_sources
       next.same_sources;
   low = (let a = one.low in let b = next.low in omega (arith, a, b));
 }
@@ -414,7 +413,7 @@ next_then first second third one next = record {
 -- `IsRounding` holds after the first round, with the entries of all cells, sorted by tile
 pub first_rounding : (r : Rounding) (noted : List Entry) → IsCutting r.cutting →
     length r.levels ≡ r.cutting.cols * r.cutting.rows → AreCounting (levels_of r) r.steps →
-    ((tile : ℕ) → IsEvenInside (levels_of r) r.cutting tile (count_of r.steps)) →
+    ((tile : ℕ) → IsRelaxedInside (levels_of r) r.cutting tile (count_of r.steps)) →
     IsPermutation noted r.entries → IsNonDecreasingBy (λ e. e.tile) r.entries →
     AreEntered (levels_of r) r.cutting r.steps (λ p q. IsWithin r.cutting q
     × (tile_of_place r.cutting p ≢ tile_of_place r.cutting q)) [] noted → IsRounding r
@@ -433,11 +432,11 @@ first_rounding r noted lawful size counting even same sorted notes =
 
 pub final_at : (r : Rounding) (c : Cutting) (levels : List (Option ℤ)) (input : List (Option ℕ)) →
     r.cutting ≡ c → r.levels ≡ levels → IsRounding r → length r.entries ≡ 0 →
-    HaveSameSources (sinkless_terrain c levels) input r.steps →
+    HaveSameZeros (sinkless_terrain c levels) input r.steps →
     AreFinal c (sinkless_terrain c levels) input r.steps
 final_at r c levels input e f rounding none same =
-    subst (λ (x : Cutting). HaveSameSources (sinkless_terrain x levels) input r.steps →
+    subst (λ (x : Cutting). HaveSameZeros (sinkless_terrain x levels) input r.steps →
     AreFinal x (sinkless_terrain x levels) input r.steps) e
-    (subst (λ (xs : List (Option ℤ)). HaveSameSources (sinkless_terrain r.cutting xs)
+    (subst (λ (xs : List (Option ℤ)). HaveSameZeros (sinkless_terrain r.cutting xs)
     input r.steps → AreFinal r.cutting (sinkless_terrain r.cutting xs) input r.steps) f
     (λ own. final_from r input rounding none own)) same

@@ -6,7 +6,7 @@ use Rattle.std.proofs.lemmas.List.{length_push}
 use Rattle.std.proofs.lemmas.Option.{slice_get_within, same_Some}
 use Rattle.tiles.proofs.SliceGet.{slice_get-append_left, slice_get-append_right}
 use Rattle.drain.specs.Lowering.{IsAmong}
-use Rattle.drain.specs.Rounding.{Rounding, IsAnsweredAt, IsRunAnswer}
+use Rattle.drain.specs.Rounding.{Rounding, IsAnsweredAt, IsRunResult}
 use Rattle.drain.specs.declared.changes.Change.{Change}
 use Rattle.drain.specs.declared.changes.Run.{Run}
 
@@ -62,7 +62,7 @@ covered_more old new run pushed before k below = elim (cases_lt k run.from) [
 
 -- if old results cover the entries before a run, with its result they cover those before its end
 pub answered_more : (r : Rounding) (old new : List (Vec Change Global)) (list : Vec Change Global)
-    (run : Run) → new ≡ old ++ list ∷ [] → IsRunAnswer r run list.items →
+    (run : Run) → new ≡ old ++ list ∷ [] → IsRunResult r run list.items →
     ((k : ℕ) → k < run.from → IsAnsweredAt r old k) → (k : ℕ) → k < run.end → IsAnsweredAt r new k
 answered_more r old new list run pushed answer before k below = elim (cases_lt k run.from) [
   | inl less ↦ (let was = before k less in

@@ -9,7 +9,7 @@ use Rattle.std.specs.Bool.{then_some, MatchBool}
 use Rattle.std.specs.List.{position}
 use Rattle.terrain.specs.Raster.{IsHeight}
 use Rattle.terrain.proofs.Heights.{height_width}
-use Rattle.drain.specs.Interior.{HasHeights, drop_by, drop_on, height_on, IsFurthest, IsLowestBefore, IsSteepestWay}
+use Rattle.drain.specs.Interior.{HasHeights, drop_by, drop_on, height_on, IsGreatestFall, IsLowestBefore, IsSteepestWay}
 use Rattle.drain.specs.Steepness.{weight, weights, positive_part}
 use Rattle.drain.specs.declared.around.Around.{Around}
 use Rattle.drain.proofs.InteriorLemmas.{drop_is}
@@ -29,8 +29,8 @@ drop_fits (pos n) low high = record { sfits = omega (arith, ints) }
 drop_fits (negsuc n) low high = absurd (omega (arith, ints))
 
 -- a height that is not lower has no greater drop
-no_further_down : (level low h : ℤ) → low ≤ℤ h → drop_by level (Some h) ≤ drop_by level (Some low)
-no_further_down level low h le = elim (part_of (level -ℤ h)) [
+no_greater_drop : (level low h : ℤ) → low ≤ℤ h → drop_by level (Some h) ≤ drop_by level (Some low)
+no_greater_drop level low h le = elim (part_of (level -ℤ h)) [
   | inl is ↦
       elim (part_of (level -ℤ low)) [ inl e ↦ omega (arith, ints) | inr e ↦ omega (arith, ints) ]
   | inr is ↦ omega arith
@@ -80,7 +80,7 @@ module _ (level : ℤ) (heights : List (Option ℤ)) (parity : ℕ) (lowest : �
   not_further : (o : Option ℤ) → lowest ≤ℤ unwrap_or o level →
       drop_by level o ≤ drop_by level (Some lowest)
   not_further None low = omega arith
-  not_further (Some h) low = no_further_down level lowest h low
+  not_further (Some h) low = no_greater_drop level lowest h low
 
   less_far : (o : Option ℤ) → lowest <ℤ level → lowest <ℤ unwrap_or o level →
       drop_by level o < drop_by level (Some lowest)
@@ -89,7 +89,7 @@ module _ (level : ℤ) (heights : List (Option ℤ)) (parity : ℕ) (lowest : �
   less_far (Some h) under low = by_lt_z h level
       (λ below. further_down level h lowest low (omega (arith, ints)))
       (λ above. let some = further_down level level lowest under (omega (arith, ints)) in
-      let none = no_further_down level level h above in omega (arith, some, none))
+      let none = no_greater_drop level level h above in omega (arith, some, none))
 
   as_far : (o : Option ℤ) → lowest <ℤ level → unwrap_or o level ≡ lowest →
       drop_by level o ≡ drop_by level (Some lowest)
@@ -98,7 +98,7 @@ module _ (level : ℤ) (heights : List (Option ℤ)) (parity : ℕ) (lowest : �
 
   under_from : 0 < drop_by level (Some lowest) → lowest <ℤ level
   under_from some = by_lt_z lowest level (λ less. less) (λ more. let none =
-      no_further_down level level lowest more in let zero : drop_by level (Some level) ≡ 0 =
+      no_greater_drop level level lowest more in let zero : drop_by level (Some level) ≡ 0 =
       level_drop in absurd (omega (arith, some, none, zero)))
     where
       level_drop : drop_by level (Some level) ≡ 0
@@ -108,7 +108,7 @@ module _ (level : ℤ) (heights : List (Option ℤ)) (parity : ℕ) (lowest : �
   pub first_is_furthest : (turns : ℕ) →
       turns < 4 → ((turn : ℕ) → turn < turns → height_on level heights parity turn ≢ lowest) →
       (turns < 3 → height_on level heights parity turns ≡ lowest) →
-      IsFurthest level heights parity 8 (drop_by level (Some lowest)) (2 * turns + parity)
+      IsGreatestFall level heights parity 8 (drop_by level (Some lowest)) (2 * turns + parity)
   first_is_furthest turns few past here = record {
     bound = λ other below e.
         subst (λ (n : ℕ). drop_on level heights n ≤ drop_by level (Some lowest))
@@ -190,7 +190,7 @@ past_next level heights parity lowest turns turn next false above so_far is (inr
 pub past_all : (level : ℤ) (heights : List (Option ℤ)) (parity : ℕ) (lowest : ℤ) (turns turn : ℕ)
     (is_past : Bool) → parity < 2 → IsLowestBefore level heights parity 4 lowest → turn ≡ 3 →
     ArePast level heights parity lowest turns turn is_past →
-    IsFurthest level heights parity 8 (drop_by level (Some lowest)) (2 * turns + parity)
+    IsGreatestFall level heights parity 8 (drop_by level (Some lowest)) (2 * turns + parity)
 past_all level heights parity lowest turns turn is_past two is three so_far =
     first_is_furthest level heights parity lowest two is turns few (λ other less e. let above =
     so_far.past other less in omega (arith, ints)) at
@@ -273,8 +273,8 @@ module _ (a : Around) (level : ℤ) (heights : List (Option ℤ))
   whole : length (weights a) ≡ 8
   whole = length-weights a ∙ has.count
 
-  module _ (o straight d across : ℕ) (even : IsFurthest level heights 0 8 o straight)
-      (odd : IsFurthest level heights 1 8 d across) where
+  module _ (o straight d across : ℕ) (even : IsGreatestFall level heights 0 8 o straight)
+      (odd : IsGreatestFall level heights 1 8 d across) where
     bound_even : (way : ℕ) → way < 8 → way % 2 ≡ 0 → get_or (weights a) way 0 ≤ 2 * (o * o)
     bound_even way below e =
         omega (arith, weight_even way below e, no_more way o (even.bound way below e))
@@ -343,7 +343,7 @@ module _ (a : Around) (level : ℤ) (heights : List (Option ℤ))
               );
         }
 
-    -- the greatest weights across and straight are not equal if the drop across is above 0
+    -- a drop across above 0 that weighs no less than the straight drop weighs more
     across_heavier : 2 * (o * o) ≤ d * d → 0 < d → 2 * (o * o) < d * d
     across_heavier much some =
         elim (cases_eq (2 * (o * o)) (d * d)) [

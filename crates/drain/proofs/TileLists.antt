@@ -16,7 +16,6 @@ pub coded_next : (t : Terrain) (b : Bounds) (row col : ℕ) (list : List (Option
     (b.left + col)) x → IsMadeUpTo b (IsCodeAt t) (row * b.cols + (col + 1)) (list ++ x ∷ [])
 coded_next t b = made_next b (IsCodeAt t)
 
--- a tile's bounds lie in the terrain that is cut
 pub part_of : (t : Terrain) (c : Cutting) (b : Bounds) → IsCutting c → Cuts c t → AreBounds c b →
     IsPartOf t b
 part_of t c b lawful cuts fits = record {
@@ -26,7 +25,6 @@ part_of t c b lawful cuts fits = record {
   cols = omega (arith, cuts.0, fits.cols_inside);
 }
 
--- a list with the code at each place is the list of directions
 pub coded_map : (t : Terrain) (c : Cutting) (codes : List (Option ℕ)) → Cuts c t →
     IsMadeMap c (IsCodeAt t) codes → AreDirections t codes
 coded_map t c codes cuts made = let all = map_of_size c t.cols t.rows

@@ -14,7 +14,7 @@ use Rattle.drain.specs.Rounds.{HasCountZero, IsWalked, AreWalked, IsAtMostOneAbo
 use Rattle.tile_maps.specs.Maps.{IsMadeUpTo, IsMadeTile}
 use Rattle.tile_maps.proofs.TileLists.{made_tile, entry_of_tile}
 use Rattle.drainage.specs.StepCounts.{known, no_count}
-use Rattle.drainage.proofs.ToldCounts.{known-some, known-none}
+use Rattle.drainage.proofs.StoredCounts.{known-some, known-none}
 use Rattle.drain.specs.Window.{AreCounts, spot_index, area_of, IsSpot, IsInner, Shows, IsShown, AreShown, level_on, count_on, IsSpread, same, moved, IsSearched, known_counts, IsCopied, AreWindowCounts}
 use Rattle.drain.proofs.Spreading.{spot_below, spread_not_above, spread_counts, spread-length, spot_from_inner}
 use Rattle.drain.proofs.Counted.{height_is}
@@ -41,7 +41,8 @@ is_on {X = X} cols rows entries b s o x shown is =
       ]
     ]
 
--- Each known count is the length of a level walk from the place of its spot to a cell of count 0.
+-- Each known count is the length of a walk at one height from the place of its spot to a cell of
+-- count 0.
 IsSound : Terrain → List (Option ℕ) → Bounds → List ℕ → Type 0
 IsSound t steps b counts = (s : Place) → IsSpot b s → count_on b counts s < no_count →
     (p : Place) × Shows b s p × IsWalked (HasCountZero t steps) t p (count_on b counts s)

@@ -61,7 +61,7 @@ no_way_down a h =
     let none : drop_to a.level (get_or a.ways k None) ≡ 0 = drop_from_weight k _ own in
     le-ltb _ _ (omega arith))
 
--- if `IsFitting` surroundings have no way down and are no end cell's, a way has `leads_on`
+-- if `IsFitting` holds, no way leads down and the cell is no end cell, `leads_on` holds on some way
 pub drains_onward : (a : Around) → IsFitting a → fold max 0 (weights a) ≤ 0 → a.edge ≡ false →
     list_any (leads_on a) a.ways ≡ true
 drains_onward a f low inside = go a low inside f.drains

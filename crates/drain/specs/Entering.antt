@@ -7,7 +7,7 @@ use Rattle.terrain.specs.declared.place.Place.{Place}
 use Rattle.tiles.specs.declared.bounds.Bounds.{Bounds}
 use Rattle.tiles.specs.Cutting.{Cutting, IsInTile}
 use Rattle.drain.specs.Rounds.{HasCountZero, IsWalked}
-use Rattle.drain.specs.Lowering.{AreLevel, IsAmong, count_of}
+use Rattle.drain.specs.Lowering.{AreEquallyHigh, IsAmong, count_of}
 use Rattle.drain.specs.declared.changes.Entry.{Entry}
 use Rattle.drain.specs.declared.changes.Run.{Run}
 
@@ -20,8 +20,8 @@ IsInterior b p = (b.top < p.row) × (p.row + 1 < b.top + b.rows) × (b.left < p.
 abbrev pub sinkless_terrain : Cutting → List (Option ℤ) → Terrain
 sinkless_terrain c levels = record { cols = c.cols; rows = c.rows; cells = levels; sinks = [] }
 
--- The entry lowers the count of a cell of its tile. The new count is the length of a level walk to
--- a cell of count 0.
+-- The entry lowers the count of a cell of its tile. The new count is the length of a walk at one
+-- height to a cell of count 0.
 pub record IsEntry (t : Terrain) (c : Cutting) (steps : List (Option ℕ)) (e : Entry) : Type 0 where
   pub inside : IsInTile c e.tile e.change.place
   pub walked : IsWalked (HasCountZero t steps) t e.change.place e.change.count
@@ -32,19 +32,19 @@ abbrev pub AreEntries : Terrain → Cutting → List (Option ℕ) → List Entry
 AreEntries t c steps entries = (e : Entry) → IsAmong entries e → IsEntry t c steps e
 
 -- The count of p is at most one above that of q, or an entry for p lowers it that far.
-abbrev pub IsEvenOrEntered : Cutting → List (Option ℕ) → List Entry → Place → Place → Type 0
-IsEvenOrEntered c steps entries p q =
+abbrev pub IsRelaxedOrEntered : Cutting → List (Option ℕ) → List Entry → Place → Place → Type 0
+IsRelaxedOrEntered c steps entries p q =
     (count_of steps (index_of c.cols p) ≤ count_of steps (index_of c.cols q) + 1)
     ⊎ ((e : Entry) × IsAmong entries e × (e.change.place ≡ p)
     × (e.change.count ≤ count_of steps (index_of c.cols q) + 1))
 
--- The old elements stay. If they are entries, so are the new ones. `IsEvenOrEntered` holds for each
--- pair in `Done` of neighbours of one height.
+-- The old elements stay. If they are entries, so are the new ones. `IsRelaxedOrEntered` holds for
+-- each pair in `Done` of neighbours of one height.
 pub record AreEntered (t : Terrain) (c : Cutting) (steps : List (Option ℕ))
     (Done : Place → Place → Type 0) (old new : List Entry) : Type 0 where
   pub kept : (e : Entry) → IsAmong old e → IsAmong new e
   pub each : AreEntries t c steps old → AreEntries t c steps new
-  pub done : (p q : Place) → Done p q → AreLevel t p q → IsEvenOrEntered c steps new p q
+  pub done : (p q : Place) → Done p q → AreEquallyHigh t p q → IsRelaxedOrEntered c steps new p q
 
 -- The run is a range of the list, and its entries are for its tile.
 pub record IsRun (entries : List Entry) (run : Run) : Type 0 where

@@ -1,4 +1,5 @@
 -- The steepest way down, by the eight heights around a cell; surroundings of an interior cell.
+-- Ways are the eight directions, from 0 to 7 in code order.
 -- Private.
 use Rattle.std.specs.Prelude.{◌≡◌, ℕ, ◌+◌, ◌%◌, ◌<◌, ◌≤◌, ◌*◌, ◌⊎◌, ◌==◌, max, ℤ, ◌-ℤ◌, ◌≤ℤ◌, List, length, fold, Option, None, Some, option_map, unwrap_or, position, slice_index_or}
 use Rattle.std.specs.Option.{option_zip}
@@ -37,7 +38,7 @@ pub record IsLowestBefore (level : ℤ) (heights : List (Option ℤ)) (parity en
 
 -- The greatest drop on the ways of one parity before `end`, 0 if none leads down. If it is above 0,
 -- `way` is the first with this drop.
-pub record IsFurthest (level : ℤ) (heights : List (Option ℤ))
+pub record IsGreatestFall (level : ℤ) (heights : List (Option ℤ))
     (parity end drop way : ℕ) : Type 0 where
   pub bound : (other : ℕ) → other < end → other % 2 ≡ parity → drop_on level heights other ≤ drop
   pub reached : 0 < drop → (way < end) × (way % 2 ≡ parity) × (drop_on level heights way ≡ drop)

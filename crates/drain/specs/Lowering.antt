@@ -17,7 +17,7 @@ abbrev pub IsAmong : {X : Type 0} → List X → X → Type 0
 IsAmong xs x = (k : ℕ) × (slice_get xs k ≡ Some x)
 
 -- The cells are neighbours of one height.
-pub record AreLevel (t : Terrain) (p q : Place) : Type 0 where
+pub record AreEquallyHigh (t : Terrain) (p q : Place) : Type 0 where
   pub next : IsNeighbour t p q
   pub level : height_at t q ≡ height_at t p
 
@@ -51,12 +51,13 @@ total zero counts = 0
 total (suc n) counts = counts n + total n counts
 
 -- Inside the tile each count is at most one above those of neighbours of equal height.
-pub record IsEvenInside (t : Terrain) (c : Cutting) (tile : ℕ) (counts : ℕ → ℕ) : Type 0 where
-  pub within : (p q : Place) → IsInTile c tile p → IsInTile c tile q → AreLevel t p q →
+pub record IsRelaxedInside (t : Terrain) (c : Cutting) (tile : ℕ) (counts : ℕ → ℕ) : Type 0 where
+  pub within : (p q : Place) → IsInTile c tile p → IsInTile c tile q → AreEquallyHigh t p q →
       counts (index_of c.cols p) ≤ counts (index_of c.cols q) + 1
 
--- A change lowers a tile's cell below its input count. The new count is the length of a level walk
--- to a cell of count 0. The cell's current count is no greater than the change's.
+-- A change lowers the count of a tile's cell below its count in the input. The new count is the
+-- length of a walk at one height to a cell of count 0. The cell's current count is at most the new
+-- one.
 pub record IsChange (t : Terrain) (c : Cutting) (tile : ℕ) (steps : List (Option ℕ))
     (counts : ℕ → ℕ) (x : Change) : Type 0 where
   pub inside : IsInTile c tile x.place
@@ -116,11 +117,11 @@ pub record IsEntered (c : Cutting) (entries : List Entry) (from end : ℕ)
   pub each : (k : ℕ) (e : Entry) → from ≤ k → k < end → slice_get entries k ≡ Some e →
       counts (index_of c.cols e.change.place) ≤ e.change.count
 
--- The result of a tile's job: its changes apply the entries of the run. `IsEvenInside` holds for
+-- The result of a tile's job: its changes apply the entries of the run. `IsRelaxedInside` holds for
 -- the counts after these changes.
-pub record IsTileAnswer (t : Terrain) (c : Cutting) (tile : ℕ) (steps : List (Option ℕ))
+pub record IsTileResult (t : Terrain) (c : Cutting) (tile : ℕ) (steps : List (Option ℕ))
     (entries : List Entry) (from end : ℕ) (changes : List Change) : Type 0 where
   pub counts : ℕ → ℕ
   pub lowered : IsLowered t c tile steps counts changes
-  pub even : IsEvenInside t c tile counts
+  pub even : IsRelaxedInside t c tile counts
   pub entered : IsEntered c entries from end counts

@@ -7,9 +7,9 @@ use Rattle.terrain.specs.Raster.{Terrain}
 use Rattle.terrain.specs.Neighbours.{index_of}
 use Rattle.terrain.specs.declared.place.Place.{Place}
 use Rattle.tiles.specs.Cutting.{Cutting, IsCutting, tile_count, tile_of_place}
-use Rattle.drain.specs.Rounds.{HaveSameSources, AreCounting}
-use Rattle.drain.specs.Lowering.{AreLevel, IsAmong, IsEvenInside, IsTileAnswer, count_of, total}
-use Rattle.drain.specs.Entering.{sinkless_terrain, AreEntries, AreRuns, IsEvenOrEntered}
+use Rattle.drain.specs.Rounds.{HaveSameZeros, AreCounting}
+use Rattle.drain.specs.Lowering.{AreEquallyHigh, IsAmong, IsRelaxedInside, IsTileResult, count_of, total}
+use Rattle.drain.specs.Entering.{sinkless_terrain, AreEntries, AreRuns, IsRelaxedOrEntered}
 use Rattle.drain.specs.declared.changes.Change.{Change}
 use Rattle.drain.specs.declared.changes.Entry.{Entry}
 use Rattle.drain.specs.declared.changes.Run.{Run}
@@ -35,18 +35,18 @@ rounding_of c = record {
 abbrev pub levels_of : Rounding → Terrain
 levels_of r = sinkless_terrain r.cutting r.levels
 
--- `IsEvenInside` holds for each tile. The entries are sorted by tile. They lower each count that a
--- neighbour in another tile can lower, at least that far.
+-- `IsRelaxedInside` holds for each tile. The entries are sorted by tile. They lower each count
+-- that a neighbour in another tile can lower, at least that far.
 pub record IsRounding (r : Rounding) : Type 0 where
   pub cutting : IsCutting r.cutting
   pub size : length r.levels ≡ r.cutting.cols * r.cutting.rows
   pub counting : AreCounting (levels_of r) r.steps
-  pub even : (tile : ℕ) → IsEvenInside (levels_of r) r.cutting tile (count_of r.steps)
+  pub even : (tile : ℕ) → IsRelaxedInside (levels_of r) r.cutting tile (count_of r.steps)
   pub entries : AreEntries (levels_of r) r.cutting r.steps r.entries
   pub sorted : IsNonDecreasingBy (λ e. e.tile) r.entries
-  pub entered : (p q : Place) → AreLevel (levels_of r) p q →
+  pub entered : (p q : Place) → AreEquallyHigh (levels_of r) p q →
       tile_of_place r.cutting p ≢ tile_of_place r.cutting q →
-      IsEvenOrEntered r.cutting r.steps r.entries p q
+      IsRelaxedOrEntered r.cutting r.steps r.entries p q
 
 -- The jobs of a round: job k applies its run of entries, which may be empty, to tile k.
 pub record Jobs : Type 0 where
@@ -59,24 +59,24 @@ pub record AreJobs (j : Jobs) : Type 0 where
   pub runs : AreRuns j.rounding.entries (tile_count j.rounding.cutting) j.runs
 
 -- The changes are a result for the tile of the run.
-abbrev pub IsRunAnswer : Rounding → Run → List Change → Type 0
-IsRunAnswer r run changes =
-    IsTileAnswer (levels_of r) r.cutting run.tile r.steps r.entries run.from run.end changes
+abbrev pub IsRunResult : Rounding → Run → List Change → Type 0
+IsRunResult r run changes =
+    IsTileResult (levels_of r) r.cutting run.tile r.steps r.entries run.from run.end changes
 
 -- The changes are a result of the job.
-abbrev pub IsAnswer : Jobs → ℕ → List Change → Type 0
-IsAnswer j job changes =
-    (run : Run) → slice_get j.runs job ≡ Some run → IsRunAnswer j.rounding run changes
+abbrev pub IsResult : Jobs → ℕ → List Change → Type 0
+IsResult j job changes =
+    (run : Run) → slice_get j.runs job ≡ Some run → IsRunResult j.rounding run changes
 
 -- The entry at index k is in a run whose result is among these.
 abbrev pub IsAnsweredAt : Rounding → List (Vec Change Global) → ℕ → Type 0
 IsAnsweredAt r outs k = (list : Vec Change Global) × IsAmong outs list × (run : Run)
-    × (run.from ≤ k) × (k < run.end) × IsRunAnswer r run list.items
+    × (run.from ≤ k) × (k < run.end) × IsRunResult r run list.items
 
 -- The results of a round: each is of a run, and each entry is in a run with a result.
-pub record AreAnswered (r : Rounding) (outs : List (Vec Change Global)) : Type 0 where
+pub record AreRoundResults (r : Rounding) (outs : List (Vec Change Global)) : Type 0 where
   pub each : (list : Vec Change Global) → IsAmong outs list →
-      (run : Run) × IsRunAnswer r run list.items
+      (run : Run) × IsRunResult r run list.items
   pub covered : (k : ℕ) → k < length r.entries → IsAnsweredAt r outs k
 
 -- The change is among the results.
@@ -93,7 +93,7 @@ pub record ArePut (cols : ℕ) (old new : List (Option ℕ)) (Given : Change →
       ⊎ ((x : Change) × Given x × (index_of cols x.place ≡ k)
       × (slice_index_or new k None ≡ Some x.count))
 
--- The sum of all counts.
+-- The sum of all counts, where an unknown one counts as 2^24.
 abbrev pub count_sum : Rounding → ℕ
 count_sum r = total (r.cutting.cols * r.cutting.rows) (count_of r.steps)
 
@@ -103,5 +103,5 @@ pub record IsNext (old new : Rounding) : Type 0 where
   pub rounding : IsRounding new
   pub same_cutting : new.cutting ≡ old.cutting
   pub same_levels : new.levels ≡ old.levels
-  pub same_sources : HaveSameSources (levels_of old) old.steps new.steps
+  pub same_sources : HaveSameZeros (levels_of old) old.steps new.steps
   pub low : count_sum new ≤ count_sum old

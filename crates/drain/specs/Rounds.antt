@@ -1,5 +1,5 @@
--- Rounds of counting steps, tile by tile. Sources are the cells of count 0, which the caller
--- chooses. Each known count is the length of a level walk to a source. It falls toward the least
+-- Rounds of counting steps, tile by tile. The caller chooses the cells of count 0. Each known count
+-- is the length of a walk at one height to such a cell. Rounds lower it toward the least
 -- such length.
 -- Public.
 use Rattle.std.specs.Prelude.{◌≡◌, ◌↔◌, ℕ, ◌+◌, ◌-◌, ◌*◌, ◌^◌, ◌<◌, ◌≤◌, List, length, Option, Some, IfSome}
@@ -7,22 +7,23 @@ use Rattle.terrain.specs.Raster.{Terrain}
 use Rattle.terrain.specs.Neighbours.{height_at, entry_at, IsDataCell, IsNeighbour}
 use Rattle.terrain.specs.declared.place.Place.{Place}
 use Rattle.tiles.specs.Cutting.{Cutting, IsCutting, IsInTile, tile_count, tile_entry, cell_count}
-use Rattle.drain.specs.Steps.{IsLevelWalk}
+use Rattle.drain.specs.Steps.{IsWalkAtOneHeight}
 
--- The cell is a source: it has data and the count 0.
+-- The cell has data and the count 0.
 abbrev pub HasCountZero : Terrain → List (Option ℕ) → Place → Type 0
 HasCountZero t steps p = IsDataCell t p × (entry_at t.cols t.rows steps p ≡ Some 0)
 
 -- The two lists of counts have 0 at the same data cells.
-abbrev pub HaveSameSources : Terrain → List (Option ℕ) → List (Option ℕ) → Type 0
-HaveSameSources t old new = (p : Place) → HasCountZero t old p ↔ HasCountZero t new p
+abbrev pub HaveSameZeros : Terrain → List (Option ℕ) → List (Option ℕ) → Type 0
+HaveSameZeros t old new = (p : Place) → HasCountZero t old p ↔ HasCountZero t new p
 
--- The count is below 2^24, and some level walk from p to a cell of `Ends` has this many moves.
+-- The count is below 2^24. Some walk at one height from p to a cell of `Ends` has this many moves.
 abbrev pub IsWalked : (Place → Type 0) → Terrain → Place → ℕ → Type 0
 IsWalked Ends t p n =
-    (n < 2 ^ 24) × (rest : List Place) × IsLevelWalk Ends t p rest × (length rest ≡ n)
+    (n < 2 ^ 24) × (rest : List Place) × IsWalkAtOneHeight Ends t p rest × (length rest ≡ n)
 
--- Each known count of the list, in row order, is the length of a level walk to a cell of `Ends`.
+-- Each known count of the list, in row order, is the length of a walk at one height to a cell of
+-- `Ends`.
 abbrev pub AreWalked : (Place → Type 0) → Terrain → List (Option ℕ) → Type 0
 AreWalked Ends t steps = (p : Place) → IfSome (entry_at t.cols t.rows steps p) (IsWalked Ends t p)
 
@@ -37,10 +38,10 @@ pub record IsRound (Ends : Place → Type 0) (t : Terrain) (c : Cutting) (tile :
   pub size : length new ≡ cell_count c tile
   pub walked : (p : Place) → IsInTile c tile p →
       IfSome (tile_entry c tile new p) (IsWalked Ends t p)
-  -- a new count is at most one above each known old count of a neighbour on the flat
+  -- `IsAtMostOneAbove` holds for a new count and each old one of a neighbour of equal height
   pub near : (p q : Place) → IsInTile c tile p → IsNeighbour t p q → height_at t q ≡ height_at t p →
       IsAtMostOneAbove (tile_entry c tile new p) (entry_at t.cols t.rows old q)
-  -- inside the tile a new count is at most one above each known one of a neighbour on the flat
+  -- `IsAtMostOneAbove` holds for two new counts of neighbours of equal height inside the tile
   pub within : (p q : Place) → IsInTile c tile p → IsInTile c tile q → IsNeighbour t p q →
       height_at t q ≡ height_at t p →
       IsAtMostOneAbove (tile_entry c tile new p) (tile_entry c tile new q)
@@ -48,21 +49,22 @@ pub record IsRound (Ends : Place → Type 0) (t : Terrain) (c : Cutting) (tile :
   pub kept : (p : Place) (m : ℕ) → IsInTile c tile p → entry_at t.cols t.rows old p ≡ Some m →
       (n : ℕ) × (tile_entry c tile new p ≡ Some n) × (n ≤ m)
 
--- A round would not change the tile: each count is at most one above its neighbours' on the flat.
+-- A round would not change the tile: `IsAtMostOneAbove` holds for each of its counts and that of
+-- each neighbour of equal height.
 pub record IsTileStill (t : Terrain) (c : Cutting) (tile : ℕ)
     (steps : List (Option ℕ)) : Type 0 where
   pub near : (p q : Place) → IsInTile c tile p → IsNeighbour t p q → height_at t q ≡ height_at t p →
       IsAtMostOneAbove (entry_at t.cols t.rows steps p) (entry_at t.cols t.rows steps q)
 
--- Each known count is the length of a level walk to a source.
+-- Each known count is the length of a walk at one height to a cell of count 0.
 pub record AreCounting (t : Terrain) (steps : List (Option ℕ)) : Type 0 where
   pub size : length steps ≡ t.cols * t.rows
   pub walked : AreWalked (HasCountZero t steps) t steps
 
--- The final counts: each known one is the length of a level walk to a source of `input`, and no
--- round would change them.
+-- The final counts: no round would change them, and `AreCounting` holds. They are 0 at the same
+-- data cells as `input`.
 pub record AreFinal (c : Cutting) (t : Terrain) (input steps : List (Option ℕ)) : Type 0 where
   pub cutting : IsCutting c
   pub counting : AreCounting t steps
-  pub same_sources : HaveSameSources t input steps
+  pub same_sources : HaveSameZeros t input steps
   pub still : (tile : ℕ) → tile < tile_count c → IsTileStill t c tile steps

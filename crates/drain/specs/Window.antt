@@ -52,8 +52,8 @@ count_on b counts s = slice_index_or counts (spot_index b s) 0
 abbrev pub AreCounts : List ℕ → Type 0
 AreCounts counts = (k : ℕ) → slice_index_or counts k 0 ≤ no_count
 
--- The counts come from the old ones by moves between spots of one height. A move lowers a spot to
--- one more than the count that an adjacent spot has after some moves.
+-- The counts come from the old ones by relaxations. A relaxation lowers a spot's count to one more
+-- than the count that an adjacent spot of its height has after some relaxations.
 pub data IsSpread (b : Bounds) (levels : List (Option ℤ)) (old : List ℕ) : List ℕ → Type 0 where
   same : IsSpread b levels old old
   moved : (counts : List ℕ) (some : List ℕ) (s r : Place) (n : ℕ) → IsSpread b levels old counts →
@@ -103,7 +103,7 @@ pub record IsReached (b : Bounds) (levels : List (Option ℤ)) (spot : Place) (D
 
 -- Each count of the tile is at most one above those of the tile's adjacent spots of its height.
 -- Adjacent spots that wait in the list, from index `from` on, are excepted.
-pub record IsEvenBut (b : Bounds) (levels : List (Option ℤ)) (counts : List ℕ)
+pub record IsRelaxedBut (b : Bounds) (levels : List (Option ℤ)) (counts : List ℕ)
     (waiting : List Place) (from : ℕ) : Type 0 where
   pub each : (s r : Place) → IsInner b s → IsInner b r → Touches s r →
       level_on b levels r ≡ level_on b levels s →
@@ -111,7 +111,7 @@ pub record IsEvenBut (b : Bounds) (levels : List (Option ℤ)) (counts : List �
       ⊎ ((k : ℕ) × (from ≤ k) × (slice_get waiting k ≡ Some s))
 
 -- Each count of the tile is at most one above those of the tile's adjacent spots of its height.
-pub record IsEven (b : Bounds) (levels : List (Option ℤ)) (counts : List ℕ) : Type 0 where
+pub record IsRelaxed (b : Bounds) (levels : List (Option ℤ)) (counts : List ℕ) : Type 0 where
   pub each : (s r : Place) → IsInner b s → IsInner b r → Touches s r →
       level_on b levels r ≡ level_on b levels s →
       count_on b counts r ≤ count_on b counts s + 1
@@ -141,12 +141,12 @@ known_counts shown = map (λ o. unwrap_or o no_count) shown
 abbrev pub IsCopied : Bounds → List ℕ → Place → Option ℕ → Type 0
 IsCopied b counts p x = (s : Place) → Shows b s p → x ≡ known (count_on b counts s)
 
--- A search has ended: moves lead from the old counts to the new. `IsNear` holds for each spot of
--- the tile, and no move is left inside the tile.
+-- A search has ended: relaxations lead from the old counts to the new. `IsNear` holds for each spot
+-- of the tile, and no relaxation is left inside the tile.
 pub record IsSearched (b : Bounds) (levels : List (Option ℤ)) (old new : List ℕ) : Type 0 where
   pub spread : IsSpread b levels old new
   pub near : (s : Place) → IsInner b s → IsNear b levels old new s
-  pub even : IsEven b levels new
+  pub even : IsRelaxed b levels new
 
 -- The counts of a tile after a round from the old counts of its window.
 abbrev pub IsRoundOf : Bounds → List (Option ℤ) → List ℕ → List (Option ℕ) → Type 0

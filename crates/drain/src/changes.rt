@@ -16,7 +16,7 @@ pub(crate) struct Entry {
     pub(crate) change: Change,
 }
 
-/// The entries into one tile: indexes `from..end` of the sorted list, maybe none.
+/// The entries into one tile, maybe none: indexes `from..end` of the sorted list.
 #[derive(Clone, Copy)]
 pub(crate) struct Run {
     pub(crate) tile: u32,

@@ -84,7 +84,7 @@ impl<'a> RoundInput<'a> {
         Ok(())
     }
 
-    /// Appends entries for cells of one row around `from` that its count would lower.
+    /// Appends entries for cells of one row around `from` whose counts it would lower.
     #[inline(always)]
     fn note_along(&self, from: Change, row: u32, entries: &mut Vec<Entry>) -> Result<(), AllocError>
         requires counting { AreCounting (sinkless_terrain self.now.tiling.now self.now.levels.now)
@@ -106,7 +106,7 @@ impl<'a> RoundInput<'a> {
         Ok(())
     }
 
-    /// Appends entries for the cells around `place` that its count would lower.
+    /// Appends entries for the cells around `place` whose counts it would lower.
     pub(crate) fn note_around(
         &self,
         place: Place,
@@ -131,8 +131,9 @@ impl<'a> RoundInput<'a> {
         Ok(())
     }
 
-    /// Appends entries for the cells around a tile that its rim's counts would lower.
-    /// The tile's own cells get none once a search in the tile has ended: none of them can fall.
+    /// Appends entries for the cells around a tile whose counts its rim would lower.
+    /// After a search in the tile, its rim lowers no count of the tile's own cells: they get no
+    /// entries.
     pub(crate) fn note_rim(&self, tile: u32, entries: &mut Vec<Entry>) -> Result<(), AllocError>
         requires counting { AreCounting (sinkless_terrain self.now.tiling.now self.now.levels.now)
             self.now.steps.now }
@@ -161,7 +162,7 @@ impl<'a> RoundInput<'a> {
             && place.col + 1 < bounds.left + bounds.cols
     }
 
-    /// Appends entries for cells of other tiles that these changed cells would lower.
+    /// Appends entries for cells of other tiles whose counts these changes would lower.
     /// A job's changes lie in one tile, and only those on its rim touch other tiles.
     pub(crate) fn note_changes(
         &self,

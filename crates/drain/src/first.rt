@@ -6,8 +6,8 @@ ghost use Rattle.std.specs.Prelude.{ℕ, List, Option, IfOk};
 ghost use Rattle.tile_jobs.specs.Fault.{RefusesWorkers};
 ghost use Rattle.tiles.specs.Cutting.{Cuts, IsCutting};
 ghost use Rattle.drain.specs.Beginning.{AreInitialCounts};
-ghost use Rattle.drain.specs.Rounds.{HaveSameSources, AreCounting};
-ghost use Rattle.drain.specs.Lowering.{IsEvenInside, count_of};
+ghost use Rattle.drain.specs.Rounds.{HaveSameZeros, AreCounting};
+ghost use Rattle.drain.specs.Lowering.{IsRelaxedInside, count_of};
 ghost use Rattle.drain.specs.Entering.{sinkless_terrain};
 
 use crate::beginning::begun_counts;
@@ -66,9 +66,9 @@ pub(crate) fn first_round<R: Threads + Wait + Sync, G: Gate + Sync>(
         (λ v. AreCounting (sinkless_terrain tiling.now grid.now.terrain.cells) v.items) }
     ensures begun { IfOk result (λ v. (begun : List (Option ℕ)) ×
         AreInitialCounts grid.now.terrain begun
-        × HaveSameSources (sinkless_terrain tiling.now grid.now.terrain.cells) begun v.items) }
+        × HaveSameZeros (sinkless_terrain tiling.now grid.now.terrain.cells) begun v.items) }
     ensures even { IfOk result (λ v. (tile : ℕ) →
-        IsEvenInside (sinkless_terrain tiling.now grid.now.terrain.cells) tiling.now tile
+        IsRelaxedInside (sinkless_terrain tiling.now grid.now.terrain.cells) tiling.now tile
         (count_of v.items)) }
     ensures workers { RefusesWorkers runner.now.workers result }
 {

@@ -10,7 +10,7 @@ ghost use Rattle.tiles.specs.Cutting.{IsWithin, IsInTile, bounds_of, tile_count,
 ghost use Rattle.drain.specs.declared.changes.Entry.{Entry};
 ghost use Rattle.drain.specs.Rounds.{HasCountZero, IsWalked, AreCounting};
 ghost use Rattle.drain.specs.Entering.{sinkless_terrain, AreEntries, IsRun};
-ghost use Rattle.drain.specs.Lowering.{IsEvenInside, IsLoweredTo, IsTileAnswer, MaySpread, count_of, counts_in};
+ghost use Rattle.drain.specs.Lowering.{IsRelaxedInside, IsLoweredTo, IsTileResult, MaySpread, count_of, counts_in};
 
 use crate::changes::{Change, Entry, Run};
 use crate::entering::RoundInput;
@@ -19,7 +19,7 @@ use terrain::Place;
 use tiles::Bounds;
 
 /// The counts that a search has lowered, and each change in order.
-/// `rows` has the counts of each tile row, from its first cell to its last lowered one.
+/// `rows` has the counts of each row of the tile, from its first cell to its last lowered one.
 #[derive(Drop)]
 struct Lowered {
     rows: Vec<Vec<u32>>,
@@ -231,11 +231,11 @@ pub(crate) fn lower_tile(
     requires entries { let c = input.now.tiling.now in
         AreEntries (sinkless_terrain c input.now.levels.now) c input.now.steps.now entries.now }
     requires even { let c = input.now.tiling.now in
-        (tile : ℕ) → IsEvenInside (sinkless_terrain c input.now.levels.now) c tile
+        (tile : ℕ) → IsRelaxedInside (sinkless_terrain c input.now.levels.now) c tile
         (count_of input.now.steps.now) }
     ensures { let c = input.now.tiling.now in
         IfOk result (λ v.
-        IsTileAnswer (sinkless_terrain c input.now.levels.now) c run.tile input.now.steps.now
+        IsTileResult (sinkless_terrain c input.now.levels.now) c run.tile input.now.steps.now
         entries.now run.from run.end v.items) }
 {
     let bounds = input.tiling.bounds(run.tile);

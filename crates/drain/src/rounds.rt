@@ -8,9 +8,9 @@ ghost use Rattle.tiles.specs.Cutting.{IsCutting, IsWithin, tile_of_place};
 ghost use Rattle.std.specs.declared.alloc.Global.{Global};
 ghost use Rattle.drain.specs.declared.changes.Change.{Change};
 ghost use Rattle.drain.specs.Rounds.{AreCounting, AreFinal};
-ghost use Rattle.drain.specs.Lowering.{IsAmong, IsEvenInside, count_of};
+ghost use Rattle.drain.specs.Lowering.{IsAmong, IsRelaxedInside, count_of};
 ghost use Rattle.drain.specs.Entering.{sinkless_terrain, AreEntered};
-ghost use Rattle.drain.specs.Rounding.{AreAnswered, ArePut, IsGiven, IsRounding, IsNext, IsAnswer, count_sum};
+ghost use Rattle.drain.specs.Rounding.{AreRoundResults, ArePut, IsGiven, IsRounding, IsNext, IsResult, count_sum};
 
 use crate::changes::{Change, Entry, Run};
 use crate::entering::RoundInput;
@@ -71,13 +71,13 @@ impl<'a> Model for Round<'a> {
 
 impl<'a> Work for Round<'a> {
     ghost use Rattle.std.specs.Prelude.{length};
-    ghost use Rattle.drain.specs.Rounding.{IsAnswer};
+    ghost use Rattle.drain.specs.Rounding.{IsResult};
 
     type Out = Vec<Change>;
 
     ghost most = { λ r. length r.runs };
 
-    ghost gives = { λ r job out. IsAnswer r job out.items };
+    ghost gives = { λ r job out. IsResult r job out.items };
 
     fn run(&self, alloc: Global, job: u32) -> Result<Vec<Change>, JobFault> {
         let run = self.runs[job as usize];
@@ -170,7 +170,6 @@ fn entries_of_changed(
     Ok(entries)
 }
 
-/// Returns whether a round changed a count.
 fn has_changes(outs: &[Vec<Change>]) -> bool
     ensures some { result ≡ true → (x : Change) × IsGiven outs.now x }
     ensures none { result ≡ false → (x : Change) → IsGiven outs.now x → ⊥ }
@@ -198,7 +197,7 @@ fn changes_by_jobs<R: Threads + Wait + Sync, G: Gate + Sync>(
     }) }
     requires workers { (1 ≤ runner.now.workers) × (runner.now.workers ≤ 64) }
     ensures answered { IfOk result (λ v.
-        AreAnswered (record {
+        AreRoundResults (record {
           cutting = input.now.tiling.now;
           levels = input.now.levels.now;
           steps = input.now.steps.now;
@@ -231,7 +230,7 @@ fn changes_here(
       steps = input.now.steps.now;
       entries = entries.now;
     }) }
-    ensures { IfOk result (λ v. AreAnswered
+    ensures { IfOk result (λ v. AreRoundResults
         (record {
           cutting = input.now.tiling.now;
           levels = input.now.levels.now;
@@ -266,7 +265,7 @@ impl<'a> Counting<'a> {
     /// Applies a round's changes to the counts and finds the next round's entries.
     fn put_round(&mut self, alloc: Global, outs: &[Vec<Change>]) -> Result<(), AllocError>
         requires rounding { IsRounding (rounding_of self.old) }
-        requires answered { AreAnswered (rounding_of self.old) outs.now }
+        requires answered { AreRoundResults (rounding_of self.old) outs.now }
         requires some { (x : Change) × IsGiven outs.now x }
         ensures next { OnOk result (IsNext (rounding_of self.old) (rounding_of self.new)) }
         ensures less { OnOk result
@@ -364,7 +363,7 @@ pub(crate) fn run_rounds<R: Threads + Wait + Sync, G: Gate + Sync>(
     requires size { length levels.now ≡ tiling.now.cols * tiling.now.rows }
     requires lawful { IsCutting tiling.now }
     requires counting { AreCounting (sinkless_terrain tiling.now levels.now) steps.items }
-    requires even { (tile : ℕ) → IsEvenInside (sinkless_terrain tiling.now levels.now) tiling.now
+    requires even { (tile : ℕ) → IsRelaxedInside (sinkless_terrain tiling.now levels.now) tiling.now
         tile (count_of steps.items) }
     requires workers { (1 ≤ runner.now.workers) × (runner.now.workers ≤ 64) }
     ensures finished { IfOk result (λ s.

@@ -8,7 +8,7 @@ ghost use Rattle.std.specs.Bool.{MatchBool};
 ghost use Rattle.std.specs.List.{list_any};
 ghost use Rattle.terrain.specs.Raster.{IsHeight, greatest_drop};
 ghost use Rattle.drain.specs.Steepness.{direction_of, leads_on};
-ghost use Rattle.drain.specs.Interior.{HasHeights, IsFurthest, IsLowestBefore, IsSteepestWay, drop_by, height_on};
+ghost use Rattle.drain.specs.Interior.{HasHeights, IsGreatestFall, IsLowestBefore, IsSteepestWay, drop_by, height_on};
 ghost use Rattle.drain.specs.Fitting.{IsFitting};
 ghost use Rattle.drain.specs.declared.around.Around.{Around};
 
@@ -70,7 +70,7 @@ fn first_lowest(
 ) -> usize
     requires parity { parity < 2 }
     requires lowest { IsLowestBefore level heights.now parity 4 lowest }
-    ensures { IsFurthest level heights.now parity 8 (drop_by level (Some lowest)) result }
+    ensures { IsGreatestFall level heights.now parity 8 (drop_by level (Some lowest)) result }
 {
     let mut turns = 0;
     let mut is_past = true;
@@ -85,11 +85,11 @@ fn first_lowest(
 
 /// Returns the greatest drop on the ways of one parity and the first way with it.
 #[inline(always)]
-fn furthest(level: Height, heights: &[Option<Height>; 8], parity: usize) -> Fall
+fn greatest_fall(level: Height, heights: &[Option<Height>; 8], parity: usize) -> Fall
     requires parity { parity < 2 }
     requires level { IsHeight level }
     requires heights { (way : ℕ) → way < 8 → IfSome (slice_index_or heights.now way None) IsHeight }
-    ensures value { IsFurthest level heights.now parity 8 result.drop result.way }
+    ensures value { IsGreatestFall level heights.now parity 8 result.drop result.way }
     ensures bound { result.drop ≤ greatest_drop }
 {
     let lowest = lowest(level, heights, parity);
@@ -115,9 +115,9 @@ pub(crate) fn steepest(level: Height, heights: &[Option<Height>; 8]) -> Option<u
     requires heights { (way : ℕ) → way < 8 → IfSome (slice_index_or heights.now way None) IsHeight }
     ensures { (a : Around) → HasHeights a level heights.now → IsSteepestWay a result }
 {
-    let straight = furthest(level, heights, 0);
-    let across = furthest(level, heights, 1);
-    // The root of two is no fraction, so both sides are equal only if no way leads down.
+    let straight = greatest_fall(level, heights, 0);
+    let across = greatest_fall(level, heights, 1);
+    // The root of two is irrational, so both sides are equal only if no way leads down.
     let fall = if 2 * square(straight.drop) > square(across.drop) {
         straight
     } else {

@@ -22,7 +22,7 @@ use std::alloc::{AllocError, Global};
 use terrain::{Grid, Height, Place, place_on};
 use tiles::Bounds;
 
-/// Returns height and steps of the neighbour on `way`, `None` if there is none.
+/// Returns height and steps of the neighbour in direction `way`, if there is one.
 #[inline(always)]
 fn entry_on(grid: &Grid, steps: &[StepCount], way: usize, place: Place) -> Option<(Height, u32)>
     requires size { length steps.now ≡ grid.now.terrain.cols * grid.now.terrain.rows }

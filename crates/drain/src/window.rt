@@ -2,7 +2,7 @@
 ghost use Rattle.std.specs.Prelude.{◌≡◌, ◌+◌, ◌<◌, ◌≤◌, ◌⊎◌, ◌↔◌, IsTrue, [], All, length, OnOk, IfOk};
 ghost use Rattle.terrain.specs.Neighbours.{Touches};
 ghost use Rattle.terrain.specs.declared.place.Place.{Place};
-ghost use Rattle.drain.specs.Window.{AreCounts, area_of, spot_index, IsSpot, IsInner, level_on, count_on, IsLeastAlong, IsSpread, IsNotAbove, IsNear, AreNoted, IsReached, IsEvenBut, IsEven, IsSearched};
+ghost use Rattle.drain.specs.Window.{AreCounts, area_of, spot_index, IsSpot, IsInner, level_on, count_on, IsLeastAlong, IsSpread, IsNotAbove, IsNear, AreNoted, IsReached, IsRelaxedBut, IsRelaxed, IsSearched};
 
 use std::alloc::{AllocError, Global};
 use terrain::{Cell, Place};
@@ -202,10 +202,11 @@ fn search(window: &Window, counts: &mut [u32], mut reached: Vec<Place>) -> Resul
     requires size { length counts.old ≡ area_of window.now.bounds }
     requires counts { AreCounts counts.old }
     requires inner { All (IsInner window.now.bounds) reached.items }
-    requires even { IsEvenBut window.now.bounds window.now.levels.items counts.old reached.items 0 }
+    requires even { IsRelaxedBut window.now.bounds window.now.levels.items counts.old
+        reached.items 0 }
     ensures spread { OnOk result
         (IsSpread window.now.bounds window.now.levels.items counts.old counts.new) }
-    ensures even { OnOk result (IsEven window.now.bounds window.now.levels.items counts.new) }
+    ensures even { OnOk result (IsRelaxed window.now.bounds window.now.levels.items counts.new) }
 {
     let mut done = 0;
     while done < reached.len() {
@@ -216,7 +217,7 @@ fn search(window: &Window, counts: &mut [u32], mut reached: Vec<Place>) -> Resul
     Ok(())
 }
 
-/// Lowers a spot's count to at most 1 plus the least old one around at its height.
+/// Lowers a spot's count to at most 1 plus each old count around at its height.
 /// Queues the spot, if its count falls.
 #[inline(always)]
 #[tactic(auto, using(crate::proofs::Spreading::pulled, crate::proofs::Spreading::spot_from_inner))]

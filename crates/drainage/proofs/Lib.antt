@@ -1,11 +1,11 @@
--- filled heights: at most one for a cell, heights of the terrain, kept by filling again, existing
+-- filled heights: unique, heights of the terrain, kept by a second filling, one for each data cell
 pub mod Uniqueness
 pub mod Heights
 pub mod FilledTwice
 pub mod Reach
 pub mod FilledExists
 -- stored numbers of steps, read back
-pub mod ToldCounts
+pub mod StoredCounts
 -- codes and their directions
 pub mod Codes
 -- flow paths end

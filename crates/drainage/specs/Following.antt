@@ -25,7 +25,7 @@ abbrev pub follow : Directed → Place → ℕ → Place
 follow d p zero = p
 follow d p (suc k) = next d (follow d p k)
 
--- A number of moves that is enough to end each flow path: the number of cells.
+-- The number of cells. A flow path that ends does so in fewer moves.
 abbrev pub moves : Directed → ℕ
 moves d = d.cols * d.rows
 

@@ -8,7 +8,7 @@ use std::marker::Model;
 /// A grid has at most 2^24 cells, and a cell has fewer steps than the grid has cells.
 pub const NO_COUNT: u32 = 1 << 24;
 
-/// The steps from a cell to one that drains at once, or unknown.
+/// The fewest steps found from a cell to one that drains at once, or unknown.
 /// Takes 4 bytes; an `Option<u32>` takes 8.
 #[derive(Clone, Copy, Debug)]
 pub struct StepCount {

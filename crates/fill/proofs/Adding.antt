@@ -16,14 +16,14 @@ use Rattle.terrain.proofs.EightWays.{Touches-from_ways}
 use Rattle.terrain.proofs.Places.{same_place}
 use Rattle.fill.specs.Gathering.{Marks, are_both_sources, LeftOutJoins, IsLeftOut, Meets, IsPairFrom, IsBetween, IsLowBetween, IsPairOn, joins_of, Adds, AddsCovered, Covered, IsAfter}
 use Rattle.fill.specs.declared.spills.Join.{Join}
-use Rattle.fill.specs.declared.marks.CellLabel.{CellLabel}
+use Rattle.fill.specs.declared.marks.CellMark.{CellMark}
 use Rattle.floods.proofs.Heaps.{cons_head, cons_cases, one_held}
 
-abbrev join_between : CellLabel → CellLabel → Join
+abbrev join_between : CellMark → CellMark → Join
 join_between from to =
     record { from = from.node; to = to.node; height = int_max from.level to.level }
 
-pub joins_of_apart : (sources : List (Option ℤ)) (from to : CellLabel) →
+pub joins_of_apart : (sources : List (Option ℤ)) (from to : CellMark) →
     from.node ≢ to.node → are_both_sources sources from.node to.node ≡ false →
     joins_of sources from (Some to) ≡ join_between from to ∷ []
 joins_of_apart sources from to differ apart = elim (cases_Bool (from.node == to.node)) [
@@ -31,7 +31,7 @@ joins_of_apart sources from to differ apart = elim (cases_Bool (from.node == to.
   | inr other ↦ cond-false _ _ _ other ∙ cond-false _ _ _ apart
 ]
 
-pub joins_of_two_sources : (sources : List (Option ℤ)) (from to : CellLabel) → from.node ≢ to.node →
+pub joins_of_two_sources : (sources : List (Option ℤ)) (from to : CellMark) → from.node ≢ to.node →
     are_both_sources sources from.node to.node ≡ true → joins_of sources from (Some to) ≡ []
 joins_of_two_sources sources from to differ settled = elim (cases_Bool (from.node == to.node)) [
   | inl same ↦ absurd (differ (eqb-true _ _ same))
@@ -41,8 +41,8 @@ joins_of_two_sources sources from to differ settled = elim (cases_Bool (from.nod
 pub no_join : (j : Join) → Contains [] j → ⊥
 no_join j h = omega (arith, h.1)
 
-pub joins_of_is : (sources : List (Option ℤ)) (from : CellLabel) (o : Option CellLabel) (j : Join) →
-    Contains (joins_of sources from o) j → (to : CellLabel) × (o ≡ Some to) × (from.node ≢ to.node)
+pub joins_of_is : (sources : List (Option ℤ)) (from : CellMark) (o : Option CellMark) (j : Join) →
+    Contains (joins_of sources from o) j → (to : CellMark) × (o ≡ Some to) × (from.node ≢ to.node)
     × (are_both_sources sources from.node to.node ≡ false) × (join_between from to ≡ j)
 joins_of_is sources from None j h = absurd (no_join j h)
 joins_of_is sources from (Some to) j h = elim (cases_eq from.node to.node) [
@@ -119,8 +119,8 @@ left_out_still marks out p q now new kept j (inr covered) =
     inr (covered_still now new kept j covered)
 
 -- The join of two cells at a corner is left out, if `IsLowBetween` holds of a cell between.
-pub left_out_corner : (marks : Marks) (out : LeftOutJoins) (p q middle : Place) (from : CellLabel)
-    (between to : Option CellLabel)
+pub left_out_corner : (marks : Marks) (out : LeftOutJoins) (p q middle : Place) (from : CellMark)
+    (between to : Option CellMark)
     → IsBetween p q middle → marks p ≡ Some from → between ≡ marks middle → to ≡ marks q
     → q.row ≡ p.row + 1 → p.col ≢ q.col
     → IsLowBetween out from between to → IsLeftOut marks out p q
@@ -148,7 +148,7 @@ west_of row zero q at next = absurd (omega (arith, next))
 west_of row (suc n) q at next =
     ap Some (same_place (record { row = row; col = n }) q at (omega (arith, next)))
 
--- A place that touches a cell and comes after it lies in one of the first four directions.
+-- A place that touches a cell and comes after it lies E, SE, S or SW of it.
 after_way : (p q : Place) → Touches p q → IsAfter p q → ((place_on 0 p ≡ Some q)
     ⊎ (place_on 1 p ≡ Some q)) ⊎ ((place_on 2 p ≡ Some q) ⊎ (place_on 3 p ≡ Some q))
 after_way p q t (inr beside) = inl (inl (ap Some (same_place
@@ -169,7 +169,7 @@ west_row : (row n : ℕ) (q : Place) → place_if_both (Some row) (before n) ≡
 west_row row zero q on = none_some (place_if_both (Some row) None) q refl on
 west_row row (suc n) q on = ap (λ (z : Place). z.row) (same_Some _ q on)
 
--- A place in one of the first four directions, if in another row, is in the next.
+-- A place E, SE, S or SW of a cell is in the cell's row or in the next.
 pub next_row : (p q : Place) (way : ℕ) → way < 4 → place_on way p ≡ Some q → p.row ≢ q.row →
     q.row ≡ p.row + 1
 next_row p q zero few on differ = absurd (differ (ap (λ (z : Place). z.row) (same_Some _ q on)))
@@ -182,7 +182,7 @@ west_col : (row n : ℕ) (q : Place) → place_if_both (Some row) (before n) ≡
 west_col row zero q on same = none_some (place_if_both (Some row) None) q refl on
 west_col row (suc n) q on same = omega (arith, ap (λ (z : Place). z.col) (same_Some _ q on), same)
 
--- A place in one of the first four directions, if in the same column, is the place below.
+-- A place E, SE, S or SW of a cell, if in the same column, is the place below.
 pub same_col : (p q : Place) (way : ℕ) → way < 4 → place_on way p ≡ Some q → q.col ≡ p.col →
     q ≡ record { row = p.row + 1; col = p.col }
 same_col p q zero few on same =
@@ -195,7 +195,7 @@ same_col p q (suc (suc (suc (suc way)))) few on same = absurd (omega (arith, few
 
 -- If the join with the cell in a direction, if any, has been added, `Adds` holds of that pair.
 pub adds_on_way : (marks : Marks) (out : LeftOutJoins) (p q : Place) (way : ℕ) (wanted : Place →
-    Bool) (from : CellLabel) (o : Option CellLabel) (old new : List Join) → marks p ≡ Some from →
+    Bool) (from : CellMark) (o : Option CellMark) (old new : List Join) → marks p ≡ Some from →
     marks q ≡ o → way < 8 → place_on way p ≡ Some q → wanted q ≡ true → AddsCovered old
     (joins_of out.sources from o) new → Adds marks out (IsPairOn way p wanted) old new
 adds_on_way marks out p q way wanted from o old new here there few on want s = record {
@@ -224,13 +224,13 @@ adds_on_way marks out p q way wanted from o old new here there few on want s = r
   every = λ x r j at after met.
       let m = subst (λ (z : Place). Meets marks out z r j) at.0 met in
       let r_is : q ≡ r = same_Some q r (sym on ∙ at.1) in
-      let to : CellLabel = record { level = m.to_level; node = j.to } in
+      let to : CellMark = record { level = m.to_level; node = j.to } in
       let mark_is : o ≡ Some to = sym there ∙ ap marks r_is ∙ m.to_is in
       let from_same =
       same_Some from (record { level = m.from_level; node = j.from }) (sym here ∙ m.from_is) in
       inr (s.every j
-      (subst (λ (f : CellLabel). Contains (joins_of out.sources f o) j)
-      (sym from_same) (subst (λ (z : Option CellLabel). Contains
+      (subst (λ (f : CellMark). Contains (joins_of out.sources f o) j)
+      (sym from_same) (subst (λ (z : Option CellMark). Contains
       (joins_of out.sources (record { level = m.from_level; node = j.from }) z) j) (sym mark_is)
       (subst (λ (z : List Join). Contains z j) (sym (joins_of_apart out.sources
       (record { level = m.from_level; node = j.from }) to m.different m.apart))
@@ -289,11 +289,11 @@ adds_then marks out first later both old now new split a b = record {
   ];
 }
 
--- `Adds` of `first` gives `Adds` of `both`, if every other pair of `both` lacks a mark, does not
--- touch or is not in row order.
+-- `Adds` of `first` gives `Adds` of `both`, if `both` has all pairs of `first` and each other pair
+-- of `both` lacks a mark, does not touch or is not in row order.
 pub adds_as : (marks : Marks) (out : LeftOutJoins) (first both : Place → Place → Type 0)
     (old new : List Join) → ((p q : Place) → first p q → both p q) → ((p q : Place) → Touches p q →
-    IsAfter p q → (m : CellLabel) → marks p ≡ Some m → (n : CellLabel) → marks q ≡ Some n →
+    IsAfter p q → (m : CellMark) → marks p ≡ Some m → (n : CellMark) → marks q ≡ Some n →
     both p q → first p q) → Adds marks out first old new → Adds marks out both old new
 adds_as marks out first both old new wider narrower a = record {
   kept = a.kept;
@@ -306,7 +306,7 @@ adds_as marks out first both old new wider narrower a = record {
       a.every p q j (narrower p q m.touches after _ m.from_is _ m.to_is at) after m;
 }
 
--- Adding a cell's wanted joins in the first four directions adds all those with cells after it.
+-- Adding a cell's wanted joins to the E, SE, S and SW adds all those with cells after it.
 pub adds_four : (marks : Marks) (out : LeftOutJoins) (p : Place) (wanted : Place → Bool)
     (old first second third new : List Join)
     → Adds marks out (IsPairOn 0 p wanted) old first →

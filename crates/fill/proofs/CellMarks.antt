@@ -17,7 +17,7 @@ use Rattle.cell_floods.specs.Labels.{labels_by, IsTable}
 use Rattle.fill.specs.Numbers.{first_of}
 use Rattle.fill.specs.Gathering.{Fit, LabelsInside, Marks, IsInner, IsPairFrom, IsPairOn, cells_after, AreEqualAfter, mark_of, mark_in, mark_among, Adds, mark_with, joins_of, LeftOutJoins, IsBetween, IsLowBetween, IsLeftOut, AddsAfter, AddsCorner, AddsCovered}
 use Rattle.fill.specs.declared.spills.Join.{Join}
-use Rattle.fill.specs.declared.marks.CellLabel.{CellLabel}
+use Rattle.fill.specs.declared.marks.CellMark.{CellMark}
 use Rattle.std.proofs.lemmas.Nat.{mul-le}
 use Rattle.terrain.proofs.Options.{cases_option, none_some}
 use Rattle.fill.proofs.Adding.{adds_as, adds_four, adds_on_way, adds_left_out, covered_itself, joins_of_is, no_mark_adds, left_out_corner, west_of}
@@ -46,13 +46,13 @@ pub mark_some : (node : ℕ) (o : Option ℤ) (l : Option Place) (level : ℤ) (
     ≡ Some level → l ≡ Some label → mark_of node o l ≡ Some (record { level = level; node = node })
 mark_some node o l level label a b = rw (a, b) refl
 
-pub mark_parts : (node : ℕ) (o : Option ℤ) (l : Option Place) (m : CellLabel) → mark_of node o l
+pub mark_parts : (node : ℕ) (o : Option ℤ) (l : Option Place) (m : CellMark) → mark_of node o l
     ≡ Some m → (label : Place) × (o ≡ Some m.level) × (l ≡ Some label) × (node ≡ m.node)
 mark_parts node None l m e = absurd (cc)
 mark_parts node (Some level) None m e = absurd (cc)
 mark_parts node (Some level) (Some label) m e =
     let same = same_Some _ m e in
-    (label, ap (λ (z : CellLabel). Some z.level) same, refl, ap (λ (z : CellLabel). z.node) same)
+    (label, ap (λ (z : CellMark). Some z.level) same, refl, ap (λ (z : CellMark). z.node) same)
 
 pub mark_from_tile : (c : Cutting) (floods : List Flood) (tile : ℕ) (f : Flood) (p : Place) →
     slice_get floods tile ≡ Some f → tile_of_place c p ≡ tile →
@@ -63,7 +63,7 @@ mark_from_tile c floods tile f p e same =
     ∙ ap (option_and_then (λ (g : Flood). mark_in (first_of floods tile) g p)) e)
 
 -- In the flood of its tile, the cell has the mark's level, and a label with the mark's number.
-pub record IsMarked (c : Cutting) (floods : List Flood) (p : Place) (m : CellLabel) : Type 0 where
+pub record IsMarked (c : Cutting) (floods : List Flood) (p : Place) (m : CellMark) : Type 0 where
   pub flood : Flood
   pub label : Place
   pub there : slice_get floods (tile_of_place c p) ≡ Some flood
@@ -73,7 +73,7 @@ pub record IsMarked (c : Cutting) (floods : List Flood) (p : Place) (m : CellLab
   pub node_is : first_of floods (tile_of_place c p)
       + get_or flood.table.indexes (index_in flood.bounds p) 0 ≡ m.node
 
-pub marked : (c : Cutting) (floods : List Flood) (p : Place) (m : CellLabel) →
+pub marked : (c : Cutting) (floods : List Flood) (p : Place) (m : CellMark) →
     mark_among c floods p ≡ Some m → IsMarked c floods p m
 marked c floods p m e = elim (cases_option (slice_get floods (tile_of_place c p))) [
   | inl none ↦ none_some (mark_among c floods p) m (ap
@@ -99,7 +99,7 @@ marked c floods p m e = elim (cases_option (slice_get floods (tile_of_place c p)
       ]
 ]
 
-pub marked_within : (c : Cutting) (floods : List Flood) (p : Place) (m : CellLabel) → IsCutting c →
+pub marked_within : (c : Cutting) (floods : List Flood) (p : Place) (m : CellMark) → IsCutting c →
     Fit c floods → mark_among c floods p ≡ Some m → IsWithin c p
 marked_within c floods p m h fit e =
     let x = marked c floods p m e in
@@ -140,7 +140,7 @@ pub entry_in_mark : (f : Flood) (q : Place) (i : ℕ) → IsInBounds f.bounds q 
 entry_in_mark f q i inside at = cond-true _ _ _ (in_bounds_from f.bounds q inside)
     ∙ ap (mark_with 0 f) (sym at)
 
-pub mark_inside : (f : Flood) (p : Place) (m : CellLabel) → mark_in 0 f p ≡ Some m →
+pub mark_inside : (f : Flood) (p : Place) (m : CellMark) → mark_in 0 f p ≡ Some m →
     IsInBounds f.bounds p
 mark_inside f p m is = elim (cases_Bool (is_in_bounds f.bounds p)) [
   | inl inside ↦ in_bounds_parts f.bounds p inside
@@ -149,7 +149,7 @@ mark_inside f p m is = elim (cases_Bool (is_in_bounds f.bounds p)) [
 
 -- Two cells of one label have no join: `AddsCovered` holds with no change.
 pub same_label_adds : (f : Flood) (sources : List (Option ℤ)) (i j : ℕ)
-    (from : CellLabel) (now : List Join) → mark_with 0 f i ≡ Some from → get_or f.table.indexes i 0
+    (from : CellMark) (now : List Join) → mark_with 0 f i ≡ Some from → get_or f.table.indexes i 0
     ≡ get_or f.table.indexes j 0 → AddsCovered now (joins_of sources from (mark_with 0 f j)) now
 same_label_adds f sources i j from now is same = record {
   kept = λ x h. covered_itself now x h;
@@ -161,14 +161,14 @@ same_label_adds f sources i j from now is same = record {
       absurd (m.2 (sym a.3 ∙ ap (λ n. 0 + n) same ∙ b.3));
 }
 
--- For a cell with the label of its four neighbours after it, `AddsAfter` holds with no change.
+-- For a cell with the label of the places E, SE, S and SW of it, `AddsAfter` holds with no change.
 pub equal_after_adds : (f : Flood) (out : LeftOutJoins) (i width : ℕ) (now : List Join) →
     AreEqualAfter f.table.indexes i width →
     MatchOption (mark_with 0 f i) (now ≡ now) (λ from. AddsAfter f out from i width now now)
 equal_after_adds f out i width now e = elim (cases_option (mark_with 0 f i)) [
-  | inl none ↦ subst (λ (o : Option CellLabel).
+  | inl none ↦ subst (λ (o : Option CellMark).
       MatchOption o (now ≡ now) (λ from. AddsAfter f out from i width now now)) (sym none) refl
-  | inr found ↦ subst (λ (o : Option CellLabel). MatchOption o (now ≡ now)
+  | inr found ↦ subst (λ (o : Option CellMark). MatchOption o (now ≡ now)
       (λ from. AddsAfter f out from i width now now)) (sym found.1) (record {
         after_first = now;
         after_second = now;
@@ -179,7 +179,7 @@ equal_after_adds f out i width now e = elim (cases_option (mark_with 0 f i)) [
         south_west = inr (near found.0 found.1 3 (omega arith));
       })
 ] where
-  near : (from : CellLabel) → mark_with 0 f i ≡ Some from → (way : ℕ) → way < 4 → AddsCovered now
+  near : (from : CellMark) → mark_with 0 f i ≡ Some from → (way : ℕ) → way < 4 → AddsCovered now
       (joins_of out.sources from (mark_with 0 f (get_or (cells_after width i) way 0))) now
   near from is way few = same_label_adds f out.sources i
       (get_or (cells_after width i) way 0) from now is (sym (e way 0 few))
@@ -193,7 +193,7 @@ adds_anywhere marks out p old new s = adds_as marks out (IsPairFrom p anywhere) 
     q ≡ p) old new (λ q r at. at.0) (λ q r touch after m m_is n n_is at. (at, refl)) s
 
 -- `AddsAfter` of an inner cell gives `Adds` of all pairs from it.
-pub inner_adds : (f : Flood) (out : LeftOutJoins) (p : Place) (i : ℕ) (from : CellLabel) (old new :
+pub inner_adds : (f : Flood) (out : LeftOutJoins) (p : Place) (i : ℕ) (from : CellMark) (old new :
     List Join) → IsInner f.bounds p → i ≡ index_in f.bounds p → mark_with 0 f i ≡ Some from →
     AddsAfter f out from i f.bounds.cols old new → Adds (mark_in 0 f) out (λ q r. q ≡ p) old new
 inner_adds f out p i from old new inner at is s =
@@ -266,7 +266,7 @@ inner_adds f out p i from old new inner at is s =
             | inr added ↦ step way row col j now next few on rows cols index added
             | inl round ↦
                 let near : Place = record { row = row; col = col } in
-                let spared : (middle : Place) (between : Option CellLabel) →
+                let spared : (middle : Place) (between : Option CellMark) →
                 IsBetween p near middle →
                 mark_in 0 f middle ≡ between → IsLowBetween out from between (mark_with 0 f j) →
                 IsLeftOut (mark_in 0 f) out p near = λ middle between is_middle there low.
@@ -306,7 +306,7 @@ inner_cell_adds f out p i old new inner at s = elim (cases_option (mark_with 0 f
       (MatchOption-at_some _ _ found.0 found.1 s)
 ]
 
--- The south-east neighbour of a cell before the last row and column has an index in the tile.
+-- The place SE of a cell before the last row and column has an index in the tile.
 pub inner_row_index : (b : Bounds) (row index : ℕ) → b.top ≤ row → row + 1 < b.top + b.rows →
     index + 1 < (row - b.top) * b.cols + b.cols → index + b.cols + 1 < b.rows * b.cols
 inner_row_index b row index above below last =
@@ -371,7 +371,7 @@ some_below xs i x e = elim (cases_lt i (length xs)) [
       none_some (get_or xs i None) x (get_or_past xs i None past) e
 ]
 
-abbrev pub shift : ℕ → CellLabel → CellLabel
+abbrev pub shift : ℕ → CellMark → CellMark
 shift first m = record { level = m.level; node = first + m.node }
 
 shift_with : (first : ℕ) (f : Flood) (i : ℕ) →
@@ -391,8 +391,8 @@ in_shift first f p = elim (cases_Bool (is_in_bounds f.bounds p)) [
   | inr out ↦ cond-false _ _ _ out ∙ ap (option_map (shift first)) (sym (cond-false _ _ _ out))
 ]
 
-pub shift_back : (first : ℕ) (o : Option CellLabel) (m : CellLabel) →
-    option_map (shift first) o ≡ Some m → (n : CellLabel) × (o ≡ Some n) × (shift first n ≡ m)
+pub shift_back : (first : ℕ) (o : Option CellMark) (m : CellMark) →
+    option_map (shift first) o ≡ Some m → (n : CellMark) × (o ≡ Some n) × (shift first n ≡ m)
 shift_back first None m e = absurd (cc)
 shift_back first (Some n) m e = (n, refl, same_Some _ m e)
 
@@ -404,7 +404,7 @@ among_shift c floods tile f p there here = sym (mark_from_tile c floods tile f p
     ∙ in_shift (first_of floods tile) f p
 
 -- In marks with first number 0, the number of a label is an index into the flood's table.
-pub index_inside : (f : Flood) (p : Place) (m : CellLabel) → IsFlood f → mark_in 0 f p ≡ Some m →
+pub index_inside : (f : Flood) (p : Place) (m : CellMark) → IsFlood f → mark_in 0 f p ≡ Some m →
     m.node < length f.table.places
 index_inside f p m lawful is =
     let inside = mark_inside f p m is in

@@ -104,7 +104,6 @@ put_length cols None end heights = refl
 put_length cols (Some p) None heights = refl
 put_length cols (Some p) (Some h) heights = length-set heights (index_of cols p) (Some h)
 
--- An end cell has this node and this height.
 abbrev IsEndNode : Terrain → Cutting → ℕ → ℤ → Type 0
 IsEndNode t c a h = (p : Place) × (index_of c.cols p ≡ a) × IsEnd t p × (height_at t p ≡ Some h)
 

@@ -26,7 +26,7 @@ use Rattle.fill.specs.Parts.{IsGraph, graph_with}
 use Rattle.fill.specs.Placing.{AddsPlaced, join_at}
 use Rattle.fill.specs.Spills.{AreFloods, level_among, Carries, IsPass, AreSourcesOf, IsGraphOf}
 use Rattle.fill.specs.declared.spills.Join.{Join}
-use Rattle.fill.specs.declared.marks.CellLabel.{CellLabel}
+use Rattle.fill.specs.declared.marks.CellMark.{CellMark}
 use Rattle.fill.proofs.Adding.{no_join}
 use Rattle.fill.proofs.CellMarks.{label_entry, marked_within}
 use Rattle.fill.proofs.LabelGraphs.{leads_back}
@@ -98,7 +98,7 @@ meets_differ c floods out p q j m e =
     let same = same_Some (record { level = m.from_level; node = j.from })
     (record { level = m.to_level; node = j.to }) (sym m.from_is ∙ ap (mark_among c floods) e
     ∙ m.to_is) in
-    m.different (ap (λ (z : CellLabel). z.node) same)
+    m.different (ap (λ (z : CellMark). z.node) same)
 
 -- The labels of a tile's flood lie in the tile.
 fit_labels : (t : Terrain) (c : Cutting) (tile : ℕ) (f : Flood) → IsCutting c →
@@ -114,7 +114,6 @@ fit_labels t c tile f h below cuts flood =
       each = flood.each;
     })
 
--- No join is left out.
 abbrev pub all_joined : LeftOutJoins
 all_joined = record { sources = []; bypassed = false }
 
@@ -135,7 +134,7 @@ module _ (t : Terrain) (c : Cutting) (floods : List Flood) (are : AreFloods t c 
   fit : Fit c floods
   fit = fit_of t c floods are
 
-  mark_data : (p : Place) (m : CellLabel) (x : IsNumbered c floods p m) →
+  mark_data : (p : Place) (m : CellMark) (x : IsNumbered c floods p m) →
       mark_among c floods p ≡ Some m → IsDataCell t p
   mark_data p m x e = level_has_data t c floods are.lawful are p m.level
       (marked_within c floods p m are.lawful fit e) x.level_is
@@ -265,11 +264,11 @@ module _ (t : Terrain) (c : Cutting) (floods : List Flood) (are : AreFloods t c 
   }
 
   -- The entry of `nodes_of` at the number of a cell's label is the node of that label.
-  node_is : (p : Place) (m : CellLabel) (x : IsNumbered c floods p m) →
+  node_is : (p : Place) (m : CellMark) (x : IsNumbered c floods p m) →
       get_or (nodes_of c.cols floods) m.node 0 ≡ index_of c.cols x.label
   node_is p m x = get_or-map (node_of_label c.cols) (places_of floods) m.node None 0
       (number_below_of p m x) ∙ ap (node_of_label c.cols) (number_label c floods p m x) where
-        number_below_of : (p : Place) (m : CellLabel) → IsNumbered c floods p m →
+        number_below_of : (p : Place) (m : CellMark) → IsNumbered c floods p m →
             m.node < length (places_of floods)
         number_below_of p m x = elim (cases_lt m.node (length (places_of floods))) [
           | inl low ↦ low
@@ -278,7 +277,7 @@ module _ (t : Terrain) (c : Cutting) (floods : List Flood) (are : AreFloods t c 
               (cc (number_label c floods p m x, get_or_past (places_of floods) m.node None past))
         ]
 
-  label_node_below : (p : Place) (m : CellLabel) (x : IsNumbered c floods p m) →
+  label_node_below : (p : Place) (m : CellMark) (x : IsNumbered c floods p m) →
       index_of c.cols x.label < c.cols * c.rows
   label_node_below p m x =
       let y = label_entry x.flood p x.label (sym

@@ -4,7 +4,7 @@ use Rattle.std.specs.Prelude.{slice_get}
 use Rattle.std.proofs.lemmas.Bool.{cases_eq}
 use Rattle.std.proofs.lemmas.List.{get_or-map, get_or_append_left, get_or_push, length-map, length_push}
 use Rattle.std.proofs.lemmas.Option.{get_or_from_slice_get, slice_get-get_or, slice_get_cases, slice_get_within, same_Some}
-use Rattle.tile_jobs.specs.Answers.{AreResults}
+use Rattle.tile_jobs.specs.Results.{AreResults}
 use Rattle.terrain.specs.Raster.{Terrain}
 use Rattle.tiles.specs.Cutting.{Cutting, IsCutting, Cuts, tile_count}
 use Rattle.cell_floods.specs.TileFlood.{Flood, IsTileFlood}

@@ -88,7 +88,7 @@ arcs_then first second old now new s t = record {
   );
 }
 
--- Arcs of joins that were added to empty lists are just those of the joins.
+-- Adding joins to empty lists of arcs gives just the arcs of these joins.
 pub arcs_of_all : (joins : List Join) (labels : ℕ) (old arcs : List (List Spill)) →
     old ≡ replicate labels [] → AddsArcs joins old arcs → HasArcsOf joins arcs
 arcs_of_all joins labels old arcs none s a b h = (
@@ -104,7 +104,6 @@ arcs_of_all joins labels old arcs none s a b h = (
         (omega (arith, past, length-replicate {A = List Spill} labels []))) held)
   ]
 
--- For each arc there is one back.
 pub leads_back : (joins : List Join) (arcs : List (List Spill)) → HasArcsOf joins arcs → (a b : ℕ)
     (h : ℤ) → Contains (get_or arcs a []) (record { to = b; height = h }) → HasArc arcs a b h
 leads_back joins arcs has a b h there =
@@ -248,7 +247,6 @@ module _ (arcs : List (List Spill)) (sources : List (Option ℤ)) where
   no_walk_alone a none [] is = none_done (joined_source arcs sources a) (cond-false _ _ _ none) is
   no_walk_alone a none (step ∷ rest) is = alone a none step.to step.height is.0
 
-  -- A label that has an arc, but no walk by joined sources, is no source.
   no_source : (a : ℕ) → has_arcs arcs a ≡ true →
       HasNoWalk (HasArc arcs) (joined_source arcs sources) a → source_number sources a ≡ None
   no_source a has none = elim (cases_option (source_number sources a)) [

@@ -233,7 +233,6 @@ module _ (t : Terrain) (c : Cutting) (floods : List Flood) (h : IsCutting c)
             (trans _ _ _ label_low low),
       )
 
-  -- A walk from a label at no greater crest than this.
   abbrev HasLowWalk : ℕ → ℤ → Type 0
   HasLowWalk a m = (walk : List Spill) × IsWalk joins source a walk
       × (walk_crest source a walk ≤ℤ m)
@@ -364,11 +363,11 @@ module _ (t : Terrain) (c : Cutting) (floods : List Flood) (h : IsCutting c)
       (low_at_label t c pass.from x.label x.level total x.right from_low across)
 
   -- The filled height of a cell is the greater of its level and its label's least crest.
-  pub rims : (nodes : ℕ) (levels : List (Option ℤ)) (labels : List (Option ℕ)) →
+  pub filled_height_is : (nodes : ℕ) (levels : List (Option ℤ)) (labels : List (Option ℕ)) →
       IsFlooded joins source nodes levels labels →
       (p : Place) (a : ℕ) (l : HasTileLevel t c floods p) → IsDataCell t p → number p ≡ Some a →
       a < nodes → (n : ℤ) × (get_or levels a None ≡ Some n) × IsFilledHeight t p (int_max l.level n)
-  rims nodes levels labels flooded p a l some is below =
+  filled_height_is nodes levels labels flooded p a l some is below =
       let any = (filled_height t p some).1.reached in
       let any_walk = path_walk p a l any.0 is any.1 in
       elim (cases_option (get_or levels a None)) [

@@ -25,7 +25,6 @@ module _ (t : Cutting) (tile : ℕ) (b : Bounds) (lawful : IsCutting t)
   short_cols : b.cols ≤ t.side
   short_cols = omega (arith, ap (λ (z : Bounds). z.cols) of_tile)
 
-  -- For each of a tile's own rows, the tile with that row is the tile itself.
   pub row_of_tile : (row : ℕ) → b.top ≤ row → row < b.top + b.rows → IsTileWithRow t tile row tile
   row_of_tile row top bottom =
       let same : row / t.side ≡ tile / across t = piece_is t.side (tile / across t) row

@@ -24,12 +24,12 @@ use Rattle.fill.specs.LabelNet.{source_number, IsNumberGraph}
 use Rattle.fill.specs.LabelNet.{HasArc}
 use Rattle.fill.specs.Numbers.{places_of, ends_of, first_of}
 use Rattle.fill.specs.Spills.{AreFloods, level_among, label_among}
-use Rattle.fill.specs.declared.marks.CellLabel.{CellLabel}
+use Rattle.fill.specs.declared.marks.CellMark.{CellMark}
 use Rattle.floods.specs.declared.net.Spill.{Spill}
 use Rattle.fill.proofs.CellMarks.{some_below, marked, marked_within, mark_from_tile, mark_some}
 use Rattle.fill.proofs.LabelNets.{IsLabelNet, LeadsRound, neighbour_back, level_has_data, has_tile_level, among_is, list_there}
 
--- If `g` and `h` give lists of equal lengths for each item, so they do together for the first `i`.
+-- If `g` and `h` give lists of equal lengths for each item, so do the `flat_map`s of the first `i`.
 flat_same : {X Y Z : Type 0} (g : X → List Y) (h : X → List Z) (xs : List X) (i : ℕ) →
     i ≤ length xs →
     ((k : ℕ) (d : X) → k < length xs → length (g (get_or xs k d)) ≡ length (h (get_or xs k d)))
@@ -104,7 +104,7 @@ abbrev pub AreLawful : List Flood → Type 0
 AreLawful floods = (tile : ℕ) (f : Flood) → slice_get floods tile ≡ Some f → IsFlood f
 
 -- The mark has the cell's level and the number of its label, entry `entry` of its tile's table.
-pub record IsNumbered (c : Cutting) (floods : List Flood) (p : Place) (m : CellLabel) : Type 0 where
+pub record IsNumbered (c : Cutting) (floods : List Flood) (p : Place) (m : CellMark) : Type 0 where
   pub flood : Flood
   pub entry : ℕ
   pub label : Place
@@ -115,7 +115,7 @@ pub record IsNumbered (c : Cutting) (floods : List Flood) (p : Place) (m : CellL
   pub inside : entry < length flood.table.places
   pub node : first_of floods (tile_of_place c p) + entry ≡ m.node
 
-pub numbered : (c : Cutting) (floods : List Flood) (p : Place) (m : CellLabel) → AreLawful floods →
+pub numbered : (c : Cutting) (floods : List Flood) (p : Place) (m : CellMark) → AreLawful floods →
     mark_among c floods p ≡ Some m → IsNumbered c floods p m
 numbered c floods p m lawful e =
     let x = marked c floods p m e in
@@ -147,13 +147,13 @@ numbered c floods p m lawful e =
     }
 
 -- In `places_of`, the place at the number of a cell's label is that label.
-pub number_label : (c : Cutting) (floods : List Flood) (p : Place) (m : CellLabel)
+pub number_label : (c : Cutting) (floods : List Flood) (p : Place) (m : CellMark)
     (x : IsNumbered c floods p m) → get_or (places_of floods) m.node None ≡ Some x.label
 number_label c floods p m x =
     ap (λ n. get_or (places_of floods) n None) (sym x.node)
     ∙ place_at floods (tile_of_place c p) x.entry x.flood x.there x.inside ∙ x.listed
 
-pub number_below : (c : Cutting) (floods : List Flood) (p : Place) (m : CellLabel) →
+pub number_below : (c : Cutting) (floods : List Flood) (p : Place) (m : CellMark) →
     AreLawful floods → mark_among c floods p ≡ Some m → m.node < length (places_of floods)
 number_below c floods p m lawful e = let x = numbered c floods p m lawful e in
     some_below (places_of floods) m.node x.label (number_label c floods p m x)
@@ -176,11 +176,10 @@ has_mark c floods p level label f there level_is label_is =
           ∙ level_here) (sym (entry_in-inside f.bounds f.labels p inside) ∙ label_here),
     )
 
--- The number of a cell's label.
 abbrev pub number_among : Cutting → List Flood → Place → Option ℕ
-number_among c floods p = option_map (λ (m : CellLabel). m.node) (mark_among c floods p)
+number_among c floods p = option_map (λ (m : CellMark). m.node) (mark_among c floods p)
 
-number_mark : (o : Option CellLabel) (a : ℕ) → option_map (λ (m : CellLabel). m.node) o ≡ Some a →
+number_mark : (o : Option CellMark) (a : ℕ) → option_map (λ (m : CellMark). m.node) o ≡ Some a →
     (level : ℤ) × (o ≡ Some (record { level = level; node = a }))
 number_mark None a e = absurd (cc)
 number_mark (Some m) a e =
@@ -190,7 +189,7 @@ number_mark (Some m) a e =
 module _ (t : Terrain) (c : Cutting) (floods : List Flood) (are : AreFloods t c floods)
     (lawful : AreLawful floods) (arcs : List (List Spill)) (sources : List (Option ℤ))
     (graph : IsNumberGraph t c floods arcs sources) where
-  source_is : (p : Place) (m : CellLabel) (x : IsNumbered c floods p m) →
+  source_is : (p : Place) (m : CellMark) (x : IsNumbered c floods p m) →
       source_number sources m.node ≡ get_or x.flood.ends x.entry None
   source_is p m x =
       ap (λ (z : List (Option ℤ)). get_or z m.node None) graph.ends
@@ -206,7 +205,7 @@ module _ (t : Terrain) (c : Cutting) (floods : List Flood) (are : AreFloods t c 
         let f = list_there floods (tile_of_place c p)
         (omega (arith, are.count, tile_of_place_below c p are.lawful within)) in
         let m = has_mark c floods p l.level l.label f.0 f.1 l.level_is l.label_is in
-        (m.0, ap (option_map (λ (x : CellLabel). x.node)) m.1);
+        (m.0, ap (option_map (λ (x : CellMark). x.node)) m.1);
     one = λ p q a p_is q_is.
         let m = number_mark (mark_among c floods p) a p_is in
         let n = number_mark (mark_among c floods q) a q_is in
@@ -254,8 +253,8 @@ module _ (t : Terrain) (c : Cutting) (floods : List Flood) (are : AreFloods t c 
           from_level = pass.from_level;
           to_level = pass.to_level;
           neighbours = pass.neighbours;
-          from_number = ap (option_map (λ (x : CellLabel). x.node)) pass.from_is;
-          to_number = ap (option_map (λ (x : CellLabel). x.node)) pass.to_is;
+          from_number = ap (option_map (λ (x : CellMark). x.node)) pass.from_is;
+          to_number = ap (option_map (λ (x : CellMark). x.node)) pass.to_is;
           from_is = (numbered c floods pass.from
               (record { level = pass.from_level; node = a }) lawful pass.from_is).level_is;
           to_is = (numbered c floods pass.to
@@ -264,7 +263,7 @@ module _ (t : Terrain) (c : Cutting) (floods : List Flood) (are : AreFloods t c 
         };
     end_source = λ p a z end own is height.
         let m = number_mark (mark_among c floods p) a is in
-        let mark : CellLabel = record { level = m.0; node = a } in
+        let mark : CellMark = record { level = m.0; node = a } in
         let x = numbered c floods p mark lawful m.1 in
         let same : x.label ≡ p = same_Some x.label p (sym x.label_is ∙ own) in
         let ends = (are.each _ x.flood x.there).ends.each x.entry p (x.listed ∙ ap Some same) in
@@ -275,7 +274,7 @@ module _ (t : Terrain) (c : Cutting) (floods : List Flood) (are : AreFloods t c 
         ];
     source_end = λ p a z has is source.
         let m = number_mark (mark_among c floods p) a is in
-        let mark : CellLabel = record { level = m.0; node = a } in
+        let mark : CellMark = record { level = m.0; node = a } in
         let x = numbered c floods p mark lawful m.1 in
         let at = MatchOption-at_some _ _ z (sym (source_is p mark x)
         ∙ source) ((are.each _ x.flood x.there).ends.each x.entry x.label x.listed) in

@@ -48,7 +48,6 @@ one_held : (j k : Join) → Contains (j ∷ []) k → k ≡ j
 one_held j k held =
     elim (cons_cases j [] k held) [ inl same ↦ same | inr none ↦ absurd (no_join k none) ]
 
--- A join of two places is added in both directions.
 pub one_placed : (nodes : List ℕ) (j x : Join) (placed : List Join) →
     placed_joins_of nodes j ≡ option_to_list (Some x) →
     AddsPlaced nodes (j ∷ []) placed ((placed ++ x ∷ []) ++ turned x ∷ [])
@@ -85,7 +84,6 @@ one_placed nodes j x placed is = elim (cases_eq (join_at nodes j).from (join_at 
       }
 ]
 
--- A join whose labels have one place adds nothing.
 pub not_placed : (nodes : List ℕ) (j : Join) (placed : List Join) → placed_joins_of nodes j ≡ [] →
     AddsPlaced nodes (j ∷ []) placed placed
 not_placed nodes j placed is = record {

@@ -26,7 +26,7 @@ use Rattle.fill.specs.Spills.{AreEntries, AreFloods, level_among, label_among, A
 use Rattle.fill.specs.RaisedTiles.{IsRaisedTile, AreRaisedCells, raised_among, spill_with, spill_at}
 use Rattle.fill.specs.LabelNet.{HasArc, source_number, IsNumberGraph, AreNumberLevels}
 use Rattle.fill.specs.Numbers.{first_of}
-use Rattle.fill.specs.declared.marks.CellLabel.{CellLabel}
+use Rattle.fill.specs.declared.marks.CellMark.{CellMark}
 use Rattle.floods.specs.declared.net.Spill.{Spill}
 use Rattle.fill.proofs.CellMarks.{entry_mark, label_entry}
 use Rattle.fill.proofs.Numbered.{AreLawful, fit_of, has_mark, number_below, number_among, number_net}
@@ -37,7 +37,7 @@ use Rattle.cell_floods.proofs.Where.{levels_where-length, levels_where-at}
 use Rattle.fill.proofs.Gathered.{labels_within}
 use Rattle.cell_floods.proofs.TileWindows.{data_within}
 use Rattle.terrain.proofs.Options.{cases_option, match_of, none_some}
-use Rattle.fill.proofs.LabelNets.{HasTileLevel, IsLabelNet, has_tile_level, among_is, rims, list_there}
+use Rattle.fill.proofs.LabelNets.{HasTileLevel, IsLabelNet, has_tile_level, among_is, filled_height_is, list_there}
 use Rattle.std.specs.List.{Contains, All}
 use Rattle.std.proofs.lemmas.Option.{MatchOption-at_some, MatchOption-at_none, slice_get_within, same_Some}
 use Rattle.std.proofs.lemmas.List.Elements.{All-contains, All-from_get_or}
@@ -394,7 +394,7 @@ filled_tile t c floods tile f levels raised are there spill is =
           let within = label_inside t c floods p l.label are l.label_is in
           let below : index_of c.cols l.label < g.nodes =
           omega (arith, spill.1.count, index_below c.cols c.rows l.label within.0 within.1) in
-          let filled = rims t c floods are.lawful are (λ q. option_map (index_of c.cols)
+          let filled = filled_height_is t c floods are.lawful are (λ q. option_map (index_of c.cols)
           (label_among c floods q)) (HasJoin g) (source_in g) (place_net t c floods g are spill.1)
           g.nodes levels spill.2.0 spill.2.1 p (index_of c.cols l.label) l data_is
           (ap (option_map (index_of c.cols)) l.label_is) below in
@@ -421,10 +421,10 @@ filled_cell t c floods arcs sources levels heights are lawful graph spill p with
     (omega (arith, are.count, tile_of_place_below c p are.lawful within)) in
     let m = has_mark c floods p l.level l.label f.0 f.1 l.level_is l.label_is in
     let below = number_below c floods p _ lawful m.1 in
-    let filled = rims t c floods are.lawful are (number_among c floods) (HasArc arcs)
+    let filled = filled_height_is t c floods are.lawful are (number_among c floods) (HasArc arcs)
     (source_number sources) (number_net t c floods are lawful arcs sources graph)
     (length arcs) levels spill.0 spill.1 p m.0 l data_is
-    (ap (option_map (λ (x : CellLabel). x.node)) m.1) (omega (arith, below, graph.count)) in
+    (ap (option_map (λ (x : CellMark). x.node)) m.1) (omega (arith, below, graph.count)) in
     (filled.0, ap (spill_with levels) m.1 ∙ filled.1, filled.2)) in
     match_of (height_at t p) _ _
     (λ none. e ∙ ap cell_of (MatchOption-at_none _ _ none raised))

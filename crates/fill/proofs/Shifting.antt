@@ -19,7 +19,7 @@ use Rattle.cell_floods.specs.TileFlood.{Flood}
 use Rattle.fill.specs.Numbers.{first_of}
 use Rattle.fill.specs.Gathering.{Adds, IsInnerOf, IsOutside, IsLeftOut, Meets, are_both_sources, mark_among, mark_in, shifted, left_out_in, left_out_of}
 use Rattle.fill.specs.declared.spills.Join.{Join}
-use Rattle.fill.specs.declared.marks.CellLabel.{CellLabel}
+use Rattle.fill.specs.declared.marks.CellMark.{CellMark}
 use Rattle.fill.proofs.Adding.{adds_as, adds_then, covered_itself, no_join}
 use Rattle.fill.proofs.CellMarks.{among_shift, index_inside, mark_inside, marked_within, shift, shift_back}
 use Rattle.floods.proofs.Heaps.{all_by_contains}
@@ -60,13 +60,13 @@ module _ (t : Terrain) (c : Cutting) (floods : List Flood)
       mark_among c floods p ≡ option_map (shift first) (mark_in 0 f p)
   mark_there p inside = among_shift c floods tile f p there inside.1
 
-  mark_known : (p : Place) (m : CellLabel) → mark_in 0 f p ≡ Some m →
+  mark_known : (p : Place) (m : CellMark) → mark_in 0 f p ≡ Some m →
       mark_among c floods p ≡ Some (shift first m)
   mark_known p m is = mark_there p (of_tile p (mark_inside f p m is))
       ∙ ap (option_map (shift first)) is
 
-  mark_from : (p : Place) (m : CellLabel) → IsInTile c tile p → mark_among c floods p ≡ Some m →
-      (n : CellLabel) × (mark_in 0 f p ≡ Some n) × (shift first n ≡ m)
+  mark_from : (p : Place) (m : CellMark) → IsInTile c tile p → mark_among c floods p ≡ Some m →
+      (n : CellMark) × (mark_in 0 f p ≡ Some n) × (shift first n ≡ m)
   mark_from p m inside is = shift_back first (mark_in 0 f p) m (sym (mark_there p inside) ∙ is)
 
   settled_there : (a b : ℕ) → a < length f.table.places → b < length f.table.places →
@@ -107,10 +107,10 @@ module _ (t : Terrain) (c : Cutting) (floods : List Flood)
   meets_from p q j p_in q_in m =
       let x = mark_from p _ p_in m.from_is in
       let y = mark_from q _ q_in m.to_is in
-      let x_node : first + x.0.node ≡ j.from = ap (λ (z : CellLabel). z.node) x.2 in
-      let y_node : first + y.0.node ≡ j.to = ap (λ (z : CellLabel). z.node) y.2 in
-      let x_level : x.0.level ≡ m.from_level = ap (λ (z : CellLabel). z.level) x.2 in
-      let y_level : y.0.level ≡ m.to_level = ap (λ (z : CellLabel). z.level) y.2 in
+      let x_node : first + x.0.node ≡ j.from = ap (λ (z : CellMark). z.node) x.2 in
+      let y_node : first + y.0.node ≡ j.to = ap (λ (z : CellMark). z.node) y.2 in
+      let x_level : x.0.level ≡ m.from_level = ap (λ (z : CellMark). z.level) x.2 in
+      let y_level : y.0.level ≡ m.to_level = ap (λ (z : CellMark). z.level) y.2 in
       let settled = settled_there x.0.node y.0.node (index_inside f p x.0 (lawful tile f there) x.1)
       (index_inside f q y.0 (lawful tile f there) y.1) in (
         record { from = x.0.node; to = y.0.node; height = j.height },

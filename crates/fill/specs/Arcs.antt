@@ -34,7 +34,8 @@ arcs_by lasts joins previous =
     map (λ label. chain (link_at joins previous label) (length previous)
     (slice_index_or lasts label 0)) (range_with_len 0 (length lasts))
 
--- Links are of joins, and lead to earlier ones or none. A label's last join has a link or is none.
+-- There are no more links than joins, and each leads to an earlier join or none. A label's last
+-- join has a link or is none.
 pub record AreLinked (lasts : List ℕ) (joins : List Join)
     (previous : List PreviousJoins) : Type 0 where
   pub fit : length previous ≤ length joins

@@ -12,7 +12,7 @@ use Rattle.tiles.specs.Cutting.{Cutting, IsInBounds, IsInTile, IsWithin, across,
 use Rattle.cell_floods.specs.TileFlood.{Flood}
 use Rattle.fill.specs.Numbers.{ends_of, first_of}
 use Rattle.fill.specs.declared.spills.Join.{Join}
-use Rattle.fill.specs.declared.marks.CellLabel.{CellLabel}
+use Rattle.fill.specs.declared.marks.CellMark.{CellMark}
 use Rattle.floods.specs.declared.net.Spill.{Spill}
 
 -- The labels are places of the grid.
@@ -30,31 +30,32 @@ pub record Fit (c : Cutting) (floods : List Flood) : Type 0 where
       length f.levels ≡ f.bounds.rows * f.bounds.cols
 
 -- A cell's mark: its level, and the number of its label; None if it lacks either.
-abbrev pub mark_of : ℕ → Option ℤ → Option Place → Option CellLabel
+abbrev pub mark_of : ℕ → Option ℤ → Option Place → Option CellMark
 mark_of node (Some level) (Some label) = Some (record { level = level; node = node })
 mark_of node (Some level) None = None
 mark_of node None label = None
 
 -- The mark of the cell at an index of a tile. The tile's table begins at number `first`.
-abbrev pub mark_with : ℕ → Flood → ℕ → Option CellLabel
+abbrev pub mark_with : ℕ → Flood → ℕ → Option CellMark
 mark_with first f index = mark_of (first + slice_index_or f.table.indexes index 0)
     (slice_index_or f.levels index None) (slice_index_or f.labels index None)
 
 -- The mark of a place; None outside the tile, or where level or label is missing.
-abbrev pub mark_in : ℕ → Flood → Place → Option CellLabel
+abbrev pub mark_in : ℕ → Flood → Place → Option CellMark
 mark_in first f p =
     if is_in_bounds f.bounds p then mark_with first f (index_in f.bounds p) else None
 
 -- The mark of a place, by the flood of its tile.
-abbrev pub mark_among : Cutting → List Flood → Place → Option CellLabel
+abbrev pub mark_among : Cutting → List Flood → Place → Option CellMark
 mark_among c floods p = option_and_then (λ f. mark_in (first_of floods (tile_of_place c p)) f p)
     (slice_get floods (tile_of_place c p))
 
 -- A function from a place to its mark, None if it has none.
 abbrev pub Marks : Type 0
-Marks = Place → Option CellLabel
+Marks = Place → Option CellMark
 
--- The joins to leave out: those of two sources and, if `bypassed`, those of bypassed cells.
+-- The joins to leave out: those of two labels with heights in `sources` and, if `bypassed`, those
+-- of two cells that a third cell bypasses.
 pub record LeftOutJoins : Type 0 where
   pub sources : List (Option ℤ)
   pub bypassed : Bool
@@ -67,9 +68,9 @@ IsBetween p q r = ((r.row ≡ q.row) × (r.col ≡ p.col)) ⊎ ((r.row ≡ p.row
 -- greater of their levels, so its joins with both are as low as the join of the two.
 pub record IsBypassed (marks : Marks) (p q : Place) : Type 0 where
   pub middle : Place
-  pub from : CellLabel
-  pub between : CellLabel
-  pub to : CellLabel
+  pub from : CellMark
+  pub between : CellMark
+  pub to : CellMark
   pub is_middle : IsBetween p q middle
   pub from_is : marks p ≡ Some from
   pub between_is : marks middle ≡ Some between
@@ -104,7 +105,7 @@ abbrev pub IsLeftOut : Marks → LeftOutJoins → Place → Place → Type 0
 IsLeftOut marks out p q = (out.bypassed ≡ true) × IsBypassed marks p q
 
 -- The join of two marks; none if the second is None, or the labels are equal or both sources.
-abbrev pub joins_of : List (Option ℤ) → CellLabel → Option CellLabel → List Join
+abbrev pub joins_of : List (Option ℤ) → CellMark → Option CellMark → List Join
 joins_of sources from None = []
 joins_of sources from (Some to) =
     if from.node == to.node then [] else
@@ -122,45 +123,45 @@ pub record AddsCovered (old added new : List Join) : Type 0 where
   pub only : (j : Join) → Contains new j → Contains old j ⊎ Contains added j
   pub every : (j : Join) → Contains added j → Covered new j
 
--- The place and all four neighbours after it lie in these bounds.
+-- The place and the four places after it (E, SE, S and SW of it) lie in these bounds.
 abbrev pub IsInner : Bounds → Place → Type 0
 IsInner b p = (b.top ≤ p.row) × (p.row + 1 < b.top + b.rows) × (b.left < p.col)
     × (p.col + 1 < b.left + b.cols)
 
--- The place lies in this row of the bounds, and a neighbour after it lies outside them.
-abbrev pub IsOnRimRow : Bounds → ℕ → Place → Type 0
-IsOnRimRow b row p = IsInBounds b p × (p.row ≡ row) × (IsInner b p → ⊥)
+-- The place lies in this row of the bounds; its E, SE, S and SW places do not all lie in them.
+abbrev pub IsOuterOfRow : Bounds → ℕ → Place → Type 0
+IsOuterOfRow b row p = IsInBounds b p × (p.row ≡ row) × (IsInner b p → ⊥)
 
--- The indexes of the four neighbours after this entry, in the order of the codes.
+-- The indexes of the places E, SE, S and SW of the one at this index, in rows of this width.
 abbrev pub cells_after : ℕ → ℕ → List ℕ
 cells_after width i = (i + 1) ∷ (i + width + 1) ∷ (i + width) ∷ (i + width - 1) ∷ []
 
--- The entry equals its four neighbours after it.
+-- The entry of a place equals those of the places E, SE, S and SW of it.
 abbrev pub AreEqualAfter : List ℕ → ℕ → ℕ → Type 0
 AreEqualAfter xs i width =
     All (λ k. slice_index_or xs k 0 ≡ slice_index_or xs i 0) (cells_after width i)
 
--- Bypassed joins are left out, and the middle mark's level is at most the greater of the others.
-abbrev pub IsLowBetween : LeftOutJoins → CellLabel → Option CellLabel → Option CellLabel → Type 0
+-- Bypassed joins are left out, and the middle mark's level is at most the greater of the other two.
+abbrev pub IsLowBetween : LeftOutJoins → CellMark → Option CellMark → Option CellMark → Type 0
 IsLowBetween out from between to =
-    (out.bypassed ≡ true) × (third end : CellLabel) × (between ≡ Some third) × (to ≡ Some end)
+    (out.bypassed ≡ true) × (third end : CellMark) × (between ≡ Some third) × (to ≡ Some end)
     × (third.level ≤ℤ int_max from.level end.level)
 
 -- The join of a cell with the cell at an index has been added, if the two have a join.
-abbrev pub AddsNear : Flood → LeftOutJoins → CellLabel → ℕ → List Join → List Join → Type 0
+abbrev pub AddsNear : Flood → LeftOutJoins → CellMark → ℕ → List Join → List Join → Type 0
 AddsNear f out from near old new =
     AddsCovered old (joins_of out.sources from (mark_with 0 f near)) new
 
--- The corner join, if any, has been added; or none has, as the cell below or beside bypasses it.
-abbrev pub AddsCorner : Flood → LeftOutJoins → CellLabel → ℕ → ℕ → ℕ → List Join → List Join →
+-- The diagonal join, if any, has been added; or none has, as the cell below or beside bypasses it.
+abbrev pub AddsCorner : Flood → LeftOutJoins → CellMark → ℕ → ℕ → ℕ → List Join → List Join →
     Type 0
 AddsCorner f out from below beside near old new =
     ((IsLowBetween out from (mark_with 0 f below) (mark_with 0 f near)
     ⊎ IsLowBetween out from (mark_with 0 f beside) (mark_with 0 f near)) × (new ≡ old))
     ⊎ AddsNear f out from near old new
 
--- The joins of a cell with its four neighbours after it have been added, except bypassed ones.
-pub record AddsAfter (f : Flood) (out : LeftOutJoins) (from : CellLabel) (i width : ℕ)
+-- The joins of a cell with its neighbours after it have been added, except bypassed ones.
+pub record AddsAfter (f : Flood) (out : LeftOutJoins) (from : CellMark) (i width : ℕ)
     (old new : List Join) : Type 0 where
   pub after_first : List Join
   pub after_second : List Join

@@ -1,4 +1,5 @@
--- The spill graph by the numbers of its labels.
+-- The spill graph by the numbers of its labels. A walk leads from a label along arcs to a source.
+-- Its crest is the greatest height of arcs and source.
 -- Private.
 use Rattle.std.specs.Prelude.{◌≡◌, ◌≢◌, ℕ, ◌<◌, ◌≤◌, ◌⊎◌, ◌↔◌, ℤ, ◌≤ℤ◌, List, [], ◌∷◌, length, Option, None, Some, IsSome, if◌then◌else◌, slice_index_or}
 use Rattle.std.specs.Int.{int_max}

@@ -7,11 +7,11 @@ use Rattle.tiles.specs.Cutting.{Cutting}
 use Rattle.cell_floods.specs.TileFlood.{Flood, IsFlood, levels_where}
 use Rattle.fill.specs.Gathering.{mark_among, mark_with}
 use Rattle.fill.specs.Spills.{AreEntries, greater_of, level_among}
-use Rattle.fill.specs.declared.marks.CellLabel.{CellLabel}
+use Rattle.fill.specs.declared.marks.CellMark.{CellMark}
 use Rattle.fill.specs.declared.raised_tiles.RaisedTile.{RaisedTile}
 
 -- The least crest of a mark's label, by the list of all labels' least crests.
-abbrev pub spill_with : List (Option ℤ) → Option CellLabel → Option ℤ
+abbrev pub spill_with : List (Option ℤ) → Option CellMark → Option ℤ
 spill_with levels mark = option_and_then (λ m. slice_index_or levels m.node None) mark
 
 -- The raised height of a place, by the flood of its tile and the least crests of labels.

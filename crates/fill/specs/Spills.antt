@@ -1,4 +1,5 @@
--- The spill graph of all tiles: how labels are joined, and the least crests that they get.
+-- The spill graph of all tiles: how labels are joined, and the least crests that they get. A walk
+-- leads from a node along joins to a source. Its crest is the greatest height of joins and source.
 -- Public.
 use Rattle.std.specs.Prelude.{◌≡◌, ◌≢◌, ℕ, ◌*◌, ◌<◌, ℤ, pos, ◌≤ℤ◌, List, length, Option, None, Some, MatchOption, slice_get, slice_index_or, option_and_then}
 use Rattle.std.specs.Int.{int_max}
@@ -46,7 +47,7 @@ pub record IsPass (t : Terrain) (c : Cutting) (floods : List Flood) (a b : ℕ)
   pub to_is : level_among c floods to ≡ Some to_level
   pub greater : int_max from_level to_level ≡ height
 
--- Two labels are joined at the least height of their passes.
+-- Two different labels are joined at the least height of their passes.
 pub record IsJoined (t : Terrain) (c : Cutting) (floods : List Flood) (a b : ℕ)
     (height : ℤ) : Type 0 where
   pub different : a ≢ b

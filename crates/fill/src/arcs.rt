@@ -131,7 +131,8 @@ impl ArcLists {
         Ok(arcs)
     }
 
-    /// Queues each neighbour of `from` that has no source in `labels` and gets a lower crest.
+    /// Queues each neighbour of `from` that has no source in `labels` and gets a new level in
+    /// `levels`.
     #[inline]
     pub(crate) fn spread(
         &self,

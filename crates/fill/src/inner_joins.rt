@@ -1,6 +1,7 @@
 //! The joins inside a tile, by the indexes of its labels: [`inner_joins`].
 //!
-//! Looks at each pair of neighbouring cells once, from its first cell in row order.
+//! Looks at each pair of neighbouring cells once, from its first cell in row order. The four places
+//! after a cell are those E, SE, S and SW of it.
 ghost use Rattle.std.specs.Prelude.{◌≡◌, ◌+◌, ◌<◌, ◌≤◌, [], Some, slice_index_or, MatchOption, IfOk, OnOk, length};
 ghost use Rattle.std.specs.Bool.{OnTrue};
 ghost use Rattle.tiles.specs.Cutting.{IsInBounds};
@@ -8,8 +9,8 @@ ghost use Rattle.fill.specs.Gathering.{IsInner, AreEqualAfter, Adds, AddsAfter, 
 
 use crate::join_table::JoinTable;
 use crate::left_out::{LeftOut, is_left_out, join_of};
-use crate::marks::{CellLabel, mark_in, mark_of_entry};
-use crate::rim_cells::{JoinList, MarkedCells, push_join, push_rim_cells};
+use crate::marks::{CellMark, mark_in, mark_of_entry};
+use crate::rim_cells::{JoinList, MarkedCells, push_join, push_outer_cells};
 use crate::spills::Join;
 use cell_floods::TileFlood;
 use std::alloc::{AllocError, Global};
@@ -25,7 +26,7 @@ impl MarkedCells for TileFlood {
     ghost wanted = { λ f q. true };
 
     #[inline(always)]
-    fn mark(&self, place: Place) -> Option<CellLabel> {
+    fn mark(&self, place: Place) -> Option<CellMark> {
         mark_in(self, place)
     }
 
@@ -35,7 +36,7 @@ impl MarkedCells for TileFlood {
     }
 }
 
-/// Returns whether the cells at two indexes have one label, or both have none.
+/// Returns whether the cells at two indexes have the same label, or both have none.
 #[inline(always)]
 fn has_same_label(flood: &TileFlood, first: usize, second: usize) -> bool
     requires first { first < length flood.now.labels }
@@ -48,14 +49,14 @@ fn has_same_label(flood: &TileFlood, first: usize, second: usize) -> bool
 }
 
 /// Adds the join of the cells at `index` and `near`, if there is one.
-/// Compares the labels first, since that is cheaper than reading the marks.
+/// Compares the labels first, since that is cheaper than reading a level.
 #[inline(always)]
 fn push_near(
     table: &mut JoinTable,
     flood: &TileFlood,
     left_out: &LeftOut<'_>,
     index: usize,
-    from: CellLabel,
+    from: CellMark,
     near: usize,
 ) -> Result<(), AllocError>
     requires index { index < length flood.now.labels }
@@ -77,7 +78,7 @@ fn push_corner(
     flood: &TileFlood,
     left_out: &LeftOut<'_>,
     index: usize,
-    from: CellLabel,
+    from: CellMark,
     below: usize,
     beside: usize,
     near: usize,
@@ -106,14 +107,14 @@ fn push_corner(
     table.add(join)
 }
 
-/// Adds the joins of a cell with its four neighbours after it in row order.
-/// All four lie in the tile.
+/// Adds the joins of a cell with its neighbours after it in row order, except those left out.
+/// The four places after the cell all lie in the tile.
 fn push_after(
     table: &mut JoinTable,
     flood: &TileFlood,
     left_out: &LeftOut<'_>,
     index: usize,
-    from: CellLabel,
+    from: CellMark,
     width: usize,
 ) -> Result<(), AllocError>
     requires some { 0 < index }
@@ -132,7 +133,7 @@ fn push_after(
     Ok(())
 }
 
-/// Returns whether an entry equals its four neighbours after it in row order.
+/// Returns whether a cell's label index equals those of the four places after it.
 /// Compares all four without branches, since a processor seldom predicts which differs first.
 #[inline(always)]
 fn are_equal_after(labels: &[u32], index: usize, width: usize) -> bool
@@ -148,8 +149,8 @@ fn are_equal_after(labels: &[u32], index: usize, width: usize) -> bool
         & (labels[below + 1] == label)
 }
 
-/// Adds the joins of a cell with its four neighbours after it, all in the tile.
-/// Most cells have the label of all four, and so no join.
+/// Adds the joins of a cell whose four places after it lie in the tile, except those left out.
+/// Most cells have the label of all four places, and so no join with them.
 #[inline(always)]
 fn push_inner_cell(
     table: &mut JoinTable,
@@ -174,7 +175,8 @@ fn push_inner_cell(
     push_after(table, flood, left_out, index, from, width)
 }
 
-/// Adds joins of a row's cells whose four neighbours after them lie in the tile.
+/// Adds the joins of a row's cells whose four places after them lie in the tile.
+/// Leaves out the joins that `left_out` names.
 fn push_inner_cells(
     table: &mut JoinTable,
     flood: &TileFlood,
@@ -196,7 +198,7 @@ fn push_inner_cells(
     Ok(())
 }
 
-/// Adds the joins of a row's cells with the neighbours after them in the tile.
+/// Adds the joins of a row's cells with later neighbours in the tile, except those left out.
 fn push_row(
     table: &mut JoinTable,
     flood: &TileFlood,
@@ -210,7 +212,7 @@ fn push_row(
         (λ p q. IsInBounds flood.now.bounds p × (p.row ≡ row)) table.old table.new) }
 {
     let bounds = flood.bounds();
-    push_rim_cells(table, flood, left_out, bounds, row)?;
+    push_outer_cells(table, flood, left_out, bounds, row)?;
     if row + 1 < bounds.top + bounds.rows {
         push_inner_cells(table, flood, left_out, row)?;
     }

@@ -1,4 +1,4 @@
-//! The joins of one tile, seldom two for one pair of labels: [`JoinTable`].
+//! The joins of one tile, seldom two with the same `from` and `to`: [`JoinTable`].
 ghost use Rattle.std.specs.Prelude.{◌≡◌, ◌<◌, ◌≤◌, ◌∷◌, [], IfOk, OnOk, length};
 ghost use Rattle.std.specs.Bool.{OnTrue, OnFalse};
 ghost use Rattle.fill.specs.Gathering.{AddsCovered};
@@ -19,7 +19,7 @@ const JOINS_A_LINE: usize = 4;
 /// The greatest number of slots that are searched for a join.
 const MOST_PROBES: usize = 16;
 
-/// A list of joins, with a hash table that finds most joins by their labels.
+/// A list of joins, with a hash table that finds most joins by `from` and `to`.
 #[derive(Drop)]
 pub(crate) struct JoinTable {
     alloc: Global,
@@ -120,7 +120,6 @@ impl JoinTable {
         })
     }
 
-    /// Doubles the number of slots.
     #[inline(never)]
     fn grow(&mut self) -> Result<(), AllocError>
         ensures { OnOk result (self.new ≡ self.old) }

@@ -95,7 +95,7 @@ impl Model for LabelLevels {
 }
 
 impl LabelLevels {
-    /// Returns a label's least crest to an end cell; `None` if no walk leads to one.
+    /// Returns a label's least crest to an end cell; `None` if no joins lead to one.
     #[inline(always)]
     pub(crate) fn level(&self, number: usize) -> Option<Height>
         requires { number < length self.now }
@@ -127,7 +127,7 @@ impl LabelGraph {
     }
 
     /// Returns the least crest from each label to an end cell.
-    /// A label from which no walk leads to an end cell has `None`.
+    /// A label from which no joins lead to an end cell has `None`.
     pub(crate) fn levels(self, alloc: Global) -> Result<LabelLevels, NoMemory>
         ensures { IfOk result (λ levels. AreNumberLevels self.arcs self.sources levels) }
     {

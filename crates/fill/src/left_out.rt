@@ -4,7 +4,7 @@ ghost use Rattle.std.specs.Bool.{OnTrue};
 ghost use Rattle.std.specs.Option.{option_to_list};
 ghost use Rattle.fill.specs.Gathering.{IsLowBetween, are_both_sources, joins_of};
 
-use crate::marks::CellLabel;
+use crate::marks::CellMark;
 use crate::spills::Join;
 use std::marker::Model;
 use terrain::Cell;
@@ -14,8 +14,8 @@ use terrain::Cell;
 /// joins of cells that touch at a corner, where the detour by a third cell is as low.
 #[derive(Drop)]
 pub(crate) struct LeftOut<'a> {
-    /// The height of each label that is an end cell; no data or no entry for another label.
-    /// Labels are indexed as the joins have them: in one tile's table, or over all tiles.
+    /// Empty, or the height of each label that is an end cell, without data for any other label.
+    /// Indexed as the labels of the joins: in one tile's table, or by number over all tiles.
     pub(crate) sources: &'a [Cell],
     pub(crate) bypassed: bool,
 }
@@ -58,9 +58,9 @@ fn are_both_sources(sources: &[Cell], from: u32, to: u32) -> bool
     is_source(sources, from) && is_source(sources, to)
 }
 
-/// Returns the join of two marks with different labels, unless both labels are sources.
+/// Returns the join of two marks with different labels, unless both have heights in `sources`.
 #[inline(always)]
-pub(crate) fn join_of(sources: &[Cell], from: CellLabel, to: Option<CellLabel>) -> Option<Join>
+pub(crate) fn join_of(sources: &[Cell], from: CellMark, to: Option<CellMark>) -> Option<Join>
     ensures { joins_of sources.now from to ≡ option_to_list result }
 {
     let to = to?;
@@ -78,14 +78,14 @@ pub(crate) fn join_of(sources: &[Cell], from: CellLabel, to: Option<CellLabel>) 
 }
 
 /// Returns whether to leave out the join of two cells that touch at a corner.
-/// With `bypassed`, true if the level of the cell between is at most the greater of theirs. Then
-/// the joins of the cell between with both are as low.
+/// With `bypassed`, true if the level of the cell between is at most the greater of their levels.
+/// Then the detour by the cell between is as low as the join.
 #[inline(always)]
 pub(crate) fn is_left_out(
     left_out: &LeftOut<'_>,
-    from: CellLabel,
-    between: Option<CellLabel>,
-    to: Option<CellLabel>,
+    from: CellMark,
+    between: Option<CellMark>,
+    to: Option<CellMark>,
 ) -> bool
     ensures { OnTrue result (IsLowBetween left_out.now from between to) }
 {

@@ -1,8 +1,8 @@
 //! Filled heights: floods of tiles, the spill graph over them, and raising.
 //!
 //! Begin with [`filled`], which runs all stages. [`SpillGraph`] and [`raise`] run single stages, on
-//! the full graph; [`filled`] leaves out two kinds of joins that lower no filled height. The items
-//! of `cell_floods` and `floods` that single stages need are exported here.
+//! the full graph; [`filled`] leaves out two kinds of joins that lower no filled height. This crate
+//! also exports items of `cell_floods`, `drainage` and `floods`.
 //!
 //! Modules: first `filling`, then the other parts of [`filled`], last those of [`SpillGraph`] and
 //! [`raise`]:
@@ -18,11 +18,11 @@
 //! - `gathering`: the joins of all tiles
 //! - `arcs`: the arcs from each label, as linked lists over one list of joins
 //! - `label_graph`: the spill graph by numbers of labels, and its least crests
-//! - `raised_tiles`: the filled heights of each tile, by that graph
+//! - `raised_tiles`: the filled heights of all tiles, by the graph of `label_graph`
 //! - `placing`: joins by the places of their labels
 //! - `sources`: the heights of end cells by place
 //! - `spills`: the spill graph by places of labels
-//! - `raising`: the filled heights of one tile, by that graph
+//! - `raising`: the filled heights of one tile, by the graph of `spills`
 #![tactic(auto)]
 
 mod arcs;

@@ -1,4 +1,4 @@
-//! The marks of cells, from the floods of all tiles: [`CellLabel`].
+//! The marks of cells, from the floods of all tiles: [`CellMark`].
 ghost use Rattle.std.specs.Prelude.{◌≡◌, ◌+◌, ◌*◌, ◌<◌, ◌≤◌, length};
 ghost use Rattle.tiles.specs.Cutting.{IsCutting, IsInTile, IsWithin};
 ghost use Rattle.terrain.specs.Neighbours.{index_of};
@@ -11,7 +11,7 @@ use tiles::Tiling;
 
 /// A cell's mark: its level, in units, and the number of its label.
 #[derive(Clone, Copy, Debug, PartialEq, Eq)]
-pub struct CellLabel {
+pub struct CellMark {
     pub level: Height,
     pub node: u32,
 }
@@ -39,12 +39,12 @@ pub(crate) struct NumberedFloods<'a> {
 /// Returns the mark of the cell at an index; `None` without data.
 /// The label's number is here its index in the tile's table.
 #[inline(always)]
-pub(crate) fn mark_of_entry(flood: &TileFlood, index: usize) -> Option<CellLabel>
+pub(crate) fn mark_of_entry(flood: &TileFlood, index: usize) -> Option<CellMark>
     requires { index < length flood.now.labels }
     ensures { result ≡ mark_with 0 flood.now index }
 {
     let level = flood.level_at(index)?;
-    Some(CellLabel {
+    Some(CellMark {
         level,
         node: flood.labels().indexes()[index],
     })
@@ -53,7 +53,7 @@ pub(crate) fn mark_of_entry(flood: &TileFlood, index: usize) -> Option<CellLabel
 /// Returns the mark of a place; `None` outside the tile and without data.
 /// The label's number is here its index in the tile's table.
 #[inline(always)]
-pub(crate) fn mark_in(flood: &TileFlood, place: Place) -> Option<CellLabel>
+pub(crate) fn mark_in(flood: &TileFlood, place: Place) -> Option<CellMark>
     ensures { result ≡ mark_in 0 flood.now place }
 {
     let index = flood.index_of(place)?;
@@ -63,13 +63,13 @@ pub(crate) fn mark_in(flood: &TileFlood, place: Place) -> Option<CellLabel>
 impl<'a> NumberedFloods<'a> {
     /// Returns the mark of a place of tile `own`; `None` without data.
     #[inline(always)]
-    pub(crate) fn mark_of_tile(&self, own: u32, place: Place) -> Option<CellLabel>
+    pub(crate) fn mark_of_tile(&self, own: u32, place: Place) -> Option<CellMark>
         requires lawful { IsCutting self.now.tiling.now }
         requires place { IsInTile self.now.tiling.now own place }
         ensures { result ≡ mark_among self.now.tiling.now self.now.floods.now place }
     {
         let mark = mark_in(&self.floods[own as usize], place)?;
-        Some(CellLabel {
+        Some(CellMark {
             level: mark.level,
             node: self.firsts[own as usize] + mark.node,
         })

@@ -25,7 +25,6 @@ struct RaisedTile<'a> {
     spills: Vec<Cell>,
 }
 
-/// Returns the cell of a height, without data for `None`.
 #[inline(always)]
 fn cell(height: Option<Height>) -> Cell
     ensures { result ≡ cell_of height }

@@ -91,7 +91,7 @@ fn raised_by(
     Ok(greater_levels(alloc, flood.heights(), labels.indexes(), &spills)?)
 }
 
-/// Returns the filled heights of a tile, in its row order.
+/// Returns the filled heights of a tile, in its row order; `None` without data.
 ///
 /// `levels` are those of the [`SpillGraph`](crate::SpillGraph) made from all floods, `flood` among
 /// them.

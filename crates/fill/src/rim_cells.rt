@@ -1,14 +1,15 @@
-//! The joins of cells whose four places after them are not all in the tile: [`push_rim_cells`].
+//! The joins of cells whose four places after them are not all in the tile: [`push_outer_cells`].
 //!
-//! A [`MarkedCells`] has the mark (level and label) of each cell, and selects cells to join with.
+//! The four places after a cell are those E, SE, S and SW of it. A [`MarkedCells`] has the mark
+//! (level and label) of each cell, and selects cells to join with.
 ghost use Rattle.std.specs.Prelude.{◌≡◌, ◌+◌, ◌<◌, ◌≤◌, ◌∷◌, [], List, Bool, Some, true, OnOk};
 ghost use Rattle.terrain.specs.declared.place.Place.{Place};
 ghost use Rattle.tiles.specs.Cutting.{IsInBounds, IsWithinLimits};
-ghost use Rattle.fill.specs.Gathering.{Adds, AddsCovered, IsOnRimRow, IsPairFrom, IsPairOn, Marks, joins_of};
+ghost use Rattle.fill.specs.Gathering.{Adds, AddsCovered, IsOuterOfRow, IsPairFrom, IsPairOn, Marks, joins_of};
 ghost use Rattle.fill.specs.declared.spills.Join.{Join};
 
 use crate::left_out::{LeftOut, is_left_out, join_of};
-use crate::marks::CellLabel;
+use crate::marks::CellMark;
 use crate::spills::Join;
 use std::alloc::AllocError;
 use terrain::{Cell, Place, place_on};
@@ -21,7 +22,7 @@ pub(crate) trait MarkedCells {
     ghost wanted: { Self → Place → Bool };
 
     /// Returns the mark of a place, `None` without data or outside these cells.
-    fn mark(&self, place: Place) -> Option<CellLabel>
+    fn mark(&self, place: Place) -> Option<CellMark>
         ensures { result ≡ marks self.now place };
 
     /// Returns whether joins with the cell at this place are wanted.
@@ -38,13 +39,13 @@ pub(crate) trait JoinList {
         ensures { OnOk result (AddsCovered (joins self.old) (join ∷ []) (joins self.new)) };
 }
 
-/// Adds the join of two marks with different labels, unless both labels are sources.
+/// Adds the join of two marks with different labels, unless both have heights in `sources`.
 #[inline(always)]
 pub(crate) fn push_join<J: JoinList>(
     joins: &mut J,
     sources: &[Cell],
-    from: CellLabel,
-    to: Option<CellLabel>,
+    from: CellMark,
+    to: Option<CellMark>,
 ) -> Result<(), AllocError>
     ensures { OnOk result
         (AddsCovered (J.joins joins.old) (joins_of sources.now from to) (J.joins joins.new)) }
@@ -58,15 +59,15 @@ pub(crate) fn push_join<J: JoinList>(
 
 /// Adds the join of a cell with its neighbour in direction `way`, if wanted.
 /// `way` is 0 for E, 1 for SE, 2 for S or 3 for SW; `below` is the mark to the south.
-/// With `left_out.bypassed`, leaves out a corner's join if the detour by a cell between is as low.
+/// With `left_out.bypassed`, leaves out a diagonal join if the detour by a cell between is as low.
 #[inline(always)]
 fn push_on_way<C: MarkedCells, J: JoinList>(
     joins: &mut J,
     cells: &C,
     left_out: &LeftOut<'_>,
     place: Place,
-    from: CellLabel,
-    below: Option<CellLabel>,
+    from: CellMark,
+    below: Option<CellMark>,
     way: usize,
 ) -> Result<(), AllocError>
     requires limits { (place.row < 4096) × (place.col < 4096) }
@@ -104,7 +105,7 @@ fn push_on_way<C: MarkedCells, J: JoinList>(
     joins.add(join)
 }
 
-/// Adds the wanted joins of a cell with its four neighbours after it in row order.
+/// Adds the wanted joins of a cell with its neighbours after it in row order.
 fn push_cell<C: MarkedCells, J: JoinList>(
     joins: &mut J,
     cells: &C,
@@ -129,7 +130,7 @@ fn push_cell<C: MarkedCells, J: JoinList>(
     Ok(())
 }
 
-/// Adds the wanted joins of all cells of a row with the neighbours after them.
+/// Adds the wanted joins of all cells in a row of the bounds with the neighbours after them.
 fn push_row<C: MarkedCells, J: JoinList>(
     joins: &mut J,
     cells: &C,
@@ -150,8 +151,8 @@ fn push_row<C: MarkedCells, J: JoinList>(
 }
 
 /// Adds the wanted joins of a row's cells whose four places after them are not all in the tile.
-/// These are all cells of the tile's last row, and the first and last cell of any other row.
-pub(crate) fn push_rim_cells<C: MarkedCells, J: JoinList>(
+/// Such cells are all those of the tile's last row, and the first and last of any other row.
+pub(crate) fn push_outer_cells<C: MarkedCells, J: JoinList>(
     joins: &mut J,
     cells: &C,
     left_out: &LeftOut<'_>,
@@ -162,7 +163,7 @@ pub(crate) fn push_rim_cells<C: MarkedCells, J: JoinList>(
     requires some { 1 ≤ bounds.cols }
     requires row { (bounds.top ≤ row) × (row < bounds.top + bounds.rows) }
     ensures { OnOk result (Adds (C.marks cells.now) left_out.now
-        (λ p q. IsOnRimRow bounds row p × (C.wanted cells.now q ≡ true))
+        (λ p q. IsOuterOfRow bounds row p × (C.wanted cells.now q ≡ true))
         (J.joins joins.old) (J.joins joins.new)) }
 {
     let Bounds {

@@ -8,14 +8,14 @@ ghost use Rattle.tiles.specs.Cutting.{AreBounds, IsCutting, IsInTile, IsWithin, 
 ghost use Rattle.fill.specs.Gathering.{Adds, IsOutside, IsTileBelow, IsTileWithRow, mark_among};
 
 use crate::left_out::LeftOut;
-use crate::marks::{CellLabel, NumberedFloods};
-use crate::rim_cells::{JoinList, MarkedCells, push_rim_cells};
+use crate::marks::{CellMark, NumberedFloods};
+use crate::rim_cells::{JoinList, MarkedCells, push_outer_cells};
 use crate::spills::Join;
 use std::alloc::AllocError;
 use terrain::Place;
 use tiles::Bounds;
 
-/// The cells of all tiles, as seen from one tile.
+/// The cells of all tiles, for the joins over the rim of one tile.
 /// Only joins with cells of other tiles are wanted.
 #[derive(Drop)]
 struct CellsAround<'a> {
@@ -96,7 +96,7 @@ impl<'a> CellsAround<'a> {
     }
 
     /// Returns the tile of a place of the grid, without a division if the place is near this tile.
-    /// All neighbours after this tile's cells are near it.
+    /// Each neighbour after a cell of this tile is near the tile.
     #[inline(always)]
     fn tile_of(&self, place: Place) -> u32
         requires { IsWithin self.now.tiles.now.tiling.now place }
@@ -126,7 +126,7 @@ impl<'a> MarkedCells for CellsAround<'a> {
     ghost wanted = { λ cells q. not (is_in_bounds cells.bounds q) };
 
     #[inline(always)]
-    fn mark(&self, place: Place) -> Option<CellLabel> {
+    fn mark(&self, place: Place) -> Option<CellMark> {
         let tiling = self.tiles.tiling;
         if place.row >= tiling.rows() || place.col >= tiling.cols() {
             return None;
@@ -167,7 +167,7 @@ pub(crate) fn push_rim_joins(
     let bounds = tiles.tiling.bounds(tile);
     let cells = CellsAround::new(tiles, tile, bounds);
     for row in bounds.top..bounds.top + bounds.rows {
-        push_rim_cells(joins, &cells, left_out, bounds, row)?;
+        push_outer_cells(joins, &cells, left_out, bounds, row)?;
     }
     Ok(())
 }

@@ -15,7 +15,7 @@ use std::alloc::{AllocError, Global};
 use terrain::{Cell, Height, Place};
 use tiles::Tiling;
 
-/// Writes `end`, the height of a label that is an end cell, at the label's node.
+/// Writes the height of `end` at the label's node; does nothing if there is no height or label.
 #[inline(always)]
 fn put_end(heights: &mut Vec<Option<Height>>, tiling: &Tiling, label: Option<Place>, end: Cell)
     requires label { IfSome label (IsWithin tiling.now) }

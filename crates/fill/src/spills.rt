@@ -172,7 +172,7 @@ fn inner_joins_of(alloc: Global, floods: &[TileFlood]) -> Result<Vec<Vec<Join>>,
 }
 
 impl SpillGraph {
-    /// Makes the graph of the floods of all tiles, in tile order.
+    /// Makes the spill graph of all tiles. `floods` is in tile order.
     ///
     /// # Errors
     ///
@@ -213,7 +213,8 @@ impl SpillGraph {
     }
 
     /// Returns the least crest from each label to an end cell.
-    /// The list is in row order of the grid; a place without a walk to an end cell has `None`.
+    /// The list is in row order of the grid. An entry is `None` if its place is no label, or if no
+    /// joins lead from it to an end cell.
     ///
     /// # Errors
     ///

@@ -1,9 +1,9 @@
--- The invariant of a flood, the queue's entries after a pop or push, and sources queued and noted.
+-- The invariant of a flood, the queue's entries after a pop or push, and sources with their levels.
 use Rattle.std.proofs.Common.{[], ◌≡◌, ℕ, ◌<◌, ◌≤◌, ◌⊎◌, ℤ, List, length, Option, None, Some, IsSome, zero, suc, ◌+◌, ◌∷◌, get_or, set, replicate, ◌≤ℤ◌, sym, ap, subst, refl, ◌∙◌, arith, inl, inr}
 use Rattle.std.specs.Int.{int_max}
 use Rattle.std.specs.List.{Contains, All}
 use Rattle.floods.specs.Walk.{Joins, Sources, HasNoSource, IsWalk, crest, end_of, IsLevel}
-use Rattle.floods.specs.Flood.{entry_of, IsDone, HasCandidate, TakesLowest, PutsIn, HasNone, AreSourcesQueued, HasSourcesNoted}
+use Rattle.floods.specs.Flood.{entry_of, HasLabel, HasCandidate, TakesLowest, PutsIn, HasNone, AreSourcesQueued, HasSourcesNoted}
 use Rattle.floods.specs.declared.net.Spill.{Spill}
 use Rattle.floods.specs.declared.queue.Candidate.{Candidate}
 use Rattle.std.proofs.lemmas.Int.{ints}
@@ -37,7 +37,7 @@ pub record IsFlooding (joins : Joins) (source : Sources) (nodes : ℕ) (levels :
 -- Only entries of nodes with labels left the queue, and none was added.
 pub record OnlyDoneLeft (labels : List (Option ℕ)) (old new : List Candidate) : Type 0 where
   pub left : All (Contains old) new
-  pub kept : All (λ x. IsDone labels x ⊎ Contains new x) old
+  pub kept : All (λ x. HasLabel labels x ⊎ Contains new x) old
 
 pub all_by_contains : {X : Type 0} (P : X → Type 0) (xs : List X) →
     ((x : X) → Contains xs x → P x) → All P xs
@@ -81,15 +81,16 @@ nothing_left labels xs = record {
 }
 
 pub one_left : (labels : List (Option ℕ)) (old now rest : List Candidate) (x : Candidate) →
-    OnlyDoneLeft labels old now → PutsIn x rest now → IsDone labels x → OnlyDoneLeft labels old rest
+    OnlyDoneLeft labels old now → PutsIn x rest now → HasLabel labels x →
+    OnlyDoneLeft labels old rest
 one_left labels old now rest x s perm done = record {
   left = all_by_contains (Contains old) rest (λ y h.
       All-contains (Contains old) now y s.left (held_in perm y (cons_tail x rest y h)));
-  kept = all_by_contains (λ y. IsDone labels y ⊎ Contains rest y) old (λ y h.
-      elim (All-contains (λ z. IsDone labels z ⊎ Contains now z) old y s.kept h) [
+  kept = all_by_contains (λ y. HasLabel labels y ⊎ Contains rest y) old (λ y h.
+      elim (All-contains (λ z. HasLabel labels z ⊎ Contains now z) old y s.kept h) [
         | inl d ↦ inl d
         | inr held ↦ elim (held_cases perm y held) [
-          | inl same ↦ inl (subst (λ (z : Candidate). IsDone labels z) (sym same) done)
+          | inl same ↦ inl (subst (λ (z : Candidate). HasLabel labels z) (sym same) done)
           | inr still ↦ inr still
         ]
       ]);
@@ -102,8 +103,8 @@ first_open labels old now rest x s perm bound is_open =
     record {
       was_open = is_open;
       was = All-contains (Contains old) now x s.left (held_in perm x (cons_head x rest));
-      lowest = all_by_contains (λ y. IsDone labels y ⊎ (x.height.0 ≤ℤ y.height.0)) old (λ y h.
-          elim (All-contains (λ z. IsDone labels z ⊎ Contains now z) old y s.kept h) [
+      lowest = all_by_contains (λ y. HasLabel labels y ⊎ (x.height.0 ≤ℤ y.height.0)) old (λ y h.
+          elim (All-contains (λ z. HasLabel labels z ⊎ Contains now z) old y s.kept h) [
             | inl d ↦ inl d
             | inr held ↦ elim (held_cases perm y held) [
               | inl same ↦ inr (omega (arith, ints, ap (λ (z : Candidate). z.height.0) same))
@@ -112,17 +113,17 @@ first_open labels old now rest x s perm bound is_open =
           ]);
       left = all_by_contains (Contains old) rest (λ y h.
           All-contains (Contains old) now y s.left (held_in perm y (cons_tail x rest y h)));
-      kept = all_by_contains (λ y. IsDone labels y ⊎ (y ≡ x) ⊎ Contains rest y) old (λ y h.
-          elim (All-contains (λ z. IsDone labels z ⊎ Contains now z) old y s.kept h) [
+      kept = all_by_contains (λ y. HasLabel labels y ⊎ (y ≡ x) ⊎ Contains rest y) old (λ y h.
+          elim (All-contains (λ z. HasLabel labels z ⊎ Contains now z) old y s.kept h) [
             | inl d ↦ inl d
             | inr held ↦ inr (held_cases perm y held)
           ]);
     }
 
 pub all_done : (labels : List (Option ℕ)) (old now : List Candidate) → OnlyDoneLeft labels old now →
-    HasNone now → All (IsDone labels) old
-all_done labels old now s none = all_by_contains (IsDone labels) old (λ y h.
-    elim (All-contains (λ z. IsDone labels z ⊎ Contains now z) old y s.kept h) [
+    HasNone now → All (HasLabel labels) old
+all_done labels old now s none = all_by_contains (HasLabel labels) old (λ y h.
+    elim (All-contains (λ z. HasLabel labels z ⊎ Contains now z) old y s.kept h) [
       | inl d ↦
           d
       | inr held ↦ absurd (none y held)

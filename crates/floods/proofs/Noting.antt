@@ -1,4 +1,4 @@
--- Neighbours queued one by one and the levels noted for them; lists written over and mapped.
+-- Neighbours queued one by one, with their crests as levels; lists written over and mapped.
 use Rattle.std.proofs.Common.{◌≡◌, ℕ, ◌<◌, List, [], ◌∷◌, ◌++◌, length, get_or, set, map, take, drop, ℤ, ◌≤ℤ◌, Option, None, Some, IsSome, ◌+◌, sym, ap, subst, refl, ◌∙◌, arith, ◌⊎◌, inl, inr, to_z, of_z}
 use Rattle.std.specs.Int.{int_max}
 use Rattle.std.specs.Int.Signed.{≤ℤ_refl}
@@ -21,7 +21,7 @@ use Rattle.floods.specs.Walk.{Sources}
 use Rattle.floods.specs.Flood.{AreOwn, InOrder, PutsIn, candidates_in, entry_of, HasCandidate, IsCandidateBy, candidate_by, Queues, AreNoted, KeepsDone, Relaxes}
 use Rattle.floods.proofs.Heaps.{all_by_contains, cons_head, cons_tail, held_in, held_cases, one_held}
 
--- A neighbour that has a label, or an entry as low, needs no new entry.
+-- A neighbour with a label, or with an entry at most at its crest by the arc, needs no new entry.
 pub passed : (labels : List (Option ℕ)) (from : Candidate) (arc : Spill)
     (waiting : List Candidate) → (entry_of labels arc.to ≡ None → HasCandidate waiting arc.to
     (int_max arc.height from.height.0)) → Queues labels from (arc ∷ []) waiting waiting
@@ -40,11 +40,12 @@ pub passed_done :
 passed_done labels from arc waiting done =
     passed labels from arc waiting (λ none. none_done (entry_of labels arc.to) none done)
 
-pub passed_low : (labels : List (Option ℕ)) (levels : List (Option ℤ)) (from : Candidate)
+pub no_entry_if_low : (labels : List (Option ℕ)) (levels : List (Option ℤ)) (from : Candidate)
     (arc : Spill) (waiting : List Candidate) (h : ℤ) → AreNoted labels levels waiting →
     entry_of levels arc.to ≡ Some h → h ≤ℤ int_max arc.height from.height.0 →
     Queues labels from (arc ∷ []) waiting waiting
-passed_low labels levels from arc waiting h s noted low = passed labels from arc waiting (λ none.
+no_entry_if_low labels levels from arc waiting h s noted low = passed labels from arc waiting
+    (λ none.
     let x = s.queue arc.to h none noted in
     (x.0, x.1, x.2, trans _ _ _ x.3 low))
 
@@ -99,7 +100,8 @@ noted labels levels from arc old new below s perm = record {
   crest : ℤ
   crest = int_max arc.height from.height.0
 
--- `AreOwn` is kept when a neighbour without a label is queued at a crest below any level it has.
+-- `AreOwn` is kept when an unlabelled neighbour is queued at a crest below its level, if any, and
+-- the crest becomes its level.
 pub own_by_arc : (source : Sources) (labels : List (Option ℕ))
     (levels : List (Option ℤ)) (from : Candidate) (arc : Spill) (old new : List Candidate) →
     arc.to < length labels → length levels ≡ length labels → entry_of labels arc.to ≡ None →
@@ -143,7 +145,7 @@ keeps_done labels levels a level none = λ b done. elim (cases_eq b a) [
   | inr n ↦ get_or-set_other levels a b level None n
 ]
 
--- If all three fit in 64 bits, the crest computed in 64 bits is the greater of height and level.
+-- If `height`, `level` and `greater` fit in 64 bits, the maximum computed in 64 bits is exact.
 pub kept_crest : (height level greater : ℤ) → SFits height_width height →
     SFits height_width level → SFits height_width greater → greater ≡ int_max
     (to_z height_width (of_z height_width height)) (to_z height_width (of_z height_width level)) →
@@ -221,13 +223,11 @@ more_relaxed labels from arcs last levels between after old now new s t = record
       (candidates_in new) s.queue t.queue;
 }
 
--- A list of n elements, written over the first n of another, is read back.
 pub written_back : {X : Type 0} (n : ℕ) (xs items : List X) → length xs ≡ n →
     take n (xs ++ drop (length xs) items) ≡ xs
 written_back n xs items e = subst (λ k. take k (xs ++ drop (length xs) items)
     ≡ xs) e (take-append_seam xs (drop (length xs) items))
 
--- The first i elements, mapped, with the next one mapped at the end are the first i + 1, mapped.
 pub mapped_more : {X Y : Type 0} (f : X → Y) (xs : List X) (i : ℕ) (d : X) (now next : List Y)
     (y : Y) → i < length xs → now ≡ map f (take i xs) → next ≡ now ++ y ∷ [] →
     y ≡ f (get_or xs i d) → next ≡ map f (take (i + 1) xs)

@@ -12,7 +12,7 @@ use Rattle.terrain.proofs.Options.{cases_option, none_some, none_done}
 use Rattle.floods.specs.declared.net.Spill.{Spill}
 use Rattle.floods.specs.declared.queue.Candidate.{Candidate}
 use Rattle.floods.specs.Walk.{Joins, Sources, IsWalk, crest, end_of, IsLevel, HasNoWalk, IsFlooded, HasJust}
-use Rattle.floods.specs.Flood.{entry_of, IsDone, TakesLowest, candidate_by, AreSourcesQueued, HasSourcesNoted, AreOwn, HasCandidate, IsCandidateBy, Queues, AreNoted, KeepsDone}
+use Rattle.floods.specs.Flood.{entry_of, HasLabel, TakesLowest, candidate_by, AreSourcesQueued, HasSourcesNoted, AreOwn, HasCandidate, IsCandidateBy, Queues, AreNoted, KeepsDone}
 use Rattle.floods.proofs.Heaps.{HasWalk, IsFlooding, all_by_contains, replicated}
 
 max_below : (h x y : ℤ) → x ≤ℤ y → int_max h x ≤ℤ int_max h y
@@ -65,7 +65,7 @@ lowest_is_least joins source nodes levels labels old new w inside s t walk is_wa
     let here = All-contains (λ x. (x.node < nodes) × HasWalk joins source x) old w s.queue t.was in
     let found =
     open_walk joins source nodes levels labels old inside s walk w.node here.0 t.was_open is_walk in
-    elim (All-contains (λ x. IsDone labels x
+    elim (All-contains (λ x. HasLabel labels x
     ⊎ (w.height.0 ≤ℤ x.height.0)) old found.0 t.lowest found.1) [
       | inl done ↦ none_done (entry_of labels found.0.node) found.2 done
       | inr low ↦ trans _ _ _ low found.3
@@ -74,30 +74,31 @@ lowest_is_least joins source nodes levels labels old new w inside s t walk is_wa
 -- If the nodes of all entries have labels, a node without a label has no walk.
 pub no_walk : (joins : Joins) (source : Sources) (nodes : ℕ) (levels : List (Option ℤ))
     (labels : List (Option ℕ)) (waiting : List Candidate) → ((a b : ℕ) (h : ℤ) → joins a b h →
-    b < nodes) → IsFlooding joins source nodes levels labels waiting → All (IsDone labels) waiting →
+    b < nodes) → IsFlooding joins source nodes levels labels waiting → All
+    (HasLabel labels) waiting →
     (a : ℕ) → a < nodes → entry_of labels a ≡ None → HasNoWalk joins source a
 no_walk joins source nodes levels labels waiting inside s all a below none walk is_walk =
     let found =
     open_walk joins source nodes levels labels waiting inside s walk a below none is_walk in
     none_done (entry_of labels found.0.node) found.2
-    (All-contains (IsDone labels) waiting found.0 all found.1)
+    (All-contains (HasLabel labels) waiting found.0 all found.1)
 
 -- If the nodes of all entries have labels, a node without a label has no level.
 pub none_left : (labels : List (Option ℕ)) (levels : List (Option ℤ)) (waiting : List Candidate)
-    (a : ℕ) → AreNoted labels levels waiting → All (IsDone labels) waiting →
+    (a : ℕ) → AreNoted labels levels waiting → All (HasLabel labels) waiting →
     entry_of labels a ≡ None → entry_of levels a ≡ None
 none_left labels levels waiting a s all none = elim (cases_option (entry_of levels a)) [
   | inl unnoted ↦ unnoted
   | inr some ↦
       let w = s.queue a some.0 none some.1 in
       none_done (entry_of labels w.0.node) (ap (λ n. entry_of labels n) w.2
-      ∙ none) (All-contains (IsDone labels) waiting w.0 all w.1)
+      ∙ none) (All-contains (HasLabel labels) waiting w.0 all w.1)
 ]
 
 pub flooded : (joins : Joins) (source : Sources) (nodes : ℕ) (levels : List (Option ℤ)) (labels :
     List (Option ℕ)) (waiting : List Candidate) → ((a b : ℕ) (h : ℤ) → joins a b h → b < nodes) →
     IsFlooding joins source nodes levels labels waiting → AreNoted labels levels waiting →
-    All (IsDone labels) waiting → IsFlooded joins source nodes levels labels
+    All (HasLabel labels) waiting → IsFlooded joins source nodes levels labels
 flooded joins source nodes levels labels waiting inside s noted all = record {
   levels_size = s.levels_size;
   labels_size = s.labels_size;
@@ -160,7 +161,7 @@ still_waits : (labels : List (Option ℕ)) (old new : List Candidate) (w : Candi
     (a : ℕ) (h : ℤ) → TakesLowest labels old w new → a ≢ w.node → entry_of labels a ≡ None →
     HasCandidate old a h → HasCandidate new a h
 still_waits labels old new w a h t n none x =
-    elim (All-contains (λ y. IsDone labels y ⊎ (y ≡ w) ⊎ Contains new y) old x.0 t.kept x.1) [
+    elim (All-contains (λ y. HasLabel labels y ⊎ (y ≡ w) ⊎ Contains new y) old x.0 t.kept x.1) [
       | inl done ↦
           none_done (entry_of labels x.0.node) (ap (λ k. entry_of labels k) x.2 ∙ none) done
       | inr open_still ↦ elim open_still [

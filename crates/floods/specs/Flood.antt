@@ -1,4 +1,4 @@
--- The queue of a flood, and what taking a node and following its arcs change in queue and levels.
+-- The queue of a flood, and the steps that change it: a node is taken, and its arcs are relaxed.
 -- Public.
 use Rattle.std.specs.Prelude.{◌≡◌, ℕ, ◌<◌, ◌≤◌, ◌⊎◌, ℤ, pos, ◌+ℤ◌, ◌≤ℤ◌, List, [], ◌∷◌, ◌++◌, map, length, Option, None, Some, IsSome, slice_index_or}
 use Rattle.std.specs.Ordering.{int_cmp}
@@ -59,8 +59,8 @@ abbrev pub entry_of : {X : Type 0} → List (Option X) → ℕ → Option X
 entry_of xs a = slice_index_or xs a None
 
 -- The entry's node has a label: its level is final. Until then a level is the least crest found.
-abbrev pub IsDone : List (Option ℕ) → Candidate → Type 0
-IsDone labels w = IsSome (entry_of labels w.node)
+abbrev pub HasLabel : List (Option ℕ) → Candidate → Type 0
+HasLabel labels w = IsSome (entry_of labels w.node)
 
 -- w is a lowest entry of unlabelled nodes. No entry is added. At most w and entries of labelled
 -- nodes are gone.
@@ -68,9 +68,9 @@ pub record TakesLowest (labels : List (Option ℕ)) (old : List Candidate) (w : 
     (new : List Candidate) : Type 0 where
   pub was_open : entry_of labels w.node ≡ None
   pub was : Contains old w
-  pub lowest : All (λ x. IsDone labels x ⊎ (w.height.0 ≤ℤ x.height.0)) old
+  pub lowest : All (λ x. HasLabel labels x ⊎ (w.height.0 ≤ℤ x.height.0)) old
   pub left : All (Contains old) new
-  pub kept : All (λ x. IsDone labels x ⊎ (x ≡ w) ⊎ Contains new x) old
+  pub kept : All (λ x. HasLabel labels x ⊎ (x ≡ w) ⊎ Contains new x) old
 
 -- A neighbour's entry: at the greater of the arc's height and that of `from`, with `from`'s label.
 abbrev pub candidate_by : Candidate → Spill → Candidate
@@ -108,8 +108,8 @@ HasCandidate waiting a h = (w : Candidate) × Contains waiting w × (w.node ≡ 
 abbrev pub IsCandidateBy : Candidate → List Spill → Candidate → Type 0
 IsCandidateBy from arcs w = (arc : Spill) × Contains arcs arc × (w ≡ candidate_by from arc)
 
--- These arcs of `from` were followed: old entries stay, each added one is of some arc's neighbour.
--- Each such neighbour without a label has an entry at most at its crest by that arc.
+-- Old entries stay, and each added entry is that of the neighbour at one of these arcs of `from`.
+-- Each of these neighbours without a label has an entry at most at its crest by the arc.
 pub record Queues (labels : List (Option ℕ)) (from : Candidate) (arcs : List Spill)
     (old : List Candidate) (new : List Candidate) : Type 0 where
   pub kept : All (Contains new) old

@@ -1,12 +1,12 @@
 -- Walks over a net to its sources, and the least crest among them. A net is given by its joins
--- with their spill heights, and by its sources with their heights.
+-- and its sources, each with a height.
 -- Public.
 use Rattle.std.specs.Prelude.{◌≡◌, ℕ, ◌<◌, ◌≤◌, ℤ, pos, ◌≤ℤ◌, List, [], ◌∷◌, length, Option, None, Some, IsSome, MatchOption, slice_index_or, unwrap_or}
 use Rattle.std.specs.List.{Contains, All}
 use Rattle.std.specs.Int.{int_max}
 use Rattle.floods.specs.declared.net.Spill.{Spill}
 
--- Joins: node a is joined to node b at this spill height.
+-- Joins: node a is joined to node b at this height.
 abbrev pub Joins : Type 1
 Joins = ℕ → ℕ → ℤ → Type 0
 
@@ -18,13 +18,13 @@ Sources = ℕ → Option ℤ
 abbrev pub HasNoSource : Sources → ℕ → ℕ → Type 0
 HasNoSource source first end = (a : ℕ) → first ≤ a → a < end → source a ≡ None
 
--- The arcs are a walk from node a: each leads to a joined node at the join's spill height, and
--- the last node is a source.
+-- The arcs are a walk from node a: each leads to a joined node at the join's height, and the last
+-- node is a source.
 abbrev pub IsWalk : Joins → Sources → ℕ → List Spill → Type 0
 IsWalk joins source a [] = IsSome (source a)
 IsWalk joins source a (step ∷ rest) = joins a step.to step.height × IsWalk joins source step.to rest
 
--- The crest of a walk: the greatest of its spill heights and the height of its source.
+-- The crest of a walk: the greatest of the heights of its joins and its source.
 abbrev pub crest : Sources → ℕ → List Spill → ℤ
 crest source a [] = unwrap_or (source a) (pos 0)
 crest source a (step ∷ rest) = int_max step.height (crest source step.to rest)
@@ -34,7 +34,7 @@ abbrev pub end_of : ℕ → List Spill → ℕ
 end_of a [] = a
 end_of a (step ∷ rest) = end_of step.to rest
 
--- The level of node a is the least crest of its walks. Its label is the source where a walk of that
+-- The level of node a is the least crest of its walks. Its label is a source where a walk of that
 -- crest ends. A source whose level is its own height is its own label.
 pub record IsLevel (joins : Joins) (source : Sources) (a : ℕ) (level : ℤ) (label : ℕ) : Type 0 where
   pub reached : (walk : List Spill) × IsWalk joins source a walk × (crest source a walk ≡ level)
@@ -57,7 +57,7 @@ pub record IsFlooded (joins : Joins) (source : Sources) (nodes : ℕ) (levels : 
       (λ level. (label : ℕ) × (slice_index_or labels a None ≡ Some label)
       × IsLevel joins source a level label)
 
--- The arcs are exactly those of these joins: each joined node, with the join's spill height.
+-- The arcs are exactly those of these joins: each joined node, with the join's height.
 pub record HasJust (joins : ℕ → ℤ → Type 0) (arcs : List Spill) : Type 0 where
   pub only : All (λ arc. joins arc.to arc.height) arcs
   pub every : (b : ℕ) (h : ℤ) → joins b h → Contains arcs (record { to = b; height = h })

@@ -14,8 +14,8 @@ use std::cmp::Reverse;
 use terrain::{Height, NoMemory};
 
 /// The level and the label of each node; `None` where no walk leads to a source.
-/// A node's level, in units, is the least crest of its walks. Its label is the source where a walk
-/// of that crest ends.
+/// A node's level, in units, is the least crest of its walks. Its label is a source where a walk of
+/// that crest ends.
 #[derive(Drop)]
 pub struct Flooded {
     pub level: Vec<Option<Height>>,

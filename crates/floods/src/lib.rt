@@ -1,8 +1,8 @@
 //! The flood of a net: finds the level and the label of each node.
 //!
-//! A walk follows joins from a node to a source. Its crest is the greatest of the joins' spill
-//! heights and the source's height. A node's level is the least crest of its walks, and its label
-//! the source where a walk of that crest ends. An arc is a join seen from one of its nodes.
+//! A walk follows joins from a node to a source. Its crest is the greatest of the joins' heights
+//! and the source's height. A node's level is the least crest of its walks, and its label a source
+//! where a walk of that crest ends. An arc is a join seen from one of its nodes.
 //!
 //! Begin with [`flood`] over any [`Net`]. [`flood_net`] returns the levels and labels in lists
 //! that take less memory.

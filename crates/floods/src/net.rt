@@ -1,4 +1,4 @@
-//! The trait of nets, whose nodes are joined at spill heights: [`Net`].
+//! The trait of nets, whose nodes are joined at heights: [`Net`].
 //!
 //! A net may override [`Net::spread`] to queue neighbours without listing them, and
 //! [`Net::next_candidate`] to skip runs of nodes that are no sources.
@@ -13,18 +13,18 @@ use smallvec::SmallVec;
 use std::alloc::Global;
 use terrain::{Height, NoMemory};
 
-/// An arc: a neighbour of a node, and the spill height, in units, of their join.
+/// An arc: a neighbour of a node, and the height, in units, of their join.
 #[derive(Clone, Copy, Debug, Default, PartialEq, Eq)]
 pub struct Spill {
     pub to: u32,
     pub height: Height,
 }
 
-/// A net of nodes, numbered from 0. Joins have spill heights, sources have heights.
+/// A net of nodes, numbered from 0. Joins and sources have heights.
 pub trait Net {
     ghost node_count: { Self → ℕ };
 
-    // Node a is joined to node b at this spill height.
+    // Node a is joined to node b at this height.
     ghost joins: { Self → ℕ → ℕ → ℤ → Type 0 };
 
     // The height of a source; `None` for any other node.
@@ -34,7 +34,7 @@ pub trait Net {
     fn nodes(&self) -> u32
         ensures { result ≡ node_count self.now };
 
-    /// Returns the neighbours of a node, each with the spill height of the join.
+    /// Returns the neighbours of a node, each with the height of the join.
     ///
     /// # Errors
     ///
@@ -60,9 +60,9 @@ pub trait Net {
         from
     }
 
-    /// Queues each neighbour of `from` that has no label and gets a new level.
-    /// The new level is the greater of the join's spill height and `from.height`.
-    /// An unlabelled neighbour gets it in `levels` if it has no level or a higher one.
+    /// Queues each unlabelled neighbour of `from` with no level or one above its crest.
+    /// Its crest is the greater of the join's height and `from.height`.
+    /// The crest of a queued neighbour becomes its level in `levels`.
     ///
     /// # Errors
     ///

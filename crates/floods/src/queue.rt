@@ -4,7 +4,7 @@
 //! [`queue_neighbour`] queues a node again only at a lower crest.
 ghost use Rattle.std.specs.Prelude.{◌≡◌, ◌<◌, ◌≤◌, pos, ◌+ℤ◌, ◌≤ℤ◌, ◌∷◌, [], ℕ, ℤ, IfOk, OnOk, IfSome, IfNone, length, All, replicate, slice_index_or};
 ghost use Rattle.std.specs.BinaryHeap.{heap_items, heap_len};
-ghost use Rattle.floods.specs.Flood.{entries_of, candidates_in, InOrder, PutsIn, HasNone, IsDone, TakesLowest, Relaxes, AreNoted};
+ghost use Rattle.floods.specs.Flood.{entries_of, candidates_in, InOrder, PutsIn, HasNone, HasLabel, TakesLowest, Relaxes, AreNoted};
 
 use crate::heights::HeightList;
 use crate::net::Spill;
@@ -30,13 +30,14 @@ pub struct Candidate {
 /// A tile of 256 by 256 cells mostly spans fewer heights.
 const MOST_LISTS: usize = 512;
 
-/// The least number of lists, where a net has any. In a smaller net the heap alone is as fast.
+/// The least number of lists of a queue that has any.
+/// A queue for fewer than 16 * 16 nodes has none: there the heap alone is as fast.
 const LEAST_LISTS: usize = 16;
 
 /// The least number of nodes for each list, so that making the lists is cheap.
 const NODES_A_LIST: usize = 16;
 
-/// The first capacity of each list and of the heap, in nodes, so that few grow.
+/// The first capacity of each list and of the heap, in entries, so that few grow.
 /// At 16 bytes an entry this is above 1 KiB. An allocator may keep smaller blocks when they are
 /// freed, and then it cannot return the memory below them to the system.
 const FIRST_CAPACITY: usize = 80;
@@ -233,7 +234,7 @@ pub(crate) fn next_unlabelled(queue: &mut Queue, labels: &NodeLabels) -> Option<
     ensures order { InOrder queue.new }
     ensures some { IfSome result (λ w.
         TakesLowest labels.now (candidates_in queue.old) w (candidates_in queue.new)) }
-    ensures none { IfNone result (All (IsDone labels.now) (candidates_in queue.old)) }
+    ensures none { IfNone result (All (HasLabel labels.now) (candidates_in queue.old)) }
 {
     while let Some(waiting) = queue.take() {
         if !labels.has(waiting.node) {
@@ -243,9 +244,9 @@ pub(crate) fn next_unlabelled(queue: &mut Queue, labels: &NodeLabels) -> Option<
     None
 }
 
-/// Queues the neighbour `arc.to` if it has no label and gets a new level.
-/// The new level is the greater of `arc.height` and `from.height`.
-/// An unlabelled neighbour gets it in `levels` if it has no level or a higher one.
+/// Queues `arc.to` if it has no label, and no level or one above its crest.
+/// Its crest is the greater of `arc.height` and `from.height`.
+/// If queued, it gets this crest as its level in `levels`.
 ///
 /// # Errors
 ///

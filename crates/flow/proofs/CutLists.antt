@@ -82,7 +82,6 @@ gauge_inside cols rows codes gauges k d below coded =
     some_inside cols rows codes g (entry_at cols rows codes g) refl
     (coded g (list_any_at (is_place g) gauges k d below (is_place_from g g refl)))
 
--- The index of gauge k by width n is its index by `cols`, if n is `cols`, with any defaults.
 pub index_at : (cols n : ℕ) (gauges : List Place) (k i : ℕ) (d e : Place) → k < length gauges →
     n ≡ cols → i ≡ index_of n (get_or gauges k d) → i ≡ index_of cols (get_or gauges k e)
 index_at cols n gauges k i d e below same read =

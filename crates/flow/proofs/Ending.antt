@@ -173,10 +173,10 @@ marks_fall links ends i last s f h unknown known =
       )
     ]
 
-pub found_more : (links ends : List ℕ) (node end : ℕ) → AreKnownEnds links ends →
+pub known_more : (links ends : List ℕ) (node end : ℕ) → AreKnownEnds links ends →
     node < length links →
     end ≡ end_of links node → AreKnownEnds links (set ends node end)
-found_more links ends node end f h e = record {
+known_more links ends node end f h e = record {
   size = length-set ends node end ∙ f.size;
   right = λ i l known. elim (cases_eq i node) [
     | inl s ↦ ap (λ n. get_or (set ends node end) n 0) s

@@ -91,8 +91,8 @@ module _ (d : Directed) (c : Cutting) (tile : ℕ) (b : Bounds) (links : List �
   link_place i h y = ap (place_in b) (link_is i h ∙ link-in d b i y)
       ∙ place_in-index_in b (next d (place_in b i)) y
 
-  -- k moves along links from node j lead where the first `met` moves of the flow path lead, inside
-  -- the bounds. `met` is k, unless the path along links has ended after k moves.
+  -- k moves along links from node j lead where the first `met` moves of its cell's flow path lead,
+  -- inside the bounds. `met` is k, unless the path along links has ended after k moves.
   pub record FollowsLinks (j k : ℕ) : Type 0 where
     pub met : ℕ
     pub few : met ≤ k
@@ -117,8 +117,8 @@ module _ (d : Directed) (c : Cutting) (tile : ℕ) (b : Bounds) (links : List �
     | inr ne ↦ way l (omega arith)
   ]
 
-  pub tracks : (j : ℕ) → j < length links → (k : ℕ) → FollowsLinks j k
-  tracks j h zero = record {
+  pub follows_links : (j : ℕ) → j < length links → (k : ℕ) → FollowsLinks j k
+  follows_links j h zero = record {
     met = 0;
     few = omega arith;
     way = λ l le. (let z : 0 ≡ l = omega arith in
@@ -126,8 +126,8 @@ module _ (d : Directed) (c : Cutting) (tile : ℕ) (b : Bounds) (links : List �
     here = refl;
     done = inl refl;
   }
-  tracks j h (suc k) =
-      let t = tracks j h k in
+  follows_links j h (suc k) =
+      let t = follows_links j h k in
       elim t.done [
         | inr stop ↦ stopped j k t stop
         | inl same ↦ elim (cases_bounds b (next d (place_in b (node_after links j k)))) [
@@ -148,7 +148,7 @@ module _ (d : Directed) (c : Cutting) (tile : ℕ) (b : Bounds) (links : List �
   pub stops : (j : ℕ) → j < length links → (k : ℕ) × IsStop links j k
   stops j h = elim (cases_coded d (place_in b j)) [
     | inl none ↦ (0, self_link j h (none_stays d (place_in b j) none))
-    | inr is ↦ (let t = tracks j h (moves d) in elim t.done [
+    | inr is ↦ (let t = follows_links j h (moves d) in elim t.done [
       | inr stop ↦ (moves d, stop)
       | inl same ↦ (let last : place_in b (node_after links j (moves d))
           ≡ last_of d (place_in b j) = t.here ∙ ap (follow d (place_in b j)) same in (
@@ -188,7 +188,7 @@ module _ (d : Directed) (c : Cutting) (tile : ℕ) (b : Bounds) (links : List �
       let r = early_end links tile_streams.inside i h (length links) (tile_streams.ends i h) in
       let last : node_after links i r.0 ≡ end_of links i =
       sym (node_stays links i r.0 (length links) (omega (arith, r.1)) r.2) in
-      let t = tracks i h r.0 in
+      let t = follows_links i h r.0 in
       let at : follow d (place_in b i) t.met ≡ place_in b (end_of links i) = sym t.here
       ∙ ap (place_in b) last in
       let coded =

@@ -65,7 +65,7 @@ exit_index_is b cells ends i h = index_of_placed b (get_or cells i None) (get_or
     ∙ ap (option_map (index_in b)) (sym (exit_at b cells ends i h))
 
 module _ (o : Outlets) (flows : List Flow) (n : EndNumbers) (b : Bounds) where
-  -- The place q at the index of an exit x of the tile is an exit of the tile.
+  -- If x is a numbered place, so is q, the place at x's index.
   pub exit_placed : (exit : ℕ) (x : Option Place) (q : Place) → q ≡ place_in b exit → Some exit
       ≡ option_map (index_in b) x → IfSome x (IsNumberedPlace o flows n b) →
       IsNumberedPlace o flows n b q

@@ -117,9 +117,9 @@ module _ (d : Directed) (t : Cutting) (flows : List Flow) (o : Outlets) (n : End
     no_exit p i none = exit_entry p i ∙ MatchOption-at_none _ _ none (right.each p i)
 
     -- Each exit in the list is in the tile, and its outlet has a number.
-    exit_of_tile : (p : Place) → IsInTile t tile p →
+    exit_is_numbered : (p : Place) → IsInTile t tile p →
         IfSome (get_or f.exits (index_in f.bounds p) None) (IsNumberedPlace o flows n f.bounds)
-    exit_of_tile p i = elim (cases_coded d p) [
+    exit_is_numbered p i = elim (cases_coded d p) [
       | inl none ↦ subst (λ (x : Option Place). IfSome x (IsNumberedPlace o flows n f.bounds))
           (sym (no_exit p i none)) tt
       | inr is ↦
@@ -145,7 +145,7 @@ module _ (d : Directed) (t : Cutting) (flows : List Flow) (o : Outlets) (n : End
             (sym right.bounds) (place_in_tile t tile i s.are_flows.cutting tile_below
             (omega (arith, below, cell_size))) in
             subst (λ k. IfSome (get_or f.exits k None) (IsNumberedPlace o flows n f.bounds))
-            (index_in-place_in f.bounds i) (exit_of_tile (place_in f.bounds i) inside)
+            (index_in-place_in f.bounds i) (exit_is_numbered (place_in f.bounds i) inside)
       ];
     }
 

@@ -22,8 +22,9 @@ use Rattle.flow.proofs.Coded.{IsCoded, cases_coded}
 use Rattle.flow.proofs.InTile.{AreTileLinks, AreTileWeights, IsPiece, tile_streams, exit_is}
 use Rattle.flow.proofs.TileTotals.{own_totals}
 
-pub small_bounds : (t : Cutting) (b : Bounds) → IsCutting t → AreBounds t b → EndsInLargestGrid b
-small_bounds t b h a = record {
+pub bounds_end_in_grid : (t : Cutting) (b : Bounds) → IsCutting t → AreBounds t b →
+    EndsInLargestGrid b
+bounds_end_in_grid t b h a = record {
   some_col = a.some_col;
   few_rows = omega (arith, h.few_rows, a.rows_inside);
   few_cols = omega (arith, h.few_cols, a.cols_inside);
@@ -139,7 +140,7 @@ module _ (v : View (Option ℕ)) (b : Bounds) (cells : List (Option ℕ)) (links
   streams = tile_streams (directed_by v) v.cutting v.tile b links piece
 
   pub few : length links ≤ 2 ^ 24
-  few = let small = small_bounds v.cutting b s.lawful.cutting s.inside in
+  few = let small = bounds_end_in_grid v.cutting b s.lawful.cutting s.inside in
       omega (arith, piece.made.size, few_cells b small.few_rows small.few_cols)
 
   ending : IsEnding (directed_by v)
@@ -220,7 +221,7 @@ module _ (v : View (Option ℕ)) (b : Bounds) (cells : List (Option ℕ)) (links
 
     pub flow_lawful : (upstream : List ℕ) → IsFlow (flow_by b cells upstream ends)
     flow_lawful upstream =
-        let small = small_bounds v.cutting b s.lawful.cutting s.inside in
+        let small = bounds_end_in_grid v.cutting b s.lawful.cutting s.inside in
         record {
           some_col = small.some_col;
           few_rows = small.few_rows;

@@ -17,7 +17,7 @@ use Rattle.terrain.proofs.Listed.{is_place_from, place_is}
 use Rattle.flow.specs.Streams.{AreStreams, AreEnds, onward, node_after, end_of}
 use Rattle.flow.specs.TileFlow.{Flow, stays, exit_in, IsTileExits, IsExitOf, IsExitCell}
 use Rattle.flow.specs.Whole.{is_outlet_code}
-use Rattle.tiles.specs.RimNumbers.{stride, side_number, number_count, rim_number, rim_place}
+use Rattle.tiles.specs.RimNumbers.{stride, side_number, rim_number_count, rim_number, rim_place}
 use Rattle.flow.specs.RimGraph.{code_in, AreFlowsOf, exit_by, side_cell, next_in, target_in, target_by, targets_by, next_exit_in, next_exit_by, number_or, rim_link, rim_links_by, rim_outlet, rim_outlets_by, outlet_by, AreOutlets}
 use Rattle.flow.proofs.Windows.{every_in_range}
 use Rattle.flow.proofs.Ending.{IsStop, streams_from, node_after-first, node_after-inside}
@@ -70,16 +70,16 @@ outlet_unlisted t flows listed p f n = cond-false {A =
     (get_or listed (rim_number t p) None) None) f ∙ cond-false {A = Option Place} _ _ _ n
 
 pub targets_size : (t : Cutting) (flows : List Flow) (targets : List (Option Place)) →
-    targets ≡ targets_by t flows → length targets ≡ number_count t
+    targets ≡ targets_by t flows → length targets ≡ rim_number_count t
 targets_size t flows targets made = ap length made
-    ∙ length-map-range_with_len (target_by t flows) 0 (number_count t)
+    ∙ length-map-range_with_len (target_by t flows) 0 (rim_number_count t)
 
 pub target_listed : (t : Cutting) (flows : List Flow) (targets : List (Option Place)) →
-    targets ≡ targets_by t flows → (i : ℕ) → i < number_count t →
+    targets ≡ targets_by t flows → (i : ℕ) → i < rim_number_count t →
     get_or targets i None ≡ target_by t flows i
 target_listed t flows targets made i h =
     ap (λ l. get_or l i None) made
-    ∙ get_or-map-range_with_len (target_by t flows) 0 (number_count t) i i None h (omega arith)
+    ∙ get_or-map-range_with_len (target_by t flows) 0 (rim_number_count t) i i None h (omega arith)
 
 pub target_in_tile : (t : Cutting) (flows : List Flow) (tile side : ℕ) (f : Flow) →
     side < stride (bounds_of t 0) → slice_get flows tile ≡ Some f →
@@ -133,11 +133,11 @@ module _ (d : Directed) (t : Cutting) (flows : List Flow) (s : AreFlowsOf d t fl
       unwrap_or (option_and_then (λ code. place_toward code p) o) p) (right.same_codes p i)
 
   -- A data cell whose direction leads into another tile.
-  pub record Crosses (p : Place) : Type 0 where
+  pub record LeavesTile (p : Place) : Type 0 where
     pub coded : IsCoded d p
     pub apart : tile_of_place t (next d p) ≢ tile_of_place t p
 
-  pub touching : (p : Place) → Crosses p → Touches p (next d p)
+  pub touching : (p : Place) → LeavesTile p → Touches p (next d p)
   touching p c =
       let at : next d p ≡ unwrap_or (place_toward c.coded.code p) p = ap (λ (o : Option ℕ).
       unwrap_or (option_and_then (λ code. place_toward code p) o) p) c.coded.is in
@@ -148,7 +148,7 @@ module _ (d : Directed) (t : Cutting) (flows : List Flow) (s : AreFlowsOf d t fl
             ∙ ap (λ (o : Option Place). unwrap_or o p) q.1)) (toward_touches p q.0 c.coded.code q.1)
       ]
 
-  on_side : (p : Place) → Crosses p → IsSide (bounds_of t (tile_of_place t p)) p
+  on_side : (p : Place) → LeavesTile p → IsSide (bounds_of t (tile_of_place t p)) p
   on_side p c a b e =
       let w = within_of p c.coded in
       let i = in_bounds t (tile_of_place t p) p s.cutting (w, refl) in
@@ -165,21 +165,21 @@ module _ (d : Directed) (t : Cutting) (flows : List Flow) (s : AreFlowsOf d t fl
         )).1)
       ]
 
-  pub back : (p : Place) → Crosses p → rim_place t (rim_number t p) ≡ p
+  pub back : (p : Place) → LeavesTile p → rim_place t (rim_number t p) ≡ p
   back p c = number_back t s.cutting p (within_of p c.coded) (on_side p c)
 
   abbrev going_out : Flow → Place → Option Place
   going_out f p =
       cond {A = Option Place} (is_in_bounds f.bounds (next_in f p)) None (Some (next_in f p))
 
-  out_of_bounds : (p : Place) → Crosses p →
+  out_of_bounds : (p : Place) → LeavesTile p →
       is_in_bounds (bounds_of t (tile_of_place t p)) (next d p) ≡ false
   out_of_bounds p c =
       let below = tile_of_place_below t p s.cutting (within_of p c.coded) in
       false_from_ne_true _ (λ y. c.apart (in_tile t (tile_of_place t p) (next d p) s.cutting below
       (in_bounds_parts (bounds_of t (tile_of_place t p)) (next d p) y)).1)
 
-  pub target_on : (p : Place) → Crosses p → target_by t flows (rim_number t p) ≡ Some (next d p)
+  pub target_on : (p : Place) → LeavesTile p → target_by t flows (rim_number t p) ≡ Some (next d p)
   target_on p c =
       let w = within_of p c.coded in
       let f = flow_of p w in
@@ -202,12 +202,12 @@ module _ (d : Directed) (t : Cutting) (flows : List Flow) (s : AreFlowsOf d t fl
       ∙ ap Some next_is
 
   pub record IsTarget (i : ℕ) (q : Place) : Type 0 where
-    pub crosses : Crosses (rim_place t i)
+    pub crosses : LeavesTile (rim_place t i)
     pub number : rim_number t (rim_place t i) ≡ i
     pub is : q ≡ next d (rim_place t i)
 
   crosses_from : (tile : ℕ) (p : Place) → IsInTile t tile p →
-      is_in_bounds (bounds_of t tile) (next d p) ≡ false → Crosses p
+      is_in_bounds (bounds_of t tile) (next d p) ≡ false → LeavesTile p
   crosses_from tile p i f =
       let out : (IsInBounds (bounds_of t tile) (next d p) → ⊥) =
       λ inside. false≢true (sym f ∙ in_bounds_from _ _ inside) in
@@ -221,15 +221,15 @@ module _ (d : Directed) (t : Cutting) (flows : List Flow) (s : AreFlowsOf d t fl
         }
       ]
 
-  target_of_cell : (i : ℕ) (p q : Place) → rim_place t i ≡ p → rim_number t p ≡ i → Crosses p →
+  target_of_cell : (i : ℕ) (p q : Place) → rim_place t i ≡ p → rim_number t p ≡ i → LeavesTile p →
       q ≡ next d p → IsTarget i q
   target_of_cell i p q place number crosses is = record {
-    crosses = subst (λ (z : Place). Crosses z) (sym place) crosses;
+    crosses = subst (λ (z : Place). LeavesTile z) (sym place) crosses;
     number = ap (rim_number t) place ∙ number;
     is = is ∙ ap (next d) (sym place);
   }
 
-  -- The target of a rim number is where its cell's water enters another tile.
+  -- The target of a rim number is the place in another tile that its cell flows into.
   target_from_cell : (i : ℕ) (f : Flow) (p q : Place) →
       IsTileExits d t (i / stride (bounds_of t 0)) f → i / stride (bounds_of t 0) < tile_count t →
       IsCellOf (bounds_of t 0) (bounds_of t (i / stride (bounds_of t 0)))
@@ -334,7 +334,7 @@ module _ (d : Directed) (t : Cutting) (flows : List Flow) (s : AreFlowsOf d t fl
         },
       )
 
-  pub not_outlet : (e : Place) → Crosses e → is_outlet_code (code_at d e) ≡ false
+  pub not_outlet : (e : Place) → LeavesTile e → is_outlet_code (code_at d e) ≡ false
   not_outlet e c = false_from_ne_true _ (λ y.
       c.apart (ap (tile_of_place t) (outlet_stays d e (outlet_from_code (code_at d e) y))))
 
@@ -359,12 +359,13 @@ module _ (d : Directed) (t : Cutting) (flows : List Flow) (s : AreFlowsOf d t fl
   -- Rim number i has a next exit into another tile, `to`, and is linked to its number.
   pub record NextExit (i : ℕ) : Type 0 where
     pub to : Place
-    pub crosses : Crosses to
+    pub crosses : LeavesTile to
     pub steps : ℕ
     pub still : stays d t (next d (rim_place t i)) steps ≡ true
     pub way : follow d (rim_place t i) (suc steps) ≡ to
     pub link : rim_link t flows i ≡ rim_number t to
 
+  -- Rim number i is a last exit, linked to itself: its water ends at outlet `to` in the next tile.
   pub record LastExit (i : ℕ) : Type 0 where
     pub to : Place
     pub steps : ℕ
@@ -376,8 +377,9 @@ module _ (d : Directed) (t : Cutting) (flows : List Flow) (s : AreFlowsOf d t fl
   abbrev link_by : ℕ → Option Place → ℕ
   link_by i o = number_or t i (option_and_then (λ q. next_exit_by t flows q) o)
 
-  pub targets_on : (i : ℕ) (q : Place) → target_by t flows i ≡ Some q → NextExit i ⊎ LastExit i
-  targets_on i q e =
+  pub next_or_last_exit : (i : ℕ) (q : Place) → target_by t flows i ≡ Some q → NextExit i ⊎
+      LastExit i
+  next_or_last_exit i q e =
       let x = target_from i q e in
       let is = (target_within i q e).0 in
       let y = exit_here q is in
@@ -396,7 +398,7 @@ module _ (d : Directed) (t : Cutting) (flows : List Flow) (s : AreFlowsOf d t fl
           link = link ∙ ap (number_or t i) (cond-true {A = Option Place} _ None (Some y.0)
               (ap is_outlet_code out));
         })
-        | inr apart ↦ (let c : Crosses y.0 =
+        | inr apart ↦ (let c : LeavesTile y.0 =
             record { coded = (exit_in_tile q y.0 is leads).0; apart = apart } in
             inl (record {
               to = y.0;
@@ -412,32 +414,33 @@ module _ (d : Directed) (t : Cutting) (flows : List Flow) (s : AreFlowsOf d t fl
   pub untargeted : (i : ℕ) → target_by t flows i ≡ None → rim_link t flows i ≡ i
   untargeted i e = ap (link_by i) e
 
-  pub to_below : (p : Place) → Crosses p → rim_number t p < number_count t
+  pub to_below : (p : Place) → LeavesTile p → rim_number t p < rim_number_count t
   to_below p c = number_below t s.cutting p (within_of p c.coded)
 
-  no_cycle : (n : ℕ) (p e : Place) (k : ℕ) → follow d p (suc k) ≡ e → e ≡ p → Crosses p →
+  no_cycle : (n : ℕ) (p e : Place) (k : ℕ) → follow d p (suc k) ≡ e → e ≡ p → LeavesTile p →
       StopsAt d p n → ⊥
   no_cycle n p e k way same c stop =
       c.apart (ap (tile_of_place t) (cycle_stops d n p k (way ∙ same) stop))
 
   module _ (links : List ℕ) (made : links ≡ rim_links_by t flows) where
-    pub links_size : length links ≡ number_count t
-    links_size = ap length made ∙ length-map-range_with_len (rim_link t flows) 0 (number_count t)
+    pub links_size : length links ≡ rim_number_count t
+    links_size = ap length made ∙ length-map-range_with_len (rim_link t flows) 0
+        (rim_number_count t)
 
-    pub link_at : (i : ℕ) → i < number_count t → onward links i ≡ rim_link t flows i
+    pub link_at : (i : ℕ) → i < rim_number_count t → onward links i ≡ rim_link t flows i
     link_at i h = ap (λ (l : List ℕ). get_or l i 0) made
-        ∙ get_or-map-range_with_len (rim_link t flows) 0 (number_count t) i i 0 h (omega arith)
+        ∙ get_or-map-range_with_len (rim_link t flows) 0 (rim_number_count t) i i 0 h (omega arith)
 
-    links_in : (i : ℕ) → i < number_count t → onward links i < number_count t
+    links_in : (i : ℕ) → i < rim_number_count t → onward links i < rim_number_count t
     links_in i h = elim (cases_option (target_by t flows i)) [
       | inl none ↦ omega (arith, link_at i h, untargeted i none)
-      | inr q ↦ elim (targets_on i q.0 q.1) [
+      | inr q ↦ elim (next_or_last_exit i q.0 q.1) [
         | inl g ↦ omega (arith, link_at i h, g.link, to_below g.to g.crosses)
         | inr e ↦ omega (arith, link_at i h, e.link)
       ]
     ]
 
-    stop_within : (n i : ℕ) → i < number_count t → ((q : Place) → target_by t flows i ≡ Some q →
+    stop_within : (n i : ℕ) → i < rim_number_count t → ((q : Place) → target_by t flows i ≡ Some q →
         StopsAt d (rim_place t i) n) → (m : ℕ) × IsStop links i m
     stop_within zero i h stop = elim (cases_option (target_by t flows i)) [
       | inl none ↦ (0, link_at i h ∙ untargeted i none)
@@ -445,7 +448,7 @@ module _ (d : Directed) (t : Cutting) (flows : List Flow) (s : AreFlowsOf d t fl
     ]
     stop_within (suc n) i h stop = elim (cases_option (target_by t flows i)) [
       | inl none ↦ (0, link_at i h ∙ untargeted i none)
-      | inr q ↦ elim (targets_on i q.0 q.1) [
+      | inr q ↦ elim (next_or_last_exit i q.0 q.1) [
         | inr e ↦ (0, link_at i h ∙ e.link)
         | inl g ↦ (let there = subst (λ (z : Place). StopsAt d z n) (sym (back g.to g.crosses))
             (stops_sooner d (rim_place t i) g.to g.steps n g.way (stop q.0 q.1)) in
@@ -470,10 +473,11 @@ module _ (d : Directed) (t : Cutting) (flows : List Flow) (s : AreFlowsOf d t fl
       pub target : target_by t flows j ≡ Some entry
       pub last : last_of d (rim_place t j) ≡ last_of d (rim_place t i)
 
-    step_on : (i j : ℕ) → j < number_count t → SharesOutlet i j → SharesOutlet i (onward links j)
+    step_on : (i j : ℕ) → j < rim_number_count t → SharesOutlet i j → SharesOutlet i
+        (onward links j)
     step_on i j h o =
         let c = (target_from j o.entry o.target).crosses in
-        elim (targets_on j o.entry o.target) [
+        elim (next_or_last_exit j o.entry o.target) [
           | inr e ↦ subst (λ (n : ℕ). SharesOutlet i n) (sym (link_at j h ∙ e.link)) o
           | inl g ↦ subst (λ (n : ℕ). SharesOutlet i n) (sym (link_at j h ∙ g.link)) (record {
             entry = next d g.to;
@@ -483,7 +487,8 @@ module _ (d : Directed) (t : Cutting) (flows : List Flow) (s : AreFlowsOf d t fl
           })
         ]
 
-    on_way : (i : ℕ) → i < number_count t → (q : Place) → target_by t flows i ≡ Some q → (k : ℕ) →
+    on_way : (i : ℕ) → i < rim_number_count t → (q : Place) → target_by t flows i ≡ Some q →
+        (k : ℕ) →
         SharesOutlet i (node_after links i k)
     on_way i h q e zero = record { entry = q; target = e; last = refl }
     on_way i h q e (suc k) =
@@ -493,11 +498,12 @@ module _ (d : Directed) (t : Cutting) (flows : List Flow) (s : AreFlowsOf d t fl
 
     module _ (ends : List ℕ) (found : AreEnds links ends) where
       -- If water leaves its tile at i, the end of i's path along links gives the water's outlet.
-      pub outlet_of : (i : ℕ) → i < number_count t → (q : Place) → target_by t flows i ≡ Some q →
+      pub outlet_of : (i : ℕ) → i < rim_number_count t → (q : Place) →
+          target_by t flows i ≡ Some q →
           rim_outlet t flows ends i ≡ Some (last_of d (rim_place t i))
       outlet_of i h q e =
           let here : i < length links = omega (arith, h, links_size) in
-          let below : end_of links i < number_count t =
+          let below : end_of links i < rim_number_count t =
           omega (arith, node_after-inside links rim_streams i here (length links), links_size) in
           let o = on_way i h q e (length links) in
           let c = (target_from (end_of links i) o.entry o.target).crosses in
@@ -507,7 +513,7 @@ module _ (d : Directed) (t : Cutting) (flows : List Flow) (s : AreFlowsOf d t fl
           option_and_then (λ q. exit_by t flows q) (target_by t flows (get_or ends i 0))) x) e
           ∙ ap (λ n. option_and_then (λ q. exit_by t flows q) (target_by t flows n))
           (found.each i here) in
-          elim (targets_on (end_of links i) o.entry o.target) [
+          elim (next_or_last_exit (end_of links i) o.entry o.target) [
             | inr x ↦ first ∙ x.exit
                 ∙ ap Some (sym (last_here x.to x.outlet) ∙ last_same
                 (rim_place t (end_of links i)) x.to (suc x.steps) c.coded x.way ∙ o.last)
@@ -520,9 +526,10 @@ module _ (d : Directed) (t : Cutting) (flows : List Flow) (s : AreFlowsOf d t fl
 
       module _ (outlets : List (Option Place))
           (listed : outlets ≡ rim_outlets_by t flows ends) where
-        listed_at : (i : ℕ) → i < number_count t → get_or outlets i None ≡ rim_outlet t flows ends i
+        listed_at : (i : ℕ) → i < rim_number_count t → get_or outlets i None ≡ rim_outlet t flows
+            ends i
         listed_at i h = ap (λ (l : List (Option Place)). get_or l i None) listed
-            ∙ get_or-map-range_with_len (rim_outlet t flows ends) 0 (number_count t) i i None h
+            ∙ get_or-map-range_with_len (rim_outlet t flows ends) 0 (rim_number_count t) i i None h
             (omega arith)
 
         exit_outlet : (p : Place) → IsExitCell d t p →
@@ -533,7 +540,7 @@ module _ (d : Directed) (t : Cutting) (flows : List Flow) (s : AreFlowsOf d t fl
             elim x.1 [
               | inl out ↦ cond-true {A = Option Place} _ _ _
                   (ap is_outlet_code (code_here p w ∙ out)) ∙ ap Some (sym (last_here p out))
-              | inr apart ↦ (let c : Crosses p = record { coded = is; apart = apart } in
+              | inr apart ↦ (let c : LeavesTile p = record { coded = is; apart = apart } in
                   outlet_listed t flows outlets p (ap is_outlet_code (code_here p w)
                   ∙ not_outlet p c) (is_place_from _ _ (back p c))
                   ∙ listed_at (rim_number t p) (to_below p c)
@@ -555,7 +562,7 @@ module _ (d : Directed) (t : Cutting) (flows : List Flow) (s : AreFlowsOf d t fl
                     | inl none ↦ ap (λ (x : Option Place).
                         option_and_then (λ (z : Place). option_and_then (λ q. exit_by t flows q)
                         (target_by t flows (get_or ends (rim_number t p) 0))) x) none
-                    | inr q ↦ (let c = subst (λ (z : Place). Crosses z) (place_is _ _ y)
+                    | inr q ↦ (let c = subst (λ (z : Place). LeavesTile z) (place_is _ _ y)
                         (target_from (rim_number t p) q.0 q.1).crosses in
                         absurd (out (ap (λ (c : Option ℕ). is_some c) c.coded.is, inr c.apart)))
                   ]

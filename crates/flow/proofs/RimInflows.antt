@@ -11,14 +11,14 @@ use Rattle.terrain.specs.Neighbours.{is_place}
 use Rattle.flow.specs.Counts.{drains_through}
 use Rattle.flow.specs.Streams.{AreUpstream, sum_below}
 use Rattle.flow.specs.TileFlow.{Flow, AreTileCounts, inflow_of}
-use Rattle.tiles.specs.RimNumbers.{number_count, rim_number, rim_place}
+use Rattle.tiles.specs.RimNumbers.{rim_number_count, rim_number, rim_place}
 use Rattle.flow.specs.RimGraph.{AreFlowsOf, target_by, targets_by, rim_links_by}
 use Rattle.flow.specs.Inflows.{rim_weights_by, sent_to, entering, AreEntering, inflow_by, AreInflows}
 use Rattle.flow.proofs.Sums.{sum_below-same, sum_below-none, exchange, one_term, cond-sum}
 use Rattle.terrain.proofs.Options.{cases_option}
 use Rattle.flow.proofs.Coded.{IsCoded, coded_along, coded_from_some}
 use Rattle.tiles.proofs.RimNumbered.{IsSide, number_below, number_back}
-use Rattle.flow.proofs.RimFlows.{Crosses, within_of, touching, back, target_on, target_from, to_below, links_size, target_listed}
+use Rattle.flow.proofs.RimFlows.{LeavesTile, within_of, touching, back, target_on, target_from, to_below, links_size, target_listed}
 use Rattle.flow.proofs.Reaching.{drains_at, drains_from, enters_from_one, one_move, enters, enters_from, enters_at}
 use Rattle.flow.proofs.DrainedCells.{cell, drained, all_drained, entered, entered_few, inflow_sum, counted_on, counted_off, counted_none}
 use Rattle.flow.proofs.RimTotals.{ending, total_drained}
@@ -34,7 +34,7 @@ sent-sum t k (Some q) f n = cond-sum (eqb (rim_number t q) k) f n
 
 module _ (d : Directed) (t : Cutting) (flows : List Flow) (s : AreFlowsOf d t flows)
     (counts : AreTileCounts d t flows) where
-  entry_side : (p : Place) → Crosses d t flows s p →
+  entry_side : (p : Place) → LeavesTile d t flows s p →
       IsSide (bounds_of t (tile_of_place t (next d p))) (next d p)
   entry_side p c a b e =
       let coded = coded_along d s.ends p c.coded 1 in
@@ -53,7 +53,7 @@ module _ (d : Directed) (t : Cutting) (flows : List Flow) (s : AreFlowsOf d t fl
         )).1))
       ]
 
-  pub entry_back : (p : Place) → Crosses d t flows s p →
+  pub entry_back : (p : Place) → LeavesTile d t flows s p →
       rim_place t (rim_number t (next d p)) ≡ next d p
   entry_back p c = number_back t s.cutting (next d p)
       (within_of d t flows s (next d p) (coded_along d s.ends p c.coded 1)) (entry_side p c)
@@ -61,12 +61,12 @@ module _ (d : Directed) (t : Cutting) (flows : List Flow) (s : AreFlowsOf d t fl
   -- The flow path of q enters p from another tile, by the move after the first `steps` moves.
   record Enters (p q : Place) : Type 0 where
     pub steps : ℕ
-    pub crosses : Crosses d t flows s (follow d q steps)
+    pub crosses : LeavesTile d t flows s (follow d q steps)
     pub leads : next d (follow d q steps) ≡ p
 
-  enters_crossing : (p q : Place) → IsCoded d q →
+  enters_from_exit : (p q : Place) → IsCoded d q →
       list_any (enters d t p q) (range_with_len 0 (moves d - 1)) ≡ true → Enters p q
-  enters_crossing p q is y =
+  enters_from_exit p q is y =
       let x = enters_from d (ending d t flows s counts) t p q y in
       record {
         steps = x.0;
@@ -78,8 +78,9 @@ module _ (d : Directed) (t : Cutting) (flows : List Flow) (s : AreFlowsOf d t fl
       }
 
   -- A flow path enters p from at most one cell of another tile.
-  enters_once : (p q : Place) → IsCoded d q → (a b : ℕ) → Crosses d t flows s (follow d q a) →
-      next d (follow d q a) ≡ p → Crosses d t flows s (follow d q b) → next d (follow d q b) ≡ p →
+  enters_once : (p q : Place) → IsCoded d q → (a b : ℕ) → LeavesTile d t flows s (follow d q a) →
+      next d (follow d q a) ≡ p → LeavesTile d t flows s (follow d q b) → next d
+      (follow d q b) ≡ p →
       follow d q a ≡ follow d q b
   enters_once p q is a b c first x second =
       let e = ending d t flows s counts in
@@ -94,7 +95,7 @@ module _ (d : Directed) (t : Cutting) (flows : List Flow) (s : AreFlowsOf d t fl
 
   -- Rim number i has an exit into another tile, whose direction leads to p.
   record LeadsTo (p : Place) (i : ℕ) : Type 0 where
-    pub crosses : Crosses d t flows s (rim_place t i)
+    pub crosses : LeavesTile d t flows s (rim_place t i)
     pub number : rim_number t (rim_place t i) ≡ i
     pub leads : next d (rim_place t i) ≡ p
 
@@ -129,9 +130,9 @@ module _ (d : Directed) (t : Cutting) (flows : List Flow) (s : AreFlowsOf d t fl
   ]
 
   pieces_are : (p : Place) → rim_place t (rim_number t p) ≡ p → (c : ℕ) →
-      sum_below (piece p c) (number_count t) ≡ entered d t p (cell d c)
+      sum_below (piece p c) (rim_number_count t) ≡ entered d t p (cell d c)
   pieces_are p on c = elim (cases_Bool (is_some (code_at d (cell d c)))) [
-    | inr f ↦ sum_below-none (piece p c) (number_count t) (λ i h.
+    | inr f ↦ sum_below-none (piece p c) (rim_number_count t) (λ i h.
         ap (sent_to t (rim_number t p) (target_by t flows i)) (counted_none d (cell d c) _ f)
         ∙ sent-none t (rim_number t p) (target_by t flows i))
         ∙ sym (cond-false {A = ℕ} _ 1 0 (and_left _ _ f))
@@ -139,11 +140,11 @@ module _ (d : Directed) (t : Cutting) (flows : List Flow) (s : AreFlowsOf d t fl
         let is = coded_from_some d (cell d c) some in
         elim (cases_Bool (list_any (enters d t p (cell d c)) (range_with_len 0 (moves d - 1)))) [
           | inl y ↦
-              let x = enters_crossing p (cell d c) is y in
-              one_term (piece p c) (number_count t) (rim_number t (follow d (cell d c) x.steps))
+              let x = enters_from_exit p (cell d c) is y in
+              one_term (piece p c) (rim_number_count t) (rim_number t (follow d (cell d c) x.steps))
               (to_below d t flows s (follow d (cell d c) x.steps) x.crosses)
               (λ i h ne. piece_off p on c i (λ m at l.
-              let same = enters_once p (cell d c) is m x.steps (subst (λ (z : Place). Crosses d t
+              let same = enters_once p (cell d c) is m x.steps (subst (λ (z : Place). LeavesTile d t
               flows s z) (sym at) l.crosses) (ap (next d) at ∙ l.leads) x.crosses x.leads in
               ne (sym l.number ∙ ap (rim_number t) (sym at ∙ same))))
               ∙ ap (λ (o : Option Place). sent_to t (rim_number t p) o
@@ -157,7 +158,7 @@ module _ (d : Directed) (t : Cutting) (flows : List Flow) (s : AreFlowsOf d t fl
               (follow d (cell d c) x.steps) is x.steps refl)
               ∙ sym (cond-true {A = ℕ} _ 1 0 (and_from _ _ some y))
           | inr n ↦
-              sum_below-none (piece p c) (number_count t) (λ i h. piece_off p on c i (λ m at l.
+              sum_below-none (piece p c) (rim_number_count t) (λ i h. piece_off p on c i (λ m at l.
               false≢true (sym n ∙ enters_at d (ending d t flows s counts) t p (cell d c) is m
               (ap (next d) at ∙ l.leads)
               (λ z.
@@ -175,7 +176,7 @@ module _ (d : Directed) (t : Cutting) (flows : List Flow) (s : AreFlowsOf d t fl
             (list_any (enters d t p (cell d c)) (range_with_len 0 (moves d - 1)))) [
               | inr n ↦ cond-false {A = ℕ} _ 1 0 (and_right _ _ n)
               | inl y ↦
-                  (let x = enters_crossing p (cell d c) (coded_from_some d (cell d c) some) y in
+                  (let x = enters_from_exit p (cell d c) (coded_from_some d (cell d c) some) y in
                   absurd (off (ap (λ z. rim_place t (rim_number t z)) (sym x.leads)
                   ∙ entry_back (follow d (cell d c) x.steps) x.crosses ∙ x.leads)))
             ]
@@ -185,7 +186,7 @@ module _ (d : Directed) (t : Cutting) (flows : List Flow) (s : AreFlowsOf d t fl
       (asked : targets ≡ targets_by t flows) (made : links ≡ rim_links_by t flows)
       (weighed : weights ≡ rim_weights_by t flows) (up : AreUpstream links weights upstream) where
     -- Each rim number sends to its target the number of all cells that drain through its cell.
-    sends : (k i : ℕ) → i < number_count t → entering t targets weights upstream k i
+    sends : (k i : ℕ) → i < rim_number_count t → entering t targets weights upstream k i
         ≡ sent_to t k (target_by t flows i) (all_drained d (rim_place t i))
     sends k i h =
         let at = up.each i (omega (arith, h, links_size d t flows s links made)) in
@@ -201,24 +202,24 @@ module _ (d : Directed) (t : Cutting) (flows : List Flow) (s : AreFlowsOf d t fl
 
     -- All amounts sent to a place on the rim add up to its inflow.
     entering_is : (p : Place) → rim_place t (rim_number t p) ≡ p →
-        sum_below (entering t targets weights upstream (rim_number t p)) (number_count t)
+        sum_below (entering t targets weights upstream (rim_number t p)) (rim_number_count t)
         ≡ sum_below (λ c. entered d t p (cell d c)) (d.rows * d.cols)
     entering_is p on =
         sum_below-same (entering t targets weights upstream (rim_number t p)) (λ i.
-        sum_below (λ c. piece p c i) (d.rows * d.cols)) (number_count t)
+        sum_below (λ c. piece p c i) (d.rows * d.cols)) (rim_number_count t)
         (λ i h. sends (rim_number t p) i h ∙ sent-sum t (rim_number t p) (target_by t flows i)
         (λ c. drained d (rim_place t i) (cell d c)) (d.rows * d.cols))
-        ∙ exchange (λ i c. piece p c i) (number_count t) (d.rows * d.cols)
-        ∙ sum_below-same (λ c. sum_below (piece p c) (number_count t)) (λ c.
+        ∙ exchange (λ i c. piece p c i) (rim_number_count t) (d.rows * d.cols)
+        ∙ sum_below-same (λ c. sum_below (piece p c) (rim_number_count t)) (λ c.
         entered d t p (cell d c)) (d.rows * d.cols) (λ c h. pieces_are p on c)
 
     pub entering_few : (k : ℕ) →
-        sum_below (entering t targets weights upstream k) (number_count t) ≤ 16777216
+        sum_below (entering t targets weights upstream k) (rim_number_count t) ≤ 16777216
     entering_few k =
         elim (cases_eq (rim_number t (rim_place t k)) k) [
           | inl e ↦
               let same = ap (λ n.
-              sum_below (entering t targets weights upstream n) (number_count t)) (sym e) in
+              sum_below (entering t targets weights upstream n) (rim_number_count t)) (sym e) in
               omega (
                 arith,
                 same,
@@ -228,7 +229,8 @@ module _ (d : Directed) (t : Cutting) (flows : List Flow) (s : AreFlowsOf d t fl
           | inr ne ↦
               omega (
                 arith,
-                sum_below-none (entering t targets weights upstream k) (number_count t) (λ i h. ap
+                sum_below-none (entering t targets weights upstream k) (rim_number_count t)
+                    (λ i h. ap
                     (λ (o : Option Place). sent_to t k o (get_or upstream i 0 + get_or weights i 0))
                     (target_listed t flows targets asked i h)
                     ∙ elim (cases_option (target_by t flows i)) [

@@ -12,7 +12,7 @@ use Rattle.terrain.specs.Neighbours.{is_place}
 use Rattle.flow.specs.Counts.{drains_through}
 use Rattle.flow.specs.Streams.{onward, leads_to, upstream_sum, sum_below, total, total_within}
 use Rattle.flow.specs.TileFlow.{Flow, AreTileCounts, stays, reaches_inside, IsExitOf, through_in}
-use Rattle.tiles.specs.RimNumbers.{number_count, rim_number, rim_place}
+use Rattle.tiles.specs.RimNumbers.{rim_number_count, rim_number, rim_place}
 use Rattle.flow.specs.RimGraph.{AreFlowsOf, target_by, next_exit_by, number_or, rim_links_by}
 use Rattle.flow.specs.Inflows.{rim_weight, rim_weights_by, weight_or, through_by}
 use Rattle.flow.proofs.Sums.{cond_same, sum_below-same, sum_below-add, sum_below-none, exchange, one_term, cond-sum}
@@ -20,7 +20,7 @@ use Rattle.flow.proofs.Windows.{some_in_range, any_in_range, every_in_range}
 use Rattle.flow.proofs.Totals.{each_downstream, totals_are, sums_same, leads_parts, leads_from}
 use Rattle.terrain.proofs.Options.{cases_option}
 use Rattle.flow.proofs.Coded.{IsCoded, coded_along, coded_from_some, outlet_stays, follow_stays, follow_more, follow_first}
-use Rattle.flow.proofs.RimFlows.{Crosses, NextExit, flow_of, within_of, back, target_on, target_from, exit_here, not_outlet, to_below, targets_on, untargeted, links_size, link_at, rim_streams}
+use Rattle.flow.proofs.RimFlows.{LeavesTile, NextExit, flow_of, within_of, back, target_on, target_from, exit_here, not_outlet, to_below, next_or_last_exit, untargeted, links_size, link_at, rim_streams}
 use Rattle.flow.proofs.Reaching.{IsEnding, ending_of, still_at, still_from, reached_early, drains_at, drains_from, EntersRegion, stays_or_enters, never_enters, enters_from_one}
 use Rattle.flow.proofs.DrainedCells.{cell, drained, all_drained, drained_few, drained_inside, all_drained_inside, drained_inside_few, through_is, counted_on, counted_off, counted_none}
 
@@ -30,11 +30,11 @@ module _ (d : Directed) (t : Cutting) (flows : List Flow) (s : AreFlowsOf d t fl
   ending = ending_of d t s.ends s.cutting s.of_tiles.size
 
   -- If q's flow path leaves a tile at c, c is the exit e of q, or the path leaves by e before c.
-  crossing_at : (q e c : Place) → IsExitOf d t q e → (m : ℕ) → follow d q m ≡ c →
-      Crosses d t flows s c →
+  leaves_at : (q e c : Place) → IsExitOf d t q e → (m : ℕ) → follow d q m ≡ c →
+      LeavesTile d t flows s c →
       (c ≡ e)
       ⊎ ((k : ℕ) × (k < m) × (follow d q k ≡ e) × (tile_of_place t (next d e) ≢ tile_of_place t e))
-  crossing_at q e c x m way cr = elim (cases_lt m x.0) [
+  leaves_at q e c x m way cr = elim (cases_lt m x.0) [
     | inl l ↦ (let at : (j : ℕ) → j < x.0 + 1 → tile_of_place t (follow d q j) ≡ tile_of_place t q =
         λ j h. eqb-true _ _ (every_in_range
         (λ j. eqb (tile_of_place t (follow d q j)) (tile_of_place t q)) (x.0 + 1) x.2 j h) in
@@ -78,7 +78,7 @@ module _ (d : Directed) (t : Cutting) (flows : List Flow) (s : AreFlowsOf d t fl
 
   module _ (links : List ℕ) (made : links ≡ rim_links_by t flows) where
     -- If j is linked to i, water from j leaves the next tile by exit i.
-    leads_out : (i j : ℕ) → j < number_count t →
+    leads_out : (i j : ℕ) → j < rim_number_count t →
         leads_to links j i ≡ true → (g : NextExit d t flows s j) × (rim_number t g.to ≡ i) ×
         (q : Place)
         × (target_by t flows j ≡ Some q)
@@ -87,15 +87,15 @@ module _ (d : Directed) (t : Cutting) (flows : List Flow) (s : AreFlowsOf d t fl
         let at = link_at d t flows s links made j h in
         elim (cases_option (target_by t flows j)) [
           | inl none ↦ absurd (l.1 (sym (at ∙ untargeted d t flows s j none) ∙ l.0))
-          | inr q ↦ elim (targets_on d t flows s j q.0 q.1) [
+          | inr q ↦ elim (next_or_last_exit d t flows s j q.0 q.1) [
             | inr stop ↦ absurd (l.1 (sym (at ∙ stop.link) ∙ l.0))
             | inl g ↦ (g, sym (at ∙ g.link) ∙ l.0, q.0, q.1)
           ]
         ]
 
     -- Exit e is linked to the exit of the place that e flows into, if both lead into other tiles.
-    link_on : (e : Place) → Crosses d t flows s e → (is : IsCoded d (next d e)) →
-        Crosses d t flows s (exit_here d t flows s (next d e) is).0 →
+    link_on : (e : Place) → LeavesTile d t flows s e → (is : IsCoded d (next d e)) →
+        LeavesTile d t flows s (exit_here d t flows s (next d e) is).0 →
         onward links (rim_number t e) ≡ rim_number t (exit_here d t flows s (next d e) is).0
     link_on e c is to =
         let x = exit_here d t flows s (next d e) is in
@@ -114,7 +114,7 @@ module _ (d : Directed) (t : Cutting) (flows : List Flow) (s : AreFlowsOf d t fl
       abbrev term : ℕ → ℕ
       term j = cond {A = ℕ} (leads_to links j i) (drained d (rim_place t j) c) 0
 
-      term_off : (j : ℕ) → j < number_count t →
+      term_off : (j : ℕ) → j < rim_number_count t →
           ((k : ℕ) → follow d c k ≡ rim_place t i → (x : EntersRegion d ending In c k) →
           follow d c x.from ≡ rim_place t j → rim_number t (rim_place t j) ≡ j → ⊥) → term j ≡ 0
       term_off j h none = elim (cases_Bool (leads_to links j i)) [
@@ -199,9 +199,10 @@ module _ (d : Directed) (t : Cutting) (flows : List Flow) (s : AreFlowsOf d t fl
             ])
       ]
         where
-          -- The exit by which the water enters the tile is linked to i.
+          -- The exit by which the flow path of c enters the tile of exit i is linked to i.
           linked : (k : ℕ) → follow d c k ≡ rim_place t i →
-              (x : EntersRegion d ending In c k) → (cr : Crosses d t flows s (follow d c x.from)) →
+              (x : EntersRegion d ending In c k) → (cr : LeavesTile d t flows s
+              (follow d c x.from)) →
               onward links (rim_number t (follow d c x.from)) ≡ i
           linked k at x cr =
               let coded = coded_along d s.ends c is (suc x.from) in
@@ -211,7 +212,7 @@ module _ (d : Directed) (t : Cutting) (flows : List Flow) (s : AreFlowsOf d t fl
               ≡ follow d c (suc x.from + l) = λ l. follow_more d c (suc x.from) l in
               let all : suc x.from + (k - suc x.from) ≡ k = omega (arith, x.before) in
               let same : rim_place t i ≡ e.0 =
-              elim (crossing_at (next d (follow d c x.from)) e.0 (rim_place t i) e.1.leads
+              elim (leaves_at (next d (follow d c x.from)) e.0 (rim_place t i) e.1.leads
               (k - suc x.from) (on (k - suc x.from) ∙ ap (follow d c) all ∙ at) here.crosses) [
                 | inl y ↦ y
                 | inr far ↦ absurd (far.3 (ap (λ p. tile_of_place t (next d p)) (sym far.2)
@@ -220,7 +221,7 @@ module _ (d : Directed) (t : Cutting) (flows : List Flow) (s : AreFlowsOf d t fl
                     ∙ sym (ap (tile_of_place t) (sym far.2 ∙ on far.0)
                     ∙ x.inside (suc x.from + far.0) (omega arith) (omega (arith, far.1)))))
               ] in
-              link_on (follow d c x.from) cr coded (subst (λ (p : Place). Crosses d t flows s p)
+              link_on (follow d c x.from) cr coded (subst (λ (p : Place). LeavesTile d t flows s p)
               same here.crosses) ∙ ap (rim_number t) (sym same) ∙ here.number
 
           from_outside : drains_through d (rim_place t i) c ≡ true → (k : ℕ) →
@@ -230,7 +231,7 @@ module _ (d : Directed) (t : Cutting) (flows : List Flow) (s : AreFlowsOf d t fl
           from_outside y k at x =
               let entry : In (next d (follow d c x.from)) =
               x.inside (suc x.from) (omega arith) (omega (arith, x.before)) in
-              let cr : Crosses d t flows s (follow d c x.from) = record {
+              let cr : LeavesTile d t flows s (follow d c x.from) = record {
                 coded = coded_along d s.ends c is x.from;
                 apart = λ z. x.outside (sym z ∙ entry);
               } in
@@ -260,7 +261,7 @@ module _ (d : Directed) (t : Cutting) (flows : List Flow) (s : AreFlowsOf d t fl
                     is (drains_at d ending c _ is x.from (sym place)),
               )
 
-    none_leads : (i j : ℕ) → target_by t flows i ≡ None → j < number_count t →
+    none_leads : (i j : ℕ) → target_by t flows i ≡ None → j < rim_number_count t →
         leads_to links j i ≡ false
     none_leads i j none h = false_from_ne_true _ (λ y. (let o = leads_out i j h y in
         none-some (next d o.0.to) (sym none ∙ ap (target_by t flows) (sym o.1)
@@ -303,21 +304,23 @@ module _ (d : Directed) (t : Cutting) (flows : List Flow) (s : AreFlowsOf d t fl
         ]
 
     module _ (weights : List ℕ) (weighed : weights ≡ rim_weights_by t flows) where
-      pub weights_size : length weights ≡ number_count t
+      pub weights_size : length weights ≡ rim_number_count t
       weights_size = ap length weighed
-          ∙ length-map-range_with_len (rim_weight t flows) 0 (number_count t)
+          ∙ length-map-range_with_len (rim_weight t flows) 0 (rim_number_count t)
 
-      weight_at : (i : ℕ) → i < number_count t → get_or weights i 0 ≡ rim_weight t flows i
+      weight_at : (i : ℕ) → i < rim_number_count t → get_or weights i 0 ≡ rim_weight t flows i
       weight_at i h = ap (λ (l : List ℕ). get_or l i 0) weighed
-          ∙ get_or-map-range_with_len (rim_weight t flows) 0 (number_count t) i i 0 h (omega arith)
+          ∙ get_or-map-range_with_len (rim_weight t flows) 0 (rim_number_count t) i i 0 h
+          (omega arith)
 
-      numbered : (i : ℕ) → i < length links → i < number_count t
+      numbered : (i : ℕ) → i < length links → i < rim_number_count t
       numbered i h = omega (arith, h, links_size d t flows s links made)
 
-      linked : (i : ℕ) → i < number_count t → i < length links
+      linked : (i : ℕ) → i < rim_number_count t → i < length links
       linked i h = omega (arith, h, links_size d t flows s links made)
 
-      pub total_drained : (i : ℕ) (q : Place) → i < number_count t → target_by t flows i ≡ Some q →
+      pub total_drained : (i : ℕ) (q : Place) → i < rim_number_count t →
+          target_by t flows i ≡ Some q →
           total links weights i ≡ all_drained d (rim_place t i)
       total_drained i q h e =
           each_downstream links (rim_streams d t flows s links made) (λ k i. (q : Place) → target_by
@@ -332,7 +335,7 @@ module _ (d : Directed) (t : Cutting) (flows : List Flow) (s : AreFlowsOf d t fl
           ))
           i (linked i h) q e
 
-      pub total_few : (i : ℕ) → i < number_count t → total links weights i ≤ 16777216
+      pub total_few : (i : ℕ) → i < rim_number_count t → total links weights i ≤ 16777216
       total_few i h = elim (cases_option (target_by t flows i)) [
         | inr q ↦ omega (arith, total_drained i q.0 h q.1, drained_few d ending (rim_place t i))
         | inl none ↦ omega (

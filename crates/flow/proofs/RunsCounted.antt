@@ -6,7 +6,7 @@ use Rattle.std.proofs.Math.Seq.{take-add, take-length}
 use Rattle.std.proofs.lemmas.List.{get_or_default, take-take, length-take}
 use Rattle.std.proofs.lemmas.List.Sums.{sum_by-append, sum_by_more, count_by-le-length}
 use Rattle.std.proofs.lemmas.Option.{get_or_from_slice_get, slice_get_cases, slice_get_within}
-use Rattle.tile_jobs.specs.Answers.{AreResults}
+use Rattle.tile_jobs.specs.Results.{AreResults}
 use Rattle.flow.specs.Whole.{is_outlet_code}
 use Rattle.flow.specs.OutletRuns.{CodeRuns, AreCodeRuns, IsRunCounted, AreRunsCounted, run_start, run_codes}
 use Rattle.flow.specs.declared.outlet_runs.RunCounts.{RunCounts}
@@ -123,7 +123,8 @@ module _ (r : CodeRuns) (counts : List RunCounts) (before : List ℕ) (are : Are
         s.sums.each k (omega (arith, run_below k at, s.sums.size)),
       )
 
-  -- The sum of the two counts is the number of outlets before i, and 1 more fits in 32 bits.
+  -- x counts the outlets before the run of i, y those before i in the run. Their sum counts all
+  -- outlets before i, and the sum plus 1 fits in 32 bits.
   pub counted_here : {l m x y : ℕ} {run : List (Option ℕ)} → l ≡ r.run_length → m ≡ r.run_length →
       run ≡ run_codes r (i / l) →
       x ≡ get_or before (i / l) x → y ≡ count_by is_outlet_code (take (i - i / l * m) run) →

@@ -9,7 +9,7 @@ use Rattle.drainage.proofs.Ends.{falling_ends}
 use Rattle.terrain.specs.Neighbours.{entry_at, IsDataCell}
 use Rattle.terrain.specs.Raster.{IsTerrain}
 use Rattle.terrain.specs.declared.place.Place.{Place}
-use Rattle.tile_jobs.specs.Answers.{AreResults}
+use Rattle.tile_jobs.specs.Results.{AreResults}
 use Rattle.flow.specs.Whole.{make_directed, IsGridFlow}
 use Rattle.flow.specs.Counts.{IsMapOf, IsValueAt}
 use Rattle.flow.proofs.Coded.{IsCoded, coded_from_some}

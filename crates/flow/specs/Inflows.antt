@@ -8,7 +8,7 @@ use Rattle.drainage.specs.Following.{Directed}
 use Rattle.terrain.specs.Neighbours.{is_place}
 use Rattle.flow.specs.Streams.{sum_below}
 use Rattle.flow.specs.TileFlow.{Flow, through_in, inflow_of}
-use Rattle.tiles.specs.RimNumbers.{stride, number_count, rim_number, rim_place}
+use Rattle.tiles.specs.RimNumbers.{stride, rim_number_count, rim_number, rim_place}
 use Rattle.flow.specs.RimGraph.{side_cell, target_by}
 
 -- How many other cells' flow paths reach a place without leaving its tile, by the tile's flow.
@@ -24,7 +24,7 @@ abbrev pub rim_weight : Cutting → List Flow → ℕ → ℕ
 rim_weight t flows i = weight_or (through_by t flows (rim_place t i)) (target_by t flows i)
 
 abbrev pub rim_weights_by : Cutting → List Flow → List ℕ
-rim_weights_by t flows = map (rim_weight t flows) (range_with_len 0 (number_count t))
+rim_weights_by t flows = map (rim_weight t flows) (range_with_len 0 (rim_number_count t))
 
 -- Rim number k's part of an amount sent to a place: all if the place has number k, else 0.
 abbrev pub sent_to : Cutting → ℕ → Option Place → ℕ → ℕ
@@ -40,9 +40,9 @@ entering t targets weights upstream k i =
 -- The inflow of each rim number: the sum of the amounts that all rim numbers send to it.
 pub record AreEntering (t : Cutting) (targets : List (Option Place))
     (weights upstream listed : List ℕ) : Type 0 where
-  pub size : length listed ≡ number_count t
-  pub each : (k : ℕ) → k < number_count t →
-      slice_index listed k ≡ sum_below (entering t targets weights upstream k) (number_count t)
+  pub size : length listed ≡ rim_number_count t
+  pub each : (k : ℕ) → k < rim_number_count t →
+      slice_index listed k ≡ sum_below (entering t targets weights upstream k) (rim_number_count t)
 
 -- The inflows of all tiles, by rim number.
 pub record Inflows : Type 0 where
@@ -60,7 +60,7 @@ listed_inflow l p = inflow_by l.cutting l.listed p
 -- Each place of the grid has its inflow.
 pub record AreInflows (d : Directed) (t : Cutting) (l : Inflows) : Type 0 where
   pub cutting : l.cutting ≡ t
-  pub size : length l.listed ≡ number_count t
+  pub size : length l.listed ≡ rim_number_count t
   pub each : (p : Place) → IsWithin t p → listed_inflow l p ≡ inflow_of d t p
 
 -- The addition at p of an amount at a rim cell: the amount if p is that cell, 0 otherwise.

@@ -11,7 +11,7 @@ use Rattle.drainage.specs.Drained.{AllFlowEnds}
 use Rattle.terrain.specs.Neighbours.{is_place}
 use Rattle.flow.specs.TileFlow.{Flow, exit_in, IsTileExits, IsTileCounts, AreTileExits, IsExitCell}
 use Rattle.flow.specs.Whole.{is_outlet_code}
-use Rattle.tiles.specs.RimNumbers.{stride, side_number, side_place, number_count, rim_number, rim_place}
+use Rattle.tiles.specs.RimNumbers.{stride, side_number, side_place, rim_number_count, rim_number, rim_place}
 
 -- The flow has the exits of a tile, and its counts if `counted`.
 abbrev pub IsFlowOfTile : Directed → Cutting → Bool → ℕ → Flow → Type 0
@@ -60,9 +60,9 @@ abbrev pub first_targets : Cutting → List Flow → ℕ → List (Option Place)
 first_targets t flows count = map (target_by t flows) (range_with_len 0 count)
 
 abbrev pub targets_by : Cutting → List Flow → List (Option Place)
-targets_by t flows = first_targets t flows (number_count t)
+targets_by t flows = first_targets t flows (rim_number_count t)
 
--- The exit by which the water of a place leaves the tile; `None` if no water of it leaves.
+-- The exit by which the water of a place leaves the tile; `None` if it does not leave.
 abbrev pub next_exit_in : Flow → Place → Option Place
 next_exit_in f p = option_and_then
     (λ e. if is_outlet_code (entry_in f.bounds f.codes e) then None else Some e) (exit_in f p)
@@ -81,16 +81,17 @@ rim_link t flows i =
     number_or t i (option_and_then (λ q. next_exit_by t flows q) (target_by t flows i))
 
 abbrev pub rim_links_by : Cutting → List Flow → List ℕ
-rim_links_by t flows = map (rim_link t flows) (range_with_len 0 (number_count t))
+rim_links_by t flows = map (rim_link t flows) (range_with_len 0 (rim_number_count t))
 
 -- The outlet of the water that leaves its tile at rim number i; `None` if none leaves there.
+-- `ends` has the ends of paths along rim links.
 abbrev pub rim_outlet : Cutting → List Flow → List ℕ → ℕ → Option Place
 rim_outlet t flows ends i = option_and_then
     (λ _. option_and_then (λ q. exit_by t flows q) (target_by t flows (slice_index ends i)))
     (target_by t flows i)
 
 abbrev pub rim_outlets_by : Cutting → List Flow → List ℕ → List (Option Place)
-rim_outlets_by t flows ends = map (rim_outlet t flows ends) (range_with_len 0 (number_count t))
+rim_outlets_by t flows ends = map (rim_outlet t flows ends) (range_with_len 0 (rim_number_count t))
 
 -- The outlet of an exit: the exit itself if it is an outlet, else the one listed for its rim
 -- number, if any.

@@ -18,7 +18,8 @@ donor links i j = if leads_to links j i then 1 else 0
 abbrev pub waiting : List ℕ → List ℕ → ℕ → ℕ → ℕ
 waiting links waits i j = if leads_to links j i && not (has_sent waits j) then 1 else 0
 
--- The amount that donor j has sent to node i: its weight and its sum from upstream. Otherwise 0.
+-- The amount that node j has sent to node i: its weight and its sum from upstream. It is 0 if j is
+-- no donor of i or has not sent.
 abbrev pub sent_on : List ℕ → List ℕ → List ℕ → List ℕ → ℕ → ℕ → ℕ
 sent_on links weights waits upstream i j =
     if leads_to links j i && has_sent waits j then slice_index upstream j + slice_index weights j

@@ -71,7 +71,7 @@ pub record IsFlow (f : Flow) : Type 0 where
   pub codes_size : length f.codes ≡ f.bounds.rows * f.bounds.cols
   pub exits_size : length f.exits ≡ f.bounds.rows * f.bounds.cols
 
--- The flow has the codes of the tile, and an exit for each data cell and for no other.
+-- The flow has the tile's codes, the exit of each data cell, and no exit at NODATA.
 pub record IsTileExits (d : Directed) (c : Cutting) (tile : ℕ) (f : Flow) : Type 0 where
   pub bounds : f.bounds ≡ bounds_of c tile
   pub lawful : IsFlow f
@@ -80,7 +80,7 @@ pub record IsTileExits (d : Directed) (c : Cutting) (tile : ℕ) (f : Flow) : Ty
       MatchOption (code_at d p) (exit_in f p ≡ None)
       (λ _. (e : Place) × (exit_in f p ≡ Some e) × IsExitOf d c p e)
 
--- The flow has a count for each data cell of the tile and for no other.
+-- The flow has the count of each data cell of the tile, and no count at NODATA.
 pub record IsTileCounts (d : Directed) (c : Cutting) (tile : ℕ) (f : Flow) : Type 0 where
   pub size : length f.through ≡ f.bounds.rows * f.bounds.cols
   pub each : (p : Place) → IsInTile c tile p →

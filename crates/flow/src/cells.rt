@@ -29,7 +29,7 @@ pub(crate) fn tile_codes(
 }
 
 /// Returns each cell's link: the index of the next cell downstream.
-/// A cell without data, or whose water stays or leaves the tile, is linked to itself.
+/// NODATA, an outlet, and a cell whose direction leaves the tile are linked to themselves.
 pub(crate) fn tile_links(
     alloc: Global,
     bounds: Bounds,

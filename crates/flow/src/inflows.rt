@@ -7,7 +7,7 @@ ghost use Rattle.flow.specs.Streams.{sum_below};
 ghost use Rattle.flow.specs.Sending.{AreZeros};
 ghost use Rattle.flow.specs.TileFlow.{AreTileCounts};
 ghost use Rattle.flow.specs.TileLinks.{EndsInLargestGrid};
-ghost use Rattle.tiles.specs.RimNumbers.{number_count};
+ghost use Rattle.tiles.specs.RimNumbers.{rim_number_count};
 ghost use Rattle.flow.specs.RimGraph.{AreFlowsOf, rim_links_by, targets_by};
 ghost use Rattle.flow.specs.Inflows.{AreEntering, AreInflows, adds_at, entering, inflow_by, listed_inflow, rim_weight, rim_weights_by, sent_to, through_by};
 
@@ -31,14 +31,14 @@ pub struct Inflows {
 
 impl Model for Inflows {
     ghost use Rattle.std.specs.Prelude.{◌≡◌, length};
-    ghost use Rattle.tiles.specs.RimNumbers.{number_count};
+    ghost use Rattle.tiles.specs.RimNumbers.{rim_number_count};
     ghost use Rattle.flow.specs.Inflows.{Inflows};
 
     ghost Value = { Inflows };
 
     ghost view = { λ i. record { cutting = i.tiling; listed = i.listed.items } };
 
-    ghost invariant = { λ i. length i.listed.items ≡ number_count i.tiling };
+    ghost invariant = { λ i. length i.listed.items ≡ rim_number_count i.tiling };
 }
 
 impl Inflows {
@@ -60,7 +60,7 @@ impl Inflows {
         let targets = &rim_graph.targets;
         let weights = rim_weights(alloc, tiling, flows, targets)?;
         let upstream = upstream_weights(alloc, &rim_graph.links, &weights)?;
-        let mut listed = zeros(alloc, tiling.number_count() as usize)?;
+        let mut listed = zeros(alloc, tiling.rim_number_count() as usize)?;
         send_all(tiling, targets, &weights, &upstream, &mut listed);
         Ok(Inflows {
             tiling: *tiling,
@@ -102,7 +102,7 @@ impl Inflows {
 /// A rim number without a cell adds nothing.
 fn add_all(tiling: &Tiling, listed: &[u32], tile: u32, weights: &mut [u32])
     requires tile { tile < tile_count tiling.now }
-    requires listed { length listed.now ≡ number_count tiling.now }
+    requires listed { length listed.now ≡ rim_number_count tiling.now }
     requires size { length weights.old ≡ cell_count tiling.now tile }
     requires fits { (p : AtPlace) → IsInBounds (bounds_of tiling.now tile) p →
         slice_index weights.old (index_in (bounds_of tiling.now tile) p)
@@ -115,7 +115,7 @@ fn add_all(tiling: &Tiling, listed: &[u32], tile: u32, weights: &mut [u32])
 {
     let largest = tiling.bounds(0);
     let bounds = tiling.bounds(tile);
-    let (first, count) = tiling.numbers_of(tile);
+    let (first, count) = tiling.rim_numbers_of(tile);
     for side in 0..count {
         let amount = listed[(first + side) as usize];
         add_at(side_cell(largest, bounds, side), amount, bounds, weights);
@@ -154,7 +154,7 @@ fn weight_of(tiling: &Tiling, flows: &[TileFlow], targets: &[Option<Place>], num
     requires flows { (d : Directed) × AreFlowsOf d tiling.now flows.now
         × AreTileCounts d tiling.now flows.now }
     requires targets { targets.now ≡ targets_by tiling.now flows.now }
-    requires number { number < number_count tiling.now }
+    requires number { number < rim_number_count tiling.now }
     ensures { result ≡ rim_weight tiling.now flows.now number }
 {
     let Some(_) = targets[number as usize] else {
@@ -176,7 +176,7 @@ fn rim_weights(
         × AreTileCounts d tiling.now flows.now }
     ensures { IfOk result (λ v. v.items ≡ rim_weights_by tiling.now flows.now) }
 {
-    let count = tiling.number_count();
+    let count = tiling.rim_number_count();
     let mut weights = Vec::with_capacity(alloc, count as usize)?;
     for number in 0..count {
         weights.push(weight_of(tiling, flows, targets, number))?;
@@ -192,19 +192,19 @@ fn send_all(
     upstream: &[u32],
     listed: &mut [u32],
 )
-    requires targets { length targets.now ≡ number_count tiling.now }
-    requires within { (i : ℕ) → i < number_count tiling.now →
+    requires targets { length targets.now ≡ rim_number_count tiling.now }
+    requires within { (i : ℕ) → i < rim_number_count tiling.now →
         IfSome (slice_index_or targets.now i None) (IsWithin tiling.now) }
-    requires weights { length weights.now ≡ number_count tiling.now }
-    requires upstream { length upstream.now ≡ number_count tiling.now }
-    requires amounts { (i : ℕ) → i < number_count tiling.now →
+    requires weights { length weights.now ≡ rim_number_count tiling.now }
+    requires upstream { length upstream.now ≡ rim_number_count tiling.now }
+    requires amounts { (i : ℕ) → i < rim_number_count tiling.now →
         slice_index upstream.now i + slice_index weights.now i < 2 ^ 32 }
     requires few { (k : ℕ) → sum_below (entering tiling.now targets.now weights.now upstream.now k)
-        (number_count tiling.now) < 2 ^ 32 }
-    requires none { AreZeros (number_count tiling.now) listed.old }
+        (rim_number_count tiling.now) < 2 ^ 32 }
+    requires none { AreZeros (rim_number_count tiling.now) listed.old }
     ensures { AreEntering tiling.now targets.now weights.now upstream.now listed.new }
 {
-    for number in 0..tiling.number_count() {
+    for number in 0..tiling.rim_number_count() {
         let amount = upstream[number as usize] + weights[number as usize];
         send(tiling, targets[number as usize], amount, listed);
     }
@@ -212,11 +212,11 @@ fn send_all(
 
 fn send(tiling: &Tiling, target: Option<Place>, amount: u32, listed: &mut [u32])
     requires within { IfSome target (IsWithin tiling.now) }
-    requires size { length listed.old ≡ number_count tiling.now }
-    requires fits { (k : ℕ) → k < number_count tiling.now →
+    requires size { length listed.old ≡ rim_number_count tiling.now }
+    requires fits { (k : ℕ) → k < rim_number_count tiling.now →
         slice_index listed.old k + sent_to tiling.now k target amount < 2 ^ 32 }
     ensures size { length listed.new ≡ length listed.old }
-    ensures each { (k : ℕ) → k < number_count tiling.now →
+    ensures each { (k : ℕ) → k < rim_number_count tiling.now →
         slice_index listed.new k ≡ slice_index listed.old k + sent_to tiling.now k target amount }
 {
     let Some(entry) = target else {

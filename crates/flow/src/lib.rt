@@ -17,7 +17,7 @@
 //! - `streams`: weights summed along links
 //! - `ends`: where paths along links end
 //! - `rim`: rim cells and where their paths along links end
-//! - `rim_graph`: flow from tile to tile
+//! - `rim_graph`: the graph of exits into other tiles
 //! - `inflows`: how many cells' flow paths enter each rim cell from another tile
 //! - `outlets`: the outlet of each exit
 //! - `links`: `RimLinks`, inflows and outlets together

@@ -2,7 +2,7 @@
 ghost use Rattle.std.specs.Prelude.{◌≡◌, ◌<◌, ℕ, length, slice_index, IfOk};
 ghost use Rattle.tiles.specs.Cutting.{IsWithin, tile_count};
 ghost use Rattle.drainage.specs.Following.{Directed};
-ghost use Rattle.tiles.specs.RimNumbers.{number_count};
+ghost use Rattle.tiles.specs.RimNumbers.{rim_number_count};
 ghost use Rattle.flow.specs.RimGraph.{AreFlowsOf, AreOutlets, targets_by, rim_links_by, rim_outlet, rim_outlets_by, listed_outlet, exit_by};
 
 use crate::cells::is_place;
@@ -18,20 +18,20 @@ use tiles::Tiling;
 #[derive(Drop)]
 pub struct Outlets {
     tiling: Tiling,
-    // by rim number; `None` where the water does not enter another tile
+    // by rim number; `None` where no exit leads into another tile
     outlets: Vec<Option<Place>>,
 }
 
 impl Model for Outlets {
     ghost use Rattle.std.specs.Prelude.{◌≡◌, length};
-    ghost use Rattle.tiles.specs.RimNumbers.{number_count};
+    ghost use Rattle.tiles.specs.RimNumbers.{rim_number_count};
     ghost use Rattle.flow.specs.RimGraph.{Outlets};
 
     ghost Value = { Outlets };
 
     ghost view = { λ o. record { cutting = o.tiling; listed = o.outlets.items } };
 
-    ghost invariant = { λ o. length o.outlets.items ≡ number_count o.tiling };
+    ghost invariant = { λ o. length o.outlets.items ≡ rim_number_count o.tiling };
 }
 
 impl Outlets {
@@ -94,10 +94,10 @@ fn outlet_of(
 ) -> Option<Place>
     requires flows { (d : Directed) × AreFlowsOf d tiling.now flows.now }
     requires targets { targets.now ≡ targets_by tiling.now flows.now }
-    requires number { number < number_count tiling.now }
-    requires size { length ends.now ≡ number_count tiling.now }
-    requires inside { (i : ℕ) → i < number_count tiling.now →
-        slice_index ends.now i < number_count tiling.now }
+    requires number { number < rim_number_count tiling.now }
+    requires size { length ends.now ≡ rim_number_count tiling.now }
+    requires inside { (i : ℕ) → i < rim_number_count tiling.now →
+        slice_index ends.now i < rim_number_count tiling.now }
     ensures { result ≡ rim_outlet tiling.now flows.now ends.now number }
 {
     let Some(_) = targets[number as usize] else {
@@ -119,12 +119,12 @@ fn rim_outlets(
 ) -> Result<Vec<Option<Place>>, AllocError>
     requires flows { (d : Directed) × AreFlowsOf d tiling.now flows.now }
     requires targets { targets.now ≡ targets_by tiling.now flows.now }
-    requires size { length ends.now ≡ number_count tiling.now }
-    requires inside { (i : ℕ) → i < number_count tiling.now →
-        slice_index ends.now i < number_count tiling.now }
+    requires size { length ends.now ≡ rim_number_count tiling.now }
+    requires inside { (i : ℕ) → i < rim_number_count tiling.now →
+        slice_index ends.now i < rim_number_count tiling.now }
     ensures { IfOk result (λ v. v.items ≡ rim_outlets_by tiling.now flows.now ends.now) }
 {
-    let count = tiling.number_count();
+    let count = tiling.rim_number_count();
     let mut outlets = Vec::with_capacity(alloc, count as usize)?;
     for number in 0..count {
         outlets.push(outlet_of(tiling, flows, targets, ends, number))?;

@@ -1,11 +1,11 @@
-//! Where water passes from tile to tile.
+//! The graph of exits into other tiles: [`RimGraph`].
 //!
-//! For each rim cell: the place in another tile that its water enters, if any, and the exit by
-//! which the water leaves that tile, if it does.
+//! A rim cell may flow into a place in another tile. If the water leaves that tile too, the cell's
+//! rim number is linked to the number of the exit by which it leaves.
 ghost use Rattle.std.specs.Prelude.{◌≡◌, ◌+◌, ◌*◌, ◌<◌, ◌≤◌, length, IfOk, OnOk};
 ghost use Rattle.tiles.specs.Cutting.{IsCutting, IsWithin, IsWithinLimits, bounds_of, tile_count};
 ghost use Rattle.drainage.specs.Following.{Directed};
-ghost use Rattle.tiles.specs.RimNumbers.{number_count, stride};
+ghost use Rattle.tiles.specs.RimNumbers.{rim_number_count, stride};
 ghost use Rattle.flow.specs.RimGraph.{code_in, AreFlowsOf, target_in, first_targets, targets_by, next_exit_by, rim_link, rim_links_by};
 
 use crate::cells::next_of;
@@ -79,7 +79,7 @@ fn target_of(largest: Bounds, flow: &TileFlow, side: u32) -> Option<Place>
     }
 }
 
-/// Appends, for each side number of a tile, the place entered in another tile, if any.
+/// Appends, for each side number of a tile, the place in another tile that it leads to, if any.
 fn push_targets(
     targets: &mut Vec<Option<Place>>,
     tiling: &Tiling,
@@ -111,7 +111,7 @@ fn rim_targets(
     requires { (d : Directed) × AreFlowsOf d tiling.now flows.now }
     ensures { IfOk result (λ v. v.items ≡ targets_by tiling.now flows.now) }
 {
-    let mut targets = Vec::with_capacity(alloc, tiling.number_count() as usize)?;
+    let mut targets = Vec::with_capacity(alloc, tiling.rim_number_count() as usize)?;
     for tile in 0..tiling.tiles() {
         push_targets(&mut targets, tiling, flows, tile)?;
     }
@@ -122,7 +122,7 @@ fn rim_targets(
 fn link_of(tiling: &Tiling, flows: &[TileFlow], targets: &[Option<Place>], number: u32) -> u32
     requires flows { (d : Directed) × AreFlowsOf d tiling.now flows.now }
     requires targets { targets.now ≡ targets_by tiling.now flows.now }
-    requires number { number < number_count tiling.now }
+    requires number { number < rim_number_count tiling.now }
     ensures { result ≡ rim_link tiling.now flows.now number }
 {
     let Some(entry) = targets[number as usize] else {
@@ -145,7 +145,7 @@ fn rim_links(
     requires targets { targets.now ≡ targets_by tiling.now flows.now }
     ensures { IfOk result (λ v. v.items ≡ rim_links_by tiling.now flows.now) }
 {
-    let count = tiling.number_count();
+    let count = tiling.rim_number_count();
     let mut links = Vec::with_capacity(alloc, count as usize)?;
     for number in 0..count {
         links.push(link_of(tiling, flows, targets, number))?;

@@ -188,7 +188,7 @@ pub(crate) fn is_outlet(code: Option<Code>) -> bool
     }
 }
 
-/// Returns the flow inside one tile of a map of directions.
+/// Returns the flow inside one tile of a map of directions, with counts.
 ///
 /// # Errors
 ///

@@ -31,7 +31,6 @@ hides_more r s t x some more h e =
     (value_at s t)) r.lines s.lines some more (omega (arith, ints, e)) (omega (arith, ints, h)) in
     sym (true_is_lt (x *ℤ pos s.lines) (value_at s t) (omega (arith, ints, is)))
 
--- If ramp r is not above ramp s at a target and hides it, s hides it too.
 pub hides_if_not_above : (r s : Ramp) (t : Target) (x : ℤ) → IsRampAt r t → IsRampAt s t →
     is_above r s t ≡ false → ramp_hides r t x ≡ true → ramp_hides s t x ≡ true
 hides_if_not_above r s t x is_r is_s not =

@@ -38,6 +38,7 @@ impl Model for Horizon {
 }
 
 /// The position of the piece at which the next lookup begins; indexes of lookups must not fall.
+/// A cursor is valid for one horizon, until that horizon is cleared.
 #[derive(Clone, Copy)]
 pub struct Cursor {
     pub piece: usize,
@@ -110,14 +111,6 @@ impl Horizon {
         ensures { result ≡ extent self.now }
     {
         self.end
-    }
-
-    /// The number of pieces.
-    #[inline(always)]
-    pub fn pieces(&self) -> usize
-        ensures { result ≡ length self.now }
-    {
-        self.pieces.len()
     }
 
     /// Extends the horizon by a ramp up to `end`, unless its extent is at least `end`.

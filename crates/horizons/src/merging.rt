@@ -12,7 +12,6 @@ use crate::ramp::Ramp;
 use crate::target::Target;
 use std::alloc::AllocError;
 
-/// Returns whether ramp `one` is above ramp `other` at the slope of a target.
 #[inline(always)]
 fn is_above_at(targets: &[Target], one: Ramp, other: Ramp, index: usize) -> bool
     requires targets { AreTargets targets.now }
@@ -40,7 +39,8 @@ pub fn is_never_above(targets: &[Target], one: Ramp, other: Ramp, from: usize, e
     !is_above_at(targets, one, other, end - 1)
 }
 
-/// Returns the first index at which `one > other` is not `first`, or `end` if none.
+/// Returns the first index at which `one > other` is not `first`, its value at `from`.
+/// Returns `end` if there is none.
 /// The difference of two ramps is straight, so the comparison changes at most once.
 #[inline(always)]
 fn first_change(
@@ -85,7 +85,7 @@ fn first_change(
 /// # Examples
 ///
 /// ```ignore
-/// // `raised` gets the greater of `ground` and `before` at each target up to `end`
+/// // `raised` gets the greater of `ground` and `before` at each target from its extent up to `end`
 /// push_greater(targets, ground, before, end, &mut raised)?;
 /// ```
 #[inline(always)]

@@ -35,7 +35,7 @@ impl Ramp {
         }
     }
 
-    /// The value at a target's slope, times the target's `line` and the ramp's `lines`.
+    /// Returns the value at a target's slope, times the target's `line` and the ramp's `lines`.
     #[inline(always)]
     pub(crate) fn value_at(self, target: Target) -> Value
         requires target { IsTarget target }

@@ -21,7 +21,6 @@ const VALLEY: &str = "9 9 9 9 9 9\n9 1 5 4 1 6\n9 9 9 9 9 9";
 
 const FILLED: &str = "9 9 9 9 9 9\n9 6 6 6 6 6\n9 9 9 9 9 9";
 
-/// Floods each tile, in tile order.
 pub(crate) fn floods_of(
     alloc: Global,
     grid: &Grid,

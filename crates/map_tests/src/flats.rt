@@ -28,7 +28,6 @@ fn place_at(grid: &Grid, index: u32) -> Place
     }
 }
 
-/// Returns whether the rows and the columns each differ by at most 1.
 fn touch(place: Place, other: Place) -> bool
     ensures { IsTrue result ↔ Touches place other }
 {
@@ -59,7 +58,6 @@ fn has_lower(grid: &Grid, place: Place) -> bool
     false
 }
 
-/// Returns whether the cell is an end cell or has a lower neighbour.
 fn drains_at_once(grid: &Grid, place: Place) -> bool
     requires { IsInside grid.now.terrain place }
     ensures { IsTrue result ↔ DrainsAtOnce grid.now.terrain place }

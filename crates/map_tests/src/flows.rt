@@ -27,7 +27,6 @@ pub(crate) fn flow_of(
     tile_flow(alloc, &tiling.view(ways.codes(), tile))
 }
 
-/// Finds the flow of each tile, in tile order.
 pub(crate) fn flows_of(
     alloc: Global,
     tiling: &Tiling,

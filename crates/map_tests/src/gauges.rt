@@ -33,7 +33,6 @@ fn place(row: u32, col: u32) -> Place {
     Place { row, col }
 }
 
-/// Returns the catchments of gauges on the land, cut into tiles of this side.
 fn find_catchments<R: Abort + Threads + Wait + Sync>(
     rt: &R,
     alloc: Global,

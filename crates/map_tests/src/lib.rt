@@ -1,4 +1,4 @@
-//! Tests the maps, over their public calls.
+//! Tests the maps through their public calls.
 //!
 //! Modules:
 //!

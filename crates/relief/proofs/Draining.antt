@@ -30,10 +30,10 @@ read_grid_has_no_sinks scale text g [] is = ap (λ (named : List Place). record 
 }) (ap (λ (r : Raster). r.terrain.sinks) is.grid)
 read_grid_has_no_sinks scale text g (p ∷ rest) is = refl
 
-pub drained_some : (g : Raster) (sinks : List Place) → eqb (length sinks) 0 ≡ false →
+pub grid_with_some_sinks : (g : Raster) (sinks : List Place) → eqb (length sinks) 0 ≡ false →
     raster_with_sinks g sinks ≡ grid_with_sinks sinks g
-drained_some g [] some = absurd (cc)
-drained_some g (p ∷ rest) some = refl
+grid_with_some_sinks g [] some = absurd (cc)
+grid_with_some_sinks g (p ∷ rest) some = refl
 
 pub map_of_text : (w : Request) (text map : List ℕ) (g : Raster) → IsGridText w.scale text g →
     IsMapText (grid_with_sinks w.sinks g) w.map map → IsMapOfText w.scale w.map w.sinks text map
@@ -44,15 +44,15 @@ map_of_text w text map g is made = (
       (read_grid_has_no_sinks w.scale text g w.sinks is) made,
 )
 
-pub fault_without : (w : Request) (g : Raster) (sinks : List Place) →
+pub request_fault_without_sinks : (w : Request) (g : Raster) (sinks : List Place) →
     request_fault w (grid_with_sinks sinks g) ≡ request_fault w g
-fault_without w g [] = refl
-fault_without w g (p ∷ rest) = refl
+request_fault_without_sinks w g [] = refl
+request_fault_without_sinks w g (p ∷ rest) = refl
 
-pub refusal_without : (w : Request) (g : Raster) (f : RunFault) (sinks : List Place) →
+pub fault_on_grid_without_sinks : (w : Request) (g : Raster) (f : RunFault) (sinks : List Place) →
     IsFaultOnGrid w (grid_with_sinks sinks g) f → IsFaultOnGrid w g f
-refusal_without w g f [] h = h
-refusal_without w g f (p ∷ rest) h = h
+fault_on_grid_without_sinks w g f [] h = h
+fault_on_grid_without_sinks w g f (p ∷ rest) h = h
 
 pub request_of_many : (w : Request) (g : Raster) → most_tiles < tiles_of g w.tile →
     request_fault w g ≡ Some (Tiling TooManyTiles)
@@ -111,7 +111,7 @@ unseen g Basins drains = refl
 unseen g (Catchments gauges) drains = refl
 unseen g (View observers target radius) drains = absurd (drains tt)
 
--- sound sinks are refused only for want of memory, which is a work refusal
+-- Sinks without a fault are refused only for want of memory, a fault that a run may return.
 pub sinks_refused : {T : Type 0} (w : Request) (g : Raster) (f : SinkFault) →
     (IsView w.map → w.sinks ≡ []) →
     eqb (length w.sinks) 0 ≡ false → tiles_of g w.tile ≤ most_tiles → named_place_fault w g ≡ None →

@@ -16,8 +16,8 @@ use Rattle.relief.specs.MapText.{IsMapText}
 use Rattle.relief.specs.Refusals.{request_fault, IsFaultOnGrid}
 use Rattle.relief.specs.Runs.{Runs}
 use Rattle.ascii_grid.proofs.Taking.{consumed_end}
-use Rattle.relief.proofs.Draining.{fault_without, map_of_text}
-use Rattle.relief.proofs.Viewing.{work_refused, work_is_no_device}
+use Rattle.relief.proofs.Draining.{request_fault_without_sinks, map_of_text}
+use Rattle.relief.proofs.Viewing.{fault_on_grid_is_on_text, fault_on_grid_is_no_device}
 
 pub reading_refused : {R W : Type 0} (remaining : R → Option (List ℕ)) (contents : W →
     Option (List ℕ)) (w : Request) (reader left : Device R) (writer : Device W) (e : InputFault)
@@ -61,10 +61,11 @@ module _ {R W : Type 0} (remaining : R → Option (List ℕ)) (contents : W → 
   pub making_refused : (f : RunFault) → IsFaultOnGrid w g f →
       Runs {T = Unit {0}} remaining contents w reader left writer writer (Err f)
   making_refused f refusal =
-      let other = work_is_no_device w g f refusal in record {
+      let other = fault_on_grid_is_no_device w g f refusal in record {
         taken = reads.taken;
         written = tt;
-        refused = λ text reported. work_refused w text g f (whole text reported) refusal;
+        refused = λ text reported. fault_on_grid_is_on_text w text g f
+            (whole text reported) refusal;
         unwritten = λ no_write. refl;
         part = λ e. absurd (other.1 (let same_fault : f ≡ Write = cc in same_fault));
         read = (
@@ -88,7 +89,12 @@ module _ {R W : Type 0} (remaining : R → Option (List ℕ)) (contents : W → 
           taken = reads.taken;
           written = tt;
           refused =
-              λ text reported. (g, whole text reported, sym (fault_without w g w.sinks) ∙ ready);
+              λ text reported. (
+                g,
+                whole text reported,
+                sym (request_fault_without_sinks w g
+                    w.sinks) ∙ ready,
+              );
           unwritten = λ other. absurd (other refl);
           part = λ failed. (
             map,

@@ -24,9 +24,9 @@ any_among P k (x ∷ xs) p (inr rest) =
 none_among : (k : ErrorKind) (ks : Kinds) → ks ≡ [] → IsAmong k ks → ⊥
 none_among k ks none among = subst (IsAmong k) none among
 
-help_is_no_want : (k : ErrorKind) → IsHelp k → k ≡ OutOfMemory → ⊥
-help_is_no_want k (inl help) want = absurd (cc)
-help_is_no_want k (inr version) want = absurd (cc)
+help_is_not_out_of_memory : (k : ErrorKind) → IsHelp k → k ≡ OutOfMemory → ⊥
+help_is_not_out_of_memory k (inl help) want = absurd (cc)
+help_is_not_out_of_memory k (inr version) want = absurd (cc)
 
 module _ {R W E : Type 0} (contents : W → Option (List ℕ)) (lines : E → Option (List ℕ))
     (words : List Text) (reader : Device R) (writer grown : Device W) (errors reported : Device E)
@@ -36,12 +36,12 @@ module _ {R W E : Type 0} (contents : W → Option (List ℕ)) (lines : E → Op
 
   pub words_refused : (text : List ℕ) → IsRefusalText words text →
       WritesLine lines errors reported text → grown ≡ writer → status ≡ 1 → Unread
-  words_refused text refusal told_text same refused =
-      record { unread = refl; reason = inr (inl ((text, refusal, told_text), refused, same)) }
+  words_refused text refusal written_text same refused =
+      record { unread = refl; reason = inr (inl ((text, refusal, written_text), refused, same)) }
 
   pub shown : (e : Error) → EndsShowing contents lines (kind_of e)
       writer grown errors reported status → HasKind (fault_of program_app words) e → Unread
-  shown e (inl help) (inl want) = absurd (help_is_no_want (kind_of e) help.0 want)
+  shown e (inl help) (inl want) = absurd (help_is_not_out_of_memory (kind_of e) help.0 want)
   shown e (inl help) (inr among) = record {
     unread = refl;
     reason = inl (any_among IsHelp (kind_of e) _ help.0 among, help.1, help.2, help.3);

@@ -27,7 +27,7 @@ pub no_fault : {T : Type 0} (fault : Option SightFault) (workers : ℕ) (x : T) 
 no_fault None workers x h = refl
 no_fault (Some f) workers x h = let bad = h.reported f refl in absurd (cc)
 
--- a viewshed's fault that forbids the map, and is not of jobs, is a work refusal
+-- A viewshed's fault that forbids the map, and is not one of jobs, may be returned on this grid.
 sight_refused : (w : Request) (g : Raster) (f : SightFault) → ((x : JobFault) → f ≡ sight.Jobs x →
     ⊥) → request_fault w g ≡ Some (Sight f) → IsFaultOnGrid w g (of_sight f)
 sight_refused w g (sight.Outside i) other h = h
@@ -77,7 +77,7 @@ catchments_refused w g fault f some few sound is h =
     (job_refused w g some few is reported.0 (λ e. (h.bad_workers sound).0 (ap Err (reported.1
     ∙ ap gauges.Jobs e))) (λ e. h.no_thread (ap Err (reported.1 ∙ ap gauges.Jobs e))))
 
--- a fault of tiles, a viewshed, sinks or gauges; `request_forbids`: only these forbid a map
+-- A fault of tiles, a viewshed, sinks or gauges. By `request_forbids`, only these forbid a map.
 abbrev pub Forbids : RunFault → Type 0
 Forbids (Tiling fault) = ⊤
 Forbids (Sight fault) = ⊤
@@ -118,24 +118,24 @@ forbidden w g (Grid fault) h = h
 forbidden w g Read h = h
 forbidden w g Write h = h
 
-pub work_refused : (w : Request) (text : List ℕ) (g : Raster) (f : RunFault) →
+pub fault_on_grid_is_on_text : (w : Request) (text : List ℕ) (g : Raster) (f : RunFault) →
     IsGridText w.scale text g → IsFaultOnGrid w g f → IsFaultOnText w text f
-work_refused w text g (Jobs fault) is h = (g, is, h)
-work_refused w text g (Tiling fault) is h = (g, is, h)
-work_refused w text g (Sight fault) is h = (g, is, h)
-work_refused w text g (Sinks fault) is h = (g, is, h)
-work_refused w text g (Gauges fault) is h = (g, is, h)
-work_refused w text g (Grid fault) is h = absurd (request_forbids w g _ h)
-work_refused w text g Read is h = tt
-work_refused w text g Write is h = absurd (request_forbids w g _ h)
+fault_on_grid_is_on_text w text g (Jobs fault) is h = (g, is, h)
+fault_on_grid_is_on_text w text g (Tiling fault) is h = (g, is, h)
+fault_on_grid_is_on_text w text g (Sight fault) is h = (g, is, h)
+fault_on_grid_is_on_text w text g (Sinks fault) is h = (g, is, h)
+fault_on_grid_is_on_text w text g (Gauges fault) is h = (g, is, h)
+fault_on_grid_is_on_text w text g (Grid fault) is h = absurd (request_forbids w g _ h)
+fault_on_grid_is_on_text w text g Read is h = tt
+fault_on_grid_is_on_text w text g Write is h = absurd (request_forbids w g _ h)
 
-pub work_is_no_device : (w : Request) (g : Raster) (f : RunFault) → IsFaultOnGrid w g f →
+pub fault_on_grid_is_no_device : (w : Request) (g : Raster) (f : RunFault) → IsFaultOnGrid w g f →
     (f ≡ Read → ⊥) × (f ≡ Write → ⊥)
-work_is_no_device w g (Jobs fault) h = (λ e. cc, λ e. cc)
-work_is_no_device w g (Tiling fault) h = (λ e. cc, λ e. cc)
-work_is_no_device w g (Sight fault) h = (λ e. cc, λ e. cc)
-work_is_no_device w g (Sinks fault) h = (λ e. cc, λ e. cc)
-work_is_no_device w g (Gauges fault) h = (λ e. cc, λ e. cc)
-work_is_no_device w g (Grid fault) h = (λ e. cc, λ e. cc)
-work_is_no_device w g Read h = absurd (request_forbids w g _ h)
-work_is_no_device w g Write h = absurd (request_forbids w g _ h)
+fault_on_grid_is_no_device w g (Jobs fault) h = (λ e. cc, λ e. cc)
+fault_on_grid_is_no_device w g (Tiling fault) h = (λ e. cc, λ e. cc)
+fault_on_grid_is_no_device w g (Sight fault) h = (λ e. cc, λ e. cc)
+fault_on_grid_is_no_device w g (Sinks fault) h = (λ e. cc, λ e. cc)
+fault_on_grid_is_no_device w g (Gauges fault) h = (λ e. cc, λ e. cc)
+fault_on_grid_is_no_device w g (Grid fault) h = (λ e. cc, λ e. cc)
+fault_on_grid_is_no_device w g Read h = absurd (request_forbids w g _ h)
+fault_on_grid_is_no_device w g Write h = absurd (request_forbids w g _ h)

@@ -51,8 +51,8 @@ pub record IsRefusalText (words : List Text) (text : List ℕ) : Type 0 where
       text ≡ codes "relief: bad sink word " ++ decimal place ++ codes "\n"
 
 -- Nothing was read. Status 0: the words ask for help or the version, and a text went to the writer.
--- Status 1: the words are refused, and a message went to the error device. Status 3: memory was
--- refused, and nothing was written.
+-- Status 1: the words are refused, and a message went to the error device. Status 3, for refused
+-- memory: nothing was written.
 pub record EndsUnread {R W E : Type 0} (contents : W → Option (List ℕ))
     (lines : E → Option (List ℕ)) (words : List Text) (reader left : Device R)
     (writer grown : Device W) (errors reported : Device E) (status : ℕ) : Type 0 where
@@ -74,7 +74,7 @@ EndsProgram remaining contents lines words reader left writer grown errors repor
     × EndsRun remaining contents lines request reader left writer grown errors reported status)
 
 -- Help or the version goes to the writer, with status 0. Other messages go to the error device,
--- with status 1. Where memory was refused, nothing is written and the status is 3.
+-- with status 1. Or the status is 3, for refused memory, and nothing is written.
 abbrev pub EndsShowing : {W E : Type 0} → (W → Option (List ℕ)) → (E → Option (List ℕ)) →
     ErrorKind → Device W → Device W → Device E → Device E → ℕ → Type 0
 EndsShowing contents lines kind writer grown errors reported status =

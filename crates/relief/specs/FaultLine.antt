@@ -110,7 +110,7 @@ fault_parts (Gauges fault) = gauges_fault_parts fault
 fault_parts Read = plain 51 (codes "Read")
 fault_parts Write = plain 52 (codes "Write")
 
--- The line of a fault: `relief: NUMBER NAME`, then a space and the detail if there is one.
+-- The line of a fault: `relief: NUMBER NAME`, a space and the detail if there is one, a line feed.
 abbrev pub fault_line : RunFault → List ℕ
 fault_line fault =
     let t = fault_parts fault in

@@ -47,7 +47,7 @@ request_fault w g =
     if nat_lt most_tiles (tiles_of g w.tile) then Some (Tiling TooManyTiles)
     else option_or (named_place_fault w g) (option_map Sight (view_fault g w.map))
 
--- A run on this grid may return the fault: the fault forbids the map, or none does and the fault is
+-- A run on this grid may return the fault. If a fault forbids the map, it is that one. Else it is
 -- refused memory or, with several workers, a refused thread.
 abbrev pub IsFaultOnGrid : Request → Raster → RunFault → Type 0
 IsFaultOnGrid w g (Jobs jobs.Memory) = request_fault w g ≡ None

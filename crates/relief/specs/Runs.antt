@@ -18,8 +18,8 @@ pub record Runs {R W T : Type 0} (remaining : R → Option (List ℕ)) (contents
     (result : Result T RunFault) : Type 0 where
   -- At most 2^29 + 1 bytes are read; a text of that many bytes is too long.
   pub taken : Takes remaining reader left
-  -- On `Ok` the map of the grid that these bytes spell was written, with the requested sinks, and
-  -- nothing else. No byte is left to read.
+  -- On `Ok` the whole map was written and nothing else: that of the grid that these bytes spell,
+  -- with the requested sinks. No byte is left to read.
   pub written : OnOk result ((map : List ℕ) × IsMapOfText w.scale w.map w.sinks taken.bytes map
       × HasWritten contents writer grown map × IsAtEnd (remaining left.device))
   -- If the reader's whole text is known, a fault is one that a run may return for it.

@@ -17,7 +17,7 @@ use tiles::TilingFault;
 pub enum RunFault {
     /// The text is no grid, or memory for its cells was refused.
     Grid(GridFault),
-    /// The grid has too many tiles of the requested side.
+    /// The grid has too many tiles of the requested side. No run returns `BadSide`.
     Tiling(TilingFault),
     /// A thread was refused, or memory other than for the text's cells.
     /// No run returns `BadWorkers`.
@@ -148,7 +148,6 @@ impl RunFault {
         status_of(self.number())
     }
 
-    /// Returns the parts of the fault's line.
     pub(crate) fn notice(&self) -> Notice
         ensures { result ≡ fault_parts self.now }
     {

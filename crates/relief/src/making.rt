@@ -1,4 +1,4 @@
-//! Cuts tiles and adds sinks to a grid (`prepare`), then makes a map (`make_map`).
+//! Cuts a grid into tiles and adds its sinks (`prepare`), then makes a map (`make_map`).
 ghost use Rattle.std.specs.Prelude.{◌≡◌, ◌<◌, ◌≤◌, ◌*◌, List, None, IfOk, IfErr, OnOk, option_map};
 ghost use Rattle.terrain.specs.declared.place.Place.{Place};
 ghost use Rattle.tiles.specs.Cutting.{Cuts, longest_side, most_tiles};

@@ -29,9 +29,14 @@ use tile_maps::Runner;
 ///
 /// # Errors
 ///
-/// The first of these: a fault of the text, refused memory for its cells or a failed read; too many
-/// tiles; a fault of the sinks; a fault of the gauges, observers, target height or radius; other
-/// refused memory or a refused thread; a failed write.
+/// The first of these:
+///
+/// - a fault of the text, refused memory for its cells, or a failed read
+/// - too many tiles
+/// - a fault of the sinks
+/// - a fault of the gauges, or of the observers, target height or radius
+/// - other refused memory, or a refused thread
+/// - a failed write
 ///
 /// # Examples
 ///

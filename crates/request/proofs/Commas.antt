@@ -7,7 +7,7 @@ use Rattle.std.proofs.lemmas.Bool.Decides.{nat_tests}
 use Rattle.std.proofs.lemmas.Option.{same_Some}
 use Rattle.std.proofs.lemmas.List.Sums.{fails_before_first}
 use Rattle.std.proofs.lemmas.List.Splits.{slice_split_first, slice_split_none, length-slice_split}
-use Rattle.request.specs.PlaceWords.{observer_of, observer_of_parts, place_of_word, sink_of_parts}
+use Rattle.request.specs.PlaceWords.{observer_of, observer_of_parts, place_of_word, place_of_parts}
 
 abbrev pub is_comma : ℕ → Bool
 is_comma b = eqb b 44
@@ -47,7 +47,7 @@ too_many_parts word rest eye row col third fourth a b c =
     (omega (arith, length-slice_split is_comma fourth)))
 
 three_parts : (row col : List ℕ) (parts : List (List ℕ)) → 0 < length parts →
-    sink_of_parts (row ∷ col ∷ parts) ≡ None
+    place_of_parts (row ∷ col ∷ parts) ≡ None
 three_parts row col [] some = absurd (omega arith)
 three_parts row col (part ∷ parts) some = refl
 
@@ -55,5 +55,5 @@ pub no_sink : (word col row second third : List ℕ) →
     slice_split is_comma word ≡ row ∷ slice_split is_comma col →
     slice_split is_comma col ≡ second ∷ slice_split is_comma third → None ≡ place_of_word word
 no_sink word col row second third a b =
-    sym (ap sink_of_parts (a ∙ ap (λ ps. row ∷ ps) b) ∙ three_parts row second
+    sym (ap place_of_parts (a ∙ ap (λ ps. row ∷ ps) b) ∙ three_parts row second
     (slice_split is_comma third) (omega (arith, length-slice_split is_comma third)))

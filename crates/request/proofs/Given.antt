@@ -183,7 +183,7 @@ module _ {Observer Gauge Bad WrongGauge : ℕ → Type 0} {Missing NoMapThen : T
   pub fault_weaker : (f : WordsFault) → ((place : ℕ) → Observer place → Bad place) →
       ((place : ℕ) → Gauge place → WrongGauge place) → (Missing → NoMapThen)
       → IsFaultWith Observer Gauge (λ _. ⊥) Missing f →
-          IsFaultWith Bad WrongGauge (λ _. ⊥) NoMapThen f
+      IsFaultWith Bad WrongGauge (λ _. ⊥) NoMapThen f
   fault_weaker (Clap e) observer gauge missing h = h
   fault_weaker (BadObserver place) observer gauge missing h = observer place h
   fault_weaker (BadGauge place) observer gauge missing h = gauge place h

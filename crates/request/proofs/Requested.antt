@@ -123,11 +123,11 @@ module _ (words : List Text) (accepted : fault_of program_app words ≡ []) wher
         IsFirstBad place_of_word (sink_words n rs) place
     words_of_bad place bad = subst (λ (p : Text × List Row).
         IsFirstBad place_of_word (sink_words p.0 p.1) place)
-            (same_found _ bad.command.found) bad.first
+        (same_found _ bad.command.found) bad.first
 
     pub sinks_refused : (map : Map) → Names n rs map → (f : WordsFault) →
         IsFaultWith (λ _. ⊥) (λ _. ⊥) (IsFirstBad place_of_word (sink_words n rs)) ⊥ f →
-            IsFaultOf words f
+        IsFaultOf words f
     sinks_refused map named (Clap e) h = inl h
     sinks_refused map named (BadObserver place) h = absurd h
     sinks_refused map named (BadGauge place) h = absurd h

@@ -23,12 +23,12 @@ abbrev pub observer_of : List ℕ → Option Observer
 observer_of word = observer_of_parts (slice_split (λ b. b == 44) word)
 
 -- The place of two parts that are whole numbers, or `None`.
-abbrev pub sink_of_parts : List (List ℕ) → Option Place
-sink_of_parts (row ∷ col ∷ []) =
+abbrev pub place_of_parts : List (List ℕ) → Option Place
+place_of_parts (row ∷ col ∷ []) =
     if is_number row && is_number col
     then Some (record { row = number_of row; col = number_of col }) else None
-sink_of_parts parts = None
+place_of_parts parts = None
 
 -- The place that a gauge or sink word `ROW,COL` spells, or `None`.
 abbrev pub place_of_word : List ℕ → Option Place
-place_of_word word = sink_of_parts (slice_split (λ b. b == 44) word)
+place_of_word word = place_of_parts (slice_split (λ b. b == 44) word)

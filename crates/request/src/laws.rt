@@ -23,7 +23,8 @@ pub fn basins_of_sinks()
     ensures { BasinsOfSinks }
 {}
 
-/// Proves that in one command line `--sink` names the sinks and a word the gauge.
+/// Proves for an example that `--sink` names sinks and a positional word a gauge.
+/// The words are `relief catchments --progress --sink 1,2 --sink 0,3 4,5`.
 #[tactic(auto, using(crate::proofs::Requests::catchments_of_a_gauge))]
 pub fn catchments_of_a_gauge()
     ensures { CatchmentsOfAGauge }

@@ -1,4 +1,4 @@
-//! Tests whole runs and their stages, over their public calls.
+//! Tests whole runs and their stages through their public calls.
 //!
 //! Modules:
 //!

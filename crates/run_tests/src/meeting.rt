@@ -107,7 +107,6 @@ const CORNER: Observer = Observer {
     eye: 0,
 };
 
-/// Returns the grid of a text, and its tiling into tiles of this side.
 fn cut(rt: &impl Abort, alloc: Global, text: &[u8], side: u32) -> (Grid, Tiling)
     ensures { Cuts result.1 result.0.terrain }
 {

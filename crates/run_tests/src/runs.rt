@@ -92,7 +92,7 @@ impl Write for Short {
     }
 }
 
-/// Numbers of workers. Several workers read in batches and write by jobs; one does neither.
+/// Numbers of workers. With several, a run reads in batches and writes by jobs; with one, neither.
 const WORKERS: [u32; 3] = [1, 2, 8];
 
 /// Runs `fill` on the bowl, and asserts the bytes written and the failures.

@@ -74,7 +74,7 @@ fn words_and_statuses(rt: HostRuntime) {
     }
 }
 
-/// Whether these words are refused with status 1 and a message on standard error.
+/// Returns whether these words are refused, with status 1 and a message.
 fn are_refused<R: Threads + Wait + Sync>(rt: &R, alloc: Global, words: &[&str]) -> bool {
     let outcome = outcome_of(rt, alloc, words);
     outcome.status == 1 && !outcome.errors.is_empty()

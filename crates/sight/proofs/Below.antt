@@ -16,7 +16,7 @@ use Rattle.sight.specs.Sweep.{offset_of, level_ramp, line_blocks, ramp_of, IsFam
 use Rattle.sight.specs.declared.family.Family.{Family}
 use Rattle.sight.proofs.Laid.{grows}
 use Rattle.sight.proofs.Rays.{low_onward, next_inside}
-use Rattle.sight.proofs.Spans.{floor_low, floor_high, near_index, none_outside, nothing_near, nothing_far, past, ramp_between, shows_centre, shows_ramp, stands_past}
+use Rattle.sight.proofs.Spans.{floor_low, floor_high, near_index, none_outside, nothing_near, nothing_far, past, ramp_between, shows_centre, shows_ramp, at_cell_past}
 
 smaller : (a b : ℤ) (n : ℕ) → (a *ℤ pos n) <ℤ ((b +ℤ pos 1) *ℤ pos n) → a ≤ℤ b
 smaller a b n less = by_lt_z b a (λ past. absurd
@@ -129,7 +129,7 @@ blocker cells f k y offset rise t is stands later passes blocks =
                     inside = (
                       cell.2,
                       next_inside f.side.at y f.side.cells c t.line k m.0 offset is.side stands.side
-                          (omega arith) part (stands_past f k m.0 y offset t stands m.2) cell.1,
+                          (omega arith) part (at_cell_past f k m.0 y offset t stands m.2) cell.1,
                     );
                     here = here;
                     there = ap (λ n. get_or cells n None) index ∙ there;

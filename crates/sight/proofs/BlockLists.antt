@@ -1,4 +1,5 @@
--- Upper bounds of near blocks, bounded 8 by 8, bound far blocks. Lists of bounds may be joined.
+-- An upper bound of the bounds of 8 by 8 near blocks is a bound of their far block. Lists of bounds
+-- of successive blocks may be joined.
 use Rattle.std.proofs.Common.{arith, refl, sym, ap, subst, ◌∙◌, ◌≡◌, ◌+◌, ◌-◌, ◌*◌, ◌/◌, ◌%◌, ◌<◌, ◌≤◌, ℕ, ℤ, List, [], ◌∷◌, ◌++◌, length, length-append, get_or, get_or-take, get_or-drop, drop, slice_range, ◌≤ℤ◌, Option, None, Some, inl, inr}
 use Rattle.std.proofs.lemmas.Bool.{cases_lt}
 use Rattle.std.proofs.lemmas.List.{get_or_past}
@@ -48,7 +49,7 @@ few_blocks size cells some = elim (cases_lt cells (blocks_in size cells)) [
   | inr few ↦ few
 ]
 
--- the entries of a terrain's blocks are ground of one cell a block, within the limits
+-- the entries of a terrain's blocks, as the cells of a grid, are within the limits
 pub ground_of_tops : (size : ℕ) (t : Terrain) (tops : List (Option ℤ)) → 0 < size →
     (1 ≤ t.cols) × (t.cols ≤ 4096) → (1 ≤ t.rows) × (t.rows ≤ 4096) → AreTops size t tops
     → IsGround (blocks_in size t.cols) (blocks_in size t.rows) tops

@@ -1,4 +1,5 @@
--- Two passes, over the lines on each side of an observer, leave exactly the marks of open cells.
+-- Two passes, one for each side of an observer, keep exactly the marks of cells whose line of sight
+-- no crossing with the lines blocks.
 use Rattle.std.proofs.Common.{arith, refl, sym, ap, ◌∙◌, ◌≡◌, ◌+◌, ◌-◌, ◌*◌, ◌<◌, ◌≤◌, ℕ, ℤ, pos, ◌+ℤ◌, ◌-ℤ◌, Bool, true, false, not, ◌&&◌, List, Option, None, get_or, unwrap_or, inl, inr}
 use Rattle.std.specs.Int.{abs_diff}
 use Rattle.std.specs.List.{list_any, range_with_len}

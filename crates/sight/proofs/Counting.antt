@@ -1,4 +1,4 @@
--- After each observer, a tile's values count the observers so far.
+-- After each observer, a tile's values count the observers so far that see their cells.
 use Rattle.std.proofs.Common.{arith, refl, sym, ap, ◌∙◌, ◌≡◌, ◌+◌, ◌-◌, ◌*◌, ◌/◌, ◌%◌, ◌<◌, ℕ, ℤ, Bool, true, false, List, length, get_or, take, Option, None, Some, option_map, slice_get, inl, inr}
 use Rattle.std.proofs.lemmas.Bool.{cases_lt}
 use Rattle.std.proofs.lemmas.List.{get_or_past, length-take}
@@ -36,14 +36,15 @@ value_counted t os target radius i d p false less e =
     (sym (count_by_more_no (λ (o : Observer). is_seen t o p target radius) os i d less e))
 
 -- counting the marks of observer i turns the values of the first i into those of the first i + 1
-pub looked : (t : Terrain) (os : List Observer) (target radius i : ℕ) (d : Observer) (b : Bounds)
+pub seen_counted : (t : Terrain) (os : List Observer) (target radius i : ℕ) (d : Observer)
+    (b : Bounds)
     (old new : List (Option ℕ)) (seen : List Bool) → i < length os
     → IsMadeUpTo b (HasValue t (take i os) target radius) (b.rows * b.cols) old →
     AreMarked b (MarksSeen t (get_or os i d) target radius) seen
     → length new ≡ length old →
     ((k : ℕ) → get_or new k None ≡ counted (get_or old k None) (get_or seen k false))
     → IsMadeUpTo b (HasValue t (take (i + 1) os) target radius) (b.rows * b.cols) new
-looked t os target radius i d b old new seen less before marks size each = record {
+seen_counted t os target radius i d b old new seen less before marks size each = record {
   size = size ∙ before.size;
   each = λ p inside below entry is.
       let k = index_in b p in
@@ -57,12 +58,13 @@ looked t os target radius i d b old new seen less before marks size each = recor
 }
 
 -- where observer i sees no cell of the tile, values of the first i are those of the first i + 1
-pub passed : (t : Terrain) (os : List Observer) (target radius i : ℕ) (d : Observer) (b : Bounds)
+pub unseen_counted : (t : Terrain) (os : List Observer) (target radius i : ℕ) (d : Observer)
+    (b : Bounds)
     (values : List (Option ℕ)) → i < length os
     → IsMadeUpTo b (HasValue t (take i os) target radius) (b.rows * b.cols) values →
     ((p : Place) → IsInBounds b p → is_seen t (get_or os i d) p target radius ≡ false)
     → IsMadeUpTo b (HasValue t (take (i + 1) os) target radius) (b.rows * b.cols) values
-passed t os target radius i d b values less before none = record {
+unseen_counted t os target radius i d b values less before none = record {
   size = before.size;
   each = λ p inside below entry is. before.each p inside below entry is
       ∙ value_counted t os target radius i d p false less (none p inside);

@@ -44,10 +44,10 @@ reported new old i j walked blocked at same is =
 module _ (t : Terrain) (p : Place) (b : Bounds) (e : ℤ)
     (target : ℕ) (old new : List Bool) (observer : IsInside t p) (rows : b.top + b.rows ≤ t.rows)
     (cols : b.left + b.cols ≤ t.cols) where
-  column_told : (q : Place) → IsInside t q → walk_blocks t.cells
+  column_walk_is : (q : Place) → IsInside t q → walk_blocks t.cells
       (sightline_to t.cells (family_of (columns_at b p) (rows_at t b p) e) target q.col q.row)
       ≡ column_blocks t p q e (height_of t q +ℤ pos target)
-  column_told q inside =
+  column_walk_is q inside =
       let height =
       height_is t q.row q.col (q.col * 1 + q.row * t.cols) inside.0 inside.1 (omega arith) in
       let line : Option ℤ → Sightline = λ h. record {
@@ -59,10 +59,10 @@ module _ (t : Terrain) (p : Place) (b : Bounds) (e : ℤ)
       ap (λ h. walk_blocks t.cells (line h)) (sym height)
       ∙ sym (column_blocks-walk t p q e (height_of t q +ℤ pos target) observer inside)
 
-  row_told : (q : Place) → IsInside t q → walk_blocks t.cells
+  row_walk_is : (q : Place) → IsInside t q → walk_blocks t.cells
       (sightline_to t.cells (family_of (rows_at t b p) (columns_at b p) e) target q.row q.col)
       ≡ row_blocks t p q e (height_of t q +ℤ pos target)
-  row_told q inside =
+  row_walk_is q inside =
       let height =
       height_is t q.row q.col (q.row * t.cols + q.col * 1) inside.0 inside.1 (omega arith) in
       let line : Option ℤ → Sightline = λ h. record {
@@ -81,7 +81,11 @@ module _ (t : Terrain) (p : Place) (b : Bounds) (e : ℤ)
     size = are.size;
     each = λ q inside.
         reported new old ((q.col - b.left) * 1 + (q.row - b.top) * b.cols) (index_in b q) _ _
-        (omega arith) (column_told q (omega (arith, inside.1, rows), omega (arith, inside.3, cols)))
+        (omega arith) (column_walk_is q (
+          omega (arith, inside.1, rows),
+          omega
+              (arith, inside.3, cols),
+        ))
         (are.each q.col q.row (inside.2, inside.3) (inside.0, inside.1));
   }
 
@@ -92,7 +96,7 @@ module _ (t : Terrain) (p : Place) (b : Bounds) (e : ℤ)
     size = are.size;
     each = λ q inside.
         reported new old ((q.row - b.top) * b.cols + (q.col - b.left) * 1) (index_in b q) _ _
-        (omega arith) (row_told q (omega (arith, inside.1, rows), omega (arith, inside.3, cols)))
+        (omega arith) (row_walk_is q (omega (arith, inside.1, rows), omega (arith, inside.3, cols)))
         (are.each q.row q.col (inside.0, inside.1) (inside.2, inside.3));
   }
 

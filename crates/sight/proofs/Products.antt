@@ -1,4 +1,4 @@
--- Products of signed numbers.
+-- Signed products distribute over sums and differences; small ones fit in 32 bits.
 use Rattle.std.proofs.Common.{arith, ap, refl, sym, ◌∙◌, ◌≡◌, ◌↔◌, IsTrue, ℕ, ◌+◌, ◌*◌, ◌≤◌, ℤ, pos, ◌+ℤ◌, ◌-ℤ◌, ◌*ℤ◌, unsigned_abs, FitsSigned, to_z, of_z, w32}
 use borrow.Author.Differences.{up, down, product_is}
 use Rattle.std.proofs.Math.Dec.{eqb}

@@ -23,7 +23,7 @@ sight_rises : (e rise : ℤ) (k r : ℕ) →
     ((e *ℤ pos r) +ℤ ((e +ℤ rise) *ℤ pos k)) ≡ (rise *ℤ pos k) +ℤ (e *ℤ pos (r + k))
 sight_rises e rise k r = omega (arith, ints, sum_times e rise (pos k))
 
--- where a ray is m n-ths past the cell at `offset`, a ramp's value is n bases and m steps
+-- where a ray is m n-ths past the cell at `offset`, a ramp's value is n * base + m * step
 pub ramp_gains : (base step offset j : ℤ) (n k m : ℕ) → j *ℤ pos k ≡ (offset *ℤ pos n) +ℤ pos m
     → ((step *ℤ pos k) *ℤ j) +ℤ ((base -ℤ (step *ℤ offset)) *ℤ pos n) ≡ (base *ℤ pos n)
     +ℤ (pos m *ℤ step)
@@ -85,7 +85,7 @@ pub not_shown_far : (near : ℤ) (n m : ℕ) (z : ℤ) → m < n → 0 < m →
 not_shown_far near n m z h part =
     rw (weighed_height-some (Some near) (n - m) (omega arith), weighed_height-some None m part) refl
 
--- if a ray from o to y crosses line k m / (r + k) past cell c, o * r + y * k is c * (r + k) + m
+-- if a ray from o to y crosses line k at m / (r + k) past cell c, o * r + y * k is c * (r + k) + m
 located : (o y c r k m : ℕ) (offset : ℤ) → (pos y -ℤ pos o) *ℤ pos k ≡ (offset *ℤ pos (r + k))
     +ℤ pos m → pos c ≡ pos o +ℤ offset → o * r + y * k ≡ c * (r + k) + m
 located o y c r k m offset is at = omega (

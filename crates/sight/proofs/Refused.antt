@@ -1,4 +1,5 @@
--- The refusal of a viewshed at a fault, and facts of observers without fault.
+-- A result that is the observers' fault is a correct refusal. Without fault, observers are inside
+-- the grid; their number, their eyes, the target height and the radius are within the limits.
 use Rattle.std.proofs.Common.{◌≡◌, ◌+◌, ◌||◌, ℕ, Bool, true, false, cond, ltb, is_none, List, [], ◌∷◌, length, Option, None, Some, option_map, Err, arith, refl, ◌<◌, ◌≤◌, zero, suc, ◌&&◌, get_or}
 use Rattle.std.specs.Option.{option_or}
 use Rattle.std.specs.List.{position_from}

@@ -1,4 +1,4 @@
--- The ramp of a line's ground hides exactly what the line blocks, for rays that pass its cells.
+-- Where rays pass between two cells, the ramp of their ground hides exactly what the line blocks.
 use Rattle.std.proofs.Common.{arith, refl, sym, ap, ◌∙◌, ◌≡◌, ◌+◌, ◌-◌, ◌*◌, ◌/◌, ◌^◌, ◌<◌, ◌≤◌, ℕ, ℤ, pos, negsuc, ◌+ℤ◌, ◌-ℤ◌, ◌*ℤ◌, ◌≤ℤ◌, ◌<ℤ◌, unsigned_abs, false, List, Option, None, Some, get_or, inl, inr}
 use borrow.Author.Differences.{up, down}
 use Rattle.std.specs.Int.{int_div_euclid}
@@ -61,10 +61,10 @@ lead_is f n k is few =
 abbrev pub near_index : Family → ℕ → ℕ → ℕ
 near_index f k c = lead_of f k * f.lines.stride + c * f.side.stride
 
-pub stands_past : (f : Family) (k m y : ℕ) (offset : ℤ) (t : Target) →
+pub at_cell_past : (f : Family) (k m y : ℕ) (offset : ℤ) (t : Target) →
     IsAtCell f y t → (t.offset *ℤ pos k) ≡ (offset *ℤ pos t.line) +ℤ pos m →
     (pos y -ℤ pos f.side.at) *ℤ pos k ≡ (offset *ℤ pos t.line) +ℤ pos m
-stands_past f k m y offset t stands is = ap (λ z. z *ℤ pos k) (sym stands.offset) ∙ is
+at_cell_past f k m y offset t stands is = ap (λ z. z *ℤ pos k) (sym stands.offset) ∙ is
 
 pub crossing_is : (cells : List (Option ℤ)) (f : Family) (k c m y : ℕ) (offset rise : ℤ)
     (t : Target) → IsAtCell f y t → k < t.line → m < t.line
@@ -74,7 +74,7 @@ pub crossing_is : (cells : List (Option ℤ)) (f : Family) (k c m y : ℕ) (offs
     (get_or cells (near_index f k c + f.side.stride) None) m (sight f.eye (f.eye +ℤ rise) t.line k)
 crossing_is cells f k c m y offset rise t stands later below is at =
     let cell = cell_is f.side.at y c t.line k m offset (omega arith) below
-    (stands_past f k m y offset t stands is) at in
+    (at_cell_past f k m y offset t stands is) at in
     let lead = lead_is f t.line k stands.line (omega arith) in
     rw (cell.0, cell.1, lead) refl
 
@@ -85,7 +85,7 @@ pub none_outside : (f : Family) (k y : ℕ) (offset : ℤ) (t : Target) → IsFa
 none_outside f k y offset t is stands later passes =
     let m = past k offset t passes in
     let in_side = stays_inside f.side.at y f.side.cells t.line k m.0 offset is.side stands.side
-    (omega arith) m.1 (stands_past f k m.0 y offset t stands m.2) in
+    (omega arith) m.1 (at_cell_past f k m.0 y offset t stands m.2) in
     let is_natural = natural (pos f.side.at +ℤ offset) f.side.cells in_side.0 in_side.1 in
     (up (pos f.side.at +ℤ offset), is_natural.0, is_natural.1)
   where

@@ -1,5 +1,5 @@
--- Terrain, observers, target and radius have at most one viewshed. A map of all viewshed values is
--- a viewshed.
+-- Terrain, observers, target height and radius have at most one viewshed. A map of viewshed values,
+-- made tile by tile, is a viewshed.
 use Rattle.std.proofs.Common.{arith, sym, ap, ◌∙◌, ◌≡◌, ◌*◌, ◌/◌, ◌%◌, ◌<◌, ℕ, ℤ, List, map, get_or, Option, None, Some, option_map, MatchOption}
 use Rattle.std.specs.List.{range_with_len}
 use Rattle.std.proofs.lemmas.List.FromFn.{fill_by_all}
@@ -18,10 +18,10 @@ use Rattle.tile_maps.proofs.Whole.{map_of_size}
 abbrev place_of_index : ℕ → ℕ → Place
 place_of_index cols k = record { row = k / cols; col = k % cols }
 
-entry_told : (h : Option ℤ) (n : ℕ) (entry : Option ℕ) →
+entry_is_value : (h : Option ℤ) (n : ℕ) (entry : Option ℕ) →
     MatchOption h (entry ≡ None) (λ _. entry ≡ Some n) → entry ≡ option_map (λ _. n) h
-entry_told None n entry e = e
-entry_told (Some x) n entry e = e
+entry_is_value None n entry e = e
+entry_is_value (Some x) n entry e = e
 
 -- the entry at an index is the value of its place
 entry_is : (t : Terrain) (observers : List Observer) (target radius : ℕ) (values : List (Option ℕ))
@@ -35,7 +35,7 @@ entry_is t observers target radius values k is below =
     let at : index_of t.cols p ≡ k = div-add-mod' k t.cols in
     ap (λ n. get_or values n None) (sym at)
     ∙ sym (entry-inside t.cols t.rows values p row col)
-    ∙ entry_told (height_at t p) (viewshed_value t observers target radius p)
+    ∙ entry_is_value (height_at t p) (viewshed_value t observers target radius p)
     (entry_at t.cols t.rows values p) (is.each p (row, col))
   where
     positive : (a b k : ℕ) → k < a * b → 0 < a

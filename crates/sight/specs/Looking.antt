@@ -7,7 +7,8 @@ use Rattle.sight.specs.Sweep.{HidesBefore}
 use Rattle.sight.specs.declared.family.Family.{Family}
 use Rattle.sight.specs.declared.looking.SweepLookup.{SweepLookup}
 
--- At line k, the horizon hides each target from there on exactly where a line before k blocks it.
+-- The lookup is at line k. Its horizon hides each target on line k or beyond exactly where a line
+-- before line k blocks it. Its cursor may be used at rank `last`.
 pub record LooksFrom (cells : List (Option ℤ)) (f : Family) (targets : List Target) (k : ℕ)
     (l : SweepLookup) : Type 0 where
   pub line : l.line ≡ k

@@ -51,7 +51,8 @@ sightline_to cells f height x y = record {
       +ℤ pos height;
 }
 
--- A mark is kept exactly if no crossing with the lines blocks its cell's line of sight.
+-- A mark is kept exactly if no crossing with the lines, on either side of the observer, blocks its
+-- cell's line of sight.
 pub record AreOpen (cells : List (Option ℤ)) (f : Family) (w : Window) (height : ℕ)
     (old new : List Bool) : Type 0 where
   pub size : length new ≡ length old

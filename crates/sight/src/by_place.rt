@@ -23,7 +23,6 @@ pub(crate) trait PlaceMap {
         ensures { has self.now place result };
 }
 
-/// Appends the entries of one row of a tile with these bounds.
 #[inline(always)]
 fn push_row<M: PlaceMap>(
     map: &M,

@@ -83,7 +83,7 @@ fn is_at_centre(target: Target, line: u32, offset: i32) -> bool
 /// Returns a ramp above all ground, for the targets that the sweep has passed.
 /// One ramp for all of them keeps the horizon short.
 #[inline(always)]
-pub(crate) fn passed() -> Ramp
+pub(crate) fn passed_ramp() -> Ramp
     ensures { (t : Target) → IsTarget t → IsRampAt result t }
 {
     Ramp {

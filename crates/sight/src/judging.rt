@@ -23,7 +23,6 @@ fn bad_eye(observers: &[Observer]) -> Option<usize>
     observers.iter().position(|o| o.eye > HIGHEST_EYE)
 }
 
-/// Returns the fault of the place of the observer at `index`, if it has one.
 fn place_fault_at(grid: &Grid, observer: &Observer, index: u32) -> Option<SightFault>
     ensures { result ≡ place_fault_of grid.now.terrain index observer.now }
 {

@@ -4,7 +4,8 @@ ghost use Rattle.terrain.specs.Raster.{Terrain};
 ghost use Rattle.sight.specs.Viewshed.{IsViewshed};
 ghost use Rattle.terrain.specs.declared.observer.Observer.{Observer};
 
-/// Proves that terrain, observers, target and radius have at most one viewshed.
+/// Proves that a viewshed is unique.
+/// A terrain, observers, a target height and a radius have at most one.
 pub fn viewsheds_are_one()
     ensures { (t : Terrain) (observers : List Observer) (target radius : ℕ)
         (values others : List (Option ℕ)) →

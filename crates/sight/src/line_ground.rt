@@ -9,7 +9,7 @@ ghost use Rattle.horizons.specs.Merging.{IsRampOn};
 ghost use Rattle.sightlines.specs.Walk.{AreHeights};
 ghost use Rattle.sight.specs.Sweep.{IsBefore, AreBefore, IsFamily, IsLine, Passes, PassesAmong, IsHiddenOn, RaisesBelow};
 
-use crate::family::{Family, Span, offset_at, passed};
+use crate::family::{Family, Span, offset_at, passed_ramp};
 use horizons::{Cursor, Horizon, Piece, Ramp, Target, is_never_above, push_greater};
 use std::alloc::AllocError;
 use terrain::Cell;
@@ -26,7 +26,7 @@ fn is_before(target: Target, line: u32, offset: i32) -> bool
 }
 
 /// Bisects for the end of the targets whose rays cross a line before a cell.
-/// The cell is at `offset`. Target `low` is one of them; the end is at most `high`.
+/// The cell is at `offset`. Target `low` is one of them; the result is at most `high`.
 fn bisect(targets: &[Target], low: usize, high: usize, line: u32, offset: i32) -> usize
     requires targets { AreTargets targets.now }
     requires line { line ≤ 4096 }
@@ -123,7 +123,7 @@ fn is_of_last_line(piece: Piece, line: u32) -> bool
 
 /// Returns true only if a line's ground is nowhere above a piece from target `from` on.
 #[inline(always)]
-fn is_too_low(
+fn is_ground_below_piece(
     cells: &[Cell],
     family: Family,
     line: u32,
@@ -182,7 +182,7 @@ fn raise_piece(
         let span = family.span(cells, line, targets[from]);
         // rays from this slope on cross past the side, so the sweep has passed their targets
         if span.offset >= family.end_offset() {
-            return raised.push(piece.end, passed());
+            return raised.push(piece.end, passed_ramp());
         }
         let end = end_of(span, targets, from, piece.end, line);
         push_greater(targets, span.ramp, piece.ramp, end, raised)?;
@@ -212,10 +212,12 @@ pub(crate) fn raise(
     raised.clear();
     let mut cursor = Cursor::start();
     let mut from = count_before_side(family, line, targets);
-    raised.push(from, passed())?;
+    raised.push(from, passed_ramp())?;
     while from < targets.len() {
         let piece = highest.piece(&mut cursor, from);
-        if !is_of_last_line(piece, line) && is_too_low(cells, family, line, targets, from, piece) {
+        if !is_of_last_line(piece, line)
+            && is_ground_below_piece(cells, family, line, targets, from, piece)
+        {
             raised.push(piece.end, piece.ramp)?;
         } else {
             raise_piece(cells, family, line, targets, highest, piece, raised)?;

@@ -23,7 +23,7 @@ fn cursor_at(cursor: Cursor, last: usize, rank: usize) -> Cursor
 }
 
 /// A sweep of the lines before `line`, with a cursor into its horizon.
-/// `last` is the last rank that was looked up.
+/// `last` is the rank that was looked up last, and 0 before the first.
 #[derive(Drop)]
 pub struct SweepLookup {
     pub sweep: Sweep,

@@ -23,10 +23,10 @@ const USUAL_SIDE: u32 = 256;
 /// From this average of crossings per sampled walk on, a default tile is swept.
 const SWEPT_CROSSINGS: u32 = 128;
 
-/// The least side of a tile, in cells, by which the limit on crossings is scaled.
+/// Below this side of a tile, in cells, the limit on crossings grows no further.
 const SWEPT_SIDE: u32 = 64;
 
-/// Which crossings of a line of sight are tested: all, or those nearest the target.
+/// How much of a line of sight is tested: all, or the crossings nearest the target.
 #[derive(Clone, Copy)]
 pub enum Check {
     Whole,
@@ -60,7 +60,7 @@ impl<'a> ViewshedInput<'a> {
     }
 
     /// Whether walks to a tile's cells cost more than a sweep, judged by a sample.
-    /// The smaller the tile, the higher the limit, since fewer cells share a sweep's cost.
+    /// The limit on crossings is higher for smaller tiles: fewer cells share a sweep's cost.
     fn is_sweep_cheaper(&self, observer: &Observer, bounds: Bounds) -> bool
         requires lawful { IsCutting self.now.tiling.now }
         requires inside { AreBounds self.now.tiling.now bounds }

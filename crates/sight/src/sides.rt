@@ -48,7 +48,7 @@ pub struct Coordinate {
 }
 
 /// Removes the marks of cells that crossings on either side of the observer hide.
-/// `lines` is the coordinate across the lines, `side` the one along them.
+/// `lines` is the coordinate across the lines of both families, `side` the one along them.
 fn hide_on_both_sides(
     alloc: Global,
     cells: &[Cell],

@@ -20,7 +20,8 @@ use tile_jobs::Gate;
 use tile_maps::TileMap;
 use tiles::{Bounds, Tiling};
 
-/// A viewshed to make: a grid, its block heights and tiling, and arguments without fault.
+/// The input of a viewshed: a grid, its block heights, its tiling, and arguments.
+/// Observers, target height and radius have no fault.
 #[derive(Drop)]
 pub struct ViewshedInput<'a> {
     pub grid: &'a Grid,
@@ -34,7 +35,6 @@ pub struct ViewshedInput<'a> {
     ghost faultless: { IsFaultless grid.now.terrain observers.now target_height radius },
 }
 
-/// Returns a value with one more observer; no data stays no data.
 fn one_more(value: Count) -> Count
     requires { IfSome value (λ n. n < most_observers) }
     ensures { result ≡ option_map (λ n. n + 1) value }

@@ -29,7 +29,6 @@ fn top_of(cells: &[Cell]) -> Option<Height>
     top
 }
 
-/// Returns a cell with this height, or a NODATA cell for `None`.
 #[inline(always)]
 fn top_cell(top: Option<Height>) -> Cell
     requires { (h : ℤ) → top ≡ Some h → IsHeight h }

@@ -12,7 +12,7 @@ pub struct CellRun {
 }
 
 /// A part of the grid whose cells have marks.
-/// `lines` is its run of cells across a family's lines, `side` its run along them.
+/// `lines` is its run of cells across the lines of a `Family`, `side` its run along them.
 #[derive(Clone, Copy)]
 pub struct Window {
     pub lines: CellRun,

@@ -2,12 +2,12 @@
 //!
 //! [`sees_past_blocks`] first tests crossings about as far from the observer as those that hid
 //! earlier targets.
-ghost use Rattle.std.specs.Prelude.{◌≡◌, ◌<◌, ◌≤◌, pos, ◌+ℤ◌, true, false, not, ◌&&◌, MatchOption};
+ghost use Rattle.std.specs.Prelude.{◌≡◌, ◌<◌, ◌≤◌, pos, ◌+ℤ◌, true, false, not, is_some, ◌&&◌, MatchOption};
 ghost use Rattle.terrain.specs.Raster.{IsHeight};
 ghost use Rattle.terrain.specs.Neighbours.{IsInside};
 ghost use Rattle.sightlines.specs.Sight.{highest_eye, longest_radius, is_open, is_seen, place_of};
 ghost use Rattle.sightlines.specs.Walk.{AreHeights, IsLevel, IsSightline, IsOver, AreSightlines, walk_blocks};
-ghost use Rattle.sightlines.specs.Blocks.{IsTops, blocks_in};
+ghost use Rattle.sightlines.specs.Blocks.{IsTops, IsPeak, AreTopsAlong, blocks_in};
 
 use crate::passing::{BlockStrides, blocking_step_past_blocks};
 use crate::reach::is_in_reach;
@@ -95,9 +95,9 @@ fn lines_of_sight(
 ///
 /// It is seen exactly if the observer's cell and the place have data, are at most `radius` cells
 /// apart and no crossing blocks. Crossings are where the line meets a column or a row of cell
-/// centres between the two. One blocks if the ground, a straight slope between two centres, is
-/// above the line. A crossing in which a NODATA cell takes part cannot block. `target_height` is in
-/// units.
+/// centres between the two. A crossing blocks if the ground, a straight slope between two centres,
+/// is above the line. A crossing in which a NODATA cell takes part cannot block. `target_height` is
+/// in units.
 ///
 /// # Examples
 ///
@@ -312,9 +312,39 @@ fn along_rows(size: u32, cols: u32) -> BlockStrides
     }
 }
 
+/// Returns a blocker on one form of a line of sight, if any: that over rows if `over_rows`.
+/// Skips blocks below the line, and adds the crossings of each run that it tests to
+/// `crossings_tested`.
+#[inline(always)]
+fn blocker_on(
+    cells: &[Cell],
+    tops: &MaxHeights,
+    near: BlockStrides,
+    far: BlockStrides,
+    line: Sightline,
+    over_rows: bool,
+    crossings_tested: &mut u32,
+) -> Option<Blocker>
+    requires heights { AreHeights cells.now }
+    requires line { IsSightline line }
+    requires over { IsOver cells.now line.lead line.side }
+    requires near { (near.lead ≤ 4096) × (near.side ≤ 4096) }
+    requires far { (far.lead ≤ 4096) × (far.side ≤ 4096) }
+    requires near_tops { AreTopsAlong 16 cells.now tops.now.near.items line near }
+    requires far_tops { AreTopsAlong 128 cells.now tops.now.far.items line far }
+    requires peak { IsHeight tops.now.peak × IsPeak tops.now.far.items tops.now.peak }
+    ensures { is_some result ≡ walk_blocks cells.now line }
+{
+    let step = blocking_step_past_blocks(cells, tops, near, far, line, crossings_tested)?;
+    Some(Blocker {
+        over_rows,
+        left: line.steps() - step,
+    })
+}
+
 /// Returns the result of [`sees`], and skips blocks of cells below the line.
 /// `tops` has the blocks' greatest heights; `walked` keeps the crossings that hid earlier targets.
-/// Crossings about as far from the observer are tested first: they often hide this target too.
+/// Crossings about as far from the observer as those are tested first: they often hide this target.
 ///
 /// # Examples
 ///
@@ -358,40 +388,15 @@ pub fn sees_past_blocks(
     let cols = grid.cols();
     let near = along_columns(NEAR_BLOCK, cols);
     let far = along_columns(FAR_BLOCK, cols);
-    let line = lines.columns;
-    if let Some(step) = blocking_step_past_blocks(
-        cells,
-        tops,
-        near,
-        far,
-        line,
-        &mut walked.crossings_tested,
-    ) {
-        let blocker = Blocker {
-            over_rows: false,
-            left: line.steps() - step,
-        };
+    let tested = &mut walked.crossings_tested;
+    if let Some(blocker) = blocker_on(cells, tops, near, far, lines.columns, false, tested) {
         walked.keep(target.col, Some(blocker));
         return false;
     }
     let near = along_rows(NEAR_BLOCK, cols);
     let far = along_rows(FAR_BLOCK, cols);
-    let line = lines.rows;
-    if let Some(step) = blocking_step_past_blocks(
-        cells,
-        tops,
-        near,
-        far,
-        line,
-        &mut walked.crossings_tested,
-    ) {
-        let blocker = Blocker {
-            over_rows: true,
-            left: line.steps() - step,
-        };
-        walked.keep(target.col, Some(blocker));
-        return false;
-    }
-    walked.keep(target.col, None);
-    true
+    let tested = &mut walked.crossings_tested;
+    let blocker = blocker_on(cells, tops, near, far, lines.rows, true, tested);
+    walked.keep(target.col, blocker);
+    blocker.is_none()
 }

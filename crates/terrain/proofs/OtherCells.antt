@@ -1,4 +1,4 @@
--- A grid stays lawful with as many other cells whose heights are in range and not the NODATA value.
+-- A grid stays lawful with as many other cells, if their heights are in range and not NODATA.
 use Rattle.std.proofs.Common.{◌≡◌, ◌≢◌, ◌*◌, ℤ, List, length, get_or, Option, None, Some}
 use Rattle.std.specs.Prelude.{IfSome}
 use Rattle.std.specs.List.{All, Contains}
@@ -8,7 +8,7 @@ use Rattle.terrain.specs.Raster.{Raster, IsLawful, IsHeight, IsInGrid}
 use Rattle.terrain.specs.Parts.{raster_with_parts}
 use Rattle.terrain.specs.declared.place.Place.{Place}
 
--- if all heights of `cells` occur in `old`, a property of all heights of `old` holds for them
+-- a property of all heights of `old` holds for those of `cells`, if each of these occurs in `old`
 heights_kept : (P : ℤ → Type 0) (old cells : List (Option ℤ)) → All (λ c. IfSome c P) old →
     All (λ c. IfSome c (λ h. Contains old (Some h))) cells → All (λ c. IfSome c P) cells
 heights_kept P old cells all held i d low = at (get_or cells i d) (held i d low) where
@@ -16,7 +16,8 @@ heights_kept P old cells all held i d low = at (get_or cells i d) (held i d low)
   at None h = h
   at (Some z) h = All-contains (λ c. IfSome c P) old (Some z) all h
 
--- a grid stays lawful with as many cells, of heights in range and not NODATA, and sinks inside it
+-- a grid stays lawful with as many other cells, of heights in range and not NODATA, and with other
+-- sinks inside the grid
 pub lawful_with_parts : (g : Raster) (cells : List (Option ℤ)) (sinks : List Place) → IsLawful g
     → length cells ≡ g.terrain.cols * g.terrain.rows → All (λ c. IfSome c IsHeight) cells
     → All (λ c. IfSome c (λ h. scaled_value g.scale g.nodata ≢ Some h)) cells

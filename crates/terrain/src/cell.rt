@@ -1,6 +1,7 @@
 //! A cell of a grid: a height or no data, in 8 bytes.
 //!
-//! Contracts see a cell as an option; [`Cell::of`] and [`Cell::height`] convert.
+//! Contracts see a cell as an option. [`Cell::of`] makes a cell of a height, and [`Cell::height`]
+//! returns the option.
 ghost use Rattle.std.specs.Prelude.{◌≡◌, ◌↔◌, ◌≤ℤ◌, IsTrue, None, Some, unwrap_or};
 ghost use Rattle.terrain.specs.Raster.{highest};
 ghost use Rattle.terrain.specs.StoredCells.{stored_cell, no_data};

@@ -1,6 +1,7 @@
 //! An entry of a map of whole numbers: a number or no data, in 4 bytes.
 //!
-//! Contracts see an entry as an option; [`Count::of`] and [`Count::value`] convert.
+//! Contracts see an entry as an option. [`Count::of`] makes an entry of a number, and
+//! [`Count::value`] returns the option.
 ghost use Rattle.std.specs.Prelude.{◌≡◌, ◌<◌, None, Some};
 ghost use Rattle.terrain.specs.StoredCells.{stored_count, uncounted};
 

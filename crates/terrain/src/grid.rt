@@ -363,7 +363,7 @@ impl Grid {
     ///
     /// [`SinkFault::TooManySinks`] for more than [`MOST_SINKS`](crate::MOST_SINKS) entries; else
     /// [`SinkFault::Outside`] or [`SinkFault::OnNodata`] for the first sink outside the grid or
-    /// without data; else [`SinkFault::Memory`] if an allocation fails.
+    /// without data. Without such a fault, [`SinkFault::Memory`] if an allocation fails.
     ///
     /// # Examples
     ///
@@ -386,7 +386,7 @@ impl Grid {
     ///
     /// [`SinkFault::TooManySinks`] for more than [`MOST_SINKS`](crate::MOST_SINKS) entries; else
     /// [`SinkFault::Outside`] or [`SinkFault::OnNodata`] for the first sink outside the grid or
-    /// without data; else [`SinkFault::Memory`] if an allocation fails.
+    /// without data. Without such a fault, [`SinkFault::Memory`] if an allocation fails.
     pub fn name_sinks(self, alloc: Global, sinks: &[Place]) -> Result<Grid, SinkFault>
         ensures grid { IfOk result (λ g. g ≡ raster_with_sinks self sinks.now) }
         ensures fault { RefusesSinks (sinks_fault self.terrain sinks.now) result }

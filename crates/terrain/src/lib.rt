@@ -27,7 +27,7 @@ pub use cell::{Cell, NO_DATA};
 pub use count::Count;
 pub use grid::{Anchor, Frame, Grid, GridHeader, LONGEST_AXIS, NoMemory};
 pub use observer::Observer;
-pub use place::{GREATEST_DROP, HIGHEST, Height, LOWEST, Place};
+pub use place::{HIGHEST, Height, LOWEST, Place};
 pub use sinks::{MOST_SINKS, SinkFault, sinks_fault};
 pub use ways::{around_index, place_on};
 pub use word::{MOST_WORD_BYTES, Word};

@@ -28,6 +28,3 @@ pub const LOWEST: Height = -1_000_000_000_000_000;
 
 /// The greatest height, in units.
 pub const HIGHEST: Height = 1_000_000_000_000_000;
-
-/// The greatest difference of two heights, [`HIGHEST`] less [`LOWEST`].
-pub const GREATEST_DROP: u64 = 2_000_000_000_000_000;

@@ -21,8 +21,8 @@ const FRONT_BYTES: usize = 4096;
 /// Reads a grid from a device, by several workers.
 ///
 /// Heights are in units of 10^-scale. With more than one worker, the caller's thread reads batches
-/// of at most 1 MiB, and jobs parse most heights of long ones. If a thread or memory is refused,
-/// the caller's thread parses them.
+/// of at most 1 MiB, and jobs parse most heights of long ones. If a thread or memory for jobs is
+/// refused, the caller's thread parses these heights too.
 ///
 /// # Memory
 ///

@@ -1,7 +1,7 @@
 //! Writes maps by several workers.
 //!
-//! With several workers, jobs make the text of all rows before the first byte is written. After it
-//! nothing is allocated.
+//! With several workers, jobs make the text of all rows before the first byte is written. After
+//! that byte nothing is allocated.
 ghost use Rattle.std.specs.Prelude.{◌≡◌, ◌++◌, ◌*◌, ◌-◌, ◌/◌, ◌^◌, ◌<◌, ◌≤◌, length, IfSome};
 ghost use Rattle.std.specs.List.{flat_map};
 ghost use Rattle.terrain.specs.declared.word.TheConstants.{MOST_WORD_BYTES};
@@ -22,7 +22,7 @@ use tile_maps::Runner;
 /// The most cells of which one job makes the text.
 const JOB_CELLS: usize = 65_536;
 
-/// Jobs that return the text of `rows_each` rows each, the last of the rows that remain.
+/// Jobs that each return the text of `rows_each` rows; the last has the rows that remain.
 #[derive(Drop)]
 struct LineJobs<'a, E> {
     cells: &'a [E],
@@ -94,7 +94,6 @@ fn make_lines<T: Threads + Wait + Sync, G: Gate + Sync, E: MapCell + Sync>(
     }
 }
 
-/// Writes a map. With several workers, jobs make the text of all its rows first.
 fn write_map<T: Threads + Wait + Sync, G: Gate + Sync, E: MapCell + Sync, W: Write>(
     runner: &Runner<T, G>,
     frame: &Frame,

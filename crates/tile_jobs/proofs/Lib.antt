@@ -10,5 +10,5 @@ pub mod Seats
 pub mod Closings
 pub mod Closes
 -- Workers and their results.
-pub mod Answers
+pub mod Results
 pub mod Workers

@@ -353,7 +353,8 @@ begins = record {
   views_are = first_is;
 }
 
--- Pushing the next entry keeps `Lawful` if none was taken and the other views stay lawful.
+-- Pushing the next entry keeps `Lawful` if no entry was taken, only the owner has a share, and the
+-- other views stay lawful.
 pushed_after : (J S V n : ℕ) (e : Entry) (rest items : List Entry) (views : List Log)
     (h : Lawful items views) (port : ℕ) → get_elem? views port ≡ some (dealing J S V n) →
     e ∷ rest ≡ drop n (feed J S V)

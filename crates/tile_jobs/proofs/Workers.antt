@@ -3,8 +3,8 @@ use Rattle.std.proofs.Common.{◌≡◌, ℕ, zero, suc, ◌+◌, ◌<◌, Resul
 use Rattle.std.proofs.lemmas.Bool.{cases_lt}
 use Rattle.std.proofs.lemmas.Bool.Decides.{nat_tests}
 use Rattle.tile_jobs.specs.declared.slots.JobResult.{JobResult}
-use Rattle.tile_jobs.specs.Answers.{IsFilled}
-use Rattle.tile_jobs.proofs.Answers.{answered_more, answered_last}
+use Rattle.tile_jobs.specs.Results.{HasResult}
+use Rattle.tile_jobs.proofs.Results.{answered_more, answered_last}
 use Rattle.std.specs.Prelude.{IsOkAnd}
 use Rattle.tile_jobs.specs.declared.JobFault.{JobFault}
 use Rattle.tile_jobs.specs.declared.worker.WorkerResult.{WorkerResult}
@@ -25,15 +25,15 @@ seat_trans a b c x y = (
 
 module _ {O : Type 0} where
   whole_at : (b : Bool) (j job : ℕ) (taken : List ℕ) (list : List (JobResult O)) (a : JobResult O) →
-      (job == j) ≡ b → a.job ≡ job → (0 < times j taken → IsFilled list j) →
-      0 < times j taken + (cond b 1 0 + 0) → IsFilled (list ++ a ∷ []) j
+      (job == j) ≡ b → a.job ≡ job → (0 < times j taken → HasResult list j) →
+      0 < times j taken + (cond b 1 0 + 0) → HasResult (list ++ a ∷ []) j
   whole_at true j job taken list a is e old n =
       answered_last list a j (e ∙ grind (arith, nat_tests))
   whole_at false j job taken list a is e old n = answered_more list (a ∷ []) j (old (omega arith))
 
   pub whole_more : (j job : ℕ) (taken : List ℕ) (list : List (JobResult O)) (a : JobResult O) →
-      a.job ≡ job → (0 < times j taken → IsFilled list j) → 0 < times j (taken ++ job ∷ []) →
-      IsFilled (list ++ a ∷ []) j
+      a.job ≡ job → (0 < times j taken → HasResult list j) → 0 < times j (taken ++ job ∷ []) →
+      HasResult (list ++ a ∷ []) j
   whole_more j job taken list a e old n = let s = times_append j taken (job ∷ []) in
       whole_at (job == j) j job taken list a refl e old (omega arith)
 

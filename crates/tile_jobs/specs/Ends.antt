@@ -221,7 +221,7 @@ pub record ClosingState : Type 0 where
   pub deque : ℕ
   pub took : List ℕ
   pub gathered : List ℕ
-  -- the number of ends joined, with the owner's; the number of marks taken at these, by `close` too
+  -- the number of ends joined, the owner's included; the number of end marks taken at these
   pub back : ℕ
   pub marks : ℕ
   pub marked : Bool

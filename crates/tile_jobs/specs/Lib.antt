@@ -1,4 +1,4 @@
-pub mod Answers
+pub mod Results
 pub mod Fault
 pub mod Board
 pub mod Rule

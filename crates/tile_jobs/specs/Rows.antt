@@ -1,5 +1,5 @@
 -- The stealing ends of a board, a row for each seat, while `Board::close` closes deque by deque.
--- For each deque, `close` takes the end of that deque from the front of the other seats' rows.
+-- To close a deque, `close` takes the first end off each row but that of the deque's owner.
 -- Private.
 use Rattle.std.specs.Prelude.{◌≡◌, ◌≢◌, ℕ, ◌+◌, ◌<◌, ◌==◌, true, cond, List, [], length, drop, slice_index_or}
 use Rattle.std.specs.declared.alloc.Global.{Global}
@@ -11,7 +11,7 @@ use Rattle.tile_jobs.specs.Ends.{DequeId, EndState}
 abbrev pub Rows : Type 0
 Rows = List (Vec EndState Global)
 
--- P holds of the first end of each row below n, except that of seat v.
+-- For each row s below n, except row v, P holds of s and the first end of the row.
 abbrev pub EachHead : ℕ → ℕ → Rows → (ℕ → EndState → Type 0) → Type 0
 EachHead n v rows P = (s : ℕ) (d : Vec EndState Global) (e : EndState) → s < n → s ≢ v →
     P s (slice_index_or (slice_index_or rows s d).items 0 e)
@@ -22,7 +22,7 @@ HaveHeads n v rows id = (s : ℕ) (d : Vec EndState Global) (e : EndState) → s
     (0 < length (slice_index_or rows s d).items)
     × ((slice_index_or (slice_index_or rows s d).items 0 e).id ≡ id)
 
--- Each new row is the old one without its first end; only the row of seat v is unchanged.
+-- Each new row below n is the old one without its first end; only the row of seat v is unchanged.
 abbrev pub WithoutHeads : ℕ → ℕ → Rows → Rows → Type 0
 WithoutHeads n v rows new = (s : ℕ) (d : Vec EndState Global) → s < n →
     (slice_index_or new s d).items
@@ -35,7 +35,7 @@ pub record IsLeftOf (own : EndState) (n v : ℕ) (rows : Rows) (left : List ℕ)
   -- No job is left if some seat has its end mark of this deque.
   pub own_mark : own.marked ≡ true → left ≡ []
   pub marks : EachHead n v rows (λ s e. e.marked ≡ true → left ≡ [])
-  -- The jobs that seats took of this deque and the jobs left together are the deque's deal.
+  -- A number occurs in the lists of the deque's ends and in `left` as often as in its deal.
   pub once : (y : ℕ) (f : ℕ → ℕ) → EachHead n v rows (λ s e. times y e.took ≡ f s) →
       times y own.took ≡ f v
       → sum_to n f + times y left ≡ times y (deal own.jobs own.seats own.deque)

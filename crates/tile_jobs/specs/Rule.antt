@@ -56,7 +56,7 @@ abbrev pub once : ℕ → ℕ → ℕ
 once zero x = 0
 once (suc n) x = x
 
--- The dealer's view after n pushes. The first push fixes the deque's numbers.
+-- The dealer's view after n pushes. The first push sets the deque's numbers.
 abbrev pub dealing : ℕ → ℕ → ℕ → ℕ → Log
 dealing jobs seats v n = record {
   jobs = once n jobs;

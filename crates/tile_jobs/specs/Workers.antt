@@ -4,7 +4,7 @@ use Rattle.std.specs.Prelude.{◌≡◌, ℕ, ◌<◌, ◌≤◌, List, Result, 
 use Rattle.tile_jobs.specs.declared.JobFault.{JobFault}
 use Rattle.tile_jobs.specs.declared.JobFault.TheVariants.{Memory}
 use Rattle.tile_jobs.specs.declared.worker.WorkerResult.{WorkerResult}
-use Rattle.tile_jobs.specs.Answers.{AllAnswer, IsFilled}
+use Rattle.tile_jobs.specs.Results.{AreJobResults, HasResult}
 use Rattle.tile_jobs.specs.Board.{times}
 use Rattle.tile_jobs.specs.Ends.{SeatState, SameSeat, HasAllMarks, IsNew}
 
@@ -14,8 +14,8 @@ module _ {O : Type 0} where
       (output : WorkerResult O) : Type 0 where
     pub same : SameSeat seat output.seat
     pub empty : HasAllMarks output.seat
-    pub right : AllAnswer gives seat.own.jobs output.answers.items
-    pub whole : (j : ℕ) → 0 < times j output.seat.taken → IsFilled output.answers.items j
+    pub right : AreJobResults gives seat.own.jobs output.answers.items
+    pub whole : (j : ℕ) → 0 < times j output.seat.taken → HasResult output.answers.items j
 
   -- A worker's outcome: `Ok` as `IsWorked` says, or else the fault `Memory`.
   abbrev pub IsOutcome : (ℕ → O → Type 0) → SeatState → Result (WorkerResult O) JobFault → Type 0

@@ -60,7 +60,7 @@ fn close_one(own: OwnEnd, rows: &mut Vec<Vec<OtherEnd>>, v: usize, left: &mut Ve
     closing.empty_into(left);
 }
 
-/// Splits each seat into its own end, its row of other ends and its list of jobs taken.
+/// Splits each seat into its own end, its other ends and its list of jobs taken.
 fn split_seats(
     seats: Vec<Seat>,
     owns: &mut Vec<OwnEnd>,
@@ -98,7 +98,7 @@ pub struct Closed {
     pub left: Vec<u32>,
 }
 
-/// A board of numbered jobs: deals them to seats, and lists those taken and left at the end.
+/// A board of numbered jobs: deals them to seats, and lists those taken and left.
 ///
 /// Each seat owns a deque and may steal from the others. After its jobs a deque has one end mark
 /// for each seat. Once a mark is taken, the deque has no job left. The seats hold all state, and

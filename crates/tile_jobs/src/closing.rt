@@ -58,7 +58,8 @@ impl Closing {
         }
     }
 
-    /// Drops the deque. `len_as` yields the fact that each job dealt to it was taken exactly once.
+    /// Drops the deque.
+    /// `len_as` yields the fact that each job dealt to it was taken exactly once.
     pub(crate) fn finish(self)
         requires back { self.back ≡ self.seats }
         requires marked { self.marked ≡ true }

@@ -10,7 +10,7 @@ use crate::ends::{OtherEnd, OwnEnd};
 use std::alloc::{AllocError, Global};
 use std::marker::Model;
 
-/// A deque that has all its jobs and end marks, and still lacks the ends of some seats.
+/// A deque with all its entries, which still lacks the ends of some seats.
 #[derive(Drop)]
 pub struct Dealer {
     worker: Deque,
@@ -53,7 +53,6 @@ fn push_jobs<D: DequeKey>(worker: &mut Deque, jobs: u32, seats: u32, v: u32)
     }
 }
 
-/// Pushes one end mark for each seat, after all jobs.
 fn push_marks<D: DequeKey>(worker: &mut Deque, seats: u32)
     requires place { D.seats ≡ seats }
     requires index { worker_index worker.old ≡ length (deal D.jobs seats D.deque) }

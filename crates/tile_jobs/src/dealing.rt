@@ -35,7 +35,6 @@ fn split_for_all(
     Ok(())
 }
 
-/// Allocates an empty row of ends for each seat.
 fn empty_rows(alloc: Global, seats: u32) -> Result<Vec<Vec<OtherEnd>>, AllocError>
     ensures len { IfOk result (λ v. vec_len v ≡ seats) }
     ensures empty { IfOk result
@@ -49,7 +48,7 @@ fn empty_rows(alloc: Global, seats: u32) -> Result<Vec<Vec<OtherEnd>>, AllocErro
     Ok(rows)
 }
 
-/// All ends of all deques: the owners' ends, and for each seat a row of its other ends.
+/// All ends of all deques: the owners' ends, and each seat's row of other ends.
 #[derive(Drop)]
 pub struct Ends {
     pub owns: Vec<OwnEnd>,

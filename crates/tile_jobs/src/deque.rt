@@ -20,7 +20,7 @@ pub enum Entry {
     End,
 }
 
-/// The view of one pass, for proofs: no value of it exists at run time.
+/// The view of one pass, for proofs: no `Log` exists at run time.
 pub struct Log {
     // the board's numbers of jobs and seats, and the deque's number
     pub jobs: u64,
@@ -40,7 +40,7 @@ pub struct Log {
     pub gathered: LinkedList<LinkedList<u32>>,
 }
 
-/// The protocol of a deque: `Lawful` holds after each push, pop, steal, split and join.
+/// The protocol of a deque: each push, pop, steal, split and join keeps `Lawful`.
 pub struct DequeRule;
 
 impl Protocol<Entry, Log> for DequeRule {
@@ -59,7 +59,8 @@ pub type Deque = Worker<Entry, Global, Log, DequeRule>;
 /// A stealing seat's handle of a deque.
 pub type Thief = Stealer<Entry, Global, Log, DequeRule>;
 
-/// A type that names a deque by the board's numbers of jobs and seats and the deque's number.
+/// A type that names a deque.
+/// It has the board's numbers of jobs and seats, and the deque's number.
 pub trait DequeKey {
     ghost jobs: { ℕ };
 
@@ -77,7 +78,8 @@ impl DequeKey for Brand {
     ghost deque = { 0 };
 }
 
-/// The outcome of a push on the deque that `D` names: the view `dealing`, one push on.
+/// The outcome of a push on the deque that `D` names.
+/// The new view is `dealing` after one push more.
 pub struct Deals<D> {
     place: PhantomData<D>,
 }
@@ -100,7 +102,8 @@ impl Outcome<Entry, Log> for Takes {
     ghost empty = { λ _. ⊥ };
 }
 
-/// The outcome of taking one entry, as `TookNext` says. The deque is never found empty.
+/// The outcome of taking one entry, as `TookNext` says.
+/// The deque is never found empty.
 pub struct TakesNext;
 
 impl Outcome<Entry, Log> for TakesNext {
@@ -130,7 +133,8 @@ impl Join<Log> for SplitsEnd {
     ghost spent = { spent };
 }
 
-/// The fact that the owner's and joined lists have each dealt job once and no other.
+/// The fact that the pass and those joined to it took each job of the deque once.
+/// They took no other job.
 pub struct Whole;
 
 impl Lesson<Entry, Log> for Whole {

@@ -1,4 +1,6 @@
-//! A seat's ends: its handle of each deque. The seat pops at its own end and steals at the others.
+//! A seat's ends: its handle of each deque.
+//!
+//! The seat pops at its own end and steals at the others.
 ghost use Rattle.std.specs.Prelude.{◌≡◌, ◌≤◌, true, false, cond, length, vec_len, MatchOption};
 ghost use Rattle.crossbeam_deque.specs.Handles.{taken, view as pass_view, IsPassOf, worker_deque, stealer_deque, worker_view, worker_flavor, stealer_flavor};
 ghost use Rattle.tile_jobs.specs.Ends.{EndState, end_of, IsOwn, IsOther, TookJob, Kept, LostSteal, SameElsewhere};
@@ -29,7 +31,7 @@ impl Model for OwnEnd {
 pub struct OtherEnd {
     thief: Thief,
     pass: Pass<Entry, Log>,
-    // at least one steal was tried; contracts alone read it
+    // whether a steal was tried; contracts alone read this field
     tried: bool,
     marked: bool,
 }

@@ -13,8 +13,8 @@ pub trait Gate {
     /// Called after each job that succeeds, on the thread that ran it.
     fn leave(&self, _job: u32) {}
 
-    /// Called after each of a job's `parts` parts, on the thread that runs the job.
-    /// A job without parts never calls `finish_part`.
+    /// Called after each part that succeeds, on the thread that runs the job.
+    /// The job has `parts` parts. A job without parts never calls `finish_part`.
     fn finish_part(&self, _parts: usize) {}
 }
 

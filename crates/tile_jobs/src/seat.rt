@@ -62,7 +62,8 @@ impl Seat {
         })
     }
 
-    /// Returns the capacity of the list of jobs taken, at least the board's number of jobs.
+    /// Returns the capacity of the list of jobs taken.
+    /// It is at least the board's number of jobs.
     pub(crate) fn capacity(&self) -> usize
         ensures { self.now.own.jobs ≤ result }
     {
@@ -87,8 +88,8 @@ impl Seat {
     /// Tries at most one steal at each other deque, from the next seat's to the last, then from the
     /// first on. A seat gets the jobs of one deque in rising order. Never allocates or waits.
     ///
-    /// Returns [`Take::Empty`] once this seat took one end mark of each deque. No job follows them.
-    /// Returns [`Take::Again`] only if a steal of this call lost a race to another seat.
+    /// Returns [`Take::Empty`] once this seat took one end mark of each deque: no job follows an
+    /// end mark. Returns [`Take::Again`] only if a steal of this call lost a race to another seat.
     ///
     /// # Examples
     ///

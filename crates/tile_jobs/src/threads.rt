@@ -14,7 +14,6 @@ use std::sync::Wait;
 use std::thread;
 use std::thread::{Promise, PromisedHandle, Scope, Threads};
 
-/// Joins all threads and drops their results.
 fn join_all<R: Threads, T: Drop, P: Promise<T>>(rt: &R, children: Vec<PromisedHandle<T, P>>) {
     for child in children {
         child.join(rt);

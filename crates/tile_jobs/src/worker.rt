@@ -1,4 +1,4 @@
-//! Runs one worker, which takes jobs through its seat until none is left or a fault occurs.
+//! Runs one worker, which takes jobs until none is left or a fault occurs.
 ghost use Rattle.std.specs.Prelude.{◌≤◌};
 ghost use Rattle.tile_jobs.specs.Ends.{IsNew};
 ghost use Rattle.tile_jobs.specs.Workers.{IsOutcome};
@@ -54,7 +54,7 @@ where
     Ok(WorkerResult { seat, answers })
 }
 
-/// The promise of a worker's thread about its result, for the seat that the thread started with.
+/// A worker's promise about its result, for the seat that it started with.
 #[derive(Drop)]
 pub struct WorkerPromise<'a, W> {
     pub work: &'a W,

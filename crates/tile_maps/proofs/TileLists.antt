@@ -38,7 +38,7 @@ made_push {X} b Has p list x inside before here = record {
   ];
 }
 
--- `made_push` for the place in this row and column, counted from the first of the bounds
+-- `row` and `col` count from the first row and column of the bounds.
 pub made_next : {X : Type 0} (b : Bounds) (Has : Place → X → Type 0) (row col : ℕ) (list : List X)
     (x : X) → row < b.rows → col < b.cols →
     IsMadeUpTo b Has (row * b.cols + col) list → Has (make_place (b.top + row) (b.left + col)) x →

@@ -5,7 +5,7 @@ use Rattle.std.proofs.lemmas.Option.{get_or_from_slice_get, slice_get-get_or, sl
 use Rattle.terrain.specs.Neighbours.{entry_at, index_of}
 use Rattle.terrain.specs.declared.place.Place.{Place}
 use Rattle.terrain.proofs.Places.{entry-inside, index_below}
-use Rattle.tile_jobs.specs.Answers.{AreResults}
+use Rattle.tile_jobs.specs.Results.{AreResults}
 use Rattle.tiles.specs.Cutting.{Cutting, IsCutting, IsInTile, IsWithin, AreTileLists, IsPutBack, cell_count, index_in_tile, tile_count, tile_entry, tile_of_place}
 use Rattle.tiles.proofs.Cut.{tile_of_place_below}
 use Rattle.tiles.proofs.TileOrder.{index_in_tile_is, tile_entry-in}
@@ -66,7 +66,7 @@ entry_of_map {X} c Has whole made p within =
     (slice_get-get_or whole (index_of c.cols p) None
     (omega (arith, made.size, index_below c.cols c.rows p within.0 within.1))))
 
--- a map of `cols` by `rows` cells has one entry for each cell, and `Has` holds of each entry
+-- A map of `cols` by `rows` cells has one entry for each cell, and `Has` holds of each entry.
 pub map_of_size : {X : Type 0} (c : Cutting) (cols rows : ℕ) (Has : Place → Option X → Type 0)
     (whole : List (Option X)) → c.cols ≡ cols → c.rows ≡ rows → IsMadeMap c Has whole →
     (length whole ≡ cols * rows)

@@ -2,7 +2,7 @@
 //!
 //! [`Runner::run`] runs any jobs, and [`Runner::map_tiles`] makes a map.
 ghost use Rattle.std.specs.Prelude.{◌≡◌, ◌≤◌, vec_len, IfOk};
-ghost use Rattle.tile_jobs.specs.Answers.{AreResults};
+ghost use Rattle.tile_jobs.specs.Results.{AreResults};
 ghost use Rattle.tile_jobs.specs.Fault.{RefusesWorkers};
 ghost use Rattle.tile_maps.specs.Maps.{IsMadeMap};
 

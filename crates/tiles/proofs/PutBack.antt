@@ -86,7 +86,7 @@ crossed_at t row column h r c =
       ap (λ n. min t.side (t.cols - n)) left,
     )
 
--- the length of the grid's list up to the end of `row` in its first `column` tiles
+-- the number of cells in the rows before `row`, plus those of `row` in its first `column` tiles
 abbrev pub crossed_length : Cutting → ℕ → ℕ → ℕ
 crossed_length t row column = row * t.cols + min t.cols (column * t.side)
 

@@ -8,7 +8,7 @@ use Rattle.terrain.proofs.Places.{make_place, same_place}
 use Rattle.tiles.specs.declared.bounds.Bounds.{Bounds}
 use Rattle.tiles.specs.Cutting.{Cutting, IsCutting, IsWithin, IsInBounds, across, tile_count, tile_of_place, bounds_of, is_first_or_last, is_on_rim}
 use Rattle.tiles.proofs.Cut.{in_bounds, tile_of_place_below}
-use Rattle.tiles.specs.RimNumbers.{stride, side_number, side_place, number_count, rim_number, rim_place}
+use Rattle.tiles.specs.RimNumbers.{stride, side_number, side_place, rim_number_count, rim_number, rim_place}
 
 abbrev pub IsSide : Bounds → Place → Type 0
 IsSide b p = p.row ≢ b.top → p.row + 1 ≢ b.top + b.rows → p.col ≢ b.left →
@@ -111,7 +111,7 @@ module _ (t : Cutting) (h : IsCutting t) where
       ∙ omega arith in
       omega arith
 
-  pub number_below : (p : Place) → IsWithin t p → rim_number t p < number_count t
+  pub number_below : (p : Place) → IsWithin t p → rim_number t p < rim_number_count t
   number_below p w =
       let tile = tile_of_place t p in
       let i = in_bounds t (tile_of_place t p) p h (w, omega arith) in
@@ -144,7 +144,7 @@ module _ (t : Cutting) (h : IsCutting t) where
       rim_place t (rim_number t p) ≡ p
   rim_back p w on = number_back p w (side_of_rim (bounds_of t (tile_of_place t p)) p on)
 
-  pub few_numbers : number_count t ≤ 2 ^ 30
+  pub few_numbers : rim_number_count t ≤ 2 ^ 30
   few_numbers =
       let side : stride (bounds_of t 0) ≤ 16384 =
       (let b = bounds_of t 0 in omega (arith, h.few_cols, h.few_rows, h.short_side)) in
@@ -152,7 +152,7 @@ module _ (t : Cutting) (h : IsCutting t) where
       mul-le-mul h.few_tiles side in
       omega arith
 
-pub some_tile : (t : Cutting) (i : ℕ) → i < number_count t → 0 < tile_count t
+pub some_tile : (t : Cutting) (i : ℕ) → i < rim_number_count t → 0 < tile_count t
 some_tile t i k = elim (cases_eq (tile_count t) 0) [
   | inl e ↦ absurd
       (omega (arith, k, ap (λ n. n * stride (bounds_of t 0)) e, zero-mul (stride (bounds_of t 0))))

@@ -150,7 +150,7 @@ pub record IsView {X : Type 0} (v : View X) : Type 0 where
   pub tile : v.tile < tile_count v.cutting
   pub size : length v.cells ≡ v.cutting.cols * v.cutting.rows
 
--- A view of the tile shows the place: it is inside the grid, in the tile or next to it.
+-- A view of the tile shows the place: it is inside the grid, and in the tile or next to the tile.
 abbrev pub is_shown : Cutting → ℕ → Place → Bool
 is_shown t tile p =
     let b = bounds_of t tile in

@@ -28,8 +28,8 @@ side_place largest b i =
     else record { row = b.top + (i - (2 * largest.cols + largest.rows)); col = b.left + b.cols - 1 }
 
 -- How many numbers all tiles have. No tile is larger than tile 0.
-abbrev pub number_count : Cutting → ℕ
-number_count t = tile_count t * stride (bounds_of t 0)
+abbrev pub rim_number_count : Cutting → ℕ
+rim_number_count t = tile_count t * stride (bounds_of t 0)
 
 -- The number of a rim cell, and the rim cell of a number. Some numbers have no rim cell.
 abbrev pub rim_number : Cutting → Place → ℕ

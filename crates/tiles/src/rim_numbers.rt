@@ -1,11 +1,11 @@
 //! Numbers for the rim cells of all tiles, computed without a table.
 //!
 //! Each tile has as many numbers as two rows and two columns of the largest tile have cells.
-//! A corner is in a row and a column, and some tiles are smaller, so some numbers have no cell.
+//! A corner is in a row and a column, and a tile may be smaller, so some numbers have no cell.
 //! `flow` links rim cells by number.
 ghost use Rattle.std.specs.Prelude.{◌≡◌, ◌+◌, ◌*◌, ◌^◌, ◌<◌, ◌≤◌, true};
 ghost use Rattle.tiles.specs.Cutting.{IsInBounds, IsWithin, IsWithinLimits, bounds_of, is_on_rim, tile_count};
-ghost use Rattle.tiles.specs.RimNumbers.{stride, side_number, side_place, number_count, rim_number, rim_place};
+ghost use Rattle.tiles.specs.RimNumbers.{stride, side_number, side_place, rim_number_count, rim_number, rim_place};
 
 use crate::bounds::Bounds;
 use crate::tiling::Tiling;
@@ -13,19 +13,19 @@ use terrain::Place;
 
 impl Tiling {
     /// Returns how many rim numbers all tiles have.
-    pub fn number_count(&self) -> u32
-        ensures value { result ≡ number_count self.now }
+    pub fn rim_number_count(&self) -> u32
+        ensures value { result ≡ rim_number_count self.now }
         ensures few { result ≤ 2 ^ 30 }
     {
         self.tiles() * self.bounds(0).side_count()
     }
 
     /// Returns the first rim number of a tile, and how many the tile has.
-    pub fn numbers_of(&self, tile: u32) -> (u32, u32)
+    pub fn rim_numbers_of(&self, tile: u32) -> (u32, u32)
         requires { tile < tile_count self.now }
         ensures first { result.0 ≡ tile * stride (bounds_of self.now 0) }
         ensures count { result.1 ≡ stride (bounds_of self.now 0) }
-        ensures below { result.0 + result.1 ≤ number_count self.now }
+        ensures below { result.0 + result.1 ≤ rim_number_count self.now }
     {
         let count = self.bounds(0).side_count();
         (tile * count, count)
@@ -37,7 +37,7 @@ impl Tiling {
         requires { IsWithin self.now place }
         ensures value { result ≡ rim_number self.now place }
         ensures back { is_on_rim self.now place ≡ true → rim_place self.now result ≡ place }
-        ensures below { result < number_count self.now }
+        ensures below { result < rim_number_count self.now }
     {
         let tile = self.tile_of(place);
         let largest = self.bounds(0);
@@ -47,7 +47,7 @@ impl Tiling {
     /// Returns the rim cell of `number`.
     /// A number without a cell gives an arbitrary place, perhaps outside the grid.
     pub fn rim_place(&self, number: u32) -> Place
-        requires { number < number_count self.now }
+        requires { number < rim_number_count self.now }
         ensures { result ≡ rim_place self.now number }
     {
         let largest = self.bounds(0);

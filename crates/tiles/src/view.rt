@@ -71,7 +71,8 @@ impl<'a, T> TileView<'a, T> {
         part(self.cells, from, cols as usize)
     }
 
-    /// Returns the grid's cell at a place in the tile or next to it; `None` elsewhere.
+    /// Returns the grid's cell at a place in the tile or next to it.
+    /// Returns `None` at other places, and outside the grid.
     #[inline(always)]
     pub fn at(&self, place: Place) -> Option<&'a T>
         ensures { option_copied result ≡ cell_shown self.now place }

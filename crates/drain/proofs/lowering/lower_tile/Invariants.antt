@@ -1,7 +1,7 @@
 use Rattle.std.proofs.Common.{◌≡◌, ◌≤◌, ◌+◌, ◌-◌, ◌*◌, length}
 use Rattle.drain.specs.Entering.{sinkless_terrain}
 use Rattle.drain.specs.Lowering.{IsLowered, IsEntered, counts_in, total}
-use Rattle.drain.proofs.Lowered.{IsEvenButReported}
+use Rattle.drain.proofs.Lowered.{IsRelaxedButReported}
 use Rattle.drain.proofs.lowering.lower_tile.Given as goal
 
 abbrev pub invariant-loop-next : goal.invariant-loop-next
@@ -12,7 +12,7 @@ invariant-loop-next l =
     record {
       lowered : IsLowered t c tile l.input.steps.now
           (counts_in c tile l.input.steps.now l.lowered) l.lowered.changes.items;
-      even : IsEvenButReported t c tile l.input.steps.now l.lowered l.done;
+      even : IsRelaxedButReported t c tile l.input.steps.now l.lowered l.done;
       entered :
           IsEntered c l.entries l.run.from l.next (counts_in c tile l.input.steps.now l.lowered);
       rows : length l.lowered.rows.items ≡ l.bounds.rows;

@@ -3,7 +3,7 @@ use Rattle.std.specs.Prelude.{slice_get}
 use Rattle.std.proofs.lemmas.Option.{slice_get_within, get_or_from_slice_get, slice_get-get_or, slice_get_cases}
 use Rattle.tiles.proofs.Cut.{tile_of_place_below}
 use Rattle.drain.specs.Entering.{AreRuns}
-use Rattle.drain.specs.Rounding.{Rounding, IsAnswer}
+use Rattle.drain.specs.Rounding.{Rounding, IsResult}
 use Rattle.drain.specs.declared.changes.Change.{Change}
 use Rattle.drain.specs.declared.changes.Run.{Run}
 use Rattle.drain.proofs.rounds.changes_by_jobs.Goals as goal
@@ -42,11 +42,11 @@ returns-clause-answered g c =
     omega (arith, c.in_ok-outs.ensures.len, c.in_ok-outs.outs.ok.0) in
     let none : Run = record { tile = 0; from = 0; end = 0 } in
     let given : (job : ℕ) (list : Vec Change Global) → slice_get outs job ≡ Some list →
-    IsAnswer (record { rounding = rounding; runs = runs }) job list.items =
+    IsResult (record { rounding = rounding; runs = runs }) job list.items =
     λ job list at. (let below : job < c.tiles-tiles.result =
     omega (arith, slice_get_within outs job list at, size) in
     subst (λ (v : Vec Change Global).
-    IsAnswer (record { rounding = rounding; runs = runs }) job v.items)
+    IsResult (record { rounding = rounding; runs = runs }) job v.items)
     (get_or_from_slice_get outs job list list at) (c.in_ok-outs.ensures.given job list below)) in
     record {
       each = λ list among. (let inside = slice_get_within outs among.0 list among.1 in (

@@ -3,7 +3,7 @@ use Rattle.std.specs.Prelude.{slice_get}
 use Rattle.std.proofs.lemmas.Option.{slice_get-get_or}
 use Rattle.tiles.specs.Cutting.{tile_count}
 use Rattle.tiles.proofs.Cut.{tile_of_place_below}
-use Rattle.drain.specs.Rounding.{Rounding, IsRunAnswer}
+use Rattle.drain.specs.Rounding.{Rounding, IsRunResult}
 use Rattle.drain.specs.declared.changes.Change.{Change}
 use Rattle.drain.specs.declared.changes.Entry.{Entry}
 use Rattle.drain.specs.declared.changes.Run.{Run}
@@ -59,7 +59,7 @@ loop-from-preserved c =
     let pushed = c.in_ok-push.ensures.items in
     record {
       each = among_push old _ list pushed (λ (l : Vec Change Global). (x : Run)
-          × IsRunAnswer r x l.items) c.loop-from.invariant.each (run, c.in_ok-changes.ensures);
+          × IsRunResult r x l.items) c.loop-from.invariant.each (run, c.in_ok-changes.ensures);
       covered = answered_more r old _ list run pushed c.in_ok-changes.ensures
           c.loop-from.invariant.covered;
       below = c.run_end-end.ensures.ordered.1;

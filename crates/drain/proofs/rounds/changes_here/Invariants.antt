@@ -1,6 +1,6 @@
 use Rattle.std.proofs.Common.{◌≤◌, ◌<◌, ◌-◌, ℕ, Vec, Global, length}
 use Rattle.drain.specs.Lowering.{IsAmong}
-use Rattle.drain.specs.Rounding.{Rounding, IsRunAnswer, IsAnsweredAt}
+use Rattle.drain.specs.Rounding.{Rounding, IsRunResult, IsAnsweredAt}
 use Rattle.drain.specs.declared.changes.Change.{Change}
 use Rattle.drain.specs.declared.changes.Run.{Run}
 use Rattle.drain.proofs.rounds.changes_here.Given as goal
@@ -15,7 +15,7 @@ invariant-loop-from l =
     } in
     record {
       each : (list : Vec Change Global) → IsAmong l.outs.items list →
-          (run : Run) × IsRunAnswer r run list.items;
+          (run : Run) × IsRunResult r run list.items;
       covered : (k : ℕ) → k < l.from → IsAnsweredAt r l.outs.items k;
       below : l.from ≤ length l.entries;
     }

@@ -2,7 +2,7 @@ use Rattle.std.proofs.Common.{◌≡◌, ◌<◌, ◌≤◌, ◌^◌, ℕ, inl, 
 use Rattle.std.proofs.lemmas.List.{get_or_default}
 use Rattle.terrain.proofs.Places.{index_below}
 use Rattle.terrain.specs.Neighbours.{index_of}
-use Rattle.drainage.proofs.ToldCounts.{known-some}
+use Rattle.drainage.proofs.StoredCounts.{known-some}
 use Rattle.drain.specs.Lowering.{count_of}
 use Rattle.drain.specs.Rounding.{ArePut}
 use Rattle.drain.specs.declared.changes.Change.{Change}

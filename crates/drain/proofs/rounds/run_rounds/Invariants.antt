@@ -1,5 +1,5 @@
 use Rattle.std.proofs.Common.{◌≡◌}
-use Rattle.drain.specs.Rounds.{HaveSameSources}
+use Rattle.drain.specs.Rounds.{HaveSameZeros}
 use Rattle.drain.specs.Entering.{sinkless_terrain}
 use Rattle.drain.specs.Rounding.{IsRounding, count_sum, rounding_of}
 use Rattle.drain.proofs.rounds.run_rounds.Given as goal
@@ -10,7 +10,7 @@ invariant-loop-counting g l = record {
   levels : l.counting.levels.now ≡ l.levels;
   rounding : IsRounding (rounding_of l.counting);
   same_sources :
-      HaveSameSources (sinkless_terrain l.tiling l.levels) l.fn.steps.items l.counting.steps.items;
+      HaveSameZeros (sinkless_terrain l.tiling l.levels) l.fn.steps.items l.counting.steps.items;
 }
 
 abbrev pub decreases-loop-counting : goal.decreases-loop-counting

@@ -5,8 +5,8 @@ use Rattle.drain.proofs.steepness.steepest.Goals.{then-square, else-square}
 
 pub returns : goal.returns
 returns c = λ a has.
-    let straight = rw (to_z-of_z c.ranges.level) at c.furthest-straight.ensures.value in
-    let across = rw (to_z-of_z c.ranges.level) at c.furthest-across.ensures.value in
+    let straight = rw (to_z-of_z c.ranges.level) at c.greatest_fall-straight.ensures.value in
+    let across = rw (to_z-of_z c.ranges.level) at c.greatest_fall-across.ensures.value in
     rw c.then_some.ensures
     (heavier_is a c.args.level c.args.heights.now has _ _ _ _ straight across c.if-square.fall.drop
     c.if-square.fall.way

@@ -1,11 +1,11 @@
 use Rattle.std.proofs.Common.{◌+◌, ◌-◌, All, sum, vec_len}
-use Rattle.drain.specs.Window.{IsInner, IsSpread, IsEvenBut}
+use Rattle.drain.specs.Window.{IsInner, IsSpread, IsRelaxedBut}
 use Rattle.drain.proofs.window.search.Given as goal
 
 abbrev pub invariant-loop-done : goal.invariant-loop-done
 invariant-loop-done l = record {
   spread : IsSpread l.window.bounds l.window.levels.items l.initial.counts l.counts;
-  even : IsEvenBut l.window.bounds l.window.levels.items l.counts l.reached.items l.done;
+  even : IsRelaxedBut l.window.bounds l.window.levels.items l.counts l.reached.items l.done;
   inner : All (IsInner l.window.bounds) l.reached.items;
 }
 

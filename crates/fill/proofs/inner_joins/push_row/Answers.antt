@@ -3,13 +3,13 @@ use Rattle.std.proofs.lemmas.Bool.{cases_eq}
 use Rattle.terrain.specs.declared.place.Place.{Place}
 use Rattle.tiles.specs.declared.bounds.Bounds.{Bounds}
 use Rattle.tiles.specs.Cutting.{IsInBounds}
-use Rattle.fill.specs.Gathering.{IsInner, IsOnRimRow, mark_in}
+use Rattle.fill.specs.Gathering.{IsInner, IsOuterOfRow, mark_in}
 use Rattle.fill.proofs.Adding.{adds_as, adds_then}
 use Rattle.fill.proofs.inner_joins.push_row.Goals as goal
 
--- The cells of a row above the last are those of `IsOnRimRow` and the inner cells.
+-- The cells of a row above the last are those of `IsOuterOfRow` and the inner cells.
 row_parts : (b : Bounds) (row : ℕ) → b.top ≤ row → row + 1 < b.top + b.rows → (p : Place) →
-    (IsInBounds b p × (p.row ≡ row)) ↔ (IsOnRimRow b row p ⊎ (IsInner b p × (p.row ≡ row)))
+    (IsInBounds b p × (p.row ≡ row)) ↔ (IsOuterOfRow b row p ⊎ (IsInner b p × (p.row ≡ row)))
 row_parts b row above below p = (
   λ at. elim (cases_eq p.col b.left) [
     | inl first ↦ inl (at.0, at.1, λ inner. omega (arith, inner.2, first))
@@ -40,8 +40,8 @@ row_parts b row above below p = (
   ],
 )
 
-pub push_rim_cells-requires-clause-limits : goal.push_rim_cells-requires-clause-limits
-push_rim_cells-requires-clause-limits c =
+pub push_outer_cells-requires-clause-limits : goal.push_outer_cells-requires-clause-limits
+push_outer_cells-requires-clause-limits c =
     rw c.bounds-bounds.ensures.value c.bounds-bounds.ensures.lawful.limits
 
 pub returns-in_ok-push_inner_cells : goal.returns-in_ok-push_inner_cells
@@ -52,7 +52,7 @@ returns-in_ok-push_inner_cells c =
     let below : row + 1 < b.top + b.rows =
     omega (arith, ap (λ (z : Bounds). z.top + z.rows) same, c.if-row-bounds.true) in
     adds_then (mark_in 0 c.args.flood.now) c.args.left_out.now
-    (λ p q. IsOnRimRow b row p × (true ≡ true)) (λ p q. IsInner b p
+    (λ p q. IsOuterOfRow b row p × (true ≡ true)) (λ p q. IsInner b p
     × (p.row ≡ row)) (λ p q. IsInBounds b p × (p.row ≡ row)) _ _ _
     (λ p q. (
       λ at. elim ((row_parts b row c.requires.top below p).0 at) [
@@ -63,14 +63,14 @@ returns-in_ok-push_inner_cells c =
       λ at. (row_parts b row c.requires.top below p).1
           (elim at [ inl rim ↦ inl rim.0 | inr inner ↦ inr inner ]),
     ))
-    (rw same at c.in_ok-push_rim_cells.ensures) c.in_ok-push_inner_cells.ensures
+    (rw same at c.in_ok-push_outer_cells.ensures) c.in_ok-push_inner_cells.ensures
 
 pub returns-else-row-bounds : goal.returns-else-row-bounds
 returns-else-row-bounds c =
     let b = c.args.flood.now.bounds in
     let same = c.bounds-bounds.ensures.value in
     adds_as (mark_in 0 c.args.flood.now) c.args.left_out.now
-    (λ p q. IsOnRimRow b c.args.row p × (true ≡ true)) (λ p q. IsInBounds b p
+    (λ p q. IsOuterOfRow b c.args.row p × (true ≡ true)) (λ p q. IsInBounds b p
     × (p.row ≡ c.args.row)) _ _
     (λ p q at. (at.0.0, at.0.1))
     (λ p q touch after m m_is n n_is at. (
@@ -82,4 +82,4 @@ returns-else-row-bounds c =
       ),
       refl,
     ))
-    (rw same at c.in_ok-push_rim_cells.ensures)
+    (rw same at c.in_ok-push_outer_cells.ensures)

@@ -5,7 +5,7 @@ use Rattle.terrain.specs.Neighbours.{Touches}
 use Rattle.tiles.specs.declared.bounds.Bounds.{Bounds}
 use Rattle.tiles.specs.Cutting.{IsInBounds, IsInTile, is_in_bounds}
 use Rattle.tiles.proofs.Cut.{in_bounds_from, in_bounds_parts}
-use Rattle.fill.specs.Gathering.{IsAfter, IsInner, IsOnRimRow, IsOutside, mark_among}
+use Rattle.fill.specs.Gathering.{IsAfter, IsInner, IsOuterOfRow, IsOutside, mark_among}
 use Rattle.fill.proofs.Adding.{adds_none, adds_then, adds_as}
 use Rattle.fill.proofs.rim_joins.push_rim_joins.Goals as goal
 
@@ -64,7 +64,7 @@ loop-row-preserved c =
       ],
     ))
     c.loop-row.invariant
-    (adds_as marks out (λ p q. IsOnRimRow b row p × beyond q) (λ p q. (inside p × (p.row ≡ row))
+    (adds_as marks out (λ p q. IsOuterOfRow b row p × beyond q) (λ p q. (inside p × (p.row ≡ row))
     × outside q) _ _
     (λ p q at. (
       ((places p).1 at.0.0, at.0.1),
@@ -81,7 +81,8 @@ loop-row-preserved c =
         | inr out_of_it ↦ ap not out_of_it
       ],
     ))
-    (rw (c.new-cells.ensures.tiles, c.new-cells.ensures.bounds) at c.in_ok-push_rim_cells.ensures))
+    (rw (c.new-cells.ensures.tiles, c.new-cells.ensures.bounds) at
+    c.in_ok-push_outer_cells.ensures))
 
 pub returns : goal.returns
 returns c =

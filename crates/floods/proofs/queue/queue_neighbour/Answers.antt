@@ -2,7 +2,7 @@ use Rattle.std.proofs.Common.{rules, ◌≡◌, sym, ◌∙◌, is_some, true, O
 use Rattle.floods.specs.Flood.{entry_of}
 use Rattle.terrain.proofs.Orders.{trans, le_of_same}
 use Rattle.terrain.proofs.Options.{none_from_is_some}
-use Rattle.floods.proofs.Noting.{passed_low, passed_done, stays, neighbour_queued, noted, keeps_done, own_by_arc, kept_crest}
+use Rattle.floods.proofs.Noting.{no_entry_if_low, passed_done, stays, neighbour_queued, noted, keeps_done, own_by_arc, kept_crest}
 use Rattle.floods.proofs.queue.queue_neighbour.Goals as goal
 
 pub returns-then-is_no_higher : goal.returns-then-is_no_higher
@@ -11,7 +11,8 @@ returns-then-is_no_higher c =
     (search rules) (search rules) (search rules) c.max-crest.ensures.value in
     let known = c.is_no_higher.ensures.0 c.if-is_no_higher.true in
     stays _ _ _ _ _ c.requires.order c.requires.noted
-    (passed_low c.args.labels.now _ c.args.from.now c.args.arc _ known.0 c.requires.noted known.1
+    (no_entry_if_low c.args.labels.now _ c.args.from.now c.args.arc _ known.0 c.requires.noted
+    known.1
     (trans _ _ _ known.2 (le_of_same _ _ value)))
 
 pub returns-then-has : goal.returns-then-has

@@ -1,6 +1,6 @@
 use Rattle.std.proofs.Common.{◌≢◌, ℕ, ◌<◌, inl, inr, length, set, subst, sym, ◌∙◌, arith}
 use Rattle.flow.specs.Finding.{IsKnown, unknown_mark}
-use Rattle.flow.proofs.Ending.{found_more, known_same, known_still, end-onward, end-inside, marks_fall}
+use Rattle.flow.proofs.Ending.{known_more, known_same, known_still, end-onward, end-inside, marks_fall}
 use Rattle.flow.proofs.ends.mark_path.Goals as goal
 
 pub path-preserved : goal.path-preserved
@@ -16,7 +16,7 @@ path-preserved c =
     ) in
     record {
       found =
-          found_more _ _ _ _ c.path.invariant.found c.path.invariant.inside c.path.invariant.last;
+          known_more _ _ _ _ c.path.invariant.found c.path.invariant.inside c.path.invariant.last;
       inside = c.requires.streams.inside c.path.node c.path.invariant.inside;
       last = c.path.invariant.last ∙ sym
           (end-onward c.args.links.now c.requires.streams c.path.node c.path.invariant.inside);

@@ -1,12 +1,12 @@
 use Rattle.std.proofs.Common.{◌+◌, get_or, ap, ◌∙◌, arith}
 use Rattle.tiles.specs.declared.bounds.Bounds.{Bounds}
 use Rattle.flow.specs.RimGraph.{side_cell}
-use Rattle.flow.proofs.Piece.{small_bounds}
+use Rattle.flow.proofs.Piece.{bounds_end_in_grid}
 use Rattle.flow.proofs.RimAdded.{adds_fit, adds_more, adds_done}
 use Rattle.flow.proofs.inflows.add_all.Goals as goal
 
 pub add_at-requires-clause-small : goal.add_at-requires-clause-small
-add_at-requires-clause-small c = small_bounds c.args.tiling.now c.bounds-bounds.result
+add_at-requires-clause-small c = bounds_end_in_grid c.args.tiling.now c.bounds-bounds.result
     c.bounds-bounds.ensures.lawful c.bounds-bounds.ensures.inside
 
 pub add_at-requires-clause-fits : goal.add_at-requires-clause-fits
@@ -17,9 +17,10 @@ add_at-requires-clause-fits c =
     c.side_cell.result _
     (c.side_cell.ensures.value ∙ ap (λ (l : Bounds).
     side_cell l c.bounds-bounds.result c.loop-side.side) c.bounds-largest.ensures.value)
-    (ap (λ n. get_or c.args.listed.now (n + c.loop-side.side) 0) c.numbers_of-first.ensures.first)
+    (ap (λ n. get_or c.args.listed.now (n + c.loop-side.side) 0)
+    c.rim_numbers_of-first.ensures.first)
     (omega
-    (arith, c.loop-side-test.true, c.loop-side.auto.side-end, c.numbers_of-first.ensures.count))
+    (arith, c.loop-side-test.true, c.loop-side.auto.side-end, c.rim_numbers_of-first.ensures.count))
     c.loop-side.invariant.each c.requires.fits
 
 pub loop-side-preserved : goal.loop-side-preserved
@@ -31,7 +32,8 @@ loop-side-preserved c = record {
       c.loop-side.side c.side_cell.result _
       (c.side_cell.ensures.value ∙ ap (λ (l : Bounds).
       side_cell l c.bounds-bounds.result c.loop-side.side) c.bounds-largest.ensures.value)
-      (ap (λ n. get_or c.args.listed.now (n + c.loop-side.side) 0) c.numbers_of-first.ensures.first)
+      (ap (λ n. get_or c.args.listed.now (n + c.loop-side.side) 0)
+      c.rim_numbers_of-first.ensures.first)
       c.loop-side.invariant.each c.add_at.ensures.each;
 }
 
@@ -39,6 +41,10 @@ pub returns-clause-each : goal.returns-clause-each
 returns-clause-each c =
     adds_done c.args.tiling.now c.bounds-bounds.ensures.lawful c.args.listed.now c.args.tile
     c.requires.tile c.args.weights.now
-    c.loop-side.weights c.loop-side.side (omega
-    (arith, c.loop-side-test.false, c.loop-side.auto.side-end, c.numbers_of-first.ensures.count))
+    c.loop-side.weights c.loop-side.side (omega (
+      arith,
+      c.loop-side-test.false,
+      c.loop-side.auto.side-end,
+      c.rim_numbers_of-first.ensures.count,
+    ))
     c.loop-side.invariant.each

@@ -1,6 +1,6 @@
 use Rattle.std.proofs.Common.{◌≡◌, ◌+◌, ap, ◌∙◌, arith}
 use Rattle.flow.specs.Streams.{sum_below}
-use Rattle.tiles.specs.RimNumbers.{number_count}
+use Rattle.tiles.specs.RimNumbers.{rim_number_count}
 use Rattle.flow.specs.Inflows.{entering}
 use Rattle.flow.proofs.Sums.{sum_more, sum_below-part}
 use Rattle.flow.proofs.inflows.send_all.Goals as goal
@@ -13,8 +13,8 @@ send-requires-clause-fits c = λ k h.
       sum_more (entering c.args.tiling.now c.args.targets.now c.args.weights.now c.args.upstream.now
           k) c.loop-number.number,
       sum_below-part (entering c.args.tiling.now c.args.targets.now c.args.weights.now
-          c.args.upstream.now k) (c.loop-number.number + 1) (number_count c.args.tiling.now)
-          (omega (arith, c.loop-number-test.true, c.number_count-number-end.ensures.value)),
+          c.args.upstream.now k) (c.loop-number.number + 1) (rim_number_count c.args.tiling.now)
+          (omega (arith, c.loop-number-test.true, c.rim_number_count-number-end.ensures.value)),
       c.requires.few k,
     )
 
@@ -32,12 +32,12 @@ loop-number-preserved c = record {
 
 pub returns : goal.returns
 returns c =
-    let all : c.loop-number.number ≡ number_count c.args.tiling.now =
+    let all : c.loop-number.number ≡ rim_number_count c.args.tiling.now =
     omega (
       arith,
       c.loop-number-test.false,
       c.loop-number.auto.number-end,
-      c.number_count-number-end.ensures.value,
+      c.rim_number_count-number-end.ensures.value,
     ) in
     record {
       size = c.loop-number.invariant.size;

@@ -10,5 +10,5 @@ returns c =
       arith,
       c.loop-number-test.false,
       c.loop-number.auto.number-end,
-      c.number_count-count.ensures.value,
+      c.rim_number_count-count.ensures.value,
     ))

@@ -4,7 +4,7 @@ use Rattle.tiles.specs.Cutting.{View, terrain_of}
 use Rattle.drain.specs.Beginning.{AreInitialCounts}
 use Rattle.drain.specs.Steps.{DrainsAtOnce}
 use Rattle.drain.proofs.DrainedLemmas.{same_terrain}
-use Rattle.drain.proofs.Quiet.{begun_input, begun_walked}
+use Rattle.drain.proofs.Quiet.{begun_zeros, begun_walked}
 use Rattle.map_tests.proofs.flats.round.Goals as goal
 
 pub flat_steps-requires : goal.flat_steps-requires
@@ -24,7 +24,7 @@ flat_steps-requires g c =
           ap (λ (v : View (Option ℕ)). v.tile) c.view-steps.ensures
               ∙ sym (ap (λ (v : View (Option ℤ)). v.tile) c.view-levels.ensures),
           (
-            λ p drains. (begun_input t counts begun p drains).1,
+            λ p drains. (begun_zeros t counts begun p drains).1,
             begun_walked (DrainsAtOnce t) t counts begun (λ p drains. drains),
           ),
         ),

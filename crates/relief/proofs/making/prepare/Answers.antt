@@ -5,7 +5,7 @@ use Rattle.terrain.specs.Raster.{Raster}
 use Rattle.terrain.specs.Sinks.{raster_with_sinks}
 use Rattle.relief.specs.declared.fault.RunFault.TheVariants.{Sight}
 use Rattle.relief.specs.Refusals.{gauge_fault, view_fault, request_fault}
-use Rattle.relief.proofs.Draining.{drained_some, place_refused, sinks_refused, sound_gauges, request_of_many, request_of_sound}
+use Rattle.relief.proofs.Draining.{grid_with_some_sinks, place_refused, sinks_refused, sound_gauges, request_of_many, request_of_sound}
 use Rattle.relief.proofs.making.prepare.Goals as goal
 
 pub returns-in_err-tiling-clause-fault : goal.returns-in_err-tiling-clause-fault
@@ -32,7 +32,7 @@ returns-in_err-grid-clause-fault c =
 pub returns-clause-grid : goal.returns-clause-grid
 returns-clause-grid c =
     rw c.sinks-sinks.ensures.value at c.in_ok-grid.ensures.grid
-    ∙ drained_some c.args.grid c.args.options.now.sinks
+    ∙ grid_with_some_sinks c.args.grid c.args.options.now.sinks
     (rw c.sinks-sinks.ensures.value at (sym c.if-is_empty.ensures))
 
 pub returns-clause-sound : goal.returns-clause-sound

@@ -4,7 +4,7 @@ use Rattle.terrain.specs.Raster.{Raster}
 use Rattle.relief.specs.MadeMap.{made_text}
 use Rattle.relief.specs.MapText.{IsMapText}
 use Rattle.relief.specs.Refusals.{IsFaultOnGrid, request_fault}
-use Rattle.relief.proofs.Draining.{refusal_without}
+use Rattle.relief.proofs.Draining.{fault_on_grid_without_sinks}
 use Rattle.relief.proofs.Ran.{reading_refused, making_refused, writing_failed, ran}
 use Rattle.relief.proofs.running.run_gated.Goals as goal
 
@@ -34,7 +34,8 @@ returns-in_err-made g c =
     rw (p.1, p.2)
     (making_refused g.R.Read.remaining g.W.Write.contents w c.args.reader.now c.read_grid.new.reader
     c.args.writer.now c.args.writer.now c.in_ok-grid.grid reads c.in_err-made.field-0.0
-    (refusal_without w c.in_ok-grid.grid _ w.sinks (subst (λ (r : Raster). IsFaultOnGrid w r
+    (fault_on_grid_without_sinks w c.in_ok-grid.grid _ w.sinks (subst (λ
+    (r : Raster). IsFaultOnGrid w r
     c.in_err-made.field-0.0) c.in_ok-grid-2.ensures.grid c.in_err-made.ensures.fault)))
 
 pub returns-in_err-write_map : goal.returns-in_err-write_map

@@ -19,9 +19,9 @@ same c =
 pub returns-clause-some : goal.returns-clause-some
 returns-clause-some c = subst (λ (words : List Text).
     IfOk c.sinks_of.result (λ v. Spell place_of_word words v.items))
-        (same c) c.sinks_of.ensures.some
+    (same c) c.sinks_of.ensures.some
 
 pub returns-clause-none : goal.returns-clause-none
 returns-clause-none c = subst (λ (words : List Text). IfErr c.sinks_of.result
     (IsFaultWith (λ _. ⊥) (λ _. ⊥) (IsFirstBad place_of_word words) ⊥))
-        (same c) c.sinks_of.ensures.none
+    (same c) c.sinks_of.ensures.none

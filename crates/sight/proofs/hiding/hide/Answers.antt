@@ -6,7 +6,7 @@ use Rattle.horizons.specs.declared.target.Target.{Target}
 use Rattle.sight.specs.Sweep.{is_blocked_before}
 use Rattle.sight.specs.Looking.{LooksFrom}
 use Rattle.sight.specs.Hiding.{rise_at, AreRays}
-use Rattle.sight.proofs.Check.{AreHiddenBelow, ray_at, rank_at, ray_is_target, window_kept, looked_on, none_asked, blocked_asked, open_asked, all_asked}
+use Rattle.sight.proofs.Hidden.{AreHiddenBelow, ray_at, rank_at, ray_is_target, window_kept, looked_on, none_tested, blocked_tested, open_tested, all_tested}
 use Rattle.sight.proofs.hiding.hide.Goals as goal
 use Rattle.sight.proofs.hiding.hide.Goals.{then-hides, else-hides}
 
@@ -29,7 +29,7 @@ loop-number-init c =
           ∙ at in
           let ray = (c.in_ok-rays.ensures.rays.each u t here).0 in
           omega (arith, first.line, ray.crosses.later);
-      marks = none_asked c.args.cells.now c.args.family c.args.window c.args.height
+      marks = none_tested c.args.cells.now c.args.family c.args.window c.args.height
           c.deref-ray-items.result.now c.args.marks.now;
     }
 
@@ -135,14 +135,14 @@ loop-number-preserved c =
         | then-hides w' ↦
             subst (λ (ms : List Bool). AreHiddenBelow cells f w height rays (n + 1) old ms)
             (sym (w'.marks-is ∙ w'.unmark.ensures ray.cell ray.stands))
-            (blocked_asked cells f w height rays n old marks t ray.cell c.requires.apart
+            (blocked_tested cells f w height rays n old marks t ray.cell c.requires.apart
             (window_kept f w old marks c.loop-number.invariant.marks.size c.requires.window)
             at_t ray.stands ray.within ray.crosses (sym reported
             ∙ w'.if-hides.true) c.loop-number.invariant.marks)
         | else-hides w' ↦
             subst (λ (ms : List Bool). AreHiddenBelow cells f w height rays (n + 1) old ms)
             (sym w'.marks-is)
-            (open_asked cells f w height rays n old marks t ray.cell at_t ray.stands (sym reported
+            (open_tested cells f w height rays n old marks t ray.cell at_t ray.stands (sym reported
             ∙ w'.if-hides.false) c.loop-number.invariant.marks)
       ];
     }
@@ -153,5 +153,5 @@ returns c =
     let are : AreRays c.args.family c.args.window c.args.marks.now 4097 0 rays =
     rw c.deref-ray-items.ensures.value c.in_ok-rays.ensures.rays in
     let end : c.loop-number.number ≡ length rays = omega arith in
-    all_asked c.args.cells.now c.args.family c.args.window c.args.height rays c.args.marks.now
+    all_tested c.args.cells.now c.args.family c.args.window c.args.height rays c.args.marks.now
     c.loop-number.marks are (rw end at c.loop-number.invariant.marks)

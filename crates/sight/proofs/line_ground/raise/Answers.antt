@@ -7,9 +7,10 @@ use Rattle.sight.proofs.line_ground.raise.Goals as goal
 pub loop-from-init : goal.loop-from-init
 loop-from-init c =
     let raised = low_raised c.args.cells.now c.args.family c.args.targets.now
-    c.args.line c.count_before_side-from.result c.args.highest.now c.passed.result c.clear.new.self
+    c.args.line c.count_before_side-from.result c.args.highest.now c.passed_ramp.result
+    c.clear.new.self
     c.push.new.self c.clear.ensures c.requires.family c.requires.targets c.in_ok-push.ensures
-    c.count_before_side-from.ensures.before c.passed.ensures in
+    c.count_before_side-from.ensures.before c.passed_ramp.ensures in
     record {
       within = c.count_before_side-from.ensures.range;
       extent = raised.0;
@@ -22,9 +23,10 @@ loop-from-preserved-in_ok-push-2 c =
     let l = c.loop-from in
     let highest = c.args.highest.now in
     let piece = c.piece-piece.result in
-    let hidden = OnTrue_at c.if-is_too_low.true c.is_too_low.ensures in
+    let hidden = OnTrue_at c.if-is_ground_below_piece.true c.is_ground_below_piece.ensures in
     let raised = more_raised c.args.cells.now c.args.family c.args.targets.now c.args.line
-    l.from piece.end highest piece.ramp l.raised c.push-then-is_too_low.new.self l.invariant.extent
+    l.from piece.end highest piece.ramp l.raised c.push-then-is_ground_below_piece.new.self
+    l.invariant.extent
     c.piece-piece.ensures.range.0 c.in_ok-push-2.ensures l.invariant.raises
     (λ i t low high at. hidden_raised c.args.cells.now c.args.family
     c.args.targets.now c.args.line i l.from piece.end highest piece.ramp t c.requires.highest

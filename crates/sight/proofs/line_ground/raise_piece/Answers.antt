@@ -30,9 +30,9 @@ returns-then-span-end_offset c =
     (arith, ints, (rw (end_back, back) at c.if-span-end_offset.true), c.end_offset.ensures.value) in
     on_ok_weaker c.push.result
     (high_raised c.args.cells.now f targets c.args.line from c.args.piece.end c.args.highest.now
-    span.offset u c.passed.result c.loop-from.raised c.push.new.self c.requires.line.0
+    span.offset u c.passed_ramp.result c.loop-from.raised c.push.new.self c.requires.line.0
     c.requires.family c.requires.targets at_u c.span-span.ensures.passes past
-    c.loop-from.invariant.extent c.loop-from-test.true c.passed.ensures
+    c.loop-from.invariant.extent c.loop-from-test.true c.passed_ramp.ensures
     c.loop-from.invariant.raises)
     c.push.ensures
 

@@ -2,7 +2,7 @@ use Rattle.std.proofs.Common.{rules, arith, refl, ◌≡◌, ◌<◌, [], ◌∷
 use Rattle.std.proofs.lemmas.Grind.{common_steps}
 use Rattle.tile_jobs.specs.declared.slots.JobResult.{JobResult}
 use Rattle.tile_jobs.specs.Ends.{SeatState}
-use Rattle.tile_jobs.proofs.Answers.{answer_more}
+use Rattle.tile_jobs.proofs.Results.{answer_more}
 use Rattle.tile_jobs.proofs.Workers.{seat_trans, whole_more}
 use Rattle.tile_jobs.proofs.worker.work_seat.Goals as goal
 use Rattle.tile_jobs.proofs.worker.work_seat.Goals.{in-None, in-Some+in-Empty}

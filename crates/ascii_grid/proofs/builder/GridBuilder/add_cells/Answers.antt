@@ -4,7 +4,7 @@ use Rattle.ascii_grid.proofs.builder.GridBuilder.add_cells.Goals as goal
 
 pub returns-clause-added : goal.returns-clause-added
 returns-clause-added c = λ ps hs more h heights are added.
-    let same = c.is_of.ensures c.if-not-is_of.false in
+    let same = c.has_settings.ensures c.if-not-has_settings.false in
     let room : length c.args.self.now.cells.items + length c.args.cells.now
     ≤ c.args.self.now.wanted = omega (arith, c.args.self.now.cells.ok.0, c.min-most.ensures) in
     let all : c.extend_from_slice.new.self.items ≡ c.args.self.now.cells.items ++ c.args.cells.now =

@@ -1,6 +1,6 @@
 use Rattle.std.proofs.Common.{inl, inr, List, Vec, Global, length, refl, sym, subst, ◌∙◌, arith}
 use Rattle.std.proofs.lemmas.Bool.{cases_lt}
-use Rattle.drain.specs.Rounding.{rounding_of, IsGiven, AreAnswered}
+use Rattle.drain.specs.Rounding.{rounding_of, IsGiven, AreRoundResults}
 use Rattle.drain.specs.declared.changes.Change.{Change}
 use Rattle.drain.proofs.RoundLemmas.{some_given}
 use Rattle.drain.proofs.rounds.Counting.full_round.Goals as goal
@@ -9,7 +9,7 @@ pub put_round-requires-clause-answered : goal.put_round-requires-clause-answered
 put_round-requires-clause-answered g c =
     let answered =
     rw (c.deref.ensures.value, c.deref-2.ensures.value) at c.in_ok-outs.ensures.answered in
-    subst (λ (xs : List (Vec Change Global)). AreAnswered (rounding_of c.args.self.now) xs)
+    subst (λ (xs : List (Vec Change Global)). AreRoundResults (rounding_of c.args.self.now) xs)
     (sym c.deref-4.ensures.value) answered
 
 pub put_round-requires-clause-some : goal.put_round-requires-clause-some

@@ -1,5 +1,5 @@
 use Rattle.std.proofs.Common.{List, Vec, Global, sym, subst, arith}
-use Rattle.drain.specs.Rounding.{rounding_of, IsGiven, AreAnswered}
+use Rattle.drain.specs.Rounding.{rounding_of, IsGiven, AreRoundResults}
 use Rattle.drain.specs.declared.changes.Change.{Change}
 use Rattle.drain.proofs.RoundLemmas.{some_given}
 use Rattle.drain.proofs.rounds.Counting.round_here.Goals as goal
@@ -7,7 +7,7 @@ use Rattle.drain.proofs.rounds.Counting.round_here.Goals as goal
 pub put_round-requires-clause-answered : goal.put_round-requires-clause-answered
 put_round-requires-clause-answered c =
     let answered = rw (c.deref.ensures.value, c.deref-2.ensures.value) at c.in_ok-outs.ensures in
-    subst (λ (xs : List (Vec Change Global)). AreAnswered (rounding_of c.args.self.now) xs)
+    subst (λ (xs : List (Vec Change Global)). AreRoundResults (rounding_of c.args.self.now) xs)
     (sym c.deref-3.ensures.value) answered
 
 pub put_round-requires-clause-some : goal.put_round-requires-clause-some

@@ -1,7 +1,7 @@
 use Rattle.std.proofs.Common.{◌<◌, get_or, length, sym, ◌∙◌, subst, arith}
 use Rattle.std.proofs.lemmas.Option.{slice_get-get_or, same_Some}
 use Rattle.drain.specs.declared.changes.Run.{Run}
-use Rattle.drain.specs.Rounding.{Jobs, IsAnswer, IsRunAnswer}
+use Rattle.drain.specs.Rounding.{Jobs, IsResult, IsRunResult}
 use Rattle.drain.proofs.RoundLemmas.{idle_answer}
 use Rattle.drain.proofs.rounds.RoundWork.run.Goals as goal
 
@@ -40,8 +40,8 @@ returns-then-run-clause-given c =
     subst (λ (z : Jobs). c.args.job < length z.runs) (sym c.self.view_is) c.requires in
     let own = get_or i.runs.now c.args.job none in
     let at = slice_get-get_or i.runs.now c.args.job none below in
-    subst (λ (z : Jobs). IsAnswer z c.args.job c.new.result.items) c.self.view_is
-    (λ run here. subst (λ (z : Run). IsRunAnswer r.rounding z c.new.result.items)
+    subst (λ (z : Jobs). IsResult z c.args.job c.new.result.items) c.self.view_is
+    (λ run here. subst (λ (z : Run). IsRunResult r.rounding z c.new.result.items)
     (same_Some own run (sym at ∙ here))
     (idle_answer r.rounding own c.new.result.items c.self.invariant.rounding c.if-run.true
     c.new.ensures.items))
@@ -62,6 +62,6 @@ returns-clause-given c =
     subst (λ (z : Jobs). c.args.job < length z.runs) (sym c.self.view_is) c.requires in
     let own = get_or i.runs.now c.args.job none in
     let at = slice_get-get_or i.runs.now c.args.job none below in
-    subst (λ (z : Jobs). IsAnswer z c.args.job c.in_ok-changes.changes.items) c.self.view_is
-    (λ run here. subst (λ (z : Run). IsRunAnswer r.rounding z c.in_ok-changes.changes.items)
+    subst (λ (z : Jobs). IsResult z c.args.job c.in_ok-changes.changes.items) c.self.view_is
+    (λ run here. subst (λ (z : Run). IsRunResult r.rounding z c.in_ok-changes.changes.items)
     (same_Some own run (sym at ∙ here)) c.in_ok-changes.ensures)

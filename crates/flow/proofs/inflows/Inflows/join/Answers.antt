@@ -4,7 +4,7 @@ use Rattle.flow.specs.Sending.{AreZeros}
 use Rattle.terrain.specs.declared.place.Place.{Place}
 use Rattle.tiles.specs.Cutting.{IsWithin}
 use Rattle.flow.specs.Streams.{AreUpstream, sum_below}
-use Rattle.tiles.specs.RimNumbers.{number_count}
+use Rattle.tiles.specs.RimNumbers.{rim_number_count}
 use Rattle.flow.specs.Inflows.{AreEntering, entering}
 use Rattle.tiles.proofs.RimNumbered.{few_numbers}
 use Rattle.flow.proofs.RimFlows.{links_size, rim_streams, target_listed, targets_size, targets_within}
@@ -82,16 +82,16 @@ send_all-requires-clause-few c k =
           ∙ c.requires.targets) (c.deref-2.ensures.value
           ∙ c.requires.links) c.in_ok-weights.ensures up k,
       ap (λ (w : List ℕ). sum_below (entering c.args.tiling.now c.deref-4.result.now w
-          c.deref-6.result.now k) (number_count c.args.tiling.now)) c.deref-5.ensures.value,
+          c.deref-6.result.now k) (rim_number_count c.args.tiling.now)) c.deref-5.ensures.value,
       ap (λ (w : List ℕ). sum_below
           (entering c.args.tiling.now c.deref-4.result.now c.in_ok-weights.weights.items w k)
-          (number_count c.args.tiling.now)) c.deref-6.ensures.value,
+          (rim_number_count c.args.tiling.now)) c.deref-6.ensures.value,
     )
 
 pub send_all-requires-clause-none : goal.send_all-requires-clause-none
 send_all-requires-clause-none c =
-    subst (AreZeros (number_count c.args.tiling.now)) (sym c.deref_mut.ensures.value)
-    (subst (λ n. AreZeros n c.in_ok-listed.listed.items) c.number_count.ensures.value
+    subst (AreZeros (rim_number_count c.args.tiling.now)) (sym c.deref_mut.ensures.value)
+    (subst (λ n. AreZeros n c.in_ok-listed.listed.items) c.rim_number_count.ensures.value
     c.in_ok-listed.ensures)
 
 pub returns-clause-inflows : goal.returns-clause-inflows

@@ -1,6 +1,6 @@
 use Rattle.std.proofs.Common.{ℕ, ◌<◌, List, length, get_or, ap, ◌∙◌, arith}
 use Rattle.std.proofs.lemmas.List.FromFn.{length-map-range_with_len}
-use Rattle.tiles.specs.RimNumbers.{number_count}
+use Rattle.tiles.specs.RimNumbers.{rim_number_count}
 use Rattle.flow.specs.RimGraph.{rim_outlet, rim_outlets_by}
 use Rattle.flow.proofs.Ending.{end-inside}
 use Rattle.tiles.proofs.RimNumbered.{few_numbers}
@@ -42,7 +42,7 @@ rim_outlets-requires-clause-inside c =
 pub invariant_of-result : goal.invariant_of-result
 invariant_of-result c =
     ap length c.in_ok-outlets.ensures ∙ length-map-range_with_len (rim_outlet c.args.tiling.now
-    c.args.flows.now c.deref-3.result.now) 0 (number_count c.args.tiling.now)
+    c.args.flows.now c.deref-3.result.now) 0 (rim_number_count c.args.tiling.now)
 
 pub returns-clause-outlets : goal.returns-clause-outlets
 returns-clause-outlets c d f =

@@ -5,7 +5,7 @@ use Rattle.tile_maps.specs.Maps.{IsMadeUpTo}
 use Rattle.sight.specs.Viewed.{HasValue}
 use Rattle.terrain.specs.declared.observer.Observer.{Observer}
 use Rattle.sight.proofs.Refused.{lawful_from}
-use Rattle.sight.proofs.Counting.{looked, passed, few}
+use Rattle.sight.proofs.Counting.{seen_counted, unseen_counted, few}
 use Rattle.sight.proofs.tile.ViewshedInput.count_observers.Goals as goal
 use Rattle.sight.proofs.tile.ViewshedInput.count_observers.Goals.{then-reaches+in_ok-mark_seen, else-reaches}
 
@@ -48,12 +48,12 @@ loop-observer-preserved g c =
     self.target_height self.radius) (c.args.bounds.rows * c.args.bounds.cols) values in
     elim c.if-reaches.branch [
       | then-reaches+in_ok-mark_seen w ↦ subst Made (sym w.values-is)
-          (looked t self.observers.now self.target_height self.radius i nobody c.args.bounds
+          (seen_counted t self.observers.now self.target_height self.radius i nobody c.args.bounds
           c.loop-observer.values w.count_seen.new.values w.mark_seen.new.seen
           c.loop-observer-test.true c.loop-observer.invariant w.in_ok-mark_seen.ensures
           w.count_seen.auto.values w.count_seen.ensures)
       | else-reaches w ↦ subst Made (sym w.values-is)
-          (passed t self.observers.now self.target_height self.radius i nobody c.args.bounds
+          (unseen_counted t self.observers.now self.target_height self.radius i nobody c.args.bounds
           c.loop-observer.values c.loop-observer-test.true c.loop-observer.invariant
           (OnFalse_at w.if-reaches.false c.reaches.ensures))
     ]

@@ -16,7 +16,7 @@ pub overflow_mul-result-2 : goal.overflow_mul-result-2
 overflow_mul-result-2 c =
     (scaled_as_reckoned c.args.self.to_level c.args.step c.requires.line.to_level (omega arith)).0
 
--- the sight of a line at step k, as the code computes it, fits and is exact
+-- the sight of a line at step k, as the code computes it, fits in 64 bits and is exact
 sight_is : (line : Sightline) (k : ℕ) → IsSightline line → k ≤ steps_of line →
     let n = steps_of line in
     let from = to_z w64 (of_z w64 (to_z w64 (of_z w64 line.from_level) *ℤ to_z w64 (n - k))) in

@@ -5,30 +5,30 @@ use Rattle.terrain.specs.declared.place.Place.{Place}
 use Rattle.terrain.proofs.Places.{same_place}
 use Rattle.tiles.specs.declared.bounds.Bounds.{Bounds}
 use Rattle.tiles.specs.Cutting.{IsInBounds}
-use Rattle.fill.specs.Gathering.{IsOnRimRow, IsPairFrom}
+use Rattle.fill.specs.Gathering.{IsOuterOfRow, IsPairFrom}
 use Rattle.fill.proofs.Adding.{adds_as, adds_then}
-use Rattle.fill.proofs.rim_cells.push_rim_cells.Goals as goal
+use Rattle.fill.proofs.rim_cells.push_outer_cells.Goals as goal
 
 first_in : (b : Bounds) (row : ℕ) → b.top ≤ row → row < b.top + b.rows → 1 ≤ b.cols → (p : Place) →
-    p ≡ record { row = row; col = b.left } → IsOnRimRow b row p
+    p ≡ record { row = row; col = b.left } → IsOuterOfRow b row p
 first_in b row above below some p same =
-    subst (IsOnRimRow b row) (sym same) (
+    subst (IsOuterOfRow b row) (sym same) (
       (omega (arith, above), omega (arith, below), omega arith, omega (arith, some)),
       refl,
       λ inner. omega (arith, inner.2),
     )
 
 last_in : (b : Bounds) (row : ℕ) → b.top ≤ row → row < b.top + b.rows → 1 ≤ b.cols → (p : Place) →
-    p ≡ record { row = row; col = b.left + b.cols - 1 } → IsOnRimRow b row p
+    p ≡ record { row = row; col = b.left + b.cols - 1 } → IsOuterOfRow b row p
 last_in b row above below some p same =
-    subst (IsOnRimRow b row) (sym same) (
+    subst (IsOuterOfRow b row) (sym same) (
       (omega (arith, above), omega (arith, below), omega (arith, some), omega (arith, some)),
       refl,
       λ inner. omega (arith, inner.3, some),
     )
 
--- Above the last row, an `IsOnRimRow` cell is the first or the last cell of its row.
-ends : (b : Bounds) (row : ℕ) → row + 1 < b.top + b.rows → (p : Place) → IsOnRimRow b row p →
+-- Above the last row, an `IsOuterOfRow` cell is the first or the last cell of its row.
+ends : (b : Bounds) (row : ℕ) → row + 1 < b.top + b.rows → (p : Place) → IsOuterOfRow b row p →
     (p ≡ record { row = row; col = b.left }) ⊎ (p ≡ record { row = row; col = b.left + b.cols - 1 })
 ends b row below p at = elim (cases_eq p.col b.left) [
   | inl first ↦ inl (same_place p (record { row = row; col = b.left }) at.1 first)
@@ -50,7 +50,7 @@ returns-then-row-top g c =
     let wanted = g.C.MarkedCells.wanted c.args.cells.now in
     on_ok_weaker _ (λ added. adds_as (g.C.MarkedCells.marks c.args.cells.now) c.args.left_out.now
     (λ p q. (IsInBounds b p × (p.row ≡ c.args.row)) × (wanted q ≡ true))
-    (λ p q. IsOnRimRow b c.args.row p × (wanted q ≡ true)) _ _
+    (λ p q. IsOuterOfRow b c.args.row p × (wanted q ≡ true)) _ _
     (λ p q at. ((at.0.0, at.0.1, λ inner. omega (arith, inner.1, at.0.1, c.if-row-top.true)), at.1))
     (λ p q touch after m m_is n n_is at. ((at.0.0, at.0.1), at.1))
     added) c.push_row.ensures
@@ -65,7 +65,7 @@ returns-in_ok-push_cell-2 g c =
     let last : Place = record { row = row; col = b.left + b.cols - 1 } in
     adds_as marks c.args.left_out.now
     (λ p q. IsPairFrom first wanted p q ⊎ IsPairFrom last wanted p q)
-    (λ p q. IsOnRimRow b row p × (wanted q ≡ true)) _ _
+    (λ p q. IsOuterOfRow b row p × (wanted q ≡ true)) _ _
     (λ p q at. elim at [
       | inl here ↦
           (first_in b row c.requires.row.0 c.requires.row.1 c.requires.some p here.0, here.1)
@@ -89,7 +89,7 @@ returns-else-cols-gt1 g c =
     let wanted = g.C.MarkedCells.wanted c.args.cells.now in
     let first : Place = record { row = row; col = b.left } in
     adds_as (g.C.MarkedCells.marks c.args.cells.now) c.args.left_out.now
-    (IsPairFrom first wanted) (λ p q. IsOnRimRow b row p × (wanted q ≡ true)) _ _
+    (IsPairFrom first wanted) (λ p q. IsOuterOfRow b row p × (wanted q ≡ true)) _ _
     (λ p q at. (first_in b row c.requires.row.0 c.requires.row.1 c.requires.some p at.0, at.1))
     (λ p q touch after m m_is n n_is at.
     (same_place p first at.0.1 (omega (arith, at.0.0, c.if-cols-gt1.false, c.requires.some)), at.1))

@@ -8,7 +8,7 @@ use Rattle.horizons.proofs.Sizes.{back_short}
 use Rattle.sight.specs.Sweep.{IsHiddenOn, level_ramp}
 use Rattle.sight.proofs.Below.{passes_between, none_blocks, top_blocks, IsTopNear}
 use Rattle.sightlines.proofs.Heights.{kept, height_fits}
-use Rattle.sight.proofs.line_ground.is_too_low.Goals as goal
+use Rattle.sight.proofs.line_ground.is_ground_below_piece.Goals as goal
 
 pub offset_at-low-requires-clause-target : goal.offset_at-low-requires-clause-target
 offset_at-low-requires-clause-target c =

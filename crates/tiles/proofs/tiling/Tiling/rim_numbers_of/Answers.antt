@@ -2,7 +2,7 @@ use Rattle.std.proofs.Common.{◌≡◌, ◌+◌, ◌*◌, ◌≤◌, ap, ◌∙
 use Rattle.std.proofs.Math.Nat.{mul-le-mul}
 use Rattle.tiles.specs.Cutting.{tile_count, bounds_of}
 use Rattle.tiles.specs.RimNumbers.{stride}
-use Rattle.tiles.proofs.tiling.Tiling.numbers_of.Goals as goal
+use Rattle.tiles.proofs.tiling.Tiling.rim_numbers_of.Goals as goal
 
 pub bounds-requires : goal.bounds-requires
 bounds-requires c = omega (arith, c.requires)

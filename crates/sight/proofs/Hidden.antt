@@ -147,7 +147,7 @@ same_target f t m z y stands e =
 pub record AreHiddenBelow (cells : List (Option ℤ)) (f : Family) (w : Window) (height : ℕ)
     (rays : List Target) (end : ℕ) (old new : List Bool) : Type 0 where
   pub size : length new ≡ length old
-  pub asked : (u n y : ℕ) → u < end → slice_get rays u ≡ Some (target_at f n y) → Crosses f w n →
+  pub tested : (u n y : ℕ) → u < end → slice_get rays u ≡ Some (target_at f n y) → Crosses f w n →
       IsInRun w.side y
       → mark_in_window w (lead_of f n) y new ≡ mark_left cells f w height old n y
   pub crossed : (n y : ℕ) → Crosses f w n → IsInRun w.side y
@@ -156,23 +156,23 @@ pub record AreHiddenBelow (cells : List (Option ℤ)) (f : Family) (w : Window) 
   pub kept : (x y : ℕ) → IsInRun w.lines x → IsInRun w.side y → ((n : ℕ) → Crosses f w n →
       lead_of f n ≡ x → ⊥) → mark_in_window w x y new ≡ mark_in_window w x y old
 
-pub none_asked : (cells : List (Option ℤ)) (f : Family) (w : Window) (height : ℕ)
+pub none_tested : (cells : List (Option ℤ)) (f : Family) (w : Window) (height : ℕ)
     (rays : List Target) (marks : List Bool) → AreHiddenBelow cells f w height rays 0 marks marks
-none_asked cells f w height rays marks = record {
+none_tested cells f w height rays marks = record {
   size = refl;
-  asked = λ u n y below at crosses in_y. absurd (omega arith);
+  tested = λ u n y below at crosses in_y. absurd (omega arith);
   crossed = λ n y crosses in_y. inl refl;
   kept = λ x y in_x in_y not_crossed. refl;
 }
 
-pub blocked_asked : (cells : List (Option ℤ)) (f : Family) (w : Window) (height : ℕ)
+pub blocked_tested : (cells : List (Option ℤ)) (f : Family) (w : Window) (height : ℕ)
     (rays : List Target) (n : ℕ) (old marks : List Bool) (t : Target) (y : ℕ) → IsApart w →
     IsWindow f w marks
     → slice_get rays n ≡ Some t → IsAtCell f y t → IsInRun w.side y → Crosses f w t.line →
     is_blocked_before cells f t.line y (rise_at cells f height t.line y) t.line ≡ true
     → AreHiddenBelow cells f w height rays n old marks → AreHiddenBelow cells f w height rays (n
     + 1) old (set marks (mark_index w (lead_of f t.line) y) false)
-blocked_asked cells f w height rays n old marks t y apart is_w at_t stands in_y crosses blocked
+blocked_tested cells f w height rays n old marks t y apart is_w at_t stands in_y crosses blocked
     were =
     let i = mark_index w (lead_of f t.line) y in
     let new = set marks i false in
@@ -196,10 +196,10 @@ blocked_asked cells f w height rays n old marks t y apart is_w at_t stands in_y 
     (line_from f.lines.back f.lines.at m t.line crossed.line.2 crosses.line.2 cell.0, cell.1) in
     record {
       size = length-set marks i false ∙ were.size;
-      asked = λ u m z below at crossed in_z. elim (cases_eq (mark_index w (lead_of f m) z) i) [
+      tested = λ u m z below at crossed in_z. elim (cases_eq (mark_index w (lead_of f m) z) i) [
         | inl same ↦ let is = met m z crossed in_z same in here m z is.0 is.1
         | inr other ↦ elim (cases_lt u n) [
-          | inl before ↦ there (lead_of f m) z other ∙ were.asked u m z before at crossed in_z
+          | inl before ↦ there (lead_of f m) z other ∙ were.tested u m z before at crossed in_z
           | inr last ↦
               let u_is : n ≡ u = omega arith in
               let is = same_target f t m z y stands
@@ -219,13 +219,13 @@ blocked_asked cells f w height rays n old marks t y apart is_w at_t stands in_y 
           ∙ were.kept x z in_x in_z not_crossed;
     }
 
-pub open_asked : (cells : List (Option ℤ)) (f : Family) (w : Window)
+pub open_tested : (cells : List (Option ℤ)) (f : Family) (w : Window)
     (height : ℕ) (rays : List Target) (n : ℕ) (old marks : List Bool) (t : Target) (y : ℕ) →
     slice_get rays n ≡ Some t → IsAtCell f y t
     → is_blocked_before cells f t.line y (rise_at cells f height t.line y) t.line ≡ false →
     AreHiddenBelow cells f w height rays n old marks →
     AreHiddenBelow cells f w height rays (n + 1) old marks
-open_asked cells f w height rays n old marks t y at_t stands not_blocked were =
+open_tested cells f w height rays n old marks t y at_t stands not_blocked were =
     let here : (m z : ℕ) → m ≡ t.line → z ≡ y →
     mark_left cells f w height old m z ≡ mark_in_window w (lead_of f m) z old = λ m z m_is z_is.
     left_open cells f w height old m z (ap (λ k. is_blocked_before cells f k z
@@ -233,8 +233,8 @@ open_asked cells f w height rays n old marks t y at_t stands not_blocked were =
     (rise_at cells f height t.line k) t.line) z_is ∙ not_blocked) in
     record {
       size = were.size;
-      asked = λ u m z below at crossed in_z. elim (cases_lt u n) [
-        | inl before ↦ were.asked u m z before at crossed in_z
+      tested = λ u m z below at crossed in_z. elim (cases_lt u n) [
+        | inl before ↦ were.tested u m z before at crossed in_z
         | inr last ↦
             let u_is : n ≡ u = omega arith in
             let is = same_target f t m z y stands
@@ -248,23 +248,23 @@ open_asked cells f w height rays n old marks t y at_t stands not_blocked were =
       kept = were.kept;
     }
 
-pub all_asked : (cells : List (Option ℤ)) (f : Family) (w : Window)
+pub all_tested : (cells : List (Option ℤ)) (f : Family) (w : Window)
     (height : ℕ) (rays : List Target) (old new : List Bool) → AreRays f w old 4097 0 rays →
     AreHiddenBelow cells f w height rays (length rays) old new
     → AreHidden cells f w height old new
-all_asked cells f w height rays old new are asked = record {
-  size = asked.size;
+all_tested cells f w height rays old new are tested = record {
+  size = tested.size;
   crossed = λ n y crosses in_y. elim (cases_Bool (mark_in_window w (lead_of f n) y old)) [
     | inl marked ↦
         let ray = are.whole n y (inl (omega (arith, crosses.line.1))) crosses in_y marked in
-        asked.asked ray.0 n y
+        tested.tested ray.0 n y
         (slice_get_within rays ray.0 (target_at f n y) ray.1) ray.1 crosses in_y
-    | inr unmarked ↦ elim (asked.crossed n y crosses in_y) [
+    | inr unmarked ↦ elim (tested.crossed n y crosses in_y) [
       | inl e ↦ e ∙ unmarked ∙ sym (and_left (mark_in_window w (lead_of f n) y old) _ unmarked)
       | inr e ↦ e
     ]
   ];
-  kept = asked.kept;
+  kept = tested.kept;
 }
 
 -- the code's 32-bit sum of the observer's coordinate and a ray's offset is the ray's cell

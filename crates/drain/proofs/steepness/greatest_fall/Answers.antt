@@ -3,7 +3,7 @@ use Rattle.std.proofs.lemmas.Int.{to_z-of_z, ints}
 use Rattle.terrain.specs.Raster.{IsHeight}
 use Rattle.terrain.proofs.Heights.{height_width}
 use Rattle.drain.proofs.Steepest.{abs_part, drop_fits}
-use Rattle.drain.proofs.steepness.furthest.Goals as goal
+use Rattle.drain.proofs.steepness.greatest_fall.Goals as goal
 
 pub returns-clause-value : goal.returns-clause-value
 returns-clause-value c =
