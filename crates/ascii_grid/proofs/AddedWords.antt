@@ -1,4 +1,5 @@
--- The effect of one more word on a `GridBuilder`, and the fault of a word that has one.
+-- A `GridBuilder` that one more word is added to has read all words so far, or returns a fault that
+-- may be reported for them.
 use Rattle.std.proofs.Common.{◌≡◌, ℕ, ◌+◌, ◌<◌, ◌≤◌, Bool, true, false, cond, List, [], ◌∷◌, ◌++◌, length, take, Option, None, Some, arith, refl, ap, sym, ◌∙◌, subst, inl, inr, nat_lt, ◌⊎◌, Result, MatchResult}
 use Rattle.std.specs.Prelude.{MatchOption, option_map}
 use Rattle.std.specs.Option.{option_or, option_map_or}
@@ -169,7 +170,8 @@ words-after h ps hs k begun =
 pub paired : (ps : Pairs) → key_left (flat ps) ≡ None
 paired ps = ap key_left (sym (append-nil (flat ps))) ∙ key_left-flat ps []
 
--- after a whole header, heights of which the first is not too long ask for the list of cells
+-- a header without missing slots, and then heights `hs`, ask for the list of cells, if the first
+-- height is not too long
 pub asks : (h : Header) (ps : Pairs) (hs : List Word) → IsHeaderOf h ps →
     HasBegun hs → missing_fault (flat ps) ≡ None → list_any is_long (take 1 hs) ≡ false →
     AsksForCells (flat ps ++ hs)
@@ -188,7 +190,8 @@ first_short d header [] w short none = rw (is_short w short) refl
 first_short d header (x ∷ hs) w short none =
     rw (then_none (is_long x) TooLong _ (or_none (height_fault d header 0 x) _ none).0).0 refl
 
--- a builder has added more heights, if all heights have no fault and it stores their cells
+-- the builder `j'` has read `ws` and `more`, if the heights `hs ++ more` have no fault and `j'`
+-- stores their cells
 pub judged-heights : (j j' : GridBuilder) (ws : List Word) (ps : Pairs) (hs more : List Word) →
     IsHeaderOf j.header ps → ws ≡ flat ps ++ hs → HasBegun (hs ++ more) → AreHeights j' ps (hs
     ++ more) → j'.header ≡ j.header → j'.stage ≡ AtHeights → HasAdded j' (ws ++ more)
@@ -210,7 +213,8 @@ next-height d ws ps hs w h k e begun none =
     ∙ ap (λ o. option_or o (height_fault d (flat ps) (0 + length hs) w)) none
     ∙ ap (λ n. height_fault d (flat ps) n w) (omega arith)
 
--- a whole header, faultless heights and one more of at most 64 bytes ask for the list of cells
+-- a header without missing slots, faultless heights `hs` and one more height `w` of at most 64
+-- bytes ask for the list of cells
 pub memory-height : (j : GridBuilder) (ws : List Word) (ps : Pairs) (hs : List Word) (w : Word)
     (h : Header) → IsHeaderOf h ps → ws ≡ flat ps ++ hs → HasBegun (hs ++ w ∷ []) →
     missing_fault (flat ps) ≡ None → heights_fault j.scale (flat ps) 0 hs ≡ None → length w ≤ 64 →
@@ -273,7 +277,7 @@ not_memory_cond : (b : Bool) (o p : Option GridFault) → is_memory o ≡ false 
 not_memory_cond true o p h k = h
 not_memory_cond false o p h k = k
 
--- an unknown key or a repeated one is not want of memory
+-- the fault of an unknown or a repeated key is not `Memory`
 pub not_memory_slot : (o : Option Key) (given : Key → Type 0) (f : GridFault) → MatchOption o (f
     ≡ UnknownKey) (λ slot. given slot × (f ≡ RepeatedKey slot)) → is_memory (Some f) ≡ false
 not_memory_slot None given f e = ap (λ g. is_memory (Some g)) e
@@ -301,7 +305,8 @@ pub reported : (may_lack : Type 0) (o : Option GridFault) (f : GridFault) → is
 reported may_lack o Memory m h = absurd (let k : is_memory o ≡ true = ap is_memory h in cc)
 reported may_lack o f m h = h
 
--- a reported fault stays one under weaker conditions
+-- a fault that may be reported by `may_lack` and `o` may be reported by `may_lack'` and `o'`, if
+-- these follow from those
 pub reported_further : (may_lack may_lack' : Type 0) (o o' : Option GridFault) (f : GridFault) →
     (may_lack → may_lack') → ((g : GridFault) → o ≡ Some g → o' ≡ Some g) →
     IsReported may_lack o f → IsReported may_lack' o' f
@@ -337,7 +342,7 @@ long_fault j ws w h far = by_stage j.stage refl
         next-height j.scale ws h.pairs h.rest w j.header h.header h.words
         (HasBegun-more h.rest (w ∷ []) there.0) there.1.faultless ∙ rw long refl
 
--- a result that is right for the next height is right for all words up to it
+-- a result `r` that is right for `w` as the height after `hs` is right for the words `ws` and `w`
 pub height_word : {T : Type 0} (j j' : GridBuilder) (ws : List Word) (ps : Pairs) (hs : List Word)
     (w : Word) (r : Result T GridFault) → IsHeaderOf j.header ps → ws ≡ flat ps ++ hs →
     HasBegun (hs ++ w ∷ []) → AreHeights j ps hs → length w ≤ 64 → j'.header ≡ j.header →
@@ -355,7 +360,8 @@ height_word j j' ws ps hs w r k e begun heights short same stage m =
           (next-height j.scale ws ps hs w j.header k e begun heights.faultless ∙ fault)
     ])
 
--- at the first height, a missing slot or want of memory is a fault of the words
+-- where `w` is the first height, a missing slot's fault may be reported for `ws` and `w`, or
+-- `Memory` if no slot is missing
 pub no_first_height : (j : GridBuilder) (ws : List Word) (w : Word)
     (f : GridFault) (h : HasAdded j ws) → j.stage ≡ AtKey →
     begins_with_letter w ≡ false → length w ≤ 64 → (missing_fault (flat h.pairs) ≡ Some f)

@@ -1,4 +1,4 @@
--- The cell of a word, by its scaled value.
+-- The scaled value of a word, if it has one, decides if the word means NODATA, a height or nothing.
 use Rattle.std.proofs.Common.{◌≡◌, ℕ, Bool, Option, true, false, cond, Some, ℤ, refl, ap, sym, ◌∙◌, inl, inr}
 use Rattle.std.specs.Str.{bytes_eq}
 use Rattle.std.specs.Ordering.{int_eq}

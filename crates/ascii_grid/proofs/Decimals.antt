@@ -1,4 +1,4 @@
--- The digits of a number, written and read back.
+-- The digits of a number can be written one by one, and the written digits spell the number.
 use Rattle.std.proofs.Common.{◌≡◌, ℕ, zero, suc, ◌+◌, ◌*◌, ◌/◌, ◌%◌, ◌^◌, ◌<◌, ◌≤◌, ◌-◌, List, [], ◌∷◌, ◌++◌, length, drop, set, sym, ap, refl, ◌∙◌, arith, add-one, true, leb}
 use Rattle.std.specs.Prelude.{decimal}
 use Rattle.std.proofs.Math.Nat.{div-div-eq-div-mul, pow-succ', div-one, pow-le-pow_right}
@@ -27,7 +27,8 @@ last_digits-front (suc k) n =
     ap (λ ds. ds ++ (48 + n % 10) ∷ []) (last_digits-front k (n / 10))
     ∙ ap (λ m. (48 + m % 10) ∷ last_digits (suc k) n) (div_pow n k)
 
--- one more digit stored before the last k digits makes the last k + 1
+-- if the buffer ends with the last k digits of n, storing the next digit before these gives the
+-- last k + 1 digits
 pub digit_before : (k n left at : ℕ) (buffer : List ℕ) →
     left ≡ n / 10 ^ k → at < length buffer → drop (at + 1) buffer ≡ last_digits k n →
     drop at (set buffer at (48 + left % 10)) ≡ last_digits (k + 1) n

@@ -1,4 +1,4 @@
--- The unfinished word: its next byte and its end.
+-- What a `Tokenizer` has read after one more byte of a word, a word's end, or a whole word.
 use Rattle.std.proofs.Common.{◌≡◌, ℕ, ◌+◌, ◌<◌, ◌≤◌, true, false, List, [], ◌∷◌, ◌++◌, length, take, drop, get_or, Some, ℤ, Result, MatchResult, ◌⊎◌, arith, refl, ap, sym, ◌∙◌, subst, inl, inr}
 use Rattle.std.specs.Prelude.{filter}
 use Rattle.std.specs.List.{list_any}
@@ -130,7 +130,8 @@ IsParted-bytes text ws w (b ∷ more) h none =
     subst (λ t. IsParted t ws (w ++ b ∷ more)) (append_assoc text (b ∷ []) more)
     (subst (λ z. IsParted ((text ++ b ∷ []) ++ more) ws z) (append_assoc w (b ∷ []) more) next)
 
--- where no word is unfinished, a word at a piece's front and its separator give an ended word
+-- where no word is unfinished, the first `len` bytes and the separator `b` after them are one more
+-- ended word
 pub parted_word : (text bytes : List ℕ) (ws : List Word) (len b : ℕ) →
     IsParted text ws [] → list_any is_separator (take len bytes) ≡ false →
     0 < len → len < length bytes → b ≡ get_or bytes len 0 → is_separator b ≡ true →
@@ -153,7 +154,8 @@ parted_ended p text h e =
     nil_from_length h.last (omega (arith, ap length (sym h.front ∙ e), length-take 65 h.last)) in
     subst (λ z. IsParted text h.ended z) last h.parted
 
--- between heights, bytes that are `IsPlain` and a separator give an ended word or its fault
+-- between heights, the first `len` bytes, which are `IsPlain`, and the separator `b` are one more
+-- ended height, or `r` is a fault
 pub plain_word : {T : Type 0} (p : Tokenizer) (j : GridBuilder) (text bytes : List ℕ)
     (len b : ℕ) (value : ℤ) (r : Result T GridFault) → HasWords p text → p.word ≡ [] →
     p.builder.stage ≡ AtHeights → IsPlain p.builder.scale bytes len value → len < length bytes →

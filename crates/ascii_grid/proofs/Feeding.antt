@@ -1,4 +1,5 @@
--- The effect of a piece, and of the text's end, on a reader; a fault stays as the text goes on.
+-- What a reader has read, or which fault it returns, after one more piece and at the text's end. A
+-- fault found so far remains, whatever bytes follow.
 use Rattle.std.proofs.Common.{◌≡◌, ℕ, ◌+◌, ◌-◌, ◌<◌, ◌≤◌, cond, nat_le, List, [], ◌++◌, length, take, drop, min, None, Some, arith, refl, ap, sym, ◌∙◌, subst, inl, inr, Result, MatchResult, Ok, Err}
 use Rattle.std.specs.Prelude.{MatchOption, OnOk, IfErr}
 use Rattle.std.specs.Option.{option_or}
@@ -175,8 +176,8 @@ end_refused d text f short h =
     (λ asks. asked text short asks.0)
     (λ g e. few_fault d text short ∙ ap (λ o. option_or o (end_fault (words text))) e) h
 
--- in a text of at most 2^29 bytes without a faulty word, a result right for the end is right for
--- the text
+-- where a text of at most 2^29 bytes has no faulty word, a result that is right for its end is
+-- right for the text
 pub finished : (d : ℕ) (text : List ℕ) (r : Result Raster GridFault) → length text ≤ most_bytes →
     words_fault d (words text) ≡ None → MatchResult r (λ g. (end_fault (words text) ≡ None)
     × (g ≡ grid_of d (words text))) (IsEndFault (words text)) →
@@ -289,7 +290,8 @@ faultless r text h = rw (← h.same_scale) (few_so_far r.words.builder.scale tex
 
 -- ---- one piece after another
 
--- if a result's fault is the reader's, `Ok` means no fault so far, and `Err` a refusal so far
+-- let the reader `b` store the fault of `r`. For `Ok` the text so far has no fault; for `Err f` it
+-- may be refused with `f` already.
 has_fault : {T : Type 0} (b : Reader) (text : List ℕ) (r : Result T GridFault)
     → b.fault ≡ result_err r → WasFed b text
     → OnOk r (fault_so_far b.scale text ≡ None) × IfErr r (λ f. IsRefusalSoFar b.scale text f)

@@ -1,4 +1,5 @@
--- Cells parsed without the text before them: one more word, and adding them to a grid.
+-- Cells that a job parsed without the text before them are right with one more word, and may be
+-- added to those of a `GridBuilder`.
 use Rattle.std.proofs.Common.{◌≡◌, ℕ, ◌+◌, ◌<◌, ◌≤◌, ℤ, true, false, List, [], ◌∷◌, ◌++◌, length, take, get_or, map, Option, None, Some, Bool, zero, suc, inl, inr, arith, refl, ap, sym, ◌∙◌, subst}
 use Rattle.std.specs.Prelude.{filter}
 use Rattle.std.specs.Option.{option_or}

@@ -1,4 +1,4 @@
--- The header, the heights and the first fault of words that begin with pairs of a key and a value.
+-- Finds the header, heights and first fault of words that begin with pairs of key and value.
 use Rattle.std.proofs.Common.{◌≡◌, ℕ, ◌+◌, Bool, true, false, ◌||◌, cond, List, [], ◌∷◌, ◌++◌, length, Option, None, Some, arith, refl, ap, sym, ◌∙◌}
 use Rattle.std.specs.Prelude.{find, is_some, unwrap_or, option_map}
 use Rattle.std.specs.Option.{option_or}
@@ -195,7 +195,8 @@ with_value-at Nodata p ps qs h = rw (
   h.1 Cellsize (λ e. cc),
 ) refl
 
--- filling the empty slot of a key gives the slots of the pairs with this key and value added
+-- filling the empty slot of the key `k` with `v` gives the slots that `ps` and then the pair of `k`
+-- and `v` fill
 pub with_value-slots_of : (slot : Key) (ps : Pairs) (k v : Word) →
     slot_of k ≡ Some slot → is_given (slots_of ps) slot ≡ false →
     with_value (slots_of ps) slot (is_centre k) v ≡ slots_of (ps ++ (k, v) ∷ [])

@@ -1,4 +1,5 @@
--- The bytes moved and counted by two calls one after the other, or by one call.
+-- Two reads in turn, or two writes in turn, move and count the bytes of both; one call, the bytes
+-- that it reports.
 use Rattle.std.proofs.Common.{ℕ, List, [], ◌++◌, ◌≡◌, ◌≤◌, length, take, Option, None, Some, sym, ap, ◌∙◌, arith}
 use Rattle.std.specs.Io.KnownBytes.{Appends, Consumes, Keeps}
 use Rattle.std.proofs.lemmas.List.{append_assoc, length-append, length-take-le}

@@ -1,4 +1,5 @@
--- The effect of one more byte on ended words and the unfinished word; the words of written rows.
+-- One more byte ends the unfinished word or is added to it. The words of written rows are the texts
+-- of their cells.
 use Rattle.std.proofs.Common.{◌≡◌, ℕ, ◌+◌, ◌-◌, ◌≤◌, Bool, true, false, not, cond, List, [], ◌∷◌, ◌++◌, length, take, arith, refl, ap, sym, ◌∙◌, inl, inr, zero, suc, ◌*◌, ◌<◌, drop, map}
 use Rattle.std.specs.Prelude.{filter}
 use Rattle.std.specs.List.{slice_split, onto_first, before_last, suffix_len, prefix_len, All, list_any, filter, join_with_byte}
@@ -74,7 +75,8 @@ before_last-no p xs b h =
 
 -- ---- one more byte
 
--- the words of a text are those that ended, and the last part if it is a word
+-- the words of a text are the ended words `ws`, and the bytes `w` after the last separator if `w`
+-- is a word
 pub words-parted : (text : List ℕ) (ws : List Word) (w : Word) → IsParted text ws w →
     words text ≡ ws ++ filter is_word (w ∷ [])
 words-parted text ws w h =

@@ -1,4 +1,5 @@
--- Pieces that are read from a device and fed to a reader, one after another.
+-- If each piece is read from a device and fed to a reader as `ReadsPiece` says, the pieces together
+-- read the grid as `ReadsGrid` says.
 use Rattle.std.proofs.Common.{arith, ◌≡◌, ◌≢◌, ◌≤◌, ◌-◌, ◌+◌, ◌++◌, ℕ, List, Option, None, Some, Ok, Err, Result, refl, sym, subst, ◌∙◌}
 use Rattle.std.specs.Prelude.{IfOk}
 use Rattle.std.proofs.lemmas.List.{length-append}
@@ -66,7 +67,8 @@ takes remaining first old new scale taken room r r' result held step fits = reco
   few = omega (arith, length-append held.text step.bytes, held.size, held.room, step.within, fits);
 }
 
--- at the end of the text, a result that is right for the reader's text is right for the device's
+-- at the end of the text, a result that is right for the text fed to the reader is right for the
+-- device
 pub pieces_ended : {R : Type 0} (remaining : R → Option (List ℕ)) (first old new : Device R)
     (scale taken room : ℕ) (r r' : Reader) (result : Result Raster InputFault) →
     HasFedSoFar remaining first old scale r taken →

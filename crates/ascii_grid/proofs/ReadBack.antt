@@ -33,14 +33,14 @@ xll_key x = cond x (codes "xllcenter") (codes "xllcorner")
 abbrev yll_key : Bool → Word
 yll_key y = cond y (codes "yllcenter") (codes "yllcorner")
 
--- the words of a grid's header, and then others; `x` and `y` say whether xll and yll are centres
+-- the words of a grid's header, and then `rest`; `x` and `y` say whether xll and yll are centres
 abbrev header_and : Bool → Bool → Raster → List Word → List Word
 header_and x y g rest =
     codes "ncols" ∷ decimal g.terrain.cols ∷ codes "nrows" ∷ decimal g.terrain.rows
     ∷ xll_key x ∷ g.xll.word ∷ yll_key y ∷ g.yll.word
     ∷ codes "cellsize" ∷ g.cellsize ∷ codes "NODATA_value" ∷ g.nodata ∷ rest
 
--- a written value is one word, of at most 64 bytes, and a value of its slot
+-- `w` is one word of at most 64 bytes, and can be the value of this slot
 record IsWritten (slot : Key) (w : Word) : Type 0 where
   value : is_value slot w ≡ true
   short : is_long w ≡ false
@@ -79,7 +79,7 @@ no_value_faults g h =
       h.nodata.value,
     ) refl
 
--- a written header, and then other words, reads back as the header of its grid
+-- a written header, and then the words `rest`, reads back as the header of the grid `g`
 record ReadsBack (x y : Bool) (g : Raster) (rest : List Word) : Type 0 where
   header : header_words rest ≡ [] → header_words (header_and x y g rest) ≡ header_and x y g []
   heights : height_words (header_and x y g rest) ≡ height_words rest
@@ -170,7 +170,7 @@ regroup_lines : (a b c d e f rest : List ℕ) →
     (((((a ++ b) ++ c) ++ d) ++ e) ++ f) ++ rest ≡ a ++ (b ++ (c ++ (d ++ (e ++ (f ++ rest)))))
 regroup_lines a b c d e f rest = simp append_assoc
 
--- the words of a grid's header with its own corners or centres, and then others
+-- the words of a grid's header with the grid's own corners or centres, and then `rest`
 abbrev header_of : Raster → List Word → List Word
 header_of g rest = header_and g.xll.centre g.yll.centre g rest
 

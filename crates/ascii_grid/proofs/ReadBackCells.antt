@@ -1,4 +1,4 @@
--- A written height and a written cell, read back.
+-- The text of a height reads back as that height, and the text of a cell as that cell.
 use Rattle.std.proofs.Common.{◌≡◌, ◌≢◌, ℕ, ◌+◌, ◌^◌, ◌≤◌, true, false, List, [], ◌∷◌, length, map, Option, None, Some, ℤ, pos, negsuc, sym, ap, refl, ◌∙◌, arith, zero, suc, ◌-◌, ◌*◌, ◌/◌, ◌<◌, ltb, cond, ◌++◌, take, drop, replicate, inl, inr}
 use Rattle.std.specs.Prelude.{unsigned_abs, IfSome, int_le, decimal, neg_ℤ}
 use Rattle.std.specs.List.{All, list_any, before_first, after_first}
@@ -189,7 +189,7 @@ reads_cell d nodata (Some z) few h height apart =
           (scaled_value d (height_text d z)) not_nodata ∙ value;
     }
 
--- the words of the cells from `place` to the last have no fault as heights after `place` others
+-- the texts of `cells`, the grid's last cells, have no fault as heights after `place` others
 pub no_heights_fault : (d : ℕ) (header : List Word)
     (nodata : Word) (place : ℕ) (cells : List (Option ℤ)) → missing_fault header ≡ None →
     nodata_for header ≡ nodata → place + length cells ≡ cells_wanted header →

@@ -89,7 +89,8 @@ exponent_of_unsigned (b ∷ bs) = elim (cases_Bool (is_sign b)) [
 digits_all : (bs : List ℕ) → are_digits bs ≡ true → list_all is_ascii_digit bs ≡ true
 digits_all bs h = (and_parts (is_word bs) (list_all is_ascii_digit bs) h).1
 
--- if the exponent, if any, is digits with or without a sign, none of its bytes passes `q`
+-- if the word `w` has no exponent, or one of digits with or without a sign, no byte of the exponent
+-- passes `q`
 exponent_bytes : (q : ℕ → Bool) → IsFalseOnDecimalBytes q → (w : List ℕ) →
     (not (has_exponent w) || are_digits (without_sign (after_first is_exponent_mark w))) ≡ true →
     list_any q (after_first is_exponent_mark w) ≡ false

@@ -1,4 +1,5 @@
--- The fault at a text's end; at a scale of at most 6, a text without a fault spells a lawful grid.
+-- Finds the fault at a text's end. At a scale of at most 6, a text without a fault spells a lawful
+-- grid: one with all its parts within limits.
 use Rattle.std.proofs.Common.{◌≡◌, ◌≢◌, ℕ, ◌+◌, ◌<◌, ◌≤◌, Bool, true, false, not, cond, nat_lt, nat_le, List, [], ◌∷◌, ◌++◌, length, map, Option, None, Some, ℤ, arith, lit≤, refl, ap, sym, ◌∙◌, subst, inl, inr}
 use Rattle.std.specs.Prelude.{is_some, All, IfSome, unwrap_or, option_map, int_le, codes}
 use Rattle.std.specs.Option.{option_map_or}
@@ -230,7 +231,8 @@ word_of : (o : Option (Word × Word)) → option_map_or (λ (a : Anchor).
 word_of None = refl
 word_of (Some p) = refl
 
--- the grid of the slots is the one that the words spell
+-- the slots that the pairs `ps` fill and the cells of the heights `hs` make the grid that the words
+-- `ws` spell
 raster_of-grid_of : (d : ℕ) (ps : Pairs) (ws hs : List Word) → header_words ws ≡ flat ps →
     height_words ws ≡ hs → raster_of (slots_of ps) d (nodata_for (flat ps))
     (map (spelled_cell d (nodata_for (flat ps))) hs) ≡ grid_of d ws

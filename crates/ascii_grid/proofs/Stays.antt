@@ -79,7 +79,7 @@ heights_more d header place (w ∷ hs) more f h =
     (heights_fault d header (place + 1) (hs ++ more)) f h
     (heights_more d header (place + 1) hs more f)
 
--- the first fault of words after the front of a header, whose keys are `before`
+-- the first fault of the words `ws` after `front`, the front of a header with the keys `before`
 abbrev after_front : ℕ → List Word → List Word → List Word → Option GridFault
 after_front d before front ws = option_or (header_fault before (header_words ws))
     (heights_fault d (front ++ header_words ws) 0 (height_words ws))

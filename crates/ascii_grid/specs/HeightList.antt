@@ -1,4 +1,5 @@
--- The cells that bytes spell, parsed without the text before them. Source: this project.
+-- Which cells bytes of a text spell, by the scale and the NODATA word and without the text before
+-- the bytes. Source: this project.
 -- Public.
 use Rattle.std.specs.Prelude.{◌≡◌, ℕ, ◌<◌, ◌≤◌, ℤ, true, false, List, map, length, take, get_or, Option}
 use Rattle.std.specs.List.{All, list_any}
@@ -15,7 +16,8 @@ pub record IsHeightWord (parser : ParserSettings) (w : Word) : Type 0 where
   pub short : length w ≤ 64
   pub cell : is_cell parser.scale parser.nodata w ≡ true
 
--- A separator follows each word, each has at most 64 bytes and spells a cell; these are the cells.
+-- Each word of `bytes` has a separator after it, has at most 64 bytes and spells a cell. `cells`
+-- are the cells that the words spell.
 pub record AreCells (parser : ParserSettings) (bytes : List ℕ)
     (cells : List (Option ℤ)) : Type 0 where
   pub ended : ended_words bytes ≡ words bytes

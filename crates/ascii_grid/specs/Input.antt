@@ -1,4 +1,5 @@
--- Reading a grid from a device. Source: this project.
+-- What a call that reads a grid from a device reads and returns, also where a read fails.
+-- Source: this project.
 -- Trust base.
 use Rattle.std.specs.Prelude.{◌≡◌, ◌≢◌, ◌≤◌, ◌<◌, ◌+◌, ◌-◌, ◌^◌, ℕ, List, length, Option, None, Some, Result, Ok, Err, IfOk}
 use Rattle.std.specs.Io.KnownBytes.{IsAtEnd}
@@ -30,7 +31,7 @@ pub record ReadsGrid {R : Type 0} (remaining : R → Option (List ℕ)) (scale :
   -- If a read failed, no word that ended before the failure has a fault.
   pub clean : result ≡ Err Read → fault_so_far scale taken.bytes ≡ None
 
--- A reader without a fault, a device that can count one more failure, and a nonempty buffer.
+-- The reader has no fault, the device can count one more failure, and `piece` is not empty.
 pub record CanRead {R : Type 0} (reader : Reader) (device : Device R)
     (piece : List ℕ) : Type 0 where
   pub faultless : reader.fault ≡ None

@@ -1,4 +1,4 @@
--- The meaning of a word among the heights: a cell or nothing. Source: this project.
+-- A word among the heights means the cell that it spells, or nothing. Source: this project.
 -- Private.
 use Rattle.std.specs.Prelude.{ℕ, if◌then◌else◌}
 use Rattle.terrain.specs.Words.{Word}

@@ -1,4 +1,5 @@
--- A reader that is fed a text in pieces. Source: this project.
+-- What a reader has read, or which fault it has returned, after pieces of a text were fed to it.
+-- Source: this project.
 -- Public.
 use Rattle.std.specs.Prelude.{◌≡◌, ℕ, ◌≤◌, List, ◌++◌, length, Option, None, Some, MatchOption, Result, Err, OnOk, IfErr}
 use Rattle.std.specs.Result.{result_err}

@@ -1,4 +1,5 @@
--- The state of a reader after the words so far. Source: this project.
+-- What `GridBuilder` and `Tokenizer` store of the words so far: slots, cells, an unfinished word.
+-- Source: this project.
 -- Public.
 use Rattle.std.specs.Prelude.{◌≡◌, ℕ, Bool, true, false, List, [], ◌∷◌, ◌++◌, map, filter, find, take, Option, None, Some, option_map}
 use Rattle.std.specs.List.{slice_split, list_all}
@@ -37,18 +38,19 @@ slots_of ps = record {
   nodata = option_map (λ (p : Word × Word). p.1) (given Nodata ps);
 }
 
--- The keys of pairs, the last one first, and then other keys.
+-- The keys of these pairs, the last pair's key first, and then the keys `before`.
 abbrev pub keys_before : List (Word × Word) → List Word → List Word
 keys_before [] before = before
 keys_before (p ∷ ps) before = keys_before ps (p.0 ∷ before)
 
--- The header has the slots of these pairs, whose keys begin with a letter and which have no fault.
+-- The header's slots are those that the pairs fill. Each key begins with a letter, and no pair has
+-- a fault.
 pub record IsHeaderOf (h : Header) (ps : List (Word × Word)) : Type 0 where
   pub keys : list_all (λ (p : Word × Word). begins_with_letter p.0) ps ≡ true
   pub faultless : header_fault [] (flat ps) ≡ None
   pub slots : h ≡ slots_of ps
 
--- The key word `k` follows these pairs, and the value of its empty slot comes next.
+-- The key word `k` follows these pairs, its slot is empty, and the slot's value comes next.
 pub record AwaitsValue (ps : List (Word × Word)) (k : Word) (slot : Key)
     (centre : Bool) : Type 0 where
   pub letter : begins_with_letter k ≡ true
@@ -62,7 +64,7 @@ abbrev pub HasBegun : List Word → Type 0
 HasBegun [] = ⊥
 HasBegun (h ∷ rest) = begins_with_letter h ≡ false
 
--- These words follow the pairs as heights without a fault, and their cells are stored.
+-- The words `hs` follow the pairs `ps` as heights without a fault, and `j` stores their cells.
 pub record AreHeights (j : GridBuilder) (ps : List (Word × Word)) (hs : List Word) : Type 0 where
   pub whole : missing_fault (flat ps) ≡ None
   pub wanted : j.wanted ≡ cells_wanted (flat ps)
@@ -71,13 +73,14 @@ pub record AreHeights (j : GridBuilder) (ps : List (Word × Word)) (hs : List Wo
   pub faultless : heights_fault j.scale (flat ps) 0 hs ≡ None
   pub cells : j.cells.items ≡ map (spelled_cell j.scale j.nodata) hs
 
--- The words after the pairs: none if a key comes next, its key if a value does, or the heights.
+-- `rest` is what follows the pairs: nothing if a key comes next, a key if its value comes next, or
+-- else the heights.
 abbrev pub IsAt : GridBuilder → List (Word × Word) → List Word → Stage → Type 0
 IsAt j ps rest AtKey = rest ≡ []
 IsAt j ps rest (AtValue slot centre) = (k : Word) × (rest ≡ k ∷ []) × AwaitsValue ps k slot centre
 IsAt j ps rest AtHeights = HasBegun rest × AreHeights j ps rest
 
--- These words were read without a fault, as pairs of the header and then the rest.
+-- `j` has read the words `ws` without a fault. They are the `pairs` of a header and then `rest`.
 pub record HasAdded (j : GridBuilder) (ws : List Word) : Type 0 where
   pub pairs : List (Word × Word)
   pub rest : List Word
@@ -85,22 +88,25 @@ pub record HasAdded (j : GridBuilder) (ws : List Word) : Type 0 where
   pub header : IsHeaderOf j.header pairs
   pub at : IsAt j pairs rest j.stage
 
--- A fault of words: their first, or want of memory at the first height.
+-- `f` may be reported for these words: their first fault, or want of memory at the first height.
 abbrev pub IsWordFault : ℕ → List Word → GridFault → Type 0
 IsWordFault d ws f = IsReported (AsksAtHeight ws) (words_fault d ws) f
 
--- A fault at the end of the text: its `end_fault`, or want of memory for the cells.
+-- `f` may be reported where a text of these words ends: `end_fault`, or want of memory for the
+-- cells.
 abbrev pub IsEndFault : List Word → GridFault → Type 0
 IsEndFault ws f = IsReported (AsksForCells ws) (end_fault ws) f
 
--- A text is split into the words that a separator ends, and the bytes after the last separator.
+-- `text` is split into `ws`, the words that a separator ends, and `w`, the bytes after the last
+-- separator.
 pub record IsParted (text : List ℕ) (ws : List Word) (w : Word) : Type 0 where
   pub parts : List Word
   pub split : slice_split is_separator text ≡ parts ++ w ∷ []
   pub kept : filter is_word parts ≡ ws
   pub ended : ended_words text ≡ ws
 
--- The ended words of this text were read without a fault; the unfinished word's front is stored.
+-- `p` has read the ended words of `text` without a fault, and stores the front of the unfinished
+-- word.
 pub record HasWords (p : Tokenizer) (text : List ℕ) : Type 0 where
   pub ended : List Word
   pub last : Word

@@ -1,4 +1,5 @@
--- The slots of a header as a reader fills them, pair by pair. Source: this project.
+-- A header in six slots, which values fill one by one, and the grid of a whole header and cells.
+-- Source: this project.
 -- Public.
 use Rattle.std.specs.Prelude.{ℕ, ◌*◌, ℤ, IsSome, Bool, false, not, ◌||◌, codes, List, [], find, Option, None, Some, is_some, unwrap_or, option_map}
 use Rattle.std.specs.Option.{option_map_or}
@@ -33,7 +34,7 @@ is_given h Yll = is_some h.yll
 is_given h Cellsize = is_some h.cellsize
 is_given h Nodata = is_some h.nodata
 
--- A position: its word, and whether it is a cell's centre.
+-- A position: the word `w`, and `centre` if it is that of a cell's centre, not of a corner.
 abbrev pub anchor_at : Bool → Word → Anchor
 anchor_at centre w = record { centre = centre; word = w }
 
@@ -41,7 +42,7 @@ anchor_at centre w = record { centre = centre; word = w }
 abbrev pub is_centre : Word → Bool
 is_centre k = is_key (codes "xllcenter") k || is_key (codes "yllcenter") k
 
--- The header with this slot filled; a position also stores whether it is a centre.
+-- The header `h` with this slot filled by the word `w`. `Xll` and `Yll` store `centre` too.
 abbrev pub with_value : Header → Key → Bool → Word → Header
 with_value h Ncols centre w = record h { cols = Some (number_of w) }
 with_value h Nrows centre w = record h { rows = Some (number_of w) }

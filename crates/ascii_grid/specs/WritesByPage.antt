@@ -1,9 +1,11 @@
--- Text that is written to a device by way of a page. Source: this project.
+-- What a call does that adds text to a page, a buffer that goes to the device when it is full.
+-- Source: this project.
 -- Private.
 use Rattle.std.specs.Prelude.{◌≡◌, ℕ, List, ◌++◌, Option, Result, OnOk, OnErr}
 use Rattle.ascii_grid.specs.Device.{Device, HasWritten, HasWrittenPart, CountsFailure}
 
--- The bytes sent, then the page after the call, are the page before the call, then the text.
+-- The bytes `sent` to the device and then the page after the call are together the page before the
+-- call and then the text.
 abbrev pub LosesNoByte : {W : Type 0} → (W → Option (List ℕ)) → Device W → List ℕ → Device W →
     List ℕ → List ℕ → Type 0
 LosesNoByte contents old page_before new page_after text =

@@ -1,6 +1,7 @@
-//! Checks the words of a text in their order: keys, values, heights.
+//! Checks the words of a text in their order, and stores the header and the cells that they give.
 //!
-//! In `GridBuilder::add_word` a key names a slot, a value fills it, and a height adds a cell.
+//! `GridBuilder::add_word` takes the next word. A key names a slot, which is the room for one of
+//! six header values; a value fills the slot; a height adds a cell.
 ghost use Rattle.std.specs.Prelude.{◌↔◌, IsTrue, ◌≡◌, ◌≤◌, ◌<◌, ◌⊎◌, ◌++◌, [], ◌∷◌, List, map, length, false, Option, Some, None, Err, IfOk, MatchResult};
 ghost use Rattle.terrain.specs.Words.{Word};
 ghost use Rattle.terrain.specs.Decimal.{scaled_value};
@@ -25,7 +26,7 @@ use terrain::{Cell, Grid, MOST_WORD_BYTES, Word};
 pub(crate) enum Stage {
     /// A key, or the first height.
     AtKey,
-    /// The value of this slot; `centre` if its key names a cell's centre.
+    /// The value of the slot `key`; `centre` if the key word names a cell's centre.
     AtValue { key: Key, centre: bool },
     /// A height.
     AtHeights,
@@ -38,7 +39,7 @@ pub(crate) struct GridBuilder {
     pub(crate) scale: u8,
     header: Header,
     stage: Stage,
-    // The number of cells, the NODATA word and its value are set when the heights begin.
+    // Set when the heights begin. `nodata_value` is the scaled value of `nodata`.
     wanted: u32,
     nodata: Word,
     nodata_value: Option<i64>,
@@ -62,7 +63,7 @@ impl GridBuilder {
         }
     }
 
-    /// Reads the next word as a key, a value or a height, or returns its fault.
+    /// Reads `word` as the key, value or height that comes next, or returns a fault.
     pub(crate) fn add_word(&mut self, word: &[u8]) -> Result<(), GridFault>
         ensures scale { self.new.scale ≡ self.old.scale }
         ensures long { MOST_WORD_BYTES < length word.now → result ≡ Err GridFault.TooLong }
@@ -93,7 +94,7 @@ impl GridBuilder {
         }
     }
 
-    /// Returns the grid that the words spell, or the fault at their end, or `Memory`.
+    /// Returns the grid that the words spell, or the fault at the text's end, or `Memory`.
     pub(crate) fn finish(mut self) -> Result<Grid, GridFault>
         requires judged { (ws : List Word) × HasAdded self ws }
         requires scale { self.scale ≤ 6 }
@@ -161,7 +162,7 @@ impl GridBuilder {
         self.add_cell(meaning)
     }
 
-    /// Adds the cell of the next height, given its scaled value, or returns its fault.
+    /// Adds the cell of a height with the scaled value `value`, or returns a fault.
     #[inline(always)]
     pub(crate) fn add_height_value(&mut self, value: i64) -> Result<(), GridFault>
         ensures kept { self.new ≡ record self.old { cells = self.new.cells } }

@@ -1,4 +1,4 @@
-//! The meaning of a word among the heights: a height, NODATA or neither.
+//! Tells what a word among the heights means: a cell with a height, a NODATA cell, or neither.
 ghost use Rattle.std.specs.Prelude.{◌≡◌, ℕ, List, Option, Some, None};
 ghost use Rattle.terrain.specs.Decimal.{scaled_value};
 ghost use Rattle.ascii_grid.specs.GridText.{same_value};
@@ -15,7 +15,7 @@ pub(crate) enum Meaning {
     Nothing,
 }
 
-/// Returns a word's meaning, given the NODATA word and its scaled value.
+/// Returns the meaning of `word`; `nodata_value` is the scaled value of `nodata`.
 pub(crate) fn cell(scale: u8, nodata: &[u8], nodata_value: Option<i64>, word: &[u8]) -> Meaning
     ensures { nodata_value ≡ scaled_value scale nodata.now →
         result ≡ meaning_of scale nodata.now word.now }
@@ -27,7 +27,9 @@ pub(crate) fn cell(scale: u8, nodata: &[u8], nodata_value: Option<i64>, word: &[
     }
 }
 
-/// Returns a word's meaning, given its scaled value and the NODATA word's.
+/// Returns the meaning of a word with the scaled value `value`.
+///
+/// `nodata_value` is the scaled value of the NODATA word.
 #[inline(always)]
 pub(crate) fn value_cell(value: i64, nodata_value: Option<i64>) -> Meaning
     ensures { (d : ℕ) (nodata word : List ℕ) → scaled_value d word ≡ Some value →

@@ -1,4 +1,4 @@
-//! The text of one value of a map, and the byte that ends it.
+//! Adds the text of one value of a map to a page (a buffer), and then the byte after the text.
 ghost use Rattle.std.specs.Prelude.{◌≡◌, ◌+◌, ◌-◌, ◌/◌, ◌^◌, ◌≤◌, ◌∷◌, ◌++◌, [], ℕ, List, length, drop, decimal};
 ghost use Rattle.ascii_grid.specs.Text.{last_digits, height_text};
 
@@ -6,7 +6,7 @@ use crate::page::{PAGE, Page};
 use drainage::Code;
 use terrain::Height;
 
-/// Bytes enough for the longest text of a value and the byte that ends it.
+/// Bytes enough for the text of any value and the byte `end` after the text.
 const ROOM: usize = 32;
 
 #[inline(always)]

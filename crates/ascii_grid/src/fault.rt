@@ -1,6 +1,8 @@
-//! The faults of a grid text, numbered 1 to 12 in fault lines.
+//! The faults of a grid text. The line that reports a fault has its number, from 1 to 12.
 
-/// A slot of the header; `Xll` and `Yll` place the lower left cell.
+/// A slot: the room for one of six header values.
+///
+/// `Xll` and `Yll` place the lower left cell.
 #[derive(Clone, Copy, Debug, PartialEq, Eq)]
 pub enum Key {
     Ncols,

@@ -1,6 +1,6 @@
-//! The slots of a header: which are given, and which are missing.
+//! Stores the values of a header in six slots, and finds which slots are filled or missing.
 //!
-//! `Header::slot_for` finds a key's slot, `put` stores its value, `into_grid` builds the grid.
+//! `Header::slot_for` finds a key's slot, `put` fills a slot, `into_grid` builds the grid.
 ghost use Rattle.std.specs.Prelude.{◌≡◌, ◌≤◌, ◌*◌, length, true, false, Option, Some, None, IfOk, IfErr, MatchOption, unwrap_or, codes, if◌then◌else◌};
 ghost use Rattle.terrain.specs.Decimal.{is_decimal};
 ghost use Rattle.ascii_grid.specs.Header.{is_value, bad_value, slot_of};
@@ -65,7 +65,9 @@ impl Header {
         }
     }
 
-    /// Fills a slot with a value, or returns the value's fault. Only `Xll` and `Yll` use `centre`.
+    /// Fills the slot `key` with the value `word`, or returns the fault of `word`.
+    ///
+    /// Only `Xll` and `Yll` use `centre`.
     pub(crate) fn put(&mut self, key: Key, centre: bool, word: &[u8]) -> Result<(), GridFault>
         requires { length word.now ≤ MOST_WORD_BYTES }
         ensures ok { IfOk result (λ _. (is_value key word.now ≡ true)

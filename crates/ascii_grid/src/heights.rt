@@ -92,7 +92,9 @@ impl HeightParser {
         Some(len + 1)
     }
 
-    /// Returns the front word's length and meaning; `None` if it is too long or not ended.
+    /// Returns the length and the meaning of the word at the front of `rest`.
+    ///
+    /// `None` if there is no word at the front, or if it is too long or no separator follows it.
     #[inline(always)]
     fn front_word(&self, nodata_value: Option<i64>, rest: &[u8]) -> Option<(usize, Meaning)>
         requires { nodata_value ≡ scaled_value self.now.scale self.now.nodata }

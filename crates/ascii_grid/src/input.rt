@@ -1,4 +1,4 @@
-//! Reads a grid from a device, piece by piece.
+//! Reads a grid from a device, which is any reader of bytes, piece by piece.
 ghost use Rattle.std.specs.Prelude.{◌≡◌, ◌≢◌, ◌≤◌, ◌-◌, ◌^◌, ◌<◌, ℕ, List, length, None, Err, IfOk};
 ghost use Rattle.ascii_grid.specs.Input.{ReadsGrid, ReadsPiece, CanRead};
 ghost use Rattle.ascii_grid.specs.Reader.{WasFed};
@@ -33,8 +33,8 @@ pub enum InputFault {
 ///
 /// # Errors
 ///
-/// The text's first fault, [`GridFault::Memory`], or [`InputFault::Read`] if a read fails. A fault
-/// of a word that ended before the failure comes first.
+/// The text's first fault, [`GridFault::Memory`], or [`InputFault::Read`] if a read fails. If a
+/// word that ended before the failed read has a fault, that fault is returned.
 pub fn read_grid<R: Read>(
     alloc: Global,
     scale: u8,
@@ -60,8 +60,8 @@ pub fn read_grid<R: Read>(
 
 /// Reads a grid from a device by calls of `read_next`, which reads into the buffer.
 ///
-/// `read_next` feeds the bytes to the [`GridReader`] and returns their number, or `None` at the end
-/// of the text.
+/// `read_next` feeds the bytes that it read to the [`GridReader`]. It returns how many it read, or
+/// `None` at the end of the text.
 ///
 /// # Errors
 ///

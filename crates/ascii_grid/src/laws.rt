@@ -1,4 +1,6 @@
-//! Theorems about the definitions; the functions have no code.
+//! Theorems about texts, their grids and their faults; the functions have no code.
+//!
+//! A lawful grid, `IsLawful` in `terrain/specs/Raster.antt`, has all its parts within limits.
 ghost use Rattle.std.specs.Prelude.{◌≡◌, ℕ, ◌≤◌, ◌++◌, List, [], length, Some};
 ghost use Rattle.terrain.specs.Raster.{Raster, IsLawful};
 ghost use Rattle.terrain.specs.Sinks.{raster_with_sinks};

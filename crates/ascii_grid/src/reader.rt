@@ -117,8 +117,8 @@ impl GridReader {
 
     /// Reads a piece of the text, which [`HeightParser::cells`] parsed into `cells`.
     ///
-    /// Adds the cells if they fit and `parser` equals the one of
-    /// [`height_parser`](Self::height_parser); otherwise parses the piece.
+    /// Adds `cells` if these are not too many, and `parser` equals the parser that
+    /// [`height_parser`](Self::height_parser) returns now. Otherwise parses the piece.
     ///
     /// # Errors
     ///

@@ -1,7 +1,7 @@
-//! Splits a text into words, and passes each word or its value to `GridBuilder`.
+//! Splits a text into words, and passes each word, or a height's value, to `GridBuilder`.
 //!
-//! A word is judged once a separator or the text's end follows it. Therefore the result does not
-//! depend on where the text is cut into pieces.
+//! `GridBuilder` checks a word once a separator or the text's end follows it. Therefore the result
+//! does not depend on where the text is cut into pieces.
 ghost use Rattle.std.specs.Prelude.{◌≡◌, ℕ, ◌≤◌, ◌++◌, [], ◌∷◌, ◌<◌, List, length, take, IfOk, IfSome, IsTrue, ◌↔◌, false, MatchResult};
 ghost use Rattle.terrain.specs.Words.{is_separator, words, ended_words};
 ghost use Rattle.ascii_grid.specs.Header.{header_words, nodata_for};
@@ -73,10 +73,10 @@ impl Tokenizer {
         Ok(1)
     }
 
-    /// Fast path for a height that [`plain_number`] parses, and its separator.
+    /// Fast path: reads a height that [`plain_number`] parses, and the separator after it.
     ///
-    /// Returns their length, or 0: for anything else, within a word, and until the first height has
-    /// ended.
+    /// Returns the number of bytes read. It is 0 for anything else, within a word, and until the
+    /// first height has ended.
     #[inline(always)]
     fn take_plain(&mut self, rest: &[u8]) -> Result<usize, GridFault>
         requires { self.old.builder.scale ≤ 6 }

@@ -19,7 +19,7 @@ use std::alloc::Global;
 use std::io::Write;
 use terrain::{Anchor, Cell, Count, Frame, Grid, MOST_WORD_BYTES, NoMemory};
 
-/// Bytes enough for a cell or a header line, and the byte that ends it.
+/// Bytes enough for the text of a cell and the byte after it, or for a header line.
 pub const ENTRY_ROOM: usize = 80;
 
 /// The NODATA word of all maps but filled heights.
@@ -141,7 +141,7 @@ fn write_row<E: MapCell, W: Write>(
     write_cell(cells[last], b'\n', scale, nodata, page, out)
 }
 
-/// Adds the complete rows of cells to the page; full pages go to the device.
+/// Adds all complete rows of `cols` cells to the page; full pages go to the device.
 fn write_rows<E: MapCell, W: Write>(
     cells: &[E],
     cols: usize,
@@ -164,7 +164,7 @@ fn write_rows<E: MapCell, W: Write>(
     Ok(())
 }
 
-/// Writes the page and then the complete rows of cells, and flushes the device.
+/// Writes the page, then all complete rows of `cols` cells, and flushes the device.
 fn write_page_and_rows<E: MapCell, W: Write>(
     page: &mut Page,
     cells: &[E],
@@ -207,7 +207,7 @@ fn push_number_line(key: &[u8], number: u32, page: &mut Page)
     push_line(key, digits.format(number).as_bytes(), page);
 }
 
-/// Adds the header line of a position, with the key of a corner or a centre.
+/// Adds the header line of `anchor`, with the key `centre` or `corner`.
 fn push_anchor(corner: &[u8], centre: &[u8], anchor: &Anchor, page: &mut Page)
     requires corner { length corner.now ≤ 14 }
     requires centre { length centre.now ≤ 14 }
@@ -234,7 +234,7 @@ fn header_page(frame: &Frame, nodata: &[u8]) -> Page
     page
 }
 
-/// Writes a map's header, with this NODATA word, and its rows. Allocates nothing.
+/// Writes a header with the NODATA word `nodata`, and a map's rows. Allocates nothing.
 ///
 /// # Errors
 ///
@@ -258,7 +258,7 @@ pub fn write_cells<E: MapCell, W: Write>(
     write_page_and_rows(&mut page, cells, cols, frame.scale(), nodata, out)
 }
 
-/// Returns the text of the complete rows of cells, one line for each row.
+/// Returns the text of all complete rows of `cols` cells, one line for each row.
 ///
 /// # Errors
 ///
@@ -296,7 +296,7 @@ fn write_texts<W: Write>(texts: &[Vec<u8>], out: &mut Counted<W>) -> Result<(), 
 
 /// Writes a map's header and the texts of its rows. Allocates nothing.
 ///
-/// The texts are those of [`lines`] for runs of rows, from north to south.
+/// `texts` holds what [`lines`] returned for runs of rows, from north to south.
 ///
 /// # Errors
 ///
@@ -358,9 +358,9 @@ pub fn write_counts<W: Write>(
     write_framed_counts(grid.frame(), values, out)
 }
 
-/// Writes whole numbers, with a frame's header and NODATA -9999. Allocates nothing.
+/// Writes whole numbers, with the header of `frame` and NODATA -9999. Allocates nothing.
 ///
-/// Unlike [`write_counts`], it does not need the grid's cells, which may be freed before.
+/// Unlike [`write_counts`], it needs no cells of the grid: these may be freed before the call.
 ///
 /// # Errors
 ///
@@ -377,7 +377,7 @@ pub fn write_framed_counts<W: Write>(
     write_cells(frame, values, COUNTS_NODATA, out)
 }
 
-/// Writes direction codes, with a frame's header and NODATA -9999. Allocates nothing.
+/// Writes direction codes, with the header of `frame` and NODATA -9999. Allocates nothing.
 ///
 /// # Errors
 ///

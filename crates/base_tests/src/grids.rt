@@ -1,4 +1,4 @@
-//! Tests the header and cells of a grid, grids with other cells, counts, and named sinks.
+//! Tests the header and cells of a grid, replaced cells, counts and named sinks.
 ghost use Rattle.std.specs.Prelude.{◌≡◌, ◌*◌, ◌∷◌, [], pos, negsuc, None, Some, Contains};
 
 use crate::texts::{PIT, PIT_CELLS, expect_cells, grid_of};

@@ -59,7 +59,8 @@ impl Work for Hungry {
     }
 }
 
-/// A gate that holds each job until the jobs in its `waits` have entered, and records the order.
+/// A gate that holds job `j` until the jobs of `waits[j]` have entered.
+/// Records the order in which jobs enter.
 #[derive(Drop)]
 struct Turns {
     // bit k of entry j: job j waits for job k

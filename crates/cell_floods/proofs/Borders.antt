@@ -1,4 +1,5 @@
--- The nodes of the cells of bordered rows, and the net of a window with such rows.
+-- Rows within a border, as one list, have each cell of a window at its node. So they are the cells
+-- of the window's net.
 use Rattle.std.proofs.Common.{◌≡◌, ℕ, zero, suc, ◌+◌, ◌-◌, ◌*◌, ◌<◌, ◌≤◌, inl, inr, ℤ, Bool, List, [], ◌∷◌, ◌++◌, length, get_or, take, replicate, Option, None, Some, ◌∙◌, sym, ap, refl, arith, length-append, add-one}
 use Rattle.std.proofs.Math.Nat.{add-sub_cancel_left}
 use Rattle.std.proofs.lemmas.Bool.{cases_lt, cases_eq}
@@ -21,7 +22,8 @@ fewer : (row : ℕ → List (Option ℤ)) (cols count : ℕ) → AreRows row col
     AreRows row cols count
 fewer row cols count h r below = h r (omega arith)
 
--- `first_rows`, then the next row between two cells without data, are `first_rows` of one row more.
+-- `first_rows` of `count` rows, then row `count` between two cells without data, are `first_rows`
+-- of count + 1 rows.
 pub row_more : (row : ℕ → List (Option ℤ)) (stride count : ℕ) (cells now next : List (Option ℤ)) →
     now ≡ first_rows row stride count → next ≡ now ++ (None ∷ cells ++ None ∷ []) →
     cells ≡ row count → next ≡ first_rows row stride (count + 1)

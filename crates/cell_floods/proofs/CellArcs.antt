@@ -1,4 +1,5 @@
--- The arcs from a cell to the cells around it.
+-- The arcs from a cell to the cells around it are just its joins. Which of the arcs need no new
+-- entry in the queue.
 use Rattle.std.proofs.Common.{◌≡◌, ℕ, pos, map, ◌+◌, ◌-◌, ◌<◌, ◌⊎◌, inl, inr, ℤ, List, [], ◌∷◌, ◌++◌, length, get_or, take, Option, None, Some, ◌∙◌, sym, ap, subst, refl, arith}
 use Rattle.std.specs.Int.{int_max}
 use Rattle.std.specs.List.{Contains, All, filter_map, cons_option}
@@ -59,7 +60,7 @@ pub filter_map_more : {X Y : Type 0} (f : X → Option Y) (xs : List X) (i : ℕ
 filter_map_more f xs i d below = ap (filter_map f) (take_more xs i d below)
     ∙ filter_map-append f (take i xs) (get_or xs i d ∷ [])
 
--- Relaxing the arcs to some cells and then to others relaxes the arcs to all.
+-- Relaxing the arcs to the cells xs and then the arcs to ys relaxes the arcs to xs ++ ys.
 pub more_cells : (f : ℕ → Option Spill) (labels : List (Option ℕ)) (from : Candidate)
     (xs ys : List ℕ) (levels between after : List (Option ℤ)) (old now new : Queue)
     → Relaxes labels from (filter_map f xs) levels between old now →
@@ -126,7 +127,7 @@ arc_found cells x b arc e = elim (cases_option (get_or cells b None)) [
   | inr found ↦ (found.0, found.1, same_Some _ arc (sym (arc_some cells x b found.0 found.1) ∙ e))
 ]
 
--- The arcs from a data cell are just its joins, if its number is above the stride.
+-- If the number a of a data cell is above the stride, the arcs from the cell are just its joins.
 pub just_arcs : (n : Cells) (a : ℕ) (x : ℤ) → cell_at n a ≡ Some x → n.stride < a →
     HasJust (IsCellJoin n a) (filter_map (arc_to n.cells x) (cells_around n.stride a))
 just_arcs n a x here above = record {
@@ -161,7 +162,7 @@ pub crest_by : (other height level : ℤ) →
     int_max other (int_max height level) ≡ int_max (int_max other height) level
 crest_by other height level = omega (arith, ints, clamps)
 
--- An arc to a cell whose noted crest is at most its crest by that arc needs no new entry.
+-- If a cell's noted crest is at most its crest by an arc, the arc needs no new entry in the queue.
 no_higher_arc : (cells : List (Option ℤ)) (labels : List (Option ℕ)) (levels : List (Option ℤ))
     (from : Candidate) (to : ℕ) (height crest : ℤ) (waiting : List Candidate) →
     AreNoted labels levels waiting → ((h : ℤ) → get_or cells to None ≡ Some h →

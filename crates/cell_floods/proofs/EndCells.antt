@@ -1,4 +1,5 @@
--- Which labels of a tile are end cells.
+-- Whether a label of a tile is an end cell. The tile's view shows the three rows of three places at
+-- and around the label, and so any gap there.
 use Rattle.std.proofs.Common.{◌≡◌, ℕ, zero, suc, ◌<◌, ◌≤◌, ◌+◌, ◌-◌, ◌*◌, inl, inr, true, false, ℤ, List, [], ◌∷◌, ◌++◌, length, get_or, Option, None, Some, IsNone, is_some, ◌∙◌, sym, ap, subst, refl, arith, unwrap_or}
 use Rattle.std.specs.Prelude.{Bool, IsTrue, ◌⊎◌, Contains}
 use Rattle.std.proofs.lemmas.Bool.{cases_Bool, cases_eq, cases_lt, cond-true, cond-false, and_from, lt-ltb, le-leb, false≢true}
@@ -93,7 +94,7 @@ all_ends t places count ends below above s = record {
   ];
 }
 
--- At a place that has a gap around it or is one of the sinks, `IsEndHeight` holds of its cell.
+-- At a place p that has a gap around it or is one of the sinks, `IsEndHeight` holds of p's `cell`.
 pub end_found : (t : Terrain) (p : Place) (end : Bool) (cell : Option ℤ) → height_at t p ≡ cell
     → (IsTrue end → HasGapAround t p ⊎ Contains t.sinks p) → end ≡ true → IsEndHeight t p cell
 end_found t p end None is found holds =
@@ -119,7 +120,7 @@ touches_itself p = record {
   col_left = omega arith;
 }
 
--- The three cells are those at a place's index in row order and at the indexes beside it.
+-- The three cells are the view's at the index of p in row order, and one before and after it.
 abbrev pub AreBeside : View (Option ℤ) → Place → List (Option ℤ) → Type 0
 AreBeside v p cells = (k : ℕ) (d : Option ℤ) → k < 3
     → get_or cells k d ≡ get_or v.cells (index_of v.cutting.cols p + k - 1) d
@@ -156,7 +157,8 @@ some_gap cells size not_all = elim (cases_Bool (is_some (get_or cells 0 None))) 
   all (suc (suc zero)) a b c low = c
   all (suc (suc (suc k))) a b c low = absurd (omega (arith, low))
 
--- Past column 0, a gap among three places of one row at or around a cell is a gap around the cell.
+-- Let p be in the cell's column, past column 0, and at most one row off. If not all three cells at
+-- and beside p have data, the cell has a gap around it.
 pub gap_beside : (v : View (Option ℤ)) (cell p : Place) (cells : List (Option ℤ))
     → length cells ≡ 3 → AreBeside v p cells → p.col ≡ cell.col → 0 < cell.col
     → cell.row ≤ p.row + 1 → p.row ≤ cell.row + 1

@@ -1,4 +1,5 @@
--- Adding a label's place to a table keeps `IsTable` and the labels of the cells before.
+-- A table lists the places of labels, and each cell has an index into it. Adding a place keeps
+-- `IsTable`, and the labels of the cells that already have an index.
 use Rattle.std.proofs.Common.{◌≡◌, ◌≢◌, ◌==◌, ℕ, ◌+◌, ◌<◌, ◌≤◌, inl, inr, zero, suc, List, [], ◌∷◌, ◌++◌, length, get_or, Option, None, Some, ◌∙◌, sym, ap, subst, refl, arith}
 use Rattle.std.specs.Prelude.{IsSome}
 use Rattle.std.specs.List.{All}
@@ -10,7 +11,7 @@ use Rattle.terrain.proofs.Options.{none_some}
 use Rattle.terrain.specs.declared.place.Place.{Place}
 use Rattle.cell_floods.specs.Labels.{labels_by, IsTable, IsListedAt}
 
--- A table that keeps its entries keeps the labels of cells.
+-- If `new` has each entry of `old` at its index, cells with indexes into `old` keep their labels.
 labels_kept : (old new : List (Option Place)) (cells : List ℕ) → All (λ k. k < length old) cells →
     ((k : ℕ) → k < length old → get_or new k None ≡ get_or old k None) →
     labels_by new cells ≡ labels_by old cells
@@ -39,7 +40,7 @@ listed_length index label old new at = elim at.only [
   )
 ]
 
--- Each place of the new table at another index than `index` was there before.
+-- Each place of the new table, but for that at `index`, has the same index in the old table.
 listed_before : (index : ℕ) (label : Option Place) (old new : List (Option Place)) →
     IsListedAt index label old new → (k : ℕ) (p : Place) → k ≢ index → get_or new k None ≡ Some p →
     get_or old k None ≡ Some p
@@ -55,7 +56,8 @@ listed_before index label old new at k p other e = elim at.only [
       ]
 ]
 
--- Listing the next cell's label in a table that is not empty keeps `IsTable`, with its index added.
+-- Let the next cell's label be listed at `index`, in a table that was not empty. Then `IsTable`
+-- holds of the new table and the cells' indexes with `index` appended.
 pub cell_listed : (index : ℕ) (label : Option Place) (old new : List (Option Place))
     (cells more : List ℕ) → 0 < length old → IsTable old cells → IsListedAt index label old new →
     more ≡ cells ++ index ∷ [] → IsTable new more

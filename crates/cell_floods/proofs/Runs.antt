@@ -1,4 +1,5 @@
--- Runs of cells that all have data.
+-- If all cells of a run, a slice of a list of cells, have data, so have the list's cells at the
+-- run's indexes.
 use Rattle.std.proofs.Common.{◌≡◌, ℕ, ◌+◌, ◌-◌, ◌<◌, ◌≤◌, ℤ, List, length, get_or, drop, slice_range, Option, None, IsSome, ◌∙◌, sym, ap, subst, arith}
 use Rattle.std.specs.List.{EachIndex}
 use Rattle.std.proofs.lemmas.List.{get_or-take, get_or-drop, length-take-le, length-drop}
@@ -15,7 +16,6 @@ part_length entries first count inside =
     length-take-le (first + count - first) (drop first entries)
     (omega (arith, inside, length-drop first entries)) ∙ omega arith
 
--- If each cell of a slice has data, so has each cell of the list at the slice's indexes.
 pub part_there : (entries : List (Option ℤ)) (first count : ℕ) → first + count ≤ length entries →
     EachIndex (slice_range entries first (first + count)) (λ k. IsSome (get_or
     (slice_range entries first (first + count)) k None)) → HaveData entries first (first + count)

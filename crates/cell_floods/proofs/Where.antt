@@ -46,7 +46,8 @@ one_back None (Some z) e = absurd (cc)
 one_back (Some p) None e = absurd (cc)
 one_back (Some p) (Some z) e = refl
 
--- If just the cells with labels have levels, `levels_where` of their heights gives these levels.
+-- If just the cells with labels have levels, `levels_where` gives the levels back from heights that
+-- encode them.
 pub levels_back : (labels : List (Option Place)) (levels : List (Option ℤ)) → length labels
     ≡ length levels → ((i : ℕ) → is_some (get_or labels i None) ≡ is_some (get_or levels i None)) →
     levels_where labels (map height_or_lack levels) ≡ levels

@@ -1,4 +1,5 @@
--- Windows of a terrain: their nodes in a net, their paths, and the flood of the net.
+-- A window is a rectangle of a terrain's cells. The paths in a window are the walks of its net. So
+-- a flood of the net finds the levels and the labels of the window's cells.
 use Rattle.std.proofs.lemmas.Option.{MatchOption-at_some, MatchOption-at_none}
 use Rattle.std.proofs.Common.{◌≡◌, ◌≢◌, ℕ, zero, suc, ◌+◌, ◌-◌, ◌*◌, ◌<◌, ◌≤◌, ◌⊎◌, inl, inr, ℤ, pos, ◌≤ℤ◌, true, ◌||◌, List, [], ◌∷◌, length, get_or, Option, None, Some, IsSome, is_some, is_none, unwrap_or, ◌∙◌, sym, ap, subst, refl, arith, Bool, false, set}
 use Rattle.std.specs.Int.{int_max}
@@ -112,7 +113,7 @@ near_rows s (suc r) c b one low (inr (inr (inr (inl e)))) =
 near_rows s (suc r) c b one low (inr (inr (inr (inr e)))) =
     (r, c - 1, omega arith, omega arith, omega arith, omega arith, omega arith)
 
--- The row of a place of the window, counted with the border; `col_in` is its column.
+-- The row of a place of the window, counted with the border; `col_in` is the place's column.
 abbrev row_in : Bounds → Place → ℕ
 row_in w p = p.row - w.top + 1
 
@@ -236,7 +237,7 @@ border_none t w n net r c narrow outside = elim (cases_option (cell_at n (r * (w
       (omega (arith, p.1, both.1)) (omega (arith, p.1, both.1)))
 ]
 
--- A data cell of the window beside a node without data is a gap source of the window.
+-- `IsGapSource` holds of a data cell of the window beside a node without data.
 pub gap_is_source : (t : Terrain) (w : Bounds) (n : Cells) → IsNetOf t w n → (p : Place) →
     IsInBounds w p → IsDataCell t p → (b : ℕ) → IsBeside (w.cols + 2) (node_at w p) b →
     cell_at n b ≡ None → IsGapSource t w p

@@ -23,7 +23,7 @@ pub record Cells : Type 0 where
 abbrev pub cell_at : Cells → ℕ → Option ℤ
 cell_at n a = slice_index_or n.cells a None
 
--- By their numbers, the second node is east, south-west, south or south-east of the first.
+-- By their numbers, node b is east, south-west, south or south-east of node a.
 abbrev pub IsAfter : ℕ → ℕ → ℕ → Type 0
 IsAfter stride a b = (b ≡ a + 1) ⊎ (b + 1 ≡ a + stride) ⊎ (b ≡ a + stride) ⊎ (b ≡ a + stride + 1)
 
@@ -31,7 +31,7 @@ IsAfter stride a b = (b ≡ a + 1) ⊎ (b + 1 ≡ a + stride) ⊎ (b ≡ a + str
 abbrev pub IsBeside : ℕ → ℕ → ℕ → Type 0
 IsBeside stride a b = IsAfter stride a b ⊎ IsAfter stride b a
 
--- Two neighbouring data cells are joined at the greater of their heights.
+-- Nodes a and b are neighbouring data cells, joined at `height`, the greater of their heights.
 pub record IsCellJoin (n : Cells) (a b : ℕ) (height : ℤ) : Type 0 where
   pub beside : IsBeside n.stride a b
   pub from_height : ℤ
@@ -40,7 +40,7 @@ pub record IsCellJoin (n : Cells) (a b : ℕ) (height : ℤ) : Type 0 where
   pub to_cell : cell_at n b ≡ Some to_height
   pub greater : int_max to_height from_height ≡ height
 
--- The eight nodes around one that is not on the border.
+-- The eight nodes around node a, which is not on the border.
 abbrev pub cells_around : ℕ → ℕ → List ℕ
 cells_around stride a =
     (a - stride - 1) ∷ (a - stride) ∷ (a - stride + 1) ∷ (a - 1) ∷ (a + 1) ∷ (a + stride - 1)
@@ -50,7 +50,7 @@ cells_around stride a =
 abbrev pub has_gap_around : Cells → ℕ → Bool
 has_gap_around n a = list_any (λ b. is_none (cell_at n b)) (cells_around n.stride a)
 
--- The node is a sink, by this list.
+-- Node a is a sink, by the list `sinks`.
 abbrev pub is_sink : List Bool → ℕ → Bool
 is_sink sinks a = slice_index_or sinks a false
 
@@ -69,7 +69,7 @@ abbrev pub HaveData : List (Option ℤ) → ℕ → ℕ → Type 0
 HaveData cells first end =
     (index : ℕ) → first ≤ index → index < end → IsSome (slice_index_or cells index None)
 
--- The arc from a cell of this height to another cell, if that has data.
+-- The arc from a cell of this height to node b, None if b has no data.
 abbrev pub arc_to : List (Option ℤ) → ℤ → ℕ → Option Spill
 arc_to cells height b = elim (slice_index_or cells b None) [
   | None ↦ None
@@ -80,7 +80,7 @@ arc_to cells height b = elim (slice_index_or cells b None) [
 abbrev pub node_at : Bounds → Place → ℕ
 node_at w p = (p.row - w.top + 1) * (w.cols + 2) + (p.col - w.left + 1)
 
--- A node of the window is a sink exactly if its place is one of these.
+-- By the list `sinks`, a node of the window is a sink exactly if its place is one of `places`.
 abbrev pub HasSinks : Bounds → List Place → List Bool → Type 0
 HasSinks w places sinks =
     (p : Place) → IsInBounds w p → (is_sink sinks (node_at w p) ≡ true) ↔ Contains places p
@@ -97,20 +97,20 @@ pub record IsNetOf (t : Terrain) (w : Bounds) (n : Cells) : Type 0 where
 abbrev pub whole : Terrain → Bounds
 whole t = record { top = 0; left = 0; rows = t.rows; cols = t.cols }
 
--- The first rows, each between two cells without data, below a row of such cells.
+-- The first `count` rows, each between two cells without data, below a row of cells without data.
 abbrev pub first_rows : (ℕ → List (Option ℤ)) → ℕ → ℕ → List (Option ℤ)
 first_rows row stride zero = replicate stride None
 first_rows row stride (suc count) = first_rows row stride count ++ (None ∷ row count ++ None ∷ [])
 
--- The rows with a border of cells without data.
+-- The first `count` rows within a border of cells without data.
 abbrev pub bordered_rows : (ℕ → List (Option ℤ)) → ℕ → ℕ → List (Option ℤ)
 bordered_rows row stride count = first_rows row stride count ++ replicate stride None
 
--- A row of a list in row order.
+-- Row `row` of a list of cells in row order.
 abbrev pub row_of : ℕ → List (Option ℤ) → ℕ → List (Option ℤ)
 row_of cols cells row = slice_range cells (row * cols) (row * cols + cols)
 
--- The entries of the first rows inside the border of a list.
+-- The first rows, of `cols` entries each, inside the border of a list.
 abbrev pub inner_rows : {X : Type 0} → List X → ℕ → ℕ → List X
 inner_rows list cols zero = []
 inner_rows list cols (suc count) =
@@ -122,7 +122,7 @@ abbrev pub place_of_node : ℕ → ℕ → ℕ → ℕ → Place
 place_of_node top left cols node =
     record { row = top + node / (cols + 2) - 1; col = left + node % (cols + 2) - 1 }
 
--- The cell at which a path ends.
+-- The cell at which the path from p through these cells ends.
 abbrev pub last_of : Place → List Place → Place
 last_of p [] = p
 last_of p (q ∷ rest) = last_of q rest

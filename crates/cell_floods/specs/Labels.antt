@@ -1,4 +1,4 @@
--- The labels of a tile's cells, by a table of their places.
+-- The labels of a tile's cells: a table of places, and for each cell an index into the table.
 -- Public.
 use Rattle.std.specs.Prelude.{◌≡◌, ℕ, ◌+◌, ◌<◌, ◌≤◌, ◌⊎◌, ◌==◌, true, List, [], ◌∷◌, ◌++◌, map, length, Option, None, Some, IsSome, slice_index_or}
 use Rattle.std.specs.Option.{option_map}
@@ -12,12 +12,12 @@ pub record LabelTable : Type 0 where
   pub places : List (Option Place)
   pub indexes : List ℕ
 
--- The labels of cells, by their indexes into a table.
+-- The labels of cells, whose indexes into the table `places` are `cells`.
 abbrev pub labels_by : List (Option Place) → List ℕ → List (Option Place)
 labels_by places cells = map (λ k. slice_index_or places k None) cells
 
--- The table is None, then places, at most as many as cells. Each index lies in the table, and each
--- place is the label of some cell.
+-- The table is None, then places, at most as many as cells. `cells` has each cell's index, which
+-- lies in the table. Each place of the table is the label of some cell.
 pub record IsTable (places : List (Option Place)) (cells : List ℕ) : Type 0 where
   pub few : length places ≤ length cells + 1
   pub first : slice_index_or places 0 None ≡ None
@@ -26,11 +26,11 @@ pub record IsTable (places : List (Option Place)) (cells : List ℕ) : Type 0 wh
   pub used : (k : ℕ) (p : Place) → slice_index_or places k None ≡ Some p →
       list_any (λ n. n == k) cells ≡ true
 
--- The label of a cell, by the node that is its label in the net.
+-- A cell's label as a place, from its label as a node of the tile's net; None without a label.
 abbrev pub label_of_node : Bounds → Option ℕ → Option Place
 label_of_node b node = option_map (place_of_node b.top b.left b.cols) node
 
--- The nodes are less than this count.
+-- Each node of the list is less than `count`.
 abbrev pub AreNodesBelow : ℕ → List (Option ℕ) → Type 0
 AreNodesBelow count nodes = (k node : ℕ) → slice_index_or nodes k None ≡ Some node → node < count
 
@@ -40,7 +40,7 @@ pub record AreMet (b : Bounds) (met : List ℕ) (places : List (Option Place)) :
   pub place : (node : ℕ) → 0 < slice_index_or met node 0 →
       slice_index_or places (slice_index_or met node 0) None ≡ label_of_node b (Some node)
 
--- The entry is at this index. The table is as before, or with this entry, a place, at its end.
+-- The table `new` has `entry` at `index`. It is `old`, or `old` with `entry`, a place, appended.
 pub record IsListedAt (index : ℕ) (entry : Option Place)
     (old new : List (Option Place)) : Type 0 where
   pub inside : index < length new

@@ -1,4 +1,5 @@
--- Levels and labels of the cells of one tile.
+-- A tile's levels, the least crests of its cells' paths inside the tile, and its labels, where
+-- paths of these crests end.
 -- Public.
 use Rattle.std.specs.Prelude.{◌≡◌, ℕ, ◌*◌, ◌⊎◌, ℤ, ◌≤ℤ◌, List, [], ◌∷◌, length, Option, None, Some, IsTrue, MatchOption, option_map, slice_index_or}
 use Rattle.terrain.specs.Raster.{Terrain}
@@ -20,7 +21,7 @@ IsTilePath t c p [] = IsTileSource t c p
 IsTilePath t c p (q ∷ rest) =
     IsNeighbour t p q × (tile_of_place c q ≡ tile_of_place c p) × IsTilePath t c q rest
 
--- The level is the least crest of the cell's tile paths, and one of that crest ends at the
+-- The level is the least crest of p's tile paths, and a tile path of that crest ends at the
 -- label. A source whose level is its own height is its own label.
 pub record IsTileLevel (t : Terrain) (c : Cutting) (p : Place) (level : ℤ)
     (label : Place) : Type 0 where
@@ -29,11 +30,11 @@ pub record IsTileLevel (t : Terrain) (c : Cutting) (p : Place) (level : ℤ)
   pub least : (rest : List Place) → IsTilePath t c p rest → level ≤ℤ crest t p rest
   pub own : IsTileSource t c p → height_at t p ≡ Some level → label ≡ p
 
--- The height of an end cell, and None at any other place.
+-- `end` is p's height if p is an end cell, else None.
 abbrev pub IsEndHeight : Terrain → Place → Option ℤ → Type 0
 IsEndHeight t p end = MatchOption end (IsEnd t p → ⊥) (λ h. IsEnd t p × (height_at t p ≡ Some h))
 
--- The height of each label of the table that is an end cell, and None for any other entry.
+-- `ends` has the height of each label of the table that is an end cell, None for other entries.
 pub record AreEndHeights (t : Terrain) (places : List (Option Place)) (ends : List (Option ℤ))
     : Type 0 where
   pub size : length ends ≡ length places
@@ -69,11 +70,11 @@ flood_of b heights table ends =
       ends = ends;
     }
 
--- The level at a place, None if it has none.
+-- The level at place p, None if p has no level.
 abbrev pub level_in : Flood → Place → Option ℤ
 level_in f p = entry_in f.bounds f.levels p
 
--- The label at a place, None if it has none.
+-- The label at place p, None if p has no label.
 abbrev pub label_in : Flood → Place → Option Place
 label_in f p = entry_in f.bounds f.labels p
 
@@ -85,7 +86,8 @@ pub record IsFlood (f : Flood) : Type 0 where
   pub levels_size : length f.levels ≡ f.bounds.rows * f.bounds.cols
   pub labels_size : length f.labels ≡ f.bounds.rows * f.bounds.cols
 
--- A tile's flood: levels and labels at its data cells, none at others, and `AreEndHeights`.
+-- The flood of a tile: its data cells have levels and labels, other cells have none. `ends` has the
+-- heights of the labels that are end cells.
 pub record IsTileFlood (t : Terrain) (c : Cutting) (tile : ℕ) (f : Flood) : Type 0 where
   pub bounds : f.bounds ≡ bounds_of c tile
   pub levels_size : length f.levels ≡ cell_count c tile

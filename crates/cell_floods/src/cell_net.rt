@@ -1,7 +1,8 @@
 //! A rectangle of cells as a net: [`CellNet`].
 //!
 //! A border of cells without data gives each cell of the rectangle eight cells around it. A data
-//! cell beside a cell without data is a source. So the border makes data cells on the rim sources.
+//! cell beside a cell without data is a source: paths end there. So the border makes all data cells
+//! on the rim sources.
 ghost use Rattle.std.specs.Prelude.{◌≡◌, None, ◌+◌, ◌-◌, ◌*◌, ◌^◌, ◌<◌, ◌≤◌, ◌∷◌, ◌++◌, ◌↔◌, [], EachIndex, IsSome, IsTrue, length, All, IfOk, OnOk, is_none, slice_index_or, replicate};
 ghost use Rattle.std.specs.List.{list_any, filter_map, cons_option};
 ghost use Rattle.std.specs.Bool.{OnTrue};
@@ -48,7 +49,7 @@ impl Model for CellNet {
 /// A run is skipped at once if a test shows that none of its nodes is a source.
 const RUN: u32 = 16;
 
-/// Returns the eight nodes around one that is not on the border.
+/// Returns the eight nodes around `node`, which is not on the border.
 #[inline(always)]
 fn around(stride: u32, node: u32) -> [u32; 8]
     requires above { stride < node }
@@ -86,7 +87,7 @@ fn any_gap(cells: &[Cell], around: &[u32; 8]) -> bool
     around.iter().any(|&node| is_gap(cells, node))
 }
 
-/// Returns the arc from a cell of this height to node `to`, if that has data.
+/// Returns the arc from a cell of this height to node `to`, if `to` has data.
 /// An arc ([`Spill`]) is a join seen from one of its two nodes.
 #[inline(always)]
 fn arc_to(cells: &[Cell], height: Height, to: u32) -> Option<Spill>
@@ -100,7 +101,7 @@ fn arc_to(cells: &[Cell], height: Height, to: u32) -> Option<Spill>
     })
 }
 
-/// Returns the arcs from a cell of this height to those of `around` with data.
+/// Returns the arcs from a cell of this height to the nodes of `around` with data.
 fn arcs_to(alloc: Global, cells: &[Cell], height: Height, around: [u32; 8]) -> SmallVec<Spill, 8>
     requires { All (λ b. b < length cells.now) around }
     ensures { result.items ≡ filter_map (arc_to cells.now height) around }
@@ -132,19 +133,21 @@ fn queue_neighbour_out_of_line(
     queue_neighbour(queue, arc, from, labels, levels)
 }
 
-/// Returns whether a neighbour needs no queueing.
-/// It has no data, or the crest `noted` for it is at most the greater of its height and `top`.
+/// Returns whether the neighbour `cell` need not be queued.
+/// It has no data, or `noted`, its least crest so far, is at most the greater of its height and
+/// `top`. `top` is the level of the cell from which `cell` would be queued.
 #[inline(always)]
 fn is_passed(cell: Cell, top: Height, noted: Height) -> bool
     ensures { OnTrue result (IsPassed cell top noted) }
 {
     let number = cell.number();
-    // `NO_DATA` is above all heights, so the last comparison covers both cases. The others always
-    // hold: they give the prover that no height is `NO_DATA`.
+    // `NO_DATA` is above all heights, so the last comparison covers both cases. The other two
+    // always hold: they give the prover that no height is `NO_DATA`.
     top < NO_DATA && Cell::of(number) == cell && noted <= number.max(top)
 }
 
-/// Queues the cell `to` if it has data, no label, and its first or a lower crest is found.
+/// Queues cell `to` at its crest by way of `from`, if it has data and no label.
+/// Does nothing if a crest as low as that is noted for the cell.
 /// `height` is the height of the cell `from.node`, at most that cell's level.
 #[inline(always)]
 fn push_cell(
@@ -175,7 +178,7 @@ fn push_cell(
     queue_neighbour_out_of_line(queue, arc, from, labels, levels)
 }
 
-/// Queues three cells side by side, each as [`push_cell`] does.
+/// Queues `middle` and the cells west and east of it, each as [`push_cell`] does.
 #[inline(always)]
 fn push_three(
     queue: &mut Queue,
@@ -370,7 +373,7 @@ fn push_row(list: &mut Vec<Cell>, row: &[Cell]) -> Result<(), AllocError>
     Ok(())
 }
 
-/// Returns the rows of a list with a border of cells without data.
+/// Returns the rows of `cells`, within a border of cells without data.
 fn bordered_list(
     alloc: Global,
     cells: &[Cell],
@@ -394,7 +397,7 @@ fn bordered_list(
     Ok(list)
 }
 
-/// Returns the rows of a tile with a border of cells without data.
+/// Returns the rows of a tile, within a border of cells without data.
 fn bordered_tile(alloc: Global, view: &TileView<'_, Cell>) -> Result<Vec<Cell>, AllocError>
     ensures { let b = bounds_of view.now.cutting view.now.tile in
         IfOk result (λ v. v.items ≡ bordered_rows (row_shown view.now) (b.cols + 2) b.rows) }

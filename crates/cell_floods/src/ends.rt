@@ -1,6 +1,7 @@
-//! Which labels of a tile are end cells: cells with a gap around them, and sinks.
+//! Which labels of a tile, the places where its cells' paths end, are end cells.
 //!
-//! A gap is a place off the grid or without data. A tile's view shows all cells around its rim.
+//! A data cell is an end cell if it is a sink or has a gap around it. A gap is a place off the grid
+//! or without data.
 ghost use Rattle.std.specs.Prelude.{◌≡◌, ◌↔◌, ◌⊎◌, ◌<◌, IsTrue, IfOk, IfSome, List, None, Some, Contains};
 ghost use Rattle.std.specs.List.{All};
 ghost use Rattle.terrain.specs.Neighbours.{HasGapAround};
@@ -51,7 +52,7 @@ fn is_end(view: &TileView<'_, Cell>, sinks: &[bool], place: Place) -> bool
     is_sink(sinks, node as u32)
 }
 
-/// Returns the cell of a label that is an end cell; for others, one without data.
+/// Returns the height at a label that is an end cell, or no data for any other label.
 #[inline]
 fn end_height(view: &TileView<'_, Cell>, sinks: &[bool], label: Option<Place>) -> Cell
     requires { IfSome label (IsInBounds (bounds_of view.now.cutting view.now.tile)) }
@@ -74,7 +75,7 @@ fn end_height(view: &TileView<'_, Cell>, sinks: &[bool], label: Option<Place>) -
     }
 }
 
-/// Returns each label's height if it is an end cell, else no data, in table order.
+/// Returns for each entry of `places`: the height of an end cell, else no data.
 pub(crate) fn end_heights(
     alloc: Global,
     view: &TileView<'_, Cell>,

@@ -1,4 +1,4 @@
-//! The labels of a tile's cells: a table of places, and an index for each cell.
+//! The labels of a tile's cells: a table of places, and for each cell an index into the table.
 ghost use Rattle.std.specs.Prelude.{◌≡◌, ◌+◌, ◌*◌, ◌^◌, ◌<◌, ◌≤◌, ◌∷◌, [], None, map, length, is_some, slice_index_or, IfOk, IfSome, OnOk};
 ghost use Rattle.tiles.specs.Cutting.{IsWithinLimits};
 ghost use Rattle.cell_floods.specs.Cells.{place_of_node};
@@ -58,7 +58,7 @@ impl Labels {
         self.indexes[index] != NO_LABEL
     }
 
-    /// Returns the label of the cell at an index of the tile's row order.
+    /// Returns the label of the cell at an index of the tile's row order, if any.
     #[inline(always)]
     pub(crate) fn at(&self, index: usize) -> Option<Place>
         requires { index < length self.now.indexes }
@@ -82,7 +82,7 @@ fn place_of(bounds: Bounds, node: u32) -> Place
     }
 }
 
-/// Returns the table's index of a node's place, 0 for `None`; adds a new place.
+/// Returns the index of `node`'s place in `places`, 0 for `None`; adds a new place.
 /// `met` has the index for each node met before, and 0 for other nodes.
 #[inline(always)]
 fn index_of_label(
@@ -125,7 +125,8 @@ fn empty_table(alloc: Global, bounds: Bounds) -> Result<Vec<Option<Place>>, Allo
 }
 
 /// Makes the table of a tile's labels, and each cell's index into it.
-/// `nodes` has each cell's label as a node of the tile's net, as [`label_of`] decodes it.
+/// `nodes` has for each cell a number that [`label_of`] decodes: to the cell's label, as a node of
+/// the tile's net, or to `None`.
 pub(crate) fn labels_of(alloc: Global, bounds: Bounds, nodes: &[u32]) -> Result<Labels, AllocError>
     requires limits { IsWithinLimits bounds }
     requires size { length nodes.now ≡ bounds.rows * bounds.cols }

@@ -1,4 +1,7 @@
-//! The cells of a tile or a grid as a net, and the flood of that net.
+//! The cells of a tile or a grid as a net, with neighbours joined, and the flood of that net.
+//!
+//! A flood finds each cell's least crest, its level, and a place where a path of that crest ends,
+//! its label.
 //!
 //! [`tile_flood`] floods one tile, [`filled_heights`] a whole grid at once.
 //!

@@ -1,4 +1,6 @@
-//! Which cells of a rectangle are sinks.
+//! Which cells of a rectangle are sinks, as a list over the nodes of the rectangle's net.
+//!
+//! The nodes are the rectangle's cells and a border of cells around them.
 ghost use Rattle.std.specs.Prelude.{◌≡◌, ◌<◌, ◌+◌, ◌*◌, false, IfOk};
 ghost use Rattle.std.specs.List.{list_any};
 ghost use Rattle.tiles.specs.Cutting.{IsInBounds, IsWithinLimits, is_in_bounds};
@@ -35,7 +37,7 @@ pub(crate) fn node_in(bounds: Bounds, place: Place) -> usize
     row * (bounds.cols as usize + 2) + col
 }
 
-/// Returns for each node whether it is in the bounds and one of these places.
+/// Returns for each node whether its place is in `bounds` and one of `places`.
 /// The nodes are the cells of the bounds and their border. The list is empty if none is a sink.
 pub(crate) fn window_sinks(
     alloc: Global,

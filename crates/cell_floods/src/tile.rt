@@ -1,4 +1,4 @@
-//! The flood of one tile: [`tile_flood`].
+//! Finds the level and the label of each data cell of one tile: [`tile_flood`].
 ghost use Rattle.std.specs.Prelude.{◌≡◌, IfOk, length, true, false, MatchOption, None, is_none, slice_index_or, ◌<◌};
 ghost use Rattle.terrain.specs.Sinks.{with_sinks};
 ghost use Rattle.tiles.specs.Cutting.{terrain_of, is_in_bounds, index_in};
@@ -23,7 +23,7 @@ pub struct TileFlood {
     /// An entry for each cell: its level, if it has a label.
     heights: Vec<Height>,
     labels: Labels,
-    /// The height of each label that is an end cell, and no data for any other entry.
+    /// For each entry of the table of labels: the height of an end cell, else no data.
     ends: Vec<Cell>,
     ghost whole: { length heights.items ≡ length labels.indexes },
 }

@@ -1,4 +1,5 @@
--- The scaled value of a decimal text from its parts, and of digits at the front of a text.
+-- Finds the scaled value of a word (its number in units of 10^-d) from its sign and the digits
+-- before and after its point. Digits at a text's front are `IsPlain`.
 use Rattle.std.proofs.Common.{◌≡◌, ℕ, ◌+◌, ◌*◌, ◌-◌, ◌^◌, ◌<◌, ◌≤◌, min, Bool, true, false, ◌&&◌, ◌||◌, cond, nat_le, nat_lt, ◌==◌, List, [], ◌∷◌, ◌++◌, length, take, drop, fold, replicate, Option, None, Some, ℤ, pos, neg_ℤ, inl, inr, arith, refl, ap, sym, ◌∙◌, suc, zero, add-one}
 use Rattle.std.specs.List.{list_any, list_all, position_or_len, before_first, after_first}
 use Rattle.std.specs.Char.{is_ascii_digit}
@@ -30,7 +31,8 @@ take-padded (suc d) k (x ∷ xs) h =
     ap (λ z. x ∷ z) (take-padded d k xs (omega arith))
     ∙ ap (λ n. x ∷ take d xs ++ replicate n 48) left
 
--- successive folds over `a`, the first d digits of `xs` and the padding zeros give their number
+-- the number that `a` and then d digits spell, those of `xs` padded with zeros, comes from that of
+-- `a` by two folds. They go over the first d digits of `xs`, then over the zeros.
 pub number_of-padded : (d : ℕ) (a xs : List ℕ) → number_of (a ++ take d (xs ++ replicate d 48))
     ≡ fold (λ n b. 10 * n + (b - 48)) (fold (λ n b. 10 * n + (b - 48)) (number_of a) (take d xs))
     (replicate (d - min d (length xs)) 48)
@@ -66,7 +68,8 @@ mantissa-plain : (w : Word) → has_exponent w ≡ false → mantissa w ≡ with
 mantissa-plain w h =
     before_first-none is_exponent_mark (without_sign w) (list_any-without_sign is_exponent_mark w h)
 
--- a word without exponent has no scaled value unless whole part and fraction together are digits
+-- a word without exponent has no scaled value unless `a` before its point and `b` after it are one
+-- or more digits together
 pub scaled_value-not_digits : (d : ℕ) (w a b : Word) → has_exponent w ≡ false →
     a ≡ before_first is_point (without_sign w) → b ≡ after_first is_point (without_sign w) →
     are_digits (a ++ b) ≡ false → scaled_value d w ≡ None
@@ -80,7 +83,9 @@ option_map-cond : (t : Bool) (n : ℕ) (g : ℕ → ℤ) →
 option_map-cond true n g = refl
 option_map-cond false n g = refl
 
--- the scaled value of a decimal text without an exponent is its scaled size, if any, with its sign
+-- The scaled value of a decimal text `w` without exponent is `size` with the sign of `w`. `size` is
+-- the number that `a` and d digits of `b` spell. It is `None` if that number is above 10^18, or a
+-- later digit of `b` is not 0.
 pub scaled_value-digits : (d : ℕ) (w a b : Word) (size : Option ℕ) → has_exponent w ≡ false →
     a ≡ before_first is_point (without_sign w) → b ≡ after_first is_point (without_sign w) →
     are_digits (a ++ b) ≡ true → size ≡ cond (list_all (λ x. x == 48) (drop d b)
@@ -93,7 +98,8 @@ scaled_value-digits d w a b size h p q e k =
     rw (k, digits, h, m, ← p, ← q)
     (option_map-cond _ _ (λ n. cond (is_negative w) (neg_ℤ (pos n)) (pos n)))
 
--- a number saturated at 10^18 + 1 is kept exactly if the number itself is at most 10^18
+-- let `x` be true and `size` the lesser of n and 10^18 + 1. If `size` is below 10^18 + 1, it is n;
+-- otherwise n is above 10^18.
 pub size-kept : (x : Bool) (n size : ℕ) → x ≡ true → size ≡ min n 1000000000000000001 →
     then_some (nat_lt size 1000000000000000001) size ≡ cond (x && nat_le n (10 ^ 18)) (Some n) None
 size-kept x n size h e =
@@ -176,7 +182,8 @@ bare_digits (x ∷ xs) rest h k =
       ne_eqb x 45 (λ e. omega arith),
     )
 
--- 1 to 16 digits at the front satisfy `IsPlain`, if their value times 10^d is at most 10^18
+-- the first `len` bytes satisfy `IsPlain` if they are 1 to 16 digits whose number times 10^d is at
+-- most 10^18
 pub IsPlain-positive : (d : ℕ) (bytes : List ℕ) (len : ℕ) → 0 < len → len ≤ 16 → len
     ≤ length bytes → list_all is_ascii_digit (take len bytes) ≡ true → number_of (take len bytes)
     * 10 ^ d ≤ 10 ^ 18 → IsPlain d bytes len (pos (number_of (take len bytes) * 10 ^ d))

@@ -1,11 +1,12 @@
--- A short decimal text at the front of a text, for the fast path of readers. Source: this project.
+-- The first bytes of a text spell a number: what the fast path `plain_number` promises.
+-- Source: this project.
 -- Public.
 use Rattle.std.specs.Prelude.{◌≡◌, ℕ, ◌≤◌, ◌<◌, ℤ, List, length, take, false, Some}
 use Rattle.std.specs.List.{list_any}
 use Rattle.terrain.specs.Words.{is_separator}
 use Rattle.terrain.specs.Decimal.{scaled_value}
 
--- The first `len` bytes, at most 17 and none a separator, have this scaled value at scale d.
+-- The first `len` of these bytes, at most 17 and none a separator, spell `value` in units of 10^-d.
 pub record IsPlain (d : ℕ) (bytes : List ℕ) (len : ℕ) (value : ℤ) : Type 0 where
   pub some : 0 < len
   pub short : len ≤ 17

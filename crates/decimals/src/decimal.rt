@@ -1,4 +1,4 @@
-//! Decimal texts and their values at a scale.
+//! Parses decimal texts, such as `-12.5`, into whole numbers of units of 10^-scale.
 //!
 //! [`scaled_value`] parses a word, [`plain_number`] an optional `-` and digits at a text's front.
 ghost use Rattle.std.specs.Prelude.{◌<◌, true, length, ◌≡◌, IfSome, pos, neg_ℤ, ◌≤◌, not, ℕ, ◌+◌, ◌*◌, ◌-◌, ◌^◌, ◌++◌, ◌&&◌, ◌==◌, nat_le, take, drop, replicate, min, fold, if◌then◌else◌, Option, Some, None};
@@ -63,9 +63,9 @@ pub fn scaled_value(scale: u8, word: &[u8]) -> Option<i64>
 
 /// Parses up to 16 digits at the front of a text, after an optional `-`.
 ///
-/// Returns the length in bytes, with the sign, and the value times 10^scale. The word may go on
-/// after these bytes. `None` if there is no digit, or if the number of parsed digits and the scale
-/// add up to more than 16.
+/// Returns the number of bytes parsed, the `-` included, and their value times 10^scale. The word
+/// may go on after these bytes. `None` if there is no digit, or if the number of parsed digits and
+/// the scale add up to more than 16.
 #[inline(always)]
 pub fn plain_number(scale: u8, bytes: &[u8]) -> Option<(usize, i64)>
     requires { scale ≤ 6 }
@@ -250,7 +250,7 @@ fn signed(negative: bool, size: u64) -> i64
     if negative { -value } else { value }
 }
 
-/// Returns the number with zeros appended, but at most [`OVER`].
+/// Returns `number` with `zeros` digits 0 appended, but at most [`OVER`].
 fn zeros_after(number: u64, zeros: usize) -> u64
     requires { number ≤ OVER }
     ensures small { result ≤ OVER }

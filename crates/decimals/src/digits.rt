@@ -46,7 +46,7 @@ pub(crate) fn all_digits(bytes: &[u8]) -> bool
     bytes.iter().all(|b| b.is_ascii_digit())
 }
 
-/// Returns the number with the digits appended, but at most [`OVER`].
+/// Returns `number` with `digits` appended, but at most [`OVER`].
 pub(crate) fn digits_after(number: u64, digits: &[u8]) -> u64
     requires { number ≤ OVER }
     ensures small { result ≤ OVER }

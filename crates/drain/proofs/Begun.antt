@@ -1,4 +1,5 @@
--- The initial counts of the first round.
+-- The initial counts of steps in a tile's window: 0 where a cell drains at once, sinks included,
+-- else unknown. A search from them gives the counts of the first round.
 use Rattle.std.proofs.Common.{◌≡◌, ℕ, suc, ◌+◌, ◌*◌, ◌<◌, ◌≤◌, ◌⊎◌, inl, inr, List, [], ◌∷◌, map, length, get_or, Option, None, Some, slice_set, unwrap_or, Contains, ℤ, sym, ap, subst, refl, ◌∙◌, arith}
 use Rattle.std.proofs.lemmas.Bool.{cases_eq, cases_lt}
 use Rattle.std.proofs.lemmas.List.{get_or_default, get_or_past, get_or-map, get_or-set_same, get_or-set_other, length-map, length-set}
@@ -40,7 +41,7 @@ begun_shown t b s q n there few here = (
   λ off. absurd (shows_none b s q there off),
 )
 
--- properties that agree at the place of a spot give the spot one initial count
+-- if A and B agree at the place of a spot, the spot's initial count for A is that for B
 begun_by : (A B : Place → Type 0) (b : Bounds) (s : Place) (n : ℕ) → ((p : Place) → Shows b s p →
     A p → B p) → ((p : Place) → Shows b s p → B p → A p) → IsBegunSpot A b s n → IsBegunSpot B b s n
 begun_by A B b s n to from is = (

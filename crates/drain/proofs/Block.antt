@@ -1,4 +1,5 @@
--- Edge cells and cells with a lower neighbour, by the eight cells around them.
+-- An interior cell is an edge cell or has a lower neighbour exactly if a cell around it has no data
+-- or is lower. Data cells of the grid's first or last row or column are edge cells.
 use Rattle.std.proofs.Common.{◌≡◌, ◌≢◌, ℕ, ◌+◌, ◌<◌, ◌≤◌, ◌<ℤ◌, inl, inr, List, get_or, Bool, true, false, Option, None, Some, is_some, ℤ, sym, ap, subst, refl, ◌∙◌, arith}
 use Rattle.std.specs.Bool.{MatchBool}
 use Rattle.std.proofs.lemmas.Int.{ints}

@@ -1,4 +1,5 @@
--- Places on the rim of a tile and inside it; places that a list contains.
+-- A place that touches a place outside its tile lies on the tile's rim. If the eight places around
+-- a place lie in its tile, it touches no other tile.
 use Rattle.std.proofs.Common.{◌≡◌, ℕ, suc, ◌<◌, ◌∙◌, inl, inr, true, List, ◌∷◌, sym, subst, refl, arith, ◌+◌}
 use Rattle.std.specs.Prelude.{Contains}
 use Rattle.std.proofs.lemmas.Bool.{cases_eq, eq-eqb, or_left, or_right}

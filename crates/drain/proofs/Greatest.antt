@@ -20,7 +20,8 @@ position_is p xs i d within before here =
     position_or_len_is p xs i d (omega arith) before (λ _. here) in
     rw at (cond-true _ _ _ (lt-ltb _ _ within))
 
--- The greatest of the first `seen` numbers. If it is above 0, its first index is `place`.
+-- `greatest` is the greatest of the first `seen` numbers, 0 if there are none. If `greatest` is
+-- above 0, its first index is `place`.
 pub record IsFirstGreatest (xs : List ℕ) (seen greatest place : ℕ) : Type 0 where
   pub bound : (k : ℕ) → k < seen → get_or xs k 0 ≤ greatest
   pub within : 0 < greatest → place < seen

@@ -1,4 +1,5 @@
--- The counts that a search keeps, row by row.
+-- The search of a later round keeps counts of its tile in one list for each row. A count put into a
+-- row is then the current count of its cell, and all other counts stay.
 use Rattle.std.proofs.Common.{◌≡◌, ◌≢◌, ℕ, zero, suc, ◌+◌, ◌-◌, ◌*◌, ◌/◌, ◌%◌, ◌<◌, inl, inr, Bool, true, false, List, [], ◌∷◌, Vec, Global, length, Option, Some, None, cond, unwrap_or, option_and_then, sym, ap, subst, refl, ◌∙◌, arith}
 use Rattle.std.specs.Prelude.{slice_get, slice_set}
 use Rattle.std.proofs.lemmas.Bool.{cases_eq, cases_Bool}

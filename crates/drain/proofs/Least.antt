@@ -1,4 +1,5 @@
--- 1 plus the least count at one height along a row of a window, spot by spot.
+-- `IsLeastAlong` holds before the first spot of a row of a window, and then after each further
+-- spot. It tells 1 plus the least count of these spots at one height.
 use Rattle.std.proofs.Common.{◌≡◌, ℕ, ◌+◌, ◌<◌, ◌≤◌, ◌⊎◌, inl, inr, List, ℤ, Option, sym, subst, refl, ◌∙◌, arith}
 use Rattle.std.proofs.lemmas.Bool.{cases_eq}
 use Rattle.terrain.proofs.Places.{make_place, same_place}

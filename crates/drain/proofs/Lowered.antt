@@ -1,4 +1,6 @@
--- The search of a later round in its tile, change by change.
+-- The search of a later round in its tile: counts and changes still agree after an entry is applied
+-- and after a change spreads. An entry is a lower count that follows from a neighbour in another
+-- tile.
 use Rattle.std.proofs.Common.{◌≡◌, ◌≢◌, ℕ, zero, suc, ◌+◌, ◌*◌, ◌^◌, ◌<◌, ◌≤◌, ◌⊎◌, inl, inr, List, [], ◌∷◌, ◌++◌, length, Vec, Global, Option, Some, None, unwrap_or, IfSome, sym, ap, subst, refl, ◌∙◌, arith}
 use Rattle.std.specs.Prelude.{slice_get}
 use Rattle.std.proofs.lemmas.Bool.{cases_eq, cases_lt}
@@ -26,7 +28,7 @@ unfolding total
 total_low zero f g low = omega arith
 total_low (suc n) f g low = omega (arith, low n, total_low n f g low)
 
--- the sum falls if no count rises and one falls
+-- the sum falls if no count rises and some count falls
 pub total_less : (n : ℕ) (f g : ℕ → ℕ) → ((k : ℕ) → g k ≤ f k) → (j : ℕ) → j < n → g j < f j →
     total n g < total n f
 unfolding total

@@ -1,4 +1,5 @@
--- Decidable facts around a cell: neighbours, draining at once, and walks of n moves.
+-- It is decidable whether a cell is an end cell, has a lower neighbour, drains at once, or has a
+-- flat walk of n moves.
 use Rattle.std.proofs.Common.{◌≡◌, ℕ, zero, suc, ◌<ℤ◌, Bool, Decides, ◌&&◌, ◌||◌, ◌⊎◌, inl, inr, List, [], ◌∷◌, length, Option, Some, unwrap_or, ℤ, pos, int_lt, sym, ap, refl, ◌∙◌, arith}
 use Rattle.std.specs.List.{list_any}
 use Rattle.std.specs.Ordering.{int_eq}

@@ -1,4 +1,6 @@
--- The spots that a search lowered, and those that still have to spread.
+-- A search lists the spots of a tile whose counts it lowers. When all listed spots have spread,
+-- `IsRelaxed` holds: inside the tile no spot can lower another. A spot is a place of the tile's
+-- window.
 use Rattle.std.proofs.Common.{◌≡◌, ◌≢◌, ℕ, ◌+◌, ◌<◌, ◌≤◌, ◌⊎◌, inl, inr, All, List, [], ◌∷◌, ◌++◌, length, get_or, set, Option, Some, ℤ, sym, ap, subst, refl, ◌∙◌, arith}
 use Rattle.std.specs.Prelude.{slice_get}
 use Rattle.std.proofs.lemmas.Bool.{cases_eq}
@@ -38,7 +40,7 @@ other_kept b counts s r i n e spot other ne =
     λ at. ne (index_injective (b.cols + 2) r s other.1 spot.1 (at ∙ e)) in
     get_or-set_other counts i (spot_index b r) n 0 apart
 
--- the spot is appended to the list if it lies in the tile; else the list stays as it is
+-- s is appended to the list if s lies in the tile; else the list stays as it is
 abbrev pub IsAdded : Bounds → Place → List Place → List Place → Type 0
 IsAdded b s xs ys = (IsInner b s × (ys ≡ xs ++ s ∷ [])) ⊎ ((IsInner b s → ⊥) × (ys ≡ xs))
 

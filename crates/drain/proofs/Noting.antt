@@ -1,4 +1,5 @@
--- The list of entries, entry by entry.
+-- `AreEntered` holds as a list of entries grows by one entry after another. An entry is a lower
+-- count that follows from a neighbour in another tile.
 use Rattle.std.proofs.Common.{◌≡◌, ◌≢◌, ℕ, ◌+◌, ◌^◌, ◌<◌, ◌≤◌, ◌⊎◌, inl, inr, List, [], ◌∷◌, ◌++◌, length, Option, Some, ℤ, is_some, unwrap_or, sym, ap, subst, refl, ◌∙◌, arith}
 use Rattle.std.specs.Prelude.{slice_get, Contains}
 use Rattle.std.proofs.lemmas.Bool.{cases_eq}
@@ -110,7 +111,8 @@ noted_in_order t c steps Done new ys same noted = (
       among_in_order new ys e same among) (noted.done p q done side),
 )
 
--- 1 more than the count of a neighbour of equal height is an entry, if it is below the cell's count
+-- 1 more than the count of a neighbour of equal height makes an entry, if it is below the cell's
+-- own count
 pub entry_from : (c : Cutting) (levels : List (Option ℤ)) (steps : List (Option ℕ))
     (from : Change) (to : Place) (tile : ℕ) → AreCounting (sinkless_terrain c levels) steps →
     IsWithin c from.place →

@@ -1,4 +1,5 @@
--- Changes applied to counts, change by change.
+-- `ArePut` holds for one change that is applied to the counts of the grid. If it holds for two sets
+-- of changes in turn, it holds for both together.
 use Rattle.std.proofs.Common.{◌≡◌, ℕ, ◌^◌, ◌<◌, ◌≤◌, ◌⊎◌, inl, inr, List, length, get_or, slice_set, Option, None, Some, unwrap_or, sym, ap, subst, refl, ◌∙◌, arith}
 use Rattle.std.proofs.lemmas.Bool.{cases_eq}
 use Rattle.std.proofs.lemmas.List.{get_or-set_same, get_or-set_other, length-set}

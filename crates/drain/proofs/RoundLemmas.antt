@@ -1,4 +1,5 @@
--- Each round keeps `IsRounding` and the cells of count 0; without entries the counts are final.
+-- Each round keeps `IsRounding` and the cells of count 0. The counts are final if no entry is left,
+-- that is, no lower count that follows from another tile.
 use Rattle.std.proofs.Common.{◌≡◌, ◌≢◌, ℕ, ◌+◌, ◌-◌, ◌*◌, ◌^◌, ◌<◌, ◌≤◌, inl, inr, List, length, get_or, Option, Some, None, Vec, Global, IfSome, unwrap_or, ℤ, [], sym, ap, subst, refl, ◌∙◌, arith}
 use Rattle.std.specs.Prelude.{slice_get}
 use Rattle.std.proofs.lemmas.Bool.{cases_eq, cases_lt}
@@ -156,7 +157,7 @@ module _ (r : Rounding) (outs : List (Vec Change Global)) (answered : AreRoundRe
 module _ (r : Rounding) (outs : List (Vec Change Global)) (new : List (Option ℕ))
     (rounding : IsRounding r) (answered : AreRoundResults r outs)
     (put : ArePut r.cutting.cols r.steps new (IsGiven outs)) where
-  -- no new count is above the one in the result of a job
+  -- no new count is above the count of its cell after a job's changes
   put_below : (tile from end : ℕ) (j : ℕ) (list : Vec Change Global) →
       slice_get outs j ≡ Some list →
       (a : IsTileResult (levels_of r) r.cutting tile r.steps r.entries from end list.items) →
@@ -167,7 +168,7 @@ module _ (r : Rounding) (outs : List (Vec Change Global)) (new : List (Option �
     | inr reported ↦ put.done _ (j, list, at, reported)
   ]
 
-  -- a change with a place's index is of that place
+  -- a change whose cell has the index of p is a change of p
   place_of : (x : Change) (p : Place) → IsGiven outs x → IsWithin r.cutting p →
       index_of r.cutting.cols x.place ≡ index_of r.cutting.cols p → x.place ≡ p
   place_of x p given within same =
@@ -325,7 +326,7 @@ module _ (c : Cutting) (levels : List (Option ℤ)) (old : List (Option ℕ))
   pub first_lists : AreTileLists c lists
   first_lists = record { count = count; each = λ tile list at. (round_at tile list at).size }
 
-  -- the lists have one for the tile of each place of the grid
+  -- there is a list for the tile of each place of the grid
   list_of : (p : Place) → IsCutting c → IsWithin c p → (list : Vec (Option ℕ) Global)
       × (slice_get lists (tile_of_place c p) ≡ Some list)
   list_of p lawful within = elim (slice_get_cases lists (tile_of_place c p)).1 [

@@ -1,4 +1,5 @@
--- Lists with one element appended, and the results of runs.
+-- A list with one element appended has the old elements and that one. A list of runs, or of their
+-- results, covers the entries before its last run's end. A run is the range of one tile's entries.
 use Rattle.std.proofs.Common.{◌≡◌, ℕ, ◌+◌, ◌<◌, ◌≤◌, ◌⊎◌, inl, inr, List, [], ◌∷◌, ◌++◌, length, Some, Vec, Global, sym, ap, subst, ◌∙◌, arith}
 use Rattle.std.specs.Prelude.{slice_get}
 use Rattle.std.proofs.lemmas.Bool.{cases_eq, cases_lt}
@@ -50,7 +51,7 @@ module _ {X : Type 0} (xs ys : List X) (y : X) (pushed : ys ≡ xs ++ y ∷ []) 
         ∙ slice_get-append_right xs (y ∷ []) (length xs) 0 (omega arith),
   )
 
--- if old runs cover the entries before a new run, with it they cover those before its end
+-- if the old runs cover the entries before `run.from`, the new runs cover those before `run.end`
 pub covered_more : (old new : List Run) (run : Run) → new ≡ old ++ run ∷ [] →
     ((k : ℕ) → k < run.from → (r : Run) × IsAmong old r × (r.from ≤ k) × (k < r.end)) →
     (k : ℕ) → k < run.end → (r : Run) × IsAmong new r × (r.from ≤ k) × (k < r.end)
@@ -60,7 +61,8 @@ covered_more old new run pushed before k below = elim (cases_lt k run.from) [
   | inr past ↦ (run, among_new old new run pushed, past, below)
 ]
 
--- if old results cover the entries before a run, with its result they cover those before its end
+-- if the old results cover the entries before `run.from`, the new results cover those before
+-- `run.end`
 pub answered_more : (r : Rounding) (old new : List (Vec Change Global)) (list : Vec Change Global)
     (run : Run) → new ≡ old ++ list ∷ [] → IsRunResult r run list.items →
     ((k : ℕ) → k < run.from → IsAnsweredAt r old k) → (k : ℕ) → k < run.end → IsAnsweredAt r new k

@@ -1,4 +1,5 @@
--- The values at the spots of a window.
+-- A list of values made spot by spot has, at each spot of a tile's window, the value of the place
+-- that the spot shows. Spots are the places of the window.
 use Rattle.std.proofs.Common.{◌≡◌, ℕ, ◌+◌, ◌-◌, ◌*◌, ◌<◌, ◌≤◌, true, false, inl, inr, List, [], ◌∷◌, ◌++◌, length, get_or, Option, unwrap_or, sym, ap, subst, refl, ◌∙◌, arith}
 use Rattle.std.proofs.lemmas.Bool.{cases_Bool, cases_eq, cases_lt, cond-true, cond-false, and_from, and_left, le-leb}
 use Rattle.std.proofs.lemmas.List.{get_or_append_left, get_or-append_right, length-append, get_or_push, length_push}
@@ -92,7 +93,7 @@ pub shown_push : {X : Type 0} (cols rows : ℕ) (entries : List X) (none : X) (b
 shown_push cols rows entries none b s shown x spot before here =
     made_push (IsShown cols rows entries none b) b s none shown x spot before here
 
--- a spot whose index lies in a row is in that row
+-- a spot is in row `row` if its index is one of that row's indexes
 row_is : (width row : ℕ) (s : Place) → s.col < width → row * width ≤ index_of width s →
     index_of width s < row * width + width → s.row ≡ row
 row_is width row s inside low high = elim (cases_lt s.row row) [

@@ -1,4 +1,6 @@
--- Relaxations of counts chain, keep the length of the list, and raise no count.
+-- Relaxations after relaxations are relaxations. They keep the length of the list and raise no
+-- count. A relaxation lowers a spot's count to one more than that of an adjacent spot of its
+-- height.
 use Rattle.std.proofs.Common.{◌≡◌, ◌≢◌, ℕ, ◌+◌, ◌<◌, ◌≤◌, ◌⊎◌, inl, inr, List, length, get_or, set, sum, ℤ, Option, sym, ap, subst, refl, ◌∙◌, arith}
 use Rattle.std.proofs.lemmas.Bool.{cases_eq, cases_lt}
 use Rattle.std.proofs.lemmas.List.{length-set, get_or-set_same, get_or-set_other, get_or_past}
@@ -92,7 +94,8 @@ touches_back p q t = record {
   col_left = t.col_right;
 }
 
--- lowering a spot's count to one more than an old one beside it at its height is a relaxation
+-- to lower a spot's count to one more than the old count of an adjacent spot of its height is a
+-- relaxation
 pub pulled : (b : Bounds) (levels : List (Option ℤ)) (old counts : List ℕ) (s : Place) (i n : ℕ) →
     i ≡ spot_index b s → IsSpot b s → IsSpread b levels old counts
     → ((n ≡ get_or counts i 0) ⊎ ((r : Place) × IsSpot b r × Touches r s × (level_on b levels r

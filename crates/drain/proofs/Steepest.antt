@@ -1,4 +1,6 @@
--- The greatest drops of each parity, and the steepest way of all.
+-- The steepest way has the greatest drop on the even ways, along a row or column, or that on the
+-- odd ways, the diagonals. The drop of greater weight decides. Ways are the directions, 0 to 7 in
+-- code order.
 use Rattle.std.proofs.Common.{◌≡◌, ℕ, zero, suc, ◌+◌, ◌*◌, ◌<◌, ◌≤◌, ◌≢◌, ◌<ℤ◌, ◌≤ℤ◌, ◌-ℤ◌, ◌/◌, ◌%◌, ◌⊎◌, inl, inr, eqb, ltb, length, get_or, List, Option, None, Some, IfSome, unwrap_or, Bool, true, false, ◌&&◌, ℤ, nat_abs, SFits, pos, negsuc, refl, sym, ap, subst, ◌∙◌, arith}
 use Rattle.std.proofs.lemmas.Bool.{cases_Bool, cases_eq, cases_lt, false≢true, eq-eqb, ne_eqb, lt-ltb, le-ltb, cond-true, cond-false}
 use Rattle.std.specs.Int.{int_min}
@@ -104,7 +106,7 @@ module _ (level : ℤ) (heights : List (Option ℤ)) (parity : ℕ) (lowest : �
       level_drop : drop_by level (Some level) ≡ 0
       level_drop = elim (part_of (level -ℤ level)) [ inl e ↦ omega (arith, ints) | inr e ↦ e.0 ]
 
-  -- the first lowest way has the greatest drop, or none leads down
+  -- the first lowest way has the greatest drop, or no way leads down
   pub first_is_furthest : (turns : ℕ) →
       turns < 4 → ((turn : ℕ) → turn < turns → height_on level heights parity turn ≢ lowest) →
       (turns < 3 → height_on level heights parity turns ≡ lowest) →
@@ -140,8 +142,9 @@ module _ (level : ℤ) (heights : List (Option ℤ)) (parity : ℕ) (lowest : �
         ]
       ]
 
--- The first `turns` ways of a parity lie above `lowest`. If `is_past`, these are the first `turn`
--- ways. Else they are fewer, and the next way does not lie above `lowest`.
+-- The first `turn` ways of a parity were looked at, and the first `turns` lie above `lowest`. If
+-- `is_past`, these are all that were looked at. If not, the way after these does not lie above
+-- `lowest`.
 pub record ArePast (level : ℤ) (heights : List (Option ℤ)) (parity : ℕ) (lowest : ℤ)
     (turns turn : ℕ) (is_past : Bool) : Type 0 where
   pub past : (other : ℕ) → other < turns → lowest <ℤ height_on level heights parity other
@@ -343,7 +346,7 @@ module _ (a : Around) (level : ℤ) (heights : List (Option ℤ))
               );
         }
 
-    -- a drop across above 0 that weighs no less than the straight drop weighs more
+    -- a diagonal drop above 0 that weighs at least as much as the straight one weighs more
     across_heavier : 2 * (o * o) ≤ d * d → 0 < d → 2 * (o * o) < d * d
     across_heavier much some =
         elim (cases_eq (2 * (o * o)) (d * d)) [

@@ -1,4 +1,4 @@
--- From the codes of tiles to the codes of the terrain.
+-- The codes found for each tile, put together, are the directions of the terrain.
 use Rattle.std.proofs.Common.{ℕ, ◌+◌, ◌*◌, ◌<◌, List, ◌∷◌, ◌++◌, [], Option, arith}
 use Rattle.terrain.specs.Raster.{Terrain}
 use Rattle.terrain.proofs.Places.{make_place}

@@ -1,4 +1,5 @@
--- The search over a window is a round over its tile.
+-- A search over a tile's window gives the counts of a round over the tile. The window has one row
+-- and one column more on each side.
 use Rattle.std.proofs.Common.{◌≡◌, ◌≢◌, ℕ, ◌+◌, ◌-◌, ◌*◌, ◌^◌, ◌<◌, ◌≤◌, inl, inr, List, ◌∷◌, length, get_or, set, Option, None, Some, is_some, unwrap_or, IfSome, ℤ, sym, ap, subst, refl, ◌∙◌, arith}
 use Rattle.std.proofs.lemmas.Bool.{cases_eq, cases_lt}
 use Rattle.std.proofs.lemmas.List.{get_or-map, get_or-set_same, get_or-set_other, get_or_past, length-map}
@@ -22,7 +23,7 @@ use Rattle.drain.proofs.Spots.{shows_same}
 use Rattle.drain.proofs.Unique.{at_place}
 use Rattle.drain.proofs.Few.{data_on_level_walk}
 
--- a spot with a value shows a place that has it in the list
+-- a spot with a value shows a place that has this value in the list
 is_on : {X : Type 0} (cols rows : ℕ) (entries : List (Option X)) (b : Bounds) (s : Place)
     (o : Option X) (x : X) → IsShown cols rows entries None b s o → o ≡ Some x →
     (p : Place) × Shows b s p × (entry_at cols rows entries p ≡ Some x)
@@ -255,7 +256,7 @@ module _ (t : Terrain) (c : Cutting) (tile : ℕ) (b : Bounds) (steps shown : Li
   entry_is p i = entry_of_tile c tile (IsCopied b new) list cutting handed p i (spot_of b p)
       (spot_inner b p (in_bounds_of p i)).1
 
-  -- the old count of a place, if known, is that of its spot
+  -- the old count of a place, if known, is that of the spot that shows the place
   input_is : (s q : Place) (m : ℕ) → IsSpot b s → Shows b s q →
       entry_at t.cols t.rows steps q ≡ Some m → count_on b (known_counts shown) s ≡ m
   input_is s q m spot f e =

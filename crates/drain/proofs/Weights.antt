@@ -1,4 +1,5 @@
--- The weights of the eight ways, one by one.
+-- The weight of the drop on each of the eight ways from a cell. If none is above 0, no way leads
+-- down; else the first way of the greatest weight gives the direction.
 use Rattle.std.proofs.Common.{◌≡◌, ℕ, ◌+◌, ◌*◌, ◌<◌, ◌≤◌, ◌%◌, max, true, false, eqb, ltb, length, get_or, fold, Option, None, Some, ℤ, sym, ap, ◌∙◌, subst, arith, ◌⊎◌, inl, inr}
 use Rattle.std.proofs.Math.Nat.{mul-le-mul_right}
 use Rattle.std.proofs.lemmas.Bool.{false≢true, cases_Bool, cond-true, cond-false, le-ltb, lt-ltb, cases_eq}

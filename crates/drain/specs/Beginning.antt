@@ -1,4 +1,5 @@
--- Counts before the first round, and counts that a round leaves as they are.
+-- Counts before the first round, and counts that a round over all tiles leaves as they are. A count
+-- is the fewest moves found so far from a cell to one that drains at once, or unknown.
 -- Public.
 use Rattle.std.specs.Prelude.{◌≡◌, ◌⊎◌, ◌≤◌, ◌<◌, ℕ, ◌+◌, ◌-◌, ◌*◌, ℤ, ◌<ℤ◌, List, length, Option, None, Some}
 use Rattle.terrain.specs.Neighbours.{IsInside, entry_at, IsEdge}
@@ -11,7 +12,7 @@ use Rattle.drain.specs.Rounds.{IsRound}
 use Rattle.drain.specs.Window.{AreMadeSpots, IsOff, Shows, area_of}
 use Rattle.drainage.specs.StepCounts.{known, no_count}
 
--- The cell has no data or lies below this height.
+-- The cell has no data or lies below height `level`.
 abbrev pub IsGapOrLower : ℤ → Option ℤ → Type 0
 IsGapOrLower level None = Unit {0}
 IsGapOrLower level (Some height) = height <ℤ level
@@ -31,8 +32,8 @@ pub record AreInitialCounts (t : Terrain) (counts : List (Option ℕ)) : Type 0 
   pub each : (p : Place) → IsInside t p →
       IsInitialCount (DrainsAtOnce t) p (entry_at t.cols t.rows counts p)
 
--- The initial count at a spot, which is a place of a tile's window. It is the initial count of the
--- grid's place there, and unknown north or west of the grid.
+-- `count` is the initial count at spot s, a place of a tile's window. There it is that of the
+-- grid's place, or unknown north or west of the grid.
 abbrev pub IsBegunSpot : (Place → Type 0) → Bounds → Place → ℕ → Type 0
 IsBegunSpot Drains b s count = (count ≤ no_count)
     × ((p : Place) → Shows b s p → IsInitialCount Drains p (known count))
@@ -46,7 +47,7 @@ AreBegunSpots Drains b counts = AreMadeSpots (IsBegunSpot Drains b) b (area_of b
 abbrev pub HasZeros : Terrain → List (Option ℕ) → Type 0
 HasZeros t counts = (p : Place) → DrainsAtOnce t p → entry_at t.cols t.rows counts p ≡ Some 0
 
--- A round over all tiles changes no count; `lists` has the counts of each tile after it.
+-- A round over all tiles changes no count; `lists` has the counts of each tile after that round.
 pub record KeepsCounts (t : Terrain) (c : Cutting) (steps : List (Option ℕ))
     (lists : ℕ → List (Option ℕ)) : Type 0 where
   pub rounds : (tile : ℕ) → tile < tile_count c →

@@ -9,24 +9,24 @@ use Rattle.terrain.specs.Ways.{place_toward}
 use Rattle.terrain.specs.declared.place.Place.{Place}
 use Rattle.drain.specs.Steps.{IsLower, HasLower, DrainsAtOnce, IsSteps}
 
--- The weight of the drop to a lower neighbour: twice the square of drop over distance. That is
--- twice the drop's square along a row or column, and its square across a diagonal.
+-- The weight of the drop from p to a lower neighbour q: twice the square of drop over distance.
+-- That is twice the drop's square along a row or column, and its square across a diagonal.
 abbrev pub weight_of : Terrain → Place → Place → ℕ
 weight_of t p q =
     let drop = int_gap (height_of t q) (height_of t p) in
     if p.row == q.row || p.col == q.col then 2 * (drop * drop) else drop * drop
 
--- A lower neighbour of the greatest weight.
+-- Cell q is a lower neighbour of p of the greatest weight.
 abbrev pub IsSteepest : Terrain → Place → Place → Type 0
 IsSteepest t p q = IsLower t p q
     × ((other : Place) → IsLower t p other → weight_of t p other ≤ weight_of t p q)
 
--- A neighbour of equal height with one step fewer.
+-- Cell q is a neighbour of p of equal height, with one step fewer.
 abbrev pub IsOnward : Terrain → Place → Place → Type 0
 IsOnward t p q = IsNeighbour t p q × (height_at t q ≡ height_at t p) × (n : ℕ) × IsSteps t q n
     × IsSteps t p (n + 1)
 
--- The code is the smallest that points from p to a place with the property.
+-- The code is the smallest that points from p to a place for which `IsSuch` holds.
 pub record PointsToFirst (IsSuch : Place → Type 0) (p : Place) (code : ℕ) : Type 0 where
   pub one : (q : Place) × (place_toward code p ≡ Some q) × IsSuch q
   pub first : (other : ℕ) (q : Place) → place_toward other p ≡ Some q → IsSuch q → code ≤ other

@@ -1,4 +1,5 @@
--- Entries, lower counts that follow from neighbours in other tiles; runs, the entries of one tile.
+-- An entry lowers a cell's count, the fewest moves found so far, to 1 plus the count of a neighbour
+-- in another tile. A run is the range of the entries, sorted by tile, that are for one tile.
 -- Private.
 use Rattle.std.specs.Prelude.{◌≡◌, ℕ, ◌+◌, ◌<◌, ◌≤◌, ◌⊎◌, ℤ, List, [], length, Option, Some, slice_get}
 use Rattle.terrain.specs.Raster.{Terrain}
@@ -20,7 +21,7 @@ IsInterior b p = (b.top < p.row) × (p.row + 1 < b.top + b.rows) × (b.left < p.
 abbrev pub sinkless_terrain : Cutting → List (Option ℤ) → Terrain
 sinkless_terrain c levels = record { cols = c.cols; rows = c.rows; cells = levels; sinks = [] }
 
--- The entry lowers the count of a cell of its tile. The new count is the length of a walk at one
+-- Entry e lowers the count of a cell of tile `e.tile`. The new count is the length of a walk at one
 -- height to a cell of count 0.
 pub record IsEntry (t : Terrain) (c : Cutting) (steps : List (Option ℕ)) (e : Entry) : Type 0 where
   pub inside : IsInTile c e.tile e.change.place
@@ -31,29 +32,29 @@ pub record IsEntry (t : Terrain) (c : Cutting) (steps : List (Option ℕ)) (e : 
 abbrev pub AreEntries : Terrain → Cutting → List (Option ℕ) → List Entry → Type 0
 AreEntries t c steps entries = (e : Entry) → IsAmong entries e → IsEntry t c steps e
 
--- The count of p is at most one above that of q, or an entry for p lowers it that far.
+-- The count of p, or the count in an entry for p, is at most one above the count of q.
 abbrev pub IsRelaxedOrEntered : Cutting → List (Option ℕ) → List Entry → Place → Place → Type 0
 IsRelaxedOrEntered c steps entries p q =
     (count_of steps (index_of c.cols p) ≤ count_of steps (index_of c.cols q) + 1)
     ⊎ ((e : Entry) × IsAmong entries e × (e.change.place ≡ p)
     × (e.change.count ≤ count_of steps (index_of c.cols q) + 1))
 
--- The old elements stay. If they are entries, so are the new ones. `IsRelaxedOrEntered` holds for
--- each pair in `Done` of neighbours of one height.
+-- The list `new` has all elements of `old`. If these are entries, so are all elements of `new`.
+-- `IsRelaxedOrEntered` holds with `new` for each pair in `Done` of neighbours of one height.
 pub record AreEntered (t : Terrain) (c : Cutting) (steps : List (Option ℕ))
     (Done : Place → Place → Type 0) (old new : List Entry) : Type 0 where
   pub kept : (e : Entry) → IsAmong old e → IsAmong new e
   pub each : AreEntries t c steps old → AreEntries t c steps new
   pub done : (p q : Place) → Done p q → AreEquallyHigh t p q → IsRelaxedOrEntered c steps new p q
 
--- The run is a range of the list, and its entries are for its tile.
+-- The run is a range of indexes of the list, and each entry at such an index is for the run's tile.
 pub record IsRun (entries : List Entry) (run : Run) : Type 0 where
   pub ordered : run.from ≤ run.end
   pub below : run.end ≤ length entries
   pub own : (k : ℕ) (e : Entry) → run.from ≤ k → k < run.end → slice_get entries k ≡ Some e →
       e.tile ≡ run.tile
 
--- The runs of all tiles, in the order of the tiles; each entry is in one of them.
+-- One run for each tile, in the order of the tiles. Each entry of the list is in one of these runs.
 pub record AreRuns (entries : List Entry) (tiles : ℕ) (runs : List Run) : Type 0 where
   pub size : length runs ≡ tiles
   pub each : (k : ℕ) (run : Run) → slice_get runs k ≡ Some run → (run.tile ≡ k) × IsRun entries run

@@ -1,12 +1,14 @@
--- The steepest way down, by the eight heights around a cell; surroundings of an interior cell.
--- Ways are the eight directions, from 0 to 7 in code order.
+-- The steepest way down, by the eight heights around a cell; also the surroundings of an interior
+-- cell, read from lists by index. Surroundings are heights and steps of a cell and its neighbours.
+-- An interior cell has eight places of the grid around it. Ways are the eight directions, from 0 to
+-- 7 in code order.
 -- Private.
 use Rattle.std.specs.Prelude.{◌≡◌, ℕ, ◌+◌, ◌%◌, ◌<◌, ◌≤◌, ◌*◌, ◌⊎◌, ◌==◌, max, ℤ, ◌-ℤ◌, ◌≤ℤ◌, List, length, fold, Option, None, Some, option_map, unwrap_or, position, slice_index_or}
 use Rattle.std.specs.Option.{option_zip}
 use Rattle.drain.specs.Steepness.{positive_part, weights}
 use Rattle.drain.specs.declared.around.Around.{Around}
 
--- The drop from height `level` to another; 0 if that one is not lower or there is none.
+-- The drop from height `level` to another height; 0 if there is no other height or it is not lower.
 abbrev pub drop_by : ℤ → Option ℤ → ℕ
 drop_by level None = 0
 drop_by level (Some height) = positive_part (level -ℤ height)
@@ -18,7 +20,7 @@ pub record HasHeights (a : Around) (level : ℤ) (heights : List (Option ℤ)) :
   pub each : (way : ℕ) → way < 8 →
       slice_index_or heights way None ≡ option_map (λ w. w.0) (slice_index_or a.ways way None)
 
--- The drop from height `level` to that on a way; 0 if that one is not lower or there is none.
+-- The drop from height `level` to the height on `way`; 0 if there is none or it is not lower.
 abbrev pub drop_on : ℤ → List (Option ℤ) → ℕ → ℕ
 drop_on level heights way = drop_by level (slice_index_or heights way None)
 
@@ -28,7 +30,8 @@ abbrev pub height_on : ℤ → List (Option ℤ) → ℕ → ℕ → ℤ
 height_on level heights parity turn =
     unwrap_or (slice_index_or heights (2 * turn + parity) None) level
 
--- The lowest of `level` and the heights on the ways of one parity, for turns before `end`.
+-- `lowest` is the lowest of `level` and the heights on the ways `2 * turn + parity` for each `turn`
+-- below `end`.
 pub record IsLowestBefore (level : ℤ) (heights : List (Option ℤ)) (parity end : ℕ)
     (lowest : ℤ) : Type 0 where
   pub low : lowest ≤ℤ level
@@ -36,8 +39,8 @@ pub record IsLowestBefore (level : ℤ) (heights : List (Option ℤ)) (parity en
   pub one : (lowest ≡ level)
       ⊎ ((turn : ℕ) × (turn < end) × (height_on level heights parity turn ≡ lowest))
 
--- The greatest drop on the ways of one parity before `end`, 0 if none leads down. If it is above 0,
--- `way` is the first with this drop.
+-- `drop` is the greatest drop on the even ways (`parity` 0) or odd ways (1) below `end`; 0 if none
+-- leads down. If `drop` is above 0, `way` is the first of these ways with this drop.
 pub record IsGreatestFall (level : ℤ) (heights : List (Option ℤ))
     (parity end drop way : ℕ) : Type 0 where
   pub bound : (other : ℕ) → other < end → other % 2 ≡ parity → drop_on level heights other ≤ drop
@@ -45,15 +48,15 @@ pub record IsGreatestFall (level : ℤ) (heights : List (Option ℤ))
   pub first : (other : ℕ) → 0 < drop → other < way → other % 2 ≡ parity →
       drop_on level heights other < drop
 
--- The first of the steepest ways down, or `None` if no way leads down.
+-- `found` is the first of the steepest ways down, or `None` if no way leads down.
 pub record IsSteepestWay (a : Around) (found : Option ℕ) : Type 0 where
   pub none : found ≡ None → fold max 0 (weights a) ≡ 0
   pub some : (way : ℕ) → found ≡ Some way →
       let most = fold max 0 (weights a) in
       (way < 8) × (0 < most) × (position (λ w. w == most) (weights a) ≡ Some way)
 
--- The surroundings have height `level` and `own` steps. On the eight ways they have the heights and
--- steps at these eight indexes.
+-- The surroundings have height `level` and `own` steps. For each way, `at` has the index at which
+-- the lists `cells` and `steps` have the height and steps on that way.
 pub record HasCells (a : Around) (cells : List (Option ℤ)) (steps : List (Option ℕ))
     (at : List ℕ) (level : ℤ) (own : ℕ) : Type 0 where
   pub own_level : a.level ≡ level

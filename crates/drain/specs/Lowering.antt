@@ -1,4 +1,6 @@
--- How a tile's entries lower its counts. A parameter `counts` is a function of row-order indexes.
+-- How the search of a later round lowers a tile's counts, from its entries: lower counts that
+-- follow from neighbours in other tiles. A count is the fewest moves found so far from a cell to
+-- one that drains at once, or unknown. A parameter `counts` is a function of row-order indexes.
 -- Private.
 use Rattle.std.specs.Prelude.{◌≡◌, ℕ, zero, suc, ◌+◌, ◌-◌, ◌*◌, ◌/◌, ◌%◌, ◌^◌, ◌<◌, ◌≤◌, ◌⊎◌, List, Vec, length, Option, None, Some, if◌then◌else◌, option_and_then, slice_get, slice_index_or, unwrap_or}
 use Rattle.std.specs.declared.alloc.Global.{Global}
@@ -29,19 +31,22 @@ count_of steps k = unwrap_or (slice_index_or steps k None) (2 ^ 24)
 abbrev pub place_at : ℕ → ℕ → Place
 place_at cols k = record { row = k / cols; col = k % cols }
 
--- The count that a search keeps for a row and a column of its tile, if any.
+-- The count that a search keeps at a row and a column, both counted from the first of its tile;
+-- `None` if it keeps no count there.
 abbrev pub kept_at : Lowered → ℕ → ℕ → Option ℕ
 kept_at l row col = option_and_then (λ (counts : Vec ℕ Global). slice_get counts.items col)
     (slice_get l.rows.items row)
 
--- The count that a search keeps for the cell at an index, if any.
+-- The count that a search in the tile keeps for the cell at row-order index k; `None` if it keeps
+-- no count there.
 unfoldable pub kept_of : Cutting → ℕ → Lowered → ℕ → Option ℕ
 kept_of c tile l k =
     let b = bounds_of c tile in
     let p = place_at c.cols k in
     if is_in_bounds b p then kept_at l (p.row - b.top) (p.col - b.left) else None
 
--- The current count at an index: the one that the search keeps, else the one of the round's input.
+-- The current count at index k: the count that the search keeps, or else the count in `steps`, the
+-- input of the round.
 abbrev pub counts_in : Cutting → ℕ → List (Option ℕ) → Lowered → ℕ → ℕ
 counts_in c tile steps l k = unwrap_or (kept_of c tile l k) (count_of steps k)
 
@@ -55,9 +60,9 @@ pub record IsRelaxedInside (t : Terrain) (c : Cutting) (tile : ℕ) (counts : �
   pub within : (p q : Place) → IsInTile c tile p → IsInTile c tile q → AreEquallyHigh t p q →
       counts (index_of c.cols p) ≤ counts (index_of c.cols q) + 1
 
--- A change lowers the count of a tile's cell below its count in the input. The new count is the
--- length of a walk at one height to a cell of count 0. The cell's current count is at most the new
--- one.
+-- The change lowers the count of a cell of the tile below the cell's count in `steps`, the input.
+-- The change's count is the length of a walk at one height to a cell of count 0. The cell's current
+-- count is at most the change's.
 pub record IsChange (t : Terrain) (c : Cutting) (tile : ℕ) (steps : List (Option ℕ))
     (counts : ℕ → ℕ) (x : Change) : Type 0 where
   pub inside : IsInTile c tile x.place
@@ -65,7 +70,8 @@ pub record IsChange (t : Terrain) (c : Cutting) (tile : ℕ) (steps : List (Opti
   pub less : x.count < count_of steps (index_of c.cols x.place)
   pub least : counts (index_of c.cols x.place) ≤ x.count
 
--- A search may spread from this change in the bounds of its tile; no count is above the input's.
+-- A search may spread from change x inside b, the bounds of the tile of x. No current count is
+-- above that of the input.
 pub record MaySpread (t : Terrain) (c : Cutting) (steps : List (Option ℕ)) (b : Bounds)
     (l : Lowered) (x : Change) : Type 0 where
   pub counting : AreCounting t steps
@@ -75,7 +81,7 @@ pub record MaySpread (t : Terrain) (c : Cutting) (steps : List (Option ℕ)) (b 
   pub rows : length l.rows.items ≡ b.rows
   pub low : (k : ℕ) → counts_in c (tile_of_place c x.place) steps l k ≤ count_of steps k
 
--- The counts differ from those of the input by these changes alone.
+-- The counts differ from `steps`, those of the input, by these changes alone.
 pub record IsLowered (t : Terrain) (c : Cutting) (tile : ℕ) (steps : List (Option ℕ))
     (counts : ℕ → ℕ) (changes : List Change) : Type 0 where
   pub low : (k : ℕ) → counts k ≤ count_of steps k
@@ -84,14 +90,14 @@ pub record IsLowered (t : Terrain) (c : Cutting) (tile : ℕ) (steps : List (Opt
       ⊎ IsAmong changes (record { place = p; count = counts (index_of c.cols p) })
   pub each : (x : Change) → IsAmong changes x → IsChange t c tile steps counts x
 
--- From index `from` on, the list of changes has the place with its current count.
+-- The list of changes has, at index `from` or above, place p with its current count.
 abbrev pub IsReported : Cutting → ℕ → List (Option ℕ) → Lowered → ℕ → Place → Type 0
 IsReported c tile steps l from p =
     (k : ℕ) × (from ≤ k) × (slice_get l.changes.items k
     ≡ Some (record { place = p; count = counts_in c tile steps l (index_of c.cols p) }))
 
--- A search went on from old to new. Counts at places in `Done` are at most `bound`, and the added
--- changes have each count that fell.
+-- A search went on from state `old` to state `new`. The counts at places in `Done` are then at most
+-- `bound`. Each cell whose count fell is among the added changes, with its new count.
 pub record IsLoweredTo (t : Terrain) (c : Cutting) (tile : ℕ) (steps : List (Option ℕ))
     (Done : Place → Type 0) (bound : ℕ) (old new : Lowered) : Type 0 where
   pub low : (k : ℕ) → counts_in c tile steps new k ≤ counts_in c tile steps old k
@@ -107,18 +113,18 @@ pub record IsLoweredTo (t : Terrain) (c : Cutting) (tile : ℕ) (steps : List (O
   pub added : (k : ℕ) (x : Change) → length old.changes.items ≤ k →
       slice_get new.changes.items k ≡ Some x →
       IsChange t c tile steps (counts_in c tile steps new) x
-  -- each added change lowered the sum of the counts
+  -- for each added change, the sum of the counts fell by at least 1
   pub left : length new.changes.items + total (c.cols * c.rows) (counts_in c tile steps new)
       ≤ length old.changes.items + total (c.cols * c.rows) (counts_in c tile steps old)
 
--- No cell has a count above that of an entry for it in the range `from..end` of the list.
+-- No cell has a count above that of an entry for the cell at an index in `from..end`.
 pub record IsEntered (c : Cutting) (entries : List Entry) (from end : ℕ)
     (counts : ℕ → ℕ) : Type 0 where
   pub each : (k : ℕ) (e : Entry) → from ≤ k → k < end → slice_get entries k ≡ Some e →
       counts (index_of c.cols e.change.place) ≤ e.change.count
 
--- The result of a tile's job: its changes apply the entries of the run. `IsRelaxedInside` holds for
--- the counts after these changes.
+-- The changes are the result of a tile's job: they apply the entries at indexes `from..end`.
+-- `IsRelaxedInside` holds for the counts after these changes.
 pub record IsTileResult (t : Terrain) (c : Cutting) (tile : ℕ) (steps : List (Option ℕ))
     (entries : List Entry) (from end : ℕ) (changes : List Change) : Type 0 where
   pub counts : ℕ → ℕ

@@ -1,4 +1,6 @@
--- Rounds after the first: the jobs of the tiles, the changes they return, and the state they leave.
+-- Rounds of counting steps after the first: a job for each tile, the lower counts (changes) that
+-- jobs return, and the state after a round. A state has entries: lower counts that follow from
+-- neighbours in other tiles.
 -- Private.
 use Rattle.std.specs.Prelude.{◌≡◌, ◌≢◌, ℕ, ◌*◌, ◌<◌, ◌≤◌, ◌⊎◌, ℤ, List, length, Option, None, Some, Vec, slice_get, slice_index_or}
 use Rattle.std.specs.declared.alloc.Global.{Global}
@@ -15,7 +17,8 @@ use Rattle.drain.specs.declared.changes.Entry.{Entry}
 use Rattle.drain.specs.declared.changes.Run.{Run}
 use Rattle.drain.specs.declared.rounds.Counting.{Counting}
 
--- The state between rounds: cutting, heights, counts so far, and entries into tiles.
+-- The state between rounds: cutting, filled heights, counts so far, and the entries of the next
+-- round.
 pub record Rounding : Type 0 where
   pub cutting : Cutting
   pub levels : List (Option ℤ)
@@ -35,8 +38,8 @@ rounding_of c = record {
 abbrev pub levels_of : Rounding → Terrain
 levels_of r = sinkless_terrain r.cutting r.levels
 
--- `IsRelaxedInside` holds for each tile. The entries are sorted by tile. They lower each count
--- that a neighbour in another tile can lower, at least that far.
+-- `IsRelaxedInside` holds for each tile. The entries are sorted by tile. If a neighbour in another
+-- tile can lower a count, some entry lowers that count at least as far.
 pub record IsRounding (r : Rounding) : Type 0 where
   pub cutting : IsCutting r.cutting
   pub size : length r.levels ≡ r.cutting.cols * r.cutting.rows
@@ -48,7 +51,7 @@ pub record IsRounding (r : Rounding) : Type 0 where
       tile_of_place r.cutting p ≢ tile_of_place r.cutting q →
       IsRelaxedOrEntered r.cutting r.steps r.entries p q
 
--- The jobs of a round: job k applies its run of entries, which may be empty, to tile k.
+-- The jobs of a round: job k applies the entries of run k, which may be empty, to tile k.
 pub record Jobs : Type 0 where
   pub rounding : Rounding
   pub runs : List Run
@@ -68,23 +71,24 @@ abbrev pub IsResult : Jobs → ℕ → List Change → Type 0
 IsResult j job changes =
     (run : Run) → slice_get j.runs job ≡ Some run → IsRunResult j.rounding run changes
 
--- The entry at index k is in a run whose result is among these.
+-- The entry at index k is in a run that has a result among `outs`.
 abbrev pub IsAnsweredAt : Rounding → List (Vec Change Global) → ℕ → Type 0
 IsAnsweredAt r outs k = (list : Vec Change Global) × IsAmong outs list × (run : Run)
     × (run.from ≤ k) × (k < run.end) × IsRunResult r run list.items
 
--- The results of a round: each is of a run, and each entry is in a run with a result.
+-- The results of a round: each is the result of a run, and each entry is in a run that has a result
+-- among `outs`.
 pub record AreRoundResults (r : Rounding) (outs : List (Vec Change Global)) : Type 0 where
   pub each : (list : Vec Change Global) → IsAmong outs list →
       (run : Run) × IsRunResult r run list.items
   pub covered : (k : ℕ) → k < length r.entries → IsAnsweredAt r outs k
 
--- The change is among the results.
+-- The change is in one of the results, each a list of changes.
 abbrev pub IsGiven : List (Vec Change Global) → Change → Type 0
 IsGiven outs x =
     (j : ℕ) × (list : Vec Change Global) × (slice_get outs j ≡ Some list) × IsAmong list.items x
 
--- The new counts are the old ones with these changes applied, each where it is lower.
+-- The counts `new` are `old` with the changes in `Given` applied, each if it lowers a count.
 pub record ArePut (cols : ℕ) (old new : List (Option ℕ)) (Given : Change → Type 0) : Type 0 where
   pub size : length new ≡ length old
   pub low : (k : ℕ) → count_of new k ≤ count_of old k
@@ -97,8 +101,8 @@ pub record ArePut (cols : ℕ) (old new : List (Option ℕ)) (Given : Change →
 abbrev pub count_sum : Rounding → ℕ
 count_sum r = total (r.cutting.cols * r.cutting.rows) (count_of r.steps)
 
--- A later state for which `IsRounding` holds. Cutting, heights and cells of count 0 are the same,
--- and the sum of counts is no greater.
+-- A later state for which `IsRounding` holds. Cutting, heights and cells of count 0 are those of
+-- `old`, and the sum of counts is no greater.
 pub record IsNext (old new : Rounding) : Type 0 where
   pub rounding : IsRounding new
   pub same_cutting : new.cutting ≡ old.cutting

@@ -1,6 +1,6 @@
 -- Rounds of counting steps, tile by tile. The caller chooses the cells of count 0. Each known count
--- is the length of a walk at one height to such a cell. Rounds lower it toward the least
--- such length.
+-- is the length of a walk, over neighbours of one height, to such a cell. Rounds lower each count
+-- toward the least such length.
 -- Public.
 use Rattle.std.specs.Prelude.{◌≡◌, ◌↔◌, ℕ, ◌+◌, ◌-◌, ◌*◌, ◌^◌, ◌<◌, ◌≤◌, List, length, Option, Some, IfSome}
 use Rattle.terrain.specs.Raster.{Terrain}
@@ -17,7 +17,7 @@ HasCountZero t steps p = IsDataCell t p × (entry_at t.cols t.rows steps p ≡ S
 abbrev pub HaveSameZeros : Terrain → List (Option ℕ) → List (Option ℕ) → Type 0
 HaveSameZeros t old new = (p : Place) → HasCountZero t old p ↔ HasCountZero t new p
 
--- The count is below 2^24. Some walk at one height from p to a cell of `Ends` has this many moves.
+-- The number n is below 2^24, and some walk at one height from p to a cell of `Ends` has n moves.
 abbrev pub IsWalked : (Place → Type 0) → Terrain → Place → ℕ → Type 0
 IsWalked Ends t p n =
     (n < 2 ^ 24) × (rest : List Place) × IsWalkAtOneHeight Ends t p rest × (length rest ≡ n)
@@ -27,12 +27,12 @@ IsWalked Ends t p n =
 abbrev pub AreWalked : (Place → Type 0) → Terrain → List (Option ℕ) → Type 0
 AreWalked Ends t steps = (p : Place) → IfSome (entry_at t.cols t.rows steps p) (IsWalked Ends t p)
 
--- If the other count is known and below 2^24 - 1, this one is known and at most one above it.
+-- If `other` is known and below 2^24 - 1, `count` is known and at most one above `other`.
 abbrev pub IsAtMostOneAbove : Option ℕ → Option ℕ → Type 0
 IsAtMostOneAbove count other =
     (m : ℕ) → other ≡ Some m → m < 2 ^ 24 - 1 → (n : ℕ) × (count ≡ Some n) × (n ≤ m + 1)
 
--- The new counts of a tile after one round from the old counts of the grid, in row order.
+-- `new` has the counts of a tile, in row order, after one round from the counts `old` of the grid.
 pub record IsRound (Ends : Place → Type 0) (t : Terrain) (c : Cutting) (tile : ℕ)
     (old new : List (Option ℕ)) : Type 0 where
   pub size : length new ≡ cell_count c tile
@@ -45,12 +45,12 @@ pub record IsRound (Ends : Place → Type 0) (t : Terrain) (c : Cutting) (tile :
   pub within : (p q : Place) → IsInTile c tile p → IsInTile c tile q → IsNeighbour t p q →
       height_at t q ≡ height_at t p →
       IsAtMostOneAbove (tile_entry c tile new p) (tile_entry c tile new q)
-  -- no count rises or is lost
+  -- a known old count stays known and does not rise
   pub kept : (p : Place) (m : ℕ) → IsInTile c tile p → entry_at t.cols t.rows old p ≡ Some m →
       (n : ℕ) × (tile_entry c tile new p ≡ Some n) × (n ≤ m)
 
--- A round would not change the tile: `IsAtMostOneAbove` holds for each of its counts and that of
--- each neighbour of equal height.
+-- A round would change no count of the tile. `IsAtMostOneAbove` holds for the count of each cell of
+-- the tile and that of each neighbour of equal height.
 pub record IsTileStill (t : Terrain) (c : Cutting) (tile : ℕ)
     (steps : List (Option ℕ)) : Type 0 where
   pub near : (p q : Place) → IsInTile c tile p → IsNeighbour t p q → height_at t q ≡ height_at t p →

@@ -1,4 +1,4 @@
--- The input of the jobs that find codes.
+-- The input of the jobs that find the codes of directions: a terrain, its steps and a cutting.
 -- Private.
 use Rattle.std.specs.Prelude.{ℕ, List, Option}
 use Rattle.terrain.specs.Raster.{Terrain, IsTerrain}
@@ -11,7 +11,7 @@ pub record SteppedTerrain : Type 0 where
   pub steps : List (Option ℕ)
   pub cutting : Cutting
 
--- The steps are those of the terrain, and the cutting is of its grid.
+-- The steps are those of the terrain, and the cutting is of the terrain's grid.
 pub record IsSteppedTerrain (t : SteppedTerrain) : Type 0 where
   pub lawful : IsTerrain t.terrain
   pub steps : AreSteps t.terrain t.steps

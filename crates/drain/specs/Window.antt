@@ -1,5 +1,7 @@
--- The window of a tile: the tile with one row and one column more on each side. A spot is a place
--- in the window, counted from the row and the column before the tile's first.
+-- Counts in the window of a tile, and how a search lowers them. The window is the tile with one row
+-- and one column more on each side. A spot is a place in the window, counted from the row and the
+-- column before the tile's first. A count is the fewest moves found so far from a cell to one that
+-- drains at once, or unknown.
 -- Private.
 use Rattle.std.specs.Prelude.{◌≡◌, ◌≢◌, ℕ, ◌+◌, ◌*◌, ◌<◌, ◌≤◌, ◌⊎◌, ℤ, List, All, map, sum, length, Option, None, Some, slice_get, slice_index_or, slice_set, unwrap_or}
 use Rattle.terrain.specs.Neighbours.{entry_or, index_of, Touches}
@@ -35,7 +37,8 @@ Shows b s p = (b.top + s.row ≡ p.row + 1) × (b.left + s.col ≡ p.col + 1)
 abbrev pub IsOff : Bounds → Place → Type 0
 IsOff b s = (b.top + s.row ≡ 0) ⊎ (b.left + s.col ≡ 0)
 
--- The value at a spot: the list's value at its place, and `none` off the grid.
+-- The value x at spot s: that of the list `entries` at the place that s shows, or `none` off the
+-- grid.
 abbrev pub IsShown : {X : Type 0} → ℕ → ℕ → List X → X → Bounds → Place → X → Type 0
 IsShown cols rows entries none b s x =
     ((p : Place) → Shows b s p → x ≡ entry_or cols rows entries none p) × (IsOff b s → x ≡ none)
@@ -48,7 +51,7 @@ level_on b levels s = slice_index_or levels (spot_index b s) None
 abbrev pub count_on : Bounds → List ℕ → Place → ℕ
 count_on b counts s = slice_index_or counts (spot_index b s) 0
 
--- No count is above `no_count`, which marks an unknown one.
+-- No count is above `no_count`, which stands for an unknown count.
 abbrev pub AreCounts : List ℕ → Type 0
 AreCounts counts = (k : ℕ) → slice_index_or counts k 0 ≤ no_count
 
@@ -62,7 +65,8 @@ pub data IsSpread (b : Bounds) (levels : List (Option ℤ)) (old : List ℕ) : L
       n ≡ count_on b some s + 1
       → n < count_on b counts r → IsSpread b levels old (slice_set counts (spot_index b r) n)
 
--- 1 plus the least count at height `level` in columns `from.col..end` of a row; at most the bound.
+-- `least` is 1 plus the least count at height `level` in row `from.row` and columns
+-- `from.col..end`, but at most `bound`.
 pub record IsLeastAlong (b : Bounds) (levels : List (Option ℤ)) (counts : List ℕ) (from : Place)
     (end : ℕ) (level : Option ℤ) (bound least : ℕ) : Type 0 where
   pub low : least ≤ bound
@@ -71,7 +75,7 @@ pub record IsLeastAlong (b : Bounds) (levels : List (Option ℤ)) (counts : List
   pub one : (least ≡ bound) ⊎ ((r : Place) × (r.row ≡ from.row) × (from.col ≤ r.col) × (r.col < end)
       × (level_on b levels r ≡ level) × (least ≡ count_on b counts r + 1) × (least < bound))
 
--- No number of the new list is above the old one at its index.
+-- No number of the new list is above the number at the same index of the old list.
 pub record IsNotAbove (new old : List ℕ) : Type 0 where
   pub each : (k : ℕ) → slice_index_or new k 0 ≤ slice_index_or old k 0
 
@@ -81,15 +85,16 @@ pub record IsNear (b : Bounds) (levels : List (Option ℤ)) (old new : List ℕ)
   pub each : (r : Place) → Touches s r → level_on b levels r ≡ level_on b levels s →
       count_on b new s ≤ count_on b old r + 1
 
--- The list of spots has grown by at least those spots of the tile whose counts changed.
+-- The list `after` begins with `before`. Each spot of the tile whose count changed is in the rest
+-- of `after`.
 pub record AreNoted (b : Bounds) (old new : List ℕ) (before after : List Place) : Type 0 where
   pub longer : length before ≤ length after
   pub kept : (k : ℕ) → k < length before → slice_get after k ≡ slice_get before k
   pub each : (s : Place) → IsInner b s → (count_on b new s ≡ count_on b old s)
       ⊎ ((k : ℕ) × (length before ≤ k) × (slice_get after k ≡ Some s))
 
--- A search has spread from `spot` to the spots in `Done`. Those of its height have at most its
--- count plus 1, and its count is unchanged.
+-- A search has spread from `spot` to the spots in `Done`. Those as high as `spot` now have at most
+-- its count plus 1. The count of `spot` itself is unchanged.
 pub record IsReached (b : Bounds) (levels : List (Option ℤ)) (spot : Place) (Done : Place → Type 0)
     (old new : List ℕ) (before after : List Place) : Type 0 where
   pub spread : IsSpread b levels old new
@@ -98,11 +103,11 @@ pub record IsReached (b : Bounds) (levels : List (Option ℤ)) (spot : Place) (D
   pub own : count_on b new spot ≡ count_on b old spot
   pub noted : AreNoted b old new before after
   pub inner : All (IsInner b) before → All (IsInner b) after
-  -- each added spot lowered the sum of the counts
+  -- for each added spot, the sum of the counts fell by at least 1
   pub left : length after + sum new ≤ length before + sum old
 
--- Each count of the tile is at most one above those of the tile's adjacent spots of its height.
--- Adjacent spots that wait in the list, from index `from` on, are excepted.
+-- Each spot of the tile has a count at most one above that of each adjacent spot of the tile of
+-- equal height. Adjacent spots in the list `waiting`, at index `from` or above, are excepted.
 pub record IsRelaxedBut (b : Bounds) (levels : List (Option ℤ)) (counts : List ℕ)
     (waiting : List Place) (from : ℕ) : Type 0 where
   pub each : (s r : Place) → IsInner b s → IsInner b r → Touches s r →
@@ -110,7 +115,8 @@ pub record IsRelaxedBut (b : Bounds) (levels : List (Option ℤ)) (counts : List
       (count_on b counts r ≤ count_on b counts s + 1)
       ⊎ ((k : ℕ) × (from ≤ k) × (slice_get waiting k ≡ Some s))
 
--- Each count of the tile is at most one above those of the tile's adjacent spots of its height.
+-- Each spot of the tile has a count at most one above that of each adjacent spot of the tile of
+-- equal height.
 pub record IsRelaxed (b : Bounds) (levels : List (Option ℤ)) (counts : List ℕ) : Type 0 where
   pub each : (s r : Place) → IsInner b s → IsInner b r → Touches s r →
       level_on b levels r ≡ level_on b levels s →
@@ -121,7 +127,7 @@ abbrev pub AreShown : {X : Type 0} → ℕ → ℕ → List X → X → Bounds �
 AreShown cols rows entries none b shown = (s : Place) → IsSpot b s →
     IsShown cols rows entries none b s (slice_index_or shown (spot_index b s) none)
 
--- The list has an element with the property for each spot before index `end`, and no more.
+-- The list has, for each spot of index below `end`, an element for which `Has` holds, and no more.
 pub record AreMadeSpots {X : Type 0} (Has : Place → X → Type 0) (b : Bounds) (end : ℕ) (lack : X)
     (list : List X) : Type 0 where
   pub size : length list ≡ end
@@ -137,7 +143,7 @@ AreShownBelow cols rows entries none b end shown =
 abbrev pub known_counts : List (Option ℕ) → List ℕ
 known_counts shown = map (λ o. unwrap_or o no_count) shown
 
--- The value is the count of the place's spot, `None` if it is not known.
+-- The count x of the spot that shows p, or `None` if that count is not known.
 abbrev pub IsCopied : Bounds → List ℕ → Place → Option ℕ → Type 0
 IsCopied b counts p x = (s : Place) → Shows b s p → x ≡ known (count_on b counts s)
 
@@ -148,12 +154,13 @@ pub record IsSearched (b : Bounds) (levels : List (Option ℤ)) (old new : List 
   pub near : (s : Place) → IsInner b s → IsNear b levels old new s
   pub even : IsRelaxed b levels new
 
--- The counts of a tile after a round from the old counts of its window.
+-- `list` has the counts of a tile after a round from the counts `old` of its window.
 abbrev pub IsRoundOf : Bounds → List (Option ℤ) → List ℕ → List (Option ℕ) → Type 0
 IsRoundOf b levels old list = (new : List ℕ) × IsSearched b levels old new
     × IsMadeUpTo b (IsCopied b new) (b.rows * b.cols) list
 
--- The counts of the window are the values of its spots, as numbers.
+-- The counts of the window are the values of `entries` at the places that its spots show, as
+-- numbers.
 pub record AreWindowCounts (cols rows : ℕ) (entries : List (Option ℕ)) (b : Bounds)
     (counts : List ℕ) : Type 0 where
   pub shown : List (Option ℕ)

@@ -1,4 +1,4 @@
-//! The initial counts of the first round: 0 where a cell drains at once, else unknown.
+//! The counts of steps before the first round: 0 where a cell drains at once, else unknown.
 //!
 //! A data cell drains at once on the grid's border, beside NODATA or a lower cell, or as a sink.
 //! A spot is a place of a tile's window: the tile with one more row and column on each side.
@@ -29,7 +29,7 @@ fn is_gap_or_lower(level: Height, cell: Option<Height>) -> bool
     }
 }
 
-/// Returns whether a cell at one of these indexes has no data or is below `level`.
+/// Returns whether a cell at one of the indexes `at` lacks data or is below `level`.
 #[inline(always)]
 fn any_gap_or_lower(cells: &[Cell], at: &[usize; 8], level: Height) -> bool
     requires { (way : ℕ) → way < 8 → slice_index_or at.now way 0 < length cells.now }

@@ -1,4 +1,7 @@
-//! Types: a lower count of a cell, an entry from an adjacent tile, a run of entries.
+//! Lower counts of steps: a `Change` is a cell with its new count.
+//!
+//! An `Entry` is a change that follows from a neighbour in another tile. A `Run` is the range of
+//! the entries into one tile.
 
 use terrain::Place;
 
@@ -9,14 +12,16 @@ pub(crate) struct Change {
     pub(crate) count: u32,
 }
 
-/// A lower count for a cell of `tile`: 1 plus that of a neighbour in another tile.
+/// A cell of `tile` with a lower count, which follows from another tile.
+/// The count is 1 plus that of a neighbour there, of the same filled height.
 #[derive(Clone, Copy)]
 pub(crate) struct Entry {
     pub(crate) tile: u32,
     pub(crate) change: Change,
 }
 
-/// The entries into one tile, maybe none: indexes `from..end` of the sorted list.
+/// The entries into one tile, maybe none.
+/// They have the indexes `from..end` in the list of all entries, sorted by tile.
 #[derive(Clone, Copy)]
 pub(crate) struct Run {
     pub(crate) tile: u32,

@@ -1,4 +1,4 @@
-//! Steps and directions of a filled grid, computed tile by tile: [`directions`].
+//! Finds the steps and then the directions of a filled grid, tile by tile: [`directions`].
 ghost use Rattle.std.specs.Prelude.{◌≡◌, [], IfOk, OnOk, length};
 ghost use Rattle.terrain.specs.Raster.{Terrain, IsTerrain};
 ghost use Rattle.terrain.specs.Sinks.{with_sinks};

@@ -1,4 +1,4 @@
-//! Finds entries: lower counts for cells, each 1 plus that of a neighbour in another tile.
+//! Finds entries: lower counts of steps, each 1 plus the count of a neighbour in another tile.
 ghost use Rattle.std.specs.Prelude.{◌≡◌, ◌≢◌, ◌+◌, ◌*◌, ◌<◌, ◌≤◌, ◌↔◌, length, Some, IsTrue, OnOk};
 ghost use Rattle.terrain.specs.declared.place.Place.{Place};
 ghost use Rattle.drain.specs.declared.changes.Change.{Change};
@@ -57,7 +57,7 @@ impl<'a> RoundInput<'a> {
         self.steps[index].number()
     }
 
-    /// Appends an entry for `to`, if `from` is equally high and would lower its count.
+    /// Appends an entry for `to`, if `from` is as high and lowers the count of `to`.
     #[inline(always)]
     fn note(&self, from: Change, to: Place, entries: &mut Vec<Entry>) -> Result<(), AllocError>
         requires counting { AreCounting (sinkless_terrain self.now.tiling.now self.now.levels.now)
@@ -84,7 +84,7 @@ impl<'a> RoundInput<'a> {
         Ok(())
     }
 
-    /// Appends entries for cells of one row around `from` whose counts it would lower.
+    /// Appends entries for cells of `row` around `from` whose counts `from` lowers.
     #[inline(always)]
     fn note_along(&self, from: Change, row: u32, entries: &mut Vec<Entry>) -> Result<(), AllocError>
         requires counting { AreCounting (sinkless_terrain self.now.tiling.now self.now.levels.now)
@@ -106,7 +106,7 @@ impl<'a> RoundInput<'a> {
         Ok(())
     }
 
-    /// Appends entries for the cells around `place` whose counts it would lower.
+    /// Appends entries for the cells around `place` whose counts `place` lowers.
     pub(crate) fn note_around(
         &self,
         place: Place,
@@ -131,8 +131,8 @@ impl<'a> RoundInput<'a> {
         Ok(())
     }
 
-    /// Appends entries for the cells around a tile whose counts its rim would lower.
-    /// After a search in the tile, its rim lowers no count of the tile's own cells: they get no
+    /// Appends entries for the cells around a tile whose counts the tile's rim lowers.
+    /// After a search in the tile, the rim lowers no count of the tile's own cells, so these get no
     /// entries.
     pub(crate) fn note_rim(&self, tile: u32, entries: &mut Vec<Entry>) -> Result<(), AllocError>
         requires counting { AreCounting (sinkless_terrain self.now.tiling.now self.now.levels.now)

@@ -1,4 +1,4 @@
-//! The code of an interior cell: one with eight places of the grid around it.
+//! Finds the direction code of an interior cell: one with eight places of the grid around it.
 //!
 //! Ways are the eight directions, from 0 to 7 in code order.
 ghost use Rattle.std.specs.Prelude.{◌≡◌, ℕ, ◌*◌, ◌<◌, IsTrue, Some, None, length, position, slice_index_or};
@@ -32,7 +32,7 @@ pub(crate) fn cells_around(grid: &Grid, place: Place) -> [usize; 8]
     around_index(cols as usize, place.index_in(cols))
 }
 
-/// Returns the heights of the eight cells at these indexes.
+/// Returns the heights of the eight cells at the indexes `at`.
 #[inline(always)]
 fn heights_at(cells: &[Cell], at: &[usize; 8]) -> [Option<Height>; 8]
     requires { (way : ℕ) → way < 8 → slice_index_or at.now way 0 < length cells.now }
@@ -51,7 +51,7 @@ fn heights_at(cells: &[Cell], at: &[usize; 8]) -> [Option<Height>; 8]
     ]
 }
 
-/// Returns whether a neighbour has height `level` and one step fewer than `own`.
+/// Returns whether a neighbour has height `level` and `own - 1` steps.
 #[inline(always)]
 fn leads_on(level: Height, own: u32, height: Option<Height>, steps: Option<u32>) -> bool
     ensures { (a : Around) → a.level ≡ level → a.steps ≡ own →
@@ -64,7 +64,7 @@ fn leads_on(level: Height, own: u32, height: Option<Height>, steps: Option<u32>)
     }
 }
 
-/// Returns the first way to a neighbour on the flat with one step fewer.
+/// Returns the first way to a neighbour of height `level` with `own - 1` steps.
 #[inline(always)]
 fn onward(cells: &[Cell], steps: &[StepCount], at: &[usize; 8], level: Height, own: u32) -> usize
     requires cells { (way : ℕ) → way < 8 → slice_index_or at.now way 0 < length cells.now }
@@ -85,7 +85,7 @@ fn onward(cells: &[Cell], steps: &[StepCount], at: &[usize; 8], level: Height, o
 }
 
 /// Returns the code of an interior data cell that has `own` steps.
-/// A cell with steps above 0 has no lower neighbour; one with 0 steps drains at once.
+/// A cell with steps above 0 has no lower neighbour; a cell with 0 steps drains at once.
 #[inline(always)]
 #[tactic(auto, using(terrain::proofs::Heights::height_in, crate::proofs::InteriorLemmas::heights_fit))]
 pub(crate) fn interior_code(

@@ -1,4 +1,6 @@
-//! Consequences of the definitions of steps and directions.
+//! Each data cell of a filled terrain has one number of steps, below 2^24, and one direction.
+//!
+//! Counts of steps that a round over all tiles leaves unchanged are the steps.
 ghost use Rattle.std.specs.Prelude.{◌≡◌, ℕ, ◌*◌, ◌^◌, ◌<◌, List, length, Option};
 ghost use Rattle.terrain.specs.Raster.{Terrain, IsTerrain};
 ghost use Rattle.terrain.specs.Neighbours.{IsDataCell};

@@ -1,4 +1,4 @@
-//! Copies a tile and the places around it to a window, and a tile's counts back.
+//! Copies heights or counts of a tile and the places around it to a window, and counts back.
 //!
 //! A spot is a place of a tile's window: the tile with one more row and column on each side.
 ghost use Rattle.std.specs.Prelude.{◌≡◌, ◌+◌, ◌-◌, ◌*◌, ◌<◌, ◌≤◌, length, map, MatchOption, None, OnOk, IfOk};

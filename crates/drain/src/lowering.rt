@@ -1,6 +1,7 @@
-//! The search of a later round, over counts that all jobs read and none writes.
+//! The search of a later round in a tile, over counts that all jobs read and none writes.
 //!
-//! The search starts at the entries into the tile and returns only the changed counts.
+//! The search starts at the tile's entries: lower counts that follow from neighbours in other
+//! tiles. It returns only the changed counts.
 ghost use Rattle.std.specs.Prelude.{◌≡◌, ℕ, ◌+◌, ◌*◌, ◌<◌, ◌≤◌, ◌≢◌, true, [], Vec, length, OnOk, IfOk, Some, slice_get, unwrap_or};
 ghost use Rattle.std.specs.Bool.{OnFalse};
 ghost use Rattle.std.specs.declared.alloc.Global.{Global};
@@ -19,7 +20,7 @@ use terrain::Place;
 use tiles::Bounds;
 
 /// The counts that a search has lowered, and each change in order.
-/// `rows` has the counts of each row of the tile, from its first cell to its last lowered one.
+/// For each row of the tile, `rows` has the counts from the first cell to the last lowered cell.
 #[derive(Drop)]
 struct Lowered {
     rows: Vec<Vec<u32>>,
@@ -153,7 +154,8 @@ fn reach(
     Ok(())
 }
 
-/// Lowers a row's counts around `from`, at its height, to at most its count plus 1.
+/// Lowers counts in `row` around `from` to at most that of `from` plus 1.
+/// Cells of another height than `from` are left out.
 #[inline(always)]
 fn reach_along(
     input: &RoundInput<'_>,
@@ -181,7 +183,8 @@ fn reach_along(
     Ok(())
 }
 
-/// Lowers the tile's counts around `from`, at its height, to at most its count + 1.
+/// Lowers counts of the tile around `from` to at most that of `from` plus 1.
+/// Cells of another height than `from` are left out.
 fn spread(
     input: &RoundInput<'_>,
     bounds: Bounds,
@@ -204,7 +207,8 @@ fn spread(
     Ok(())
 }
 
-/// Returns whether to apply an entry before spreading from the next change.
+/// Returns whether to apply `entry` before spreading from change `done`.
+/// `done` is the index of the next change to spread.
 /// A run is sorted by count, so changes go from low counts to high, and no cell changes twice.
 #[inline(always)]
 fn is_entry_due(entry: Entry, changes: &[Change], done: usize) -> bool

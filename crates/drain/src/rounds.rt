@@ -1,7 +1,7 @@
-//! Later rounds: they carry steps over rims until a round changes nothing.
+//! Later rounds: they carry counts of steps over rims until a round changes nothing.
 //!
-//! The first few of them, and those with many or no entries, run as jobs. The others run on the
-//! caller's thread.
+//! An entry is a lower count that follows from a neighbour in another tile. The first few later
+//! rounds, and those with many or no entries, run as jobs. The others run on the caller's thread.
 ghost use Rattle.std.specs.Prelude.{◌≡◌, ◌≢◌, ℕ, ◌*◌, ◌<◌, ◌≤◌, ◌↔◌, [], true, false, IsTrue, Vec, length, vec_len, OnOk, IfOk};
 ghost use Rattle.tile_jobs.specs.Fault.{RefusesWorkers};
 ghost use Rattle.tiles.specs.Cutting.{IsCutting, IsWithin, tile_of_place};
@@ -107,7 +107,7 @@ fn put(tiling: &Tiling, steps: &mut [StepCount], change: Change)
     }
 }
 
-/// Applies one job's changes to the counts of the grid, each where it is lower.
+/// Applies one job's changes to the counts of the grid, each if it lowers a count.
 fn put_changes(tiling: &Tiling, steps: &mut [StepCount], changes: &[Change])
     requires steps { length steps.old ≡ tiling.now.cols * tiling.now.rows }
     requires changes { (x : Change) → IsAmong changes.now x → IsWithin tiling.now x.place }
@@ -118,7 +118,7 @@ fn put_changes(tiling: &Tiling, steps: &mut [StepCount], changes: &[Change])
     }
 }
 
-/// Applies all jobs' changes to the counts of the grid, each where it is lower.
+/// Applies all jobs' changes to the counts of the grid, each if it lowers a count.
 fn put_all(tiling: &Tiling, steps: &mut [StepCount], outs: &[Vec<Change>])
     requires steps { length steps.old ≡ tiling.now.cols * tiling.now.rows }
     requires changes { (x : Change) → IsGiven outs.now x → IsWithin tiling.now x.place }
@@ -283,7 +283,7 @@ impl<'a> Counting<'a> {
         Ok(())
     }
 
-    /// Runs one round as jobs over all tiles; returns whether it changed a count.
+    /// Runs one round as jobs over all tiles; returns whether the round changed a count.
     fn full_round<R: Threads + Wait + Sync, G: Gate + Sync>(
         &mut self,
         runner: &Runner<'_, R, G>,

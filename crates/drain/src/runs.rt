@@ -1,4 +1,6 @@
-//! Sorts entries by tile and finds the run of each tile: the range of its entries.
+//! Sorts entries by tile and finds the run of each tile: the range of the tile's entries.
+//!
+//! An entry is a lower count for a cell of one tile, from a neighbour in another tile.
 ghost use Rattle.std.specs.Prelude.{◌≡◌, ◌≢◌, ℕ, ◌<◌, ◌≤◌, length, OnOk, IfOk, Some, slice_get};
 ghost use Rattle.std.specs.List.Sorted.{IsNonDecreasingBy, IsPermutation};
 ghost use Rattle.drain.specs.declared.changes.Entry.{Entry};

@@ -1,4 +1,4 @@
-//! The map of codes, one job for each tile.
+//! Finds the direction codes of all cells, by one job for each tile.
 use crate::surroundings::codes_of_tile;
 use drainage::{Code, StepCount};
 use std::alloc::Global;

@@ -1,4 +1,4 @@
-//! The codes of a tile's cells.
+//! Finds the direction codes of a tile's cells.
 //!
 //! Cells in the grid's first or last row or column, the outermost cells, get codes by
 //! [`Around`](crate::Around). All others get codes by `interior`.

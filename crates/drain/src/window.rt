@@ -1,4 +1,4 @@
-//! Searches a tile for steps, from the counts of the tile and the places around it.
+//! The search of a tile: counts in the tile and around it lower the tile's counts of steps.
 ghost use Rattle.std.specs.Prelude.{◌≡◌, ◌+◌, ◌<◌, ◌≤◌, ◌⊎◌, ◌↔◌, IsTrue, [], All, length, OnOk, IfOk};
 ghost use Rattle.terrain.specs.Neighbours.{Touches};
 ghost use Rattle.terrain.specs.declared.place.Place.{Place};
@@ -79,7 +79,8 @@ fn lesser(window: &Window, counts: &[u32], spot: Place, level: Cell, bound: u32)
     }
 }
 
-/// Returns 1 plus the least count on three spots of one row, at most `bound`.
+/// Returns 1 plus the least count of `from` and the next two spots of its row.
+/// Returns at most `bound`.
 /// Spots of another height than `level` are left out.
 #[inline(always)]
 #[tactic(auto, using(crate::proofs::Least::least_of_none))]
@@ -123,7 +124,7 @@ fn least_around(window: &Window, counts: &[u32], spot: Place, bound: u32) -> u32
 }
 
 /// Lowers the count of `to` to at most that of `from` plus 1, if equally high.
-/// Queues `to`, if its count falls and it lies in the tile.
+/// Queues `to`, if `to` lies in the tile and its count falls.
 #[inline(always)]
 fn reach(
     window: &Window,
@@ -150,7 +151,8 @@ fn reach(
     Ok(())
 }
 
-/// Lowers a row's counts around `spot`, at its height, to at most its count plus 1.
+/// Lowers counts in `row` around `spot` to at most that of `spot` plus 1.
+/// Spots of another height than `spot` are left out.
 /// Queues the spots of the tile whose counts fall.
 #[inline(always)]
 #[tactic(auto, using(crate::proofs::Spreading::spread_counts))]
@@ -175,7 +177,8 @@ fn spread_along(
     Ok(())
 }
 
-/// Lowers counts around `spot`, at its height, to at most its count plus 1.
+/// Lowers counts around `spot` to at most that of `spot` plus 1.
+/// Spots of another height than `spot` are left out.
 /// Queues the spots of the tile whose counts fall.
 #[tactic(auto, using(crate::proofs::Spreading::spread_counts))]
 fn spread(
@@ -217,8 +220,8 @@ fn search(window: &Window, counts: &mut [u32], mut reached: Vec<Place>) -> Resul
     Ok(())
 }
 
-/// Lowers a spot's count to at most 1 plus each old count around at its height.
-/// Queues the spot, if its count falls.
+/// Lowers the count of `spot` to at most 1 plus each old count around at its height.
+/// Queues `spot`, if its count falls.
 #[inline(always)]
 #[tactic(auto, using(crate::proofs::Spreading::pulled, crate::proofs::Spreading::spot_from_inner))]
 fn pull_at(

@@ -1,4 +1,5 @@
--- Proofs for all nine codes, case by case.
+-- What is shown for each of the nine codes holds for every code. The direction of a code but 0 is
+-- the number of its trailing zeros.
 use Rattle.std.proofs.Common.{◌≡◌, ◌≢◌, ℕ, ◌<◌, List, [], ◌∷◌, true, inl, inr, Some, subst, sym, refl, ◌==◌, lit<}
 use Rattle.std.proofs.lemmas.Bool.{or_cases, eqb-true}
 use Rattle.std.specs.List.{list_any}

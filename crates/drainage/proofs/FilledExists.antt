@@ -45,7 +45,7 @@ some_counted P (x ∷ xs) any = elim (or_cases (P x) (list_any P xs) any) [
   | inr later ↦ omega (arith, count_by_cons P x xs, some_counted P xs later)
 ]
 
--- if at most k + 1 moves bring no more cells to an end cell than at most k, no cell needs k + 1
+-- if at most k + 1 moves bring no more cells to an end cell than k do, no cell needs k + 1 moves
 stable_at : (t : Terrain) (c : ℤ) (k : ℕ) →
     count_by (reaches t c (suc k)) (field t) ≤ count_by (reaches t c k) (field t) → IsStable t c k
 stable_at t c k h p more = elim (cases_Bool (reaches t c k p)) [
@@ -120,7 +120,7 @@ not_less t p c none rest path = elim (less (crest t p rest) c) [
   | inr e ↦ e
 ]
 
--- a cell has a filled height if some path's crest is at most n above the cell's height
+-- a cell has a filled height if the crest of some path from it is at most n above its height
 least_crest : (t : Terrain) (p : Place) (n : ℕ) (rest : List Place) → IsPath t p rest →
     crest t p rest ≤ℤ (height_of t p +ℤ pos n) → (level : ℤ) × IsFilledHeight t p level
 least_crest t p zero rest path low = (

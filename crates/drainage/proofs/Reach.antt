@@ -148,7 +148,7 @@ true_end t p (inr sink) =
 abbrev pub is_low : Terrain → ℤ → Place → Bool
 is_low t c p = is_data t p && int_le (height_of t p) c
 
--- the cell reaches an end cell in at most k moves over cells at or below c
+-- the cell reaches an end cell in at most k moves over cells at or below height c
 abbrev pub reaches : Terrain → ℤ → ℕ → Place → Bool
 reaches t c zero p = is_low t c p && is_end_cell t p
 reaches t c (suc k) p =

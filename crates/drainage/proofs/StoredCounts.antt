@@ -1,4 +1,4 @@
--- Stored numbers of steps, read back.
+-- A number of steps below `no_count` is read back as itself, and `no_count` or more as unknown.
 use Rattle.std.proofs.Common.{◌≡◌, ℕ, ◌≤◌, ◌<◌, None, Some, unwrap_or, ap}
 use Rattle.std.proofs.lemmas.Bool.{cond-true, cond-false, lt-ltb, le-ltb}
 use Rattle.drainage.specs.StepCounts.{known, no_count}

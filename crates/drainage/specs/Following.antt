@@ -16,7 +16,8 @@ pub record Directed : Type 0 where
 abbrev pub code_at : Directed → Place → Option ℕ
 code_at d p = entry_at d.cols d.rows d.codes p
 
--- The place that the code of p points to; p itself if p has no code or its code points to none.
+-- The place that the code of p points to; p itself if p has no code or a code that points to no
+-- place.
 abbrev pub next : Directed → Place → Place
 next d p = unwrap_or (option_and_then (λ code. place_toward code p) (code_at d p)) p
 

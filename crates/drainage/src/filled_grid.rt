@@ -1,4 +1,4 @@
-//! Filled grids: [`Filled`].
+//! [`Filled`]: a grid in which the height of each data cell is its filled height.
 ghost use Rattle.std.specs.Prelude.{◌≡◌};
 ghost use Rattle.drainage.specs.Filled.{IsOwnFilled};
 

@@ -1,4 +1,4 @@
-//! A cell's steps in its flat, or unknown, in 4 bytes.
+//! A count of steps in 4 bytes: the fewest found so far for a cell, or unknown.
 ghost use Rattle.std.specs.Prelude.{◌≡◌, ◌≤◌, unwrap_or};
 ghost use Rattle.drainage.specs.StepCounts.{known, no_count};
 
@@ -8,7 +8,7 @@ use std::marker::Model;
 /// A grid has at most 2^24 cells, and a cell has fewer steps than the grid has cells.
 pub const NO_COUNT: u32 = 1 << 24;
 
-/// The fewest steps found from a cell to one that drains at once, or unknown.
+/// The fewest moves found from a cell to a cell that drains at once, or unknown.
 /// Takes 4 bytes; an `Option<u32>` takes 8.
 #[derive(Clone, Copy, Debug)]
 pub struct StepCount {

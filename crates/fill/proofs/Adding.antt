@@ -1,4 +1,5 @@
--- How `Adds` of a cell's pairs follows from adding its joins in each of four directions.
+-- `Adds` says that the joins of some pairs of cells have been added. If it holds of a cell and each
+-- neighbour E, SE, S and SW, it holds of the cell and all cells after it.
 use Rattle.std.proofs.Common.{◌≡◌, ◌≢◌, ◌==◌, ◌↔◌, Bool, ℕ, zero, suc, ◌+◌, ◌<◌, ◌⊎◌, inl, inr, ℤ, ◌≤ℤ◌, false, true, List, [], ◌∷◌, ◌++◌, length, get_or, set, Option, None, Some, ◌∙◌, sym, ap, subst, refl, arith}
 use Rattle.std.specs.Int.{int_max}
 use Rattle.std.specs.Int.Signed.{≤ℤ_refl}
@@ -193,7 +194,7 @@ same_col p q (suc (suc zero)) few on same = sym (same_Some _ q on)
 same_col p q (suc (suc (suc zero))) few on same = absurd (west_col (p.row + 1) p.col q on same)
 same_col p q (suc (suc (suc (suc way)))) few on same = absurd (omega (arith, few))
 
--- If the join with the cell in a direction, if any, has been added, `Adds` holds of that pair.
+-- If the join of cell p with cell q, if any, has been added, `Adds` holds of that pair.
 pub adds_on_way : (marks : Marks) (out : LeftOutJoins) (p q : Place) (way : ℕ) (wanted : Place →
     Bool) (from : CellMark) (o : Option CellMark) (old new : List Join) → marks p ≡ Some from →
     marks q ≡ o → way < 8 → place_on way p ≡ Some q → wanted q ≡ true → AddsCovered old
@@ -238,7 +239,7 @@ adds_on_way marks out p q way wanted from o old new here there few on want s = r
       (sym m.greater) (cons_head j []))))));
 }
 
--- If the join with the cell in a direction is left out, `Adds` of that pair holds with no change.
+-- If the join of cell p with cell q is left out, `Adds` of that pair holds with no change.
 pub adds_left_out : (marks : Marks) (out : LeftOutJoins) (p q : Place) (way : ℕ)
     (wanted : Place → Bool) (old : List Join) → place_on way p ≡ Some q → IsLeftOut marks out p q →
     Adds marks out (IsPairOn way p wanted) old old

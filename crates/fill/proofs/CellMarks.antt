@@ -1,4 +1,5 @@
--- The marks of cells, and the joins of inner cells of a tile.
+-- A cell's mark is its level and its label, both from the flood of its tile. An inner cell's places
+-- E, SE, S and SW lie in its tile; adding its joins with these four gives `Adds` of the cell.
 use Rattle.std.proofs.Common.{◌≡◌, ◌≢◌, ◌↔◌, ◌⊎◌, Bool, ℕ, ◌+◌, ◌-◌, ◌*◌, ◌<◌, ◌≤◌, inl, inr, ℤ, true, List, length, get_or, Option, None, Some, ◌∙◌, sym, ap, subst, refl, arith}
 use Rattle.std.specs.Prelude.{slice_get, option_and_then, option_map, MatchOption, IfSome}
 use Rattle.std.specs.List.{All}
@@ -316,7 +317,7 @@ inner_row_index b row index above below last =
       mul-le (row - b.top + 2) b.cols b.rows b.cols (omega (arith, above, below)) (omega arith),
     )
 
--- The inner cells of a row up to an index are those before it and the one at it.
+-- The inner cells of a row up to `index` are those before `index` and the one at `index`.
 pub inner_so_far : (b : Bounds) (row start index : ℕ) → b.top ≤ row → row + 1 < b.top + b.rows →
     start < index → index + 1 < start + b.cols → (p : Place) →
     (IsInner b p × (p.row ≡ row) × (p.col + start < b.left + (index + 1)))
@@ -345,7 +346,7 @@ inner_so_far b row start index above below first last p = (
   ],
 )
 
--- The places of a row up to a column are those before it and the one in it.
+-- The places of a row up to column `col` are those before `col` and the one in `col`.
 pub row_so_far : (Inside : Place → Type 0) (row col : ℕ) →
     Inside (record { row = row; col = col }) → (p : Place) →
     (Inside p × (p.row ≡ row) × (p.col < col + 1))
@@ -396,7 +397,8 @@ pub shift_back : (first : ℕ) (o : Option CellMark) (m : CellMark) →
 shift_back first None m e = absurd (cc)
 shift_back first (Some n) m e = (n, refl, same_Some _ m e)
 
--- The mark of a place of a tile is its mark by the tile's flood, shifted by the first number.
+-- A place's mark by number is its mark by index in the tile's table, with the table's first number
+-- added to that index.
 pub among_shift : (c : Cutting) (floods : List Flood) (tile : ℕ) (f : Flood) (p : Place) →
     slice_get floods tile ≡ Some f → tile_of_place c p ≡ tile →
     mark_among c floods p ≡ option_map (shift (first_of floods tile)) (mark_in 0 f p)

@@ -1,4 +1,5 @@
--- Linked lists of arcs over one list of joins.
+-- Each new join is linked to the previous join of each of its two labels. Then the linked list of
+-- each label has just the arcs of all joins from that label.
 use Rattle.std.proofs.Common.{◌≡◌, ◌≢◌, ℕ, zero, suc, ◌+◌, ◌-◌, ◌<◌, ◌≤◌, ◌⊎◌, ◌↔◌, inl, inr, true, false, ℤ, pos, List, [], ◌∷◌, ◌++◌, length, get_or, set, replicate, ◌∙◌, sym, ap, subst, refl, arith}
 use Rattle.std.proofs.lemmas.Bool.{cases_eq, cases_lt, cond-true, cond-false, eq-eqb, ne_eqb}
 use Rattle.std.proofs.lemmas.List.{ext_get_or, length-map, length-set, length_push, length-replicate, get_or-replicate, get_or-set_same, get_or-set_other, get_or_append_left, get_or_push, get_or_default, get_or_past, append-nil, append_assoc}
@@ -23,7 +24,7 @@ chain_less : (link : ℕ → Link) (n at : ℕ) → at ≤ n → chain link (suc
 chain_less link n at low =
     cond-false _ _ _ (ne_eqb at (suc n) (λ same. absurd (omega (arith, low, same))))
 
--- The chain from join `at` is the same without the joins of greater number.
+-- The chain from join `at` is the same without the joins of numbers above `at`.
 chain_upto : (link : ℕ → Link) (n at : ℕ) → at ≤ n → chain link n at ≡ chain link at at
 chain_upto link zero at low =
     let none : at ≡ 0 = omega (arith, low) in

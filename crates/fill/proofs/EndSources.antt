@@ -1,4 +1,5 @@
--- The labels that are end cells are the sources of the spill graph.
+-- The heights of all labels that are end cells are written into one list, tile by tile. Then that
+-- list has just the sources of the spill graph.
 use Rattle.std.proofs.Common.{◌≡◌, ℕ, ◌+◌, ◌*◌, ◌<◌, ◌≤◌, ◌⊎◌, inl, inr, ℤ, List, length, get_or, set, replicate, Option, None, Some, IsSome, IfSome, is_some, ◌∙◌, sym, ap, subst, refl, arith}
 use Rattle.std.specs.Prelude.{slice_get}
 use Rattle.std.proofs.lemmas.Bool.{cases_eq, cases_lt}
@@ -107,8 +108,8 @@ put_length cols (Some p) (Some h) heights = length-set heights (index_of cols p)
 abbrev IsEndNode : Terrain → Cutting → ℕ → ℤ → Type 0
 IsEndNode t c a h = (p : Place) × (index_of c.cols p ≡ a) × IsEnd t p × (height_at t p ≡ Some h)
 
--- Each height is an end cell's. Each label of the first `count` tiles that is an end cell has its
--- height, at its node.
+-- Each entry of `heights` is None or the height of an end cell. Each label of the first `count`
+-- tiles that is an end cell has its height at its node.
 pub record HaveEnds (t : Terrain) (c : Cutting) (floods : List Flood) (count : ℕ)
     (heights : List (Option ℤ)) : Type 0 where
   pub size : length heights ≡ c.cols * c.rows

@@ -1,4 +1,5 @@
--- The number of the first entry of each tile's table; all numbers of entries fit in 32 bits.
+-- Numbers count the entries of all tiles' tables of labels, tile by tile, and fit in 32 bits. The
+-- number of each table's first entry is found tile by tile.
 use Rattle.std.proofs.Common.{◌≡◌, ℕ, ◌+◌, ◌-◌, ◌*◌, ◌<◌, ◌≤◌, inl, inr, List, [], ◌∷◌, ◌++◌, length, get_or, take, None, Some, ◌∙◌, sym, ap, subst, refl, arith}
 use Rattle.std.proofs.Math.Nat.{mul-mul-mul_comm}
 use Rattle.std.proofs.lemmas.Nat.{mul-le}

@@ -1,4 +1,5 @@
--- The gathered joins are those of the spill graph, by number and by place.
+-- The joins gathered from all tiles are those of the spill graph, both with labels given by number
+-- and with labels given by place.
 use Rattle.std.proofs.Common.{◌≡◌, ◌≢◌, ℕ, ◌*◌, ◌<◌, ◌⊎◌, inl, inr, ◌&&◌, true, false, Bool, ℤ, ◌≤ℤ◌, List, [], length, get_or, Option, None, Some, is_some, ◌∙◌, sym, ap, subst, refl, arith}
 use Rattle.std.specs.Prelude.{slice_get}
 use Rattle.std.specs.List.{All, Contains}
@@ -39,7 +40,7 @@ and_turned true false = refl
 and_turned false true = refl
 and_turned false false = refl
 
--- Joins in order have each pair of labels at most once.
+-- A list of joins in the order of their labels has each pair of labels at most once.
 one_join : (joins : List Join) → AreRising joins → (j k : Join) → Contains joins j →
     Contains joins k → j.from ≡ k.from → j.to ≡ k.to → j ≡ k
 one_join joins rise j k a b e f = elim (cases_order a.0 b.0) [

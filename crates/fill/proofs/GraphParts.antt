@@ -1,4 +1,5 @@
--- Joins in the order of their labels, as a net.
+-- In a list of joins in the order of their labels, the joins from one node stand together. They
+-- give the node's arcs in the spill graph.
 use Rattle.std.proofs.Common.{◌≡◌, ℕ, ◌+◌, ◌<◌, inl, inr, List, length, get_or, sym, ap, subst, ◌∙◌, arith, ◌≢◌, ◌-◌, ◌≤◌, map, take, drop, length-drop}
 use Rattle.std.specs.List.{Contains}
 use Rattle.std.proofs.lemmas.Bool.{cases_eq, cases_lt}

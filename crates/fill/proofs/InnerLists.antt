@@ -1,4 +1,5 @@
--- The joins inside the tiles, tile by tile.
+-- The lists of joins inside each tile, as the jobs return them with the tiles' floods, and as one
+-- thread collects them tile by tile.
 use Rattle.std.proofs.Common.{◌≡◌, ℕ, ◌+◌, ◌<◌, inl, inr, false, true, List, [], ◌∷◌, ◌++◌, length, get_or, map, Some, ◌∙◌, sym, ap, subst, arith, Vec, Global}
 use Rattle.std.specs.Prelude.{slice_get}
 use Rattle.std.proofs.lemmas.Bool.{cases_eq}

@@ -1,4 +1,5 @@
--- The spill graph by numbers: the arcs of its joins, and the least crests of its flood.
+-- The spill graph with labels given by number: its arcs are those of the joins. A flood from the
+-- sources that have arcs gives the least crest of each label.
 use Rattle.std.proofs.Common.{◌≡◌, ℕ, zero, suc, ◌+◌, ◌<◌, ◌⊎◌, ◌↔◌, inl, inr, true, false, ℤ, pos, ◌≤ℤ◌, List, [], ◌∷◌, ◌++◌, length, get_or, replicate, Option, None, Some, is_some, unwrap_or, ◌∙◌, sym, ap, subst, refl, arith}
 use Rattle.std.specs.Prelude.{IsSome, MatchOption}
 use Rattle.std.specs.Int.{int_max}
@@ -116,7 +117,7 @@ leads_back joins arcs has a b h there =
       back = back;
     }
 
--- The arcs from a label are its joins in the net.
+-- The list of arcs from label a has just those of `HasArc`.
 pub just_arcs : (g : NumberNet) (a : ℕ) → IsNumberNet g →
     HasJust (HasArc g.arcs a) (get_or g.arcs a [])
 just_arcs g a net = record {
@@ -140,7 +141,8 @@ levels_or-at (x ∷ xs) (y ∷ ys) zero low same = refl
 levels_or-at (x ∷ xs) (y ∷ ys) (suc a) low same =
     levels_or-at xs ys a (omega (arith, low)) (omega (arith, same))
 
--- `levels_or` turns the least crests by joined sources into those by all sources.
+-- A joined source is one that has an arc. Where a label has no least crest by joined sources,
+-- `levels_or` takes its height as a source: that gives the least crests by all sources.
 module _ (arcs : List (List Spill)) (sources : List (Option ℤ)) where
   some_has : (a b : ℕ) (h : ℤ) → HasArc arcs a b h → has_arcs arcs a ≡ true
   some_has a b h arc = by (get_or arcs a []) arc.there where

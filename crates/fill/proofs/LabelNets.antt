@@ -162,7 +162,8 @@ last_low t p [] = ≤ℤ_refl (height_of t p)
 last_low t p (q ∷ rest) =
     trans _ _ _ (last_low t q rest) (max_right (height_of t p) (crest t q rest))
 
--- Two neighbouring cells have these numbers, and the greater of their levels is this height.
+-- Two neighbouring cells have labels of numbers `a` and `b`. The greater of their levels is
+-- `height`.
 pub record AreMeeting (t : Terrain) (c : Cutting) (floods : List Flood) (number : Place → Option ℕ)
     (a b : ℕ) (height : ℤ) : Type 0 where
   pub from : Place
@@ -193,9 +194,10 @@ pub record LeadsRound (t : Terrain) (c : Cutting) (floods : List Flood) (p q : P
   pub bent_row : p.row ≢ q.row
   pub bent_col : p.col ≢ q.col
 
--- The nodes of a net are numbers of labels. Different labels of neighbouring cells are joined no
--- higher than the cells meet, unless both are sources or a third cell bypasses the cells. Each join
--- is one of cells that meet, and the sources are the labels that are end cells.
+-- The nodes of a net are numbers of labels. Different labels of two neighbouring cells have a join
+-- no higher than the greater of the cells' levels. The exceptions are labels that are both sources,
+-- and cells that a third cell bypasses. Each join is that of two neighbouring cells, and the
+-- sources are the labels that are end cells.
 pub record IsLabelNet (t : Terrain) (c : Cutting) (floods : List Flood) (number : Place → Option ℕ)
     (joins : Joins) (source : Sources) : Type 0 where
   pub some : (p : Place) → IsDataCell t p → (a : ℕ) × (number p ≡ Some a)

@@ -1,4 +1,5 @@
--- The lowest join of each pair of labels.
+-- In a list of joins sorted by labels and then by height, the first join of each pair of labels is
+-- its lowest.
 use Rattle.terrain.proofs.Orders.{trans}
 use Rattle.std.proofs.Common.{◌≡◌, ℕ, ◌+◌, ◌-◌, ◌<◌, ◌≤◌, ◌⊎◌, inl, inr, ◌≤ℤ◌, false, List, [], ◌∷◌, ◌++◌, length, get_or, ◌∙◌, sym, ap, subst, refl, arith}
 use Rattle.std.specs.Ordering.{nat_cmp, int_cmp, ordering_then, is_lt}
@@ -90,7 +91,7 @@ kept_same joins i lowest order below s repeat = record {
   height_up x y (inr (g, inl a)) e f = absurd (omega (arith, a, f))
   height_up x y (inr (g, inr a)) e f = a.1
 
--- If join i is no repeat, it is kept too.
+-- If join i does not have the labels of the join before it, join i is kept too.
 pub kept_more : (joins : List Join) (i : ℕ) (x : Join) (lowest : List Join) → AreOrdered joins →
     i < length joins → x ≡ get_or joins i x → HasKept joins i lowest → (IsRepeat joins i → ⊥) →
     HasKept joins (i + 1) (lowest ++ x ∷ [])

@@ -1,4 +1,5 @@
--- The labels of all tiles by number: their places, and the heights of end cells.
+-- In lists over all tiles, a label's number finds its place and, if it is an end cell, its height.
+-- So the spill graph with labels given by number is an `IsLabelNet`.
 use Rattle.std.proofs.Common.{◌≡◌, ℕ, zero, suc, ◌+◌, ◌*◌, ◌<◌, ◌≤◌, ◌≤ℤ◌, ◌⊎◌, inl, inr, ℤ, List, [], ◌∷◌, length, get_or, take, Option, None, Some, ◌∙◌, sym, ap, subst, refl, arith}
 use Rattle.std.specs.Prelude.{slice_get, option_map}
 use Rattle.std.specs.List.{flat_map}
@@ -103,7 +104,8 @@ fit_of t c floods are = record {
 abbrev pub AreLawful : List Flood → Type 0
 AreLawful floods = (tile : ℕ) (f : Flood) → slice_get floods tile ≡ Some f → IsFlood f
 
--- The mark has the cell's level and the number of its label, entry `entry` of its tile's table.
+-- Mark m has the level of cell p and the number of its label. In the table of the cell's tile, the
+-- label is entry `entry`.
 pub record IsNumbered (c : Cutting) (floods : List Flood) (p : Place) (m : CellMark) : Type 0 where
   pub flood : Flood
   pub entry : ℕ

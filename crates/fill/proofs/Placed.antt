@@ -1,4 +1,5 @@
--- Joins by the places of their labels.
+-- `AddsPlaced` says that joins have been added by the places of their labels. It holds of no join
+-- and of one; and of two lists in turn, if it holds of each.
 use Rattle.std.proofs.Common.{◌≡◌, ◌≢◌, ℕ, inl, inr, ◌⊎◌, List, [], ◌∷◌, ◌++◌, Some, ◌∙◌, sym, ap, subst}
 use Rattle.std.specs.List.{Contains}
 use Rattle.std.specs.Option.{option_to_list}

@@ -1,4 +1,5 @@
--- Raised tiles have the filled heights, and together give the filled grid.
+-- A cell's raised height is the greater of its level and its label's least crest. It is the cell's
+-- filled height, and all tiles together give the filled grid.
 use Rattle.std.proofs.Common.{◌≡◌, ℕ, ◌+◌, ◌*◌, ◌<◌, ◌≤◌, ◌⊎◌, inl, inr, ℤ, List, [], ◌∷◌, ◌++◌, length, get_or, map, Option, None, Some, is_some, ◌∙◌, sym, ap, subst, refl, arith, zero, suc, ◌/◌, ◌%◌, IfSome, MatchOption, mul_comm, pos}
 use Rattle.std.specs.Prelude.{slice_get, option_and_then, option_map}
 use Rattle.std.specs.Int.{int_max}
@@ -70,7 +71,7 @@ pub all_entries : (entry : ℕ → Option ℤ) (i count : ℕ) (list : List (Opt
 all_entries entry i count list below past s =
     subst (λ n. AreEntries entry n list) (omega (arith, below, past)) s
 
--- To make a height None where there is no label does not change the raised height.
+-- The raised height does not change, if the level is made None where there is no label.
 raised_where : (c : Cutting) (levels : List (Option ℤ)) (height : ℤ) (label : Option Place) →
     greater_of (Some height) (spill_of c levels label)
     ≡ raised_by c levels (option_map (λ _. height) label) label
@@ -257,7 +258,7 @@ raised_tile c floods tile f levels raised h fit there is =
           ∙ raised_here c floods tile k f levels p h fit there i refl,
     )
 
--- `AreRaisedCells` of a tile are the raised heights of its places, as cells.
+-- If `AreRaisedCells` holds of a tile, `cells` has the raised heights of the tile's places.
 pub raised_cells : (c : Cutting) (floods : List Flood) (tile : ℕ) (f : Flood)
     (levels cells : List (Option ℤ)) → IsCutting c → Fit c floods → slice_get floods tile ≡ Some f
     → AreRaisedCells (first_of floods tile) f levels cells
@@ -352,7 +353,8 @@ place_net t c floods g are graph = record {
       let x = from_option (label_among c floods p) a e in
       (x.0, x.1, x.2, label_inside t c floods p x.0 are x.1)
 
--- A place gets its filled height, None without data, if `spill` raises its level to that.
+-- If the greater of a data cell's level and `spill` is its filled height, the place gets that
+-- height. A place without data gets None.
 raised_filled : (t : Terrain) (c : Cutting) (floods : List Flood) (p : Place) →
     AreFloods t c floods → IsWithin c p → (spill : Option ℤ)
     → ((l : HasTileLevel t c floods p) → IsDataCell t p → (n : ℤ) × (spill ≡ Some n)
@@ -407,7 +409,8 @@ fits_in_cell : (t : Terrain) (p : Place) (level : ℤ) → IsTerrain t → IsFil
 fits_in_cell t p level lawful filled = stored_some level (All-contains (λ c. IfSome c IsHeight)
     t.cells (Some level) lawful.heights (filled_height_occurs t p level filled)).1
 
--- By the least crests of labels by number, a place gets its filled height, None without data.
+-- If `levels` has the least crests of labels by number, the raised height of a place is its filled
+-- height, None without data.
 filled_cell : (t : Terrain) (c : Cutting) (floods : List Flood) (arcs : List (List Spill))
     (sources levels : List (Option ℤ)) → IsTerrain t → AreFloods t c floods → AreLawful floods →
     IsNumberGraph t c floods arcs sources → AreNumberLevels arcs sources levels → (p : Place) →

@@ -1,4 +1,5 @@
--- The joins inside a tile, with the number of the first entry of its table added to their labels.
+-- The joins inside a tile give labels by index in the tile's table. With the number of the table's
+-- first entry added to each index, they are the joins of the tile's pairs of cells by number.
 use Rattle.std.proofs.Common.{◌≡◌, ℕ, ◌+◌, ◌<◌, ◌≤◌, ◌⊎◌, ◌&&◌, inl, inr, Bool, ℤ, List, ◌++◌, length, get_or, map, Option, None, Some, is_some, ◌∙◌, sym, ap, subst, arith}
 use Rattle.std.specs.Prelude.{slice_get, option_map}
 use Rattle.std.specs.List.{All, Contains}

@@ -1,5 +1,6 @@
--- The arcs of each label, as linked lists over one list of joins. For each label of a join,
--- `previous` has the number of the previous join with it. Numbers count from 1, and 0 is none.
+-- The arcs from each label, by linked lists over one list of joins. A join gives an arc from each
+-- of its labels. `lasts` has the last join of each label. `previous` has, for both labels of each
+-- join, the previous join with that label. Joins are numbered from 1, and 0 is none.
 -- Private.
 use Rattle.std.specs.Prelude.{ℕ, zero, suc, ◌≤◌, ◌<◌, ◌==◌, if◌then◌else◌, Bool, true, false, pos, List, [], ◌∷◌, map, length, slice_index_or}
 use Rattle.std.specs.List.{range_with_len}
@@ -9,7 +10,7 @@ use Rattle.fill.specs.declared.spills.Join.{Join}
 use Rattle.fill.specs.declared.arcs.PreviousJoins.{PreviousJoins}
 use Rattle.fill.specs.declared.arcs.Link.{Link}
 
--- The arc of a join from one of its labels, and the previous join with that label.
+-- The arc of join `j` from `label`, one of its labels, and the previous join with that label.
 abbrev pub link_from : ℕ → Join → PreviousJoins → Link
 link_from label j b =
     if j.from == label then record { arc = arc_of j; before = b.from }
@@ -21,14 +22,15 @@ link_at joins previous label i =
     link_from label (slice_index_or joins i (record { from = 0; to = 0; height = pos 0 }))
     (slice_index_or previous i (record { from = 0; to = 0 }))
 
--- The arcs of a label's list from join `at` on; none if `at` is 0 or above the count.
+-- The arcs of a label's joins, from join `at` back to the label's first. No arcs if `at` is 0, or
+-- above `count`, the number of the last join.
 abbrev pub chain : (ℕ → Link) → ℕ → ℕ → List Spill
 chain link zero at = []
 chain link (suc count) at =
     if at == suc count then (link count).arc ∷ chain link count (link count).before
     else chain link count at
 
--- The arcs from each label.
+-- The arcs from each label, those of later joins first.
 abbrev pub arcs_by : List ℕ → List Join → List PreviousJoins → List (List Spill)
 arcs_by lasts joins previous =
     map (λ label. chain (link_at joins previous label) (length previous)

@@ -6,13 +6,13 @@ use Rattle.terrain.specs.declared.place.Place.{Place}
 use Rattle.tiles.specs.Cutting.{Cutting, IsWithin}
 use Rattle.cell_floods.specs.TileFlood.{Flood}
 
--- The list with a height written at the node of a place, unchanged if either is None.
+-- The list with height `h` written at the node of place `p`; unchanged if either is None.
 abbrev pub put_end : ℕ → Option Place → Option ℤ → List (Option ℤ) → List (Option ℤ)
 put_end cols (Some p) (Some h) heights = set heights (index_of cols p) (Some h)
 put_end cols (Some p) None heights = heights
 put_end cols None end heights = heights
 
--- A label of the flood that is an end cell has this node and this height.
+-- A label of the flood that is an end cell has node `a`, and its height is `height`.
 pub record IsEndAt (c : Cutting) (f : Flood) (a : ℕ) (height : Option ℤ) : Type 0 where
   pub entry : ℕ
   pub place : Place

@@ -1,4 +1,5 @@
--- The joins of a spill graph, as collected from the floods of the tiles.
+-- The joins of a spill graph, as collected from the floods of the tiles. A tile's flood has the
+-- level and the label of each cell, and a table that lists the tile's labels.
 -- Public.
 use Rattle.std.specs.Prelude.{◌≡◌, ◌≢◌, ℕ, ◌+◌, ◌-◌, ◌*◌, ◌/◌, ◌%◌, ◌<◌, ◌≤◌, ◌⊎◌, ◌==◌, ◌&&◌, true, false, if◌then◌else◌, is_some, Bool, ℤ, ◌≤ℤ◌, List, [], ◌∷◌, length, Option, None, Some, slice_get, slice_index_or, option_and_then, Vec}
 use Rattle.std.specs.declared.alloc.Global.{Global}
@@ -15,7 +16,7 @@ use Rattle.fill.specs.declared.spills.Join.{Join}
 use Rattle.fill.specs.declared.marks.CellMark.{CellMark}
 use Rattle.floods.specs.declared.net.Spill.{Spill}
 
--- The labels are places of the grid.
+-- The labels of the flood are places of the grid.
 abbrev pub LabelsInside : Cutting → Flood → Type 0
 LabelsInside c f =
     (i : ℕ) (label : Place) → slice_index_or f.labels i None ≡ Some label → IsWithin c label
@@ -35,7 +36,7 @@ mark_of node (Some level) (Some label) = Some (record { level = level; node = no
 mark_of node (Some level) None = None
 mark_of node None label = None
 
--- The mark of the cell at an index of a tile. The tile's table begins at number `first`.
+-- The mark of the cell at an index of a tile. The tile's table of labels begins at number `first`.
 abbrev pub mark_with : ℕ → Flood → ℕ → Option CellMark
 mark_with first f index = mark_of (first + slice_index_or f.table.indexes index 0)
     (slice_index_or f.levels index None) (slice_index_or f.labels index None)
@@ -50,7 +51,7 @@ abbrev pub mark_among : Cutting → List Flood → Place → Option CellMark
 mark_among c floods p = option_and_then (λ f. mark_in (first_of floods (tile_of_place c p)) f p)
     (slice_get floods (tile_of_place c p))
 
--- A function from a place to its mark, None if it has none.
+-- A function that gives each place its mark, or None if the place has no mark.
 abbrev pub Marks : Type 0
 Marks = Place → Option CellMark
 
@@ -64,8 +65,9 @@ pub record LeftOutJoins : Type 0 where
 abbrev pub IsBetween : Place → Place → Place → Type 0
 IsBetween p q r = ((r.row ≡ q.row) × (r.col ≡ p.col)) ⊎ ((r.row ≡ p.row) × (r.col ≡ q.col))
 
--- The second cell is in the row after the first, in another column. A cell between has at most the
--- greater of their levels, so its joins with both are as low as the join of the two.
+-- Cell `q` is in the row after that of `p`, in another column. The level of a cell between the two
+-- is at most the greater of their levels. So the joins of `p` and of `q` with that cell are no
+-- higher than the join of `p` and `q`.
 pub record IsBypassed (marks : Marks) (p q : Place) : Type 0 where
   pub middle : Place
   pub from : CellMark
@@ -79,13 +81,13 @@ pub record IsBypassed (marks : Marks) (p q : Place) : Type 0 where
   pub aside : p.col ≢ q.col
   pub low : between.level ≤ℤ int_max from.level to.level
 
--- Both labels have heights in this list of sources.
+-- Both labels `a` and `b` have heights in `sources`, the heights of labels that are end cells.
 abbrev pub are_both_sources : List (Option ℤ) → ℕ → ℕ → Bool
 are_both_sources sources a b =
     is_some (slice_index_or sources a None) && is_some (slice_index_or sources b None)
 
--- Two cells that touch have the two labels of the join, which differ and are not both sources. The
--- height of the join is the greater of the levels of the cells.
+-- Cells `p` and `q`, which touch, have the labels of join `j`. The labels differ, and do not both
+-- have heights in `out.sources`. The height of `j` is the greater of the levels of the cells.
 pub record Meets (marks : Marks) (out : LeftOutJoins) (p q : Place) (j : Join) : Type 0 where
   pub touches : Touches p q
   pub from_level : ℤ
@@ -96,7 +98,7 @@ pub record Meets (marks : Marks) (out : LeftOutJoins) (p q : Place) (j : Join) :
   pub apart : are_both_sources out.sources j.from j.to ≡ false
   pub greater : int_max from_level to_level ≡ j.height
 
--- The join is that of two cells which are one of these pairs of places.
+-- The join is that of two cells whose places are one of `pairs`.
 abbrev pub IsMeetingAt : Marks → LeftOutJoins → (Place → Place → Type 0) → Join → Type 0
 IsMeetingAt marks out pairs j = (p q : Place) × pairs p q × Meets marks out p q j
 
@@ -104,7 +106,8 @@ IsMeetingAt marks out pairs j = (p q : Place) × pairs p q × Meets marks out p 
 abbrev pub IsLeftOut : Marks → LeftOutJoins → Place → Place → Type 0
 IsLeftOut marks out p q = (out.bypassed ≡ true) × IsBypassed marks p q
 
--- The join of two marks; none if the second is None, or the labels are equal or both sources.
+-- The join of two cells by their marks. None if `to` is None, the labels are equal, or both labels
+-- have heights in `sources`.
 abbrev pub joins_of : List (Option ℤ) → CellMark → Option CellMark → List Join
 joins_of sources from None = []
 joins_of sources from (Some to) =
@@ -117,7 +120,8 @@ abbrev pub Covered : List Join → Join → Type 0
 Covered joins j =
     (k : Join) × Contains joins k × (k.from ≡ j.from) × (k.to ≡ j.to) × (k.height ≤ℤ j.height)
 
--- Joins have been added. Each old or added join is covered, and no other join is listed.
+-- The joins `added` have been added. Each old or added join is covered by a join of `new`, and each
+-- join of `new` is an old or added one.
 pub record AddsCovered (old added new : List Join) : Type 0 where
   pub kept : (j : Join) → Contains old j → Covered new j
   pub only : (j : Join) → Contains new j → Contains old j ⊎ Contains added j
@@ -136,23 +140,25 @@ IsOuterOfRow b row p = IsInBounds b p × (p.row ≡ row) × (IsInner b p → ⊥
 abbrev pub cells_after : ℕ → ℕ → List ℕ
 cells_after width i = (i + 1) ∷ (i + width + 1) ∷ (i + width) ∷ (i + width - 1) ∷ []
 
--- The entry of a place equals those of the places E, SE, S and SW of it.
+-- The entry at index `i` equals those of the places E, SE, S and SW of it, in rows of this width.
 abbrev pub AreEqualAfter : List ℕ → ℕ → ℕ → Type 0
 AreEqualAfter xs i width =
     All (λ k. slice_index_or xs k 0 ≡ slice_index_or xs i 0) (cells_after width i)
 
--- Bypassed joins are left out, and the middle mark's level is at most the greater of the other two.
+-- Bypassed joins are left out, and the level of mark `between` is at most the greater of the levels
+-- of marks `from` and `to`.
 abbrev pub IsLowBetween : LeftOutJoins → CellMark → Option CellMark → Option CellMark → Type 0
 IsLowBetween out from between to =
     (out.bypassed ≡ true) × (third end : CellMark) × (between ≡ Some third) × (to ≡ Some end)
     × (third.level ≤ℤ int_max from.level end.level)
 
--- The join of a cell with the cell at an index has been added, if the two have a join.
+-- The join of the cell of mark `from` with the cell at index `near` has been added, if any.
 abbrev pub AddsNear : Flood → LeftOutJoins → CellMark → ℕ → List Join → List Join → Type 0
 AddsNear f out from near old new =
     AddsCovered old (joins_of out.sources from (mark_with 0 f near)) new
 
--- The diagonal join, if any, has been added; or none has, as the cell below or beside bypasses it.
+-- As `AddsNear`, but for two cells that touch at a corner. Or no join has been added, since the
+-- cell at index `below` or the cell at index `beside` bypasses the join.
 abbrev pub AddsCorner : Flood → LeftOutJoins → CellMark → ℕ → ℕ → ℕ → List Join → List Join →
     Type 0
 AddsCorner f out from below beside near old new =
@@ -160,7 +166,8 @@ AddsCorner f out from below beside near old new =
     ⊎ IsLowBetween out from (mark_with 0 f beside) (mark_with 0 f near)) × (new ≡ old))
     ⊎ AddsNear f out from near old new
 
--- The joins of a cell with its neighbours after it have been added, except bypassed ones.
+-- The joins of a cell with its neighbours after it have been added, except bypassed ones. The cell
+-- has index `i` and mark `from`.
 pub record AddsAfter (f : Flood) (out : LeftOutJoins) (from : CellMark) (i width : ℕ)
     (old new : List Join) : Type 0 where
   pub after_first : List Join
@@ -176,11 +183,11 @@ pub record AddsAfter (f : Flood) (out : LeftOutJoins) (from : CellMark) (i width
 abbrev pub IsAfter : Place → Place → Type 0
 IsAfter p q = (p.row < q.row) ⊎ ((p.row ≡ q.row) × (p.col < q.col))
 
--- The first place is `p`, and the second is wanted and lies in this direction from it.
+-- Place `q` is `p`, and place `r` is wanted and lies in direction `way` from `p`.
 abbrev pub IsPairOn : ℕ → Place → (Place → Bool) → Place → Place → Type 0
 IsPairOn way p wanted q r = (q ≡ p) × (place_on way p ≡ Some r) × (wanted r ≡ true)
 
--- The first place is `p`, and the second is wanted.
+-- Place `q` is `p`, and place `r` is wanted.
 abbrev pub IsPairFrom : Place → (Place → Bool) → Place → Place → Type 0
 IsPairFrom p wanted q r = (q ≡ p) × (wanted r ≡ true)
 
@@ -197,9 +204,9 @@ IsTileBelow c b below = b.top + b.rows < c.rows →
 abbrev pub IsTileWithRow : Cutting → ℕ → ℕ → ℕ → Type 0
 IsTileWithRow c tile row other = other ≡ row / c.side * across c + tile % across c
 
--- The joins of these pairs of places, the first before the second in row order, have been added,
--- except those left out. Joins of the same labels may have been merged. No join of other pairs has
--- been added.
+-- The joins of those `pairs` of places whose first is before the second in row order have been
+-- added, except those left out. Joins of the same labels may have been merged into the lowest. No
+-- join of other pairs has been added.
 pub record Adds (marks : Marks) (out : LeftOutJoins) (pairs : Place → Place → Type 0)
     (old new : List Join) : Type 0 where
   pub kept : (j : Join) → Contains old j → Covered new j
@@ -235,12 +242,14 @@ pub record AreGathered (c : Cutting) (floods : List Flood) (out : LeftOutJoins)
       Meets (mark_among c floods) out p q j →
       IsLeftOut (mark_among c floods) out p q ⊎ Covered joins j
 
--- The joins left out over all tiles: if `spare`, two kinds that lower no filled height, else none.
+-- The joins left out over all tiles: if `spare`, joins of two end cells and bypassed joins, which
+-- lower no filled height; else none.
 abbrev pub left_out_of : Bool → List Flood → LeftOutJoins
 left_out_of spare floods =
     record { sources = if spare then ends_of floods else []; bypassed = spare }
 
--- The joins left out inside a tile: if `spare`, two kinds that lower no filled height, else none.
+-- The joins left out inside a tile: if `spare`, joins of two end cells and bypassed joins, which
+-- lower no filled height; else none.
 abbrev pub left_out_in : Bool → Flood → LeftOutJoins
 left_out_in spare f = record { sources = if spare then f.ends else []; bypassed = spare }
 
@@ -256,7 +265,7 @@ pub record AreInner (floods : List Flood) (spare : Bool)
   pub each : (tile : ℕ) (f : Flood) (joins : Vec Join Global) → slice_get floods tile ≡ Some f →
       slice_get inner tile ≡ Some joins → IsInnerOf spare f joins.items
 
--- The join with `first` added to its labels.
+-- The join with `first` added to the indexes of its labels, which makes them numbers.
 abbrev pub shifted : ℕ → Join → Join
 shifted first j = record { from = first + j.from; to = first + j.to; height = j.height }
 

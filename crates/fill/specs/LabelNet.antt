@@ -1,5 +1,6 @@
--- The spill graph by the numbers of its labels. A walk leads from a label along arcs to a source.
--- Its crest is the greatest height of arcs and source.
+-- The spill graph, with labels given by number. A join is two arcs, one from each of its labels. A
+-- source is a label that is an end cell. A walk leads from a label along arcs to a source. The
+-- crest of a walk is the greatest height of its arcs and its source.
 -- Private.
 use Rattle.std.specs.Prelude.{◌≡◌, ◌≢◌, ℕ, ◌<◌, ◌≤◌, ◌⊎◌, ◌↔◌, ℤ, ◌≤ℤ◌, List, [], ◌∷◌, length, Option, None, Some, IsSome, if◌then◌else◌, slice_index_or}
 use Rattle.std.specs.Int.{int_max}
@@ -17,7 +18,7 @@ use Rattle.fill.specs.Numbers.{places_of, ends_of}
 use Rattle.fill.specs.Arcs.{has_arcs}
 use Rattle.fill.specs.declared.spills.Join.{Join}
 
--- An arc leads from one label to another at this height, and one leads back.
+-- An arc of this height leads from label `a` to label `b`, and one leads back.
 pub record HasArc (arcs : List (List Spill)) (a b : ℕ) (height : ℤ) : Type 0 where
   pub from_node : a < length arcs
   pub to_node : b < length arcs
@@ -36,7 +37,7 @@ pub record IsNumberNet (g : NumberNet) : Type 0 where
   pub back : (a b : ℕ) (h : ℤ) → Contains (slice_index_or g.arcs a [])
       (record { to = b; height = h }) → HasArc g.arcs a b h
 
--- A join of this height has these labels, in either order.
+-- A join of this height has labels `a` and `b`, in either order.
 abbrev pub IsJoinOf : List Join → ℕ → ℕ → ℤ → Type 0
 IsJoinOf joins a b h = Contains joins (record { from = a; to = b; height = h })
     ⊎ Contains joins (record { from = b; to = a; height = h })
@@ -72,7 +73,7 @@ levels_or (height ∷ heights) [] = []
 levels_or (height ∷ heights) (source ∷ sources) =
     option_or height source ∷ levels_or heights sources
 
--- Two neighbouring cells have labels of these numbers; the greater of their levels is this height.
+-- Two neighbouring cells have labels `a` and `b`, and the greater of their levels is `height`.
 pub record IsNumberPass (t : Terrain) (c : Cutting) (floods : List Flood) (a b : ℕ)
     (height : ℤ) : Type 0 where
   pub from : Place

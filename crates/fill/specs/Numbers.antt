@@ -1,4 +1,5 @@
--- The labels of all tiles by number: the entries of their tables, counted tile by tile.
+-- The numbers of labels over all tiles. A tile's table lists its labels, after an entry for none.
+-- Numbers count the entries of all tables, tile by tile.
 -- Private.
 use Rattle.std.specs.Prelude.{◌≡◌, ℕ, ◌+◌, ◌<◌, ◌≤◌, ℤ, List, map, take, length, Option, None, Some, slice_get, slice_index_or}
 use Rattle.std.specs.List.{flat_map}
@@ -27,7 +28,7 @@ pub record AreFirsts (floods : List Flood) (firsts : List ℕ) : Type 0 where
   pub whole : length (places_of floods) ≤ 4294967295
   pub lawful : (tile : ℕ) (f : Flood) → slice_get floods tile ≡ Some f → IsFlood f
 
--- The node of the place of a label, and 0 for None.
+-- The node of a label's place, its index in row order of the grid; 0 for None.
 abbrev pub node_of_label : ℕ → Option Place → ℕ
 node_of_label cols (Some p) = index_of cols p
 node_of_label cols None = 0

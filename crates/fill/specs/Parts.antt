@@ -1,4 +1,5 @@
--- The joins of the spill graph by places.
+-- The spill graph as a list of joins in order, with each label given by its node. A node is a
+-- place's index in row order of the grid.
 -- Public.
 use Rattle.std.specs.Prelude.{◌≡◌, ℕ, ◌*◌, ◌<◌, ◌≤◌, ℤ, List, length, Option, slice_index_or}
 use Rattle.std.specs.List.{Contains, All}
@@ -7,7 +8,7 @@ use Rattle.fill.specs.Gathering.{AreRising, turned}
 use Rattle.fill.specs.Spills.{Graph}
 use Rattle.fill.specs.declared.spills.Join.{Join}
 
--- The joins that begin at nodes before this one are those before index `start`.
+-- The joins from nodes before `node` are those before index `start`.
 pub record BeginAt (joins : List Join) (node start : ℕ) : Type 0 where
   pub few : start ≤ length joins
   pub below : (k : ℕ) (d : Join) → k < start → (slice_index_or joins k d).from < node

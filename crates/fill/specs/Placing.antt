@@ -1,11 +1,12 @@
--- Joins of labels by number, as joins of places.
+-- Joins with labels given by number become joins with labels given by node. A node is a place's
+-- index in row order of the grid. `nodes` has the node of each number's label.
 -- Private.
 use Rattle.std.specs.Prelude.{◌≡◌, ◌≢◌, ℕ, ◌==◌, if◌then◌else◌, ◌⊎◌, List, [], ◌∷◌, slice_index_or}
 use Rattle.std.specs.List.{Contains}
 use Rattle.fill.specs.Gathering.{turned}
 use Rattle.fill.specs.declared.spills.Join.{Join}
 
--- The join of two labels, with the nodes of their places for their numbers.
+-- Join `j` with nodes for the numbers of its labels.
 abbrev pub join_at : List ℕ → Join → Join
 join_at nodes j = record {
   from = slice_index_or nodes j.from 0;
@@ -13,18 +14,19 @@ join_at nodes j = record {
   height = j.height;
 }
 
--- The join of the places of two labels, unless they are one place.
+-- Join `j` with nodes for numbers, or no join if both nodes are the same.
 abbrev pub placed_joins_of : List ℕ → Join → List Join
 placed_joins_of nodes j =
     if (join_at nodes j).from == (join_at nodes j).to then [] else join_at nodes j ∷ []
 
--- The join is one of these by the places of its labels, which differ, in either direction.
+-- Join `j` is one of `joins` with nodes for numbers, in either direction, and its nodes differ.
 abbrev pub IsPlacedOf : List ℕ → List Join → Join → Type 0
 IsPlacedOf nodes joins j = (k : Join) × Contains joins k
     × ((join_at nodes k).from ≢ (join_at nodes k).to)
     × ((j ≡ join_at nodes k) ⊎ (j ≡ turned (join_at nodes k)))
 
--- Those of these joins whose labels differ in place have been added, by place, in both directions.
+-- The joins of `joins` whose nodes differ have been added, with nodes for numbers, in both
+-- directions.
 pub record AddsPlaced (nodes : List ℕ) (joins old new : List Join) : Type 0 where
   pub kept : (j : Join) → Contains old j → Contains new j
   pub only : (j : Join) → Contains new j → Contains old j ⊎ IsPlacedOf nodes joins j

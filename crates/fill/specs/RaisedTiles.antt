@@ -1,4 +1,5 @@
--- Tiles whose cells are raised to the greater of their level and their label's least crest.
+-- Tiles whose cells are raised: each gets the greater of its level and the least crest of its label
+-- in the spill graph.
 -- Private.
 use Rattle.std.specs.Prelude.{◌≡◌, ℕ, ◌+◌, ℤ, List, length, Option, None, slice_index_or, option_and_then}
 use Rattle.terrain.specs.StoredCells.{cell_of}
@@ -10,7 +11,8 @@ use Rattle.fill.specs.Spills.{AreEntries, greater_of, level_among}
 use Rattle.fill.specs.declared.marks.CellMark.{CellMark}
 use Rattle.fill.specs.declared.raised_tiles.RaisedTile.{RaisedTile}
 
--- The least crest of a mark's label, by the list of all labels' least crests.
+-- The least crest of the label in a mark, which is a cell's level and the number of its label.
+-- `levels` has the least crest of each label, by number.
 abbrev pub spill_with : List (Option ℤ) → Option CellMark → Option ℤ
 spill_with levels mark = option_and_then (λ m. slice_index_or levels m.node None) mark
 
@@ -19,12 +21,13 @@ abbrev pub raised_among : Cutting → List Flood → List (Option ℤ) → Place
 raised_among c floods levels p =
     greater_of (level_among c floods p) (spill_with levels (mark_among c floods p))
 
--- The least crest of the label at an index of a tile's table, whose first entry has number `first`.
+-- The least crest of the label at index k of a tile's table. Labels are numbered through the tables
+-- of all tiles; this table begins at number `first`.
 abbrev pub spill_at : List (Option ℤ) → ℕ → List (Option Place) → ℕ → Option ℤ
 spill_at levels first places k =
     option_and_then (λ _. slice_index_or levels (first + k) None) (slice_index_or places k None)
 
--- The least crests of these labels, as cells.
+-- The list has the least crest of each label of the table, in the stored form of a cell.
 abbrev pub AreSpillCells : List (Option ℤ) → ℕ → List (Option Place) → List (Option ℤ) → Type 0
 AreSpillCells levels first places cells =
     AreEntries (λ k. cell_of (spill_at levels first places k)) (length places) cells
@@ -43,7 +46,7 @@ abbrev pub raised_at : ℕ → Flood → List (Option ℤ) → ℕ → Option �
 raised_at first f levels k =
     greater_of (slice_index_or f.levels k None) (spill_with levels (mark_with first f k))
 
--- The raised cells of a tile.
+-- The list has the raised heights of a tile's cells, in the stored form of a cell.
 abbrev pub AreRaisedCells : ℕ → Flood → List (Option ℤ) → List (Option ℤ) → Type 0
 AreRaisedCells first f levels cells =
     AreEntries (λ k. cell_of (raised_at first f levels k)) (length f.labels) cells

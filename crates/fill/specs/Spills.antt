@@ -1,5 +1,6 @@
--- The spill graph of all tiles: how labels are joined, and the least crests that they get. A walk
--- leads from a node along joins to a source. Its crest is the greatest height of joins and source.
+-- The spill graph of all tiles: how labels are joined, and the least crests of labels. A label's
+-- node is its place's index in row order of the grid. A walk leads from a node along joins to a
+-- source. The crest of a walk is the greatest height of its joins and its source.
 -- Public.
 use Rattle.std.specs.Prelude.{◌≡◌, ◌≢◌, ℕ, ◌*◌, ◌<◌, ℤ, pos, ◌≤ℤ◌, List, length, Option, None, Some, MatchOption, slice_get, slice_index_or, option_and_then}
 use Rattle.std.specs.Int.{int_max}
@@ -28,12 +29,13 @@ level_among c floods p = option_and_then (λ f. level_in f p) (slice_get floods 
 abbrev pub label_among : Cutting → List Flood → Place → Option Place
 label_among c floods p = option_and_then (λ f. label_in f p) (slice_get floods (tile_of_place c p))
 
--- The cell has the label at this node.
+-- Cell `p` has a label whose node is `a`.
 abbrev pub Carries : Cutting → List Flood → Place → ℕ → Type 0
 Carries c floods p a =
     (label : Place) × (label_among c floods p ≡ Some label) × (index_of c.cols label ≡ a)
 
--- Two neighbouring cells have the labels at these nodes; the greater of their levels is the height.
+-- Two neighbouring cells have the labels of nodes `a` and `b`. The greater of their levels is
+-- `height`.
 pub record IsPass (t : Terrain) (c : Cutting) (floods : List Flood) (a b : ℕ)
     (height : ℤ) : Type 0 where
   pub from : Place
@@ -47,7 +49,7 @@ pub record IsPass (t : Terrain) (c : Cutting) (floods : List Flood) (a b : ℕ)
   pub to_is : level_among c floods to ≡ Some to_level
   pub greater : int_max from_level to_level ≡ height
 
--- Two different labels are joined at the least height of their passes.
+-- Two different labels are joined at the least height of an `IsPass` between them.
 pub record IsJoined (t : Terrain) (c : Cutting) (floods : List Flood) (a b : ℕ)
     (height : ℤ) : Type 0 where
   pub different : a ≢ b
@@ -114,7 +116,8 @@ greater_of (Some level) (Some spill) = Some (int_max level spill)
 greater_of (Some level) None = None
 greater_of None spill = None
 
--- A cell's raised height, the greater of its level and its label's least crest; None if either is.
+-- A cell's raised height: the greater of its level and its label's least crest, None if either is
+-- None.
 abbrev pub raised_by : Cutting → List (Option ℤ) → Option ℤ → Option Place → Option ℤ
 raised_by c levels level label = greater_of level (spill_of c levels label)
 
@@ -123,8 +126,8 @@ pub record AreEntries (entry : ℕ → Option ℤ) (count : ℕ) (list : List (O
   pub size : length list ≡ count
   pub each : (k : ℕ) → k < count → slice_index_or list k None ≡ entry k
 
--- The greater of each height and the entry of `spills` whose index `labels` has. None if that entry
--- is None.
+-- `raised` has, for each i, the greater of entry i of `heights` and a least crest, None if that is
+-- None. The least crest is the entry of `spills` at the index that entry i of `labels` has.
 abbrev pub AreGreater : List ℤ → List ℕ → List (Option ℤ) → List (Option ℤ) → Type 0
 AreGreater heights labels spills raised =
     AreEntries (λ i. greater_of (Some (slice_index_or heights i (pos 0)))

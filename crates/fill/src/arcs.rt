@@ -1,6 +1,7 @@
-//! The arcs from each label, as linked lists over one list of joins: [`ArcLists`].
+//! Lists the arcs from each label, by linked lists over one list of joins: [`ArcLists`].
 //!
-//! An arc is a [`Spill`]: the label that a join leads to, and the height of the join.
+//! Each join gives an arc from each of its two labels. An arc is a [`Spill`]: the label that the
+//! arc leads to, and the height of the join. Labels are given by number.
 ghost use Rattle.std.specs.Prelude.{◌≡◌, ◌<◌, ◌≤◌, ◌-◌, [], All, IfOk, OnOk, length, replicate, slice_index_or};
 ghost use Rattle.floods.specs.Flood.{candidates_in, InOrder, AreNoted, Relaxes};
 ghost use Rattle.fill.specs.LabelNet.{AddsArcs};
@@ -12,7 +13,7 @@ use smallvec::SmallVec;
 use std::alloc::{AllocError, Global};
 use std::marker::Model;
 
-/// The end of a list. Here joins are numbered from 1.
+/// The number that ends a list; joins are numbered from 1.
 const NO_JOIN: usize = 0;
 
 /// For each label of a join, the number of the previous join with that label, or [`NO_JOIN`].
@@ -52,7 +53,7 @@ fn link_at(joins: &[Join], previous: &[PreviousJoins], label: u32, at: usize) ->
     }
 }
 
-/// The arcs from each label, the last join first.
+/// The arcs from each label, those of later joins first.
 #[derive(Drop)]
 pub(crate) struct ArcLists {
     /// The last join of each label, or [`NO_JOIN`].
@@ -131,8 +132,9 @@ impl ArcLists {
         Ok(arcs)
     }
 
-    /// Queues each neighbour of `from` that has no source in `labels` and gets a new level in
-    /// `levels`.
+    /// Queues each neighbour of `from` that gets a first or a lower level in `levels`.
+    /// The level is the greater of the arc's height and `from.height`. A neighbour that has an
+    /// entry in `labels` gets none.
     #[inline]
     pub(crate) fn spread(
         &self,

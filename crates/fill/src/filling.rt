@@ -1,7 +1,8 @@
-//! The filled heights of a grid, by tiles and workers: [`filled`].
+//! Computes the filled heights of a grid, tile by tile and with several workers: [`filled`].
 //!
-//! One job floods each tile, another raises it. In between, the caller's thread floods the spill
-//! graph.
+//! A first job for each tile floods the tile, which gives its cells levels and labels. Then the
+//! caller's thread floods the spill graph, which gives each label its least crest. A second job for
+//! each tile raises each level to the greater of the level and its label's least crest.
 ghost use Rattle.std.proofs.Props.{props};
 ghost use Rattle.std.specs.Prelude.{◌≡◌, ◌<◌, ◌≤◌, true, length, map, IfOk};
 ghost use Rattle.terrain.specs.Raster.{Terrain, IsTerrain};
@@ -92,7 +93,8 @@ fn into_lists(
     Ok((floods, inner))
 }
 
-/// Floods each tile in a job; returns the floods and inner joins in tile order.
+/// Floods each tile in a job.
+/// Returns, in tile order, the floods and the joins inside each tile.
 fn tile_floods<R: Threads + Wait + Sync, G: Gate + Sync>(
     runner: &Runner<'_, R, G>,
     grid: &Grid,
@@ -110,6 +112,7 @@ fn tile_floods<R: Threads + Wait + Sync, G: Gate + Sync>(
 }
 
 /// Makes the spill graph of the floods, without the joins that [`LeftOut`] names.
+/// `inner` has the joins inside each tile.
 fn spill_graph(
     alloc: Global,
     tiles: &NumberedFloods<'_>,
@@ -133,6 +136,7 @@ fn spill_graph(
 }
 
 /// Returns the least crest from each label to an end cell, by a flood of the spill graph.
+/// `inner` has the joins inside each tile.
 fn label_levels(
     alloc: Global,
     tiles: &NumberedFloods<'_>,
@@ -151,7 +155,8 @@ fn label_levels(
 }
 
 /// Returns the filled height of each cell, in row order.
-/// Floods the spill graph on this thread, then raises each tile in a job.
+/// Floods the spill graph on the caller's thread, then raises each tile in a job.
+/// `inner` has the joins inside each tile.
 fn filled_cells<R: Threads + Wait + Sync, G: Gate + Sync>(
     runner: &Runner<'_, R, G>,
     tiling: &Tiling,
@@ -187,8 +192,8 @@ fn filled_cells<R: Threads + Wait + Sync, G: Gate + Sync>(
 
 /// Returns the grid with each height replaced by its filled height.
 ///
-/// One job floods each tile, another raises it. In between, the caller's thread floods the spill
-/// graph.
+/// A first job for each tile finds the levels and labels of its cells. Then the caller's thread
+/// floods the spill graph. A second job for each tile raises the levels to filled heights.
 ///
 /// # Errors
 ///

@@ -1,4 +1,6 @@
-//! The joins of all tiles, by the numbers of labels: [`graph_joins`].
+//! Gathers the joins inside all tiles and those over their rims in one list: [`graph_joins`].
+//!
+//! A join gives each label by its number, which counts the labels of all tiles, tile by tile.
 ghost use Rattle.std.specs.Prelude.{◌≡◌, Bool, ◌+◌, ◌<◌, ◌≤◌, ◌++◌, IfOk, OnOk, length, map};
 ghost use Rattle.std.specs.List.{All};
 ghost use Rattle.terrain.specs.Raster.{Terrain};
@@ -11,7 +13,8 @@ use crate::rim_joins::push_rim_joins;
 use crate::spills::Join;
 use std::alloc::{AllocError, Global};
 
-/// Adds the joins inside a tile, with `first` added to the indexes of their labels.
+/// Adds the joins `inner` of one tile, with numbers for the indexes of labels.
+/// A label's number is its index in the tile's table plus `first`.
 fn push_shifted(joins: &mut Vec<Join>, first: u32, inner: &[Join]) -> Result<(), AllocError>
     requires { All (λ j. (first + j.from ≤ 4294967295) × (first + j.to ≤ 4294967295)) inner.now }
     ensures { OnOk result (joins.new.items ≡ joins.old.items ++ map (shifted first) inner.now) }
@@ -27,6 +30,7 @@ fn push_shifted(joins: &mut Vec<Join>, first: u32, inner: &[Join]) -> Result<(),
 }
 
 /// Returns the joins inside tiles and over rims, except those left out.
+/// `inner` has the joins inside each tile.
 pub(crate) fn graph_joins(
     alloc: Global,
     tiles: &NumberedFloods<'_>,

@@ -1,7 +1,8 @@
-//! The joins inside a tile, by the indexes of its labels: [`inner_joins`].
+//! Finds the joins between the labels of one tile: [`inner_joins`].
 //!
-//! Looks at each pair of neighbouring cells once, from its first cell in row order. The four places
-//! after a cell are those E, SE, S and SW of it.
+//! A label is given by its index in the tile's table, which lists the tile's labels. Each pair of
+//! neighbouring cells is looked at once, from the cell that comes first in row order. The four
+//! places after a cell are those E, SE, S and SW of it.
 ghost use Rattle.std.specs.Prelude.{◌≡◌, ◌+◌, ◌<◌, ◌≤◌, [], Some, slice_index_or, MatchOption, IfOk, OnOk, length};
 ghost use Rattle.std.specs.Bool.{OnTrue};
 ghost use Rattle.tiles.specs.Cutting.{IsInBounds};
@@ -48,8 +49,9 @@ fn has_same_label(flood: &TileFlood, first: usize, second: usize) -> bool
     indexes[first] == indexes[second]
 }
 
-/// Adds the join of the cells at `index` and `near`, if there is one.
-/// Compares the labels first, since that is cheaper than reading a level.
+/// Adds the join of the cells at indexes `index` and `near`, if they have one.
+/// `from` is the mark (level and label) of the cell at `index`. Labels are compared first, since
+/// that is cheaper than reading a level.
 #[inline(always)]
 fn push_near(
     table: &mut JoinTable,
@@ -70,8 +72,10 @@ fn push_near(
     push_join(table, left_out.sources, from, mark_of_entry(flood, near))
 }
 
-/// Adds the join of two cells that touch at a corner, if there is one.
-/// With `bypassed`, leaves the join out if the detour by one of the two cells between is as low.
+/// Adds the join, if any, of two cells that touch at a corner: `index` and `near`.
+/// `from` is the mark of the cell at `index`. `below` and `beside` are the indexes of the two cells
+/// beside both. With `left_out.bypassed`, no join is added if the detour by one of these two cells
+/// is no higher.
 #[inline(always)]
 fn push_corner(
     table: &mut JoinTable,
@@ -107,8 +111,9 @@ fn push_corner(
     table.add(join)
 }
 
-/// Adds the joins of a cell with its neighbours after it in row order, except those left out.
-/// The four places after the cell all lie in the tile.
+/// Adds the joins of a cell with its neighbours after it in row order.
+/// Leaves out the joins that `left_out` names. The cell has index `index` and mark `from`, and the
+/// four places after it all lie in the tile. `width` is the number of the tile's columns.
 fn push_after(
     table: &mut JoinTable,
     flood: &TileFlood,
@@ -133,8 +138,9 @@ fn push_after(
     Ok(())
 }
 
-/// Returns whether a cell's label index equals those of the four places after it.
-/// Compares all four without branches, since a processor seldom predicts which differs first.
+/// Returns whether the cell at `index` and the four places after it have one label.
+/// `labels` has the index of each cell's label, in rows of `width` cells. All four are compared
+/// without branches, since a processor seldom predicts which differs first.
 #[inline(always)]
 fn are_equal_after(labels: &[u32], index: usize, width: usize) -> bool
     requires some { 0 < index }
@@ -150,7 +156,7 @@ fn are_equal_after(labels: &[u32], index: usize, width: usize) -> bool
 }
 
 /// Adds the joins of a cell whose four places after it lie in the tile, except those left out.
-/// Most cells have the label of all four places, and so no join with them.
+/// Most cells have the same label as all four places, and so no join.
 #[inline(always)]
 fn push_inner_cell(
     table: &mut JoinTable,
@@ -219,8 +225,8 @@ fn push_row(
     Ok(())
 }
 
-/// Returns the joins inside a tile, except those left out.
-/// Labels are indexes into the table of the tile.
+/// Returns the joins inside a tile, except those that `left_out` names.
+/// A join gives each label by its index in the tile's table.
 pub(crate) fn inner_joins(
     alloc: Global,
     flood: &TileFlood,

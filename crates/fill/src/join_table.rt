@@ -1,4 +1,7 @@
-//! The joins of one tile, seldom two with the same `from` and `to`: [`JoinTable`].
+//! Lists the joins inside one tile, seldom two with the same `from` and `to`: [`JoinTable`].
+//!
+//! A hash table finds a listed join that has both labels of a new one. Then only the lower of the
+//! two is kept.
 ghost use Rattle.std.specs.Prelude.{◌≡◌, ◌<◌, ◌≤◌, ◌∷◌, [], IfOk, OnOk, length};
 ghost use Rattle.std.specs.Bool.{OnTrue, OnFalse};
 ghost use Rattle.fill.specs.Gathering.{AddsCovered};
@@ -8,12 +11,14 @@ use crate::spills::Join;
 use std::alloc::{AllocError, Global};
 use std::marker::Model;
 
-/// The first number of slots for each row and column, before rounding up to a power of two.
+/// How many slots a new table has for each row and column of its tile.
 ///
-/// It is enough for most tiles. More slots would cost time, since each tile's job writes them all.
+/// The product is rounded up to a power of two. That is enough for most tiles; more slots would
+/// cost time, since each tile's job writes them all.
 const SLOTS_A_LINE: usize = 16;
 
-/// The first capacity for joins, for each row and column, so that few lists grow.
+/// For how many joins a new table has room, for each row and column of its tile.
+/// With this many, few lists grow.
 const JOINS_A_LINE: usize = 4;
 
 /// The greatest number of slots that are searched for a join.
@@ -25,8 +30,8 @@ pub(crate) struct JoinTable {
     alloc: Global,
     joins: Vec<Join>,
     /// The index of a join in each slot, and `usize::MAX` in a free slot.
-    /// The number of slots is a power of two. Probing is linear: no free slot is between a join's
-    /// own slot and the slot that it is in.
+    /// The number of slots is a power of two. Probing is linear: no free slot is between the slot
+    /// to which a join's labels hash and the slot that has its index.
     slots: Vec<usize>,
     ghost some: { 0 < length slots.items },
 }
@@ -40,8 +45,9 @@ impl Model for JoinTable {
     ghost view = { λ table. table.joins.items };
 }
 
-/// Returns the slot `probe` slots after the own slot of two labels, wrapping round at the end.
-/// Fibonacci hashing spreads labels: they are indexes into a table, and many are close together.
+/// Returns the slot `probe` slots after the one to which two labels hash.
+/// The first slot follows the last. Fibonacci hashing spreads labels: they are indexes into a
+/// tile's table, and many are close together.
 #[inline(always)]
 fn slot_of(from: u32, to: u32, probe: usize, slots: usize) -> usize
     requires { 0 < slots }
@@ -57,7 +63,7 @@ fn slot_of(from: u32, to: u32, probe: usize, slots: usize) -> usize
 }
 
 /// Returns the slot of a listed join with the labels of `join`, or a free slot.
-/// Returns the labels' own slot if [`MOST_PROBES`] slots hold other joins.
+/// If the [`MOST_PROBES`] slots that are searched hold other joins, returns the first of them.
 #[inline(always)]
 fn slot_for(joins: &[Join], slots: &[usize], join: Join) -> usize
     requires { 0 < length slots.now }
@@ -106,7 +112,7 @@ fn lower_join(joins: &mut Vec<Join>, at: usize, join: Join) -> bool
 }
 
 impl JoinTable {
-    /// Makes a table for a tile whose rows and columns add up to `lines`.
+    /// Makes a table for a tile that has `lines` rows and columns in all.
     pub(crate) fn new(alloc: Global, lines: u32) -> Result<Self, AllocError>
         requires { lines ≤ 8192 }
         ensures { IfOk result (λ table. table ≡ []) }

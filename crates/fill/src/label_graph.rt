@@ -1,4 +1,7 @@
-//! The spill graph by the numbers of labels: [`LabelGraph`], which `filled` uses.
+//! The spill graph of all tiles, with each label given by its number: [`LabelGraph`].
+//!
+//! Numbers count the labels of all tiles, tile by tile. `filled` makes this graph, and floods it to
+//! find each label's least crest to an end cell.
 ghost use Rattle.std.specs.Prelude.{◌≡◌, ◌<◌, ◌≤◌, IfOk, length, slice_index_or, None};
 ghost use Rattle.std.specs.List.{All};
 ghost use Rattle.fill.specs.LabelNet.{AreNumberLevels, HasArcsOf};
@@ -95,7 +98,8 @@ impl Model for LabelLevels {
 }
 
 impl LabelLevels {
-    /// Returns a label's least crest to an end cell; `None` if no joins lead to one.
+    /// Returns the least crest from label `number` to an end cell.
+    /// Returns `None` if the label is no end cell and no joins lead from it to one.
     #[inline(always)]
     pub(crate) fn level(&self, number: usize) -> Option<Height>
         requires { number < length self.now }
@@ -109,7 +113,8 @@ impl LabelLevels {
 }
 
 impl LabelGraph {
-    /// Makes the graph of these joins; `sources` has end cells' heights by number.
+    /// Makes the graph of `joins`, which give labels by number.
+    /// `sources` has the height of each number's label that is an end cell.
     pub(crate) fn of_joins(
         alloc: Global,
         sources: Vec<Cell>,
@@ -127,7 +132,7 @@ impl LabelGraph {
     }
 
     /// Returns the least crest from each label to an end cell.
-    /// A label from which no joins lead to an end cell has `None`.
+    /// `None` stands for a label that is no end cell and from which no joins lead to one.
     pub(crate) fn levels(self, alloc: Global) -> Result<LabelLevels, NoMemory>
         ensures { IfOk result (λ levels. AreNumberLevels self.arcs self.sources levels) }
     {

@@ -1,4 +1,4 @@
-//! Which joins are left out of the spill graph: [`LeftOut`].
+//! Tells which joins are left out of the spill graph, as they lower no filled height: [`LeftOut`].
 ghost use Rattle.std.specs.Prelude.{◌≡◌, [], false, None, slice_index_or, is_some};
 ghost use Rattle.std.specs.Bool.{OnTrue};
 ghost use Rattle.std.specs.Option.{option_to_list};
@@ -11,11 +11,12 @@ use terrain::Cell;
 
 /// The joins to leave out, since they lower no filled height.
 /// These are the joins of two labels that have heights in `sources`. If `bypassed`, they include
-/// joins of cells that touch at a corner, where the detour by a third cell is as low.
+/// joins of cells that touch at a corner, where the detour by a third cell is no higher.
 #[derive(Drop)]
 pub(crate) struct LeftOut<'a> {
-    /// Empty, or the height of each label that is an end cell, without data for any other label.
-    /// Indexed as the labels of the joins: in one tile's table, or by number over all tiles.
+    /// Empty, or the heights of labels that are end cells, no data for other labels.
+    /// A label has the same index here as in joins: that in its tile's table, or its number over
+    /// all tiles.
     pub(crate) sources: &'a [Cell],
     pub(crate) bypassed: bool,
 }
@@ -40,7 +41,7 @@ impl<'a> LeftOut<'a> {
     }
 }
 
-/// Returns whether `sources` has a height for a label; `false` past its end.
+/// Returns whether `sources` has an entry at index `node`, and that entry a height.
 #[inline(always)]
 fn is_source(sources: &[Cell], node: u32) -> bool
     ensures { result ≡ is_some (slice_index_or sources.now node None) }
@@ -58,7 +59,8 @@ fn are_both_sources(sources: &[Cell], from: u32, to: u32) -> bool
     is_source(sources, from) && is_source(sources, to)
 }
 
-/// Returns the join of two marks with different labels, unless both have heights in `sources`.
+/// Returns the join of two cells, by their marks, if their labels differ.
+/// Returns `None` if both labels have heights in `sources`.
 #[inline(always)]
 pub(crate) fn join_of(sources: &[Cell], from: CellMark, to: Option<CellMark>) -> Option<Join>
     ensures { joins_of sources.now from to ≡ option_to_list result }
@@ -78,8 +80,9 @@ pub(crate) fn join_of(sources: &[Cell], from: CellMark, to: Option<CellMark>) ->
 }
 
 /// Returns whether to leave out the join of two cells that touch at a corner.
-/// With `bypassed`, true if the level of the cell between is at most the greater of their levels.
-/// Then the detour by the cell between is as low as the join.
+/// `from` and `to` are their marks, and `between` is that of a cell beside both. If
+/// `left_out.bypassed`, the join is left out where the level of `between` is at most the greater of
+/// the other two levels. Then the detour by the cell between is no higher than the join.
 #[inline(always)]
 pub(crate) fn is_left_out(
     left_out: &LeftOut<'_>,

@@ -1,4 +1,4 @@
-//! The marks of cells, from the floods of all tiles: [`CellMark`].
+//! Reads a cell's mark, which is its level and its label, from the flood of its tile: [`CellMark`].
 ghost use Rattle.std.specs.Prelude.{◌≡◌, ◌+◌, ◌*◌, ◌<◌, ◌≤◌, length};
 ghost use Rattle.tiles.specs.Cutting.{IsCutting, IsInTile, IsWithin};
 ghost use Rattle.terrain.specs.Neighbours.{index_of};
@@ -9,7 +9,9 @@ use cell_floods::TileFlood;
 use terrain::{Height, Place};
 use tiles::Tiling;
 
-/// A cell's mark: its level, in units, and the number of its label.
+/// A cell's level, in units, and its label, given by `node`.
+/// `node` is the label's index in its tile's table, or its number. Numbers count the entries of all
+/// tiles' tables, tile by tile.
 #[derive(Clone, Copy, Debug, PartialEq, Eq)]
 pub struct CellMark {
     pub level: Height,
@@ -26,7 +28,7 @@ pub(crate) fn node_of(tiling: &Tiling, place: Place) -> u32
     place.row * tiling.cols() + place.col
 }
 
-/// The floods of all tiles, and the number of the first entry of each table.
+/// The floods of all tiles, and the number of each label table's first entry.
 #[derive(Drop)]
 pub(crate) struct NumberedFloods<'a> {
     pub(crate) tiling: &'a Tiling,
@@ -36,8 +38,8 @@ pub(crate) struct NumberedFloods<'a> {
     ghost numbers: { AreFirsts floods.now firsts.now },
 }
 
-/// Returns the mark of the cell at an index; `None` without data.
-/// The label's number is here its index in the tile's table.
+/// Returns the mark of the cell at `index` of the tile; `None` without data.
+/// The mark gives the label by its index in the tile's table.
 #[inline(always)]
 pub(crate) fn mark_of_entry(flood: &TileFlood, index: usize) -> Option<CellMark>
     requires { index < length flood.now.labels }
@@ -51,7 +53,7 @@ pub(crate) fn mark_of_entry(flood: &TileFlood, index: usize) -> Option<CellMark>
 }
 
 /// Returns the mark of a place; `None` outside the tile and without data.
-/// The label's number is here its index in the tile's table.
+/// The mark gives the label by its index in the tile's table.
 #[inline(always)]
 pub(crate) fn mark_in(flood: &TileFlood, place: Place) -> Option<CellMark>
     ensures { result ≡ mark_in 0 flood.now place }
@@ -62,6 +64,7 @@ pub(crate) fn mark_in(flood: &TileFlood, place: Place) -> Option<CellMark>
 
 impl<'a> NumberedFloods<'a> {
     /// Returns the mark of a place of tile `own`; `None` without data.
+    /// The mark gives the label by its number over all tiles.
     #[inline(always)]
     pub(crate) fn mark_of_tile(&self, own: u32, place: Place) -> Option<CellMark>
         requires lawful { IsCutting self.now.tiling.now }

@@ -1,7 +1,7 @@
-//! The numbers of labels over all tiles, and the heights of end cells by number.
+//! Numbers the labels of all tiles from 0, and lists the heights of those that are end cells.
 //!
-//! Numbers count the entries of the tiles' tables of labels, tile by tile. The first entry of each
-//! table, `None`, has a number too.
+//! Each tile has a table that lists its labels. Numbers count the entries of all tables, tile by
+//! tile. The first entry of each table, `None`, has a number too.
 ghost use Rattle.std.specs.Prelude.{◌≡◌, ◌+◌, ◌<◌, ◌≤◌, IfOk, length, map, slice_index_or};
 ghost use Rattle.std.specs.List.{flat_map};
 ghost use Rattle.terrain.specs.Raster.{Terrain};
@@ -31,7 +31,8 @@ pub(crate) fn first_numbers(
     Ok(firsts)
 }
 
-/// Returns the heights of end cells by label number; other entries are cells without data.
+/// Returns, by number, the height of each label that is an end cell.
+/// Any other entry is no data.
 pub(crate) fn label_ends(alloc: Global, floods: &[TileFlood]) -> Result<Vec<Cell>, AllocError>
     ensures { IfOk result (λ v. v.items ≡ ends_of floods.now) }
 {

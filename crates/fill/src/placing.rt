@@ -1,4 +1,7 @@
-//! Turns joins by the numbers of labels into joins by the labels' places.
+//! Turns joins whose labels are given by number into joins whose labels are given by place.
+//!
+//! Numbers count the labels of all tiles, tile by tile. A place is given by its node: its index in
+//! row order of the grid.
 ghost use Rattle.std.specs.Prelude.{◌≡◌, ◌↔◌, ◌<◌, ◌++◌, [], IfOk, IfSome, IsTrue, OnOk, length, map};
 ghost use Rattle.std.specs.Option.{option_to_list};
 ghost use Rattle.std.specs.List.{All};
@@ -43,7 +46,7 @@ fn push_nodes(
     Ok(())
 }
 
-/// Returns the node of each label by number, and 0 for an entry without a label.
+/// Returns, for each number, the node of its label; 0 for a number without a label.
 pub(crate) fn label_nodes(
     alloc: Global,
     tiling: &Tiling,
@@ -59,7 +62,8 @@ pub(crate) fn label_nodes(
     Ok(nodes)
 }
 
-/// Returns a join by the nodes of its labels' places; `None` if they are one place.
+/// Returns `join` with nodes for its labels' numbers; `None` if both have one node.
+/// `nodes` has the node of each number's label.
 #[inline(always)]
 fn place_join(join: Join, nodes: &[u32]) -> Option<Join>
     requires from { join.from < length nodes.now }
@@ -78,7 +82,8 @@ fn place_join(join: Join, nodes: &[u32]) -> Option<Join>
     Some(placed)
 }
 
-/// Returns these joins by place, in both directions, without joins of a place with itself.
+/// Returns `joins` with nodes for numbers, in both directions.
+/// Leaves out joins of a place with itself. `nodes` has the node of each number's label.
 pub(crate) fn placed_joins(
     alloc: Global,
     joins: &[Join],
@@ -97,7 +102,7 @@ pub(crate) fn placed_joins(
     Ok(placed)
 }
 
-/// Returns whether the join at an index has the labels of the join before it.
+/// Returns whether the joins at `index` and `index - 1` have the same labels.
 #[inline(always)]
 fn is_repeat(joins: &[Join], index: usize) -> bool
     requires { index < length joins.now }

@@ -1,4 +1,6 @@
-//! The filled heights of all tiles, one job a tile: [`RaisedTiles`].
+//! Makes the map of filled heights, each tile by a job of its own: [`RaisedTiles`].
+//!
+//! A filled height is the greater of a cell's level and its label's least crest in the spill graph.
 ghost use Rattle.std.proofs.Props.{props};
 ghost use Rattle.std.specs.Prelude.{◌≡◌, ℕ, ℤ, List, Option, ◌+◌, ◌<◌, ◌≤◌, ◌≤ℤ◌, pos, length, slice_index_or, option_and_then, None, Some, All, IfOk};
 ghost use Rattle.terrain.specs.StoredCells.{cell_of, no_data};
@@ -16,12 +18,13 @@ use terrain::{Cell, Height, NoMemory, Place};
 use tile_maps::TileMap;
 use tiles::Tiling;
 
-/// A tile's levels and label indexes, and its labels' least crests in the spill graph.
+/// The levels and label indexes of a tile's cells, and the labels' least crests.
 #[derive(Drop)]
 struct RaisedTile<'a> {
     heights: &'a [Height],
     labels: &'a [u32],
-    /// The least crest of each label as a cell, without data if it has none.
+    /// The least crest of each of the tile's labels in the spill graph, as a cell.
+    /// No data for a label without a least crest.
     spills: Vec<Cell>,
 }
 
@@ -35,7 +38,8 @@ fn cell(height: Option<Height>) -> Cell
     }
 }
 
-/// Returns the least crest of a label as a cell, without data if there is no label or no crest.
+/// Returns as a cell the least crest of `label`, which has number `number`.
+/// Returns no data if `label` is `None` or has no least crest.
 #[inline(always)]
 fn spill_cell(levels: &LabelLevels, number: usize, label: Option<Place>) -> Cell
     requires { number < length levels.now }
@@ -48,7 +52,8 @@ fn spill_cell(levels: &LabelLevels, number: usize, label: Option<Place>) -> Cell
     }
 }
 
-/// Returns these labels' least crests as cells; `places[0]` has number `first`.
+/// Returns the least crest of each label in `places`, as a cell.
+/// No data stands for `None` and for a label without a least crest. `places[0]` has number `first`.
 fn spill_cells(
     alloc: Global,
     levels: &LabelLevels,
@@ -67,8 +72,8 @@ fn spill_cells(
 }
 
 impl<'a> RaisedTile<'a> {
-    /// Makes a raised tile from its flood and the least crests of the spill graph.
-    /// The first entry of the tile's table has number `first`.
+    /// Makes a raised tile from `flood`; `levels` has the least crests by number.
+    /// The first entry of the tile's table of labels has number `first`.
     fn new(
         alloc: Global,
         flood: &'a TileFlood,

@@ -1,4 +1,4 @@
-//! The filled heights of a tile: [`raise`].
+//! Raises the levels of a tile's cells to their filled heights: [`raise`].
 //!
 //! A filled height is the greater of a cell's level and its label's least crest in the spill graph.
 ghost use Rattle.std.specs.Prelude.{◌≡◌, ◌*◌, ◌<◌, ℕ, ℤ, List, Option, None, Some, length, map, slice_get, slice_index_or, IfOk, IfSome};
@@ -15,7 +15,8 @@ use std::alloc::{AllocError, Global};
 use terrain::{Height, NoMemory, Place};
 use tiles::Tiling;
 
-/// Returns the least crest of a label in the spill graph, `None` without a label.
+/// Returns the least crest of `label` in the spill graph; `None` for no label.
+/// `levels` has the least crests, in row order of the grid.
 #[inline(always)]
 fn spill(tiling: &Tiling, levels: &[Option<Height>], label: Option<Place>) -> Option<Height>
     requires size { length levels.now ≡ tiling.now.cols * tiling.now.rows }
@@ -43,7 +44,8 @@ fn spills_of(
     Ok(spills)
 }
 
-/// Returns the greater of a cell's level and its label's least crest; `None` without a crest.
+/// Returns the greater of the level `height` and the least crest `spill`.
+/// Returns `None` if `spill` is `None`.
 #[inline(always)]
 fn greater(height: Height, spill: Option<Height>) -> Option<Height>
     ensures { result ≡ greater_of (Some height) spill }
@@ -55,7 +57,8 @@ fn greater(height: Height, spill: Option<Height>) -> Option<Height>
 }
 
 /// Returns the greater of each cell's level and its label's least crest.
-/// `labels` has, for each cell, the index in `spills` of its label's least crest.
+/// `heights` has the level of each cell. `labels` has the index in `spills` of the least crest of
+/// each cell's label.
 fn greater_levels(
     alloc: Global,
     heights: &[Height],
@@ -75,7 +78,7 @@ fn greater_levels(
 }
 
 /// Returns the raised heights of a tile, in its row order.
-/// [`raise`] does nothing else: its own, longer contract follows from the one here.
+/// [`raise`] only calls this function: the longer contract of [`raise`] follows from the one here.
 fn raised_by(
     alloc: Global,
     tiling: &Tiling,

@@ -1,7 +1,8 @@
-//! The joins of cells whose four places after them are not all in the tile: [`push_outer_cells`].
+//! Finds the joins of cells in a tile's last row, first column and last column.
 //!
-//! The four places after a cell are those E, SE, S and SW of it. A [`MarkedCells`] has the mark
-//! (level and label) of each cell, and selects cells to join with.
+//! [`push_outer_cells`] does so for one row. The four places after such a cell, those E, SE, S and
+//! SW of it, do not all lie in the tile. A [`MarkedCells`] has the mark (level and label) of each
+//! cell, and says with which cells joins are wanted.
 ghost use Rattle.std.specs.Prelude.{◌≡◌, ◌+◌, ◌<◌, ◌≤◌, ◌∷◌, [], List, Bool, Some, true, OnOk};
 ghost use Rattle.terrain.specs.declared.place.Place.{Place};
 ghost use Rattle.tiles.specs.Cutting.{IsInBounds, IsWithinLimits};
@@ -15,7 +16,7 @@ use std::alloc::AllocError;
 use terrain::{Cell, Place, place_on};
 use tiles::Bounds;
 
-/// Cells with their marks, and the choice of cells to join with.
+/// The marks of cells, and with which cells joins are wanted.
 pub(crate) trait MarkedCells {
     ghost marks: { Self → Marks };
 
@@ -39,7 +40,8 @@ pub(crate) trait JoinList {
         ensures { OnOk result (AddsCovered (joins self.old) (join ∷ []) (joins self.new)) };
 }
 
-/// Adds the join of two marks with different labels, unless both have heights in `sources`.
+/// Adds the join of two cells, by their marks, if their labels differ.
+/// Adds nothing if both labels have heights in `sources`.
 #[inline(always)]
 pub(crate) fn push_join<J: JoinList>(
     joins: &mut J,
@@ -57,9 +59,10 @@ pub(crate) fn push_join<J: JoinList>(
     Ok(())
 }
 
-/// Adds the join of a cell with its neighbour in direction `way`, if wanted.
-/// `way` is 0 for E, 1 for SE, 2 for S or 3 for SW; `below` is the mark to the south.
-/// With `left_out.bypassed`, leaves out a diagonal join if the detour by a cell between is as low.
+/// Adds the join of the cell at `place` with the cell in direction `way`, if wanted.
+/// `way` is 0 for E, 1 for SE, 2 for S or 3 for SW. `from` is the cell's mark, and `below` that of
+/// the place south of the cell. With `left_out.bypassed`, leaves out a diagonal join if the detour
+/// by a cell beside both is no higher.
 #[inline(always)]
 fn push_on_way<C: MarkedCells, J: JoinList>(
     joins: &mut J,

@@ -1,6 +1,7 @@
-//! The joins over the rim of a tile, by the numbers of labels: [`push_rim_joins`].
+//! Finds the joins of a tile's labels with labels of other tiles: [`push_rim_joins`].
 //!
-//! Looks at each pair of neighbouring cells of two tiles once, from its first cell in row order.
+//! A label is given by its number, which counts the labels of all tiles, tile by tile. Each pair of
+//! neighbouring cells of two tiles is looked at once, from the cell that comes first in row order.
 ghost use Rattle.std.proofs.Props.{props};
 ghost use Rattle.std.specs.Bool.{OnTrue};
 ghost use Rattle.std.specs.Prelude.{◌≡◌, ◌+◌, ◌<◌, ◌≤◌, OnOk};
@@ -15,14 +16,14 @@ use std::alloc::AllocError;
 use terrain::Place;
 use tiles::Bounds;
 
-/// The cells of all tiles, for the joins over the rim of one tile.
+/// The cells of all tiles, for the joins over the rim of tile `tile`.
 /// Only joins with cells of other tiles are wanted.
 #[derive(Drop)]
 struct CellsAround<'a> {
     tiles: &'a NumberedFloods<'a>,
     tile: u32,
     bounds: Bounds,
-    /// The tile below this tile, or this tile if there is none below.
+    /// The tile below `tile`, or `tile` itself if there is none below.
     below: u32,
     ghost is_tile: { tile < tile_count tiles.now.tiling.now },
     ghost lawful: { IsCutting tiles.now.tiling.now } by { Prim.hlevel props },
@@ -80,7 +81,7 @@ impl<'a> CellsAround<'a> {
         }
     }
 
-    /// Returns the tile with this row of the grid: this tile, or the tile below.
+    /// Returns the tile that has row `row` of the grid: `self.tile` or `self.below`.
     #[inline(always)]
     fn tile_with_row(&self, row: u32) -> u32
         requires top { self.now.bounds.top ≤ row }
@@ -95,8 +96,8 @@ impl<'a> CellsAround<'a> {
         }
     }
 
-    /// Returns the tile of a place of the grid, without a division if the place is near this tile.
-    /// Each neighbour after a cell of this tile is near the tile.
+    /// Returns the tile of a place of the grid; a place near `self.tile` needs no division.
+    /// Each neighbour that comes after a cell of `self.tile` in row order is near.
     #[inline(always)]
     fn tile_of(&self, place: Place) -> u32
         requires { IsWithin self.now.tiles.now.tiling.now place }
@@ -140,7 +141,8 @@ impl<'a> MarkedCells for CellsAround<'a> {
     }
 }
 
-/// Pushes without a search: rim cells are their own labels, so no pair repeats.
+/// Pushes without a search, since no two joins over rims have the same labels.
+/// For a rim cell is its own label.
 impl JoinList for Vec<Join> {
     ghost joins = { λ list. list.items };
 
@@ -151,7 +153,8 @@ impl JoinList for Vec<Join> {
     }
 }
 
-/// Adds the joins of a tile's cells with later cells of other tiles, except those left out.
+/// Adds the joins of a tile's cells with cells of other tiles after them in row order.
+/// Leaves out the joins that `left_out` names.
 pub(crate) fn push_rim_joins(
     joins: &mut Vec<Join>,
     tiles: &NumberedFloods<'_>,

@@ -1,6 +1,7 @@
-//! The sources of the spill graph by places: labels that are end cells.
+//! Lists the sources of the spill graph, the labels that are end cells: [`label_sources`].
 //!
-//! Each flood has the heights of its own sources. [`label_sources`] writes all into one list.
+//! Each tile's flood has the heights of those of its labels that are end cells. All are written
+//! into one list by node: a place's index in row order of the grid.
 ghost use Rattle.std.specs.Prelude.{◌≡◌, ◌*◌, IfOk, IfSome, length};
 ghost use Rattle.tiles.specs.Cutting.{IsCutting, IsWithin};
 ghost use Rattle.terrain.specs.Raster.{Terrain};
@@ -15,7 +16,8 @@ use std::alloc::{AllocError, Global};
 use terrain::{Cell, Height, Place};
 use tiles::Tiling;
 
-/// Writes the height of `end` at the label's node; does nothing if there is no height or label.
+/// Writes the height of `end` at the node of `label`'s place.
+/// Does nothing if `label` is `None` or `end` has no height.
 #[inline(always)]
 fn put_end(heights: &mut Vec<Option<Height>>, tiling: &Tiling, label: Option<Place>, end: Cell)
     requires label { IfSome label (IsWithin tiling.now) }
@@ -46,7 +48,8 @@ fn put_ends(heights: &mut Vec<Option<Height>>, tiling: &Tiling, flood: &TileFloo
     }
 }
 
-/// Returns, for each place in row order of the grid, its height if it is a label and an end cell.
+/// Returns the height of each place that is a label and an end cell.
+/// The list is in row order of the grid, with `None` for any other place.
 pub(crate) fn label_sources(
     alloc: Global,
     tiling: &Tiling,

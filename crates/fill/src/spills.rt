@@ -1,6 +1,7 @@
-//! The spill graph by places: the labels of all tiles as a net.
+//! The spill graph of all tiles, with each label given by its place: [`SpillGraph`].
 //!
-//! [`SpillGraph::gather`] makes it from all floods, and [`SpillGraph::levels`] floods it.
+//! [`SpillGraph::gather`] makes the graph from the floods of all tiles, which have the levels and
+//! labels of cells. [`SpillGraph::levels`] finds each label's least crest to an end cell.
 ghost use Rattle.std.specs.Prelude.{◌≡◌, false, ◌<◌, ◌≤◌, ◌*◌, ℕ, length, map, IfOk, slice_index_or};
 ghost use Rattle.terrain.specs.Raster.{Terrain};
 ghost use Rattle.tiles.specs.Cutting.{Cutting};
@@ -24,7 +25,9 @@ use terrain::{Height, NoMemory};
 use tiles::Tiling;
 
 /// Two joined labels, and the height in units at which water passes between them.
-/// A label is given by its index in a tile's table, its number or the node of its place.
+/// In one tile a label is given by its index in the tile's table, which lists the tile's labels.
+/// Over all tiles it is given by its number, which counts the entries of all tables, or by node.
+/// Its node is the index of its place in row order of the grid.
 #[derive(Clone, Copy, Debug, PartialEq, Eq, PartialOrd, Ord)]
 pub struct Join {
     pub from: u32,
@@ -45,7 +48,7 @@ impl Join {
         }
     }
 
-    /// Returns the arc from its first label to the other.
+    /// Returns the join's arc from label `from` to label `to`.
     #[inline(always)]
     pub(crate) fn arc(self) -> Spill
         ensures { result ≡ arc_of self }
@@ -59,8 +62,8 @@ impl Join {
 
 /// The spill graph: the labels of all tiles as a net, by their places.
 /// A node is a place's index in row order of the grid. Two labels are joined if neighbouring cells
-/// carry them. Two cells meet at the greater of their levels, and a join has the least of these
-/// heights. Labels that are end cells are sources.
+/// have them. Two such cells meet at the greater of their levels. A join has the least height at
+/// which cells of its labels meet. Labels that are end cells are sources.
 #[derive(Drop)]
 pub struct SpillGraph {
     tiling: Tiling,
@@ -83,7 +86,8 @@ impl Model for SpillGraph {
         × IsGraph (graph_with g.tiling g.joins.items g.sources.items) };
 }
 
-/// Returns the index past the joins that begin at nodes before this one.
+/// Returns the index of the first join from `node` or from a node after it.
+/// Returns the length of `joins`, which are in order, if there is no such join.
 fn first_from(joins: &[Join], node: u32) -> usize
     requires { AreRising joins.now }
     ensures { BeginAt joins.now node result }
@@ -101,7 +105,7 @@ fn first_from(joins: &[Join], node: u32) -> usize
     low
 }
 
-/// Returns the index past the joins that begin at this node, from `start` on.
+/// Returns the index past the joins from `node`, which begin at index `start`.
 fn end_of(joins: &[Join], start: usize, node: u32) -> usize
     requires rising { AreRising joins.now }
     requires begin { BeginAt joins.now node start }
@@ -159,7 +163,7 @@ impl Net for SpillGraph {
     }
 }
 
-/// Returns the joins inside each tile, and leaves none out.
+/// Returns the joins inside each tile, with none left out.
 fn inner_joins_of(alloc: Global, floods: &[TileFlood]) -> Result<Vec<Vec<Join>>, AllocError>
     requires { (t : Terrain) × (c : Cutting) × AreFloods t c floods.now }
     ensures { IfOk result (λ v. AreInner floods.now false v.items) }
@@ -213,8 +217,8 @@ impl SpillGraph {
     }
 
     /// Returns the least crest from each label to an end cell.
-    /// The list is in row order of the grid. An entry is `None` if its place is no label, or if no
-    /// joins lead from it to an end cell.
+    /// The list is in row order of the grid. An entry is `None` if its place is no label. So is the
+    /// entry of a label that is no end cell and from which no joins lead to one.
     ///
     /// # Errors
     ///

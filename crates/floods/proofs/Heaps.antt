@@ -1,4 +1,5 @@
--- The invariant of a flood, the queue's entries after a pop or push, and sources with their levels.
+-- The invariant of a flood is `IsFlooding`. A push adds one entry to the queue, a pop removes one.
+-- At the start each source is queued at its height, which becomes its level.
 use Rattle.std.proofs.Common.{[], ◌≡◌, ℕ, ◌<◌, ◌≤◌, ◌⊎◌, ℤ, List, length, Option, None, Some, IsSome, zero, suc, ◌+◌, ◌∷◌, get_or, set, replicate, ◌≤ℤ◌, sym, ap, subst, refl, ◌∙◌, arith, inl, inr}
 use Rattle.std.specs.Int.{int_max}
 use Rattle.std.specs.List.{Contains, All}
@@ -21,7 +22,7 @@ HasWalk joins source w =
 
 -- The invariant of a flood: nodes with labels have final levels, and each entry has a walk. Each
 -- source without a label has an entry, at most at its height. Each unlabelled neighbour of a node
--- with a label has an entry, at most at its crest by that node.
+-- with a label has an entry, at most at the greater of the join's height and that node's level.
 pub record IsFlooding (joins : Joins) (source : Sources) (nodes : ℕ) (levels : List (Option ℤ))
     (labels : List (Option ℕ)) (waiting : List Candidate) : Type 0 where
   pub levels_size : length levels ≡ nodes

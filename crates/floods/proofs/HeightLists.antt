@@ -1,4 +1,4 @@
--- Reading and writing stored heights, some of them missing.
+-- Heights stored as numbers with marks: the number `lack` means no height unless it is marked.
 use Rattle.terrain.proofs.Options.{none_some}
 use Rattle.std.proofs.Common.{◌≡◌, ℕ, zero, suc, ◌≤ℤ◌, ℤ, Bool, true, false, List, [], ◌∷◌, length, get_or, map, set, replicate, T, Option, None, Some, is_some, ◌∙◌, sym, ap, refl, arith, inl, inr, subst}
 use Rattle.std.specs.Int.Signed.{le_z}
@@ -74,7 +74,7 @@ is_low a b e = record { le = T_from_true _ e }
 pub low_is : (a b : ℤ) → a ≤ℤ b → le_z a b ≡ true
 low_is a b h = true_from _ h.le
 
--- Where the number stored at index i is a height at most h, entry i is a height at most h.
+-- If the number stored at index i is a height at most h, entry i of `seen` is a height at most h.
 pub no_higher : (marks : List Bool) (heights : List ℤ) (seen : List (Option ℤ)) (i : ℕ) (h : ℤ) →
     length marks ≡ length heights → heights_where marks heights ≡ seen →
     noted (get_or marks i false) (get_or heights i lack) ≡ Some (get_or heights i lack) →

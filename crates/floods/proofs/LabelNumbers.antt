@@ -1,4 +1,5 @@
--- Reading and writing stored labels.
+-- Labels stored as numbers of 32 bits, the greatest for none: a new list has none, and one written
+-- number is one label.
 use Rattle.std.proofs.Common.{◌≡◌, ℕ, zero, suc, ◌<◌, List, ◌∷◌, set, replicate, None, Some, ◌∙◌, ap, refl, Bool, true, false, if◌then◌else◌, ◌==◌, arith}
 use Rattle.std.proofs.lemmas.Bool.{eqb-true}
 use Rattle.std.proofs.lemmas.List.{map-set}

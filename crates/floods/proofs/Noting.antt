@@ -1,4 +1,5 @@
--- Neighbours queued one by one, with their crests as levels; lists written over and mapped.
+-- A node's arcs (the joins seen from it) are relaxed one by one. A neighbour whose crest by the arc
+-- is below its level, if any, is queued, and the crest becomes its level.
 use Rattle.std.proofs.Common.{◌≡◌, ℕ, ◌<◌, List, [], ◌∷◌, ◌++◌, length, get_or, set, map, take, drop, ℤ, ◌≤ℤ◌, Option, None, Some, IsSome, ◌+◌, sym, ap, subst, refl, ◌∙◌, arith, ◌⊎◌, inl, inr, to_z, of_z}
 use Rattle.std.specs.Int.{int_max}
 use Rattle.std.specs.Int.Signed.{≤ℤ_refl}

@@ -172,7 +172,8 @@ pop_taken k (Some w) lists l others inside is =
     (subst (λ (z : List (List Candidate)). IsPermutation (w ∷ flat_map (λ l. l) (set lists k l))
     (flat_map (λ l. l) z)) (set-get_or lists k []) more)
 
--- A height at most those of the heap's entries and of lists `first..end` is at most each entry's.
+-- If `level` is at most the heights of the heap's entries and of lists `first..end`, it is at most
+-- each entry's height.
 pub is_lowest : (base level : ℤ) (first end : ℕ) (lists : List (List Candidate))
     (others : List Candidate) → ((k : ℕ) → All (IsListed base first end k) (get_or lists k [])) →
     ((k : ℕ) → first ≤ k → k < end → level ≤ℤ (base +ℤ pos k)) → All (λ x.

@@ -156,7 +156,7 @@ level_of_lowest : (joins : Joins) (source : Sources) (w : Candidate) →
     IsLevel joins source w.node w.height.0 w.label
 level_of_lowest joins source w walk least own = record { reached = walk; least = least; own = own }
 
--- A node without a label, other than the node taken, keeps an entry as low.
+-- If w was taken, any other node a without a label still has an entry at most at h, if it had one.
 still_waits : (labels : List (Option ℕ)) (old new : List Candidate) (w : Candidate)
     (a : ℕ) (h : ℤ) → TakesLowest labels old w new → a ≢ w.node → entry_of labels a ≡ None →
     HasCandidate old a h → HasCandidate new a h

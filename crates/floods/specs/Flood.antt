@@ -1,4 +1,5 @@
--- The queue of a flood, and the steps that change it: a node is taken, and its arcs are relaxed.
+-- The queue of a flood, and its steps: a node is taken, and its arcs (the joins seen from it) are
+-- relaxed. An unlabelled neighbour whose crest by the arc is below its level, if any, is queued.
 -- Public.
 use Rattle.std.specs.Prelude.{◌≡◌, ℕ, ◌<◌, ◌≤◌, ◌⊎◌, ℤ, pos, ◌+ℤ◌, ◌≤ℤ◌, List, [], ◌∷◌, ◌++◌, map, length, Option, None, Some, IsSome, slice_index_or}
 use Rattle.std.specs.Ordering.{int_cmp}
@@ -29,13 +30,13 @@ all_entries lists others = flat_map (λ entries. entries) lists ++ others
 abbrev pub candidates_in : Queue → List Candidate
 candidates_in w = all_entries (entries_of w.lists.items) (heap_items w.others)
 
--- The entry is at the height of list k, which is from `first` on and before `end`.
+-- The entry w has the height of list k, and k is from `first` on and before `end`.
 pub record IsListed (base : ℤ) (first end k : ℕ) (w : Candidate) : Type 0 where
   pub level : w.height.0 ≡ base +ℤ pos k
   pub from : first ≤ k
   pub below : k < end
 
--- The heap is in order. Lists outside `first..end` are empty; entries are at their list's height.
+-- The heap is in order. Lists outside `first..end` are empty. An entry has its list's height.
 pub record AreOrdered (base : ℤ) (first end : ℕ) (lists : List (List Candidate))
     (others : List Candidate) : Type 0 where
   pub heap : IsHeap candidate_order others
@@ -58,12 +59,13 @@ HasNone waiting = (w : Candidate) → Contains waiting w → ⊥
 abbrev pub entry_of : {X : Type 0} → List (Option X) → ℕ → Option X
 entry_of xs a = slice_index_or xs a None
 
--- The entry's node has a label: its level is final. Until then a level is the least crest found.
+-- The entry's node has a label. In a flood, a node's level is final once the node has a label;
+-- before, it is the least crest found so far.
 abbrev pub HasLabel : List (Option ℕ) → Candidate → Type 0
 HasLabel labels w = IsSome (entry_of labels w.node)
 
--- w is a lowest entry of unlabelled nodes. No entry is added. At most w and entries of labelled
--- nodes are gone.
+-- w is a lowest of the entries of unlabelled nodes. No entry is added. At most w and entries of
+-- labelled nodes are gone.
 pub record TakesLowest (labels : List (Option ℕ)) (old : List Candidate) (w : Candidate)
     (new : List Candidate) : Type 0 where
   pub was_open : entry_of labels w.node ≡ None
@@ -72,7 +74,8 @@ pub record TakesLowest (labels : List (Option ℕ)) (old : List Candidate) (w : 
   pub left : All (Contains old) new
   pub kept : All (λ x. HasLabel labels x ⊎ (x ≡ w) ⊎ Contains new x) old
 
--- A neighbour's entry: at the greater of the arc's height and that of `from`, with `from`'s label.
+-- The entry of the neighbour at `arc`. It has the greater of the heights of `arc` and `from`, and
+-- the label of `from`.
 abbrev pub candidate_by : Candidate → Spill → Candidate
 candidate_by from arc = record {
   height = record { 0 = int_max arc.height from.height.0 };
@@ -80,7 +83,8 @@ candidate_by from arc = record {
   label = from.label;
 }
 
--- The entries are those of the sources, each at its height and labelled by itself.
+-- The entries are those of the sources below `nodes`. Each has the source's height, and the source
+-- as label.
 pub record AreSourcesQueued (nodes : ℕ) (source : Sources) (waiting : List Candidate) : Type 0 where
   pub only : All (λ w. (w.node < nodes) × (source w.node ≡ Some w.height.0) × (w.label ≡ w.node))
       waiting
@@ -92,8 +96,8 @@ pub record HasSourcesNoted (count : ℕ) (source : Sources) (levels : List (Opti
   pub each : (a : ℕ) → a < count → entry_of levels a ≡ source a
   pub rest : (a : ℕ) → count ≤ a → entry_of levels a ≡ None
 
--- An entry at the height of its node, a source, has that node as label. Each source without a
--- label has a level, at most its height.
+-- If an entry's node is a source of the entry's height, the entry's label is that node. Each source
+-- without a label has a level, at most its height.
 pub record AreOwn (source : Sources) (labels : List (Option ℕ)) (levels : List (Option ℤ))
     (waiting : List Candidate) : Type 0 where
   pub own : All (λ w. source w.node ≡ Some w.height.0 → w.label ≡ w.node) waiting
@@ -104,12 +108,13 @@ pub record AreOwn (source : Sources) (labels : List (Option ℕ)) (levels : List
 abbrev pub HasCandidate : List Candidate → ℕ → ℤ → Type 0
 HasCandidate waiting a h = (w : Candidate) × Contains waiting w × (w.node ≡ a) × (w.height.0 ≤ℤ h)
 
--- The entry is that of the neighbour at one of these arcs of `from`.
+-- The entry w is that of the neighbour at one of `arcs`, which are arcs of `from`.
 abbrev pub IsCandidateBy : Candidate → List Spill → Candidate → Type 0
 IsCandidateBy from arcs w = (arc : Spill) × Contains arcs arc × (w ≡ candidate_by from arc)
 
--- Old entries stay, and each added entry is that of the neighbour at one of these arcs of `from`.
--- Each of these neighbours without a label has an entry at most at its crest by the arc.
+-- Old entries stay, and each added entry is that of the neighbour at one of `arcs`, arcs of `from`.
+-- Each neighbour at one of `arcs` has a label, or an entry at most at its crest. The crest is the
+-- greater of the heights of the arc and `from`.
 pub record Queues (labels : List (Option ℕ)) (from : Candidate) (arcs : List Spill)
     (old : List Candidate) (new : List Candidate) : Type 0 where
   pub kept : All (Contains new) old
@@ -128,7 +133,8 @@ pub record AreNoted (labels : List (Option ℕ)) (levels : List (Option ℤ))
 abbrev pub KeepsDone : List (Option ℕ) → List (Option ℤ) → List (Option ℤ) → Type 0
 KeepsDone labels old new = (a : ℕ) → IsSome (entry_of labels a) → entry_of new a ≡ entry_of old a
 
--- These arcs of `from` were relaxed as in Dijkstra's algorithm. `AreOwn` holds if it held before.
+-- The arcs `arcs` of `from` were relaxed as in Dijkstra's algorithm. `AreOwn` holds if it held
+-- before.
 pub record Relaxes (labels : List (Option ℕ)) (from : Candidate) (arcs : List Spill)
     (levels after : List (Option ℤ)) (old new : Queue) : Type 0 where
   pub order : InOrder new

@@ -7,7 +7,7 @@ use Rattle.std.specs.Ordering.{int_eq}
 abbrev pub lack : ℤ
 lack = pos 9223372036854775807
 
--- The height stored as this number, or none: `lack` is a height only if marked.
+-- The height that the number `height` stores, or none: `lack` stores a height only if `marked`.
 abbrev pub noted : Bool → ℤ → Option ℤ
 noted marked height =
     if marked then Some height else (if int_eq height lack then None else Some height)
@@ -18,7 +18,7 @@ heights_where [] heights = []
 heights_where (marked ∷ rest) [] = []
 heights_where (marked ∷ rest) (height ∷ heights) = noted marked height ∷ heights_where rest heights
 
--- The number stored for an entry.
+-- The number that stores an optional height: `lack` for `None`.
 abbrev pub height_or_lack : Option ℤ → ℤ
 height_or_lack entry = unwrap_or entry lack
 

@@ -1,12 +1,13 @@
--- Walks over a net to its sources, and the least crest among them. A net is given by its joins
--- and its sources, each with a height.
+-- A net has nodes, joins between nodes, and sources among the nodes; each join and source has a
+-- height. A walk follows joins from a node to a source; its crest is its greatest height. The
+-- level of a node is the least crest of its walks.
 -- Public.
 use Rattle.std.specs.Prelude.{◌≡◌, ℕ, ◌<◌, ◌≤◌, ℤ, pos, ◌≤ℤ◌, List, [], ◌∷◌, length, Option, None, Some, IsSome, MatchOption, slice_index_or, unwrap_or}
 use Rattle.std.specs.List.{Contains, All}
 use Rattle.std.specs.Int.{int_max}
 use Rattle.floods.specs.declared.net.Spill.{Spill}
 
--- Joins: node a is joined to node b at this height.
+-- Joins, as a relation of a, b and h: node a is joined to node b at height h.
 abbrev pub Joins : Type 1
 Joins = ℕ → ℕ → ℤ → Type 0
 
@@ -57,7 +58,7 @@ pub record IsFlooded (joins : Joins) (source : Sources) (nodes : ℕ) (levels : 
       (λ level. (label : ℕ) × (slice_index_or labels a None ≡ Some label)
       × IsLevel joins source a level label)
 
--- The arcs are exactly those of these joins: each joined node, with the join's height.
+-- There is an arc to node b at height h exactly if `joins b h`.
 pub record HasJust (joins : ℕ → ℤ → Type 0) (arcs : List Spill) : Type 0 where
   pub only : All (λ arc. joins arc.to arc.height) arcs
   pub every : (b : ℕ) (h : ℤ) → joins b h → Contains arcs (record { to = b; height = h })

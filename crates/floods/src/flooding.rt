@@ -1,4 +1,5 @@
-//! The flood: finds levels and labels of nodes, from the lowest source upward.
+//! The flood: finds each node's level, the least crest of its walks to sources, and its label.
+//! The label is a source where a walk of that crest ends. A walk's crest is its greatest height.
 //!
 //! [`flood_net`] takes the lowest node from the queue, labels it, and queues its neighbours.
 ghost use Rattle.std.specs.Prelude.{◌≡◌, IfOk, length, replicate, None};

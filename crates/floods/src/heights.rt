@@ -8,8 +8,8 @@ use std::marker::Model;
 use terrain::Height;
 
 /// The number stored for a missing height.
-/// No number is greater, so [`HeightList::is_no_higher`] reads `greatest` only if its `height` is
-/// this number.
+/// No number is greater, so [`HeightList::is_no_higher`] reads `greatest` only if its argument
+/// `height` is this number.
 const LACK: Height = Height::MAX;
 
 /// A list of optional heights, in 9 bytes an entry. An `Option<Height>` takes 16.
@@ -54,7 +54,7 @@ impl HeightList {
         self.heights.len()
     }
 
-    /// Returns an entry, `None` if its height is missing.
+    /// Returns the height at `index`, or `None` if it is missing.
     #[inline(always)]
     pub fn at(&self, index: usize) -> Option<Height>
         requires { index < length self.now }
@@ -68,7 +68,7 @@ impl HeightList {
         }
     }
 
-    /// Returns whether an entry is not missing and at most `height`.
+    /// Returns whether there is a height at `index`, and it is at most `height`.
     #[inline(always)]
     pub fn is_no_higher(&self, index: u32, height: Height) -> bool
         requires { index < length self.now }

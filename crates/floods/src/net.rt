@@ -1,4 +1,4 @@
-//! The trait of nets, whose nodes are joined at heights: [`Net`].
+//! The trait [`Net`]: nodes, joins of two nodes at a height, and sources with heights.
 //!
 //! A net may override [`Net::spread`] to queue neighbours without listing them, and
 //! [`Net::next_candidate`] to skip runs of nodes that are no sources.
@@ -48,7 +48,8 @@ pub trait Net {
         requires { node < node_count self.now }
         ensures { result ≡ source_height self.now node };
 
-    /// Returns a node from `from` on, or the node count. No node that it skips is a source.
+    /// Returns a node from `from` on, or the node count.
+    /// No node from `from` on and before the returned number is a source.
     /// A net that can exclude many nodes at once skips them here.
     #[inline]
     fn next_candidate(&self, from: u32) -> u32
@@ -60,8 +61,8 @@ pub trait Net {
         from
     }
 
-    /// Queues each unlabelled neighbour of `from` with no level or one above its crest.
-    /// Its crest is the greater of the join's height and `from.height`.
+    /// Queues each unlabelled neighbour of `from` whose crest is below its level, if any.
+    /// A neighbour's crest is the greater of the join's height and `from.height`.
     /// The crest of a queued neighbour becomes its level in `levels`.
     ///
     /// # Errors

@@ -1,4 +1,4 @@
-//! The labels of a net's nodes, in 4 bytes a node.
+//! The labels of a net's nodes, in 4 bytes a node. A label is the number of a source.
 ghost use Rattle.std.specs.Prelude.{◌≡◌, ◌<◌, ◌-◌, IfOk, None, Some, length, replicate, set, slice_index_or, is_some};
 ghost use Rattle.floods.specs.Notes.{label_of, numbered_labels};
 

@@ -1,4 +1,4 @@
-//! The priority queue of a flood: the lowest node first.
+//! The priority queue of a flood: the node queued at the least height is taken first.
 //!
 //! Lists have nodes at consecutive heights, one list for each height. A heap has all other nodes.
 //! [`queue_neighbour`] queues a node again only at a lower crest.
@@ -15,7 +15,7 @@ use std::collections::BinaryHeap;
 use terrain::Height;
 
 /// A queued node; `height` is the crest of a walk from it to the source `label`.
-/// Entries compare by `height` alone; the lowest is the greatest, for a max-heap.
+/// Entries compare by `height` alone. That of least height is the greatest, for a max-heap.
 #[derive(Clone, Copy)]
 #[derive_where(PartialEq, Eq, PartialOrd, Ord)]
 pub struct Candidate {
@@ -111,7 +111,7 @@ impl Queue {
         })
     }
 
-    /// Returns the index of a height's list; `None` if it has none from `first` on.
+    /// Returns the index of the list for `height`, if there is one from `first` on.
     #[inline(always)]
     fn list_of(&self, height: Height) -> Option<usize>
         ensures from { IfSome result (λ k. self.now.first ≤ k) }
@@ -129,7 +129,7 @@ impl Queue {
         }
     }
 
-    /// Returns the number of lists, before `end`, of heights below `height`.
+    /// Returns how many lists before `end` are for heights below `height`.
     #[inline(always)]
     fn lists_below(&self, height: Height) -> usize
         ensures end { result ≤ self.now.end }
@@ -144,7 +144,7 @@ impl Queue {
         }
     }
 
-    /// Returns the number of lists, before `end`, below all nodes of the heap.
+    /// Returns how many lists before `end` are for heights below the heap's least.
     #[inline(always)]
     fn lists_below_heap(&self) -> usize
         requires { InOrder self.now }
@@ -226,7 +226,7 @@ impl Queue {
 }
 
 /// Takes a lowest entry whose node has no label, if any.
-/// Drops the entries of labelled nodes that it meets before.
+/// Drops the entries of labelled nodes that are taken before that entry.
 #[inline(always)]
 pub(crate) fn next_unlabelled(queue: &mut Queue, labels: &NodeLabels) -> Option<Candidate>
     requires order { InOrder queue.old }
@@ -244,9 +244,9 @@ pub(crate) fn next_unlabelled(queue: &mut Queue, labels: &NodeLabels) -> Option<
     None
 }
 
-/// Queues `arc.to` if it has no label, and no level or one above its crest.
-/// Its crest is the greater of `arc.height` and `from.height`.
-/// If queued, it gets this crest as its level in `levels`.
+/// Queues node `arc.to` if it has no label and its crest is below its level, if any.
+/// The crest is the greater of `arc.height` and `from.height`.
+/// If the node is queued, the crest becomes its level in `levels`.
 ///
 /// # Errors
 ///

@@ -1,4 +1,5 @@
--- Catchments: how many cells have a gauge's number, and what one more gauge changes.
+-- If no other gauge drains through a gauge, accumulation + 1 cells have its number. An appended
+-- gauge changes only the catchments of cells that drain through it.
 use Rattle.std.proofs.Common.{◌≡◌, ◌≢◌, ℕ, zero, suc, ◌+◌, ◌-◌, ◌<◌, ◌≤◌, inl, inr, Bool, true, false, cond, not, ◌&&◌, ◌||◌, List, [], ◌∷◌, ◌++◌, length, map, get_or, count_by, Option, None, Some, is_some, unwrap_or, sym, ap, refl, ◌∙◌, arith}
 use Rattle.std.specs.Prelude.{◌==◌}
 use Rattle.std.specs.Option.{option_or, option_map_or}
@@ -147,7 +148,7 @@ module _ (d : Directed) (s : IsEnding d) (gauges : List Place) (g : Place) (is :
       (cond-false {A = ℕ} _ 1 0
       (and_left _ _ (and_right _ _ (not_from_true _ (is_place_from g g refl)))))
 
--- One gauge more, which is not on the flow path of p.
+-- Gauge g is appended to the gauges. It is not on the flow path of p.
 module _ (d : Directed) (gauges : List Place) (g p : Place)
     (past : drains_through d g p ≡ false) where
   abbrev is_old : Place → Bool

@@ -54,7 +54,7 @@ stops_sooner d p e k n way stop =
     ∙ follow_stays d p (suc n) (suc k + n) (omega arith) stop in
     ap (next d) later ∙ stop ∙ sym later
 
--- A path that returns to p and stops at all never leaves p.
+-- If the path of p returns to p, and moves no further after some move, it never leaves p.
 pub cycle_stops : (d : Directed) (n : ℕ) (p : Place) (k : ℕ) → follow d p (suc k) ≡ p →
     StopsAt d p n → next d p ≡ p
 cycle_stops d zero p k way stop = stop

@@ -74,7 +74,7 @@ module _ {X : Type 0} (test : X → Bool) (f : ℕ → X) where
     ]
   ]
 
--- With y appended, the first match is the first in xs, or else y if y matches.
+-- With y appended to xs, the first entry that passes p is the first in xs, or else y if y passes p.
 pub position_push : {X : Type 0} (p : X → Bool) (i : ℕ) (xs : List X) (y : X) → position_from p i
     (xs ++ y ∷ []) ≡ option_or (position_from p i xs) (cond (p y) (Some (i + length xs)) None)
 position_push p i [] y = let z : i ≡ i + 0 = omega arith in

@@ -1,4 +1,5 @@
--- Gauges without a fault have codes, and a gauge in the grid without a code has a fault.
+-- Gauges without a fault are on cells that have codes. A gauge in the grid on a cell without a code
+-- has a fault.
 use Rattle.std.proofs.Common.{◌≡◌, ℕ, ◌<◌, ◌≤◌, Bool, true, false, not, List, length, get_or, Option, None, Some, is_some, is_none, sym, ap, refl, ◌∙◌, subst}
 use Rattle.std.specs.Prelude.{nat_lt, if◌then◌else◌, option_map}
 use Rattle.std.specs.List.{All}

@@ -1,4 +1,5 @@
--- Paths along a tile's links are the parts of flow paths inside it, and end at exits.
+-- Paths along a tile's links are the parts of flow paths inside the tile, and end at exits. A
+-- cell's link is the index of the next cell downstream in the tile.
 use Rattle.std.proofs.Common.{◌≡◌, ◌↔◌, ℕ, zero, suc, ◌<◌, ◌≤◌, ◌⊎◌, inl, inr, List, length, sym, ap, subst, refl, ◌∙◌, arith, ◌+◌, true, Option, is_some, mul_comm}
 use Rattle.std.specs.Prelude.{◌*◌, if◌then◌else◌, is_some, slice_index}
 use Rattle.std.proofs.lemmas.Bool.{cases_eq, cases_Bool, cond-true, cond-false, false_from_ne_true, eq-eqb}
@@ -91,7 +92,7 @@ module _ (d : Directed) (c : Cutting) (tile : ℕ) (b : Bounds) (links : List �
   link_place i h y = ap (place_in b) (link_is i h ∙ link-in d b i y)
       ∙ place_in-index_in b (next d (place_in b i)) y
 
-  -- k moves along links from node j lead where the first `met` moves of its cell's flow path lead,
+  -- k moves along links from node j lead where the first `met` moves of cell j's flow path lead,
   -- inside the bounds. `met` is k, unless the path along links has ended after k moves.
   pub record FollowsLinks (j k : ℕ) : Type 0 where
     pub met : ℕ

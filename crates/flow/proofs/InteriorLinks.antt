@@ -1,4 +1,4 @@
--- The links of interior cells, with all eight places around them in the tile.
+-- An interior cell, with all eight places around it in the tile, is linked to where its code leads.
 use Rattle.std.proofs.Common.{◌≡◌, ℕ, ◌+◌, ◌-◌, ◌*◌, ◌<◌, get_or, Option, Some, unwrap_or, cond, sym, ap, ◌∙◌, arith}
 use Rattle.std.specs.Option.{option_and_then}
 use Rattle.std.proofs.lemmas.Bool.{cond-true}

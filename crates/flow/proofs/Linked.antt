@@ -1,4 +1,5 @@
--- Right inflows and outlets together are the links of `RimLinks`.
+-- If the inflows and outlets found are those of a map of directions, so are those of the `RimLinks`
+-- made of both.
 use Rattle.std.proofs.Common.{◌≡◌, true, inl, inr, List, Option, None, sym, ap, ◌∙◌}
 use Rattle.std.proofs.lemmas.Bool.{cases_Bool, and_from, and_parts, lt-ltb, ltb-true, cond-true, cond-false}
 use Rattle.terrain.specs.declared.place.Place.{Place}

@@ -1,4 +1,5 @@
--- The entries of a tile's lists: its codes by rows, its flow by indexes, and numbers of exits.
+-- The entries of a tile's lists: codes, appended row by row; counts and exits, at each index; and
+-- the number of the outlet to which each exit leads.
 use Rattle.std.proofs.Common.{◌≡◌, ℕ, ◌<◌, ◌≤◌, List, length, get_or, map, Option, None, Some, IfSome, sym, ap, subst, refl, ◌∙◌, arith, ◌+◌, ◌-◌, ◌*◌, inl, inr, ◌++◌}
 use Rattle.std.specs.List.{range_with_len}
 use Rattle.std.specs.Option.{option_map}

@@ -1,4 +1,4 @@
--- The lists made for a tile are its flow.
+-- The lists made for a tile, of codes, links, sums and ends of paths, are the tile's flow.
 use Rattle.std.proofs.Common.{◌≡◌, ℕ, ◌+◌, ◌*◌, ◌^◌, ◌<◌, ◌≤◌, inl, inr, List, length, get_or, Option, None, Some, is_some, MatchOption, cond, sym, ap, subst, refl, ◌∙◌, arith}
 use Rattle.std.proofs.Math.Nat.{mul-le-mul}
 use Rattle.std.proofs.lemmas.Bool.{cond-true}

@@ -150,7 +150,7 @@ module _ (d : Directed) (s : IsEnding d) where
         ]
 
     module _ (q : Place) (is : IsCoded d q) where
-      -- A path that has left the region returns to no place of it where the path was before.
+      -- A path that has left the region returns to no place of the region where it was before.
       no_return : (f k a m : ℕ) → ((l : ℕ) → f ≤ l → l ≤ k → In (follow d q l)) → f ≤ k → f ≤ a →
           (In (follow d q a) → ⊥) → a < m → follow d q k ≡ follow d q m → ⊥
       no_return f k a m way some from out lt same = elim (cases_lt k a) [

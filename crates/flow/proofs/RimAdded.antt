@@ -1,4 +1,5 @@
--- Adding the amounts listed for a tile's side numbers adds to each cell's weight its inflow.
+-- Adding the amounts listed for a tile's side numbers adds to each cell's weight the cell's inflow.
+-- A side number is a rim cell's number in its tile.
 use Rattle.std.proofs.Common.{◌≡◌, ◌≢◌, ℕ, ◌+◌, ◌*◌, ◌%◌, ◌^◌, ◌<◌, ◌≤◌, cond, eqb, inl, inr, List, length, get_or, set, Option, None, Some, sym, ap, subst, ◌∙◌, arith, refl}
 use Rattle.std.proofs.lemmas.Bool.{cases_Bool, eq-eqb, ne_eqb, cond-true, cond-false, false_from_ne_true, false≢true}
 use Rattle.std.proofs.lemmas.Nat.{div-mul-add, mod-mul-add}

@@ -1,4 +1,5 @@
--- Exits into other tiles, and the outlets where their water ends.
+-- Links lead from each exit into another tile to the next such exit on its flow path. Water that
+-- leaves by the last one ends in the next tile.
 use Rattle.std.proofs.Common.{◌≡◌, ◌≢◌, ℕ, zero, suc, ◌+◌, ◌*◌, ◌/◌, ◌%◌, ◌<◌, ◌⊎◌, inl, inr, true, false, cond, eqb, List, length, get_or, Option, None, Some, IfSome, is_some, slice_get, unwrap_or, sym, ap, subst, refl, ◌∙◌, arith}
 use Rattle.std.specs.Option.{option_and_then}
 use Rattle.std.proofs.lemmas.Bool.{cases_eq, cases_lt, cases_Bool, eqb-true, cond-true, cond-false, false_from_ne_true, false≢true}
@@ -356,7 +357,7 @@ module _ (d : Directed) (t : Cutting) (flows : List Flow) (s : AreFlowsOf d t fl
         (is_outlet_code (entry_in f.flow.bounds f.flow.codes e)) None (Some e)) o) m) ∙ x)))
   ]
 
-  -- Rim number i has a next exit into another tile, `to`, and is linked to its number.
+  -- Rim number i has a next exit into another tile, `to`, and is linked to the rim number of `to`.
   pub record NextExit (i : ℕ) : Type 0 where
     pub to : Place
     pub crosses : LeavesTile to

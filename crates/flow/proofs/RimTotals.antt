@@ -1,4 +1,5 @@
--- The total of an exit into another tile, along links, is how many cells' flow paths contain it.
+-- The total of an exit into another tile, its weight and all weights upstream along links, is how
+-- many cells' flow paths contain it.
 use Rattle.std.proofs.Common.{◌≡◌, ◌≢◌, ℕ, suc, ◌+◌, ◌-◌, ◌*◌, ◌<◌, ◌≤◌, ◌⊎◌, inl, inr, true, false, cond, ◌&&◌, eqb, List, length, get_or, Option, None, Some, is_some, sym, ap, subst, refl, ◌∙◌, arith, unwrap_or}
 use Rattle.std.specs.Option.{option_and_then}
 use Rattle.std.proofs.lemmas.Option.{none-some, MatchOption-at_some}
@@ -29,7 +30,8 @@ module _ (d : Directed) (t : Cutting) (flows : List Flow) (s : AreFlowsOf d t fl
   pub ending : IsEnding d
   ending = ending_of d t s.ends s.cutting s.of_tiles.size
 
-  -- If q's flow path leaves a tile at c, c is the exit e of q, or the path leaves by e before c.
+  -- If q's flow path leaves a tile at c, then c is q's exit e, or the path left q's tile by e
+  -- before.
   leaves_at : (q e c : Place) → IsExitOf d t q e → (m : ℕ) → follow d q m ≡ c →
       LeavesTile d t flows s c →
       (c ≡ e)
@@ -50,8 +52,8 @@ module _ (d : Directed) (t : Cutting) (flows : List Flow) (s : AreFlowsOf d t fl
     ]
   ]
 
-  -- The weight of an exit into another tile is how many cells' flow paths reach it without leaving
-  -- their tile, itself included.
+  -- The weight of an exit into another tile is how many cells' flow paths, its own included, reach
+  -- it without leaving their tile.
   pub weight_targeted : (j : ℕ) (q : Place) → target_by t flows j ≡ Some q →
       rim_weight t flows j ≡ all_drained_inside d t (rim_place t j)
   weight_targeted j q e =

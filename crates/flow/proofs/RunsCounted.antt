@@ -1,4 +1,5 @@
--- The outlets of a list of codes, from the counts of its runs.
+-- The outlets before an index of a list of codes are those in earlier runs and those before it in
+-- its own run. A run is the part of the list that one job counts.
 use Rattle.std.proofs.Common.{◌≡◌, ℕ, zero, suc, ◌+◌, ◌-◌, ◌*◌, ◌/◌, ◌^◌, ◌<◌, ◌≤◌, inl, inr, cond, List, length, get_or, take, drop, count_by, Option, Some, slice_get, slice_range, sym, ap, subst, ◌∙◌, arith}
 use Rattle.std.specs.List.{sum_by}
 use Rattle.std.proofs.Math.Nat.{div-mul-le_self, lt-div-mul-add, div-lt_iff_lt-mul}

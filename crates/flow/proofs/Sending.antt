@@ -1,4 +1,5 @@
--- The loop that sends sums downstream along links, node by node.
+-- `IsSending` stays true as a node sends its sum downstream along its link. When no entry of
+-- `waits` is 0, all nodes have sent.
 use Rattle.std.proofs.Common.{◌≡◌, ◌≢◌, ℕ, ◌+◌, ◌<◌, Bool, true, false, not, ◌&&◌, cond, eqb, inl, inr, List, length, get_or, set, sym, ap, refl, ◌∙◌, arith, ◌^◌, ◌≤◌, ◌-◌}
 use Rattle.std.proofs.lemmas.Bool.{cases_eq, cases_Bool, eq-eqb, ne_eqb, eqb-true, cond-true, cond-false, and_left, and_right, and_parts, not-true, not_from_true, not_from_false, true_from_ne_false, false≢true, false_from_ne_true}
 use Rattle.std.proofs.lemmas.List.{get_or-set_same, get_or-set_other}
@@ -92,7 +93,7 @@ upstream_le links weights waits upstream streams s =
     ))
     (λ i h. omega (arith, (totals_are links weights streams).each i h))
 
--- If no count is 0, every node has sent.
+-- If no entry of `waits` is 0, every node has sent.
 pub all_sent : (links weights waits upstream : List ℕ) → AreStreams links →
     IsSending links weights waits upstream → ((i : ℕ) → i < length links → get_or waits i 0 ≢ 0) →
     (i : ℕ) → i < length links → has_sent waits i ≡ true
@@ -164,7 +165,8 @@ donors_begin links weights waits upstream few d none =
 
 -- One node sends its sum.
 
--- How counts and sums change as a node sends. An end is marked, and nothing else changes.
+-- How `waits` and `upstream` change as `node` sends. If it is an end, it is marked as having sent,
+-- and nothing else changes.
 pub record MovesOn (links weights waits upstream new_waits new_upstream : List ℕ) (node : ℕ) :
     Type 0 where
   pub waits_size : length new_waits ≡ length waits

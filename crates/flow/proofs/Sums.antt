@@ -1,4 +1,4 @@
--- Sums of a function over the numbers below n.
+-- Sums of a function over the numbers below n are compared term by term, split and exchanged.
 use Rattle.std.proofs.Common.{◌≡◌, ◌≢◌, ℕ, zero, suc, ◌+◌, ◌-◌, ◌<◌, ◌≤◌, Bool, true, false, cond, inl, inr, sym, ap, refl, ◌∙◌, arith, add-one, add-zero}
 use Rattle.std.proofs.lemmas.Bool.{cases_eq, cases_lt}
 use Rattle.flow.specs.Streams.{sum_below}

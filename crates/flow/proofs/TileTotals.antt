@@ -1,4 +1,5 @@
--- The counts of cells upstream are totals along a tile's links.
+-- A cell's total along a tile's links, its weight and all weights upstream, is how many cells drain
+-- through it. Without inflows in the weights, it is how many do so without leaving the tile.
 use Rattle.std.proofs.Common.{◌≡◌, ◌≢◌, ℕ, suc, ◌+◌, ◌*◌, ◌<◌, ◌≤◌, Bool, true, false, ◌&&◌, cond, inl, inr, List, length, get_or, is_some, sym, ap, subst, refl, ◌∙◌, arith}
 use Rattle.std.proofs.lemmas.Bool.{cases_eq, cases_Bool, and_from, and_parts, cond-true, cond-false, false_from_ne_true, false≢true}
 use Rattle.terrain.specs.declared.place.Place.{Place}
@@ -160,8 +161,8 @@ module _ (d : Directed) (e : IsEnding d) (t : Cutting) (tile : ℕ) (b : Bounds)
                   )
             ]
 
-  -- If for each cell q the term at i is `own` plus `over` plus the terms at i's donors, the sums
-  -- over all cells obey the equation too.
+  -- Suppose that for each cell q the term at i is `own` plus `over` plus the terms at i's donors.
+  -- Then the sums over all cells q obey the equation too.
   tallied : (R : Place → Place → Bool) (over : Place → Place → ℕ) (i : ℕ) → i < length links →
       ((q : Place) → IsCoded d q → cond {A = ℕ} (is_some (code_at d q) && R (place_in b i) q) 1 0
       ≡ own (place_in b i) q + over (place_in b i) q + sum_below (λ j. cond {A = ℕ} (leads_to links

@@ -1,4 +1,4 @@
--- From the codes and the results of all tiles to the map of a drained terrain.
+-- If each tile's list has the right entries, the lists joined are the map of a drained terrain.
 use Rattle.std.proofs.Common.{◌≡◌, ℕ, ◌*◌, List, length, Option, subst, sym, ap, ◌∙◌, Some, Vec, Global, vec_len, slice_get, arith}
 use Rattle.std.specs.Prelude.{Result, Ok, Err, IfOk}
 use Rattle.std.proofs.lemmas.Option.{get_or_from_slice_get, slice_get_within}

@@ -1,4 +1,5 @@
--- Properties that pass downstream along links, and totals.
+-- If a node has a property whenever the other nodes linked to it have it, every node has it. This
+-- bounds a node's total, its weight and all weights upstream.
 use Rattle.std.proofs.Common.{◌≡◌, ◌≢◌, ℕ, zero, suc, ◌+◌, ◌<◌, ◌≤◌, true, false, not, eqb, cond, inl, inr, List, length, get_or, sym, ap, subst, refl, ◌∙◌, arith}
 use Rattle.std.proofs.lemmas.Bool.{cases_eq, cases_Bool, cond-true, cond-false, and_from, and_parts, and_right, eq-eqb, ne_eqb, eqb-true, not-true, not_from_true, not_from_false, false_from_ne_true, false≢true}
 use Rattle.flow.specs.Streams.{AreStreams, total_within, total, onward, node_after, leads_to, upstream_sum}

@@ -1,4 +1,5 @@
--- Sums over the cells of a grid, tests over ranges, and lists made from ranges.
+-- A sum over a grid's cells is a sum over their row-order indexes. Tests of the numbers below n,
+-- and lists of the values of a function there, are taken apart number by number.
 use borrow.Author.Count.{below_more}
 use Rattle.std.proofs.Common.{◌≡◌, ℕ, zero, suc, ◌+◌, ◌*◌, ◌≤◌, List, length, map, sym, ap, refl, ◌∙◌, arith, add-one, zero-mul, ◌<◌, Bool, true, [], ◌∷◌, ◌++◌, get_or}
 use Rattle.std.proofs.lemmas.List.{length-append, get_or_append_left, get_or_push}
@@ -86,7 +87,7 @@ all_in_range f n h = list_all-from_AllPass f (range_with_len 0 n)
     (λ k d below. (let l : k < n = omega (arith, below, length-range_with_len 0 n) in
     ap f (number_at n k d l) ∙ h k l))
 
--- The list of f over a range one longer is the list with one more entry.
+-- The values of f at 0 to n are its values below n, with f n appended.
 pub mapped_next : {X : Type 0} (f : ℕ → X) (n : ℕ) →
     map f (range_with_len 0 (n + 1)) ≡ map f (range_with_len 0 n) ++ f n ∷ []
 mapped_next f n = map-range_with_len_more f 0 n n (omega arith)
@@ -100,7 +101,7 @@ pub mapped_all : {X : Type 0} (f : ℕ → X) (n m : ℕ) (xs : List X) →
     xs ≡ map f (range_with_len 0 n) → n ≡ m → xs ≡ map f (range_with_len 0 m)
 mapped_all f n m xs made all = made ∙ ap (λ k. map f (range_with_len 0 k)) all
 
--- A list of the first values of f remains one, when the next value is appended.
+-- If xs has the first n values of f, then xs with f n appended has the first n + 1.
 pub each_pushed : (f : ℕ → ℕ) (n : ℕ) (xs ys : List ℕ) (x : ℕ) → length xs ≡ n →
     ((k : ℕ) → k < length xs → get_or xs k 0 ≡ f k) → x ≡ f n → ys ≡ xs ++ x ∷ [] → (k : ℕ) →
     k < length ys → get_or ys k 0 ≡ f k

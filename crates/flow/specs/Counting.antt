@@ -1,4 +1,5 @@
--- The accumulations of the cells of a tile, by the tile's flow and inflows.
+-- How a tile's accumulations come from its flow (codes, exits and counts inside the tile) and from
+-- its inflows.
 -- Private.
 use Rattle.std.specs.Prelude.{◌≡◌, ℕ, ◌+◌, ◌-◌, ◌^◌, ◌<◌, ◌≤◌, List, map, length, Option, None, Some, slice_get, slice_index, slice_index_or}
 use Rattle.std.specs.List.{range_with_len}
@@ -47,13 +48,14 @@ pub record IsCountable (inflows : Inflows) (tile : ℕ) (f : Flow) : Type 0 wher
       AreRimWeights inflows (bounds_of inflows.cutting tile) f.codes weights →
       (i : ℕ) → i < length f.codes → total (links_by f.bounds f.codes) weights i < 2 ^ 32
 
--- The premises of all jobs: one flow for each tile, with `IsCountable`.
+-- The premises of all jobs: one flow for each tile, and `IsCountable` holds of each.
 pub record AreCountable (t : Cutting) (flows : List Flow) (inflows : Inflows) : Type 0 where
   pub same_cutting : inflows.cutting ≡ t
   pub count : length flows ≡ tile_count t
   pub each : (tile : ℕ) (f : Flow) → slice_get flows tile ≡ Some f → IsCountable inflows tile f
 
--- The sum of each data cell's weight and those upstream, less 1 for itself; `None` at NODATA.
+-- Each data cell's entry in `weights` plus that in `upstream`, less 1 for the cell itself; `None`
+-- at NODATA.
 abbrev pub counts_by : List (Option ℕ) → List ℕ → List ℕ → List (Option ℕ)
 counts_by cells weights upstream =
     map (λ i. where_data (slice_index_or cells i None)

@@ -1,4 +1,4 @@
--- Codes with 0, an outlet's code, at each gauge; and the numbers of gauges.
+-- Codes cut at gauges, which have 0, an outlet's code, at each gauge; and the numbers of gauges.
 -- Private.
 use Rattle.std.specs.Prelude.{◌≡◌, ℕ, ◌==◌, nat_eq, true, false, List, length, Option, Some, IsSome, unwrap_or}
 use Rattle.std.specs.HashMap as hash

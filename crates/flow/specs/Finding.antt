@@ -1,4 +1,4 @@
--- Lists of the ends of nodes' paths, in which ends may still be unknown.
+-- Lists of the nodes where nodes' paths along links end, with a mark for an end still unknown.
 -- Private.
 use Rattle.std.specs.Prelude.{◌≡◌, ◌≢◌, ℕ, ◌<◌, List, length, slice_index}
 use Rattle.flow.specs.Streams.{end_of}

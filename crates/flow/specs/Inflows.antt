@@ -1,4 +1,5 @@
 -- Inflow: how many cells' flow paths enter each rim cell from another tile.
+-- A rim number is a rim cell's number among the rim cells of all tiles.
 -- Public.
 use Rattle.std.specs.Prelude.{◌≡◌, ℕ, ◌+◌, ◌*◌, ◌<◌, ◌==◌, if◌then◌else◌, List, map, length, Option, None, Some, slice_get, slice_index, slice_index_or, unwrap_or, option_and_then}
 use Rattle.std.specs.List.{range_with_len}
@@ -31,8 +32,8 @@ abbrev pub sent_to : Cutting → ℕ → Option Place → ℕ → ℕ
 sent_to t k None amount = 0
 sent_to t k (Some entry) amount = if rim_number t entry == k then amount else 0
 
--- The amount that rim number i sends to number k: its weight and its sum from upstream if its
--- target has number k, else 0.
+-- The amount that rim number i sends to rim number k: the weight of i plus its sum from upstream.
+-- It is 0 unless the target of i has number k.
 abbrev pub entering : Cutting → List (Option Place) → List ℕ → List ℕ → ℕ → ℕ → ℕ
 entering t targets weights upstream k i =
     sent_to t k (slice_index_or targets i None) (slice_index upstream i + slice_index weights i)

@@ -13,7 +13,7 @@ use Rattle.flow.specs.TileFlow.{Flow}
 use Rattle.flow.specs.Whole.{is_outlet_code}
 use Rattle.flow.specs.RimGraph.{AreFlowsOf, Outlets, AreOutlets, listed_outlet}
 
--- How many cells a grid has, and the number of each one where a flow path may end.
+-- How many cells a grid has, and the number of each cell where a flow path may end.
 pub record EndNumbers : Type 0 where
   pub cells : ℕ
   pub number : ℕ → ℕ
@@ -27,7 +27,8 @@ outlet_numbers codes =
 abbrev pub end_number : Directed → EndNumbers → Place → ℕ
 end_number d n p = n.number (index_of d.cols (last_of d p))
 
--- The flows and outlets are those of a map; its cells' numbers are below `uncounted`.
+-- The flows and outlets are those of a map of directions, and each number of n is below
+-- `uncounted`, the stored count of NODATA.
 pub record IsNumbering (d : Directed) (t : Cutting) (flows : List Flow) (outlets : Outlets)
     (n : EndNumbers) : Type 0 where
   pub are_flows : AreFlowsOf d t flows
@@ -49,14 +50,15 @@ pub record IsNumberedPlace (outlets : Outlets) (flows : List Flow) (n : EndNumbe
   pub numbered : IfSome (listed_outlet outlets flows e)
       (λ q. index_of outlets.cutting.cols q < n.cells)
 
--- The premises of a tile's job: an entry for each cell, and exits with `IsNumberedPlace`.
+-- The premises of a tile's job: `exits` has an entry for each cell, and `IsNumberedPlace` holds of
+-- each exit.
 pub record IsReady (t : Cutting) (flows : List Flow) (outlets : Outlets) (n : EndNumbers) (tile : ℕ)
     (f : Flow) : Type 0 where
   pub size : length f.exits ≡ cell_count t tile
   pub exits : (i : ℕ) →
       IfSome (slice_index_or f.exits i None) (IsNumberedPlace outlets flows n f.bounds)
 
--- The premises of all jobs: one flow for each tile, with `IsReady`.
+-- The premises of all jobs: one flow for each tile, and `IsReady` holds of each.
 pub record AreReady (t : Cutting) (flows : List Flow) (outlets : Outlets)
     (n : EndNumbers) : Type 0 where
   pub same_cutting : outlets.cutting ≡ t

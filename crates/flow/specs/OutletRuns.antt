@@ -1,4 +1,4 @@
--- Counts of the outlets in a list of codes, run by run.
+-- Counts of the outlets in a list of codes that is cut into runs, one run for each job.
 -- Private.
 use Rattle.std.specs.Prelude.{◌≡◌, ℕ, ◌+◌, ◌-◌, ◌*◌, ◌^◌, ◌<◌, ◌≤◌, min, max, List, length, take, count_by, Option, Some, slice_get, slice_index, slice_range}
 use Rattle.std.specs.Int.{div_ceil}

@@ -1,4 +1,5 @@
--- The graph of exits into other tiles. Each is linked to the next such exit, the last to itself.
+-- The graph of exits into other tiles. Each is linked to the next such exit on its flow path, and
+-- the last to itself. A rim number is a rim cell's number among the rim cells of all tiles.
 -- Public.
 use Rattle.std.specs.Prelude.{◌≡◌, ℕ, Bool, true, ◌/◌, ◌%◌, ◌&&◌, ◌==◌, if◌then◌else◌, List, map, Option, None, Some, slice_get, slice_index, slice_index_or, unwrap_or, option_and_then}
 use Rattle.std.specs.List.{range_with_len}
@@ -18,7 +19,7 @@ abbrev pub IsFlowOfTile : Directed → Cutting → Bool → ℕ → Flow → Typ
 IsFlowOfTile d t counted tile f = IsTileExits d t tile f × (counted ≡ true →
     IsTileCounts d t tile f)
 
--- One flow for each tile, with its exits, in a map of directions whose flow paths all end.
+-- One flow for each tile, with the tile's exits, in a map of directions whose flow paths all end.
 pub record AreFlowsOf (d : Directed) (t : Cutting) (flows : List Flow) : Type 0 where
   pub cutting : IsCutting t
   pub ends : AllFlowEnds d
@@ -71,7 +72,7 @@ abbrev pub next_exit_by : Cutting → List Flow → Place → Option Place
 next_exit_by t flows p =
     option_and_then (λ f. next_exit_in f p) (slice_get flows (tile_of_place t p))
 
--- The rim number of the next exit into another tile; i, the exit's own number, without one.
+-- The rim number of the given exit; i if none is given.
 abbrev pub number_or : Cutting → ℕ → Option Place → ℕ
 number_or t i None = i
 number_or t i (Some e) = rim_number t e
@@ -110,7 +111,7 @@ pub record Outlets : Type 0 where
 abbrev pub listed_outlet : Outlets → List Flow → Place → Option Place
 listed_outlet o flows p = outlet_by o.cutting flows o.listed p
 
--- Each exit has its outlet, and no other place of the grid has one.
+-- Each exit has its outlet, and no other place of the grid has an outlet.
 pub record AreOutlets (d : Directed) (t : Cutting) (flows : List Flow) (o : Outlets) : Type 0 where
   pub outlets : (p : Place) → IsExitCell d t p → listed_outlet o flows p ≡ Some (last_of d p)
   pub no_outlets : (p : Place) → IsWithin t p → (IsExitCell d t p → ⊥) →

@@ -1,4 +1,5 @@
--- Sums sent along links: a node sends its sum and weight once all its donors have sent theirs.
+-- Sums sent along links: a node sends its sum and weight once all its donors, the other nodes
+-- linked to it, have sent theirs.
 -- Private.
 use Rattle.std.specs.Prelude.{◌≡◌, ℕ, ◌+◌, ◌<◌, Bool, true, false, not, ◌&&◌, ◌==◌, if◌then◌else◌, List, length, slice_index}
 use Rattle.flow.specs.Streams.{leads_to, sum_below}

@@ -17,7 +17,7 @@ pub record EndsInLargestGrid (b : Bounds) : Type 0 where
   pub few_rows : b.top + b.rows ≤ longest_axis
   pub few_cols : b.left + b.cols ≤ longest_axis
 
--- All eight places around the cell in this row and column lie in the bounds.
+-- All eight places around the cell lie in the bounds. `row` and `col` count from top and left.
 pub record IsInterior (b : Bounds) (row col : ℕ) : Type 0 where
   pub first_row : 0 < row
   pub last_row : row + 1 < b.rows
@@ -29,7 +29,8 @@ pub record AreTileCodes (d : Directed) (b : Bounds) (cells : List (Option ℕ)) 
   pub size : length cells ≡ b.rows * b.cols
   pub each : (i : ℕ) → i < b.rows * b.cols → slice_index_or cells i None ≡ code_at d (place_in b i)
 
--- The link of cell i with this code: the index of the next cell in the bounds, or i without one.
+-- The link of cell i with this code: the index of the cell to which the code leads, or i if it
+-- leads to none in the bounds.
 abbrev pub link_by : Bounds → ℕ → Option ℕ → ℕ
 link_by b i code =
     let p = place_in b i in
@@ -61,7 +62,8 @@ through_list cells upstream = map
 abbrev pub ends_by : List ℕ → List ℕ
 ends_by links = map (end_of links) (range_with_len 0 (length links))
 
--- The index where each rim cell's path ends, by side number, where b counts as the largest tile.
+-- The index where each rim cell's path ends: for the first row of b, the last row, the first
+-- column, then the last column, so corners occur twice.
 abbrev pub rim_ends_by : Bounds → List ℕ → List ℕ
 rim_ends_by b links =
     map (λ side. end_of links (index_in b (side_place b b side))) (range_with_len 0 (stride b))
@@ -79,7 +81,8 @@ flow_by b cells upstream ends = record {
   exits = exits_by b cells ends;
 }
 
--- Lists of one flow: links by its codes, whose paths all end, and the ends of rim cells' paths.
+-- Lists of one lawful flow with these codes and counts upstream. The links are those of the codes,
+-- and all paths along them end. `rim_ends` has the ends of the rim cells' paths.
 pub record AreFlowLists (b : Bounds) (cells : List (Option ℕ))
     (links upstream rim_ends : List ℕ) : Type 0 where
   pub linked : links ≡ links_by b cells

@@ -1,4 +1,4 @@
--- The codes of a whole grid.
+-- The map of directions that the codes of a whole grid make.
 -- Public.
 use Rattle.std.specs.Prelude.{◌≡◌, ℕ, ◌*◌, Bool, false, ◌==◌, List, length, Option}
 use Rattle.std.specs.Option.{option_map_or}
@@ -14,6 +14,6 @@ pub record IsGridFlow (cols rows : ℕ) (codes : List (Option ℕ)) : Type 0 whe
   pub size : length codes ≡ cols * rows
   pub ends : AllFlowEnds (make_directed cols rows codes)
 
--- The code is 0, of an outlet.
+-- The code is 0, an outlet's.
 abbrev pub is_outlet_code : Option ℕ → Bool
 is_outlet_code code = option_map_or (λ c. c == 0) code false

@@ -1,4 +1,4 @@
-//! The basins of a map of directions: [`basins`].
+//! Maps each cell to its basin, the number of the outlet that ends its flow path: [`basins`].
 ghost use Rattle.std.specs.Prelude.{◌≡◌, IfOk};
 ghost use Rattle.tiles.specs.Cutting.{Cuts};
 ghost use Rattle.tile_jobs.specs.Fault.{RefusesWorkers};
@@ -21,8 +21,8 @@ use tiles::Tiling;
 /// Outlets are numbered from 1 in row order. Values are in row order; NODATA has
 /// [`Count::no_data`].
 ///
-/// Each of three stages has as many jobs as tiles: they count outlets in runs of codes, find each
-/// tile's exits, and number each tile's cells.
+/// Each of three stages has as many jobs as tiles. The stages count outlets in runs of codes, find
+/// each tile's exits, and number each tile's cells.
 ///
 /// # Errors
 ///

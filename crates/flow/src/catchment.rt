@@ -1,4 +1,4 @@
-//! The catchments of gauges on a map of directions: [`catchments`].
+//! Maps each cell to the number of the first gauge on its flow path: [`catchments`].
 ghost use Rattle.std.specs.Prelude.{◌≡◌, ◌*◌, length, IfOk, OnOk};
 ghost use Rattle.tiles.specs.Cutting.{Cuts, IsCutting};
 ghost use Rattle.drainage.specs.Drained.{directed_of};

@@ -1,4 +1,7 @@
-//! The codes, links and weights of a tile's cells, in row order.
+//! Lists a tile's codes, links and weights, in the tile's row order.
+//!
+//! A cell's link is the index of the next cell downstream, or its own index if none is in the tile.
+//! A data cell has weight 1, NODATA 0.
 ghost use Rattle.std.specs.Prelude.{◌≡◌, ◌↔◌, IsTrue, ◌+◌, ◌-◌, ◌*◌, ◌^◌, ◌<◌, length, Some, IfOk, OnOk, unwrap_or, option_and_then};
 ghost use Rattle.terrain.specs.Ways.{place_toward};
 ghost use Rattle.tiles.specs.Cutting.{IsInBounds, bounds_of, place_in};
@@ -147,7 +150,7 @@ fn link_of(bounds: Bounds, index: u32, place: Place, code: Option<Code>) -> u32
     }
 }
 
-/// Returns the place downstream of `place`, or `place` if there is none.
+/// Returns the place to which `code` leads from `place`; `place` if it leads to none.
 #[inline(always)]
 pub(crate) fn next_of(code: Option<Code>, place: Place) -> Place
     requires row { place.row < 2 ^ 32 - 1 }
@@ -160,7 +163,8 @@ pub(crate) fn next_of(code: Option<Code>, place: Place) -> Place
     }
 }
 
-/// Returns where a code points; `None` for an outlet, or past row 0 or column 0.
+/// Returns the place to which `code` leads from `place`.
+/// `None` for an outlet's code, or if it leads past row 0 or column 0.
 #[inline(always)]
 fn toward(code: Code, place: Place) -> Option<Place>
     requires row { place.row < 2 ^ 32 - 1 }

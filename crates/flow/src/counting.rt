@@ -1,7 +1,8 @@
-//! Accumulations of a map of directions: [`accumulation`].
+//! Counts for each cell the other cells whose flow paths contain it: [`accumulation`].
 //!
-//! A job for each tile finds its flow, `inflows` adds up the inflow at each rim cell, and a second
-//! job finds the tile's accumulations.
+//! One job for each tile finds the tile's flow: exits, and how many flow paths reach each cell
+//! inside the tile. `inflows` sums what enters each rim cell from other tiles. A second job for
+//! each tile finds accumulations.
 ghost use Rattle.std.proofs.Props.{props};
 ghost use Rattle.std.specs.Prelude.{◌≡◌, ◌+◌, ◌^◌, ◌<◌, ℕ, length, slice_index, IfOk};
 ghost use Rattle.tiles.specs.Cutting.{Cuts, IsInBounds, bounds_of, cell_count, tile_count};
@@ -136,7 +137,7 @@ fn weights_with_inflows(
     Ok(weights)
 }
 
-/// Returns each data cell's weight plus the weights upstream, less 1.
+/// Returns each data cell's entry in `weights` plus that in `upstream`, less 1.
 /// NODATA has no count.
 #[tactic(auto, using(crate::proofs::Windows::mapped_next))]
 fn counts(

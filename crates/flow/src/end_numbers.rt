@@ -1,10 +1,10 @@
-//! The numbers of cells where flow paths end.
+//! Gives numbers to the cells where flow paths end, outlets or gauges: [`EndNumbering`].
 ghost use Rattle.std.specs.Prelude.{◌≡◌, ◌<◌};
 ghost use Rattle.flow.specs.Numbering.{EndNumbers};
 
 /// Numbers for the cells of a grid where flow paths end. Jobs read them on several threads.
 pub(crate) trait EndNumbering {
-    // The number of cells of the grid, and the number that each cell has.
+    // How many cells the grid has, and the number given to each.
     ghost numbers: { Self → EndNumbers };
 
     /// Returns the number of the cell at this index in the grid's row order.

@@ -1,4 +1,7 @@
-//! Finds where paths along links end: at nodes that are linked to themselves.
+//! Finds where each node's path along links ends: at a node that is linked to itself.
+//!
+//! Nodes are the indexes of `links`: a tile's cells, or the rim cells of all tiles. The entry at a
+//! node is its link, the next node downstream.
 //!
 //! The `while` loops have labels, by which proofs name them.
 ghost use Rattle.std.specs.Prelude.{◌≡◌, ◌^◌, ◌<◌, ◌≤◌, ℕ, length, IfOk};
@@ -40,7 +43,7 @@ fn find_ends(links: &[u32], ends: &mut [u32])
 }
 
 /// Returns the end of a node's path.
-/// Notes it for the path's nodes that come before the first with a known end.
+/// Writes it into `ends` for each node of the path before the first whose end is known.
 pub(crate) fn find_end(links: &[u32], ends: &mut [u32], node: usize) -> u32
     requires streams { AreStreams links.now }
     requires few { length links.now ≤ 2 ^ 30 }
@@ -56,7 +59,7 @@ pub(crate) fn find_end(links: &[u32], ends: &mut [u32], node: usize) -> u32
     last
 }
 
-/// Returns the end of a node's path, by its links alone.
+/// Returns the end of the path of `from`, without a list of known ends.
 pub(crate) fn end_of(links: &[u32], from: usize) -> u32
     requires streams { AreStreams links.now }
     requires few { length links.now ≤ 2 ^ 30 }
@@ -70,8 +73,8 @@ pub(crate) fn end_of(links: &[u32], from: usize) -> u32
     node as u32
 }
 
-/// Returns the end of a node's path.
-/// Follows links to it, or to a node whose end is known.
+/// Returns the end of the path of `from`.
+/// Follows links up to that end, or up to a node whose end is known.
 #[inline]
 fn end_from(links: &[u32], ends: &[u32], from: usize) -> u32
     requires streams { AreStreams links.now }
@@ -91,7 +94,7 @@ fn end_from(links: &[u32], ends: &[u32], from: usize) -> u32
     ends[node]
 }
 
-/// Notes `last` for the path's nodes that come before the first with a known end.
+/// Writes `last` into `ends` for path nodes before the first with a known end.
 fn mark_path(links: &[u32], ends: &mut [u32], from: usize, last: u32)
     requires streams { AreStreams links.now }
     requires few { length links.now ≤ 2 ^ 30 }

@@ -1,4 +1,5 @@
-//! The flows of all tiles, with one job for each tile.
+//! Finds each tile's flow (its cells' exits and, on request, their counts) by one job for each
+//! tile.
 ghost use Rattle.std.specs.Prelude.{◌≡◌, true, IfOk};
 ghost use Rattle.tile_jobs.specs.Fault.{RefusesWorkers};
 ghost use Rattle.flow.specs.TileFlow.{AreTileCounts};

@@ -1,4 +1,4 @@
-//! Gauges: the fault of a list of gauges, and the number of each gauge's cell.
+//! Finds the first fault of a list of gauges, and numbers the cells that gauges name.
 ghost use Rattle.std.specs.Prelude.{◌≡◌, ℕ, ◌*◌, ◌≤◌, length, nat_eq, IfOk, option_map};
 ghost use Rattle.std.specs.HashMap as hash;
 ghost use Rattle.terrain.specs.Sinks.{first_sink_fault, most_sinks, sink_fault_of};
@@ -55,7 +55,6 @@ impl From<AllocError> for GaugeFault {
     }
 }
 
-/// Returns a sink's fault as the fault of a gauge.
 fn fault_of_gauge(fault: SinkFault) -> GaugeFault
     ensures { result ≡ fault_of_gauge fault }
 {

@@ -1,4 +1,6 @@
-//! Inflow: how many cells' flow paths enter each rim cell from another tile.
+//! Sums the inflow at each rim cell: how many cells' flow paths enter the cell from another tile.
+//!
+//! A rim number is a rim cell's number among the rim cells of all tiles (`Tiling::rim_number`).
 ghost use Rattle.std.specs.Prelude.{◌≡◌, ◌+◌, ◌*◌, ◌^◌, ◌<◌, ℕ, None, length, slice_index, slice_index_or, IfOk, IfSome};
 ghost use Rattle.terrain.specs.declared.place.Place.{Place as AtPlace};
 ghost use Rattle.tiles.specs.Cutting.{IsInBounds, IsWithin, bounds_of, cell_count, tile_count, index_in};
@@ -98,7 +100,7 @@ impl Inflows {
     }
 }
 
-/// Adds the inflow listed for each rim number of a tile to the weight of its cell.
+/// Adds to the weight of each rim cell of a tile the inflow listed for its rim number.
 /// A rim number without a cell adds nothing.
 fn add_all(tiling: &Tiling, listed: &[u32], tile: u32, weights: &mut [u32])
     requires tile { tile < tile_count tiling.now }
@@ -149,7 +151,7 @@ fn through_at(tiling: &Tiling, flows: &[TileFlow], place: Place) -> Option<u32>
     flows[tiling.tile_of(place) as usize].through(place)
 }
 
-/// Returns how many cells' flow paths first leave their own tile at this rim number.
+/// Returns how many cells' flow paths first leave their tile at rim number `number`.
 fn weight_of(tiling: &Tiling, flows: &[TileFlow], targets: &[Option<Place>], number: u32) -> u32
     requires flows { (d : Directed) × AreFlowsOf d tiling.now flows.now
         × AreTileCounts d tiling.now flows.now }
@@ -184,7 +186,8 @@ fn rim_weights(
     Ok(weights)
 }
 
-/// Adds each exit's total to the inflow of the place that its water enters.
+/// Adds each exit's entries in `weights` and `upstream` to the inflow of its target.
+/// The target is the place in another tile that the exit flows into.
 fn send_all(
     tiling: &Tiling,
     targets: &[Option<Place>],

@@ -1,4 +1,4 @@
-//! Consequences of the definitions. The functions have no code.
+//! States laws of accumulations, basins and catchments, as contracts of functions without code.
 ghost use Rattle.std.specs.Prelude.{◌≡◌, ◌≢◌, ◌+◌, ◌==◌, ◌&&◌, false, List, [], ◌∷◌, ◌++◌, Contains, count_by, is_some};
 ghost use Rattle.terrain.specs.Raster.{IsTerrain};
 ghost use Rattle.terrain.specs.Neighbours.{IsDataCell};
@@ -9,7 +9,8 @@ ghost use Rattle.drainage.specs.Drained.{Drained, IsDraining, directed_of};
 ghost use Rattle.flow.specs.Counts.{accumulation, basin, drains_through};
 ghost use Rattle.flow.specs.Catchments.{catchment, gauge_number, outlets};
 
-/// A gauge without gauges upstream has a catchment of `accumulation + 1` cells.
+/// If no other gauge drains through gauge `g`, `accumulation + 1` cells have its number.
+/// They are its own cell and all other cells that drain through it.
 pub fn highest_gauges_have_all_upstream_cells()
     ensures { (d : Drained) (gauges : List Place) (g : Place) → IsTerrain d.terrain → IsDraining d
         → IsDataCell d.terrain g → Contains gauges g

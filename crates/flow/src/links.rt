@@ -1,6 +1,6 @@
-//! Flow between tiles, over their rims: [`RimLinks`].
+//! Finds the inflow at each rim cell and the outlet of each exit: [`RimLinks`].
 //!
-//! For callers of [`tile_flow`](crate::tile_flow). Combines `inflows` and `outlets`.
+//! For callers of [`tile_flow`](crate::tile_flow). Combines the modules `inflows` and `outlets`.
 ghost use Rattle.std.specs.Prelude.{◌≡◌, IfOk};
 ghost use Rattle.tiles.specs.Cutting.{IsWithin};
 ghost use Rattle.drainage.specs.Drained.{AllFlowEnds};

@@ -1,4 +1,4 @@
-//! Numbers cells by the ends of their flow paths, tile by tile: [`number_cells`].
+//! Gives each cell the number of the outlet or gauge where its flow path ends: [`number_cells`].
 ghost use Rattle.std.proofs.Props.{props};
 ghost use Rattle.std.specs.Prelude.{◌≡◌, ◌*◌, ◌<◌, ℕ, length, slice_index_or, None, IfOk, IfSome};
 ghost use Rattle.terrain.specs.Neighbours.{index_of};
@@ -60,7 +60,7 @@ impl<'a, N: EndNumbering> TileMap for Numbering<'a, N> {
 }
 
 impl<'a, N: EndNumbering> Numbering<'a, N> {
-    /// Returns the number of each exit's outlet at the exit's index, 0 elsewhere.
+    /// Lists the number of each exit's outlet at the exit's index, 0 elsewhere.
     #[tactic(auto, using(crate::proofs::Windows::mapped_next))]
     fn exit_numbers(
         &self,
@@ -118,7 +118,7 @@ impl<'a, N: EndNumbering> Numbering<'a, N> {
     }
 }
 
-/// Numbers each data cell of a grid of codes by the end of its flow path.
+/// Gives each data cell of a grid the number of the cell where its flow path ends.
 ///
 /// Each tile has two jobs: one finds its exits, and a later one numbers its cells.
 pub(crate) fn number_cells<R: Threads + Wait + Sync, G: Gate + Sync, N: EndNumbering + Sync + Drop>(

@@ -1,4 +1,6 @@
-//! Counts the outlets of a list of codes, in runs and in groups of 16 codes.
+//! Counts the outlets in each run of codes, and those before each group of 16 codes of the run.
+//!
+//! A run is the part of a list of codes that one job counts.
 ghost use Rattle.std.specs.Prelude.{◌≡◌, ◌-◌, ◌*◌, ◌^◌, ◌<◌, ◌≤◌, length, take, count_by, IfOk, if◌then◌else◌};
 ghost use Rattle.flow.specs.Whole.{is_outlet_code};
 ghost use Rattle.flow.specs.OutletRuns.{AreCodeRuns, IsRunCounted, run_share, run_start, run_codes};
@@ -31,7 +33,8 @@ impl<'a> Model for Runs<'a> {
 }
 
 impl<'a> Runs<'a> {
-    /// Cuts a list into `count` runs; full ones have equally many groups, at least one.
+    /// Cuts a list into `count` runs.
+    /// Full runs have equally many groups, at least one.
     pub(crate) fn cut(codes: &'a [Option<Code>], count: u32) -> Runs<'a>
         requires few { length codes.now < 2 ^ 32 - 1 }
         requires some { 1 ≤ count }

@@ -1,4 +1,6 @@
-//! The outlet where the flow path of each exit ends.
+//! Finds the outlet where the flow path of each exit ends.
+//!
+//! A rim number is a rim cell's number among the rim cells of all tiles (`Tiling::rim_number`).
 ghost use Rattle.std.specs.Prelude.{◌≡◌, ◌<◌, ℕ, length, slice_index, IfOk};
 ghost use Rattle.tiles.specs.Cutting.{IsWithin, tile_count};
 ghost use Rattle.drainage.specs.Following.{Directed};
@@ -84,7 +86,8 @@ fn exit_of(tiling: &Tiling, flows: &[TileFlow], place: Place) -> Option<Place>
     flows[tiling.tile_of(place) as usize].exit(place)
 }
 
-/// Returns the outlet of the water that leaves its tile at this rim number, if any does.
+/// Returns the outlet of the water that leaves its tile at rim number `number`.
+/// `None` if none leaves there.
 fn outlet_of(
     tiling: &Tiling,
     flows: &[TileFlow],

@@ -1,8 +1,9 @@
-//! The rim cells of a tile, and where their paths along links end.
+//! Finds the rim cells of a tile by side number, and where their paths along links end.
 //!
-//! A side number is a rim cell's number in its tile (`Bounds::side_number`); a rim number is its
+//! A link leads to the next cell downstream in the tile.
+//! A side number is a rim cell's number in its tile (`Bounds::side_number`). A rim number is its
 //! number among the rim cells of all tiles (`Tiling::rim_number`). Side numbers depend on the size
-//! of the largest tile: `side_cell` gets it, and `rim_ends` takes the tile itself as the largest.
+//! of the largest tile. `side_cell` takes that tile as `largest`, `rim_ends` the tile itself.
 ghost use Rattle.std.specs.Prelude.{◌≡◌, ◌*◌, ◌^◌, ◌<◌, ◌≤◌, length, IfOk, IfSome};
 ghost use Rattle.tiles.specs.Cutting.{IsInBounds, IsWithinLimits, index_in};
 ghost use Rattle.tiles.specs.RimNumbers.{stride};
@@ -50,7 +51,7 @@ pub(crate) fn rim_ends(alloc: Global, bounds: Bounds, links: &[u32]) -> Result<V
 }
 
 /// Returns the index where each rim cell's path along links ends.
-/// Notes ends in `found`.
+/// Writes each end that it finds into `found`.
 #[tactic(auto, using(crate::proofs::Windows::mapped_next))]
 fn ends_of_sides(
     alloc: Global,

@@ -1,7 +1,7 @@
-//! The graph of exits into other tiles: [`RimGraph`].
+//! Links each exit into another tile to the next such exit on its flow path: [`RimGraph`].
 //!
-//! A rim cell may flow into a place in another tile. If the water leaves that tile too, the cell's
-//! rim number is linked to the number of the exit by which it leaves.
+//! An exit without a next one is linked to itself. Exits are listed by rim number, their number
+//! among the rim cells of all tiles (`Tiling::rim_number`).
 ghost use Rattle.std.specs.Prelude.{◌≡◌, ◌+◌, ◌*◌, ◌<◌, ◌≤◌, length, IfOk, OnOk};
 ghost use Rattle.tiles.specs.Cutting.{IsCutting, IsWithin, IsWithinLimits, bounds_of, tile_count};
 ghost use Rattle.drainage.specs.Following.{Directed};
@@ -17,8 +17,8 @@ use terrain::Place;
 use tiles::{Bounds, Tiling};
 
 /// The target, if any, and the link of each rim number (`Tiling::rim_number`).
-/// A target is the place in another tile that the number's cell flows into. A link is the rim
-/// number of the next exit into another tile, or the number itself without one.
+/// A target is the place in another tile that the cell with the number flows into. A link is the
+/// rim number of the next exit into another tile, or the cell's own number if there is none.
 #[derive(Drop)]
 pub(crate) struct RimGraph {
     pub(crate) targets: Vec<Option<Place>>,
@@ -61,7 +61,8 @@ fn next_exit(tiling: &Tiling, flows: &[TileFlow], entry: Place) -> Option<Place>
     flows[tiling.tile_of(entry) as usize].next_exit(entry)
 }
 
-/// Returns the place in another tile that side number `side` leads to, if any.
+/// Returns the place in another tile that the cell with number `side` flows into.
+/// `None` if there is no such place.
 #[inline(always)]
 fn target_of(largest: Bounds, flow: &TileFlow, side: u32) -> Option<Place>
     requires largest { IsWithinLimits largest }
@@ -79,7 +80,8 @@ fn target_of(largest: Bounds, flow: &TileFlow, side: u32) -> Option<Place>
     }
 }
 
-/// Appends, for each side number of a tile, the place in another tile that it leads to, if any.
+/// Appends the target of each side number of a tile, `None` without one.
+/// The target is the place in another tile that the cell with the number flows into.
 fn push_targets(
     targets: &mut Vec<Option<Place>>,
     tiling: &Tiling,
@@ -118,7 +120,8 @@ fn rim_targets(
     Ok(targets)
 }
 
-/// Returns the rim number of the next exit into another tile, or `number` without one.
+/// Returns the rim number of the next exit into another tile after the exit `number`.
+/// If there is none, returns `number`.
 fn link_of(tiling: &Tiling, flows: &[TileFlow], targets: &[Option<Place>], number: u32) -> u32
     requires flows { (d : Directed) × AreFlowsOf d tiling.now flows.now }
     requires targets { targets.now ≡ targets_by tiling.now flows.now }

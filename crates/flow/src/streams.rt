@@ -1,6 +1,7 @@
-//! Sums along links: each node adds its weight to every node downstream.
+//! Sums for each node the weights of all nodes upstream of it along links.
 //!
-//! A node linked to itself is an end. A node's donors are the other nodes linked to it. The loop of
+//! Nodes are the indexes of `links`, where a node's entry is the next node downstream. A node
+//! linked to itself is an end. A node's donors are the other nodes linked to it. The loop of
 //! `send_from` has a label, by which proofs name it.
 ghost use Rattle.std.specs.Prelude.{◌≡◌, ◌≢◌, ◌+◌, ◌^◌, ◌<◌, ◌≤◌, ℕ, length, slice_index, IfOk};
 ghost use Rattle.flow.specs.Streams.{AreStreams, AreUpstream, total};
@@ -9,7 +10,8 @@ ghost use Rattle.flow.specs.Sending.{IsSending, AreDonorCounts, AreZeros};
 use std::alloc::{AllocError, Global};
 
 /// The entry in `waits` of a node that has sent its sum downstream.
-/// An end gets it too, once its sum is complete.
+/// An end has this entry too, once its sum is complete. Any other entry counts the donors that have
+/// not sent.
 const SENT: u32 = u32::MAX;
 
 pub(crate) fn zeros(alloc: Global, len: usize) -> Result<Vec<u32>, AllocError>
@@ -66,7 +68,8 @@ fn send_all(links: &[u32], weights: &[u32], waits: &mut [u32], upstream: &mut [u
     }
 }
 
-/// Sends sums from `from` on, up to an end or a node that awaits donors or has sent.
+/// Sends sums downstream, beginning at node `from`.
+/// Stops at an end, or at a node that awaits donors or has sent.
 fn send_from(links: &[u32], weights: &[u32], waits: &mut [u32], upstream: &mut [u32], from: usize)
     requires streams { AreStreams links.now }
     requires few { length links.now ≤ 2 ^ 30 }

@@ -1,7 +1,8 @@
 //! The flow inside one tile: [`tile_flow`].
 //!
-//! A flow has each cell's code, link and exit. A flow with counts also has, for each cell, how many
-//! other cells' flow paths reach it inside the tile.
+//! A flow has each cell's code, link and exit. A link is the index of the next cell downstream in
+//! the tile. A flow with counts also has how many other cells' flow paths reach each cell inside
+//! the tile.
 ghost use Rattle.std.specs.Prelude.{◌≡◌, ◌<◌, length, slice_index_or, IfOk, IfSome, None};
 ghost use Rattle.std.specs.Option.{option_map};
 ghost use Rattle.terrain.specs.StoredCells.{uncounted};

@@ -1,4 +1,4 @@
--- The greater of two ramps hides exactly what either hides.
+-- The greater of two ramps hides a target exactly if at least one of the two ramps hides it.
 use Rattle.std.proofs.Common.{◌≡◌, ℕ, ◌+◌, ◌*◌, ◌<◌, ◌≤◌, Bool, true, false, ◌||◌, ℤ, pos, ◌*ℤ◌, ◌≤ℤ◌, refl, sym, arith, inl, inr}
 use borrow.Author.Differences.{up, down, true_is_lt}
 use Rattle.std.proofs.lemmas.Bool.{cases_lt, cases_Bool}

@@ -1,4 +1,5 @@
--- Two ramps that compare alike at two targets do so at all targets between these.
+-- If one ramp is above another at two targets, so it is at all targets between the two. If it is
+-- above the other at neither, it is so at none between.
 use Rattle.std.proofs.Common.{◌≡◌, ℕ, ◌+◌, ◌<◌, ◌≤◌, Bool, List, length, get_or, Some, sym, ap, ◌∙◌, arith}
 use Rattle.std.specs.Prelude.{slice_get}
 use Rattle.std.proofs.lemmas.Option.{slice_get-get_or}

@@ -1,4 +1,5 @@
--- The ramp at an index, after a piece is added and after the last is extended.
+-- A horizon grows by a new piece, or by extending its last piece. Targets covered before keep their
+-- ramps, and the others up to the new end get the ramp of that piece.
 use Rattle.std.proofs.Common.{◌≡◌, ℕ, zero, suc, ◌+◌, ◌<◌, ◌≤◌, max, List, [], ◌∷◌, ◌++◌, length, get_or, set, Some, refl, sym, ap, ◌∙◌, arith, inl, inr}
 use Rattle.std.specs.Prelude.{slice_get}
 use Rattle.std.proofs.lemmas.Bool.{cases_lt}
@@ -16,7 +17,7 @@ ramp_at-later : (p : Piece) (ps : List Piece) (i : ℕ) → p.end ≤ i →
 unfolding ramp_at
 ramp_at-later p ps i h = grind arith
 
--- The ramp at an index is that of the first piece that ends above it.
+-- The ramp at target index i is that of the first piece whose `end` is above i.
 pub ramp_of_piece : (ps : List Piece) (k : ℕ) (p : Piece) (i : ℕ) → slice_get ps k ≡ Some p →
     ((m : ℕ) (q : Piece) → m < k → slice_get ps m ≡ Some q → q.end ≤ i) → i < p.end →
     ramp_at ps i ≡ Some p.ramp
@@ -35,7 +36,7 @@ within_extent [] k p e = cc
 within_extent (q ∷ ps) zero p e = let same : q ≡ p = same_Some q p e in rw (← same) (omega arith)
 within_extent (q ∷ ps) (suc k) p e = omega (arith, within_extent ps k p e)
 
--- If no piece ends above an index, the extent is at most that index.
+-- If no piece has an `end` above i, the extent is at most i.
 pub extent_up_to : (ps : List Piece) (k i : ℕ) → length ps ≤ k →
     ((m : ℕ) (q : Piece) → m < k → slice_get ps m ≡ Some q → q.end ≤ i) → extent ps ≤ i
 unfolding extent
@@ -48,7 +49,7 @@ extent_up_to (q ∷ ps) (suc k) i few before =
       extent_up_to ps k i (omega arith) (λ m z less is. before (suc m) z (omega arith) is),
     )
 
--- If no piece before piece k ends above an index below the extent, piece k exists.
+-- If no piece before piece k has an `end` above i, and i is below the extent, piece k exists.
 pub inside : (ps : List Piece) (k i : ℕ) → AreUpTo ps k i → i < extent ps → k < length ps
 inside ps k i before h = elim (cases_lt k (length ps)) [
   | inl is ↦ is

@@ -1,5 +1,6 @@
--- Horizons over targets sorted by slope. Lines: rows or columns 1, 2, 3, .. out from an observer.
--- A target on line n, j cells aside, has the slope j / n; its rise is its height above the eye.
+-- A horizon has a ramp, which is a straight line over slopes, for each target of a sorted list. A
+-- target in the n-th row (or column) out from the observer, j cells aside, has `line` n and the
+-- slope j / n. Targets are sorted by slope. The rise of a target is its height above the eye.
 -- Public.
 use Rattle.std.specs.Prelude.{◌≡◌, ℕ, ◌^◌, ◌<◌, ◌≤◌, max, nat_lt, if◌then◌else◌, Bool, false, ℤ, pos, unsigned_abs, int_lt, ◌+ℤ◌, ◌*ℤ◌, ◌≤ℤ◌, List, [], ◌∷◌, length, Option, None, Some, slice_get}
 use Rattle.std.specs.Option.{option_map_or}
@@ -8,7 +9,7 @@ use Rattle.horizons.specs.declared.ramp.Ramp.{Ramp}
 use Rattle.horizons.specs.declared.horizon.Piece.{Piece}
 use Rattle.horizons.specs.declared.horizon.Cursor.{Cursor}
 
--- A target within bounds: 1 to 4095 lines out, and at most 4096 cells aside.
+-- A target within bounds: 1 to 4095 rows or columns out, and at most 4096 cells aside.
 pub record IsTarget (t : Target) : Type 0 where
   pub line : (0 < t.line) × (t.line < 4096)
   pub offset : unsigned_abs t.offset ≤ 4096
@@ -40,12 +41,12 @@ pub record IsRampAt (r : Ramp) (t : Target) : Type 0 where
   pub lines : (0 < r.lines) × (r.lines ≤ 4096)
   pub value : unsigned_abs (value_at r t) < 2 ^ 63
 
--- A horizon's ramp at a target's index: that of the first piece that ends above it, if any.
+-- A horizon's ramp at target index `i`: that of the first piece whose `end` is above `i`, if any.
 unfoldable pub ramp_at : List Piece → ℕ → Option Ramp
 ramp_at [] i = None
 ramp_at (p ∷ ps) i = if nat_lt i p.end then Some p.ramp else ramp_at ps i
 
--- The number of targets that the pieces cover: their greatest end.
+-- How many targets the pieces cover: the greatest `end` of a piece, 0 without pieces.
 unfoldable pub extent : List Piece → ℕ
 extent [] = 0
 extent (p ∷ ps) = max p.end (extent ps)
@@ -60,16 +61,16 @@ pub record IsOver (targets : List Target) (ps : List Piece) : Type 0 where
   pub each : (i : ℕ) (t : Target) (r : Ramp) → slice_get targets i ≡ Some t →
       ramp_at ps i ≡ Some r → IsRampAt r t
 
--- The horizon was extended up to `end` by this ramp, or is as it was if it reached `end` already.
+-- The horizon was extended up to `end` by this ramp; a horizon that reached `end` is as it was.
 pub record IsPushed (old : List Piece) (end : ℕ) (ramp : Ramp) (new : List Piece) : Type 0 where
   pub reach : extent new ≡ max (extent old) end
   pub kept : (i : ℕ) → i < extent old → ramp_at new i ≡ ramp_at old i
   pub added : (i : ℕ) → extent old ≤ i → i < end → ramp_at new i ≡ Some ramp
 
--- No piece before piece k ends above the index.
+-- No piece before piece k has an `end` above `index`, a target's index.
 abbrev pub AreUpTo : List Piece → ℕ → ℕ → Type 0
 AreUpTo ps k index = (m : ℕ) (p : Piece) → m < k → slice_get ps m ≡ Some p → p.end ≤ index
 
--- The cursor may be used at this index.
+-- The cursor may be used to look up target `index`: no piece before the cursor's ends above it.
 abbrev pub IsUpTo : List Piece → Cursor → ℕ → Type 0
 IsUpTo ps c index = AreUpTo ps c.piece index

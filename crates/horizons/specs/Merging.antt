@@ -1,4 +1,5 @@
--- The greater of two ramps, over a run of targets.
+-- The greater of two ramps at each target of a run. A ramp is a straight line over the slope of
+-- sight, by which targets are sorted.
 -- Public.
 use Rattle.std.specs.Prelude.{◌≡◌, ℕ, ◌<◌, ◌≤◌, Bool, if◌then◌else◌, List, Some, slice_get}
 use Rattle.horizons.specs.Horizons.{is_above, ramp_at, extent, IsRampAt}

@@ -1,6 +1,7 @@
-//! A horizon as pieces of ramps: [`Horizon`].
+//! Stores a horizon, which has a ramp for each of many targets, as a list of pieces: [`Horizon`].
 //!
-//! A [`Cursor`] speeds up lookups at rising indexes.
+//! Targets are sorted by slope, and a piece is one ramp for a run of them. A [`Cursor`] speeds up
+//! lookups at rising indexes of targets.
 ghost use Rattle.std.specs.Prelude.{◌≡◌, ℕ, ◌+◌, ◌<◌, ◌≤◌, List, [], length, Some, OnOk, OnErr, slice_get};
 ghost use Rattle.horizons.specs.declared.horizon.Piece.{Piece};
 ghost use Rattle.horizons.specs.declared.ramp.Ramp.{Ramp};
@@ -11,14 +12,15 @@ use crate::target::Target;
 use std::alloc::{AllocError, Global};
 use std::marker::Model;
 
-/// A ramp over the targets from the previous piece's end up to `end`.
+/// One ramp for the targets from the previous piece's `end` up to this `end`.
+/// The first piece begins at target 0, and `end` is exclusive.
 #[derive(Clone, Copy)]
 pub struct Piece {
     pub end: usize,
     pub ramp: Ramp,
 }
 
-/// A ramp for each target up to the extent, in pieces of one ramp each.
+/// A ramp for each target of index below the extent, in pieces of one ramp each.
 #[derive(Drop)]
 pub struct Horizon {
     pieces: Vec<Piece>,
@@ -37,8 +39,9 @@ impl Model for Horizon {
     ghost invariant = { λ h. h.end ≡ extent h.pieces.items };
 }
 
-/// The position of the piece at which the next lookup begins; indexes of lookups must not fall.
-/// A cursor is valid for one horizon, until that horizon is cleared.
+/// The index of the piece at which the next lookup in a horizon begins.
+/// From lookup to lookup, the target's index must not fall. A cursor is valid for one horizon,
+/// until that horizon is cleared.
 #[derive(Clone, Copy)]
 pub struct Cursor {
     pub piece: usize,
@@ -60,8 +63,8 @@ fn push_or_extend(pieces: &mut Vec<Piece>, piece: Piece) -> Result<(), AllocErro
     Ok(())
 }
 
-/// Returns the position of the first piece that ends above `index`.
-/// No piece before position `first` may end above `index`.
+/// Returns the index of the first piece whose `end` is above target index `index`.
+/// The search begins at piece `first`; no piece before that may have such an `end`.
 #[inline(always)]
 fn first_above(pieces: &[Piece], first: usize, index: usize) -> usize
     requires index { index < extent pieces.now }
@@ -130,7 +133,7 @@ impl Horizon {
         Ok(())
     }
 
-    /// Returns the piece at an index, and moves the cursor to it.
+    /// Returns the piece that covers target `index`, and moves the cursor there.
     /// The cursor must have been used on this horizon only, and at no greater index.
     #[inline(always)]
     pub fn piece(&self, cursor: &mut Cursor, index: usize) -> Piece
@@ -145,7 +148,8 @@ impl Horizon {
         self.pieces[cursor.piece]
     }
 
-    /// Returns whether the horizon hides target `index`, which is `rise` above the eye.
+    /// Returns whether the horizon hides a target that is `rise` above the eye.
+    /// `index` is the index of `target` among the targets of the horizon.
     /// The cursor must have been used on this horizon only, and at no greater index.
     #[inline(always)]
     pub fn hides(&self, cursor: &mut Cursor, index: usize, target: Target, rise: Value) -> bool

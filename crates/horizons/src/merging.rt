@@ -1,6 +1,7 @@
-//! The greater of two ramps over a run of targets: [`push_greater`].
+//! Extends a horizon by the greater of two ramps at each target of a run: [`push_greater`].
 //!
-//! Two ramps cross at most once; a binary search finds where.
+//! A ramp is a straight line over the slope of sight, by which targets are sorted. So two ramps
+//! cross at most once, and a binary search finds where.
 ghost use Rattle.std.specs.Prelude.{◌≡◌, ◌+◌, ◌<◌, ◌≤◌, not, Bool, false, length, Some, OnOk, slice_get};
 ghost use Rattle.std.specs.Bool.{OnTrue};
 ghost use Rattle.horizons.specs.declared.target.Target.{Target};
@@ -39,9 +40,9 @@ pub fn is_never_above(targets: &[Target], one: Ramp, other: Ramp, from: usize, e
     !is_above_at(targets, one, other, end - 1)
 }
 
-/// Returns the first index at which `one > other` is not `first`, its value at `from`.
-/// Returns `end` if there is none.
-/// The difference of two ramps is straight, so the comparison changes at most once.
+/// Returns the first index at which the answer to `one > other` changes, or `end`.
+/// `first` is the answer at index `from`, where the search begins. The difference of two ramps is
+/// straight, so the answer changes at most once.
 #[inline(always)]
 fn first_change(
     targets: &[Target],
@@ -76,7 +77,7 @@ fn first_change(
     turned
 }
 
-/// Extends a horizon up to `end` by the greater of two ramps at each target.
+/// Extends `into` up to `end` by the greater of two ramps at each target.
 ///
 /// # Errors
 ///

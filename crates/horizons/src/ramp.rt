@@ -1,4 +1,4 @@
-//! A ramp: a straight line over the slopes of lines of sight.
+//! A ramp: the ground between two cells, as a straight line over slopes of sight: [`Ramp`].
 ghost use Rattle.std.specs.Prelude.{◌≡◌, ℤ, ◌^◌, ◌≤◌, false, unsigned_abs};
 ghost use Rattle.horizons.specs.declared.target.Target.{Target};
 ghost use Rattle.horizons.specs.Horizons.{IsTarget, IsRampAt, value_at, ramp_hides, is_above};
@@ -22,7 +22,8 @@ pub struct Ramp {
 }
 
 impl Ramp {
-    /// Returns the ramp of no ground. It hides no target whose rise is within ±2^51.
+    /// Returns a ramp that stands for no ground.
+    /// It hides no target whose rise is within ±2^51.
     pub fn nothing() -> Self
         ensures below { (t : Target) (rise : ℤ) → IsTarget t → unsigned_abs rise ≤ 2 ^ 51 →
             ramp_hides result t rise ≡ false }

@@ -1,4 +1,4 @@
-//! A target of a line of sight: [`Target`].
+//! Where a target of a line of sight lies, seen from the observer's cell: [`Target`].
 /// A cell at which an observer looks, relative to the observer's cell.
 /// `line` counts rows or columns outward from the observer's own. `offset` counts cells along that
 /// row or column, from the observer's column or row.

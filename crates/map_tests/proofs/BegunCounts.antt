@@ -1,5 +1,5 @@
--- The first counts of steps can be pushed in row order: `Some 0` where a cell drains at once, else
--- `None`.
+-- The initial count of steps is `Some 0` at a cell that drains at once, else `None`. If these
+-- counts are pushed in row order, `AreInitialCounts` holds of their list.
 use Rattle.std.proofs.Common.{◌≡◌, ◌↔◌, ℕ, ◌+◌, ◌*◌, ◌<◌, Bool, true, false, IsTrue, inl, inr, List, [], ◌∷◌, ◌++◌, length, get_or, Option, None, sym, ap, subst, refl, ◌∙◌, arith}
 use Rattle.std.proofs.lemmas.Bool.{cases_eq, false≢true}
 use Rattle.std.proofs.lemmas.List.{get_or_append_left, get_or_push, length_push}
@@ -44,7 +44,7 @@ begun_at t p false is = record {
   only = λ n e. absurd (none-some n e);
 }
 
--- `counts` are the first counts of the cells before index `end` in row order.
+-- `counts` are the initial counts of the cells before index `end` in row order.
 pub record AreBegunBelow (t : Terrain) (end : ℕ) (counts : List (Option ℕ)) : Type 0 where
   pub size : length counts ≡ end
   pub each : (p : Place) → IsInside t p → index_of t.cols p < end →

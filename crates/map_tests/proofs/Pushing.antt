@@ -1,5 +1,5 @@
--- A list with one item appended is longer by one. A property of the old items and of the new one is
--- a property of all.
+-- A list with an item appended is longer by 1. A property of the list's items and of the appended
+-- item is a property of all items of the longer list.
 use Rattle.std.proofs.Common.{◌≡◌, ℕ, ◌+◌, inl, inr, List, [], ◌∷◌, ◌++◌, length, Some, slice_get, subst, sym, ap, ◌∙◌, arith}
 use Rattle.std.proofs.lemmas.Bool.{cases_lt}
 use Rattle.std.proofs.lemmas.Option.{slice_get_within}

@@ -1,4 +1,6 @@
-//! Floods tiles and gathers their spill graph, also if memory is refused.
+//! Floods tiles for levels and labels, and gathers the spill graph of all tiles.
+//!
+//! Under `rt try --fail-alloc` a call may be refused memory.
 ghost use Rattle.std.specs.Prelude.{IfOk};
 ghost use Rattle.terrain.specs.Raster.{Terrain};
 ghost use Rattle.fill.specs.Spills.{AreFloods};
@@ -106,7 +108,7 @@ fn expect_filled_or_refused<R: Abort + Threads + Wait + Sync>(rt: &R, alloc: Glo
     }
 }
 
-/// The first tile's two low cells have one label. It has joins inside the tile and over its rim.
+/// The first tile's two low cells have one label, with joins inside the tile and over its rim.
 #[test]
 fn refused_memory_is_told(rt: HostRuntime) {
     expect_filled_or_refused(&rt, rt.alloc(), 3);

@@ -1,4 +1,5 @@
-//! Counts the steps of flats by one round over one tile, from the first counts.
+//! Counts the steps of flats by one round over one tile.
+//! Before the round, only cells that drain at once have a count, 0.
 ghost use Rattle.std.specs.Prelude.{◌≡◌, ◌*◌, ◌<◌, ◌↔◌, IfOk, IsTrue};
 ghost use Rattle.terrain.specs.Raster.{Terrain};
 ghost use Rattle.terrain.specs.Neighbours.{IsInside, Touches, index_of};
@@ -65,7 +66,7 @@ fn drains_at_once(grid: &Grid, place: Place) -> bool
     grid.is_edge(place) || has_lower(grid, place)
 }
 
-/// Returns the first counts: 0 at each cell that drains at once, elsewhere `None`.
+/// Returns the initial counts: 0 at each cell that drains at once, elsewhere `None`.
 fn begun(alloc: Global, grid: &Grid) -> Result<Vec<Option<u32>>, AllocError>
     ensures { IfOk result (λ v. AreInitialCounts grid.now.terrain v.items) }
 {

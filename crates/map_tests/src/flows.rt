@@ -1,4 +1,4 @@
-//! Finds the flow inside tiles, and links it over their rims.
+//! Finds each tile's flow, and follows exits over rims to inflows and outlets.
 ghost use Rattle.std.specs.Prelude.{◌≡◌, ◌<◌, IfOk};
 ghost use Rattle.drainage.specs.Drained.{AllFlowEnds, directed_of};
 ghost use Rattle.flow.specs.TileFlow.{IsTileFlow, AreTileFlows};

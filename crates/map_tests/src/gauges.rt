@@ -1,6 +1,7 @@
-//! Catchments of gauges on small terrains.
+//! Tests catchments of gauges on small terrains.
 //!
-//! Values come from worked examples, or from a separate program that follows the definition.
+//! Expected values come from worked examples, or from a separate program that follows the
+//! definition.
 use crate::ground::{PIT_OF_TWO, cut, land};
 use crate::maps::{agree, values_of};
 use crate::stages::{directions_of, filled_grid};

@@ -85,7 +85,8 @@ fn lowest_of_nine(levels: &[Option<Height>], cols: u8, row: u8, col: u8) -> Opti
     Some(lowest)
 }
 
-/// Lowers each inner cell's entry to the least nearby, but not below its height.
+/// Lowers each inner cell's entry to the least entry at and around the cell.
+/// No entry falls below its cell's height.
 fn sweep(heights: &[Option<Height>], levels: &mut [Option<Height>], cols: u8, rows: u8) {
     for row in 1..=rows {
         for col in 1..=cols {
@@ -144,7 +145,8 @@ fn compare_one<R: Abort>(
 }
 
 /// Compares grids of these heights with lowering; counts the small ones with a pit.
-/// The queue has a heap alone for grids of up to 6 by 6 cells, and lists too for the large one.
+/// The flood's queue has a heap alone in the small grids, of up to 6 by 6 cells. In the large grid,
+/// of 18 by 16, it has lists too.
 fn compare<R: Abort>(rt: &R, alloc: Global, heights: &[&'static str; 8]) -> Result<u32, Fail> {
     let mut numbers = Numbers { state: 1 };
     let mut raised = 0u32;

@@ -1,4 +1,4 @@
-//! Floods a net of four nodes: levels and labels.
+//! Floods a net of four nodes: finds their levels (least crests) and labels.
 //!
 //! Nodes 0 and 1 are joined at 5, 1 and 2 at 3, 0 and 2 at 7. Node 3 has no neighbour.
 ghost use Rattle.std.specs.Prelude.{◌≡◌, ◌∷◌, []};

@@ -1,4 +1,5 @@
-//! Calls that allocate, on a grid with a pit, repeated if memory is refused.
+//! Makes calls that allocate, on a grid with a pit.
+//! Repeats each call that is refused memory.
 ghost use Rattle.std.specs.Prelude.{◌≡◌, ◌<◌, ◌*◌, length};
 ghost use Rattle.fill.specs.Spills.{AreFloods};
 

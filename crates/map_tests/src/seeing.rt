@@ -1,4 +1,5 @@
-//! Lines of sight and viewsheds: small cases, refusals, comparisons with `sees`.
+//! Tests lines of sight and viewsheds: small cases and refusals.
+//! Compares viewsheds with `sees`.
 ghost use Rattle.std.specs.Prelude.{◌≡◌};
 
 use crate::ground::{cut, land};

@@ -1,6 +1,7 @@
-//! Filled heights, codes, accumulations and basins of small terrains.
+//! Tests filled heights, codes, accumulations and basins of small terrains.
 //!
-//! Values come from worked examples, or from a separate program that follows the definitions.
+//! Expected values come from worked examples, or from a separate program that follows the
+//! definitions.
 use crate::ground::land;
 use crate::maps::Maps;
 
@@ -32,7 +33,7 @@ fn spills_over_the_least_crest(rt: HostRuntime) {
     maps.expect(&rt, rt.alloc());
 }
 
-/// The valley passes through corners of the tiles of side 1 and 2.
+/// With tile sides 1, 2 and 3 the valley passes through corners of tiles.
 #[test]
 fn valley_across_tiles(rt: HostRuntime) {
     let maps = Maps {
@@ -184,7 +185,8 @@ fn level_ground(rt: HostRuntime) {
 }
 
 /// Outlets are counted in groups of 16 codes. The first 16 codes of one terrain are all outlets, of
-/// the other none. The other has a river along row 0, a ridge, and pairs that each have an outlet.
+/// the other none. The other has a river along row 0, a ridge in row 1, and in row 2 pairs of
+/// cells, the eastern one an outlet.
 #[test]
 fn outlets_of_several_runs(rt: HostRuntime) {
     let fives =

@@ -1,4 +1,5 @@
--- A fault of tiles, sinks or gauges forbids the map; added sinks do not change which fault does.
+-- A fault of tiles, sinks or gauges forbids the requested map. The fault that forbids a map of a
+-- grid stays the same when sinks are added to the grid.
 use Rattle.std.proofs.Common.{◌≡◌, ℕ, ◌<◌, ◌≤◌, true, false, eqb, length, List, [], ◌∷◌, Option, None, Some, Err, sym, ap, subst, refl, ◌∙◌}
 use Rattle.std.specs.Option.{option_map, option_or}
 use Rattle.std.proofs.lemmas.Bool.{le-ltb, lt-ltb, cond-false, cond-true}

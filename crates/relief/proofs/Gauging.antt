@@ -1,4 +1,4 @@
--- Filling a grid does not change the fault of gauges.
+-- Gauges have the same fault, or none, on a grid and on the filled grid.
 use Rattle.std.proofs.Common.{◌≡◌, ℕ, ◌+◌, ◌&&◌, Bool, true, false, not, List, [], ◌∷◌, length, Option, None, Some, ℤ, ap, ap₂, sym, refl, ◌∙◌, inl, inr}
 use Rattle.std.specs.Prelude.{nat_lt, is_none, if◌then◌else◌, option_map}
 use Rattle.std.specs.Option.{option_or}

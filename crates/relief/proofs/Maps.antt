@@ -1,4 +1,5 @@
--- Two texts that are the same map of one grid text, at one scale with one list of sinks, are equal.
+-- Two texts of the same map, of the same grid text at the same scale with the same sinks, are
+-- equal.
 use Rattle.std.proofs.Common.{◌≡◌, ℕ, List, Option, Some, ℤ, sym, ap, subst, ◌∙◌, inl, inr}
 use Rattle.std.proofs.lemmas.Option.{MatchOption-at_none, MatchOption-at_some}
 use Rattle.terrain.specs.Raster.{Raster, Terrain}
@@ -94,7 +95,7 @@ one_map_of_grid g (View observers target radius) text other a b =
     a.2 ∙ ap (λ vs. counts_text g vs)
     (viewsheds_are_one g.terrain observers.items target radius a.0 b.0 a.1 b.1) ∙ sym b.2
 
--- a text of one map is a text of each map that is the same by `AreSame`
+-- if `AreSame` holds of the maps `m` and `n`, a text of `n` is a text of `m`
 same_text : (g : Raster) (m n : Map) (text : List ℕ) → AreSame m n → IsMapText g n text →
     IsMapText g m text
 same_text g Fill n text same h = subst (λ (k : Map). IsMapText g k text) (sym same) h

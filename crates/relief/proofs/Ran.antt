@@ -1,4 +1,5 @@
--- The contracts of reading, making and writing imply `Runs`.
+-- The contracts of reading a grid, making its map and writing the map imply `Runs`, the contract of
+-- a run.
 use Rattle.std.proofs.Common.{◌≡◌, ℕ, ◌+◌, List, Option, None, Some, Ok, Err, refl, sym, subst, ◌∙◌, arith}
 use Rattle.terrain.specs.Raster.{Raster}
 use Rattle.ascii_grid.specs.Device.{Device, Writes}

@@ -1,4 +1,5 @@
--- Help, refused words and refused memory end the program as `EndsUnread` demands.
+-- If the words ask for help or are refused, or memory is refused before the run, the program ends
+-- without reading, as `EndsUnread` demands.
 use Rattle.std.proofs.Common.{◌≡◌, ◌++◌, ℕ, suc, List, [], ◌∷◌, codes, arith, Option, sym, ap, subst, refl, inl, inr}
 use Rattle.std.specs.Prelude.{Any, decimal}
 use Rattle.clap.specs.Words.{Text, kind_of}

@@ -27,7 +27,7 @@ pub no_fault : {T : Type 0} (fault : Option SightFault) (workers : ℕ) (x : T) 
 no_fault None workers x h = refl
 no_fault (Some f) workers x h = let bad = h.reported f refl in absurd (cc)
 
--- A viewshed's fault that forbids the map, and is not one of jobs, may be returned on this grid.
+-- If the fault `f` of a viewshed forbids the map and is no fault of jobs, a run may return `f`.
 sight_refused : (w : Request) (g : Raster) (f : SightFault) → ((x : JobFault) → f ≡ sight.Jobs x →
     ⊥) → request_fault w g ≡ Some (Sight f) → IsFaultOnGrid w g (of_sight f)
 sight_refused w g (sight.Outside i) other h = h
@@ -77,7 +77,8 @@ catchments_refused w g fault f some few sound is h =
     (job_refused w g some few is reported.0 (λ e. (h.bad_workers sound).0 (ap Err (reported.1
     ∙ ap gauges.Jobs e))) (λ e. h.no_thread (ap Err (reported.1 ∙ ap gauges.Jobs e))))
 
--- A fault of tiles, a viewshed, sinks or gauges. By `request_forbids`, only these forbid a map.
+-- The fault is one of tiles, a viewshed, sinks or gauges. By `request_forbids`, no other fault
+-- forbids a map.
 abbrev pub Forbids : RunFault → Type 0
 Forbids (Tiling fault) = ⊤
 Forbids (Sight fault) = ⊤

@@ -73,8 +73,9 @@ EndsProgram remaining contents lines words reader left writer grown errors repor
     ⊎ ((request : Request) × RequestFor words request
     × EndsRun remaining contents lines request reader left writer grown errors reported status)
 
--- Help or the version goes to the writer, with status 0. Other messages go to the error device,
--- with status 1. Or the status is 3, for refused memory, and nothing is written.
+-- An error of `clap` of this kind was shown. Help or the version went to the writer, with status 0;
+-- any other message went to the error device, with status 1. Or the status is 3, for refused
+-- memory, and nothing was written.
 abbrev pub EndsShowing : {W E : Type 0} → (W → Option (List ℕ)) → (E → Option (List ℕ)) →
     ErrorKind → Device W → Device W → Device E → Device E → ℕ → Type 0
 EndsShowing contents lines kind writer grown errors reported status =

@@ -21,7 +21,8 @@ use Rattle.relief.specs.declared.fault.RunFault.TheVariants.{Grid, Tiling, Jobs,
 use Rattle.relief.specs.declared.fault.Detail.{Detail}
 use Rattle.relief.specs.declared.fault.Detail.TheVariants.{Slot, Count}
 
--- The name of a header key in the line of a fault.
+-- The name of a header slot in the line of a fault. A key gives the value of its slot;
+-- `xllcorner` and `xllcenter` both give that of `xll`.
 abbrev pub slot_text : Key → List ℕ
 slot_text Ncols = codes "ncols"
 slot_text Nrows = codes "nrows"
@@ -30,7 +31,7 @@ slot_text Yll = codes "yll"
 slot_text Cellsize = codes "cellsize"
 slot_text Nodata = codes "nodata"
 
--- A detail as text: the name of a header key or a decimal number.
+-- A detail as text: the name of a header slot or a decimal number.
 abbrev pub detail_text : Detail → List ℕ
 detail_text (Slot key) = slot_text key
 detail_text (Count n) = decimal n

@@ -1,4 +1,4 @@
--- A grid with the requested sinks, and the text of a finished map.
+-- The requested sinks added to a grid (`grid_with_sinks`), and a finished map's text (`made_text`).
 -- Private.
 use Rattle.std.specs.Prelude.{◌≡◌, ℕ, ◌*◌, ⊤, List, [], ◌∷◌, length}
 use Rattle.terrain.specs.Raster.{Raster}
@@ -8,7 +8,7 @@ use Rattle.ascii_grid.specs.Text.{heights_text, counts_text}
 use Rattle.relief.specs.declared.making.MadeMap.{MadeMap}
 use Rattle.relief.specs.declared.making.MadeMap.TheVariants.{Heights, Codes, Counts}
 
--- The grid with these sinks, each once, in place of its own; for no sinks, the grid unchanged.
+-- The grid `g` with these sinks, each once, in place of the sinks of `g`. For an empty list, `g`.
 abbrev pub grid_with_sinks : List Place → Raster → Raster
 grid_with_sinks [] g = g
 grid_with_sinks (p ∷ rest) g = raster_with_sinks g (p ∷ rest)

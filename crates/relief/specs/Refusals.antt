@@ -47,15 +47,15 @@ request_fault w g =
     if nat_lt most_tiles (tiles_of g w.tile) then Some (Tiling TooManyTiles)
     else option_or (named_place_fault w g) (option_map Sight (view_fault g w.map))
 
--- A run on this grid may return the fault. If a fault forbids the map, it is that one. Else it is
--- refused memory or, with several workers, a refused thread.
+-- A run on this grid may return this fault. If `request_fault` is `None`, the fault is refused
+-- memory or, with several workers, a refused thread. Otherwise it is the one in `request_fault`.
 abbrev pub IsFaultOnGrid : Request → Raster → RunFault → Type 0
 IsFaultOnGrid w g (Jobs jobs.Memory) = request_fault w g ≡ None
 IsFaultOnGrid w g (Jobs jobs.NoThread) = (request_fault w g ≡ None) × (1 < w.workers)
 IsFaultOnGrid w g fault = request_fault w g ≡ Some fault
 
--- A run may return the fault for this text. All but `Grid` and `Read` require that the text spells
--- a grid.
+-- A run may return this fault for this text. For each fault but `Grid` and `Read` the text spells a
+-- grid.
 abbrev pub IsFaultOnText : Request → List ℕ → RunFault → Type 0
 IsFaultOnText w text (Grid fault) = IsRefusal w.scale text fault
 IsFaultOnText w text Read = ⊤

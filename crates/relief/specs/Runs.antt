@@ -11,18 +11,19 @@ use Rattle.request.specs.Request.{Request}
 use Rattle.relief.specs.MapText.{IsMapOfText}
 use Rattle.relief.specs.Refusals.{IsFaultOnText}
 
--- A run of the request `w`. `remaining` gives the bytes that a reader has still to return, and
--- `contents` the bytes written to a writer, if they are known.
+-- A run of the request `w`, which leaves `reader` as `left` and `writer` as `grown`. `remaining`
+-- gives the bytes that a reader has still to return, and `contents` the bytes written to a writer,
+-- if they are known.
 pub record Runs {R W T : Type 0} (remaining : R → Option (List ℕ)) (contents : W → Option (List ℕ))
     (w : Request) (reader left : Device R) (writer grown : Device W)
     (result : Result T RunFault) : Type 0 where
   -- At most 2^29 + 1 bytes are read; a text of that many bytes is too long.
   pub taken : Takes remaining reader left
-  -- On `Ok` the whole map was written and nothing else: that of the grid that these bytes spell,
-  -- with the requested sinks. No byte is left to read.
+  -- On `Ok` the whole map was written and nothing else. It is the map, with the requested sinks, of
+  -- the grid that the bytes read spell. No byte is left to read.
   pub written : OnOk result ((map : List ℕ) × IsMapOfText w.scale w.map w.sinks taken.bytes map
       × HasWritten contents writer grown map × IsAtEnd (remaining left.device))
-  -- If the reader's whole text is known, a fault is one that a run may return for it.
+  -- If the reader's whole text is known, a run may return the fault for that text.
   pub refused : (text : List ℕ) → remaining reader.device ≡ Some text →
       IfErr result (λ f. IsFaultOnText w text f)
   -- Unless a write failed, a fault leaves the writer unchanged.

@@ -1,4 +1,4 @@
-//! Runs the program on a command line, and returns its exit status: [`run_words`].
+//! [`run_words`] runs the program on a command line, and returns the status.
 ghost use Rattle.std.specs.Prelude.{◌≡◌, ◌≤◌, ◌<◌, ◌-◌, ◌^◌, ℕ, List, map};
 ghost use Rattle.ascii_grid.specs.Device.{Writes};
 ghost use Rattle.clap.specs.Words.{kind_of};

@@ -1,4 +1,5 @@
-//! The faults of a run, with their numbers, names and exit statuses.
+//! [`RunFault`]: why a run was refused or failed.
+//! Each fault has a number, a name and an exit status.
 ghost use Rattle.std.specs.Prelude.{◌≡◌, ◌≤◌, length, option_map};
 ghost use Rattle.relief.specs.FaultLine.{fault_parts, grid_fault_parts, tiling_fault_parts, jobs_fault_parts, sight_fault_parts, sinks_fault_parts, gauges_fault_parts, fault_status, status_of, plain, detailed, slot_text, detail_text};
 ghost use Rattle.relief.specs.declared.fault.RunFault.TheVariants.{Tiling, Jobs, Write};
@@ -102,7 +103,7 @@ impl From<WriteFailed> for RunFault {
     }
 }
 
-/// The word after a fault's name in its line: a header key, an index or a count.
+/// The word after the name in the line of a fault: a header slot, an index or a count.
 #[derive(Clone, Copy, Debug, PartialEq, Eq)]
 pub(crate) enum Detail {
     Slot(Key),

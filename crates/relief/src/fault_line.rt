@@ -1,4 +1,4 @@
-//! Writes the line of a fault: [`tell`].
+//! [`tell`] writes the one line of text that reports the fault of a run.
 ghost use Rattle.std.specs.Prelude.{◌≡◌, ◌<◌, ◌≤◌, ◌+◌, ◌-◌, ◌^◌, ◌++◌, [], length, codes, decimal, option_map};
 ghost use Rattle.std.specs.Option.{option_map_or};
 ghost use Rattle.ascii_grid.specs.Device.{Writes};

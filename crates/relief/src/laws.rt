@@ -1,4 +1,4 @@
-//! Theorems about the definitions, as functions without code.
+//! A theorem about the definitions, as the contract of a function without code.
 ghost use Rattle.std.specs.Prelude.{◌≡◌, ℕ, List};
 ghost use Rattle.terrain.specs.declared.place.Place.{Place};
 ghost use Rattle.request.specs.Laws.{AreSame};

@@ -1,4 +1,4 @@
-//! Makes a map from bytes to bytes: [`run`], and [`run_gated`] with a gate.
+//! [`run`] reads a grid and writes a map; [`run_gated`] also calls a [`Gate`].
 //!
 //! Reads, cuts tiles, makes the map, then writes. Nothing is written before the map is complete.
 ghost use Rattle.std.specs.Prelude.{◌<◌, ◌-◌, ◌^◌};
@@ -18,14 +18,15 @@ use text_jobs::{read_grid, write_codes, write_framed_counts, write_heights};
 use tile_jobs::{Gate, NoGate};
 use tile_maps::Runner;
 
-/// Reads a grid, makes the requested map with its sinks, and writes it.
+/// Reads a grid, adds the requested sinks, and writes the requested map.
 ///
 /// Tile side, number of workers and schedule do not change the map. At most 2^29 + 1 bytes are
 /// read. Nothing is written before the map is complete, and nothing is allocated after the first
 /// byte written.
 ///
-/// The contract does not model the bytes of standard input and output. For them it gives the counts
-/// of failures and of bytes moved. A fault other than a failed write leaves `writer` unchanged.
+/// The contract does not model the bytes of standard input and output. For these two streams it
+/// gives only the counts of failures and of bytes moved. A fault other than a failed write leaves
+/// `writer` unchanged.
 ///
 /// # Errors
 ///

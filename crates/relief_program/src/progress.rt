@@ -18,9 +18,9 @@ struct Stage {
     number: u32,
     jobs: u64,
     finished_jobs: u64,
-    /// The finished parts of all jobs.
+    /// How many parts of the stage's jobs are finished.
     finished_parts: u64,
-    /// The parts of each job; 0 before any part is finished, or if jobs have no parts.
+    /// How many parts each job has; 0 before any part is finished, or if jobs have no parts.
     parts: u64,
     reported_tenths: u64,
     last_report: Option<Instant>,

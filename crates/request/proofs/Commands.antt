@@ -1,4 +1,5 @@
--- A command with one more argument or subcommand has the shape with it added.
+-- If an argument is added to a command, its rule is added to the command's `Shape`. If a subcommand
+-- is added to the program, its shape is added to the `App`.
 use Rattle.std.proofs.Common.{◌≡◌, ◌++◌, ◌∷◌, [], ◌||◌, ap, ap₂, ◌∙◌}
 use Rattle.clap.specs.Words.{App, Rule, Shape, app_of, with_rule, with_subcommand}
 use Rattle.clap.specs.Built.{AddsArg, AddsSubcommand}

@@ -1,4 +1,5 @@
--- Words split at their first comma; words with too many parts spell nothing.
+-- The parts of a word with a comma are the part before its first comma and the parts of the rest.
+-- A word with too many parts spells no observer, gauge or sink.
 use Rattle.std.proofs.Common.{◌≡◌, ℕ, ◌+◌, ◌<◌, ◌≤◌, Bool, true, false, cond, eqb, List, [], ◌∷◌, length, take, drop, None, Some, sym, ap, subst, refl, ◌∙◌, arith}
 use Rattle.std.specs.Prelude.{nat_lt}
 use Rattle.std.specs.List.{slice_split, position, position_or_len}

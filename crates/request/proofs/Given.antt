@@ -1,4 +1,5 @@
--- An option spells at most one number. Words that name a map have no bad observer or gauge word.
+-- An option's value spells at most one number. If a command line names a map, none of its observer
+-- or gauge words is bad.
 use Rattle.std.proofs.Common.{◌≡◌, ◌<◌, ◌^◌, ℕ, zero, suc, Bool, false, List, [], ◌∷◌, length, map, take, drop, get_or, slice_index, slice_index_or, codes, arith, Bor, Option, Some, None, Result, IfSome, IfNone, sym, ap, refl, ◌∙◌, subst}
 use Rattle.std.specs.Prelude.{is_none, option_map, unwrap_or}
 use Rattle.std.specs.List.{position_or_len}

@@ -27,7 +27,8 @@ use Rattle.request.specs.Request.{Request, IsRequest}
 abbrev pub from_to : ℕ → ℕ → ValueParser
 from_to low high = Signed (pos low) (pos high)
 
--- An option with one number, or the default if it is not given.
+-- The option `name` takes one number that `numbers` accepts. Without the option, the number is
+-- `default`.
 abbrev pub number_rule : Text → ValueParser → Text → Rule
 number_rule name numbers default = record (new_rule name) {
   long = Some name;
@@ -149,7 +150,7 @@ pub record AreCommand (words : List Text) (name : Text) (rows : List Row) : Type
   pub accepted : fault_of program_app words ≡ []
   pub found : subcommand_of program_app words ≡ Some (name, rows)
 
--- The option's value spells this number, which is below 2^32.
+-- The value of option `id` spells the number `n`, which is below 2^32.
 pub record HasNumber (rows : List Row) (id : Text) (n : ℕ) : Type 0 where
   pub text : Text
   pub given : one_of id rows ≡ Some text
@@ -157,11 +158,11 @@ pub record HasNumber (rows : List Row) (id : Text) (n : ℕ) : Type 0 where
   pub spelled : digits_value 10 (without_leading_plus text) ≡ n
   pub small : n < 2 ^ 32
 
--- The flag is given: `clap` keeps the value `true` for it.
+-- The flag `id` is given: `clap` keeps the value `true` for that flag.
 abbrev pub is_given : Text → List Row → Bool
 is_given id rows = option_map_or (λ text. bytes_eq text (codes "true")) (first_of id rows) false
 
--- The words given for an argument.
+-- The words given for the argument `id`.
 abbrev pub words_of : Text → List Row → List Text
 words_of id rows = unwrap_or (all_of id rows) []
 
@@ -196,7 +197,7 @@ Names name rows (View observers target radius) =
 abbrev pub sink_words : Text → List Row → List Text
 sink_words name rows = if bytes_eq name (codes "view") then [] else words_of (codes "sinks") rows
 
--- The options that all maps share, except the flag, have these values.
+-- The options that all maps share, except the flag `--progress`, have these values.
 abbrev pub HasOptions : List Row → ℕ → ℕ → ℕ → Type 0
 HasOptions rows tile workers scale =
     HasNumber rows (codes "tile") tile × HasNumber rows (codes "workers") workers

@@ -1,4 +1,5 @@
--- Commands and arguments of `clap` from which the program is built.
+-- The program is built from commands of `clap` with a given shape (`IsLeaf`) and from arguments of
+-- `clap` with a given rule (`IsArg`).
 -- Private.
 use Rattle.std.specs.Prelude.{◌≡◌, true, false, [], codes}
 use Rattle.clap.specs.Words.{App, Rule, Shape, app_of, rule_of}

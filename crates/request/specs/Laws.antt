@@ -12,7 +12,8 @@ use Rattle.request.specs.Request.{Request}
 use Rattle.request.specs.declared.map.Map.{Map}
 use Rattle.request.specs.declared.map.Map.TheVariants.{Fill, Basins, Catchments, View}
 
--- Two maps are equal: their kind, and their gauges or observers, target and radius.
+-- Two maps have the same kind. Two maps of catchments also have the same gauges, and two viewsheds
+-- the same observers, target and radius.
 abbrev pub AreSame : Map → Map → Type 0
 AreSame (View observers target radius) (View others height reach) =
     (observers.items ≡ others.items) × (target ≡ height) × (radius ≡ reach)

@@ -6,7 +6,7 @@ use Rattle.terrain.specs.Decimal.{are_digits, number_of}
 use Rattle.terrain.specs.declared.place.Place.{Place}
 use Rattle.terrain.specs.declared.observer.Observer.{Observer}
 
--- A whole number of 1 to 10 digits, below 2^32.
+-- The bytes spell a whole number of 1 to 10 digits, below 2^32.
 abbrev pub is_number : List ℕ → Bool
 is_number bs = are_digits bs && nat_le (length bs) 10 && nat_lt (number_of bs) (2 ^ 32)
 

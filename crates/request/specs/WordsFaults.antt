@@ -1,4 +1,4 @@
--- The faults of a command line.
+-- What holds of a command line's words if `parse` returns a fault for them.
 -- Public.
 use Rattle.std.specs.Prelude.{◌≡◌, ℕ, ⊤, List, [], codes}
 use Rattle.clap.specs.Words.{Row, Text, kind_of}
@@ -48,7 +48,7 @@ IsNoMap name rows = ((map : Map) → ¬ Names name rows map)
     × ((place : ℕ) → ¬ IsBadObserverAfter name rows place)
     × ((place : ℕ) → ¬ IsBadGaugeAfter name rows place)
 
--- The fault of a subcommand with these values, apart from sink words.
+-- The subcommand `name` with these values has this fault, where faults of sink words do not count.
 abbrev pub IsMapFault : Text → List Row → WordsFault → Type 0
 IsMapFault name rows = IsFaultWith (IsBadObserverAfter name rows) (IsBadGaugeAfter name rows)
     (λ _. ⊥)

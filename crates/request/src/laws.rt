@@ -1,4 +1,4 @@
-//! Theorems about the definitions, as functions without code.
+//! Theorems about the definitions, as the contracts of functions without code.
 ghost use Rattle.request.specs.Laws.{BasinsOfSinks, CatchmentsOfAGauge, FillAlone, HelpOfView, NoSideOfZero, VersionAlone, ViewWithRadius, RequestsAreAccepted, RequestsAreOne};
 
 /// Proves that a command line has at most one meaning.

@@ -1,4 +1,4 @@
-//! The six maps.
+//! [`Map`]: which of the six maps is requested, with its gauges or observers.
 use terrain::{Observer, Place};
 
 /// A requested map, with its gauges or observers.

@@ -1,4 +1,4 @@
-//! Parses words of observers, gauges and sinks: [`parse_observer`], [`parse_sink`].
+//! [`parse_observer`] parses observer words, [`parse_sink`] gauge and sink words.
 ghost use Rattle.std.specs.Prelude.{◌≡◌, ◌==◌, ◌∷◌, [], ℕ, List, Option, Some, None, IfSome, IfNone, if◌then◌else◌};
 ghost use Rattle.std.specs.List.{slice_split, position};
 ghost use Rattle.terrain.specs.Decimal.{number_of};

@@ -1,4 +1,4 @@
-//! Parses the command line: [`parse`].
+//! [`parse`] returns the [`Options`] that a command line requests, or a fault.
 ghost use Rattle.std.specs.Prelude.{◌≡◌, ℕ, [], map, codes, IfOk, IfErr, IfSome, IfNone};
 ghost use Rattle.clap.specs.Words.{found_of, rows_of};
 ghost use Rattle.request.specs.CommandLine.{HasNumber, HasOptions, IsFirstBad, Names, Spell, RequestFor, is_given, sink_words, words_given};
@@ -49,7 +49,7 @@ impl From<AllocError> for WordsFault {
     }
 }
 
-/// Returns the 32-bit number that an option's value spells, or `None`.
+/// Returns the 32-bit number that the value of option `id` spells, or `None`.
 fn number_given(found: &ArgMatches<'_>, id: &str) -> Option<u32>
     ensures some { IfSome result (HasNumber (rows_of (found_of found.now)) id.now) }
     ensures none { IfNone result ((n : ℕ) → HasNumber (rows_of (found_of found.now)) id.now n → ⊥) }
@@ -191,7 +191,7 @@ fn progress_given(found: &ArgMatches<'_>) -> bool
     }
 }
 
-/// Adds the given options to a map. `None` if one is missing or outside its limits.
+/// Adds the given options to a map. `None` if an option is missing or outside its limits.
 fn with_options(map: Map, found: &ArgMatches<'_>) -> Option<Options>
     ensures some { IfSome result (λ o. (o.map ≡ map) × (o.sinks ≡ [])
         × HasOptions (rows_of (found_of found.now)) o.tile o.workers o.scale) }

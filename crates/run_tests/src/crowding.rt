@@ -14,7 +14,8 @@ const MOST_LOOKS: u32 = 10_000_000;
 /// The side of the tiles of a flat strip, in cells.
 const SIDE: u32 = 2;
 
-/// A gate that holds a stage's first jobs until all have entered, or gives up.
+/// A gate that holds the first `entered.len()` jobs of a stage until all of them have entered.
+/// A held job gives up after [`MOST_LOOKS`] checks for one other job.
 #[derive(Drop)]
 struct Crowd {
     // how often each of the first jobs has entered

@@ -1,4 +1,5 @@
-//! Runs on a long text: reads are short, and never far ahead of the cells.
+//! On a long text, a run asks for few bytes at a time.
+//! No run reads far ahead of the cells that it has parsed.
 use relief::{Counted, GridFault, Map, Options, RunFault, run};
 use std::alloc::{AllocError, Global};
 use std::io;

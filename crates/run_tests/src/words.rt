@@ -1,4 +1,5 @@
-//! The command line, its statuses and help, the lines of faults, and progress.
+//! Runs the program on command lines.
+//! Checks exit statuses, help, fault lines and progress.
 use relief::{
     Counted, Gate, GaugeFault, GridFault, JobFault, Key, Map, Observer, Options, Place, Progress,
     RunFault, SightFault, SinkFault, TilingFault, VERSION, WriteFailed, parse_observer, parse_sink,

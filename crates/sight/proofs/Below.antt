@@ -1,4 +1,6 @@
--- Ground of one height, which no cell of a line near the rays exceeds, hides what the line blocks.
+-- The ramp of ground of one height hides all that a family's line blocks, if no cell near the
+-- targets' rays is higher. A ray is a line of sight without its heights; a family's lines are the
+-- columns, or the rows, on one side of an observer.
 use Rattle.std.proofs.Common.{arith, refl, sym, ap, ◌∙◌, ◌≡◌, ◌+◌, ◌-◌, ◌<◌, ◌≤◌, ◌⊎◌, ℕ, ℤ, pos, ◌+ℤ◌, ◌-ℤ◌, ◌*ℤ◌, ◌≤ℤ◌, ◌<ℤ◌, true, List, length, Option, None, Some, get_or, inl, inr}
 use borrow.Author.Differences.{true_is_lt}
 use Rattle.std.specs.Int.{int_div_euclid}

@@ -1,5 +1,5 @@
--- An upper bound of the bounds of 8 by 8 near blocks is a bound of their far block. Lists of bounds
--- of successive blocks may be joined.
+-- An upper bound of the bounds of 8 by 8 near blocks bounds the heights of their far block, of 128
+-- by 128 cells. Lists of the bounds of successive blocks may be joined.
 use Rattle.std.proofs.Common.{arith, refl, sym, ap, subst, ◌∙◌, ◌≡◌, ◌+◌, ◌-◌, ◌*◌, ◌/◌, ◌%◌, ◌<◌, ◌≤◌, ℕ, ℤ, List, [], ◌∷◌, ◌++◌, length, length-append, get_or, get_or-take, get_or-drop, drop, slice_range, ◌≤ℤ◌, Option, None, Some, inl, inr}
 use Rattle.std.proofs.lemmas.Bool.{cases_lt}
 use Rattle.std.proofs.lemmas.List.{get_or_past}
@@ -16,7 +16,7 @@ use Rattle.sightlines.proofs.LowBlocks.{block_before}
 pub swapped : (a b : ℕ) → a * b ≡ b * a
 swapped a b = omega arith
 
--- a bound of a bound is a bound
+-- height h is not above `result`, if it is not above `top` and `top` is not above `result`
 pub top_over : (top result : Option ℤ) (h : ℤ) → ((m : ℤ) → top ≡ Some m → IsTopOf result m) →
     IsTopOf top h → IsTopOf result h
 top_over None result h over is = absurd is
@@ -110,7 +110,7 @@ no_tops size t from = record {
   above = λ p h low high is. absurd (omega arith);
 }
 
--- a list of one entry, a bound for block k, has bounds for the blocks k to below k + 1
+-- the list of one bound, of block k, has the bounds of blocks k to below k + 1
 pub one_top : (size k : ℕ) (t : Terrain) (top : Option ℤ) → 0 < size
     → IsBlockTop size t (make_place (k / blocks_in size t.cols) (k % blocks_in size t.cols)) top
     → AreTopsBetween size t k (k + 1) (top ∷ [])

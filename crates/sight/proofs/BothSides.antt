@@ -1,5 +1,5 @@
--- Two passes, one for each side of an observer, keep exactly the marks of cells whose line of sight
--- no crossing with the lines blocks.
+-- A family's lines are the columns, or the rows, on one side of an observer. Two opposite families
+-- remove exactly the marks of cells whose line of sight a crossing with their lines blocks.
 use Rattle.std.proofs.Common.{arith, refl, sym, ap, ◌∙◌, ◌≡◌, ◌+◌, ◌-◌, ◌*◌, ◌<◌, ◌≤◌, ℕ, ℤ, pos, ◌+ℤ◌, ◌-ℤ◌, Bool, true, false, not, ◌&&◌, List, Option, None, get_or, unwrap_or, inl, inr}
 use Rattle.std.specs.Int.{abs_diff}
 use Rattle.std.specs.List.{list_any, range_with_len}

@@ -1,4 +1,5 @@
--- After each observer, a tile's values count the observers so far that see their cells.
+-- After each observer, each value of a tile is the number of observers so far that see the value's
+-- cell.
 use Rattle.std.proofs.Common.{arith, refl, sym, ap, ◌∙◌, ◌≡◌, ◌+◌, ◌-◌, ◌*◌, ◌/◌, ◌%◌, ◌<◌, ℕ, ℤ, Bool, true, false, List, length, get_or, take, Option, None, Some, option_map, slice_get, inl, inr}
 use Rattle.std.proofs.lemmas.Bool.{cases_lt}
 use Rattle.std.proofs.lemmas.List.{get_or_past, length-take}
@@ -35,7 +36,8 @@ value_counted t os target radius i d p false less e =
     ap (λ n. option_map (λ _. n) (height_at t p))
     (sym (count_by_more_no (λ (o : Observer). is_seen t o p target radius) os i d less e))
 
--- counting the marks of observer i turns the values of the first i into those of the first i + 1
+-- adding 1 at each cell that observer i sees turns the values of the first i observers into those
+-- of the first i + 1
 pub seen_counted : (t : Terrain) (os : List Observer) (target radius i : ℕ) (d : Observer)
     (b : Bounds)
     (old new : List (Option ℕ)) (seen : List Bool) → i < length os
@@ -57,7 +59,8 @@ seen_counted t os target radius i d b old new seen less before marks size each =
       (is_seen t (get_or os i d) p target radius) less refl;
 }
 
--- where observer i sees no cell of the tile, values of the first i are those of the first i + 1
+-- if observer i sees no cell of the tile, the values of the first i observers are those of the
+-- first i + 1
 pub unseen_counted : (t : Terrain) (os : List Observer) (target radius i : ℕ) (d : Observer)
     (b : Bounds)
     (values : List (Option ℕ)) → i < length os

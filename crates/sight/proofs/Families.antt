@@ -1,4 +1,5 @@
--- A family blocks a target exactly where the walk along the line of sight is blocked.
+-- A family's lines are the columns, or the rows, on one side of an observer. Some line before a
+-- target's own blocks the target exactly if the walk along the line of sight is blocked.
 use Rattle.std.proofs.Common.{ap, ◌∙◌, ◌≡◌, ℕ, ◌-◌, ℤ, ◌+ℤ◌, List, Option}
 use Rattle.std.specs.List.{list_any, range_with_len}
 use Rattle.sightlines.specs.Walk.{step_blocks, steps_of, walk_blocks}

@@ -1,4 +1,5 @@
--- If the nearest place of some bounds is outside an observer's radius, all their places are.
+-- If the place of a tile's bounds that is nearest to an observer is outside the radius, all places
+-- of the bounds are.
 use Rattle.std.proofs.Common.{arith, ◌≡◌, ◌+◌, ◌-◌, ◌*◌, ◌<◌, ◌≤◌, ℕ, false, max, min}
 use Rattle.std.specs.Int.{abs_diff}
 use Rattle.std.proofs.lemmas.Bool.{leb-false, lt-leb}

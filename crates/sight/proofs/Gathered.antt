@@ -1,4 +1,5 @@
--- Rays, collected line by line and cell by cell, are those of all marked cells from line 2 on.
+-- Line by line and cell by cell, a list gets the rays of all marked cells on lines 2 and beyond. A
+-- ray is a line of sight without its heights; lines are columns or rows out from an observer.
 use Rattle.std.proofs.Common.{arith, refl, sym, ap, subst, ◌∙◌, ◌≡◌, ℕ, ◌+◌, ◌*◌, ◌<◌, ◌≤◌, ◌++◌, ◌⊎◌, Bool, false, List, [], ◌∷◌, length, Some, inl, inr}
 use Rattle.std.specs.Prelude.{slice_get}
 use Rattle.std.proofs.lemmas.Bool.{cases_lt}
@@ -11,7 +12,8 @@ use Rattle.sight.specs.declared.family.Family.{Family}
 use Rattle.sight.specs.declared.window.Window.{Window}
 use Rattle.sight.proofs.Ranking.{slice_get-front, slice_get-last}
 
--- rays before cell c of line n are all the rays before line k, if no window cell is between
+-- rays of cells before cell c of line n are those of all lines before line k, if the window has no
+-- cell between
 lines_passed : (f : Family) (w : Window) (marks : List Bool) (n c k : ℕ) (rays : List Target)
     → n < k → length rays ≤ k * 4096 → ((m y : ℕ) → m < k → Crosses f w m → IsInRun w.side y →
     (m < n) ⊎ ((m ≡ n) × (y < c))) → AreRays f w marks n c rays → AreRays f w marks k 0 rays

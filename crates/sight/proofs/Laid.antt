@@ -1,4 +1,5 @@
--- Pushes, piece by piece, raise a horizon to the ground of a line.
+-- The pieces that the code pushes are those of the old horizon, raised to the ground of a line. A
+-- piece is one ramp for successive targets; a line is a column or row out from an observer.
 use Rattle.std.proofs.Common.{arith, refl, ap, negsuc, ◌∙◌, ◌≡◌, ℕ, ◌+◌, ◌-◌, ◌*◌, ◌<◌, ◌≤◌, ℤ, pos, ◌+ℤ◌, ◌-ℤ◌, ◌*ℤ◌, ◌≤ℤ◌, ◌<ℤ◌, subst, true, List, [], Option, Some, inl, inr}
 use Rattle.std.specs.Prelude.{slice_get}
 use Rattle.std.proofs.lemmas.Bool.{cases_lt}
@@ -24,15 +25,16 @@ grows a b n h = by (b -ℤ a) refl
     by (pos m) e = omega (arith, ints, rest_times b a (pos n), ap (λ z. z *ℤ pos n) e)
     by (negsuc m) e = absurd (omega (arith, ints, e, h))
 
--- if the ray to target m passes before a cell, so do the rays to all targets before m
+-- if the ray to target m passes before the cell at `offset`, so do the rays to all targets of lower
+-- index
 pub before_to : (targets : List Target) (k m : ℕ) (offset : ℤ) (u : Target) → AreTargets targets →
     slice_get targets m ≡ Some u → IsBefore k offset u → AreBefore targets k offset (m + 1)
 before_to targets k m offset u are at_m before i t below at_i =
     high_back offset t.offset u.offset t.line u.line k (are.each i t at_i).line.0
     (slope_up targets i m t u are (omega arith) at_i at_m) before
 
--- if ray `from` passes `offset`, it and the later rays that cross before `last + 1` pass among the
--- cells from `offset` to `last`
+-- if the ray to target `from` passes `offset`, it and later rays that cross before `last + 1` pass
+-- among cells `offset` to `last`
 pub passes_onward : (targets : List Target) (k from end i : ℕ) (offset last : ℤ) (u t : Target) →
     AreTargets targets → slice_get targets from ≡ Some u → Passes k offset u →
     AreBefore targets k (last +ℤ pos 1) end
@@ -43,7 +45,8 @@ passes_onward targets k from end i offset last u t are at_u passes before low hi
   high = before i t high at_t;
 }
 
--- a ray that passes a cell passes among the cells from it to any of no lower offset
+-- a ray that passes the cell at `offset` passes among those from `offset` to any `last` not below
+-- it
 pub passes_before : (k : ℕ) (offset last : ℤ) (t : Target) → offset ≤ℤ last → Passes k offset t →
     PassesAmong k offset last t
 passes_before k offset last t up passes = record {
@@ -89,7 +92,7 @@ shown_over cells f targets k from end span u are at_u shows over i t low high at
     let here = over i t low high at in
     shows t (are.each i t at) (slope_up targets from i u t are low at_u at) here.0 here.1
 
--- the greater of the ground's ramp and the old one raises the horizon
+-- the greater of the ground's ramp and the old horizon's ramp at target i raises the horizon there
 raised_to : (cells : List (Option ℤ)) (f : Family) (k i : ℕ) (highest : List Piece) (ground ramp :
     Ramp) (t : Target) → ramp_at highest i ≡ Some ramp → IsRampAt ramp t → Shows cells f k t ground
     → Raises cells f k highest i t (greater_at ground ramp t)
@@ -123,7 +126,7 @@ greater_raised cells f targets k from end highest ground ramp old new reach more
       ],
     )
 
--- if the old ramp hides all that a line blocks, it is the raised horizon's ramp too
+-- if a ramp of the old horizon hides all that line k blocks, it is a ramp of the raised horizon too
 pub hidden_raised : (cells : List (Option ℤ)) (f : Family) (targets : List Target)
     (k i from end : ℕ) (highest : List Piece) (ramp : Ramp) (t : Target) → IsOver targets highest →
     ramp_at highest i ≡ Some ramp
@@ -135,7 +138,7 @@ hidden_raised cells f targets k i from end highest ramp t over is hidden low hig
       t.line y rise k) (hidden i t low high at y rise stands later) ∙ (rw is refl);
 }
 
--- a ray between two cells at or past `first` crosses no line before `first`
+-- a ray from cell `at` to cell y, neither below cell `first`, crosses no line below cell `first`
 low_side : (first at y k r : ℕ) → first ≤ at → first ≤ y →
     y * k + at * (r + k) < first * (r + k) + at * k → ⊥
 low_side first at y k r a b less =
@@ -150,7 +153,7 @@ high_side cells at y k r some a b more = omega (
   mul-le (at + 1) r cells r (omega arith) (omega arith),
 )
 
--- a ray that crosses line k before the side leads to a target not beyond line k
+-- a ray that crosses line k before the side's first cell leads to a target not beyond line k
 pub passed_low : (f : Family) (k y : ℕ) (t : Target) → IsFamily f → IsAtCell f y t → k < t.line →
     IsBefore k (pos f.side.first -ℤ pos f.side.at) t → ⊥
 passed_low f k y t is stands later before =
@@ -189,7 +192,8 @@ passed_high f k y t is stands some later past =
       rest_times (pos f.side.cells) (pos f.side.at) (pos (r + k)),
     ))
 
--- any ramp within bounds begins the raised horizon, over targets whose rays cross before the side
+-- over targets whose rays cross before the side's first cell, any ramp within bounds begins the
+-- raised horizon
 pub low_raised : (cells : List (Option ℤ)) (f : Family) (targets : List Target) (k end : ℕ)
     (highest : List Piece) (ramp : Ramp) (old new : List Piece) → old ≡ [] → IsFamily f →
     AreTargets targets → IsPushed old end ramp new
@@ -209,7 +213,8 @@ low_raised cells f targets k end highest ramp old new e is are pushed before at 
       ),
     )
 
--- any ramp within bounds extends the raised horizon, over targets whose rays cross past the side
+-- over targets whose rays cross past the side's last cell, any ramp within bounds extends the
+-- raised horizon
 pub high_raised : (cells : List (Option ℤ)) (f : Family) (targets : List Target) (k from end : ℕ)
     (highest : List Piece) (offset : ℤ) (u : Target) (ramp : Ramp) (old new : List Piece) → 0 < k →
     IsFamily f → AreTargets targets → slice_get targets from ≡ Some u

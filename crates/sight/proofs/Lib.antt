@@ -14,7 +14,7 @@ pub mod Passed
 pub mod Ranking
 pub mod Gathered
 -- the marks that a family of crossings removes
-pub mod Hidden
+pub mod Unmarking
 -- a family blocks as the walk does
 pub mod Families
 -- the marks that a tile keeps on all sides of an observer

@@ -1,4 +1,5 @@
--- The sweep over columns leaves the marks of places that no column crossing blocks; rows alike.
+-- Sweeps over columns leave the marks of places whose line of sight no crossing with a column
+-- blocks; sweeps over rows do so for rows.
 use Rattle.std.proofs.Common.{arith, sym, ap, ◌∙◌, ◌≡◌, ◌+◌, ◌-◌, ◌*◌, ◌<◌, ◌≤◌, ℕ, ℤ, pos, ◌+ℤ◌, Bool, true, false, not, ◌&&◌, List, Option, get_or, unwrap_or}
 use Rattle.std.proofs.lemmas.Nat.{mul-add-lt}
 use Rattle.terrain.specs.Raster.{Terrain}
@@ -10,15 +11,15 @@ use Rattle.sightlines.specs.Sight.{column_blocks, row_blocks}
 use Rattle.sightlines.specs.Walk.{columns_of, rows_of, walk_blocks}
 use Rattle.sight.specs.Marks.{mark_at, AreLeft}
 use Rattle.sight.specs.Sides.{sightline_to, AreOpen, family_of, window_of}
-use Rattle.sight.specs.declared.sides.Coordinate.{Coordinate}
+use Rattle.sight.specs.declared.sides.TileAxis.{TileAxis}
 use Rattle.sightlines.specs.declared.walk.Sightline.{Sightline}
 use Rattle.sightlines.proofs.Crossings.{height_is, column_blocks-walk, row_blocks-walk}
 
-abbrev pub columns_at : Bounds → Place → Coordinate
+abbrev pub columns_at : Bounds → Place → TileAxis
 columns_at b p =
     record { at = p.col; stride = 1; tile = record { first = b.left; cells = b.cols; stride = 1 } }
 
-abbrev pub rows_at : Terrain → Bounds → Place → Coordinate
+abbrev pub rows_at : Terrain → Bounds → Place → TileAxis
 rows_at t b p = record {
   at = p.row;
   stride = t.cols;
@@ -33,7 +34,7 @@ pub row_marks : (b : Bounds) (x y n : ℕ) → n ≡ b.rows * b.cols → x < b.r
     x * b.cols + y * 1 < n
 row_marks b x y n size in_x in_y = omega (arith, size, mul-add-lt x b.cols y b.rows in_x in_y)
 
--- the new mark stays right if its index and its test are replaced by equal ones
+-- the equation of a new mark stays true, if index i is replaced by j and `walked` by `blocked`
 reported : (new old : List Bool) (i j : ℕ) (walked blocked : Bool) →
     i ≡ j → walked ≡ blocked → get_or new i false ≡ (get_or old i false && not walked) →
     get_or new j false ≡ (get_or old j false && not blocked)

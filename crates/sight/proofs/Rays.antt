@@ -1,4 +1,5 @@
--- The ramp between two cells hides what their ground blocks. Rays cross lines inside the side.
+-- The ramp of the ground between two cells hides what this ground blocks. Before its target's line,
+-- a ray (a line of sight without its heights) crosses lines only at cells that exist.
 use Rattle.std.proofs.Common.{arith, refl, sym, ap, ◌∙◌, ◌≡◌, ◌+◌, ◌-◌, ◌*◌, ◌/◌, ◌%◌, ◌<◌, ◌≤◌, ℕ, ℤ, pos, negsuc, ◌+ℤ◌, ◌-ℤ◌, ◌*ℤ◌, ◌≤ℤ◌, ◌<ℤ◌, int_lt, false, Option, None, Some, inl, inr}
 use borrow.Author.Differences.{up, down}
 use Rattle.std.proofs.lemmas.Int.{ints}
@@ -51,7 +52,8 @@ above_between near far z n m h =
           rw (m_is, weighed_height-some (Some near) (n - 0) (omega arith), no_part far) refl
     ]
 
--- the ramp between two cells hides a target exactly where their ground is above the line of sight
+-- the ramp between two cells hides a target exactly where the ground between them is above the line
+-- of sight
 pub shown_between : (near far e rise offset j : ℤ) (n k m : ℕ) → m < n → k ≤ n →
     j *ℤ pos k ≡ (offset *ℤ pos n) +ℤ pos m
     → int_lt (rise *ℤ pos k) ((((far -ℤ near) *ℤ pos k) *ℤ j)
@@ -107,7 +109,7 @@ cell_is o y c n k m offset few below is at =
     let t_is : toward o y n k ≡ c * n + m = there ∙ ap (λ z. c * z + m) (sym n_is) in
     (rw t_is (div-mul-add c n m below), rw t_is (mod-mul-add c n m below))
 
--- a ray between cells below `cells` stays below `cells`
+-- a ray from cell o to cell y, both below `cells`, crosses a line at a cell c below `cells`
 at_most : (o y cells r k c m : ℕ) → o < cells → y < cells → 0 < r + k →
     o * r + y * k ≡ c * (r + k) + m → c < cells
 at_most o y cells r k c m a b some is =
@@ -143,7 +145,7 @@ stays_inside o y cells n k m offset a b few below is =
     brought o y k m offset r e = omega
         (arith, ints, e, rest_times (pos y) (pos o) (pos k), sum_times (pos o) offset (pos (r + k)))
 
--- where a ray is past a cell, the next cell exists
+-- where a ray crosses a line past the centre of cell c, cell c + 1 exists
 pub next_inside : (o y cells c n k m : ℕ) (offset : ℤ) → o < cells → y < cells → k ≤ n → 0 < m →
     (pos y -ℤ pos o) *ℤ pos k ≡ (offset *ℤ pos n) +ℤ pos m → pos c ≡ pos o +ℤ offset → c + 1 < cells
 next_inside o y cells c n k m offset a b few part is at =

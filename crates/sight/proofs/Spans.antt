@@ -1,4 +1,6 @@
--- Where rays pass between two cells, the ramp of their ground hides exactly what the line blocks.
+-- Of targets whose rays cross a line between two cells, the ramp of the ground there hides exactly
+-- those that the line blocks. A ray is a line of sight without its heights; a line is a column or
+-- row out from an observer.
 use Rattle.std.proofs.Common.{arith, refl, sym, ap, ◌∙◌, ◌≡◌, ◌+◌, ◌-◌, ◌*◌, ◌/◌, ◌^◌, ◌<◌, ◌≤◌, ℕ, ℤ, pos, negsuc, ◌+ℤ◌, ◌-ℤ◌, ◌*ℤ◌, ◌≤ℤ◌, ◌<ℤ◌, unsigned_abs, false, List, Option, None, Some, get_or, inl, inr}
 use borrow.Author.Differences.{up, down}
 use Rattle.std.specs.Int.{int_div_euclid}
@@ -78,7 +80,7 @@ crossing_is cells f k c m y offset rise t stands later below is at =
     let lead = lead_is f t.line k stands.line (omega arith) in
     rw (cell.0, cell.1, lead) refl
 
--- before its target's line, a ray passes cells from 0 to below the side's end
+-- on line k, before its target's line, a ray passes a cell c from 0 to below the side's end
 pub none_outside : (f : Family) (k y : ℕ) (offset : ℤ) (t : Target) → IsFamily f →
     IsAtCell f y t → k < t.line → Passes k offset t → (c : ℕ) × (pos c ≡ pos f.side.at +ℤ offset)
     × (c < f.side.cells)

@@ -1,4 +1,5 @@
--- Marks of the cells of a window, and which of them a family of crossings hides.
+-- A window is a part of the grid whose cells have marks. A family of crossings, with the columns or
+-- with the rows on one side of an observer, removes the marks of cells that it hides.
 -- Private.
 use Rattle.std.specs.Prelude.{◌≡◌, ℕ, ◌+◌, ◌-◌, ◌*◌, ◌<◌, ◌≤◌, Bool, true, false, not, ◌&&◌, ◌⊎◌, ℤ, pos, ◌+ℤ◌, ◌-ℤ◌, List, length, Option, None, Some, unwrap_or, slice_get, slice_index_or}
 use Rattle.horizons.specs.declared.target.Target.{Target}

@@ -14,7 +14,8 @@ use Rattle.sight.specs.declared.marking.Check.TheVariants.{Whole, FirstCrossings
 abbrev pub mark_at : Bounds → List Bool → Place → Bool
 mark_at b marks p = slice_index_or marks (index_in b p) false
 
--- There is a mark for each place; `Holds` is true of each place of index below `end` and its mark.
+-- There is a mark for each place. `Holds` is true of each place of index below `end` and the
+-- place's mark.
 pub record AreMarkedBelow (b : Bounds) (Holds : Place → Bool → Type 0) (end : ℕ)
     (marks : List Bool) : Type 0 where
   pub size : length marks ≡ b.rows * b.cols
@@ -38,7 +39,7 @@ abbrev pub IsMarkOf : Check → Terrain → Observer → ℕ → ℕ → Place �
 IsMarkOf Whole = MarksSeen
 IsMarkOf FirstCrossings = MarksSeenIfOpen
 
--- Exactly the marks whose places pass a test are kept.
+-- Of the old marks, the new ones keep exactly those whose places pass a test.
 pub record AreLeft (b : Bounds) (test : Place → Bool) (old new : List Bool) : Type 0 where
   pub size : length new ≡ length old
   pub each : (p : Place) → IsInBounds b p → mark_at b new p ≡ (mark_at b old p && test p)

@@ -1,22 +1,24 @@
--- The lines of sight to a window's cells, and the marks left where no crossing blocks them.
+-- The lines of sight to the cells of a window, and the marks left where no crossing blocks them. A
+-- window is a part of the grid whose cells have marks.
 -- Private.
 use Rattle.std.specs.Prelude.{◌≡◌, ℕ, ◌+◌, ◌*◌, ◌<◌, ◌≤◌, Bool, false, not, ◌&&◌, ℤ, pos, ◌+ℤ◌, List, length, Option, None, unwrap_or, slice_index_or, min, max}
 use Rattle.sight.specs.Hiding.{IsInRun, mark_in_window}
 use Rattle.sight.specs.Sweep.{side_axis}
 use Rattle.sightlines.specs.Walk.{walk_blocks}
 use Rattle.sight.specs.declared.family.Family.{Family}
-use Rattle.sight.specs.declared.sides.Coordinate.{Coordinate}
+use Rattle.sight.specs.declared.sides.TileAxis.{TileAxis}
 use Rattle.sightlines.specs.declared.walk.Sightline.{Sightline}
 use Rattle.sight.specs.declared.window.Window.{Window}
 
--- The numbers of a coordinate are within their limits.
-pub record IsCoordinate (c : Coordinate) : Type 0 where
+-- The numbers of an axis are within their limits.
+pub record IsTileAxis (c : TileAxis) : Type 0 where
   pub at : c.at < 4096
   pub tile : c.tile.first + c.tile.cells ≤ 4096
   pub strides : (c.stride ≤ 4096) × (c.tile.stride ≤ 4096)
 
--- The family whose lines cross coordinate `lines`, run along `side` and count away from 0.
-abbrev pub family_of : Coordinate → Coordinate → ℤ → Family
+-- The family whose lines are counted along the axis `lines`, away from coordinate 0, and run along
+-- the axis `side`.
+abbrev pub family_of : TileAxis → TileAxis → ℤ → Family
 family_of lines side eye = record {
   lines = record { at = lines.at; stride = lines.stride; back = false };
   side = record {
@@ -28,8 +30,8 @@ family_of lines side eye = record {
   eye = eye;
 }
 
--- The tile as a window: its run across the lines, and its run along them.
-abbrev pub window_of : Coordinate → Coordinate → Window
+-- The tile as a window: the tile's run across the lines, and its run along the lines.
+abbrev pub window_of : TileAxis → TileAxis → Window
 window_of lines side = record { lines = lines.tile; side = side.tile }
 
 -- The family with its lines counted toward coordinate 0 if `back`, else away from it.

@@ -19,11 +19,11 @@ lead_of f k = if f.lines.back then f.lines.at - k else f.lines.at + k
 abbrev pub offset_of : Family → ℕ → ℤ
 offset_of f y = pos y -ℤ pos f.side.at
 
--- The line of sight to line n, on the coordinate across the lines.
+-- The coordinate across the lines, from the observer to line n.
 abbrev pub lead_axis : Family → ℕ → Axis
 lead_axis f n = record { from = f.lines.at; to = lead_of f n; stride = f.lines.stride }
 
--- The line of sight to cell y, on the coordinate along the lines.
+-- The coordinate along the lines, from the observer to cell y.
 abbrev pub side_axis : Family → ℕ → Axis
 side_axis f y = record { from = f.side.at; to = y; stride = f.side.stride }
 

@@ -28,7 +28,8 @@ pub struct Lines {
 }
 
 /// The coordinate along a family's lines.
-/// The observer is at `at`. Cells `first` to below `cells` include the observer's and all targets'.
+/// The observer is at `at`; neighbouring cells are `stride` apart in the list of cells. Cells
+/// `first` to below `cells` include the observer's and all targets'.
 #[derive(Clone, Copy)]
 pub struct Side {
     pub at: u32,
@@ -126,7 +127,8 @@ impl Family {
         }
     }
 
-    /// Returns the ramp of the ground from the cell at `offset` to the next one.
+    /// Returns the ramp of a line's ground from the cell at `offset` to the next.
+    /// `near` and `far` are the heights of these two cells.
     #[inline(always)]
     fn ramp(self, line: u32, offset: i32, near: Height, far: Height) -> Ramp
         requires family { IsFamily self }
@@ -210,7 +212,7 @@ impl Family {
         top
     }
 
-    /// Whether the ground from the cell at `offset` to the next one has this ramp.
+    /// Whether a line's ground from the cell at `offset` to the next has ramp `ramp`.
     #[inline(always)]
     fn has_ramp(self, cells: &[Cell], line: u32, offset: i32, ramp: Ramp) -> bool
         requires heights { AreHeights cells.now }
@@ -233,7 +235,7 @@ impl Family {
         self.ramp(line, offset, near, far) == ramp
     }
 
-    /// Returns the last offset, from `first` on, to which the ground keeps this ramp.
+    /// Returns the last offset from `first` to which a line's ground has ramp `ramp`.
     #[inline(always)]
     fn last_of(self, cells: &[Cell], line: u32, first: i32, ramp: Ramp) -> i32
         requires heights { AreHeights cells.now }

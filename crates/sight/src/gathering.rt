@@ -1,4 +1,7 @@
-//! Collects the rays of a window's marked cells, line by line.
+//! Collects the rays of a window's marked cells, line by line of a family.
+//!
+//! A ray is a line of sight without its heights, given by its target. A window is a tile with a
+//! mark for each cell. A family's lines are the columns, or the rows, on one side of an observer.
 ghost use Rattle.std.specs.Prelude.{◌≡◌, ℕ, ◌+◌, ◌-◌, ◌*◌, ◌^◌, ◌<◌, ◌≤◌, length, IfOk, OnOk};
 ghost use Rattle.sight.specs.Sweep.{IsFamily, IsLine};
 ghost use Rattle.sight.specs.Hiding.{target_at, AreRays, Crosses, IsWindow};
@@ -24,7 +27,8 @@ impl Family {
         first.max(2)
     }
 
-    /// Returns an end past all lines that cross the window; lines 2 to below it exist.
+    /// Returns a line number above that of each line that crosses the window.
+    /// All lines from 2 to below the result exist.
     fn end_line(self, window: Window) -> u32
         requires family { IsFamily self }
         requires lines { window.lines.first + window.lines.cells ≤ 4096 }

@@ -1,4 +1,4 @@
-//! Heights of cells in a list.
+//! The height of a cell in a list, and the greater of two heights: `None` stands for no height.
 ghost use Rattle.std.specs.Prelude.{◌≡◌, ◌⊎◌, ℤ, None, Some, slice_index_or};
 ghost use Rattle.sightlines.specs.Blocks.{IsTopOf};
 

@@ -1,4 +1,5 @@
-//! Removes the marks of cells that one family of crossings hides (`hide`).
+//! Removes the marks of cells whose line of sight is blocked where it crosses a family's lines:
+//! columns, or rows, on one side of the observer (`hide`).
 ghost use Rattle.std.specs.Prelude.{◌≡◌, ℕ, ◌≤◌, false, OnOk, slice_set};
 ghost use Rattle.sightlines.specs.Walk.{AreHeights};
 ghost use Rattle.sight.specs.Sweep.{IsFamily, IsAtCell, lead_of};

@@ -1,6 +1,7 @@
-//! Raises a horizon to the ground of one line (`raise`).
+//! Raises a horizon to the ground of one line (`raise`), a column or row out from the observer.
 //!
-//! A piece that a quick test finds nowhere below the line's ground stays; its targets are skipped.
+//! A piece is one ramp of the horizon, for successive targets. It is kept whole if a quick test
+//! finds no ground of the line above it.
 ghost use Rattle.std.specs.Prelude.{◌≡◌, ℕ, ◌+◌, ◌^◌, ◌<◌, ◌≤◌, IsTrue, true, ◌↔◌, pos, ◌-ℤ◌, ◌≤ℤ◌, length, Some, OnOk, slice_get, unsigned_abs};
 ghost use Rattle.std.specs.Bool.{OnTrue};
 ghost use Rattle.horizons.specs.declared.target.Target.{Target};
@@ -25,8 +26,9 @@ fn is_before(target: Target, line: u32, offset: i32) -> bool
     (target.offset as i64) * (line as i64) < (offset as i64) * (target.line as i64)
 }
 
-/// Bisects for the end of the targets whose rays cross a line before a cell.
-/// The cell is at `offset`. Target `low` is one of them; the result is at most `high`.
+/// Finds, by bisection, the end of the targets whose rays cross before a cell.
+/// The cell is at `offset` on line `line`. The ray to target `low` crosses before it; the result is
+/// at most `high`.
 fn bisect(targets: &[Target], low: usize, high: usize, line: u32, offset: i32) -> usize
     requires targets { AreTargets targets.now }
     requires line { line ≤ 4096 }
@@ -50,8 +52,8 @@ fn bisect(targets: &[Target], low: usize, high: usize, line: u32, offset: i32) -
 }
 
 /// Returns the end of the targets whose rays cross a line before a cell.
-/// The cell is at `offset`. Target `from` is one of them; the result is at most `end`. Doubles its
-/// leaps, then bisects.
+/// The cell is at `offset`. The ray to target `from` crosses before it; the result is at most
+/// `end`. Leaps 1, 2, 4, .. targets on, then bisects.
 #[inline]
 fn end_before(targets: &[Target], from: usize, end: usize, line: u32, offset: i32) -> usize
     requires targets { AreTargets targets.now }

@@ -1,4 +1,4 @@
-//! Looks up which targets of a line the lines before it hide.
+//! Looks up which targets on a family's line are hidden by its lines nearer the observer.
 ghost use Rattle.std.specs.Prelude.{◌≡◌, ◌<◌, ◌≤◌, ℤ, List, Option, Some, IfOk, OnOk};
 ghost use Rattle.horizons.specs.declared.horizon.Piece.{Piece};
 ghost use Rattle.horizons.specs.declared.ramp.Ramp.{Ramp};
@@ -14,7 +14,8 @@ use horizons::{Cursor, Target};
 use std::alloc::{AllocError, Global};
 use terrain::Cell;
 
-/// Returns `cursor`, or a cursor at the first piece if `cursor` may be past `rank`.
+/// Returns a cursor for `rank`: a new one if `rank` is below `last`, else `cursor`.
+/// The last rank that `cursor` was used at is `last`. A new cursor is at the horizon's first piece.
 #[inline(always)]
 fn cursor_at(cursor: Cursor, last: usize, rank: usize) -> Cursor
     ensures { (pieces : List Piece) → IsUpTo pieces cursor last → IsUpTo pieces result rank }
@@ -47,7 +48,7 @@ impl SweepLookup {
         })
     }
 
-    /// Sweeps the lines from the current one to before `line`, the next current one.
+    /// Sweeps the lines from the current one to below line `line`, which becomes current.
     pub(crate) fn go_to(
         &mut self,
         cells: &[Cell],
@@ -73,7 +74,8 @@ impl SweepLookup {
         Ok(())
     }
 
-    /// Whether a line before the current one hides the target of a rank.
+    /// Whether a line before the current one hides `target`, whose rank by slope is `rank`.
+    /// The target is `rise` units above the eye.
     #[inline(always)]
     pub(crate) fn hides(&mut self, rank: usize, target: Target, rise: i64) -> bool
         requires rank { rank < extent self.old.sweep.highest }

@@ -1,7 +1,8 @@
 //! Marks the cells of a tile that one observer sees (`mark_seen`).
 //!
-//! A sample of walks decides whether to walk to all cells or to sweep the tile. A sweep costs about
-//! the same on all ground; walks are long on open ground.
+//! A walk tests one cell's line of sight; a sweep tests those of all cells together. A sample of
+//! walks decides whether to walk to all cells or to sweep the tile. A sweep costs about the same on
+//! all ground; walks are long on open ground.
 ghost use Rattle.std.specs.Prelude.{◌≡◌, ◌+◌, ◌-◌, ◌*◌, ◌<◌, ◌≤◌, length, OnOk};
 ghost use Rattle.terrain.specs.Neighbours.{IsInside};
 ghost use Rattle.tiles.specs.Cutting.{AreBounds, IsCutting};

@@ -1,4 +1,7 @@
 //! Sorts rays by slope, in whole numbers.
+//!
+//! A ray is a line of sight without its heights. Its slope is its target's `offset` over its
+//! target's `line`; its rank is its target's index among the sorted targets.
 ghost use Rattle.std.specs.Prelude.{◌≡◌, ℕ, ◌^◌, ◌≤◌, length, Some, IfOk, slice_get};
 ghost use Rattle.horizons.specs.declared.target.Target.{Target};
 ghost use Rattle.horizons.specs.Horizons.{IsTarget};
@@ -10,7 +13,7 @@ use std::alloc::{AllocError, Global};
 /// The greatest offset of a target, in cells.
 const GREATEST_OFFSET: i64 = 4_096;
 
-/// The slope of a ray, and the number of the ray.
+/// The slope of a ray, as a whole number, and the ray's index in the list of rays.
 #[derive(Clone, Copy)]
 pub struct RaySlope {
     pub slope: u64,
@@ -35,7 +38,7 @@ fn slope_of(target: Target) -> u64
     (shifted as u64) * (1 << 24) / target.line as u64
 }
 
-/// Returns the numbers and slopes of the rays, by rising slope.
+/// Returns each ray's index and slope, by rising slope.
 fn number_by_slope(alloc: Global, rays: &[Target]) -> Result<Vec<RaySlope>, AllocError>
     requires each { (i : ℕ) (t : Target) → slice_get rays.now i ≡ Some t → IsTarget t }
     requires few { length rays.now ≤ 2 ^ 24 }

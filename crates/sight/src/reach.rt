@@ -1,4 +1,4 @@
-//! Whether any cell of a tile is within a radius.
+//! Whether any cell of a tile is within the radius of an observer.
 ghost use Rattle.std.specs.Prelude.{◌≡◌, ◌+◌, ◌<◌, ◌≤◌, false};
 ghost use Rattle.std.specs.Bool.{OnFalse};
 ghost use Rattle.terrain.specs.declared.place.Place.{Place};

@@ -1,4 +1,4 @@
-//! How far a target rises above the eye.
+//! The rise of a target: how many units it is above the observer's eye.
 ghost use Rattle.std.specs.Prelude.{◌≡◌, ℕ, ◌≤◌, ℤ, Some};
 ghost use Rattle.horizons.specs.Horizons.{IsTarget};
 ghost use Rattle.horizons.specs.declared.target.Target.{Target};

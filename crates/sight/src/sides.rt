@@ -1,6 +1,8 @@
 //! Sweeps a tile: removes the marks of cells that a crossing hides.
 //!
-//! The sweep takes four families of crossings in turn, one for each side of the observer.
+//! Crossings come in four families: those with the columns east or west of the observer, and with
+//! the rows south or north. These columns or rows are a family's lines. The sweep takes one family
+//! after the other.
 ghost use Rattle.std.specs.Prelude.{◌≡◌, ℕ, ◌+◌, ◌*◌, ◌<◌, ◌≤◌, true, length, OnOk};
 ghost use Rattle.terrain.specs.Neighbours.{IsInside};
 ghost use Rattle.terrain.specs.declared.place.Place.{Place};
@@ -8,7 +10,7 @@ ghost use Rattle.tiles.specs.Cutting.{AreBounds, IsCutting};
 ghost use Rattle.sightlines.specs.Sight.{highest_eye, is_open, place_of};
 ghost use Rattle.sightlines.specs.Walk.{AreHeights, IsLevel};
 ghost use Rattle.sight.specs.Hiding.{IsApart};
-ghost use Rattle.sight.specs.Sides.{AreOpen, IsCoordinate, facing, family_of, window_of};
+ghost use Rattle.sight.specs.Sides.{AreOpen, IsTileAxis, facing, family_of, window_of};
 ghost use Rattle.sight.specs.Marks.{AreLeft};
 
 use crate::family::{Family, Lines, Side};
@@ -22,7 +24,7 @@ use terrain::{Cell, Observer, Place};
 use tiles::Bounds;
 
 impl Family {
-    /// Returns this family with its lines on the side toward coordinate 0.
+    /// Returns the family of the same axis whose lines lie west or north of the observer.
     fn reverse(self) -> Self
         ensures { result ≡ facing self true }
     {
@@ -38,29 +40,30 @@ impl Family {
     }
 }
 
-/// A coordinate of the grid: the observer's cell `at`, and the tile's run of cells.
-/// Neighbouring cells along it are `stride` apart in the list of cells.
+/// An axis of the grid, its columns or its rows, with the observer and a tile on it.
+/// The observer is at `at`; the run `tile` has the tile's cells. Neighbouring cells along the axis
+/// are `stride` apart in the list of cells.
 #[derive(Clone, Copy)]
-pub struct Coordinate {
+pub struct TileAxis {
     pub at: u32,
     pub stride: usize,
     pub tile: CellRun,
 }
 
 /// Removes the marks of cells that crossings on either side of the observer hide.
-/// `lines` is the coordinate across the lines of both families, `side` the one along them.
+/// The lines of both families are counted along the axis `lines`, and run along the axis `side`.
 fn hide_on_both_sides(
     alloc: Global,
     cells: &[Cell],
-    lines: Coordinate,
-    side: Coordinate,
+    lines: TileAxis,
+    side: TileAxis,
     eye: i64,
     height: u32,
     marks: &mut [bool],
 ) -> Result<(), AllocError>
     requires heights { AreHeights cells.now }
-    requires lines { IsCoordinate lines }
-    requires side { IsCoordinate side }
+    requires lines { IsTileAxis lines }
+    requires side { IsTileAxis side }
     requires eye { IsLevel eye }
     requires inside { (x y : ℕ) → x < lines.tile.cells → y < side.tile.cells
         → x * lines.tile.stride + y * side.tile.stride < length marks.old }
@@ -116,10 +119,10 @@ impl<'a> ViewshedInput<'a> {
             row: observer.row,
             col: observer.col,
         };
-        // an observer's cell has data; for one without data `height_of` in the specs is 0 too
+        // no contract here asks for data: without it the specs' `height_of` is 0 too
         let ground = height_at(cells, stands.index_in(cols));
         let eye = level(ground.unwrap_or(0), observer.eye);
-        let columns = Coordinate {
+        let columns = TileAxis {
             at: observer.col,
             stride: 1,
             tile: CellRun {
@@ -128,7 +131,7 @@ impl<'a> ViewshedInput<'a> {
                 stride: 1,
             },
         };
-        let rows = Coordinate {
+        let rows = TileAxis {
             at: observer.row,
             stride: cols as usize,
             tile: CellRun {

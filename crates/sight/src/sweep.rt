@@ -1,4 +1,4 @@
-//! A horizon over all targets, raised line by line.
+//! A horizon over all targets, raised line by line: by columns or rows out from an observer.
 ghost use Rattle.std.specs.Prelude.{◌+◌, ◌≤◌, ℤ, List, Option, IfOk, OnOk};
 ghost use Rattle.horizons.specs.Horizons.{AreTargets};
 ghost use Rattle.sightlines.specs.Walk.{AreHeights};

@@ -20,7 +20,7 @@ use tile_jobs::Gate;
 use tile_maps::TileMap;
 use tiles::{Bounds, Tiling};
 
-/// The input of a viewshed: a grid, its block heights, its tiling, and arguments.
+/// The grid, its blocks' greatest heights, its tiling and a viewshed's arguments.
 /// Observers, target height and radius have no fault.
 #[derive(Drop)]
 pub struct ViewshedInput<'a> {

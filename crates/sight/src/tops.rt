@@ -1,4 +1,4 @@
-//! The greatest heights of blocks of cells.
+//! Finds the greatest height of each block of 16 by 16 and of 128 by 128 cells (`tops_of`).
 ghost use Rattle.std.specs.Prelude.{◌≡◌, ℕ, ℤ, ◌<◌, ◌≤◌, slice_index_or, None, Some, IfOk};
 ghost use Rattle.sightlines.specs.Walk.{AreHeights};
 ghost use Rattle.tile_jobs.specs.Fault.{RefusesWorkers};

@@ -1,4 +1,4 @@
-//! Parts of the grid whose cells have marks.
+//! A window is a part of the grid whose cells have marks; a mark tells whether a cell may be seen.
 ghost use Rattle.std.specs.Prelude.{◌↔◌, ◌+◌, ◌<◌, ◌^◌, IsTrue};
 ghost use Rattle.sight.specs.Hiding.{IsInRun};
 
@@ -12,7 +12,8 @@ pub struct CellRun {
 }
 
 /// A part of the grid whose cells have marks.
-/// `lines` is its run of cells across the lines of a `Family`, `side` its run along them.
+/// The lines of a `Family` are the columns, or the rows, on one side of an observer.
+/// `lines` is the run of those columns or rows in the window, `side` the run of cells along each.
 #[derive(Clone, Copy)]
 pub struct Window {
     pub lines: CellRun,

@@ -1,4 +1,5 @@
--- A walk over columns, from either end, is blocked exactly if a column crossing blocks; rows alike.
+-- A walk over columns, begun at either end of a line of sight, is blocked exactly if a crossing
+-- with a column blocks. A walk over rows is blocked exactly if a crossing with a row blocks.
 use Rattle.std.proofs.Common.{arith, refl, sym, ap, ◌∙◌, ◌≡◌, ◌+◌, ◌-◌, ◌*◌, ◌<◌, ◌≤◌, ℕ, ℤ, Option, None, get_or, length, max, inl, inr, List}
 use Rattle.std.specs.Int.{abs_diff}
 use Rattle.std.proofs.lemmas.Bool.{cases_lt}

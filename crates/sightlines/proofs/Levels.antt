@@ -1,4 +1,5 @@
--- Levels along a line of sight, times its steps, fit in 64 bits; the walk computes them exactly.
+-- Levels along a line of sight, times its number of steps, fit in 64 bits; a walk computes them
+-- exactly.
 use Rattle.std.proofs.Common.{arith, sym, ◌∙◌, ◌≡◌, ◌+◌, ◌-◌, ◌<◌, ◌≤◌, ℕ, ℤ, pos, unsigned_abs, ◌^◌, ◌*◌, ◌+ℤ◌, ◌-ℤ◌, ◌*ℤ◌, FitsSigned}
 use Rattle.std.specs.Int.{w64}
 use mir.Val.{to_z, of_z}

@@ -1,4 +1,5 @@
--- Between two steps, no crossing blocks a line that is above the blocks that it meets there.
+-- Between two steps, no crossing blocks a line that is above the blocks that it meets there. A
+-- block or a cell is low if it is not above the line.
 use Rattle.std.proofs.Common.{arith, refl, sym, ap, subst, ◌∙◌, ◌≡◌, ◌+◌, ◌-◌, ◌*◌, ◌/◌, ◌<◌, ◌≤◌, ℕ, ℤ, pos, ◌+ℤ◌, ◌*ℤ◌, ◌≤ℤ◌, false, int_lt, List, Option, None, Some, get_or, min, max, inl, inr}
 use borrow.Author.Differences.{up, down}
 use Rattle.std.proofs.lemmas.Int.{ints}

@@ -1,4 +1,5 @@
--- With data, within the radius, a target is seen exactly if neither walk is blocked.
+-- Between data cells within the radius, a target is seen exactly if neither the walk over columns
+-- nor the walk over rows is blocked.
 use Rattle.std.proofs.Common.{arith, refl, sym, ap, ◌∙◌, ◌≡◌, ℤ, pos, ◌+ℤ◌, ℕ, Bool, true, false, not, ◌&&◌, Some, is_some}
 use Rattle.terrain.specs.Raster.{Terrain, IsTerrain}
 use Rattle.terrain.specs.Neighbours.{IsInside, height_at}

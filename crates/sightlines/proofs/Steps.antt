@@ -1,4 +1,6 @@
--- A walk's pace gives the index and the part of its next step, whose cells are in the list.
+-- A step of a walk has its near cell's index, and the n-ths of a cell by which the line is past
+-- that cell. The pace, the change of both, leads to the next step. The near and the far cell of
+-- each step are in the list.
 use Rattle.std.proofs.Common.{arith, ap, ◌≡◌, ◌+◌, ◌*◌, ◌^◌, ◌/◌, ◌%◌, ◌<◌, ◌≤◌, ℕ, ℤ, Option, List, length, max, inl, inr}
 use Rattle.std.specs.Int.{abs_diff}
 use Rattle.std.proofs.lemmas.Bool.{cases_lt}
@@ -117,7 +119,7 @@ room lead side n k pace some h p ends strides =
     mul-le p.side_ahead side.stride 4096 4096 (omega (arith, p.side_gains.few_ahead)) strides.1 in
     omega (arith, a, b, c, d, p.ahead, p.beside)
 
--- the index and the part that `next` returns are those of step k + 1
+-- the index and the part that `Pace::next` returns are those of step k + 1
 pub next_is : (lead side : Axis) (n k : ℕ) (pace : Pace) (index part : ℕ) →
     n ≡ abs_diff lead.from lead.to → k < n → IsPace lead side n pace
     → (part_at side n k + pace.part < pace.steps → (index + pace.behind ≡ index_at lead side n k

@@ -1,4 +1,5 @@
--- The place of a line along an axis, step by step.
+-- A line's place on an axis at a later step is that at an earlier step, plus the gain of the steps
+-- between.
 use Rattle.std.proofs.Common.{arith, sym, ap, ◌∙◌, ◌≡◌, ◌+◌, ◌-◌, ◌*◌, ◌/◌, ◌%◌, ◌<◌, ◌≤◌, ℕ, max, inl, inr}
 use Rattle.std.specs.Int.{abs_diff}
 use Rattle.std.proofs.Math.Nat.{zero-mod}
@@ -37,7 +38,8 @@ toward_le a b n k h =
     within a b (max a b) k (n - k) (omega arith) (omega arith) in
     omega (arith, ap (λ z. max a b * z) e)
 
--- m steps that gain `ahead` - `behind` cells and `part` parts add these, if the parts sum below n
+-- from step k, m steps gain `ahead` - `behind` whole cells and `part` n-ths, if the n-ths then sum
+-- below n
 pub step_stays : (a b n k m ahead behind part : ℕ) → k + m ≤ n →
     m * b + behind * n ≡ m * a + ahead * n + part → toward a b n k % n + part < n
     → (toward a b n (k + m) / n + behind ≡ toward a b n k / n + ahead)

@@ -19,7 +19,7 @@ pub record IsLeap (l : Sightline) (m : ℕ) (leap : Leap) : Type 0 where
   pub gains : Gains l.side (steps_of l) m leap.ahead leap.behind leap.part
   pub rise : leap.rise ≡ (l.to_level *ℤ pos m) -ℤ (l.from_level *ℤ pos m)
 
--- The pace is the change in one step of the near cell's index and of the part past it.
+-- The pace is the change, in one step, of the near cell's index and of the part past the near cell.
 pub record IsPace (lead side : Axis) (n : ℕ) (pace : Pace) : Type 0 where
   pub lead_ahead : ℕ
   pub lead_behind : ℕ

@@ -52,7 +52,7 @@ step_blocks cells lead side e f n k =
 abbrev pub steps_of : Sightline → ℕ
 steps_of l = abs_diff l.lead.from l.lead.to
 
--- One of `count` steps from step `first` on blocks.
+-- Of `count` steps, the first of which is `first`, one blocks.
 abbrev pub step_range_blocks : List (Option ℤ) → Sightline → ℕ → ℕ → Bool
 step_range_blocks cells l first count =
     list_any (λ k. step_blocks cells l.lead l.side l.from_level l.to_level (steps_of l) k)

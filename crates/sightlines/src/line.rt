@@ -207,7 +207,7 @@ pub(crate) struct Blocker {
 }
 
 impl Blocker {
-    /// Whether a crossing about as far from the observer hides the target of `lines`.
+    /// Whether a crossing about as far out as this blocker hides the target of `lines`.
     #[inline(always)]
     fn hides(self, cells: &[Cell], lines: Sightlines) -> bool
         requires heights { AreHeights cells.now }
@@ -245,7 +245,7 @@ impl Blocker {
 const COLUMNS: usize = 256;
 
 /// The blockers of earlier targets, and a count of crossings tested.
-/// `above` has a column's last blocker, or `None` before any and after a seen target.
+/// `above` has a column's last blocker, or `None` before any blocker and after a seen target.
 #[derive(Clone, Copy)]
 pub struct WalkCache {
     last: Blocker,
@@ -312,9 +312,9 @@ fn along_rows(size: u32, cols: u32) -> BlockStrides
     }
 }
 
-/// Returns a blocker on one form of a line of sight, if any: that over rows if `over_rows`.
-/// Skips blocks below the line, and adds the crossings of each run that it tests to
-/// `crossings_tested`.
+/// Returns a blocker on one form of a line of sight, if any.
+/// The form is that over rows if `over_rows`, else that over columns. Skips blocks below the line,
+/// and adds the crossings of each run that it tests to `crossings_tested`.
 #[inline(always)]
 fn blocker_on(
     cells: &[Cell],

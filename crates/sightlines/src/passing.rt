@@ -21,7 +21,8 @@ pub struct BlockStrides {
     pub side: usize,
 }
 
-/// Returns the first step in the leading coordinate's next block, at most `last`.
+/// Returns the first step past the block that `step` is in, at most `last`.
+/// Only the block's extent along the leading coordinate counts.
 #[inline(always)]
 fn block_end(line: Sightline, size: u32, step: u32, last: u32) -> u32
     requires line { IsSightline line }
@@ -42,8 +43,8 @@ fn block_end(line: Sightline, size: u32, step: u32, last: u32) -> u32
     last.min(step + left)
 }
 
-/// Whether none of `count` blocks, `stride` apart in their list, is above a line.
-/// `sight` is the line's level times `weight`.
+/// Whether none of `count` blocks, from index `first` on, is above a line.
+/// The blocks are `stride` apart in their list. `sight` is the line's level times `weight`.
 #[inline(always)]
 fn are_low(tops: &[Cell], first: usize, stride: usize, count: u32, weight: u32, sight: i64) -> bool
     requires heights { AreHeights tops.now }
@@ -64,8 +65,8 @@ fn are_low(tops: &[Cell], first: usize, stride: usize, count: u32, weight: u32, 
 }
 
 /// Returns true only if no block met between two steps is above the line.
-/// Tests the blocks at `lead_block` of the leading coordinate alone. Between the two steps the line
-/// must not leave them.
+/// Tests only blocks at `lead_block` of the leading coordinate. Between the two steps the line must
+/// stay there.
 #[inline(always)]
 fn is_clear_of_blocks(
     tops: &[Cell],

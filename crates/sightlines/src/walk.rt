@@ -1,4 +1,4 @@
-//! A walk along a line of sight, from crossing to crossing, by additions.
+//! A walk along a line of sight: sums and differences alone lead from crossing to crossing.
 ghost use Rattle.std.specs.Prelude.{◌≡◌, ◌^◌, ◌+◌, ◌-◌, ◌*◌, ◌<◌, ◌≤◌, ℤ, pos, unsigned_abs, ◌*ℤ◌, length, slice_index_or, None, IfSome, is_some};
 ghost use Rattle.std.specs.Int.{abs_diff};
 ghost use Rattle.terrain.specs.Raster.{IsHeight};
@@ -245,7 +245,7 @@ fn is_higher(
     weigh(near, near_weight) + weigh(far, far_weight) > sight
 }
 
-/// The change of the near cell's index, and of the part past it, at each step.
+/// The change of the near cell's index, and of the part past that cell, at each step.
 /// The index grows by `ahead` less `behind`, and by `beside` more where the part fills a cell.
 #[derive(Clone, Copy)]
 pub struct Pace {

@@ -1,4 +1,5 @@
--- The eight directions from a place, and the places and entries there.
+-- The eight directions (ways) from place p lead exactly to the other places whose row and column
+-- differ from p's by at most 1.
 use Rattle.std.proofs.Common.{◌≡◌, ◌≢◌, ℕ, zero, suc, ◌+◌, ◌-◌, ◌*◌, ◌%◌, ◌<◌, ◌≤◌, ◌||◌, ◌⊎◌, inl, inr, eqb, false, get_or, Contains, Option, None, Some, slice_index_or, sym, ap, refl, ◌∙◌, arith, lit<}
 use Rattle.std.proofs.Math.Nat.{suc-mul}
 use Rattle.std.proofs.lemmas.Bool.{cases_order, eq-eqb, ne_eqb, or_left, or_right, or_from}
@@ -167,7 +168,7 @@ along p q =
     across : (p.row ≢ q.row) → (p.col ≢ q.col) → (eqb p.row q.row || eqb p.col q.col) ≡ false
     across row col = or_from _ _ (ne_eqb _ _ row) (ne_eqb _ _ col)
 
--- if two lookups at an optional place both find an entry, the place exists and has both entries
+-- if f and g find x and y at an optional place o, then o is some q, and f and g find x and y at q
 pub zip_some : {X Y : Type 0} (f : Place → Option X) (g : Place → Option Y) (o : Option Place)
     (x : X) (y : Y) → option_zip (option_and_then f o) (option_and_then g o) ≡ Some (x, y) →
     (q : Place) × (o ≡ Some q) × (f q ≡ Some x) × (g q ≡ Some y)
@@ -186,7 +187,7 @@ zip_some {X = X} {Y = Y} f g (Some q) x y e = at (f q) (g q) refl refl e
         (q, refl, u ∙ ap Some both.0, v ∙ ap Some both.1)
 
 -- `q` is the place in direction `way` from `p`. In bounds of `cols` columns that begin at row `top`
--- and column `left`, the index of `q` is entry `way` of `around_index cols at`.
+-- and column `left`, the index of `q` is entry `way` of `around_index cols at`; `p` has index `at`.
 pub record IsOnWay (top left cols at : ℕ) (p : Place) (way : ℕ) (q : Place) : Type 0 where
   pub on : place_on way p ≡ Some q
   pub index : (q.row - top) * cols + (q.col - left) ≡ get_or (around_index cols at) way 0

@@ -1,4 +1,5 @@
--- Sinks without a fault lie in the grid and have data, and a grid stays lawful with them.
+-- If a list of sinks has no fault, all of them are data cells, and a lawful grid (`IsLawful`) stays
+-- lawful with them.
 use Rattle.std.proofs.Common.{◌≡◌, ◌+◌, ℕ, ℤ, zero, suc, true, false, not, ◌&&◌, List, [], ◌∷◌, length, Option, None, Some, fold, refl, sym, ap, subst, ◌∙◌, inl, inr, arith, is_none, is_some}
 use Rattle.std.specs.Prelude.{nat_lt, if◌then◌else◌}
 use Rattle.std.specs.List.{All, list_any}

@@ -1,4 +1,4 @@
--- The order of whole numbers, and the greater of two.
+-- The order of whole numbers is transitive, and the greater of two is their least upper bound.
 use Rattle.std.proofs.Common.{◌≡◌, ℤ, ◌≤ℤ◌, arith}
 use Rattle.std.specs.Int.{int_max}
 use Rattle.std.proofs.lemmas.Int.{ints, clamps}

@@ -1,4 +1,5 @@
--- A grid stays lawful with as many other cells, if their heights are in range and not NODATA.
+-- A grid stays lawful (`IsLawful`) when as many other cells replace its own, if their heights are
+-- in range and not the NODATA value.
 use Rattle.std.proofs.Common.{◌≡◌, ◌≢◌, ◌*◌, ℤ, List, length, get_or, Option, None, Some}
 use Rattle.std.specs.Prelude.{IfSome}
 use Rattle.std.specs.List.{All, Contains}
@@ -8,7 +9,8 @@ use Rattle.terrain.specs.Raster.{Raster, IsLawful, IsHeight, IsInGrid}
 use Rattle.terrain.specs.Parts.{raster_with_parts}
 use Rattle.terrain.specs.declared.place.Place.{Place}
 
--- a property of all heights of `old` holds for those of `cells`, if each of these occurs in `old`
+-- if all heights in `old` have property P, and each height in `cells` occurs in `old`, then all
+-- heights in `cells` have P
 heights_kept : (P : ℤ → Type 0) (old cells : List (Option ℤ)) → All (λ c. IfSome c P) old →
     All (λ c. IfSome c (λ h. Contains old (Some h))) cells → All (λ c. IfSome c P) cells
 heights_kept P old cells all held i d low = at (get_or cells i d) (held i d low) where

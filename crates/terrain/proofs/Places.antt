@@ -1,4 +1,5 @@
--- The indices and entries of places in row order, and gaps around a place.
+-- In row order each place of a grid has an index of its own, below the number of cells. A place at
+-- the grid's end has a place outside the grid beside it, which counts as a gap.
 use Rattle.std.proofs.Common.{◌≡◌, ◌≢◌, ℕ, ◌+◌, ◌*◌, ◌/◌, ◌%◌, ◌<◌, ◌≤◌, List, get_or, Option, None, Some, IsNone, is_some, sym, ap, ◌∙◌, ◌⊎◌, inl, inr, arith}
 use Rattle.std.proofs.lemmas.Bool.{cases_eq, cond-true, cond-false, lt-ltb, and_from, le-ltb, and_left, and_right, cases_lt}
 use Rattle.std.proofs.lemmas.Nat.{mul-add-lt, div-mul-add, mod-mul-add}

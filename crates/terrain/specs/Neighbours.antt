@@ -1,4 +1,4 @@
--- Places and the heights there; neighbours, edge cells and end cells.
+-- Defines the height at a place, and which cells are neighbours, edge cells and end cells.
 -- Source: Jenson and Domingue (1988).
 -- Trust base.
 use Rattle.std.specs.Prelude.{◌≡◌, ◌≢◌, ℕ, ◌+◌, ◌*◌, ◌≤◌, ℤ, pos, Bool, List, Option, None, IsSome, IsNone, ◌&&◌, ◌==◌, if◌then◌else◌, slice_index_or, unwrap_or, ◌⊎◌, Contains}
@@ -13,16 +13,16 @@ is_place p q = p.row == q.row && p.col == q.col
 abbrev pub IsInside : Terrain → Place → Type 0
 IsInside t p = IsInGrid t.cols t.rows p
 
--- The index of a place in row order.
+-- The index of place p in the row order of a grid with `cols` columns.
 abbrev pub index_of : ℕ → Place → ℕ
 index_of cols p = p.row * cols + p.col
 
--- The entry at a place of a list in row order; `none` outside the grid.
+-- The entry for place p in a list in row order; `none` outside the grid.
 abbrev pub entry_or : {X : Type 0} → ℕ → ℕ → List X → X → Place → X
 entry_or cols rows entries none p =
     if is_in_grid cols rows p then slice_index_or entries (index_of cols p) none else none
 
--- The entry at a place of a list in row order; `None` outside the grid.
+-- The entry for place p in a list in row order; `None` outside the grid.
 abbrev pub entry_at : {X : Type 0} → ℕ → ℕ → List (Option X) → Place → Option X
 entry_at cols rows entries p = entry_or cols rows entries None p
 
@@ -38,7 +38,7 @@ height_of t p = unwrap_or (height_at t p) (pos 0)
 abbrev pub IsDataCell : Terrain → Place → Type 0
 IsDataCell t p = IsSome (height_at t p)
 
--- The rows and the columns each differ by at most 1.
+-- The rows of p and q differ by at most 1, and so do their columns.
 pub record Touches (p q : Place) : Type 0 where
   pub row_down : q.row ≤ p.row + 1
   pub row_up : p.row ≤ q.row + 1
@@ -52,8 +52,8 @@ pub record IsNeighbour (t : Terrain) (p q : Place) : Type 0 where
   pub from_data : IsDataCell t p
   pub to_data : IsDataCell t q
 
--- The place or one of the eight around it is a gap. In the first row or column this always holds,
--- since the places to the north or west are outside the grid.
+-- `is_gap` holds at place p or at one of the eight places around p. A place in row 0 or column 0
+-- always has a gap, since some places around it are outside the grid.
 abbrev pub HasGapWhere : (Place → Type 0) → Place → Type 0
 HasGapWhere is_gap p = (p.row ≡ 0) ⊎ (p.col ≡ 0) ⊎ ((q : Place) × Touches p q × is_gap q)
 
@@ -61,7 +61,7 @@ HasGapWhere is_gap p = (p.row ≡ 0) ⊎ (p.col ≡ 0) ⊎ ((q : Place) × Touch
 abbrev pub HasGapAround : Terrain → Place → Type 0
 HasGapAround t p = HasGapWhere (λ q. IsNone (height_at t q)) p
 
--- A data cell with a gap around it.
+-- A data cell with one of the eight places around it outside the grid or without data.
 abbrev pub IsEdge : Terrain → Place → Type 0
 IsEdge t p = IsDataCell t p × HasGapAround t p
 

@@ -1,4 +1,5 @@
--- The grid that a header, a scale, cells and sinks make. Source: this project.
+-- Makes a grid of its header, scale, cells and sinks, and replaces a grid's cells and sinks.
+-- Source: this project.
 -- Public.
 use Rattle.std.specs.Prelude.{ℕ, ℤ, List, Option}
 use Rattle.terrain.specs.Raster.{Raster}

@@ -1,4 +1,5 @@
--- Named sinks: the fault of a list, and the list without repeats. Source: this project.
+-- Defines why a list of named sinks is refused (its fault), and the list without repeats.
+-- Source: this project.
 -- Trust base.
 use Rattle.std.specs.Prelude.{◌≡◌, ℕ, ◌+◌, not, nat_lt, is_none, if◌then◌else◌, List, [], ◌∷◌, ◌++◌, length, Option, None, Some, Result, Err}
 use Rattle.std.specs.List.{fold, list_any}
@@ -13,7 +14,7 @@ use Rattle.terrain.specs.declared.sinks.SinkFault.TheVariants.{Outside, OnNodata
 abbrev pub most_sinks : ℕ
 most_sinks = 1024
 
--- The list with the place added at its end, unless the list has it.
+-- The list `named` with place p appended, or `named` itself if p is in it.
 abbrev pub named_once : List Place → Place → List Place
 named_once named p = if list_any (is_place p) named then named else named ++ p ∷ []
 
@@ -21,14 +22,14 @@ named_once named p = if list_any (is_place p) named then named else named ++ p �
 abbrev pub each_once : List Place → List Place
 each_once places = fold named_once [] places
 
--- The fault of a sink, the entry at `index` of a list; `None` for a data cell.
+-- The fault of sink p, which is entry `index` of its list; `None` if p is a data cell.
 abbrev pub sink_fault_of : Terrain → ℕ → Place → Option SinkFault
 sink_fault_of t index p =
     if not (is_in_grid t.cols t.rows p) then Some (Outside index)
     else if is_none (height_at t p) then Some (OnNodata index)
     else None
 
--- The fault of the first faulty sink, if any; the list's entries count from `index`.
+-- The fault of the first sink with a fault, if any. The first sink of the list has index `index`.
 abbrev pub first_sink_fault : Terrain → ℕ → List Place → Option SinkFault
 first_sink_fault t index [] = None
 first_sink_fault t index (p ∷ rest) =

@@ -1,9 +1,10 @@
--- The numbers that store a cell and a count. Source: this project.
+-- Defines how a number stores a cell (a height or no data) or a map's entry (a count or no data).
+-- Source: this project.
 -- Public.
 use Rattle.std.specs.Prelude.{ℕ, ℤ, pos, ◌==◌, Option, None, Some, if◌then◌else◌, option_and_then}
 use Rattle.std.specs.Ordering.{int_eq}
 
--- The number of a cell without data: above every height.
+-- The number that stores a cell without data. It is above every height.
 abbrev pub no_data : ℤ
 no_data = pos 9223372036854775807
 
@@ -11,11 +12,11 @@ no_data = pos 9223372036854775807
 abbrev pub stored_cell : ℤ → Option ℤ
 stored_cell z = if int_eq z no_data then None else Some z
 
--- The cell that stores a height; without data where there is no height.
+-- The cell of an optional height: without data for `None`, and for the number `no_data`.
 abbrev pub cell_of : Option ℤ → Option ℤ
 cell_of height = option_and_then stored_cell height
 
--- The number of a map's entry without data: above every count.
+-- The number that stores a map's entry without data. It is above every count.
 abbrev pub uncounted : ℕ
 uncounted = 4294967295
 

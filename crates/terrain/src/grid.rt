@@ -1,4 +1,4 @@
-//! Grids, and their frames: header, scale and sinks without the cells.
+//! A grid's header, scale, sinks and cells ([`Grid`]), or all of these but the cells ([`Frame`]).
 //!
 //! [`Grid::from_parts`] makes a grid, and [`Grid::name_sinks`] replaces its sinks.
 ghost use Rattle.std.specs.Prelude.{◌≡◌, ◌↔◌, ◌+◌, ◌*◌, ◌<◌, [], length, All, Contains, IfSome, IfOk, OnOk, IsTrue, None, Some};
@@ -178,8 +178,8 @@ impl Frame {
     }
 
     /// Returns the frame's grid with `cells` in place of its own cells.
-    /// `cells` must have one cell for each place, each without data or with a height of the grid.
-    /// Such heights are in range and not the NODATA value.
+    /// `cells` must have one cell for each place, each without data or with a height that some cell
+    /// of the grid has. So each height is in range and differs from the NODATA value.
     ///
     /// # Errors
     ///
@@ -299,7 +299,7 @@ impl Grid {
         self.cells()[place.index_in(self.cols())].height()
     }
 
-    /// Returns whether the cell is an end cell: an edge cell or a named sink.
+    /// Returns whether the cell at `place` is an end cell: an edge cell or a named sink.
     /// May search the whole list of sinks.
     pub fn is_edge(&self, place: Place) -> bool
         requires { IsInside self.now.terrain place }
@@ -329,8 +329,8 @@ impl Grid {
     }
 
     /// Returns a copy of the grid with a copy of `cells` in place of its own cells.
-    /// `cells` must have one cell for each place, each without data or with a height of the grid.
-    /// Such heights are in range and not the NODATA value.
+    /// `cells` must have one cell for each place, each without data or with a height that some cell
+    /// of the grid has. So each height is in range and differs from the NODATA value.
     ///
     /// # Errors
     ///

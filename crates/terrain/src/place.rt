@@ -1,4 +1,4 @@
-//! Places in a grid, and heights with their limits.
+//! A place (the row and the column of a cell), and the type and the limits of heights.
 ghost use Rattle.std.specs.Prelude.{◌≡◌};
 ghost use Rattle.terrain.specs.Neighbours.{index_of};
 

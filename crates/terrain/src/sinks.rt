@@ -1,4 +1,4 @@
-//! Named sinks: the first fault of a list, and the list without repeats.
+//! Finds the first fault of a list of named sinks, and drops the list's repeats.
 ghost use Rattle.std.specs.Prelude.{◌≡◌, ◌<◌, ◌≤◌, length, IfOk};
 ghost use Rattle.std.specs.List.{list_any};
 ghost use Rattle.terrain.specs.declared.sinks.SinkFault.TheVariants.{Memory};

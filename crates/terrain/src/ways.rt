@@ -1,4 +1,4 @@
-//! The eight directions from a place.
+//! The places in the eight directions from a place, and the indices of their cells.
 //!
 //! Directions, or ways, count from 0 in the order of their codes: E, SE, S, SW, W, NW, N, NE.
 //! [`place_on`] takes and returns places, [`around_index`] indices in row order.
@@ -38,7 +38,7 @@ pub fn place_on(way: usize, place: Place) -> Option<Place>
     Some(Place { row, col })
 }
 
-/// Returns the indices of the cells around `index`, in the order of the codes.
+/// Returns the indices of the eight cells around the cell at `index`, in code order.
 /// Rows have `cols` cells, and the cell must not be in the first or last row or column.
 #[inline(always)]
 pub fn around_index(cols: usize, index: usize) -> [usize; 8]

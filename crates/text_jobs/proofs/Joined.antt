@@ -1,4 +1,5 @@
--- Runs in order are the whole text, and feeding them one by one feeds the whole text.
+-- The runs into which a text is cut, joined in order, are the text. A reader that is fed all runs
+-- in order is fed the text.
 use Rattle.std.proofs.Common.{◌≡◌, ℕ, ◌+◌, ◌<◌, List, [], ◌∷◌, ◌++◌, length, take, drop, get_or, map, Ok, Err, Result, ap, sym, subst, ◌∙◌}
 use Rattle.std.specs.List.{concat}
 use Rattle.std.proofs.lemmas.List.{append-nil, append_assoc, map-append, take_more, take-append-drop}
@@ -26,7 +27,8 @@ joined-rest f runs job =
     ∙ ap concat (sym (map-append f (take job runs) (drop job runs)))
     ∙ ap (λ z. concat (map f z)) (take-append-drop job runs)
 
--- cutting a run off the rest keeps the whole text
+-- if `runs` and then `rest` are `piece`, they still are after a run moves from the front of `rest`
+-- to the end of `runs`
 pub joined-cut : {X : Type 0} (f : X → List ℕ) (runs more : List X) (run : X)
     (len : ℕ) (rest back piece : List ℕ) → more ≡ runs ++ run ∷ [] → f run ≡ take len rest →
     back ≡ drop len rest → concat (map f runs) ++ rest ≡ piece → concat (map f more) ++ back ≡ piece
@@ -39,7 +41,7 @@ joined-cut f runs more run len rest back piece pushed front behind all =
     ∙ ap (λ z. concat (map f runs) ++ z) (take-append-drop len rest)
     ∙ all
 
--- where the last run completes the text, the runs with it appended are the whole text
+-- if `runs` and then `run` are `piece`, the runs with `run` appended are `piece`
 pub joined-last : {X : Type 0} (f : X → List ℕ) (runs more : List X) (run : X) (piece : List ℕ) →
     more ≡ runs ++ run ∷ [] → concat (map f runs) ++ f run ≡ piece → concat (map f more) ≡ piece
 joined-last f runs more run piece pushed all = ap (λ z. concat (map f z)) pushed

@@ -1,4 +1,5 @@
--- The text that a job makes is that of its part; all parts in order are the text of the map's rows.
+-- The text that a job makes is the text of one part of the map's rows. The texts of all parts, in
+-- order, are the text of the map's rows.
 use Rattle.std.proofs.Common.{◌≡◌, ℕ, zero, suc, ◌+◌, ◌-◌, ◌*◌, ◌/◌, ◌<◌, ◌≤◌, min, inl, inr, List, ◌++◌, length, take, drop, get_or, Vec, Global, sym, ap, subst, ◌∙◌, arith, length-drop}
 use Rattle.std.specs.Int.{div_ceil}
 use Rattle.std.specs.List.{flat_map}
@@ -24,7 +25,7 @@ part_within n cols each part count below e =
     omega (arith, rows, div-mul-le_self n cols)
 
 module _ {X : Type 0} (f : X → List ℕ) (cols each : ℕ) (cells : List X) where
-  -- the text of the rows of a part's own cells is the part's text
+  -- the rows of `own`, the cells of part `part`, have the text `part_text` of that part
   pub lines_of_part : (part count : ℕ) → 0 < cols → part * each < length cells / cols →
       count ≡ min each (length cells / cols - part * each) →
       let own =
@@ -51,7 +52,8 @@ module _ {X : Type 0} (f : X → List ℕ) (cols each : ℕ) (cells : List X) wh
     abbrev bytes : Vec ℕ Global → List ℕ
     bytes text = text.items
 
-    -- the text of the rows before a part, and then the part's, is that of the rows before the next
+    -- the text of the rows before part `k`, followed by the text of part `k`, is the text of the
+    -- rows before part `k + 1`
     part_more : (k : ℕ) → k * each < length cells / cols → rows_text f cols
         (min (k * each) (length cells / cols)) cells ++ part_text f cols each cells k
         ≡ rows_text f cols (min (suc k * each) (length cells / cols)) cells

@@ -1,9 +1,9 @@
--- The text of a map's rows, made part by part. Source: this project.
+-- The text of a map's rows is made in parts, each by one job. Source: this project.
 -- Private.
 use Rattle.std.specs.Prelude.{ℕ, ◌-◌, ◌*◌, ◌/◌, min, List, length, drop}
 use Rattle.ascii_grid.specs.Text.{rows_text}
 
--- The lines of one part, by its number from 0: `each` rows, or the fewer that remain.
+-- The lines of the part at index `part`: of `each` rows, or of the fewer that remain.
 abbrev pub part_text : {X : Type 0} → (X → List ℕ) → ℕ → ℕ → List X → ℕ → List ℕ
 part_text text cols each cells part =
     rows_text text cols (min each (length cells / cols - part * each))

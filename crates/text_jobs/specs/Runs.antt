@@ -1,8 +1,8 @@
--- Runs of bytes whose heights are parsed apart from one another. Source: this project.
+-- A run is a list of bytes of the text whose heights one job parses. Source: this project.
 -- Private.
 use Rattle.std.specs.Prelude.{ℕ, ℤ, List, [], Option, slice_index_or}
 use Rattle.ascii_grid.specs.HeightList.{ParserSettings, AreCells}
 
--- The cells are those that run number `job` spells.
+-- The cells are those that the run at index `job` spells.
 abbrev pub HasRun : ParserSettings → List (List ℕ) → ℕ → List (Option ℤ) → Type 0
 HasRun parser runs job cells = AreCells parser (slice_index_or runs job []) cells

@@ -1,4 +1,5 @@
-//! Reads pieces of a text into batches, which several workers then parse.
+//! Reads a text in batches: up to 255 pieces in one buffer.
+//! Several workers then parse a batch.
 ghost use Rattle.std.specs.Prelude.{◌≡◌, ◌≤◌, ◌<◌, length, take};
 ghost use Rattle.std.specs.Io.KnownBytes.{IsAtEnd};
 ghost use Rattle.ascii_grid.specs.Device.{HasRead};

@@ -13,16 +13,16 @@ use terrain::Grid;
 use tile_jobs::{Gate, MOST_JOBS};
 use tile_maps::Runner;
 
-/// The fewest first bytes of a long batch that the caller's thread parses.
+/// The caller's thread parses at least this many first bytes of a long batch.
 ///
-/// They may hold the header, or the rest of a word that the batch before cut.
+/// They may hold the header, or the rest of a word that began in the previous batch.
 const FRONT_BYTES: usize = 4096;
 
 /// Reads a grid from a device, by several workers.
 ///
 /// Heights are in units of 10^-scale. With more than one worker, the caller's thread reads batches
-/// of at most 1 MiB, and jobs parse most heights of long ones. If a thread or memory for jobs is
-/// refused, the caller's thread parses these heights too.
+/// of at most 1 MiB, and jobs parse most heights of batches of 128 KiB or more. If a thread or
+/// memory for jobs is refused, the caller's thread parses all heights of the batch.
 ///
 /// # Memory
 ///
@@ -108,7 +108,8 @@ fn feed_batch<T: Threads + Wait + Sync, G: Gate + Sync>(
     feed_heights(runner, reader, rest)
 }
 
-/// Feeds bytes to the reader; workers parse them if they begin between heights.
+/// Feeds `piece` to the reader.
+/// Jobs parse it if the reader has read a first height and is not within a word.
 fn feed_heights<T: Threads + Wait + Sync, G: Gate + Sync>(
     runner: &Runner<T, G>,
     reader: &mut GridReader,

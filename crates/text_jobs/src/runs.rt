@@ -1,4 +1,5 @@
-//! Runs of a text, cut at separators, and the jobs that parse their heights.
+//! Cuts bytes of a text at separators into runs.
+//! One job parses the heights of each run.
 ghost use Rattle.std.specs.Prelude.{◌≡◌, ◌<◌, ◌≤◌, ℕ, List, map, length, slice_index_or, IfOk, IfSome, None};
 ghost use Rattle.std.specs.List.{concat};
 ghost use Rattle.ascii_grid.specs.HeightList.{AreCells};
@@ -54,7 +55,8 @@ fn after_last_separator(bytes: &[u8]) -> usize
     end
 }
 
-/// One job for each run: returns its cells, or `None` where [`HeightParser::cells`] does.
+/// One job for each run.
+/// The job returns the run's cells, or `None` where [`HeightParser::cells`] does.
 #[derive(Drop)]
 pub(crate) struct RunJobs<'a> {
     pub parser: &'a HeightParser,
@@ -77,7 +79,8 @@ impl<'a> Work for RunJobs<'a> {
     }
 }
 
-/// Feeds runs to a reader in order, as cells where a job has parsed the run.
+/// Feeds runs to a reader in order.
+/// A run that has cells in `lists` is fed as these cells.
 pub(crate) fn feed_runs(
     reader: &mut GridReader,
     parser: &HeightParser,

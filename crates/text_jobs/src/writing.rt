@@ -145,7 +145,8 @@ pub fn write_heights<T: Threads + Wait + Sync, G: Gate + Sync, W: Write>(
     write_map(runner, frame, grid.cells(), frame.nodata().as_bytes(), out)
 }
 
-/// Writes a map of whole numbers, with the header of a frame, by several workers.
+/// Writes a map of whole numbers by several workers.
+/// Its header is that of `frame`, a grid's header and scale without the cells.
 ///
 /// # Memory
 ///

@@ -1,4 +1,5 @@
--- Closing a board, deque by deque: the jobs left (`IsLeft`), and `IsClosed` after all deques.
+-- If a board is closed deque by deque, `IsLeft` holds of the jobs left after each deque, and
+-- `IsClosed` after the last.
 use Rattle.std.proofs.Common.{◌≡◌, ◌≢◌, ℕ, zero, suc, ◌+◌, ◌-◌, ◌%◌, ◌<◌, ◌≤◌, true, false, cond, ◌==◌, nat_lt, add-one, add-zero, List, [], ◌∷◌, ◌++◌, length, get_or, drop, sym, refl, ap, ◌∙◌, arith, inl, inr, below_more}
 use Rattle.std.proofs.lemmas.Bool.Decides.{nat_tests}
 use Rattle.std.proofs.lemmas.Bool.{cases_eq, eq-eqb, ne_eqb}

@@ -1,4 +1,5 @@
--- Closing a deque: the jobs popped from it, and the numbers of ends, marks and jobs.
+-- As a deque is closed, the jobs popped are the last of its deal, the jobs dealt to it. Each
+-- job of the deal was taken before or is popped. Counts of the ends joined.
 use Rattle.std.proofs.Common.{◌≡◌, ◌≢◌, ℕ, zero, suc, ◌+◌, ◌<◌, ◌≤◌, Bool, true, false, true≢false, cond, ◌==◌, nat_lt, add-one, List, [], ◌∷◌, ◌++◌, length, drop, replicate, sym, refl, ap, ◌∙◌, arith}
 use Rattle.std.proofs.lemmas.Bool.{ne_eqb}
 use Rattle.std.proofs.lemmas.List.{append-nil, append_assoc, drop_all}
@@ -42,12 +43,13 @@ pub mark_shows : (marked : Bool) (u : Log) → IsSeated marked u → marked ≡ 
 mark_shows true u is e = let b = is.2 in omega arith
 mark_shows false u is e = absurd (true≢false (sym e))
 
--- After one more pop the popped jobs, then the rest of the deal, are still the deal from k on.
+-- Popping job j, at index t of the deal d, keeps this: the popped jobs, then the rest of d, are d
+-- from k on.
 pub part_more : (d p : List ℕ) (k t j : ℕ) → t ≡ k + length p → p ++ drop t d ≡ drop k d →
     j ∷ drop (suc t) d ≡ drop t d → (p ++ j ∷ []) ++ drop (suc t) d ≡ drop k d
 part_more d p k t j at e next = append_assoc p (j ∷ []) (drop (suc t) d) ∙ ap (λ l. p ++ l) next ∙ e
 
--- At the end the popped jobs are the last jobs of the deal.
+-- Once an end mark is popped, the jobs p popped before it are the last jobs of the deal d.
 pub part_ends : (d p : List ℕ) (k t m : ℕ) → p ++ drop t d ≡ drop k d → (m ≡ 0 → length d ≤ t) →
     (0 < m → p ≡ []) → (i : ℕ) × (p ≡ drop i d)
 part_ends d p k t zero e past none =

@@ -1,4 +1,5 @@
--- The entries pushed to a deque (`feed`), and counts over lists.
+-- A deque's feed, all entries pushed to it, has the jobs dealt to it, rising, then the end marks.
+-- How often a number occurs in a list.
 use Rattle.std.proofs.Common.{◌≡◌, ℕ, zero, suc, ◌+◌, ◌%◌, ◌<◌, ◌≤◌, true, false, cond, ◌==◌, List, [], ◌∷◌, ◌++◌, length, take, drop, get_or, add-one, add-zero, replicate, All, sym, refl, ap, ◌∙◌, subst, arith, eq-eqb, inl, inr}
 use Rattle.std.proofs.lemmas.Bool.Decides.{nat_tests}
 use Rattle.std.proofs.lemmas.Bool.{cases_eq, ne_eqb}

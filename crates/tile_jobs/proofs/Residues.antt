@@ -1,4 +1,5 @@
--- Lists of jobs split by remainder, sums over deques, and the entries of a feed.
+-- A job's remainder by `seats` is the number of its deque: lists of jobs split by deque, and sums
+-- over all deques. Which entry has an index in a deque's feed, its jobs and then its end marks.
 use Rattle.std.proofs.Common.{◌≡◌, ◌≢◌, ℕ, zero, suc, ◌+◌, ◌%◌, ◌<◌, ◌≤◌, Bool, true, false, cond, ◌==◌, List, [], ◌∷◌, ◌++◌, length, drop, replicate, sym, refl, ap, ◌∙◌, arith, inl, inr}
 use Rattle.std.proofs.lemmas.Bool.Decides.{nat_tests}
 use lib.ListN.{length-append, length-replicate}
@@ -109,7 +110,8 @@ room_left seats jobs xs w low h less =
     sum_lt seats (λ v. length (of v seats xs)) (λ v. length (deal jobs seats v)) w low h less in
     omega arith
 
--- If a deque's deal of m jobs begins with its jobs below j and then j, so does that of m + 1.
+-- If deque v's deal of m jobs begins with v's jobs below j and then j, so does v's deal of m + 1
+-- jobs.
 deal_on_at : (b : Bool) (m seats v j : ℕ) → (m % seats == v) ≡ b →
     (rest : List ℕ) → deal m seats v ≡ deal j seats v ++ j ∷ rest → (more : List ℕ)
     × (deal (suc m) seats v ≡ deal j seats v ++ j ∷ more)

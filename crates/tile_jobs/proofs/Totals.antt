@@ -1,4 +1,5 @@
--- Sums over the views of all passes.
+-- The sum of f over the views of all passes, as one view is replaced or appended. If f is 0 at all
+-- views but one, the sum is f of that one.
 use Rattle.std.proofs.Common.{◌≡◌, ℕ, zero, suc, ◌+◌, ◌≤◌, List, [], ◌∷◌, ◌++◌, set, sym, refl, arith}
 use mathlib.Core.Option.{some, some-ne-none}
 use lib.ListN.{get_elem?}

@@ -1,4 +1,4 @@
--- The jobs and entries that a board deals to each deque; counts, rising lists, and sums.
+-- Which jobs and end marks a board deals to each deque. How often a number occurs in a list.
 -- Public.
 use Rattle.std.specs.Prelude.{ℕ, zero, suc, ◌+◌, ◌%◌, ◌<◌, List, [], ◌∷◌, ◌++◌, map, replicate, cond, ◌==◌, AllPairs}
 use Rattle.tile_jobs.specs.declared.deque.Entry.{Entry}

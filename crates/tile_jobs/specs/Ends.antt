@@ -1,4 +1,5 @@
--- Seats, their ends of deques, dealers, deques being closed. `Log` is one pass's view (see Rule).
+-- The states of seats, of their ends (handles of deques), of dealers and of deques being closed,
+-- and how calls change them. `Log` is the view of one pass, a right to act on a deque (see Rule).
 -- Public.
 use Rattle.std.specs.Prelude.{◌≡◌, ◌≢◌, ℕ, zero, suc, ◌%◌, ◌<◌, ◌≤◌, ◌⊎◌, Bool, true, false, cond, nat_lt, ◌==◌, List, [], ◌∷◌, ◌++◌, length, get_or, drop, All}
 use Rattle.std.specs.List.{concat}
@@ -12,9 +13,10 @@ use Rattle.tile_jobs.specs.Rule.{share}
 abbrev pub DequeId : Type 0
 DequeId = RowsId × Global
 
--- One seat's end (handle) of one deque: the deque's numbers, the jobs that the seat took there, and
+-- One seat's end (handle) of one deque. `jobs` and `seats` are the board's numbers of jobs and
+-- seats, `deque` is the deque's number. `took` has the jobs that the seat took there; `marked` says
 -- whether the seat took its end mark. `seen` counts the entries that the seat saw taken from the
--- deque. It is 0 for the owner, and before the seat first tries to steal there.
+-- deque. For the owner, and before the seat first tries to steal there, `seen` is 0.
 pub record EndState : Type 0 where
   pub id : DequeId
   pub jobs : ℕ
@@ -24,7 +26,7 @@ pub record EndState : Type 0 where
   pub marked : Bool
   pub seen : ℕ
 
--- The end of a seat that has this view of the deque.
+-- The end of deque `id` whose numbers and jobs taken are those of the view u.
 abbrev pub end_of : DequeId → Bool → ℕ → Log → EndState
 end_of id marked seen u = record {
   id = id;
@@ -50,11 +52,12 @@ IsOwn marked u =
 abbrev pub IsOther : Bool → Log → Type 0
 IsOther marked u = IsSeated marked u × (u.ready ≡ true)
 
--- The two ends are of the same deque, and have the same numbers of jobs, seats and deque.
+-- Both ends are of one deque: `id`, the deque's number, and the board's numbers are equal.
 abbrev pub SameEnd : EndState → EndState → Type 0
 SameEnd e f = (f.id ≡ e.id) × (f.jobs ≡ e.jobs) × (f.seats ≡ e.seats) × (f.deque ≡ e.deque)
 
--- No job was taken at this end, and a mark stays. Unless there is a mark now, `seen` did not fall.
+-- From e to f no job was taken at this end, and e's mark stays. If f has no mark, `seen` did not
+-- fall.
 abbrev pub Kept : EndState → EndState → Type 0
 Kept e f = SameEnd e f × (f.took ≡ e.took) × (e.marked ≡ true → f.marked ≡ true)
     × (f.marked ≡ false → e.seen ≤ f.seen)
@@ -70,7 +73,7 @@ pub record TookJob (e : EndState) (j : ℕ) (f : EndState) : Type 0 where
   pub of_deque : j % e.seats ≡ e.deque
   pub fits : length f.took ≤ length (deal e.jobs e.seats e.deque)
 
--- A steal at this end lost a race: the end has no mark, and only `seen` changed. It rose.
+-- A steal at this end lost a race: the end has no mark, and only `seen` changed: `seen` rose.
 abbrev pub LostSteal : EndState → EndState → Type 0
 LostSteal e f = (f ≡ record e { seen = f.seen }) × (e.seen < f.seen) × (e.marked ≡ false)
 
@@ -166,7 +169,7 @@ pub record DealerState : Type 0 where
   pub deque : ℕ
   pub marks_due : ℕ
 
--- The dealer that has this view of the deque.
+-- The dealer of deque `id` whose view of the deque is u.
 abbrev pub dealer_of : DequeId → Log → DealerState
 dealer_of id u =
     record { id = id; jobs = u.jobs; seats = u.seats; deque = u.deque; marks_due = u.marks_due }
@@ -213,7 +216,8 @@ pub record IsDeal (jobs seats : ℕ) (ss : List SeatState) : Type 0 where
   pub ends : (s k : ℕ) (d : SeatState) (e : EndState) → s < seats → suc k < seats →
       (get_or (get_or ss s d).others k e).id ≡ (get_or ss (skip s k) d).own.id
 
--- A deque that is being closed: the owner's list, the lists of the ends joined to it, the marks.
+-- A deque that is being closed. `took` has the jobs that its owner took, `gathered` those taken at
+-- the ends joined to the owner's. `marked`: whether the owner took an end mark.
 pub record ClosingState : Type 0 where
   pub id : DequeId
   pub jobs : ℕ
@@ -245,19 +249,20 @@ abbrev pub IsClosing : Bool → Log → Type 0
 IsClosing marked u = (u.owns ≡ true) × (u.pushed ≡ length (feed u.jobs u.seats u.deque))
     × (marked ≡ true → 0 < u.marks) × (marked ≡ false → 0 < u.marks_due)
 
--- The closing begins with the owner's end alone.
+-- The closing of a deque, in state s, begins with the owner's end e alone.
 abbrev pub Begins : EndState → ClosingState → Type 0
 Begins e s = (s.id ≡ e.id) × (s.jobs ≡ e.jobs) × (s.seats ≡ e.seats) × (s.deque ≡ e.deque)
     × (s.took ≡ e.took) × (s.gathered ≡ []) × (s.back ≡ 1) × (e.marked ≡ true → 0 < s.marks)
     × (s.marked ≡ true → 0 < s.marks)
 
--- One more end was joined to the owner's, with its list and its mark.
+-- From s to t the end e was joined to the owner's, with e's list and e's mark.
 abbrev pub AbsorbedEnd : ClosingState → EndState → ClosingState → Type 0
 AbsorbedEnd s e t = (t.id ≡ s.id) × (t.jobs ≡ s.jobs) × (t.seats ≡ s.seats) × (t.deque ≡ s.deque)
     × (t.took ≡ s.took) × (t.gathered ≡ s.gathered ++ e.took) × (t.back ≡ suc s.back)
     × (s.marks ≤ t.marks) × (e.marked ≡ true → 0 < t.marks) × (t.marked ≡ s.marked)
 
--- How many jobs the lists have: once all ends were joined, the deal's index of the first job left.
+-- How many jobs were taken at the ends joined so far. Once all ends are joined, this is the index
+-- in the deal of the first job left.
 abbrev pub position_of : ClosingState → ℕ
 position_of s = length (s.took ++ s.gathered)
 

@@ -1,4 +1,4 @@
--- The outcome of steals at several ends, case by case.
+-- What steals at several ends, a seat's handles of deques, change, by the outcome of the steals.
 -- Private.
 use Rattle.std.specs.Prelude.{ℕ, List}
 use Rattle.tile_jobs.specs.declared.ends.RoundOutcome.{RoundOutcome}

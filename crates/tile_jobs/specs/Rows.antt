@@ -16,7 +16,7 @@ abbrev pub EachHead : ℕ → ℕ → Rows → (ℕ → EndState → Type 0) →
 EachHead n v rows P = (s : ℕ) (d : Vec EndState Global) (e : EndState) → s < n → s ≢ v →
     P s (slice_index_or (slice_index_or rows s d).items 0 e)
 
--- Each row below n, except that of seat v, begins with an end of this deque.
+-- Each row below n, except that of seat v, begins with an end of deque `id`.
 abbrev pub HaveHeads : ℕ → ℕ → Rows → DequeId → Type 0
 HaveHeads n v rows id = (s : ℕ) (d : Vec EndState Global) (e : EndState) → s < n → s ≢ v →
     (0 < length (slice_index_or rows s d).items)

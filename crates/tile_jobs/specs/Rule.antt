@@ -51,7 +51,7 @@ blank = record {
 abbrev pub spent : Log
 spent = record blank { owns = false }
 
--- After n pushes: 0 before the first one, x from the first one on.
+-- One of the deque's numbers after n pushes: 0 before the first push, which sets the number to x.
 abbrev pub once : ℕ → ℕ → ℕ
 once zero x = 0
 once (suc n) x = x
@@ -78,7 +78,7 @@ pub record IsOf (jobs seats v pushed owner : ℕ) (port : ℕ) (u : Log) : Type 
   pub owns : u.owns ≡ true → (port ≡ owner) × (u.pushed ≡ pushed)
   pub ready : u.ready ≡ true → (pushed ≡ length (feed jobs seats v)) × (0 < share u)
   pub idle : share u ≡ 0 → all_taken u ≡ []
-  -- Its own list is rising, and so is each list joined to it.
+  -- The pass's own list is rising, and so is the list of each pass joined to it.
   pub rising : All IsRising (u.took ∷ u.gathered)
 
 -- A lawful deque: its entries, and the views of all its passes.

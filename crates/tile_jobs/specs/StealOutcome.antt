@@ -1,4 +1,4 @@
--- The outcome of one steal, case by case.
+-- Picks a condition by the outcome of one steal: a job, the seat's end mark, or a lost race.
 -- Private.
 use Rattle.std.specs.Prelude.{ℕ}
 use Rattle.tile_jobs.specs.declared.ends.StealOutcome.{StealOutcome}

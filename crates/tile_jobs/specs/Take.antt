@@ -1,4 +1,4 @@
--- The outcome of `Seat::try_take`, case by case.
+-- What `Seat::try_take` changes in a seat, by the outcome: a job, `Again` or `Empty`.
 -- Public.
 use Rattle.std.specs.Prelude.{◌≡◌, ℕ, ◌%◌, ◌<◌, ◌⊎◌, true, [], ◌∷◌, ◌++◌, length, All}
 use Rattle.tile_jobs.specs.declared.seat.Take.{Take}

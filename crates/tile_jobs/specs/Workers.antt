@@ -1,4 +1,4 @@
--- The outcomes of workers: their seats, and the results of the jobs that the seats took.
+-- What a worker returns: its seat and a result of each job that the seat took, or a fault.
 -- Private.
 use Rattle.std.specs.Prelude.{◌≡◌, ℕ, ◌<◌, ◌≤◌, List, Result, IfOk, IfErr, length, slice_index_or}
 use Rattle.tile_jobs.specs.declared.JobFault.{JobFault}

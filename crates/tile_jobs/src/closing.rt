@@ -1,4 +1,4 @@
-//! Closes one deque: joins the ends of all seats and lists the jobs left.
+//! Closes one deque: joins the other seats' ends (handles) to its owner's, and lists the jobs left.
 ghost use Rattle.std.specs.Prelude.{◌≡◌, ℕ, ◌+◌, ◌-◌, ◌<◌, ◌≤◌, true, false, List, [], ◌++◌, length, drop, vec_len, vec_capacity, MatchOption};
 ghost use Rattle.crossbeam_deque.specs.Handles.{worker_deque, worker_view, worker_flavor};
 ghost use Rattle.tile_jobs.specs.Board.{times};
@@ -33,7 +33,7 @@ impl Closing {
         Closing { worker, marked }
     }
 
-    /// Joins another seat's end, with its list of jobs and its mark.
+    /// Joins `other`, an end with its list of jobs and its mark, to the owner's end.
     pub(crate) fn absorb(&mut self, other: OtherEnd)
         requires { self.old.id ≡ other.id }
         ensures { AbsorbedEnd self.old other self.new }

@@ -1,4 +1,5 @@
-//! The dealer of one deque: pushes its jobs and end marks, and makes its ends.
+//! The dealer of one deque: pushes the deque's jobs and end marks, and makes an end, a handle of
+//! the deque, for each seat.
 ghost use Rattle.std.specs.Prelude.{◌≡◌, ◌+◌, ◌-◌, ◌%◌, ◌<◌, ◌≤◌, length, IfOk};
 ghost use Rattle.crossbeam_deque.specs.Handles.{worker_deque, worker_view, worker_flavor, worker_index, worker_capacity, SameWorker};
 ghost use Rattle.tile_jobs.specs.Board.{deal};
@@ -10,7 +11,7 @@ use crate::ends::{OtherEnd, OwnEnd};
 use std::alloc::{AllocError, Global};
 use std::marker::Model;
 
-/// A deque with all its entries, which still lacks the ends of some seats.
+/// A deque that has all its entries, but not yet the ends of all seats.
 #[derive(Drop)]
 pub struct Dealer {
     worker: Deque,

@@ -1,6 +1,7 @@
 //! Deals the jobs to all deques and makes the seats.
 //!
-//! Each seat has an end of every deque, which is its handle there.
+//! Each seat has an end of every deque: the seat's handle of that deque. A seat's row is the list
+//! of its ends of the other seats' deques.
 ghost use Rattle.std.specs.Prelude.{◌≡◌, ℕ, ◌++◌, ◌∷◌, [], ◌<◌, ◌≤◌, ◌==◌, cond, vec_len, slice_index_or, IfOk, OnOk};
 ghost use Rattle.tile_jobs.specs.Ends.{EndState, SeatState, seat_of, fresh, without, AllFresh};
 
@@ -48,7 +49,7 @@ fn empty_rows(alloc: Global, seats: u32) -> Result<Vec<Vec<OtherEnd>>, AllocErro
     Ok(rows)
 }
 
-/// All ends of all deques: the owners' ends, and each seat's row of other ends.
+/// Each deque's end for its owner, and each seat's row of ends of the other deques.
 #[derive(Drop)]
 pub struct Ends {
     pub owns: Vec<OwnEnd>,

@@ -1,7 +1,7 @@
-//! One deque of the board: its protocol, and the calls that push, pop and steal.
+//! One deque of the board: the rule that its pushes, pops and steals keep, and the calls for them.
 //!
-//! A pass is a right to act on the deque. Its view ([`Log`]) records its pushes, pops and steals,
-//! each of which changes the view of no other pass.
+//! A pass is a right to act on the deque. The view of a pass ([`Log`]) records the pushes, pops and
+//! steals made by it. Each of them changes the view of that pass alone.
 ghost use Rattle.std.specs.Prelude.{◌≡◌, ℕ, suc, ◌<◌, true, [], ◌∷◌, drop, IfNone, MatchOption};
 ghost use Rattle.crossbeam_deque.specs.Handles.{taken, view, IsPassOf, stealer_deque, worker_view, worker_flavor, stealer_flavor, worker_index, worker_capacity, SameWorker, SamePass};
 ghost use Rattle.tile_jobs.specs.Board.{deal, feed};
@@ -31,7 +31,8 @@ pub struct Log {
     pub pushed: u64,
     // true for a stealing pass: all entries were pushed before it was split off
     pub ready: bool,
-    // how many end marks the pass may still take and how many it took, with those of joined passes
+    // how many end marks the pass may still take and how many it took; a pass joined to it adds its
+    // own
     pub marks_due: u64,
     pub marks: u64,
     // the jobs taken by this pass
@@ -79,7 +80,7 @@ impl DequeKey for Brand {
 }
 
 /// The outcome of a push on the deque that `D` names.
-/// The new view is `dealing` after one push more.
+/// The pass's new view is the dealer's (`dealing`) with one more push.
 pub struct Deals<D> {
     place: PhantomData<D>,
 }
@@ -114,7 +115,7 @@ impl Outcome<Entry, Log> for TakesNext {
     ghost empty = { λ _. ⊥ };
 }
 
-/// Splits a stealing pass off the owner's, and joins it to the owner's again.
+/// Splits a stealing pass off the owner's pass; later joins it to that pass again.
 pub struct SplitsEnd;
 
 impl Split<Log> for SplitsEnd {
@@ -176,7 +177,7 @@ pub(crate) fn pop(worker: &mut Deque) -> Entry
     }
 }
 
-/// Pops the next entry in the order pushed, after all passes were joined.
+/// Pops the next entry in the order pushed, with all passes joined to the owner's.
 pub(crate) fn pop_next(worker: &mut Deque) -> Entry
     requires can { CanTake (worker_view worker.old) }
     requires whole { ((worker_view worker.old).owns ≡ true)

@@ -26,7 +26,7 @@ impl Model for OwnEnd {
     ghost invariant = { λ o. IsOwn o.marked (worker_view o.worker) × (worker_flavor o.worker ≡ 0) };
 }
 
-/// The end of a deque for a seat that is not its owner.
+/// A seat's end of a deque that another seat owns.
 #[derive(Drop)]
 pub struct OtherEnd {
     thief: Thief,
@@ -151,7 +151,7 @@ pub enum RoundOutcome {
     Nothing,
 }
 
-/// Tries the ends `from..to` in order, until one steal gets a job.
+/// Tries the ends of `others` with indexes `from..to` until a steal gets a job.
 pub(crate) fn steal_among(others: &mut Vec<OtherEnd>, from: usize, to: usize) -> RoundOutcome
     requires { (from ≤ to) × (to ≤ vec_len others.old) }
     ensures len { vec_len others.new ≡ vec_len others.old }
@@ -173,7 +173,7 @@ pub(crate) fn steal_among(others: &mut Vec<OtherEnd>, from: usize, to: usize) ->
     }
 }
 
-/// Tries all ends once, from `first` on and then from 0, until a steal gets a job.
+/// Tries each end once, from index `first`, then from 0, until a steal gets a job.
 pub(crate) fn steal_round(others: &mut Vec<OtherEnd>, first: usize) -> RoundOutcome
     requires { first ≤ vec_len others.old }
     ensures len { vec_len others.new ≡ vec_len others.old }

@@ -1,4 +1,6 @@
-//! Callbacks for stages, jobs and parts of jobs: [`Gate`].
+//! [`Gate`]: callbacks before each stage and job, and after each job or part of a job.
+//!
+//! A stage is one run of jobs.
 //!
 //! Tests use a gate to hold jobs; the program uses one to report progress.
 
@@ -7,7 +9,7 @@ pub trait Gate {
     /// Called once before each job, on the thread that runs it; may block.
     fn enter(&self, job: u32);
 
-    /// Called on the caller's thread before a stage that has this many jobs.
+    /// Called on the caller's thread before a stage of `jobs` jobs.
     fn begin_stage(&self, _jobs: u32) {}
 
     /// Called after each job that succeeds, on the thread that ran it.

@@ -3,8 +3,9 @@
 //! [`Work`] defines what a job does and returns; jobs are numbered from 0. [`run_jobs`] returns
 //! the result of each job, whichever worker ran it.
 //!
-//! [`run_jobs`] uses a [`Board`], which deals the jobs to the deques of its seats. Each [`Seat`]
-//! takes the jobs of its own deque, then steals from the other deques. Seats never lock or wait.
+//! [`run_jobs`] uses a [`Board`], which deals the jobs to deques, one for each worker. By its
+//! [`Seat`] a worker takes the jobs of its own deque, then steals from the other deques. Seats
+//! never lock or wait. After its jobs each deque has end marks, one for each seat.
 //!
 //! Modules, callers first:
 //!

@@ -1,4 +1,4 @@
-//! Pushes to lists that already have the capacity.
+//! A push to a list that has spare capacity: it neither allocates nor fails.
 ghost use Rattle.std.specs.Prelude.{◌≡◌, suc, ◌<◌, ◌≤◌, [], ◌∷◌, ◌++◌, vec_len, vec_capacity};
 
 /// Pushes an element to a list with spare capacity. Never allocates.

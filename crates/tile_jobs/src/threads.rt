@@ -1,4 +1,4 @@
-//! Runs the workers of a board, on the caller's thread or on threads of their own.
+//! Runs the workers, one at each seat, on the caller's thread or on threads of their own.
 ghost use Rattle.std.specs.Prelude.{◌≡◌, ◌≢◌, ◌≤◌, vec_len, IfOk, IfErr, OnOk};
 ghost use Rattle.tile_jobs.specs.Workers.{AreNew, AreOutcomes};
 
@@ -22,8 +22,9 @@ fn join_all<R: Threads, T: Drop, P: Promise<T>>(rt: &R, children: Vec<PromisedHa
 
 /// Runs each seat's worker on a thread of its own, and joins all threads.
 ///
-/// Starts at most `starts` threads, and returns [`JobFault::NoThread`] if there are more seats and
-/// memory suffices. Every started thread is joined before the call returns, even on an error.
+/// Starts at most `starts` threads. Returns [`JobFault::NoThread`] if there are more seats than
+/// `starts` and memory suffices. Every started thread is joined before the call returns, even on
+/// an error.
 pub(crate) fn run_on_threads<'s, E, R: Threads + Wait + Sync, W: Work + Sync, G: Gate + Sync>(
     rt: &'s R,
     alloc: Global,

@@ -1,4 +1,4 @@
-//! The trait of work that is split into jobs: [`Work`].
+//! Defines [`Work`]: what each numbered job does, and which results it may return.
 ghost use Rattle.std.specs.Prelude.{◌≡◌, ℕ, ◌<◌, IfOk, IfErr};
 
 use crate::JobFault;

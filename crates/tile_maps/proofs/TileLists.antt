@@ -1,4 +1,5 @@
--- A tile's list, to which entries are appended one by one.
+-- A list of entries for a tile's first n places, with the next place's entry appended, is one for
+-- the first n + 1. A list of entries for all places is the tile's list.
 use Rattle.std.proofs.Common.{◌≡◌, ℕ, ◌+◌, ◌-◌, ◌*◌, ◌<◌, inl, inr, List, ◌∷◌, ◌++◌, [], get_or, Option, None, slice_get, sym, ap, subst, ◌∙◌, arith}
 use Rattle.std.proofs.lemmas.Bool.{cases_eq}
 use Rattle.std.proofs.lemmas.List.{length_push}

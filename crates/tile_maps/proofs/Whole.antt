@@ -1,4 +1,4 @@
--- The map of a grid, joined from its tiles' lists.
+-- If each tile's list has the tile's entries of a map, the lists joined are the map of the grid.
 use Rattle.std.proofs.Common.{◌≡◌, ℕ, ◌*◌, ◌<◌, inl, inr, List, length, get_or, Option, None, Some, Vec, Global, vec_len, sym, ap, subst, refl, ◌∙◌, arith}
 use Rattle.std.specs.Prelude.{slice_get, option_and_then}
 use Rattle.std.proofs.lemmas.Option.{get_or_from_slice_get, slice_get-get_or, slice_get_within, slice_get_cases}

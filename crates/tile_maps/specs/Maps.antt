@@ -1,4 +1,5 @@
--- Lists with one entry for each place: of a tile's first places, of a tile, of a grid.
+-- Lists with one entry for each place of a grid, of a tile, or of a tile's first places. `Has` says
+-- which entries a place may have.
 -- Source: this project.
 -- Public.
 use Rattle.std.specs.Prelude.{◌≡◌, ℕ, ◌*◌, ◌<◌, List, length, Some, slice_get}
@@ -15,14 +16,16 @@ pub record IsMadeUpTo {X : Type 0} (b : Bounds) (Has : Place → X → Type 0) (
   pub each : (p : Place) → IsInBounds b p → index_in b p < end → (entry : X) →
       slice_get list (index_in b p) ≡ Some entry → Has p entry
 
--- The list has an entry for each place of the tile, in row order. `Has` holds of each entry.
+-- The list has an entry for each place of the tile, in row order. `Has` holds of each entry at its
+-- place.
 pub record IsMadeTile {X : Type 0} (c : Cutting) (tile : ℕ) (Has : Place → X → Type 0)
     (list : List X) : Type 0 where
   pub size : length list ≡ cell_count c tile
   pub each : (p : Place) → IsInTile c tile p → (entry : X) →
       slice_get list (index_in_tile c p) ≡ Some entry → Has p entry
 
--- The list has an entry for each place of the grid, in row order. `Has` holds of each entry.
+-- The list has an entry for each place of the grid, in row order. `Has` holds of each entry at its
+-- place.
 pub record IsMadeMap {X : Type 0} (c : Cutting) (Has : Place → X → Type 0)
     (list : List X) : Type 0 where
   pub size : length list ≡ c.cols * c.rows

@@ -1,4 +1,4 @@
-//! A map's entries, tile by tile: [`TileMap`].
+//! Describes a map of a grid by the entries of each tile: [`TileMap`].
 ghost use Rattle.std.specs.Prelude.{◌≡◌, ◌<◌, IfOk};
 ghost use Rattle.terrain.specs.declared.place.Place.{Place};
 ghost use Rattle.tiles.specs.Cutting.{Cutting, tile_count};

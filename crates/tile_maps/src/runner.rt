@@ -1,6 +1,6 @@
-//! What a stage needs to run jobs: runtime, allocator, number of workers and gate.
+//! Runs the numbered jobs of a stage by one or several workers: [`Runner`].
 //!
-//! [`Runner::run`] runs any jobs, and [`Runner::map_tiles`] makes a map.
+//! [`Runner::run`] runs any jobs, and [`Runner::map_tiles`] makes a map by one job for each tile.
 ghost use Rattle.std.specs.Prelude.{◌≡◌, ◌≤◌, vec_len, IfOk};
 ghost use Rattle.tile_jobs.specs.Results.{AreResults};
 ghost use Rattle.tile_jobs.specs.Fault.{RefusesWorkers};

@@ -1,4 +1,4 @@
--- Members of filtered lists, ranges and mapped lists; the places in bounds and on a rim.
+-- `places_in` lists just the places in bounds, and `rim_places` just the places on a tile's rim.
 use Rattle.std.proofs.Common.{◌≡◌, ◌⊎◌, ℕ, zero, suc, ◌+◌, ◌<◌, ◌≤◌, Bool, true, List, [], ◌∷◌, length, map, filter, Contains, slice_index_or, sym, ap, subst, refl, ◌∙◌, arith, inl, inr}
 use Rattle.std.specs.List.{range_with_len, flat_map}
 use Rattle.std.proofs.lemmas.Bool.{cases_Bool, cases_eq, cond-true, cond-false}

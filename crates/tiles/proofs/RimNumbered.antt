@@ -1,4 +1,4 @@
--- Rim cells and their numbers.
+-- The number of a rim cell is below `rim_number_count`, and `rim_place` of this number is the cell.
 use Rattle.std.proofs.Common.{◌≡◌, ◌≢◌, ℕ, ◌+◌, ◌-◌, ◌*◌, ◌/◌, ◌%◌, ◌^◌, ◌<◌, ◌≤◌, true, inl, inr, ap, ◌∙◌, arith, mul_comm, zero-mul}
 use Rattle.std.proofs.Math.Nat.{zero-div, zero-mod, mul-le-mul}
 use Rattle.std.proofs.lemmas.Bool.{cases_eq, or_cases, eqb-true, eq-eqb, ne_eqb, lt-ltb, le-ltb, cond-true, cond-false}

@@ -1,4 +1,4 @@
--- The indices in the grid's list of the cells that a view shows.
+-- A view shows a tile and the cells next to it; all these have indices within the grid's list.
 use Rattle.std.proofs.Common.{◌≡◌, ℕ, ◌+◌, ◌*◌, ◌<◌, ◌≤◌, ◌-◌, true, length, get_or, drop, ap, ◌∙◌, arith}
 use Rattle.std.proofs.lemmas.Bool.{and_parts, ltb-true}
 use Rattle.std.proofs.lemmas.List.{get_or-take, get_or-drop}

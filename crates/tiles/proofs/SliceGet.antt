@@ -1,4 +1,4 @@
--- `slice_get` of a part of a list, and of two lists appended.
+-- Each entry of a part of a list, or of two lists appended, is an entry of the list or of the two.
 use Rattle.std.proofs.lemmas.Grind.{common_steps}
 use Rattle.std.proofs.lemmas.Option.{gets}
 use Rattle.std.proofs.lemmas.List.{get_or-take, get_or-drop, length-take, length-drop, get_or_append_left, get_or-append-add, length-append}

@@ -1,6 +1,7 @@
--- A grid cut into square tiles, numbered in row order, with views and lists of tiles.
+-- Defines how a grid is cut into square tiles, numbered in row order. A view shows a tile and the
+-- cells next to it. A tile's list has an entry for each of its cells, in row order.
 -- Source: the tiles of a TIFF file (TIFF 6.0, section 15), left to right and top to bottom.
--- Unlike there, the last row or column of tiles is smaller if the side does not divide the grid.
+-- Unlike in TIFF, the last row or column of tiles is smaller if the side does not divide the grid.
 -- Trust base.
 use Rattle.std.specs.Prelude.{◌≡◌, ℕ, ℤ, slice_index_or, ◌+◌, ◌-◌, ◌*◌, ◌/◌, ◌%◌, ◌<◌, ◌≤◌, min, Bool, ◌&&◌, ◌||◌, not, ◌==◌, nat_lt, nat_le, if◌then◌else◌, List, [], map, filter, length, Option, None, slice_get, slice_range, Some, Vec, option_and_then}
 use Rattle.std.specs.declared.alloc.Global.{Global}
@@ -22,13 +23,13 @@ longest_side = 4096
 abbrev pub most_tiles : ℕ
 most_tiles = 65536
 
--- The size of the grid and the side of a tile.
+-- A cutting: how many columns and rows the grid has, and how many cells a tile's side.
 pub record Cutting : Type 0 where
   pub cols : ℕ
   pub rows : ℕ
   pub side : ℕ
 
--- The numbers of tiles in a row and in a column of tiles, and of all tiles.
+-- How many tiles there are in a row of tiles, in a column of tiles, and in all.
 abbrev pub across : Cutting → ℕ
 across t = div_ceil t.cols t.side
 
@@ -122,7 +123,7 @@ index_in b p = (p.row - b.top) * b.cols + (p.col - b.left)
 abbrev pub place_in : Bounds → ℕ → Place
 place_in b i = record { row = b.top + i / b.cols; col = b.left + i % b.cols }
 
--- A list in the row order of bounds: its entry at a place, `None` outside the bounds.
+-- The entry for place p in a list in the row order of bounds b; `None` outside the bounds.
 abbrev pub entry_in : {X : Type 0} → Bounds → List (Option X) → Place → Option X
 entry_in b entries p = if is_in_bounds b p then slice_index_or entries (index_in b p) None else None
 
@@ -144,13 +145,13 @@ pub record View (X : Type 0) : Type 0 where
   pub tile : ℕ
   pub cells : List X
 
--- A view of a tile of the cutting, with one cell for each place of the grid.
+-- The view has a cutting within limits, one of its tiles, and a cell for each place of the grid.
 pub record IsView {X : Type 0} (v : View X) : Type 0 where
   pub cutting : IsCutting v.cutting
   pub tile : v.tile < tile_count v.cutting
   pub size : length v.cells ≡ v.cutting.cols * v.cutting.rows
 
--- A view of the tile shows the place: it is inside the grid, and in the tile or next to the tile.
+-- A view of the tile shows place p: p is inside the grid, and in the tile or next to it.
 abbrev pub is_shown : Cutting → ℕ → Place → Bool
 is_shown t tile p =
     let b = bounds_of t tile in
@@ -185,7 +186,7 @@ listed_at {X} t lists p = option_and_then
     (λ (list : Vec X Global). slice_get list.items (index_in_tile t p))
     (slice_get lists (tile_of_place t p))
 
--- The list has one entry for each place of the grid, in row order, each from its tile's list.
+-- `whole` has an entry for each place of the grid, in row order, from the list of the place's tile.
 pub record IsPutBack {X : Type 0} (t : Cutting) (lists : List (Vec X Global))
     (whole : List X) : Type 0 where
   pub size : length whole ≡ t.cols * t.rows
@@ -199,7 +200,7 @@ Cuts c t = (c.cols ≡ t.cols) × (c.rows ≡ t.rows)
 abbrev pub terrain_of : View (Option ℤ) → Terrain
 terrain_of v = record { cols = v.cutting.cols; rows = v.cutting.rows; cells = v.cells; sinks = [] }
 
--- A list in a tile's row order: its entry at a place, `None` outside the tile.
+-- The entry for place p in a list in the row order of a tile; `None` outside the tile.
 abbrev pub tile_entry : {X : Type 0} → Cutting → ℕ → List (Option X) → Place → Option X
 tile_entry c tile entries p =
     if is_within c p && tile_of_place c p == tile

@@ -1,4 +1,5 @@
--- A grid's list while its tiles' lists are merged into it. Source: this project.
+-- How far `Tiling::put_back` has merged the lists of all tiles into one list of the grid.
+-- Source: this project.
 -- Private.
 use Rattle.std.specs.Prelude.{◌≡◌, ℕ, ◌+◌, ◌-◌, ◌<◌, ◌≤◌, List, length, slice_get, Vec}
 use Rattle.std.specs.declared.alloc.Global.{Global}
@@ -6,14 +7,14 @@ use Rattle.terrain.specs.Neighbours.{index_of}
 use Rattle.terrain.specs.declared.place.Place.{Place}
 use Rattle.tiles.specs.Cutting.{Cutting, IsWithin, bounds_of, listed_at}
 
--- The list has the first n entries of the grid, each from the list of its tile.
+-- `whole` has the entries for the grid's first n places, each from the list of the place's tile.
 pub record IsPutBackBelow {X : Type 0} (t : Cutting) (lists : List (Vec X Global)) (n : ℕ)
     (whole : List X) : Type 0 where
   pub size : length whole ≡ n
   pub each : (p : Place) → IsWithin t p → index_of t.cols p < n →
       slice_get whole (index_of t.cols p) ≡ listed_at t lists p
 
--- `part` has the entries of a tile's list that lie in one row of the grid.
+-- `part` has the entries of the list of tile `tile` for the tile's places in row `row` of the grid.
 pub record IsRowOf {X : Type 0} (t : Cutting) (lists : List (Vec X Global)) (tile row : ℕ)
     (part : List X) : Type 0 where
   pub size : length part ≡ (bounds_of t tile).cols

@@ -1,4 +1,5 @@
--- The rest of a rim, from one of its places on. Source: this project.
+-- Defines what is left of a rim, a tile's outermost cells in row order, from one place on. The
+-- iterator `Rim` still has these places to yield. Source: this project.
 -- Public.
 use Rattle.std.specs.Prelude.{◌≡◌, ◌+◌, ◌-◌, ◌<◌, ◌≤◌, IsTrue, List, ◌++◌, map, filter}
 use Rattle.std.specs.List.{range_with_len, flat_map}

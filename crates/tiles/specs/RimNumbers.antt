@@ -1,4 +1,5 @@
--- Numbers for the rim cells of all tiles. Source: this project.
+-- Numbers the rim cells of all tiles. Each tile has equally many numbers, some of them without a
+-- cell. Source: this project.
 -- Public.
 use Rattle.std.specs.Prelude.{ℕ, ◌+◌, ◌-◌, ◌*◌, ◌/◌, ◌%◌, ◌==◌, nat_lt, if◌then◌else◌}
 use Rattle.terrain.specs.declared.place.Place.{Place}
@@ -9,7 +10,7 @@ use Rattle.tiles.specs.Cutting.{Cutting, bounds_of, tile_count, tile_of_place}
 abbrev pub stride : Bounds → ℕ
 stride largest = 2 * largest.cols + 2 * largest.rows
 
--- The number of a rim cell within its tile, and the cell of a number.
+-- The number of rim cell p within the tile of bounds b, and the rim cell of number i there.
 -- Numbers run along the first row, the last row, the first column, then the last column.
 abbrev pub side_number : Bounds → Bounds → Place → ℕ
 side_number largest b p =

@@ -1,4 +1,4 @@
-//! The position and size of a tile, and the row order of its places.
+//! [`Bounds`] has a tile's position and size, and finds its places by index and their indices.
 ghost use Rattle.std.specs.Prelude.{◌≡◌, ◌*◌, ◌<◌};
 ghost use Rattle.tiles.specs.Cutting.{is_first_or_last, index_in, place_in, IsInBounds, IsWithinLimits, is_in_bounds};
 

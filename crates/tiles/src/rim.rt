@@ -1,4 +1,4 @@
-//! The rim of a tile: its outermost cells, in row order.
+//! Iterates over the rim of a tile, its outermost cells, in row order.
 ghost use Rattle.std.specs.Prelude.{◌≡◌, ◌+◌, ◌<◌, ◌≤◌, ◌∷◌, filter};
 ghost use Rattle.std.specs.Iterator.{YieldsFirst, item_count};
 ghost use Rattle.tiles.specs.Cutting.{longest_axis, places_in, is_first_or_last};

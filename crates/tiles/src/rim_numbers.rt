@@ -1,4 +1,4 @@
-//! Numbers for the rim cells of all tiles, computed without a table.
+//! Computes a number for each rim cell of all tiles, and the cell of a number; stores no list.
 //!
 //! Each tile has as many numbers as two rows and two columns of the largest tile have cells.
 //! A corner is in a row and a column, and a tile may be smaller, so some numbers have no cell.
@@ -31,8 +31,8 @@ impl Tiling {
         (tile * count, count)
     }
 
-    /// Returns the number of a rim cell. [`rim_place`](Self::rim_place) returns the cell again.
-    /// A cell on no rim gets the number of the last rim cell in its row of the tile.
+    /// Returns the number of a rim cell. [`rim_place`](Self::rim_place) finds the cell by number.
+    /// For a cell on no rim, returns the number of the last cell in its row of the tile.
     pub fn rim_number(&self, place: Place) -> u32
         requires { IsWithin self.now place }
         ensures value { result ≡ rim_number self.now place }
@@ -57,7 +57,7 @@ impl Tiling {
 }
 
 impl Bounds {
-    /// Returns how many rim numbers a tile has, where no tile is larger than `self`.
+    /// Returns how many rim numbers each tile has, if no tile is larger than `self`.
     pub fn side_count(self) -> u32
         requires { IsWithinLimits self }
         ensures value { result ≡ stride self }
@@ -66,8 +66,9 @@ impl Bounds {
         2 * self.cols + 2 * self.rows
     }
 
-    /// Returns a rim cell's number in its tile, where no tile is larger than `largest`.
-    /// Counts along the first row, the last row, the first column, then the last column.
+    /// Returns the number of the rim cell at `place` within this tile.
+    /// No tile is larger than `largest`. Numbers run along the first row, the last row, the first
+    /// column, then the last column.
     pub fn side_number(self, largest: Bounds, place: Place) -> u32
         requires largest { IsWithinLimits largest }
         requires limits { IsWithinLimits self }

@@ -241,7 +241,8 @@ impl Tiling {
         TileView::new(*self, tile, self.bounds(tile), cells)
     }
 
-    /// Merges the tiles' lists, each in row order, into the grid's list in row order.
+    /// Merges `results`, the lists of all tiles, into one list of the grid in row order.
+    /// Each tile's list has an entry for each cell of the tile, in row order.
     ///
     /// # Errors
     ///
@@ -280,7 +281,7 @@ impl Tiling {
         Ok(())
     }
 
-    /// Returns the part of a row of the grid that a tile's list has.
+    /// Returns the entries in a tile's list for its places in row `row` of the grid.
     #[inline(always)]
     fn row_of<'a, T>(&self, results: &'a [Vec<T>], tile: u32, row: u32) -> &'a [T]
         requires lists { AreTileLists self.now results.now }

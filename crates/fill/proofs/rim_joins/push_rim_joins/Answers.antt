@@ -13,7 +13,7 @@ not_both : (x : Bool) → not x ≡ true → x ≡ true → ⊥
 not_both true e f = absurd (cc)
 not_both false e f = absurd (cc)
 
--- A later neighbour of an inner cell lies in the bounds.
+-- A neighbour of an inner cell that comes after it in row order lies in the bounds.
 after_inner : (b : Bounds) (p q : Place) → IsInner b p → Touches p q → IsAfter p q → IsInBounds b q
 after_inner b p q inner touch (inl down) = (
   omega (arith, inner, down),

@@ -16,7 +16,7 @@ use Rattle.flow.specs.Catchments.{gauges_fault}
 use Rattle.relief.specs.MapText.{IsMapText}
 use Rattle.relief.proofs.making.make_map.Goals as goal
 
--- filling keeps the grid's header
+-- a list of values has the same text with the header of a grid and with that of the filled grid
 same_text : (g f : Raster) (values : List (Option ℕ)) → IsFilledGrid g f →
     counts_text f values ≡ counts_text g values
 same_text g f values is = ap (λ (r : Raster). counts_text r values) is.rest

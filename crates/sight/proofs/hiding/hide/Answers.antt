@@ -6,7 +6,7 @@ use Rattle.horizons.specs.declared.target.Target.{Target}
 use Rattle.sight.specs.Sweep.{is_blocked_before}
 use Rattle.sight.specs.Looking.{LooksFrom}
 use Rattle.sight.specs.Hiding.{rise_at, AreRays}
-use Rattle.sight.proofs.Hidden.{AreHiddenBelow, ray_at, rank_at, ray_is_target, window_kept, looked_on, none_tested, blocked_tested, open_tested, all_tested}
+use Rattle.sight.proofs.Unmarking.{AreHiddenBelow, ray_at, rank_at, ray_is_target, window_kept, looked_on, none_tested, blocked_tested, open_tested, all_tested}
 use Rattle.sight.proofs.hiding.hide.Goals as goal
 use Rattle.sight.proofs.hiding.hide.Goals.{then-hides, else-hides}
 

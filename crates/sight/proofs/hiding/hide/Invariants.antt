@@ -2,7 +2,7 @@ use Rattle.std.proofs.Common.{◌≡◌, ℕ, ◌<◌, ◌≤◌, Some}
 use Rattle.std.specs.Prelude.{slice_get}
 use Rattle.horizons.specs.declared.target.Target.{Target}
 use Rattle.sight.specs.Looking.{LooksFrom}
-use Rattle.sight.proofs.Hidden.{AreHiddenBelow}
+use Rattle.sight.proofs.Unmarking.{AreHiddenBelow}
 use Rattle.sight.proofs.hiding.hide.Given as goal
 
 abbrev pub invariant-loop-number : goal.invariant-loop-number

@@ -12,7 +12,7 @@ pub returns-in_default-clause-puts : goal.returns-in_default-clause-puts
 returns-in_default-clause-puts c = put_in_heap c.args.waiting
     (entries_of c.args.self.now.lists.items) _ _ c.in_ok-push.ensures.permutation
 
--- The entry is the last of its height's list.
+-- The entry put is appended to the list for its height.
 added : (c : goal.After-self-2-1) →
     (c.in-Some.index < length (entries_of c.args.self.now.lists.items)) × (c.push-2.new.self.items
     ≡ get_or (entries_of c.args.self.now.lists.items) c.in-Some.index [] ++ c.args.waiting ∷ [])

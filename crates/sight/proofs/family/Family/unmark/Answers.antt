@@ -1,6 +1,6 @@
 use Rattle.std.proofs.Common.{arith, refl, ◌-◌}
 use Rattle.sight.specs.Sweep.{lead_of}
-use Rattle.sight.proofs.Hidden.{cell_back}
+use Rattle.sight.proofs.Unmarking.{cell_back}
 use Rattle.sight.proofs.family.Family.unmark.Goals as goal
 
 pub bounds-marks-row : goal.bounds-marks-row

@@ -1,4 +1,5 @@
--- A family removes the marks of the window's cells that it hides, ray by ray.
+-- Ray by ray, the marks of cells that a family's lines hide are removed. A ray is a line of sight
+-- without its heights; a family's lines are the columns, or the rows, on one side of an observer.
 use Rattle.std.proofs.Common.{arith, refl, sym, ap, subst, ◌∙◌, ◌≡◌, ◌≢◌, ◌⊎◌, ℕ, ◌+◌, ◌-◌, ◌*◌, ◌<◌, ◌≤◌, Bool, true, false, not, ◌&&◌, ℤ, pos, ◌+ℤ◌, unsigned_abs, to_z, of_z, w32, List, length, get_or, set, Option, Some, inl, inr}
 use Rattle.std.specs.Prelude.{slice_get, if◌then◌else◌}
 use Rattle.std.proofs.lemmas.Bool.{cases_lt, cases_eq, cases_Bool, and_left, and_right}
@@ -18,7 +19,7 @@ use Rattle.sight.specs.declared.window.Window.{Window}
 use Rattle.sight.specs.declared.sweep.Sweep.{Sweep}
 use Rattle.sight.specs.declared.looking.SweepLookup.{SweepLookup}
 
--- equal indices have equal rows and columns
+-- if x * s + y and a * s + b are equal, and y and b are below s, then x is a and y is b
 parts_of : (x y a b s : ℕ) → y < s → b < s → x * s + y ≡ a * s + b → (x ≡ a) × (y ≡ b)
 parts_of x y a b s small_y small_b e = elim (cases_lt x a) [
   | inl less ↦ absurd (omega (arith, mul-le (x + 1) s a s (omega arith) (omega arith)))
@@ -88,7 +89,7 @@ ray_at f w marks rays same n e within are =
     (are.each n (get_or same n (record { offset = pos 0; line = 0 }))
     (ap (λ xs. slice_get xs n) (sym e) ∙ at)).0
 
--- the target of a ray is at its rank among the targets
+-- the target of ray n is at index `rank` of the targets, if `rank` is the rank of ray n
 pub rank_at : (rays targets : List Target) (ranks : List ℕ) (n rank : ℕ) → n < length rays →
     IsRanked rays targets ranks → rank ≡ get_or ranks n rank
     → slice_get targets rank ≡ Some (get_or rays n (record { offset = pos 0; line = 0 }))
@@ -99,7 +100,7 @@ rank_at rays targets ranks n rank within are at =
     ap (slice_get targets) (sym (get_or_from_slice_get ranks n rank 0 has))
     ∙ are.each n t (slice_get-get_or rays n (record { offset = pos 0; line = 0 }) within)
 
--- a lookup stays right if only cursor and last rank change, and the cursor may be used at that rank
+-- a lookup stays right with a new cursor and last rank, if the cursor may be used at that rank
 pub looked_on : (cells : List (Option ℤ)) (f : Family) (targets : List Target) (k : ℕ) (old new :
     SweepLookup) → LooksFrom cells f targets k old → new.line ≡ old.line → new.sweep ≡ old.sweep
     → IsUpTo new.sweep.highest new.cursor new.last → LooksFrom cells f targets new.line new
@@ -143,7 +144,8 @@ same_target : (f : Family) (t : Target) (m z y : ℕ) → IsAtCell f y t → t �
 same_target f t m z y stands e =
     (ap (λ q. q.line) (sym e), omega (arith, ints, stands.offset, ap (λ q. q.offset) e))
 
--- on lines from 2 on, cells of rays below `end` have their new mark, others the old or the new one
+-- on lines 2 and beyond, cells of the rays of index below `end` have the mark `mark_left`; others
+-- have this or their old mark
 pub record AreHiddenBelow (cells : List (Option ℤ)) (f : Family) (w : Window) (height : ℕ)
     (rays : List Target) (end : ℕ) (old new : List Bool) : Type 0 where
   pub size : length new ≡ length old
