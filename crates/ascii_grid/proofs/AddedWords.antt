@@ -306,7 +306,7 @@ reported may_lack o Memory m h = absurd (let k : is_memory o ≡ true = ap is_me
 reported may_lack o f m h = h
 
 -- a fault that may be reported by `may_lack` and `o` may be reported by `may_lack'` and `o'`, if
--- these follow from those
+-- `may_lack` implies `may_lack'`, and a fault in `o` is in `o'` too
 pub reported_further : (may_lack may_lack' : Type 0) (o o' : Option GridFault) (f : GridFault) →
     (may_lack → may_lack') → ((g : GridFault) → o ≡ Some g → o' ≡ Some g) →
     IsReported may_lack o f → IsReported may_lack' o' f

@@ -154,8 +154,8 @@ parted_ended p text h e =
     nil_from_length h.last (omega (arith, ap length (sym h.front ∙ e), length-take 65 h.last)) in
     subst (λ z. IsParted text h.ended z) last h.parted
 
--- between heights, the first `len` bytes, which are `IsPlain`, and the separator `b` are one more
--- ended height, or `r` is a fault
+-- let the first `len` bytes after a height spell `value` (`IsPlain`), and the separator `b` follow.
+-- If `r` is right as the result of adding that height, it is right for reading these bytes.
 pub plain_word : {T : Type 0} (p : Tokenizer) (j : GridBuilder) (text bytes : List ℕ)
     (len b : ℕ) (value : ℤ) (r : Result T GridFault) → HasWords p text → p.word ≡ [] →
     p.builder.stage ≡ AtHeights → IsPlain p.builder.scale bytes len value → len < length bytes →

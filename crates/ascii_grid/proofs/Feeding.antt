@@ -290,8 +290,8 @@ faultless r text h = rw (← h.same_scale) (few_so_far r.words.builder.scale tex
 
 -- ---- one piece after another
 
--- let the reader `b` store the fault of `r`. For `Ok` the text so far has no fault; for `Err f` it
--- may be refused with `f` already.
+-- let the reader `b` store the fault of `r` and have been fed `text`. If `r` is `Ok`, `text` has no
+-- fault so far; if it is `Err f`, `text` may be refused with `f` already.
 has_fault : {T : Type 0} (b : Reader) (text : List ℕ) (r : Result T GridFault)
     → b.fault ≡ result_err r → WasFed b text
     → OnOk r (fault_so_far b.scale text ≡ None) × IfErr r (λ f. IsRefusalSoFar b.scale text f)

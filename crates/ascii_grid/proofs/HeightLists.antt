@@ -1,5 +1,5 @@
--- Cells that a job parsed without the text before them are right with one more word, and may be
--- added to those of a `GridBuilder`.
+-- If a job has the cells of a piece's first bytes and adds the next word's cell, it has the cells
+-- of the bytes with that word. A `GridBuilder` may add the cells of a whole piece.
 use Rattle.std.proofs.Common.{◌≡◌, ℕ, ◌+◌, ◌<◌, ◌≤◌, ℤ, true, false, List, [], ◌∷◌, ◌++◌, length, take, get_or, map, Option, None, Some, Bool, zero, suc, inl, inr, arith, refl, ap, sym, ◌∙◌, subst}
 use Rattle.std.specs.Prelude.{filter}
 use Rattle.std.specs.Option.{option_or}

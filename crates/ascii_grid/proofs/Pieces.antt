@@ -1,5 +1,5 @@
--- If each piece is read from a device and fed to a reader as `ReadsPiece` says, the pieces together
--- read the grid as `ReadsGrid` says.
+-- If the pieces of a text are read from a device and fed to a reader (`ReadsPiece`), the result for
+-- all pieces together is that of reading the grid (`ReadsGrid`).
 use Rattle.std.proofs.Common.{arith, ◌≡◌, ◌≢◌, ◌≤◌, ◌-◌, ◌+◌, ◌++◌, ℕ, List, Option, None, Some, Ok, Err, Result, refl, sym, subst, ◌∙◌}
 use Rattle.std.specs.Prelude.{IfOk}
 use Rattle.std.proofs.lemmas.List.{length-append}

@@ -1,4 +1,5 @@
--- The text of a row grows cell by cell, and the text of a grid row by row.
+-- A row's text is the texts of its cells, a space after each but the last, and a line feed. The
+-- text of n + 1 rows is the text of the first n rows and then that of the last.
 use Rattle.std.proofs.Common.{◌≡◌, ℕ, zero, suc, ◌+◌, ◌-◌, ◌*◌, ◌/◌, ◌<◌, ◌≤◌, List, [], ◌∷◌, ◌++◌, length, take, drop, map, get_or, sym, ap, refl, ◌∙◌, arith, zero-add, zero-mul}
 use Rattle.std.proofs.Math.Nat.{mul-div_cancel_left}
 use Rattle.std.specs.List.{join_with_byte, flat_map}

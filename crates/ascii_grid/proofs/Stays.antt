@@ -1,4 +1,5 @@
--- Ended words stay as bytes follow; a fault of words, or want of memory, stays as words follow.
+-- The words that a separator ended stay ended words, whatever bytes follow the text. A fault of
+-- words, or want of memory for their cells, may still be reported, whatever words follow.
 use Rattle.std.proofs.Common.{◌≡◌, ℕ, ◌+◌, ◌<◌, true, false, List, [], ◌∷◌, ◌++◌, length, take, Option, None, Some, arith, refl, ap, sym, ◌∙◌, subst, inl, inr}
 use Rattle.std.specs.Prelude.{filter}
 use Rattle.std.specs.Option.{option_or}

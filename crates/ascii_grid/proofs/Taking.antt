@@ -1,4 +1,5 @@
--- What holds between two pieces while a grid is read from a device.
+-- While a grid is read from a device in pieces: after each piece, the reader was fed all bytes read
+-- so far, and these have no fault.
 use Rattle.std.proofs.Common.{ℕ, List, ◌++◌, Option, None, Some, sym, ap, ◌∙◌, ◌≡◌, ◌≤◌, length, take, inl, inr}
 use Rattle.std.specs.Io.KnownBytes.{Consumes, IsAtEnd}
 use Rattle.std.proofs.lemmas.List.{append-nil}

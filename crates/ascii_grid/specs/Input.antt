@@ -1,4 +1,5 @@
--- What a call that reads a grid from a device reads and returns, also where a read fails.
+-- Reading a grid from a device: the bytes that the call takes and the result that it returns, also
+-- where a read fails.
 -- Source: this project.
 -- Trust base.
 use Rattle.std.specs.Prelude.{◌≡◌, ◌≢◌, ◌≤◌, ◌<◌, ◌+◌, ◌-◌, ◌^◌, ℕ, List, length, Option, None, Some, Result, Ok, Err, IfOk}
@@ -21,8 +22,10 @@ pub record Takes {R : Type 0} (remaining : R → Option (List ℕ)) (old new : D
 pub record ReadsGrid {R : Type 0} (remaining : R → Option (List ℕ)) (scale : ℕ) (old new : Device R)
     (result : Result Raster InputFault) : Type 0 where
   pub taken : Takes remaining old new
-  -- The bytes read spell the grid, and none is left. A fault refuses the device's whole text.
+  -- The bytes read spell the grid, and no byte is left to read.
   pub grid : IfOk result (λ g. IsGridText scale taken.bytes g × IsAtEnd (remaining new.device))
+  -- A fault `Grid f` is one with which all the text that was left to read may be refused, whether
+  -- or not all of it was read.
   pub fault : (text : List ℕ) (f : GridFault) → remaining old.device ≡ Some text →
       result ≡ Err (Grid f) → IsRefusal scale text f
   -- The count of failures rises by one if a read failed, and else does not change.
@@ -31,15 +34,16 @@ pub record ReadsGrid {R : Type 0} (remaining : R → Option (List ℕ)) (scale :
   -- If a read failed, no word that ended before the failure has a fault.
   pub clean : result ≡ Err Read → fault_so_far scale taken.bytes ≡ None
 
--- The reader has no fault, the device can count one more failure, and `piece` is not empty.
+-- The reader has no fault, the device can count one more failure, and the buffer `piece` has room.
 pub record CanRead {R : Type 0} (reader : Reader) (device : Device R)
     (piece : List ℕ) : Type 0 where
   pub faultless : reader.fault ≡ None
   pub few : device.failures < 2 ^ 64 - 1
   pub room : 0 < length piece
 
--- The result of reading and feeding a piece: its length, or `None` at the end of the text. A fault
--- of the piece's words comes before a failed read, which is then not counted.
+-- The result of reading and feeding a piece: its length, or `None` at the end of the text. A piece
+-- may take several reads, of which the last may fail. If the piece's words have a fault, that fault
+-- is returned and the failure is not counted.
 abbrev pub IsPieceResult : ℕ → Option (List ℕ) → Result (Unit {0}) GridFault → ℕ → ℕ →
     Result (Option ℕ) InputFault → Type 0
 IsPieceResult count left fed old new (Ok (Some n)) =
@@ -48,7 +52,7 @@ IsPieceResult count left fed old new (Ok None) = (fed ≡ Ok tt) × (new ≡ old
 IsPieceResult count left fed old new (Err (Grid f)) = (fed ≡ Err f) × (new ≡ old)
 IsPieceResult count left fed old new (Err Read) = (fed ≡ Ok tt) × (new ≡ old + 1)
 
--- A piece of the text, no longer than the buffer, was read from the device and fed to the reader.
+-- A piece of the text, of at most `room` bytes, was read from the device and fed to the reader.
 pub record ReadsPiece {R : Type 0} (remaining : R → Option (List ℕ)) (old new : Device R)
     (before after : Reader) (room : ℕ) (result : Result (Option ℕ) InputFault) : Type 0 where
   pub bytes : List ℕ

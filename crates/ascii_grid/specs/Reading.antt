@@ -43,14 +43,15 @@ abbrev pub keys_before : List (Word × Word) → List Word → List Word
 keys_before [] before = before
 keys_before (p ∷ ps) before = keys_before ps (p.0 ∷ before)
 
--- The header's slots are those that the pairs fill. Each key begins with a letter, and no pair has
--- a fault.
+-- `h` stores the values of the pairs `ps` in their slots. Each key begins with a letter, and no
+-- pair has a fault.
 pub record IsHeaderOf (h : Header) (ps : List (Word × Word)) : Type 0 where
   pub keys : list_all (λ (p : Word × Word). begins_with_letter p.0) ps ≡ true
   pub faultless : header_fault [] (flat ps) ≡ None
   pub slots : h ≡ slots_of ps
 
--- The key word `k` follows these pairs, its slot is empty, and the slot's value comes next.
+-- The key word `k` follows the pairs `ps` without a fault and names `slot`, which these pairs leave
+-- empty. `centre` tells whether `k` names a cell's centre.
 pub record AwaitsValue (ps : List (Word × Word)) (k : Word) (slot : Key)
     (centre : Bool) : Type 0 where
   pub letter : begins_with_letter k ≡ true
@@ -59,7 +60,8 @@ pub record AwaitsValue (ps : List (Word × Word)) (k : Word) (slot : Key)
   pub named : centre ≡ is_centre k
   pub free : is_given (slots_of ps) slot ≡ false
 
--- There is a first height: a word that begins with no letter, so that no later word is a key.
+-- There is a first word, and it begins with no letter. So it is a height, and no later word is a
+-- key.
 abbrev pub HasBegun : List Word → Type 0
 HasBegun [] = ⊥
 HasBegun (h ∷ rest) = begins_with_letter h ≡ false

@@ -1,4 +1,5 @@
--- A header in six slots, which values fill one by one, and the grid of a whole header and cells.
+-- A header as six slots, each empty or filled with one header value, and the grid that filled slots
+-- and a list of cells make.
 -- Source: this project.
 -- Public.
 use Rattle.std.specs.Prelude.{ℕ, ◌*◌, ℤ, IsSome, Bool, false, not, ◌||◌, codes, List, [], find, Option, None, Some, is_some, unwrap_or, option_map}
@@ -34,7 +35,8 @@ is_given h Yll = is_some h.yll
 is_given h Cellsize = is_some h.cellsize
 is_given h Nodata = is_some h.nodata
 
--- A position: the word `w`, and `centre` if it is that of a cell's centre, not of a corner.
+-- A coordinate of the lower left cell: the word `w`, and whether it is that of the cell's centre,
+-- not of its corner.
 abbrev pub anchor_at : Bool → Word → Anchor
 anchor_at centre w = record { centre = centre; word = w }
 
@@ -51,7 +53,7 @@ with_value h Yll centre w = record h { yll = Some (anchor_at centre w) }
 with_value h Cellsize centre w = record h { cellsize = Some w }
 with_value h Nodata centre w = record h { nodata = Some w }
 
--- The first required slot that is not given, as a fault.
+-- `MissingKey` of the first required slot that is empty; `None` if all are filled.
 abbrev pub missing_of : Header → Option GridFault
 missing_of h = option_map MissingKey (find (λ slot. not (is_given h slot)) required_slots)
 
@@ -59,7 +61,7 @@ missing_of h = option_map MissingKey (find (λ slot. not (is_given h slot)) requ
 abbrev pub wanted_of : Header → ℕ
 wanted_of h = unwrap_or h.cols 0 * unwrap_or h.rows 0
 
--- No required slot is missing.
+-- All required slots are filled: all but the NODATA word's.
 pub record IsWhole (h : Header) : Type 0 where
   pub cols : IsSome h.cols
   pub rows : IsSome h.rows

@@ -4,8 +4,8 @@
 use Rattle.std.specs.Prelude.{◌≡◌, ℕ, List, ◌++◌, Option, Result, OnOk, OnErr}
 use Rattle.ascii_grid.specs.Device.{Device, HasWritten, HasWrittenPart, CountsFailure}
 
--- The bytes `sent` to the device and then the page after the call are together the page before the
--- call and then the text.
+-- The bytes `sent` to the device, followed by the page after the call, equal the page before the
+-- call, followed by the text.
 abbrev pub LosesNoByte : {W : Type 0} → (W → Option (List ℕ)) → Device W → List ℕ → Device W →
     List ℕ → List ℕ → Type 0
 LosesNoByte contents old page_before new page_after text =

@@ -2,7 +2,7 @@
 
 /// A slot: the room for one of six header values.
 ///
-/// `Xll` and `Yll` place the lower left cell.
+/// `Xll` and `Yll` are for the coordinates of the lower left cell.
 #[derive(Clone, Copy, Debug, PartialEq, Eq)]
 pub enum Key {
     Ncols,
@@ -16,7 +16,7 @@ pub enum Key {
 /// Why a text is refused: its first fault, or want of memory.
 #[derive(Clone, Copy, Debug, PartialEq, Eq)]
 pub enum GridFault {
-    /// A word in a key's place begins with a letter and is no key.
+    /// Where a key is expected, a word begins with a letter and is no key.
     UnknownKey,
     /// This slot is given twice.
     RepeatedKey(Key),
@@ -24,7 +24,7 @@ pub enum GridFault {
     MissingKey(Key),
     /// The number of columns or rows is not a whole number from 1 to 4,096.
     BadSize(Key),
-    /// A position is no decimal text, or the cell size is no decimal text above 0.
+    /// A coordinate is no decimal text, or the cell size is no decimal text above 0.
     BadPlace(Key),
     /// The NODATA word is no decimal text.
     BadNodata,

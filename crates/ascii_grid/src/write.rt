@@ -296,7 +296,8 @@ fn write_texts<W: Write>(texts: &[Vec<u8>], out: &mut Counted<W>) -> Result<(), 
 
 /// Writes a map's header and the texts of its rows. Allocates nothing.
 ///
-/// `texts` holds what [`lines`] returned for runs of rows, from north to south.
+/// `texts` holds results of [`lines`], each for some successive rows. Together they are the texts
+/// of all rows, from north to south.
 ///
 /// # Errors
 ///

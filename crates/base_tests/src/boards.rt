@@ -41,12 +41,12 @@ fn deal_one_seat(alloc: Global, jobs: u32, seats: u32, s: usize) -> Result<Seat,
     Ok(seats.swap_remove(s))
 }
 
-/// Asserts the outcome of a seat's next take.
+/// Asserts that the next take of `seat`, which has number `s`, returns `want`.
 fn gets(rt: &impl Abort, seat: &mut Seat, want: Take, s: usize) {
     assert_eq!(rt; seat.try_take(), want, "seat {s}");
 }
 
-/// Asserts the outcome of the next take of seat `s`.
+/// Asserts that the next take of seat `s` returns `want`.
 fn gets_at(rt: &impl Abort, seats: &mut Vec<Seat>, s: usize, want: Take)
     requires at { s < vec_len seats.old }
     requires board { IsBoard (vec_len seats.old) seats.old.items }
@@ -236,7 +236,7 @@ fn deal_five(rt: &impl Abort, alloc: Global) -> Option<Vec<Seat>>
 }
 
 /// A refused `close` returns the seats, with the jobs that they took.
-/// If `rt try --fail-alloc` refuses memory, no board is dealt, or the second try closes it.
+/// If `rt try --fail-alloc` refuses memory, no board is dealt, or the second try closes the board.
 #[test]
 fn refused_close_gives_seats_back(rt: HostRuntime) -> Result<(), Fail> {
     let Some(mut seats) = deal_five(&rt, rt.alloc()) else {

@@ -1,4 +1,4 @@
-//! Grid texts with their cells, and the checks that several test modules share.
+//! Two grid texts with their cells, and checks of cells and numbers, for several test modules.
 ghost use Rattle.std.specs.Prelude.{◌≡◌, ◌≤◌, IsTrue};
 
 use ascii_grid::{Cell, Grid, Height, read_text};

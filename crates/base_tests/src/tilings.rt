@@ -161,8 +161,8 @@ fn rim_of_one_cell_ends(rt: HostRuntime) {
     assert_eq!(rt; rim.next(), None);
 }
 
-/// Asserts a cell's number among the rim cells of all tiles.
-/// Asserts also that this number gives the cell.
+/// Asserts that a cell has `number` among the rim cells of all tiles.
+/// Asserts also that `rim_place` returns the cell for this number.
 fn has_rim_number(rt: &impl Abort, tiling: &Tiling, row: u32, col: u32, number: u32) {
     let place = place_in(rt, tiling, row, col);
     assert_eq!(rt; tiling.rim_number(place), number, "row {row}, column {col}");

@@ -63,11 +63,11 @@ impl Work for Hungry {
 /// Records the order in which jobs enter.
 #[derive(Drop)]
 struct Turns {
-    // bit k of entry j: job j waits for job k
+    // bit k of `waits[j]`: job j waits for job k
     waits: [u8; 4],
     // how often a held job checks for the jobs that it waits for
     looks: u32,
-    // the position of each job in the order of entering, from 1; 0 before it enters
+    // the position of each job in the order of entering, from 1; 0 before the job enters
     entries: [AtomicU64; 4],
     count: AtomicU64,
     // how many jobs ran because their checks were used up

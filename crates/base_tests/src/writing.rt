@@ -92,7 +92,8 @@ const PIT_WRITTEN: &[u8] =
 const WHOLE: &[u8] =
     b"ncols         1\nnrows         4\nxllcorner     0\nyllcenter     0\ncellsize      1\nNODATA_value  -9999\n-1000000000000000\n1000000000000000\n0\n-1\n";
 
-/// Writes the grid's heights, asserts the number of failures, and returns the writer.
+/// Writes the grid's heights to `taker`, and returns `taker`.
+/// Asserts how many failures are counted, and that the bytes taken are all counted.
 fn written(rt: &impl Abort, grid: &Grid, mut taker: Taker, failures: u64) -> Taker {
     let mut out = Counted::new(&mut taker);
     let result = write_heights(grid, &mut out);

@@ -1,5 +1,6 @@
--- The arcs from a cell to the cells around it are just its joins. Which of the arcs need no new
--- entry in the queue.
+-- A data cell's arcs lead to exactly the data cells around it, each at the greater height of the
+-- two: these are the cell's joins in the net. An arc needs no new entry in the queue if it does not
+-- lower the crest noted for its end.
 use Rattle.std.proofs.Common.{◌≡◌, ℕ, pos, map, ◌+◌, ◌-◌, ◌<◌, ◌⊎◌, inl, inr, ℤ, List, [], ◌∷◌, ◌++◌, length, get_or, take, Option, None, Some, ◌∙◌, sym, ap, subst, refl, arith}
 use Rattle.std.specs.Int.{int_max}
 use Rattle.std.specs.List.{Contains, All, filter_map, cons_option}
@@ -162,7 +163,8 @@ pub crest_by : (other height level : ℤ) →
     int_max other (int_max height level) ≡ int_max (int_max other height) level
 crest_by other height level = omega (arith, ints, clamps)
 
--- If a cell's noted crest is at most its crest by an arc, the arc needs no new entry in the queue.
+-- If the level noted for cell `to` is at most its crest by an arc, the arc needs no new entry in
+-- the queue.
 no_higher_arc : (cells : List (Option ℤ)) (labels : List (Option ℕ)) (levels : List (Option ℤ))
     (from : Candidate) (to : ℕ) (height crest : ℤ) (waiting : List Candidate) →
     AreNoted labels levels waiting → ((h : ℤ) → get_or cells to None ≡ Some h →
@@ -179,7 +181,8 @@ no_higher_arc cells labels levels from to height crest waiting noted is low =
           (le_of_same _ _ (is found.0 found.1 ∙ crest_by found.0 height from.height.0))))
     ]
 
--- An arc to a cell of which `IsPassed` holds needs no new entry in the queue.
+-- An arc needs no new entry if its end has no data, or has a noted crest at most its crest by the
+-- arc (`IsPassed`).
 pub passed_arc : (cells : List (Option ℤ)) (labels : List (Option ℕ)) (levels : List (Option ℤ))
     (heights : List ℤ) (from : Candidate) (to : ℕ) (height : ℤ) (waiting : List Candidate)
     → AreNoted labels levels waiting → heights ≡ map height_or_lack levels → to < length levels

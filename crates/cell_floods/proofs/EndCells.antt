@@ -1,5 +1,6 @@
--- Whether a label of a tile is an end cell. The tile's view shows the three rows of three places at
--- and around the label, and so any gap there.
+-- A label of a tile is an end cell if it is a sink or has a gap around it: a place off the grid or
+-- without data. The tile's view shows the places of the grid at and around the label, and so any
+-- gap there.
 use Rattle.std.proofs.Common.{◌≡◌, ℕ, zero, suc, ◌<◌, ◌≤◌, ◌+◌, ◌-◌, ◌*◌, inl, inr, true, false, ℤ, List, [], ◌∷◌, ◌++◌, length, get_or, Option, None, Some, IsNone, is_some, ◌∙◌, sym, ap, subst, refl, arith, unwrap_or}
 use Rattle.std.specs.Prelude.{Bool, IsTrue, ◌⊎◌, Contains}
 use Rattle.std.proofs.lemmas.Bool.{cases_Bool, cases_eq, cases_lt, cond-true, cond-false, and_from, lt-ltb, le-leb, false≢true}
@@ -41,7 +42,8 @@ near_shown v p q inside near = elim (cases_lt q.row v.cutting.rows) [
     | inr unseen ↦ sym (ap (λ (o : Option (Option ℤ)). unwrap_or o None) (cond-false _ _ _ unseen))
   ]
 
--- As `AreEndHeights`, for the first `count` entries of the table.
+-- `ends` has entries for the first `count` entries of the table: the height of a label that is an
+-- end cell, else None.
 pub record AreFirstEnds (t : Terrain) (places : List (Option Place)) (count : ℕ)
     (ends : List (Option ℤ)) : Type 0 where
   pub size : length ends ≡ count
@@ -94,7 +96,8 @@ all_ends t places count ends below above s = record {
   ];
 }
 
--- At a place p that has a gap around it or is one of the sinks, `IsEndHeight` holds of p's `cell`.
+-- Let a place p have a gap around it or be a sink. If p has data, it is an end cell, and `cell` is
+-- its height; else `cell` is None (`IsEndHeight`).
 pub end_found : (t : Terrain) (p : Place) (end : Bool) (cell : Option ℤ) → height_at t p ≡ cell
     → (IsTrue end → HasGapAround t p ⊎ Contains t.sinks p) → end ≡ true → IsEndHeight t p cell
 end_found t p end None is found holds =
@@ -120,7 +123,8 @@ touches_itself p = record {
   col_left = omega arith;
 }
 
--- The three cells are the view's at the index of p in row order, and one before and after it.
+-- `cells` are three of the view's cells in row order: the one before p, the one at p and the one
+-- after p.
 abbrev pub AreBeside : View (Option ℤ) → Place → List (Option ℤ) → Type 0
 AreBeside v p cells = (k : ℕ) (d : Option ℤ) → k < 3
     → get_or cells k d ≡ get_or v.cells (index_of v.cutting.cols p + k - 1) d

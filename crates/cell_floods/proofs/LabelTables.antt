@@ -1,5 +1,6 @@
--- A table lists the places of labels, and each cell has an index into it. Adding a place keeps
--- `IsTable`, and the labels of the cells that already have an index.
+-- A table lists the places of labels, and each cell has an index into it. If the next cell's label
+-- is found in the table or appended to it, table and indexes still fit (`IsTable`). The cells
+-- before it keep their labels.
 use Rattle.std.proofs.Common.{◌≡◌, ◌≢◌, ◌==◌, ℕ, ◌+◌, ◌<◌, ◌≤◌, inl, inr, zero, suc, List, [], ◌∷◌, ◌++◌, length, get_or, Option, None, Some, ◌∙◌, sym, ap, subst, refl, arith}
 use Rattle.std.specs.Prelude.{IsSome}
 use Rattle.std.specs.List.{All}
@@ -56,8 +57,8 @@ listed_before index label old new at k p other e = elim at.only [
       ]
 ]
 
--- Let the next cell's label be listed at `index`, in a table that was not empty. Then `IsTable`
--- holds of the new table and the cells' indexes with `index` appended.
+-- Let the next cell's label be listed at `index`, in a table that was not empty. Then the new
+-- table, and the cells' indexes with `index` appended, are again a table of labels (`IsTable`).
 pub cell_listed : (index : ℕ) (label : Option Place) (old new : List (Option Place))
     (cells more : List ℕ) → 0 < length old → IsTable old cells → IsListedAt index label old new →
     more ≡ cells ++ index ∷ [] → IsTable new more

@@ -126,7 +126,8 @@ mapped_entry b xs p size i =
     ∙ get_or-map (label_of_node b) xs _ None None (omega (arith, size, index_in_below b p i))
     ∙ ap (label_of_node b) (sym (entry_in-inside b xs p i))
 
--- As `IsTileFlood`, of the levels and labels alone, with the bounds in the limits.
+-- Each data cell of the tile has its level and its label in these lists, other cells have None. `b`
+-- has the tile's bounds, which are in the limits.
 pub record AreTileLevels (t : Terrain) (c : Cutting) (tile : ℕ) (b : Bounds)
     (levels : List (Option ℤ)) (labels : List (Option Place)) : Type 0 where
   pub bounds : b ≡ bounds_of c tile

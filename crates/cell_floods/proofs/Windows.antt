@@ -237,7 +237,8 @@ border_none t w n net r c narrow outside = elim (cases_option (cell_at n (r * (w
       (omega (arith, p.1, both.1)) (omega (arith, p.1, both.1)))
 ]
 
--- `IsGapSource` holds of a data cell of the window beside a node without data.
+-- A data cell of the window beside a node without data is on the window's rim or has a gap around
+-- it (`IsGapSource`).
 pub gap_is_source : (t : Terrain) (w : Bounds) (n : Cells) → IsNetOf t w n → (p : Place) →
     IsInBounds w p → IsDataCell t p → (b : ℕ) → IsBeside (w.cols + 2) (node_at w p) b →
     cell_at n b ≡ None → IsGapSource t w p

@@ -110,7 +110,7 @@ bordered_rows row stride count = first_rows row stride count ++ replicate stride
 abbrev pub row_of : ℕ → List (Option ℤ) → ℕ → List (Option ℤ)
 row_of cols cells row = slice_range cells (row * cols) (row * cols + cols)
 
--- The first rows, of `cols` entries each, inside the border of a list.
+-- The first `count` rows, of `cols` entries each, inside the border of a list.
 abbrev pub inner_rows : {X : Type 0} → List X → ℕ → ℕ → List X
 inner_rows list cols zero = []
 inner_rows list cols (suc count) =

@@ -1,5 +1,5 @@
--- A tile's levels, the least crests of its cells' paths inside the tile, and its labels, where
--- paths of these crests end.
+-- The levels and labels of a tile's cells. A level is the least crest of a cell's paths inside the
+-- tile. A label is the end cell or rim cell where a path of that crest ends.
 -- Public.
 use Rattle.std.specs.Prelude.{◌≡◌, ℕ, ◌*◌, ◌⊎◌, ℤ, ◌≤ℤ◌, List, [], ◌∷◌, length, Option, None, Some, IsTrue, MatchOption, option_map, slice_index_or}
 use Rattle.terrain.specs.Raster.{Terrain}

@@ -1,4 +1,4 @@
-//! A rectangle of cells as a net: [`CellNet`].
+//! A rectangle of cells as a net, nodes with joins between neighbours: [`CellNet`].
 //!
 //! A border of cells without data gives each cell of the rectangle eight cells around it. A data
 //! cell beside a cell without data is a source: paths end there. So the border makes all data cells
@@ -45,8 +45,8 @@ impl Model for CellNet {
         (record { stride = n.stride; cells = n.cells.items; sinks = n.sinks.items }) };
 }
 
-/// The length of a run of nodes.
-/// A run is skipped at once if a test shows that none of its nodes is a source.
+/// The number of consecutive nodes, a run, that are tested together.
+/// A run is skipped if the test shows that none of its nodes is a source.
 const RUN: u32 = 16;
 
 /// Returns the eight nodes around `node`, which is not on the border.

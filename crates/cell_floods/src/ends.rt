@@ -1,4 +1,5 @@
-//! Which labels of a tile, the places where its cells' paths end, are end cells.
+//! Finds the heights of those labels of a tile that are end cells. A label is a place where paths
+//! of the tile's cells end.
 //!
 //! A data cell is an end cell if it is a sink or has a gap around it. A gap is a place off the grid
 //! or without data.
@@ -75,7 +76,7 @@ fn end_height(view: &TileView<'_, Cell>, sinks: &[bool], label: Option<Place>) -
     }
 }
 
-/// Returns for each entry of `places`: the height of an end cell, else no data.
+/// Returns, for each entry of `places`, its height if it is an end cell, else no data.
 pub(crate) fn end_heights(
     alloc: Global,
     view: &TileView<'_, Cell>,

@@ -82,8 +82,9 @@ fn place_of(bounds: Bounds, node: u32) -> Place
     }
 }
 
-/// Returns the index of `node`'s place in `places`, 0 for `None`; adds a new place.
-/// `met` has the index for each node met before, and 0 for other nodes.
+/// Returns the index in `places` of `node`'s place, 0 if `node` is `None`.
+/// The place of a node that was not met before is appended. `met` has the index for each node met
+/// before, and 0 for other nodes.
 #[inline(always)]
 fn index_of_label(
     places: &mut Vec<Option<Place>>,

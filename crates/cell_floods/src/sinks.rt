@@ -1,4 +1,4 @@
-//! Which cells of a rectangle are sinks, as a list over the nodes of the rectangle's net.
+//! Lists, for each node of a rectangle's net, whether it is a sink: [`window_sinks`].
 //!
 //! The nodes are the rectangle's cells and a border of cells around them.
 ghost use Rattle.std.specs.Prelude.{◌≡◌, ◌<◌, ◌+◌, ◌*◌, false, IfOk};

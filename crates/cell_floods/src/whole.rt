@@ -1,4 +1,4 @@
-//! Filled heights of a grid by one flood: [`filled_heights`].
+//! Finds the filled heights of a grid by one flood, without tiles: [`filled_heights`].
 //!
 //! Tests compare the filling by tiles with this flood.
 ghost use Rattle.std.specs.Prelude.{IfOk};

@@ -1,5 +1,5 @@
 -- Finds the scaled value of a word (its number in units of 10^-d) from its sign and the digits
--- before and after its point. Digits at a text's front are `IsPlain`.
+-- before and after its point. Up to 16 digits at a text's front spell a value as `IsPlain` says.
 use Rattle.std.proofs.Common.{◌≡◌, ℕ, ◌+◌, ◌*◌, ◌-◌, ◌^◌, ◌<◌, ◌≤◌, min, Bool, true, false, ◌&&◌, ◌||◌, cond, nat_le, nat_lt, ◌==◌, List, [], ◌∷◌, ◌++◌, length, take, drop, fold, replicate, Option, None, Some, ℤ, pos, neg_ℤ, inl, inr, arith, refl, ap, sym, ◌∙◌, suc, zero, add-one}
 use Rattle.std.specs.List.{list_any, list_all, position_or_len, before_first, after_first}
 use Rattle.std.specs.Char.{is_ascii_digit}
@@ -182,8 +182,8 @@ bare_digits (x ∷ xs) rest h k =
       ne_eqb x 45 (λ e. omega arith),
     )
 
--- the first `len` bytes satisfy `IsPlain` if they are 1 to 16 digits whose number times 10^d is at
--- most 10^18
+-- if the first `len` bytes are 1 to 16 digits, and their number times 10^d is at most 10^18, they
+-- spell this product in units of 10^-d
 pub IsPlain-positive : (d : ℕ) (bytes : List ℕ) (len : ℕ) → 0 < len → len ≤ 16 → len
     ≤ length bytes → list_all is_ascii_digit (take len bytes) ≡ true → number_of (take len bytes)
     * 10 ^ d ≤ 10 ^ 18 → IsPlain d bytes len (pos (number_of (take len bytes) * 10 ^ d))

@@ -37,8 +37,8 @@ pub fn is_above_zero(word: &[u8]) -> bool
 
 /// Returns the value of a decimal text in units of 10^-scale.
 ///
-/// `None` if the word is no decimal text or has an exponent. `None` too if a digit more than
-/// `scale` places after the point is not 0, or if the result is not from -10^18 to 10^18.
+/// `None` if the word is no decimal text or has an exponent. `None` too if, after the point, a
+/// digit later than the first `scale` is not 0, or if the result is not from -10^18 to 10^18.
 ///
 /// # Examples
 ///

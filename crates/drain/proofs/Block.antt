@@ -1,5 +1,6 @@
--- An interior cell is an edge cell or has a lower neighbour exactly if a cell around it has no data
--- or is lower. Data cells of the grid's first or last row or column are edge cells.
+-- A data cell with eight places of the grid around it is an interior cell. It is an edge cell or
+-- has a lower neighbour exactly if one of those places is NODATA or lower. Data cells of the grid's
+-- first or last row or column are edge cells.
 use Rattle.std.proofs.Common.{◌≡◌, ◌≢◌, ℕ, ◌+◌, ◌<◌, ◌≤◌, ◌<ℤ◌, inl, inr, List, get_or, Bool, true, false, Option, None, Some, is_some, ℤ, sym, ap, subst, refl, ◌∙◌, arith}
 use Rattle.std.specs.Bool.{MatchBool}
 use Rattle.std.proofs.lemmas.Int.{ints}
@@ -44,7 +45,8 @@ drains_from t p q level (Some h) is touch there lower =
 module _ (t : Terrain) (p : Place) (level : ℤ) (cells : List (Option ℤ)) (at : List ℕ)
     (cells_are : cells ≡ t.cells) (at_is : at ≡ around_index t.cols (index_of t.cols p))
     (inside : IsInside t p) (interior : IsOutermost t p → ⊥) (is : height_at t p ≡ Some level) where
-  -- an interior cell with NODATA or a lower cell around it is an edge cell or has a lower neighbour
+  -- if one of the eight places around an interior cell is NODATA or lower, the cell is an edge cell
+  -- or has a lower neighbour
   pub around_drains : (way : ℕ) × (way < 8)
       × IsGapOrLower level (get_or cells (get_or at way 0) None) → IsEdgeOrHasLower t p
   around_drains (way, below, found) =
@@ -61,8 +63,8 @@ module _ (t : Terrain) (p : Place) (level : ℤ) (cells : List (Option ℤ)) (at
   gap_at None e = tt
   gap_at (Some h) e = absurd (false≢true (sym e))
 
-  -- an interior cell without NODATA or a lower cell around it is no edge cell and has no lower
-  -- neighbour
+  -- if none of the eight places around an interior cell is NODATA or lower, the cell is no edge
+  -- cell and has no lower neighbour
   module _ (none : (way : ℕ) → way < 8 → IsGapOrLower level (get_or cells (get_or at way 0) None) →
       ⊥) where
     kept : (q : Place) → Touches p q → p ≢ q → IsGapOrLower level (height_at t q) → ⊥

@@ -1,5 +1,5 @@
--- Along directions the pair of filled height and steps falls, so `IsDraining` holds for a map of
--- directions.
+-- In a map of directions exactly the data cells have steps and codes. Each code but 0 leads to a
+-- data cell that is lower, or as high with fewer steps (`IsDraining`).
 use Rattle.std.proofs.Common.{◌≡◌, ℕ, ◌<◌, inl, inr, List, [], Option, None, Some, MatchOption, is_some, ℤ, sym, ap, subst, ◌∙◌}
 use Rattle.std.proofs.lemmas.Bool.{cases_lt}
 use Rattle.std.proofs.lemmas.Option.{MatchOption-at_some, MatchOption-at_none, same_Some, none-some}

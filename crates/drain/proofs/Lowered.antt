@@ -1,6 +1,6 @@
--- The search of a later round in its tile: counts and changes still agree after an entry is applied
--- and after a change spreads. An entry is a lower count that follows from a neighbour in another
--- tile.
+-- The search of a later round in its tile. Also after an entry is applied or a change spreads, each
+-- count that differs from the round's input is that of a listed change. An entry is a lower count
+-- that follows from a neighbour in another tile.
 use Rattle.std.proofs.Common.{◌≡◌, ◌≢◌, ℕ, zero, suc, ◌+◌, ◌*◌, ◌^◌, ◌<◌, ◌≤◌, ◌⊎◌, inl, inr, List, [], ◌∷◌, ◌++◌, length, Vec, Global, Option, Some, None, unwrap_or, IfSome, sym, ap, subst, refl, ◌∙◌, arith}
 use Rattle.std.specs.Prelude.{slice_get}
 use Rattle.std.proofs.lemmas.Bool.{cases_eq, cases_lt}
@@ -77,7 +77,8 @@ module _ (t : Terrain) (c : Cutting) (tile : ℕ) (steps : List (Option ℕ)) wh
     least = omega (arith, is.least, low (index_of c.cols x.place));
   }
 
-  -- `IsReported` still holds for a place if its count and the old changes are unchanged
+  -- a place stays listed with its current count (`IsReported`), if that count and the old changes
+  -- are unchanged
   reported_still : (old new : Lowered) (from : ℕ) (p : Place) → ((k : ℕ) → k
       < length old.changes.items → slice_get new.changes.items k ≡ slice_get old.changes.items k) →
       counts_in c tile steps new (index_of c.cols p) ≡ counts_in c tile steps old
@@ -122,7 +123,8 @@ module _ (t : Terrain) (c : Cutting) (tile : ℕ) (steps : List (Option ℕ)) wh
         left = f.left;
       }
 
-  -- `IsLoweredTo` for `First` and then for `Next` gives `IsLoweredTo` for the places of both
+  -- a search that lowers the counts in `First`, and then those in `Next`, to at most `bound` has so
+  -- lowered those of both (`IsLoweredTo`)
   pub reached_then : (First Next Done : Place → Type 0) (bound : ℕ) (old mid new : Lowered) →
       ((p : Place) → Done p → First p ⊎ Next p) →
       IsLoweredTo t c tile steps First bound old mid →
@@ -152,7 +154,8 @@ module _ (t : Terrain) (c : Cutting) (tile : ℕ) (steps : List (Option ℕ)) wh
     left = omega (arith, f.left, g.left);
   }
 
-  -- `IsLoweredTo` holds after a change is appended and its cell has the count of the change
+  -- if change x is appended and its cell gets its lower count, the search has lowered that cell to
+  -- `x.count` (`IsLoweredTo`)
   pub reached_put : (old new : Lowered) (x : Change) →
       IsInTile c tile x.place → IsWalked (HasCountZero t steps) t x.place x.count →
       x.count < counts_in c tile steps old (index_of c.cols x.place) →
@@ -243,7 +246,8 @@ module _ (t : Terrain) (c : Cutting) (tile : ℕ) (steps : List (Option ℕ)) wh
     ];
   }
 
-  -- `IsRelaxedButReported` still holds after an entry is applied
+  -- after an entry is applied, still only cells that wait from `done` on can lower neighbours in
+  -- the tile (`IsRelaxedButReported`)
   pub even_enter : (Done : Place → Type 0) (bound : ℕ) (old new : Lowered) (done : ℕ) →
       done ≤ length old.changes.items → IsRelaxedButReported t c tile steps old done →
       IsLoweredTo t c tile steps Done bound old new →
@@ -258,7 +262,8 @@ module _ (t : Terrain) (c : Cutting) (tile : ℕ) (steps : List (Option ℕ)) wh
     ];
   }
 
-  -- `IsRelaxedButReported` holds from `done + 1` on after the change at index `done` has spread
+  -- after the change at index `done` has spread, only cells that wait from `done + 1` on can lower
+  -- neighbours in the tile (`IsRelaxedButReported`)
   pub even_spread : (old new : Lowered) (done : ℕ) (from : Change) →
       slice_get old.changes.items done ≡ Some from → IsRelaxedButReported t c tile steps old done →
       IsLoweredTo t c tile steps (λ p. IsInTile c tile p
@@ -317,7 +322,7 @@ pub low_own : (c : Cutting) (tile : ℕ) (steps : List (Option ℕ)) (l : Lowere
 low_own c tile steps l p own low =
     subst (λ (i : ℕ). (k : ℕ) → counts_in c i steps l k ≤ count_of steps k) (sym own) low
 
--- `MaySpread` holds for each change of a search
+-- a search may spread from each of its changes (`MaySpread`)
 pub ready_at : (t : Terrain) (c : Cutting) (tile : ℕ) (steps : List (Option ℕ)) (b : Bounds)
     (l : Lowered) (x : Change) → AreCounting t steps → b ≡ bounds_of c tile → length l.rows.items
     ≡ b.rows → IsLowered t c tile steps (counts_in c tile steps l) l.changes.items →
@@ -332,7 +337,7 @@ ready_at t c tile steps b l x counting bounds rows lowered among =
       low = low_own c tile steps l x.place change.inside.1 lowered.low;
     }
 
--- `MaySpread` still holds for a change after a further search
+-- a search that may spread from change x still may after it has lowered more counts (`MaySpread`)
 pub ready_still : (t : Terrain) (c : Cutting) (steps : List (Option ℕ)) (b : Bounds) (Done : Place →
     Type 0) (bound : ℕ) (old new : Lowered) (x : Change) → MaySpread t c steps b old x →
     IsLoweredTo t c (tile_of_place c x.place) steps Done bound old new → MaySpread t c steps b new x

@@ -158,8 +158,9 @@ reached_all f each = record {
   left = f.left;
 }
 
--- if `IsNear` holds for each spot of the tile and the list has all whose counts changed,
--- `IsRelaxedBut` holds for the list
+-- In the tile each new count is at most one above the old counts of adjacent spots of equal height
+-- (`IsNear`). If the list has each spot whose count changed, only listed spots can lower others of
+-- the tile (`IsRelaxedBut`).
 pub even_begin :
     (b : Bounds) (levels : List (Option ℤ)) (old counts : List ℕ) (reached : List Place) →
     ((s : Place) → IsInner b s → IsNear b levels old counts s) → AreNoted b old counts [] reached →
@@ -172,7 +173,8 @@ even_begin b levels old counts reached near noted = record {
   ];
 }
 
--- `IsRelaxedBut` holds from `done + 1` on after the search has spread from the spot at index `done`
+-- after the search has spread from the spot at index `done`, only spots from `done + 1` on can
+-- lower others of the tile (`IsRelaxedBut`)
 pub even_spread : {b : Bounds} {levels : List (Option ℤ)} {counts new : List ℕ} {waiting after :
     List Place} {done : ℕ} {spot : Place} → IsRelaxedBut b levels counts waiting done →
     slice_get waiting done ≡ Some spot → IsReached b levels spot

@@ -62,8 +62,8 @@ are_walked_to A B t sinks steps to walked p =
     walked_to A B t sinks to p n (MatchOption-at_some _ _ n e (walked p)))
 
 -- Counts are the steps of a filled terrain under three conditions. Cells that drain at once have 0,
--- and known counts are lengths of flat walks. `IsAtMostOneAbove` holds for neighbours of equal
--- height.
+-- and known counts are lengths of flat walks. Each count is at most one above the known counts of
+-- neighbours of equal height (`IsAtMostOneAbove`).
 module _ (t : Terrain) (steps : List (Option ℕ)) (zeros : HasZeros t steps)
     (all_walked : AreWalked (DrainsAtOnce t) t steps)
     (near : (p q : Place) → IsNeighbour t p q → height_at t q ≡ height_at t p →
@@ -131,7 +131,8 @@ begun_walked Ends t counts begun to p =
     let at = (begun.each p (inside_from_entry t.cols t.rows counts p n e)).only n e in
     (omega (arith, at.1), [], to p at.0, sym at.1))
 
--- `AreCounting` holds for the initial counts, also without the sinks
+-- each known initial count is the length of a walk at one height to a cell of count 0
+-- (`AreCounting`), also without sinks
 pub begun_counting : (t : Terrain) (counts : List (Option ℕ)) → AreInitialCounts t counts →
     AreCounting (with_sinks t []) counts
 begun_counting t counts begun = record {
@@ -140,7 +141,8 @@ begun_counting t counts begun = record {
       input) (begun_walked (HasCountZero t counts) t counts begun (begun_zeros t counts begun));
 }
 
--- `IsRound` for walks to A gives `IsRound` for walks to B, if A implies B, with any sinks
+-- counts of a round for walks to places of A are those for walks to places of B, if A implies B,
+-- with any sinks
 pub round_to : (A B : Place → Type 0) (t : Terrain) (sinks : List Place) (c : Cutting) (tile : ℕ)
     (old new : List (Option ℕ)) → ((p : Place) → A p → B p) →
     IsRound A t c tile old new → IsRound B (with_sinks t sinks) c tile old new

@@ -1,5 +1,5 @@
--- Each round keeps `IsRounding` and the cells of count 0. The counts are final if no entry is left,
--- that is, no lower count that follows from another tile.
+-- Each round leads to a state between rounds (`IsRounding`) with the same cells of count 0. The
+-- counts are final if no entry is left, that is, no lower count that follows from another tile.
 use Rattle.std.proofs.Common.{◌≡◌, ◌≢◌, ℕ, ◌+◌, ◌-◌, ◌*◌, ◌^◌, ◌<◌, ◌≤◌, inl, inr, List, length, get_or, Option, Some, None, Vec, Global, IfSome, unwrap_or, ℤ, [], sym, ap, subst, refl, ◌∙◌, arith}
 use Rattle.std.specs.Prelude.{slice_get}
 use Rattle.std.proofs.lemmas.Bool.{cases_eq, cases_lt}
@@ -153,7 +153,8 @@ module _ (r : Rounding) (outs : List (Vec Change Global)) (answered : AreRoundRe
       record { tile = 0; change = record { place = record { row = 0; col = 0 }; count = 0 } } in
       entry_given 0 (get_or r.entries 0 none) rounding (slice_get-get_or r.entries 0 none some)
 
--- after a round, no known count has risen, and `IsRelaxedInside` holds for each tile
+-- After a round no known count has risen. Inside each tile no count is more than one above that of
+-- a neighbour of equal height.
 module _ (r : Rounding) (outs : List (Vec Change Global)) (new : List (Option ℕ))
     (rounding : IsRounding r) (answered : AreRoundResults r outs)
     (put : ArePut r.cutting.cols r.steps new (IsGiven outs)) where
@@ -307,7 +308,8 @@ module _ (r : Rounding) (outs : List (Vec Change Global)) (new : List (Option �
 few_none : (n k : ℕ) → n ≤ k → k < n → ⊥
 few_none n k le less = omega arith
 
--- after the first round, no known count has risen, and `IsRelaxedInside` holds for each tile
+-- After the first round no known count has risen. Inside each tile no count is more than one above
+-- that of a neighbour of equal height.
 module _ (c : Cutting) (levels : List (Option ℤ)) (old : List (Option ℕ))
     (lists : List (Vec (Option ℕ) Global)) (count : length lists ≡ tile_count c)
     (given : (j : ℕ) (d : Vec (Option ℕ) Global) → j < tile_count c →
@@ -388,7 +390,7 @@ next_none r rounding = record {
   low = omega arith;
 }
 
--- two rounds that each keep the cells of count 0 keep them together
+-- if each of two rounds keeps the cells of count 0, the first state and the last have the same ones
 zeros_on : (first second : Rounding) (third : List (Option ℕ)) → second.cutting ≡ first.cutting →
     second.levels ≡ first.levels → HaveSameZeros (levels_of first) first.steps second.steps →
     HaveSameZeros (levels_of second) second.steps third →
@@ -411,7 +413,8 @@ next_then first second third one next = record {
   low = (let a = one.low in let b = next.low in omega (arith, a, b));
 }
 
--- `IsRounding` holds after the first round, with the entries of all cells, sorted by tile
+-- after the first round, the entries from all cells, sorted by tile, make a state between rounds
+-- (`IsRounding`)
 pub first_rounding : (r : Rounding) (noted : List Entry) → IsCutting r.cutting →
     length r.levels ≡ r.cutting.cols * r.cutting.rows → AreCounting (levels_of r) r.steps →
     ((tile : ℕ) → IsRelaxedInside (levels_of r) r.cutting tile (count_of r.steps)) →

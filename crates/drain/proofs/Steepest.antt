@@ -30,7 +30,7 @@ pub drop_fits : (z : ℤ) → pos 0 ≤ℤ z → z <ℤ pos 9223372036854775808 
 drop_fits (pos n) low high = record { sfits = omega (arith, ints) }
 drop_fits (negsuc n) low high = absurd (omega (arith, ints))
 
--- a height that is not lower has no greater drop
+-- if h is not below `low`, the drop to h is no greater than that to `low`
 no_greater_drop : (level low h : ℤ) → low ≤ℤ h → drop_by level (Some h) ≤ drop_by level (Some low)
 no_greater_drop level low h le = elim (part_of (level -ℤ h)) [
   | inl is ↦
@@ -143,8 +143,8 @@ module _ (level : ℤ) (heights : List (Option ℤ)) (parity : ℕ) (lowest : �
       ]
 
 -- The first `turn` ways of a parity were looked at, and the first `turns` lie above `lowest`. If
--- `is_past`, these are all that were looked at. If not, the way after these does not lie above
--- `lowest`.
+-- `is_past`, these are all that were looked at. If not, the height on the parity's next way is
+-- not above `lowest`.
 pub record ArePast (level : ℤ) (heights : List (Option ℤ)) (parity : ℕ) (lowest : ℤ)
     (turns turn : ℕ) (is_past : Bool) : Type 0 where
   pub past : (other : ℕ) → other < turns → lowest <ℤ height_on level heights parity other

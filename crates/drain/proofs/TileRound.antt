@@ -171,7 +171,7 @@ spot_inner b p i = (
   (omega (arith, i.0), omega (arith, i.2)),
 )
 
--- a place beside one of the tile has a spot
+-- a place that touches a place of the tile has a spot in the window
 spot_beside : (b : Bounds) (p q s : Place) → IsInner b s → Shows b s p → Touches p q →
     (r : Place) × IsSpot b r × Shows b r q × Touches s r
 spot_beside b p q s i f t = (

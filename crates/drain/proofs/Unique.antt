@@ -1,4 +1,5 @@
--- Each data cell of a filled terrain has one direction; a terrain has at most one list of them.
+-- Each data cell of a filled terrain has one direction; a terrain has at most one list of
+-- directions.
 use Rattle.std.proofs.Common.{◌≡◌, ℕ, ◌+◌, ◌*◌, ◌/◌, ◌%◌, ◌<◌, ◌≤◌, inl, inr, List, length, get_or, Option, None, Some, sym, ap, subst, ◌∙◌, arith, map, is_some, MatchOption, ℤ, refl}
 use Rattle.std.proofs.lemmas.Bool.{cases_eq}
 use Rattle.std.proofs.lemmas.Option.{MatchOption-at_none, MatchOption-at_some}

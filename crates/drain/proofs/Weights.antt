@@ -1,5 +1,5 @@
--- The weight of the drop on each of the eight ways from a cell. If none is above 0, no way leads
--- down; else the first way of the greatest weight gives the direction.
+-- Each of the eight ways from a cell has the weight of its drop. If no weight is above 0, no way
+-- leads down; else the first way of the greatest weight gives the direction.
 use Rattle.std.proofs.Common.{◌≡◌, ℕ, ◌+◌, ◌*◌, ◌<◌, ◌≤◌, ◌%◌, max, true, false, eqb, ltb, length, get_or, fold, Option, None, Some, ℤ, sym, ap, ◌∙◌, subst, arith, ◌⊎◌, inl, inr}
 use Rattle.std.proofs.Math.Nat.{mul-le-mul_right}
 use Rattle.std.proofs.lemmas.Bool.{false≢true, cases_Bool, cond-true, cond-false, le-ltb, lt-ltb, cases_eq}
@@ -62,7 +62,8 @@ no_way_down a h =
     let none : drop_to a.level (get_or a.ways k None) ≡ 0 = drop_from_weight k _ own in
     le-ltb _ _ (omega arith))
 
--- if `IsFitting` holds, no way leads down and the cell is no end cell, `leads_on` holds on some way
+-- if surroundings fit (`IsFitting`), no way leads down and the cell is no end cell, some neighbour
+-- has its height and one step fewer
 pub drains_onward : (a : Around) → IsFitting a → fold max 0 (weights a) ≤ 0 → a.edge ≡ false →
     list_any (leads_on a) a.ways ≡ true
 drains_onward a f low inside = go a low inside f.drains

@@ -1,5 +1,6 @@
--- An entry lowers a cell's count, the fewest moves found so far, to 1 plus the count of a neighbour
--- in another tile. A run is the range of the entries, sorted by tile, that are for one tile.
+-- An entry lowers a cell's count to 1 plus the count of a neighbour in another tile. A count is the
+-- fewest moves found so far from a cell to one that drains at once, or unknown. A run is the range
+-- of the entries, sorted by tile, that are for one tile.
 -- Private.
 use Rattle.std.specs.Prelude.{◌≡◌, ℕ, ◌+◌, ◌<◌, ◌≤◌, ◌⊎◌, ℤ, List, [], length, Option, Some, slice_get}
 use Rattle.terrain.specs.Raster.{Terrain}
@@ -39,8 +40,9 @@ IsRelaxedOrEntered c steps entries p q =
     ⊎ ((e : Entry) × IsAmong entries e × (e.change.place ≡ p)
     × (e.change.count ≤ count_of steps (index_of c.cols q) + 1))
 
--- The list `new` has all elements of `old`. If these are entries, so are all elements of `new`.
--- `IsRelaxedOrEntered` holds with `new` for each pair in `Done` of neighbours of one height.
+-- The list `new` has all elements of `old`. If those of `old` are entries, so are all of `new`. For
+-- each pair (p, q) in `Done` of equally high neighbours, p's count or an entry's for p is at most
+-- one above q's.
 pub record AreEntered (t : Terrain) (c : Cutting) (steps : List (Option ℕ))
     (Done : Place → Place → Type 0) (old new : List Entry) : Type 0 where
   pub kept : (e : Entry) → IsAmong old e → IsAmong new e

@@ -1,7 +1,7 @@
--- The steepest way down, by the eight heights around a cell; also the surroundings of an interior
--- cell, read from lists by index. Surroundings are heights and steps of a cell and its neighbours.
--- An interior cell has eight places of the grid around it. Ways are the eight directions, from 0 to
--- 7 in code order.
+-- Which way down is the steepest, by the eight heights around a cell, and how lists read by index
+-- give an interior cell's surroundings. Surroundings are heights and steps of a cell and its
+-- neighbours. An interior cell has eight places of the grid around it. Ways are the eight
+-- directions, from 0 to 7 in code order.
 -- Private.
 use Rattle.std.specs.Prelude.{◌≡◌, ℕ, ◌+◌, ◌%◌, ◌<◌, ◌≤◌, ◌*◌, ◌⊎◌, ◌==◌, max, ℤ, ◌-ℤ◌, ◌≤ℤ◌, List, length, fold, Option, None, Some, option_map, unwrap_or, position, slice_index_or}
 use Rattle.std.specs.Option.{option_zip}
@@ -20,11 +20,11 @@ pub record HasHeights (a : Around) (level : ℤ) (heights : List (Option ℤ)) :
   pub each : (way : ℕ) → way < 8 →
       slice_index_or heights way None ≡ option_map (λ w. w.0) (slice_index_or a.ways way None)
 
--- The drop from height `level` to the height on `way`; 0 if there is none or it is not lower.
+-- The drop from height `level` to the height on `way`; 0 if the way has no height or no lower one.
 abbrev pub drop_on : ℤ → List (Option ℤ) → ℕ → ℕ
 drop_on level heights way = drop_by level (slice_index_or heights way None)
 
--- The height on way `2 * turn + parity`, or `level` if there is none. Even ways lead along a row
+-- The height on way `2 * turn + parity`, or `level` if the way has none. Even ways lead along a row
 -- or column, odd ones across a diagonal.
 abbrev pub height_on : ℤ → List (Option ℤ) → ℕ → ℕ → ℤ
 height_on level heights parity turn =
@@ -39,8 +39,8 @@ pub record IsLowestBefore (level : ℤ) (heights : List (Option ℤ)) (parity en
   pub one : (lowest ≡ level)
       ⊎ ((turn : ℕ) × (turn < end) × (height_on level heights parity turn ≡ lowest))
 
--- `drop` is the greatest drop on the even ways (`parity` 0) or odd ways (1) below `end`; 0 if none
--- leads down. If `drop` is above 0, `way` is the first of these ways with this drop.
+-- `drop` is the greatest drop on the even ways (`parity` 0) or odd ways (1) below `end`; 0 if no
+-- such way leads down. If `drop` is above 0, `way` is the first of these ways with this drop.
 pub record IsGreatestFall (level : ℤ) (heights : List (Option ℤ))
     (parity end drop way : ℕ) : Type 0 where
   pub bound : (other : ℕ) → other < end → other % 2 ≡ parity → drop_on level heights other ≤ drop

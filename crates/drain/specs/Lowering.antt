@@ -70,8 +70,8 @@ pub record IsChange (t : Terrain) (c : Cutting) (tile : ℕ) (steps : List (Opti
   pub less : x.count < count_of steps (index_of c.cols x.place)
   pub least : counts (index_of c.cols x.place) ≤ x.count
 
--- A search may spread from change x inside b, the bounds of the tile of x. No current count is
--- above that of the input.
+-- A search in a tile of bounds b may spread from x, one of the search's changes. No current count
+-- is above that of the input `steps`.
 pub record MaySpread (t : Terrain) (c : Cutting) (steps : List (Option ℕ)) (b : Bounds)
     (l : Lowered) (x : Change) : Type 0 where
   pub counting : AreCounting t steps
@@ -124,7 +124,8 @@ pub record IsEntered (c : Cutting) (entries : List Entry) (from end : ℕ)
       counts (index_of c.cols e.change.place) ≤ e.change.count
 
 -- The changes are the result of a tile's job: they apply the entries at indexes `from..end`.
--- `IsRelaxedInside` holds for the counts after these changes.
+-- With the changes, no count inside the tile is more than one above that of a neighbour of equal
+-- height.
 pub record IsTileResult (t : Terrain) (c : Cutting) (tile : ℕ) (steps : List (Option ℕ))
     (entries : List Entry) (from end : ℕ) (changes : List Change) : Type 0 where
   pub counts : ℕ → ℕ

@@ -1,6 +1,6 @@
--- Rounds of counting steps after the first: a job for each tile, the lower counts (changes) that
--- jobs return, and the state after a round. A state has entries: lower counts that follow from
--- neighbours in other tiles.
+-- Rounds of counting steps after the first: the job of each tile returns changes, the lower counts
+-- of the tile's cells. The state between rounds has the entries of the next round. These are lower
+-- counts that follow from neighbours in other tiles.
 -- Private.
 use Rattle.std.specs.Prelude.{◌≡◌, ◌≢◌, ℕ, ◌*◌, ◌<◌, ◌≤◌, ◌⊎◌, ℤ, List, length, Option, None, Some, Vec, slice_get, slice_index_or}
 use Rattle.std.specs.declared.alloc.Global.{Global}
@@ -38,8 +38,9 @@ rounding_of c = record {
 abbrev pub levels_of : Rounding → Terrain
 levels_of r = sinkless_terrain r.cutting r.levels
 
--- `IsRelaxedInside` holds for each tile. The entries are sorted by tile. If a neighbour in another
--- tile can lower a count, some entry lowers that count at least as far.
+-- Inside each tile no count is more than one above that of a neighbour of equal height
+-- (`IsRelaxedInside`). If a count is more than one above that of such a neighbour in another tile,
+-- some entry lowers it to at most one above. The entries are sorted by tile.
 pub record IsRounding (r : Rounding) : Type 0 where
   pub cutting : IsCutting r.cutting
   pub size : length r.levels ≡ r.cutting.cols * r.cutting.rows
@@ -51,17 +52,20 @@ pub record IsRounding (r : Rounding) : Type 0 where
       tile_of_place r.cutting p ≢ tile_of_place r.cutting q →
       IsRelaxedOrEntered r.cutting r.steps r.entries p q
 
--- The jobs of a round: job k applies the entries of run k, which may be empty, to tile k.
+-- The jobs of a round. Job k applies to tile k the entries of run k: the range, perhaps empty, of
+-- the sorted entries that are for tile k.
 pub record Jobs : Type 0 where
   pub rounding : Rounding
   pub runs : List Run
 
--- `IsRounding` holds for the state, and the runs are those of its entries.
+-- The state is one between rounds (`IsRounding`). Each tile has one run of the state's entries, and
+-- each entry is in a run.
 pub record AreJobs (j : Jobs) : Type 0 where
   pub rounding : IsRounding j.rounding
   pub runs : AreRuns j.rounding.entries (tile_count j.rounding.cutting) j.runs
 
--- The changes are a result for the tile of the run.
+-- The changes are a result of the run: they apply its entries to its tile. With them, no count
+-- inside the tile is more than one above that of a neighbour of equal height.
 abbrev pub IsRunResult : Rounding → Run → List Change → Type 0
 IsRunResult r run changes =
     IsTileResult (levels_of r) r.cutting run.tile r.steps r.entries run.from run.end changes
@@ -101,8 +105,8 @@ pub record ArePut (cols : ℕ) (old new : List (Option ℕ)) (Given : Change →
 abbrev pub count_sum : Rounding → ℕ
 count_sum r = total (r.cutting.cols * r.cutting.rows) (count_of r.steps)
 
--- A later state for which `IsRounding` holds. Cutting, heights and cells of count 0 are those of
--- `old`, and the sum of counts is no greater.
+-- `new` is a later state between rounds (`IsRounding`). Cutting, heights and cells of count 0 are
+-- those of `old`, and the sum of counts is no greater.
 pub record IsNext (old new : Rounding) : Type 0 where
   pub rounding : IsRounding new
   pub same_cutting : new.cutting ≡ old.cutting

@@ -38,10 +38,12 @@ pub record IsRound (Ends : Place → Type 0) (t : Terrain) (c : Cutting) (tile :
   pub size : length new ≡ cell_count c tile
   pub walked : (p : Place) → IsInTile c tile p →
       IfSome (tile_entry c tile new p) (IsWalked Ends t p)
-  -- `IsAtMostOneAbove` holds for a new count and each old one of a neighbour of equal height
+  -- `IsAtMostOneAbove`: each new count is at most one above the known old counts of neighbours of
+  -- equal height
   pub near : (p q : Place) → IsInTile c tile p → IsNeighbour t p q → height_at t q ≡ height_at t p →
       IsAtMostOneAbove (tile_entry c tile new p) (entry_at t.cols t.rows old q)
-  -- `IsAtMostOneAbove` holds for two new counts of neighbours of equal height inside the tile
+  -- `IsAtMostOneAbove`: inside the tile each new count is at most one above the known new counts of
+  -- neighbours of equal height
   pub within : (p q : Place) → IsInTile c tile p → IsInTile c tile q → IsNeighbour t p q →
       height_at t q ≡ height_at t p →
       IsAtMostOneAbove (tile_entry c tile new p) (tile_entry c tile new q)
@@ -49,8 +51,8 @@ pub record IsRound (Ends : Place → Type 0) (t : Terrain) (c : Cutting) (tile :
   pub kept : (p : Place) (m : ℕ) → IsInTile c tile p → entry_at t.cols t.rows old p ≡ Some m →
       (n : ℕ) × (tile_entry c tile new p ≡ Some n) × (n ≤ m)
 
--- A round would change no count of the tile. `IsAtMostOneAbove` holds for the count of each cell of
--- the tile and that of each neighbour of equal height.
+-- A round would change no count of the tile: each is at most one above the known counts of
+-- neighbours of equal height (`IsAtMostOneAbove`).
 pub record IsTileStill (t : Terrain) (c : Cutting) (tile : ℕ)
     (steps : List (Option ℕ)) : Type 0 where
   pub near : (p q : Place) → IsInTile c tile p → IsNeighbour t p q → height_at t q ≡ height_at t p →
@@ -61,8 +63,8 @@ pub record AreCounting (t : Terrain) (steps : List (Option ℕ)) : Type 0 where
   pub size : length steps ≡ t.cols * t.rows
   pub walked : AreWalked (HasCountZero t steps) t steps
 
--- The final counts: no round would change them, and `AreCounting` holds. They are 0 at the same
--- data cells as `input`.
+-- The final counts: no round would change them. They are 0 at the same data cells as `input`. Each
+-- known count is the length of a walk at one height to such a cell.
 pub record AreFinal (c : Cutting) (t : Terrain) (input steps : List (Option ℕ)) : Type 0 where
   pub cutting : IsCutting c
   pub counting : AreCounting t steps

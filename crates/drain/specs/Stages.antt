@@ -1,4 +1,5 @@
--- The input of the jobs that find the codes of directions: a terrain, its steps and a cutting.
+-- The input of the jobs that find the codes of directions: a terrain, its steps and a cutting
+-- of its grid into tiles.
 -- Private.
 use Rattle.std.specs.Prelude.{ℕ, List, Option}
 use Rattle.terrain.specs.Raster.{Terrain, IsTerrain}

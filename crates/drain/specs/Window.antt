@@ -1,6 +1,6 @@
 -- Counts in the window of a tile, and how a search lowers them. The window is the tile with one row
--- and one column more on each side. A spot is a place in the window, counted from the row and the
--- column before the tile's first. A count is the fewest moves found so far from a cell to one that
+-- and one column more on each side. A spot is a place in the window, whose row 0 and column 0
+-- lie before the tile's first. A count is the fewest moves found so far from a cell to one that
 -- drains at once, or unknown.
 -- Private.
 use Rattle.std.specs.Prelude.{◌≡◌, ◌≢◌, ℕ, ◌+◌, ◌*◌, ◌<◌, ◌≤◌, ◌⊎◌, ℤ, List, All, map, sum, length, Option, None, Some, slice_get, slice_index_or, slice_set, unwrap_or}
@@ -37,7 +37,7 @@ Shows b s p = (b.top + s.row ≡ p.row + 1) × (b.left + s.col ≡ p.col + 1)
 abbrev pub IsOff : Bounds → Place → Type 0
 IsOff b s = (b.top + s.row ≡ 0) ⊎ (b.left + s.col ≡ 0)
 
--- The value x at spot s: that of the list `entries` at the place that s shows, or `none` off the
+-- x is the value at spot s: that of the list `entries` at the place that s shows, or `none` off the
 -- grid.
 abbrev pub IsShown : {X : Type 0} → ℕ → ℕ → List X → X → Bounds → Place → X → Type 0
 IsShown cols rows entries none b s x =
@@ -122,7 +122,8 @@ pub record IsRelaxed (b : Bounds) (levels : List (Option ℤ)) (counts : List �
       level_on b levels r ≡ level_on b levels s →
       count_on b counts r ≤ count_on b counts s + 1
 
--- The list has the value of each spot, in row order.
+-- The list `shown` has for each spot, in row order, the value of `entries` at the place that it
+-- shows, or `none` off the grid.
 abbrev pub AreShown : {X : Type 0} → ℕ → ℕ → List X → X → Bounds → List X → Type 0
 AreShown cols rows entries none b shown = (s : Place) → IsSpot b s →
     IsShown cols rows entries none b s (slice_index_or shown (spot_index b s) none)
@@ -134,7 +135,8 @@ pub record AreMadeSpots {X : Type 0} (Has : Place → X → Type 0) (b : Bounds)
   pub each : (s : Place) → IsSpot b s → spot_index b s < end →
       Has s (slice_index_or list (spot_index b s) lack)
 
--- The list has the value of each spot before index `end`, and no more.
+-- The list `shown` has, in row order, the values of the spots of index below `end`, and no more.
+-- The value of a spot is that of `entries` at the place that it shows, or `none` off the grid.
 abbrev pub AreShownBelow : {X : Type 0} → ℕ → ℕ → List X → X → Bounds → ℕ → List X → Type 0
 AreShownBelow cols rows entries none b end shown =
     AreMadeSpots (IsShown cols rows entries none b) b end none shown
@@ -143,12 +145,13 @@ AreShownBelow cols rows entries none b end shown =
 abbrev pub known_counts : List (Option ℕ) → List ℕ
 known_counts shown = map (λ o. unwrap_or o no_count) shown
 
--- The count x of the spot that shows p, or `None` if that count is not known.
+-- x is the count of the spot that shows p, or `None` if that count is not known.
 abbrev pub IsCopied : Bounds → List ℕ → Place → Option ℕ → Type 0
 IsCopied b counts p x = (s : Place) → Shows b s p → x ≡ known (count_on b counts s)
 
--- A search has ended: relaxations lead from the old counts to the new. `IsNear` holds for each spot
--- of the tile, and no relaxation is left inside the tile.
+-- A search has ended: relaxations lead from the old counts to the new. In the tile each new count
+-- is at most one above the old counts of adjacent spots of equal height (`IsNear`). No relaxation
+-- is left inside the tile.
 pub record IsSearched (b : Bounds) (levels : List (Option ℤ)) (old new : List ℕ) : Type 0 where
   pub spread : IsSpread b levels old new
   pub near : (s : Place) → IsInner b s → IsNear b levels old new s

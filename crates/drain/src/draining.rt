@@ -26,7 +26,8 @@ use tile_jobs::{Gate, JobFault};
 use tile_maps::Runner;
 use tiles::{TileView, Tiling};
 
-/// Returns the counts of a window's tile after one round from the counts `old`.
+/// Returns a tile's counts after one round, in row order.
+/// `window` has the tile and the places around it; `old` has a count for each of these.
 pub(crate) fn round(
     alloc: Global,
     window: &Window,

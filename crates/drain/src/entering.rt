@@ -162,7 +162,7 @@ impl<'a> RoundInput<'a> {
             && place.col + 1 < bounds.left + bounds.cols
     }
 
-    /// Appends entries for cells of other tiles whose counts these changes would lower.
+    /// Appends entries for cells of other tiles whose counts `changes` lower.
     /// A job's changes lie in one tile, and only those on its rim touch other tiles.
     pub(crate) fn note_changes(
         &self,

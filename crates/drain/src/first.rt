@@ -1,7 +1,7 @@
 //! The first round: a job for each tile counts steps inside that tile.
 //!
-//! `beginning` finds the cells that drain at once, in the tile and around it. `window` searches
-//! from them.
+//! Module `beginning` finds the cells that drain at once, in the tile and around it.
+//! `draining::round` searches from them, by module `window`.
 ghost use Rattle.std.specs.Prelude.{ℕ, List, Option, IfOk};
 ghost use Rattle.tile_jobs.specs.Fault.{RefusesWorkers};
 ghost use Rattle.tiles.specs.Cutting.{Cuts, IsCutting};

@@ -20,7 +20,8 @@ use terrain::Place;
 use tiles::Bounds;
 
 /// The counts that a search has lowered, and each change in order.
-/// For each row of the tile, `rows` has the counts from the first cell to the last lowered cell.
+/// For each row of the tile, `rows` has the counts from its west end to its easternmost lowered
+/// cell.
 #[derive(Drop)]
 struct Lowered {
     rows: Vec<Vec<u32>>,
@@ -60,8 +61,9 @@ fn empty_rows(alloc: Global, rows: u32) -> Result<Vec<Vec<u32>>, AllocError>
     Ok(list)
 }
 
-/// Sets the count at `col` of a row that begins at index `first` of the grid.
-/// Extends a shorter row up to `col` by the counts of `input`.
+/// Sets the count at index `col` of `row`, the counts kept for a row of the tile.
+/// A shorter `row` is first extended up to `col` by the counts of `input`. The tile's row begins at
+/// index `first` of the grid.
 fn put_in_row(
     input: &RoundInput<'_>,
     first: usize,
@@ -207,8 +209,8 @@ fn spread(
     Ok(())
 }
 
-/// Returns whether to apply `entry` before spreading from change `done`.
-/// `done` is the index of the next change to spread.
+/// Returns whether to apply `entry` before spreading from `changes[done]`.
+/// True if the entry's count is at most one above that change's, or if there is no such change.
 /// A run is sorted by count, so changes go from low counts to high, and no cell changes twice.
 #[inline(always)]
 fn is_entry_due(entry: Entry, changes: &[Change], done: usize) -> bool

@@ -94,7 +94,7 @@ impl<'a> Work for Round<'a> {
     }
 }
 
-/// Lowers the count of a cell of the grid to `change.count` if that is less.
+/// Lowers the count at `change.place` to `change.count` if that is less.
 #[inline(always)]
 fn put(tiling: &Tiling, steps: &mut [StepCount], change: Change)
     requires steps { length steps.old ≡ tiling.now.cols * tiling.now.rows }
@@ -147,7 +147,7 @@ fn entries_of_all(alloc: Global, input: &RoundInput<'_>) -> Result<Vec<Entry>, A
     Ok(entries)
 }
 
-/// Returns the entries into adjacent tiles, from the cells that a round changed.
+/// Returns the entries into adjacent tiles, from the cells of the changes `outs`.
 fn entries_of_changed(
     alloc: Global,
     input: &RoundInput<'_>,
@@ -344,7 +344,8 @@ impl<'a> Counting<'a> {
 }
 
 /// Returns the fewest entries worth a round of jobs, after `rounds` rounds of jobs.
-/// A winding flat takes thousands of rounds, each with an entry or two into a single tile.
+/// Fewer are left to the caller's thread: a winding flat takes thousands of rounds, each with an
+/// entry or two into a single tile.
 fn enough_entries(tiling: &Tiling, rounds: u32) -> usize {
     if rounds < FULL_ROUNDS {
         return 0;

@@ -185,8 +185,9 @@ fn onward(around: &Around) -> usize
 
 /// Returns the D8 direction of a cell by its surroundings.
 ///
-/// Water takes the steepest way down. Without one, an end cell is an outlet, and any other cell
-/// drains to a neighbour on the flat with one step fewer. Of equals the smallest code is taken.
+/// Water takes the steepest way down. If no way leads down, an end cell is an outlet. Any other
+/// cell then drains to a neighbour of equal height with one step fewer. Of equals the smallest code
+/// is taken.
 ///
 /// # Examples
 ///

@@ -79,9 +79,8 @@ fn lesser(window: &Window, counts: &[u32], spot: Place, level: Cell, bound: u32)
     }
 }
 
-/// Returns 1 plus the least count of `from` and the next two spots of its row.
-/// Returns at most `bound`.
-/// Spots of another height than `level` are left out.
+/// Returns 1 plus the least count among spots of height `level`, at most `bound`.
+/// The spots looked at are `from` and the next two of the row of `from`.
 #[inline(always)]
 #[tactic(auto, using(crate::proofs::Least::least_of_none))]
 fn least_of_three(window: &Window, counts: &[u32], from: Place, level: Cell, bound: u32) -> u32
@@ -99,7 +98,8 @@ fn least_of_three(window: &Window, counts: &[u32], from: Place, level: Cell, bou
     least
 }
 
-/// Returns 1 plus the least count around `spot` at its height, at most `bound`.
+/// Returns 1 plus the least count among spots around `spot`, at most `bound`.
+/// Spots of another height than `spot` are left out.
 #[inline(always)]
 fn least_around(window: &Window, counts: &[u32], spot: Place, bound: u32) -> u32
     requires size { length counts.now ≡ area_of window.now.bounds }
@@ -124,7 +124,7 @@ fn least_around(window: &Window, counts: &[u32], spot: Place, bound: u32) -> u32
 }
 
 /// Lowers the count of `to` to at most that of `from` plus 1, if equally high.
-/// Queues `to`, if `to` lies in the tile and its count falls.
+/// Appends `to` to `reached`, if `to` lies in the tile and its count falls.
 #[inline(always)]
 fn reach(
     window: &Window,
@@ -220,8 +220,9 @@ fn search(window: &Window, counts: &mut [u32], mut reached: Vec<Place>) -> Resul
     Ok(())
 }
 
-/// Lowers the count of `spot` to at most 1 plus each old count around at its height.
-/// Queues `spot`, if its count falls.
+/// Lowers the count of `spot` to at most 1 plus each old count around it.
+/// Spots of another height than `spot` are left out.
+/// Appends `spot` to `reached`, if its count falls.
 #[inline(always)]
 #[tactic(auto, using(crate::proofs::Spreading::pulled, crate::proofs::Spreading::spot_from_inner))]
 fn pull_at(

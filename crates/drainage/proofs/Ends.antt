@@ -1,4 +1,5 @@
--- In a map for which `IsDraining` holds, every flow path ends at an outlet.
+-- In a map for which `IsDraining` holds, every flow path ends at an outlet. There each code but 0
+-- leads to a lower cell, or to one as high with fewer steps.
 use Rattle.std.proofs.Common.{◌≡◌, ◌≢◌, ℕ, zero, suc, ◌+◌, ◌<◌, ◌≤◌, ◌<ℤ◌, true, ◌⊎◌, inl, inr, Option, None, Some, is_some, unwrap_or, pos, sym, ap, subst, refl, ◌∙◌, arith}
 use Rattle.std.proofs.lemmas.Int.{ints}
 use Rattle.std.proofs.lemmas.Bool.{cases_eq}
@@ -72,7 +73,7 @@ data_from : (d : Drained) → IsDraining d → (p : Place) → IsCoded d p → I
 unfolding IsCoded
 data_from d lawful p c = sym (lawful.same_data p) ∙ ap is_some c.1
 
--- a code other than 0 leads to a data cell for which `IsBelow` holds
+-- a code other than 0 leads to a data cell that is lower, or as high with fewer steps (`IsBelow`)
 next_is_below : (d : Drained) → IsDraining d → (p : Place) → IsCoded d p → (IsOutlet (directed_of d)
     p → ⊥) → IsDataCell d.terrain (next (directed_of d) p) × IsBelow d p (next (directed_of d) p)
 unfolding IsCoded
@@ -116,7 +117,8 @@ ends_by d p k (suc m) le out = elim (cases_eq k (suc m)) [
       ap (code_at (directed_of d)) (outlet_stays d (follow (directed_of d) p m) before) ∙ before)
 ]
 
--- up to its first outlet, `IsBelow` holds from each cell of a flow path to each later one
+-- up to its first outlet, each cell of a flow path is lower than each earlier one, or as high with
+-- fewer steps (`IsBelow`)
 below_along : (d : Drained) → IsDraining d → (p : Place) → IsCoded d p → (i j : ℕ) →
     i < j → ((k : ℕ) → k < j → IsOutlet (directed_of d) (follow (directed_of d) p k) → ⊥) →
     IsBelow d (follow (directed_of d) p i) (follow (directed_of d) p j)

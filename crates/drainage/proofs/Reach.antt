@@ -52,7 +52,7 @@ pub data_inside : (t : Terrain) (p : Place) → IsDataCell t p → (p.row < t.ro
 data_inside t p h =
     inside_from_entry t.cols t.rows t.cells p (height_of t p) (known (height_at t p) h)
 
--- a search of the field succeeds if a place that touches a data cell passes the test
+-- a search of `field` succeeds if a place that touches a data cell passes the test
 pub any_touching : (t : Terrain) (P : Place → Bool) (p q : Place) → IsDataCell t p → Touches p q →
     P q ≡ true → list_any P (field t) ≡ true
 any_touching t P p q h touch k =
@@ -225,7 +225,7 @@ reaches_end t c (suc k) p low e = and_from (is_low t c p) (is_end_cell t p
     || list_any (λ q. is_next t p q && reaches t c k q) (field t)) low
     (or_left (is_end_cell t p) (list_any (λ q. is_next t p q && reaches t c k q) (field t)) e)
 
--- each cell that reaches an end cell in at most k + 1 moves reaches one in at most k
+-- each cell that `reaches` an end cell in at most k + 1 moves does so in at most k
 abbrev pub IsStable : Terrain → ℤ → ℕ → Type 0
 IsStable t c k = (p : Place) → reaches t c (suc k) p ≡ true → reaches t c k p ≡ true
 

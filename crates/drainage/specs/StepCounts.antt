@@ -6,6 +6,6 @@ use Rattle.std.specs.Prelude.{ℕ, ◌^◌, Option, None, Some, nat_lt, if◌the
 abbrev pub no_count : ℕ
 no_count = 2 ^ 24
 
--- The steps that are stored as this number; `None` if they are unknown.
+-- The steps stored as number n; `None` (unknown) if n is `no_count` or more.
 abbrev pub known : ℕ → Option ℕ
 known n = if nat_lt n no_count then Some n else None

@@ -1,4 +1,4 @@
-//! A map of directions: the code of each cell.
+//! A map of directions: the code of each data cell of a grid.
 ghost use Rattle.std.specs.Prelude.{◌≡◌};
 ghost use Rattle.terrain.specs.Neighbours.{IsInside};
 ghost use Rattle.drainage.specs.Drained.{IsDraining, directed_of};

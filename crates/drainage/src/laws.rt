@@ -35,7 +35,8 @@ pub fn filled_twice_is_filled()
 {}
 
 /// In a map for which `IsDraining` holds, every flow path ends at an outlet.
-/// It ends within as many moves as the grid has cells.
+/// There each code but 0 leads to a lower cell, or to one as high with fewer steps. A flow path
+/// ends within as many moves as the grid has cells.
 #[tactic(auto, using(crate::proofs::Ends::falling_ends))]
 pub fn falling_ends()
     ensures { (d : Drained) → IsTerrain d.terrain → IsDraining d → AllFlowEnds (directed_of d) }

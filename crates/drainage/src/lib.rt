@@ -7,7 +7,7 @@
 //! Modules, callers first:
 //!
 //! - `filled_grid`: a grid of filled heights
-//! - `direction_map`: the code of each cell
+//! - `direction_map`: the code of each data cell
 //! - `code`: the code of a direction or an outlet
 //! - `step_count`: a cell's steps in its flat, or unknown
 //! - `laws`: laws of the definitions

@@ -119,7 +119,9 @@ left_out_still marks out p q now new kept j (inl spared) = inl spared
 left_out_still marks out p q now new kept j (inr covered) =
     inr (covered_still now new kept j covered)
 
--- The join of two cells at a corner is left out, if `IsLowBetween` holds of a cell between.
+-- Let cell q be in the row after that of p, in another column. If `out` leaves out bypassed joins,
+-- the join of p and q is left out if a cell between them is low. Low means: its level is at most
+-- the greater of the levels of p and q (`IsLowBetween`).
 pub left_out_corner : (marks : Marks) (out : LeftOutJoins) (p q middle : Place) (from : CellMark)
     (between to : Option CellMark)
     → IsBetween p q middle → marks p ≡ Some from → between ≡ marks middle → to ≡ marks q
@@ -194,7 +196,7 @@ same_col p q (suc (suc zero)) few on same = sym (same_Some _ q on)
 same_col p q (suc (suc (suc zero))) few on same = absurd (west_col (p.row + 1) p.col q on same)
 same_col p q (suc (suc (suc (suc way)))) few on same = absurd (omega (arith, few))
 
--- If the join of cell p with cell q, if any, has been added, `Adds` holds of that pair.
+-- If the join of cell p with cell q has been added, or they have none, `Adds` holds of that pair.
 pub adds_on_way : (marks : Marks) (out : LeftOutJoins) (p q : Place) (way : ℕ) (wanted : Place →
     Bool) (from : CellMark) (o : Option CellMark) (old new : List Join) → marks p ≡ Some from →
     marks q ≡ o → way < 8 → place_on way p ≡ Some q → wanted q ≡ true → AddsCovered old
@@ -239,7 +241,7 @@ adds_on_way marks out p q way wanted from o old new here there few on want s = r
       (sym m.greater) (cons_head j []))))));
 }
 
--- If the join of cell p with cell q is left out, `Adds` of that pair holds with no change.
+-- If the join of cell p with cell q is left out, `Adds` holds of that pair and an unchanged list.
 pub adds_left_out : (marks : Marks) (out : LeftOutJoins) (p q : Place) (way : ℕ)
     (wanted : Place → Bool) (old : List Join) → place_on way p ≡ Some q → IsLeftOut marks out p q →
     Adds marks out (IsPairOn way p wanted) old old
@@ -259,7 +261,7 @@ adds_none marks out pairs old new same none = subst (Adds marks out pairs old) (
   every = λ p q j at. absurd (none p q at);
 })
 
--- For a cell without a mark, `Adds` of its pairs holds with no change.
+-- A cell without a mark has no joins, so `Adds` holds of its pairs and an unchanged list.
 pub no_mark_adds : (marks : Marks) (out : LeftOutJoins) (p : Place) (wanted : Place → Bool)
     (old : List Join) → marks p ≡ None → Adds marks out (IsPairFrom p wanted) old old
 no_mark_adds marks out p wanted old none = record {
@@ -307,7 +309,8 @@ adds_as marks out first both old new wider narrower a = record {
       a.every p q j (narrower p q m.touches after _ m.from_is _ m.to_is at) after m;
 }
 
--- Adding a cell's wanted joins to the E, SE, S and SW adds all those with cells after it.
+-- If a cell's wanted joins to the E, SE, S and SW are added, so are all its wanted joins with later
+-- cells.
 pub adds_four : (marks : Marks) (out : LeftOutJoins) (p : Place) (wanted : Place → Bool)
     (old first second third new : List Join)
     → Adds marks out (IsPairOn 0 p wanted) old first →

@@ -1,5 +1,6 @@
 -- A cell's mark is its level and its label, both from the flood of its tile. An inner cell's places
--- E, SE, S and SW lie in its tile; adding its joins with these four gives `Adds` of the cell.
+-- E, SE, S and SW lie in its tile. If its joins with these four are added, all its joins with cells
+-- after it are (`Adds`).
 use Rattle.std.proofs.Common.{◌≡◌, ◌≢◌, ◌↔◌, ◌⊎◌, Bool, ℕ, ◌+◌, ◌-◌, ◌*◌, ◌<◌, ◌≤◌, inl, inr, ℤ, true, List, length, get_or, Option, None, Some, ◌∙◌, sym, ap, subst, refl, arith}
 use Rattle.std.specs.Prelude.{slice_get, option_and_then, option_map, MatchOption, IfSome}
 use Rattle.std.specs.List.{All}
@@ -148,7 +149,7 @@ mark_inside f p m is = elim (cases_Bool (is_in_bounds f.bounds p)) [
   | inr out ↦ none_some (mark_in 0 f p) m (cond-false _ _ _ out) is
 ]
 
--- Two cells of one label have no join: `AddsCovered` holds with no change.
+-- Two cells of one label have no join, so an unchanged list has all that was to be added.
 pub same_label_adds : (f : Flood) (sources : List (Option ℤ)) (i j : ℕ)
     (from : CellMark) (now : List Join) → mark_with 0 f i ≡ Some from → get_or f.table.indexes i 0
     ≡ get_or f.table.indexes j 0 → AddsCovered now (joins_of sources from (mark_with 0 f j)) now
@@ -162,7 +163,8 @@ same_label_adds f sources i j from now is same = record {
       absurd (m.2 (sym a.3 ∙ ap (λ n. 0 + n) same ∙ b.3));
 }
 
--- For a cell with the label of the places E, SE, S and SW of it, `AddsAfter` holds with no change.
+-- If a cell has the same label as the places E, SE, S and SW of it, it has no joins with them. So
+-- `AddsAfter` holds of an unchanged list.
 pub equal_after_adds : (f : Flood) (out : LeftOutJoins) (i width : ℕ) (now : List Join) →
     AreEqualAfter f.table.indexes i width →
     MatchOption (mark_with 0 f i) (now ≡ now) (λ from. AddsAfter f out from i width now now)
@@ -193,7 +195,8 @@ pub adds_anywhere : (marks : Marks) (out : LeftOutJoins) (p : Place) (old new : 
 adds_anywhere marks out p old new s = adds_as marks out (IsPairFrom p anywhere) (λ q r.
     q ≡ p) old new (λ q r at. at.0) (λ q r touch after m m_is n n_is at. (at, refl)) s
 
--- `AddsAfter` of an inner cell gives `Adds` of all pairs from it.
+-- If an inner cell's joins with the places E, SE, S and SW are added (`AddsAfter`), `Adds` holds of
+-- all pairs from the cell.
 pub inner_adds : (f : Flood) (out : LeftOutJoins) (p : Place) (i : ℕ) (from : CellMark) (old new :
     List Join) → IsInner f.bounds p → i ≡ index_in f.bounds p → mark_with 0 f i ≡ Some from →
     AddsAfter f out from i f.bounds.cols old new → Adds (mark_in 0 f) out (λ q r. q ≡ p) old new

@@ -38,7 +38,8 @@ chain_upto link (suc n) at low = elim (cases_eq at (suc n)) [
 pub chain_none : (link : ℕ → Link) (n : ℕ) → chain link n 0 ≡ []
 chain_none link n = chain_upto link n 0 (omega arith)
 
--- If a join's link leads to an earlier join or none, its chain is its arc and the chain from there.
+-- Let a join's link lead to an earlier join or none. Then the chain from the join is its arc and
+-- the chain from that earlier join.
 chain_step : (link : ℕ → Link) (n k : ℕ) → k < n → (link k).before ≤ k →
     chain link n (suc k) ≡ (link k).arc ∷ chain link n (link k).before
 chain_step link n k low before =

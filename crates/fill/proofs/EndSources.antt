@@ -21,7 +21,8 @@ use Rattle.fill.specs.Spills.{AreFloods, AreSpillSources, AreSourcesOf}
 use Rattle.fill.proofs.LabelNets.{has_tile_level, end_label, list_there, among_is}
 use Rattle.fill.proofs.CellMarks.{label_entry}
 
--- `PutsEnds`, but of the first `count` entries of the table alone.
+-- `new` is `old` with heights written at the nodes of labels that are end cells. At least those of
+-- the first `count` entries of the table are written.
 pub record PutsFirst (c : Cutting) (f : Flood) (count : ℕ) (old new : List (Option ℤ)) :
     Type 0 where
   pub size : length new ≡ length old

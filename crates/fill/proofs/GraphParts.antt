@@ -1,5 +1,6 @@
 -- In a list of joins in the order of their labels, the joins from one node stand together. They
--- give the node's arcs in the spill graph.
+-- give the node's arcs in the spill graph. A node is the index of a label's place in row order of
+-- the grid.
 use Rattle.std.proofs.Common.{◌≡◌, ℕ, ◌+◌, ◌<◌, inl, inr, List, length, get_or, sym, ap, subst, ◌∙◌, arith, ◌≢◌, ◌-◌, ◌≤◌, map, take, drop, length-drop}
 use Rattle.std.specs.List.{Contains}
 use Rattle.std.proofs.lemmas.Bool.{cases_eq, cases_lt}
@@ -49,7 +50,8 @@ past_node joins node end e rise inside low differ k d above below =
     above_more joins (node + 1) end e rise inside (omega (arith, low, differ)) k d above below in
     omega (arith, far)
 
--- If the joins from `start` up to `end` are those that begin at a node, their arcs are its arcs.
+-- If the joins from index `start` on and before `end` are those from a node, their arcs are just
+-- the node's arcs in the graph.
 pub just_node : (g : Graph) (joins : List Join) (node start end : ℕ) → IsGraph g → joins ≡ g.joins →
     start ≤ end → end ≤ length joins
     → ((k : ℕ) (d : Join) → k < start → (get_or joins k d).from < node) →

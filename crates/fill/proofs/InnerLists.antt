@@ -1,5 +1,5 @@
--- The lists of joins inside each tile, as the jobs return them with the tiles' floods, and as one
--- thread collects them tile by tile.
+-- `AreInner` says that each tile's list has the joins inside the tile. It holds of the lists that
+-- jobs return with the tiles' floods, and of those that one thread collects.
 use Rattle.std.proofs.Common.{◌≡◌, ℕ, ◌+◌, ◌<◌, inl, inr, false, true, List, [], ◌∷◌, ◌++◌, length, get_or, map, Some, ◌∙◌, sym, ap, subst, arith, Vec, Global}
 use Rattle.std.specs.Prelude.{slice_get}
 use Rattle.std.proofs.lemmas.Bool.{cases_eq}
@@ -56,7 +56,8 @@ module _ (t : Terrain) (c : Cutting) (tiles : List FloodWithJoins) (n : ℕ) (si
         tiles floods tile f floods_are e in subst (IsTileFlood t c tile) x.2 (here tile x.0 x.1).0;
   }
 
-  -- The lists of joins that the jobs return are those inside the tiles, without those left out.
+  -- The jobs return the joins inside the tiles, except joins of two end cells and joins that a
+  -- third cell bypasses.
   pub inner_given : (inner : List (Vec Join Global)) →
       inner ≡ map (λ (x : FloodWithJoins). x.joins) tiles → AreInner floods true inner
   inner_given inner inner_are = record {

@@ -117,7 +117,7 @@ leads_back joins arcs has a b h there =
       back = back;
     }
 
--- The list of arcs from label a has just those of `HasArc`.
+-- The list of arcs from label a has just the arcs of `HasArc`, each of which has an arc back.
 pub just_arcs : (g : NumberNet) (a : ℕ) → IsNumberNet g →
     HasJust (HasArc g.arcs a) (get_or g.arcs a [])
 just_arcs g a net = record {
@@ -154,7 +154,7 @@ module _ (arcs : List (List Spill)) (sources : List (Option ℤ)) where
       joined_source arcs sources a ≡ source_number sources a
   source_is a has = cond-true _ _ _ has
 
-  -- From a label with an arc, a walk by all sources is one by joined sources, of the same crest.
+  -- From a label with an arc, a walk to a source is a walk to a joined source, of the same crest.
   walk_forth : (walk : List Spill) (a : ℕ) → has_arcs arcs a ≡ true →
       IsWalk (HasArc arcs) (source_number sources) a walk
       → IsWalk (HasArc arcs) (joined_source arcs sources) a walk
@@ -191,8 +191,8 @@ module _ (arcs : List (List Spill)) (sources : List (Option ℤ)) where
       let further = walk_back rest step.to (some_has step.to a step.height back) walk.1 in
       ((walk.0, further.0), ap (int_max step.height) further.1)
 
-  -- By all sources, a walk from `a` of least crest `level` ends at `label`. Without a walk both are
-  -- None.
+  -- `level` is the least crest of the walks from `a` to any source, and a walk of that crest ends
+  -- at `label`. Without a walk both are None.
   abbrev IsNodeLevel : ℕ → Option ℤ → Option ℕ → Type 0
   IsNodeLevel a level label =
       MatchOption level (HasNoWalk (HasArc arcs) (source_number sources) a × (label ≡ None)) (λ h.

@@ -74,7 +74,8 @@ level_has_data t c floods h are p l within e = elim (cases_option (height_at t p
       none_some _ l (among_is (λ f. level_in f p) floods tile f.0 f.1 ∙ here.0) e
 ]
 
--- A low path, of crest at most m, from a neighbour gives one from a cell of height at most m.
+-- A low path has a crest of at most m. If a cell's neighbour has one, so has the cell, if its
+-- height is at most m.
 low_step : (t : Terrain) (m : ℤ) (p q : Place) → IsNeighbour t p q → height_of t p ≤ℤ m →
     HasLowPath t m q → HasLowPath t m p
 low_step t m p q next low way =
@@ -114,7 +115,7 @@ low_at_first t c m p (q ∷ rest) path low way =
     (low_at_first t c m q rest path.2 (trans _ _ _ (max_right (height_of t p) (crest t q rest)) low)
     way)
 
--- If a cell whose level is at most the bound has a low path, so has its label.
+-- If a cell whose level is at most m has a low path, so has its label.
 low_at_label : (t : Terrain) (c : Cutting) (p label : Place) (level m : ℤ) →
     IsTileLevel t c p level label → level ≤ℤ m → HasLowPath t m p → HasLowPath t m label
 low_at_label t c p label level m l le way =

@@ -1,5 +1,6 @@
 -- In lists over all tiles, a label's number finds its place and, if it is an end cell, its height.
--- So the spill graph with labels given by number is an `IsLabelNet`.
+-- So the spill graph with labels given by number is a net whose nodes are labels (`IsLabelNet`):
+-- its joins are those of neighbouring cells, and its sources are the labels that are end cells.
 use Rattle.std.proofs.Common.{◌≡◌, ℕ, zero, suc, ◌+◌, ◌*◌, ◌<◌, ◌≤◌, ◌≤ℤ◌, ◌⊎◌, inl, inr, ℤ, List, [], ◌∷◌, length, get_or, take, Option, None, Some, ◌∙◌, sym, ap, subst, refl, arith}
 use Rattle.std.specs.Prelude.{slice_get, option_map}
 use Rattle.std.specs.List.{flat_map}
@@ -45,7 +46,7 @@ flat_same g h (x ∷ xs) (suc i) low same =
     length-append (g x) (flat_map g (take i xs)) ∙ omega (arith, here, rest)
     ∙ sym (length-append (h x) (flat_map h (take i xs)))
 
--- In `places_of`, the place at the number of a tile's entry is that of the entry.
+-- In `places_of`, the place at the number of an entry of a tile's table is that entry.
 pub place_at : (floods : List Flood) (tile k : ℕ) (f : Flood) →
     slice_get floods tile ≡ Some f → k < length f.table.places →
     get_or (places_of floods) (first_of floods tile + k) None ≡ get_or f.table.places k None
@@ -55,7 +56,8 @@ place_at floods tile k f there inside =
     tile f there) (subst (λ (g : Flood). k < length g.table.places) (sym is) inside)
     ∙ ap (λ (g : Flood). get_or g.table.places k None) is
 
--- In `ends_of`, the height at the number of a tile's entry is that of the entry.
+-- In `ends_of`, the height at the number of entry k of a tile's table is entry k of the flood's
+-- `ends`.
 pub end_at : (t : Terrain) (c : Cutting) (floods : List Flood) (tile k : ℕ) (f : Flood) →
     AreFloods t c floods → slice_get floods tile ≡ Some f → k < length f.table.places →
     get_or (ends_of floods) (first_of floods tile + k) None ≡ get_or f.ends k None
@@ -187,7 +189,7 @@ number_mark None a e = absurd (cc)
 number_mark (Some m) a e =
     (m.level, ap (λ n. Some (record { level = m.level; node = n })) (same_Some m.node a e))
 
--- The spill graph by numbers is an `IsLabelNet`.
+-- The spill graph by numbers is a net whose nodes are labels (`IsLabelNet`).
 module _ (t : Terrain) (c : Cutting) (floods : List Flood) (are : AreFloods t c floods)
     (lawful : AreLawful floods) (arcs : List (List Spill)) (sources : List (Option ℤ))
     (graph : IsNumberGraph t c floods arcs sources) where

@@ -134,7 +134,7 @@ raised_by_table c f places cells heights levels spills raised are table where_is
           ∙ by.each i (omega (arith, low, same));
     }
 
--- To store a least crest as a cell first does not change the stored raised height.
+-- The stored raised height is the same if the least crest was stored as a cell before.
 greater_stored : (h : ℤ) (spill : Option ℤ) → h ≤ℤ no_data →
     cell_of (greater_of (Some h) (cell_of spill)) ≡ cell_of (greater_of (Some h) spill)
 greater_stored h None low = refl
@@ -199,7 +199,7 @@ abbrev placed_among : Cutting → List Flood → List (Option ℤ) → Place →
 placed_among c floods levels p =
     raised_by c levels (level_among c floods p) (label_among c floods p)
 
--- By place, the raised height at a place's index in its tile is `placed_among` of it.
+-- With least crests by place, the raised height at p's index k in its tile is that of p.
 pub raised_here : (c : Cutting) (floods : List Flood)
     (tile k : ℕ) (f : Flood) (levels : List (Option ℤ)) (p : Place) → IsCutting c → Fit c floods →
     slice_get floods tile ≡ Some f → IsInTile c tile p
@@ -220,7 +220,7 @@ raised_here c floods tile k f levels p h fit there i at =
     sym (ap (λ z. raised_by c levels z (get_or f.labels k None)) own_level)
     ∙ sym (ap (raised_by c levels (level_among c floods p)) own_label)
 
--- By number, the raised height at a place's index in its tile is `raised_among` of it.
+-- With least crests by number, the raised height at p's index k in its tile is that of p.
 number_here : (c : Cutting) (floods : List Flood) (tile k : ℕ)
     (f : Flood) (levels : List (Option ℤ)) (p : Place) → IsCutting c → Fit c floods →
     slice_get floods tile ≡ Some f → IsInTile c tile p
@@ -258,7 +258,8 @@ raised_tile c floods tile f levels raised h fit there is =
           ∙ raised_here c floods tile k f levels p h fit there i refl,
     )
 
--- If `AreRaisedCells` holds of a tile, `cells` has the raised heights of the tile's places.
+-- If `cells` has the raised heights by index in the tile (`AreRaisedCells`), it has those of the
+-- tile's places.
 pub raised_cells : (c : Cutting) (floods : List Flood) (tile : ℕ) (f : Flood)
     (levels cells : List (Option ℤ)) → IsCutting c → Fit c floods → slice_get floods tile ≡ Some f
     → AreRaisedCells (first_of floods tile) f levels cells
@@ -286,7 +287,8 @@ label_inside t c floods p label are e = elim (cases_option (slice_get floods (ti
       labels_within t c floods (tile_of_place c p) f.0 are f.1 entry.0 label entry.1
 ]
 
--- The spill graph by places is an `IsLabelNet`; a label's number is the node of its place.
+-- The spill graph by places is a net whose nodes are labels (`IsLabelNet`). A label's number there
+-- is the node of its place.
 place_net : (t : Terrain) (c : Cutting) (floods : List Flood) (g : Graph) →
     AreFloods t c floods → IsGraphOf t c floods g → IsLabelNet t c floods (λ p.
     option_map (index_of c.cols) (label_among c floods p)) (HasJoin g) (source_in g)
@@ -353,8 +355,8 @@ place_net t c floods g are graph = record {
       let x = from_option (label_among c floods p) a e in
       (x.0, x.1, x.2, label_inside t c floods p x.0 are x.1)
 
--- If the greater of a data cell's level and `spill` is its filled height, the place gets that
--- height. A place without data gets None.
+-- Let the greater of a data cell's level and `spill` be the cell's filled height. Then `greater_of`
+-- gives that height, and None for a place without data.
 raised_filled : (t : Terrain) (c : Cutting) (floods : List Flood) (p : Place) →
     AreFloods t c floods → IsWithin c p → (spill : Option ℤ)
     → ((l : HasTileLevel t c floods p) → IsDataCell t p → (n : ℤ) × (spill ≡ Some n)

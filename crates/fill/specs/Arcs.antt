@@ -1,6 +1,7 @@
--- The arcs from each label, by linked lists over one list of joins. A join gives an arc from each
--- of its labels. `lasts` has the last join of each label. `previous` has, for both labels of each
--- join, the previous join with that label. Joins are numbered from 1, and 0 is none.
+-- The arcs from each label, by linked lists over one list of joins. A join gives two arcs, one from
+-- each of its labels to the other, at its height. `lasts` has the last join of each label.
+-- `previous` has, for both labels of each join, the previous join with that label. Joins are
+-- numbered from 1, and 0 is none.
 -- Private.
 use Rattle.std.specs.Prelude.{ℕ, zero, suc, ◌≤◌, ◌<◌, ◌==◌, if◌then◌else◌, Bool, true, false, pos, List, [], ◌∷◌, map, length, slice_index_or}
 use Rattle.std.specs.List.{range_with_len}
@@ -10,13 +11,15 @@ use Rattle.fill.specs.declared.spills.Join.{Join}
 use Rattle.fill.specs.declared.arcs.PreviousJoins.{PreviousJoins}
 use Rattle.fill.specs.declared.arcs.Link.{Link}
 
--- The arc of join `j` from `label`, one of its labels, and the previous join with that label.
+-- The arc of join `j` from `label`, one of its labels, and the previous join with that label. `b`
+-- has the previous joins with both labels of `j`.
 abbrev pub link_from : ℕ → Join → PreviousJoins → Link
 link_from label j b =
     if j.from == label then record { arc = arc_of j; before = b.from }
     else record { arc = arc_of (turned j); before = b.to }
 
--- The link of the join at index `i`, which counts from 0, in the list of `label`.
+-- The link of the join at index `i` in the list of `label`: its arc, and the previous join. Indexes
+-- count from 0.
 abbrev pub link_at : List Join → List PreviousJoins → ℕ → ℕ → Link
 link_at joins previous label i =
     link_from label (slice_index_or joins i (record { from = 0; to = 0; height = pos 0 }))
@@ -36,15 +39,15 @@ arcs_by lasts joins previous =
     map (λ label. chain (link_at joins previous label) (length previous)
     (slice_index_or lasts label 0)) (range_with_len 0 (length lasts))
 
--- There are no more links than joins, and each leads to an earlier join or none. A label's last
--- join has a link or is none.
+-- There are at most as many links as joins. Each link leads to an earlier join, or to none (0). A
+-- label's last join has a link, or the label has no last join (0).
 pub record AreLinked (lasts : List ℕ) (joins : List Join)
     (previous : List PreviousJoins) : Type 0 where
   pub fit : length previous ≤ length joins
   pub begin : (label : ℕ) → slice_index_or lasts label 0 ≤ length previous
   pub before : (label i : ℕ) → i < length previous → (link_at joins previous label i).before ≤ i
 
--- The list has an arc.
+-- The list has at least one arc.
 abbrev pub is_some_arc : List Spill → Bool
 is_some_arc [] = false
 is_some_arc (arc ∷ rest) = true

@@ -1,4 +1,5 @@
--- The heights of labels that are end cells, by node: a place's index in row order of the grid.
+-- The heights of labels that are end cells, in a list by node. A node is a place's index in row
+-- order of the grid.
 -- Private.
 use Rattle.std.specs.Prelude.{◌≡◌, ℕ, ◌⊎◌, ℤ, List, length, set, Option, None, Some, IsSome, slice_index_or}
 use Rattle.terrain.specs.Neighbours.{index_of}
@@ -22,7 +23,8 @@ pub record IsEndAt (c : Cutting) (f : Flood) (a : ℕ) (height : Option ℤ) : T
   pub some : IsSome (slice_index_or f.ends entry None)
   pub is : height ≡ slice_index_or f.ends entry None
 
--- The flood's labels that are end cells have heights written at their nodes; the rest is kept.
+-- `new` is `old` with the height of each label of the flood that is an end cell written at its
+-- node.
 pub record PutsEnds (c : Cutting) (f : Flood) (old new : List (Option ℤ)) : Type 0 where
   pub size : length new ≡ length old
   pub only : (a : ℕ)

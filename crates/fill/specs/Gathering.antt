@@ -21,7 +21,8 @@ abbrev pub LabelsInside : Cutting → Flood → Type 0
 LabelsInside c f =
     (i : ℕ) (label : Place) → slice_index_or f.labels i None ≡ Some label → IsWithin c label
 
--- One flood for each tile: it has the tile's bounds, and lists of levels and labels of its size.
+-- There is one flood for each tile. It has the tile's bounds, and an entry of `levels` and of
+-- `labels` for each cell of the tile.
 pub record Fit (c : Cutting) (floods : List Flood) : Type 0 where
   pub count : length floods ≡ tile_count c
   pub bounds : (tile : ℕ) (f : Flood) → slice_get floods tile ≡ Some f → f.bounds ≡ bounds_of c tile
@@ -30,13 +31,15 @@ pub record Fit (c : Cutting) (floods : List Flood) : Type 0 where
   pub levels : (tile : ℕ) (f : Flood) → slice_get floods tile ≡ Some f →
       length f.levels ≡ f.bounds.rows * f.bounds.cols
 
--- A cell's mark: its level, and the number of its label; None if it lacks either.
+-- The mark of a cell with this level and label, where `node` is the label's number. None if level
+-- or label is None.
 abbrev pub mark_of : ℕ → Option ℤ → Option Place → Option CellMark
 mark_of node (Some level) (Some label) = Some (record { level = level; node = node })
 mark_of node (Some level) None = None
 mark_of node None label = None
 
--- The mark of the cell at an index of a tile. The tile's table of labels begins at number `first`.
+-- The mark of the cell at `index` in a tile's row order. The first entry of the tile's table of
+-- labels has number `first`.
 abbrev pub mark_with : ℕ → Flood → ℕ → Option CellMark
 mark_with first f index = mark_of (first + slice_index_or f.table.indexes index 0)
     (slice_index_or f.levels index None) (slice_index_or f.labels index None)
@@ -46,7 +49,8 @@ abbrev pub mark_in : ℕ → Flood → Place → Option CellMark
 mark_in first f p =
     if is_in_bounds f.bounds p then mark_with first f (index_in f.bounds p) else None
 
--- The mark of a place, by the flood of its tile.
+-- The mark of place `p`, from the flood of its tile. It gives the label by its number over all
+-- tiles.
 abbrev pub mark_among : Cutting → List Flood → Place → Option CellMark
 mark_among c floods p = option_and_then (λ f. mark_in (first_of floods (tile_of_place c p)) f p)
     (slice_get floods (tile_of_place c p))
@@ -61,7 +65,7 @@ pub record LeftOutJoins : Type 0 where
   pub sources : List (Option ℤ)
   pub bypassed : Bool
 
--- The third place is in the row of one of the two, and in the column of the other.
+-- Place `r` is in the row of one of `p` and `q`, and in the column of the other.
 abbrev pub IsBetween : Place → Place → Place → Type 0
 IsBetween p q r = ((r.row ≡ q.row) × (r.col ≡ p.col)) ⊎ ((r.row ≡ p.row) × (r.col ≡ q.col))
 
@@ -98,16 +102,16 @@ pub record Meets (marks : Marks) (out : LeftOutJoins) (p q : Place) (j : Join) :
   pub apart : are_both_sources out.sources j.from j.to ≡ false
   pub greater : int_max from_level to_level ≡ j.height
 
--- The join is that of two cells whose places are one of `pairs`.
+-- `j` is the join (`Meets`) of two cells p and q, and `pairs` holds of their places.
 abbrev pub IsMeetingAt : Marks → LeftOutJoins → (Place → Place → Type 0) → Join → Type 0
 IsMeetingAt marks out pairs j = (p q : Place) × pairs p q × Meets marks out p q j
 
--- The join of two cells is left out, since a third cell bypasses it.
+-- `out` leaves out bypassed joins, and a third cell bypasses the join of cells `p` and `q`.
 abbrev pub IsLeftOut : Marks → LeftOutJoins → Place → Place → Type 0
 IsLeftOut marks out p q = (out.bypassed ≡ true) × IsBypassed marks p q
 
--- The join of two cells by their marks. None if `to` is None, the labels are equal, or both labels
--- have heights in `sources`.
+-- The join of two cells, by their marks `from` and `to`. There is no join if `to` is None, the
+-- labels are equal, or both labels have heights in `sources`.
 abbrev pub joins_of : List (Option ℤ) → CellMark → Option CellMark → List Join
 joins_of sources from None = []
 joins_of sources from (Some to) =
@@ -132,15 +136,17 @@ abbrev pub IsInner : Bounds → Place → Type 0
 IsInner b p = (b.top ≤ p.row) × (p.row + 1 < b.top + b.rows) × (b.left < p.col)
     × (p.col + 1 < b.left + b.cols)
 
--- The place lies in this row of the bounds; its E, SE, S and SW places do not all lie in them.
+-- The place lies in row `row` of the bounds. The places E, SE, S and SW of it do not all lie in the
+-- bounds.
 abbrev pub IsOuterOfRow : Bounds → ℕ → Place → Type 0
 IsOuterOfRow b row p = IsInBounds b p × (p.row ≡ row) × (IsInner b p → ⊥)
 
--- The indexes of the places E, SE, S and SW of the one at this index, in rows of this width.
+-- The indexes of the places E, SE, S and SW of the place at index `i`, in rows of `width` places.
 abbrev pub cells_after : ℕ → ℕ → List ℕ
 cells_after width i = (i + 1) ∷ (i + width + 1) ∷ (i + width) ∷ (i + width - 1) ∷ []
 
--- The entry at index `i` equals those of the places E, SE, S and SW of it, in rows of this width.
+-- The entry at index `i` equals those of the places E, SE, S and SW of it, in rows of `width`
+-- places.
 abbrev pub AreEqualAfter : List ℕ → ℕ → ℕ → Type 0
 AreEqualAfter xs i width =
     All (λ k. slice_index_or xs k 0 ≡ slice_index_or xs i 0) (cells_after width i)
@@ -157,8 +163,8 @@ abbrev pub AddsNear : Flood → LeftOutJoins → CellMark → ℕ → List Join 
 AddsNear f out from near old new =
     AddsCovered old (joins_of out.sources from (mark_with 0 f near)) new
 
--- As `AddsNear`, but for two cells that touch at a corner. Or no join has been added, since the
--- cell at index `below` or the cell at index `beside` bypasses the join.
+-- `AddsNear` holds of two cells that touch at a corner. Or no join has been added, and the cell at
+-- index `below` or the cell at index `beside` bypasses their join.
 abbrev pub AddsCorner : Flood → LeftOutJoins → CellMark → ℕ → ℕ → ℕ → List Join → List Join →
     Type 0
 AddsCorner f out from below beside near old new =
@@ -166,8 +172,8 @@ AddsCorner f out from below beside near old new =
     ⊎ IsLowBetween out from (mark_with 0 f beside) (mark_with 0 f near)) × (new ≡ old))
     ⊎ AddsNear f out from near old new
 
--- The joins of a cell with its neighbours after it have been added, except bypassed ones. The cell
--- has index `i` and mark `from`.
+-- The joins of a cell with its neighbours E, SE, S and SW have been added, except joins that `out`
+-- leaves out. The cell has index `i` and mark `from`; a row has `width` cells.
 pub record AddsAfter (f : Flood) (out : LeftOutJoins) (from : CellMark) (i width : ℕ)
     (old new : List Join) : Type 0 where
   pub after_first : List Join
@@ -179,7 +185,7 @@ pub record AddsAfter (f : Flood) (out : LeftOutJoins) (from : CellMark) (i width
   pub south : AddsNear f out from (i + width) after_second after_third
   pub south_west : AddsCorner f out from (i + width) (i - 1) (i + width - 1) after_third new
 
--- The second place comes after the first in row order.
+-- Place `q` comes after place `p` in row order.
 abbrev pub IsAfter : Place → Place → Type 0
 IsAfter p q = (p.row < q.row) ⊎ ((p.row ≡ q.row) × (p.col < q.col))
 
@@ -200,13 +206,13 @@ abbrev pub IsTileBelow : Cutting → Bounds → ℕ → Type 0
 IsTileBelow c b below = b.top + b.rows < c.rows →
     below ≡ tile_of_place c (record { row = b.top + b.rows; col = b.left })
 
--- `other` is the tile with this row of the grid, in the column of tiles of `tile`.
+-- `other` is the tile that has row `row` of the grid, in the same column of tiles as `tile`.
 abbrev pub IsTileWithRow : Cutting → ℕ → ℕ → ℕ → Type 0
 IsTileWithRow c tile row other = other ≡ row / c.side * across c + tile % across c
 
 -- The joins of those `pairs` of places whose first is before the second in row order have been
--- added, except those left out. Joins of the same labels may have been merged into the lowest. No
--- join of other pairs has been added.
+-- added, except joins that `out` leaves out. Joins of the same labels may have been merged into the
+-- lowest. No join of other pairs has been added.
 pub record Adds (marks : Marks) (out : LeftOutJoins) (pairs : Place → Place → Type 0)
     (old new : List Join) : Type 0 where
   pub kept : (j : Join) → Contains old j → Covered new j
@@ -227,13 +233,15 @@ abbrev pub AreRising : List Join → Type 0
 AreRising joins = (m n : ℕ) (d : Join) → m < n → n < length joins →
     IsBefore (slice_index_or joins m d) (slice_index_or joins n d)
 
--- The lowest join of each pair of labels, in the order of the labels.
+-- `lowest` has, of the `joins` of each pair of labels, the lowest. It is in the order of the
+-- labels.
 pub record AreLowest (joins lowest : List Join) : Type 0 where
   pub only : (j : Join) → Contains lowest j → Contains joins j
   pub every : (j : Join) → Contains joins j → Covered lowest j
   pub rising : AreRising lowest
 
--- The joins of all cells with the cells after them, except those left out.
+-- `joins` has the joins of all cells with the cells after them in row order, except joins that
+-- `out` leaves out.
 pub record AreGathered (c : Cutting) (floods : List Flood) (out : LeftOutJoins)
     (joins : List Join) : Type 0 where
   pub only : (j : Join) → Contains joins j →
@@ -253,12 +261,13 @@ left_out_of spare floods =
 abbrev pub left_out_in : Bool → Flood → LeftOutJoins
 left_out_in spare f = record { sources = if spare then f.ends else []; bypassed = spare }
 
--- The joins inside a tile, except those left out, by the indexes of their labels in its table.
+-- `joins` has the joins inside a tile, except joins that `left_out_in` leaves out. They give labels
+-- by index in the tile's table.
 abbrev pub IsInnerOf : Bool → Flood → List Join → Type 0
 IsInnerOf spare f joins =
     Adds (mark_in 0 f) (left_out_in spare f) (λ p q. IsInBounds f.bounds p) [] joins
 
--- The joins inside each tile, except those left out.
+-- `inner` has, for each tile, the joins inside it, except joins that `left_out_in` leaves out.
 pub record AreInner (floods : List Flood) (spare : Bool)
     (inner : List (Vec Join Global)) : Type 0 where
   pub count : length inner ≡ length floods

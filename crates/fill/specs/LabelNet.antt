@@ -30,7 +30,8 @@ pub record NumberNet : Type 0 where
   pub arcs : List (List Spill)
   pub sources : List (Option ℤ)
 
--- Each label has an entry of `sources`, numbers fit in 32 bits, and for each arc there is one back.
+-- Each label has an entry of `sources`, and numbers fit in 32 bits. Each arc has an arc back, of
+-- the same height.
 pub record IsNumberNet (g : NumberNet) : Type 0 where
   pub size : length g.sources ≡ length g.arcs
   pub few : length g.arcs ≤ 4294967295
@@ -42,13 +43,13 @@ abbrev pub IsJoinOf : List Join → ℕ → ℕ → ℤ → Type 0
 IsJoinOf joins a b h = Contains joins (record { from = a; to = b; height = h })
     ⊎ Contains joins (record { from = b; to = a; height = h })
 
--- These joins have been added, each as two arcs.
+-- `new` has the arcs of `old`, and two arcs for each of `joins`, one in each direction.
 pub record AddsArcs (joins : List Join) (old new : List (List Spill)) : Type 0 where
   pub size : length new ≡ length old
   pub each : (a b : ℕ) (h : ℤ) → Contains (slice_index_or new a []) (record { to = b; height = h })
       ↔ (Contains (slice_index_or old a []) (record { to = b; height = h }) ⊎ IsJoinOf joins a b h)
 
--- The arcs are those of the joins.
+-- `arcs` has just the arcs of `joins`, two for each join.
 abbrev pub HasArcsOf : List Join → List (List Spill) → Type 0
 HasArcsOf joins arcs = (a b : ℕ) (h : ℤ) →
     Contains (slice_index_or arcs a []) (record { to = b; height = h }) ↔ IsJoinOf joins a b h

@@ -1,5 +1,5 @@
--- The numbers of labels over all tiles. A tile's table lists its labels, after an entry for none.
--- Numbers count the entries of all tables, tile by tile.
+-- The numbers of labels over all tiles. A tile's table has a first entry, None, and then the tile's
+-- labels. Numbers count the entries of all tables from 0, tile by tile.
 -- Private.
 use Rattle.std.specs.Prelude.{◌≡◌, ℕ, ◌+◌, ◌<◌, ◌≤◌, ℤ, List, map, take, length, Option, None, Some, slice_get, slice_index_or}
 use Rattle.std.specs.List.{flat_map}
@@ -19,7 +19,8 @@ ends_of floods = flat_map (λ f. f.ends) floods
 abbrev pub first_of : List Flood → ℕ → ℕ
 first_of floods tile = length (places_of (take tile floods))
 
--- The number of each table's first entry. All numbers fit in 32 bits; each flood is an `IsFlood`.
+-- `firsts` has the number of each table's first entry. All numbers fit in 32 bits. Each flood has a
+-- level and a label entry for each cell, and its labels are those of its table (`IsFlood`).
 pub record AreFirsts (floods : List Flood) (firsts : List ℕ) : Type 0 where
   pub size : length firsts ≡ length floods
   pub each : (tile : ℕ) → tile < length floods → slice_index_or firsts tile 0 ≡ first_of floods tile

@@ -1,5 +1,5 @@
--- Tiles whose cells are raised: each gets the greater of its level and the least crest of its label
--- in the spill graph.
+-- Tiles whose cells are raised: each cell gets the greater of its level and the least crest of its
+-- label in the spill graph.
 -- Private.
 use Rattle.std.specs.Prelude.{◌≡◌, ℕ, ◌+◌, ℤ, List, length, Option, None, slice_index_or, option_and_then}
 use Rattle.terrain.specs.StoredCells.{cell_of}
@@ -41,7 +41,7 @@ pub record IsRaisedTile (first : ℕ) (f : Flood) (levels : List (Option ℤ))
   pub labels : x.labels.now ≡ f.table.indexes
   pub spills : AreSpillCells levels first f.table.places x.spills.items
 
--- The raised height of the cell at an index of the tile's row order.
+-- The raised height of the cell at index k in the tile's row order.
 abbrev pub raised_at : ℕ → Flood → List (Option ℤ) → ℕ → Option ℤ
 raised_at first f levels k =
     greater_of (slice_index_or f.levels k None) (spill_with levels (mark_with first f k))

@@ -14,7 +14,7 @@ use Rattle.cell_floods.specs.TileFlood.{Flood, IsTileFlood, level_in, label_in}
 use Rattle.floods.specs.Walk.{IsFlooded}
 use Rattle.fill.specs.declared.spills.Join.{Join}
 
--- The cutting is one of the terrain; the list has the flood of each tile, in tile order.
+-- `c` cuts the terrain into tiles, and `floods` has the flood of each tile, in tile order.
 pub record AreFloods (t : Terrain) (c : Cutting) (floods : List Flood) : Type 0 where
   pub lawful : IsCutting c
   pub cuts : Cuts c t
@@ -49,7 +49,8 @@ pub record IsPass (t : Terrain) (c : Cutting) (floods : List Flood) (a b : ℕ)
   pub to_is : level_among c floods to ≡ Some to_level
   pub greater : int_max from_level to_level ≡ height
 
--- Two different labels are joined at the least height of an `IsPass` between them.
+-- Nodes `a` and `b` differ. `height` is the least at which neighbouring cells of these two labels
+-- meet (`IsPass`).
 pub record IsJoined (t : Terrain) (c : Cutting) (floods : List Flood) (a b : ℕ)
     (height : ℤ) : Type 0 where
   pub different : a ≢ b
@@ -62,7 +63,7 @@ pub record Graph : Type 0 where
   pub joins : List Join
   pub sources : List (Option ℤ)
 
--- Two nodes are joined at this height.
+-- The graph has a join of nodes `a` and `b` at this height, in both directions.
 pub record HasJoin (g : Graph) (a b : ℕ) (height : ℤ) : Type 0 where
   pub from_node : a < g.nodes
   pub to_node : b < g.nodes
@@ -82,7 +83,8 @@ pub record AreSpillSources (t : Terrain) (c : Cutting) (floods : List Flood)
       (p : Place) × (index_of c.cols p ≡ a) × Carries c floods p a × IsEnd t p
       × (height_at t p ≡ Some h)
 
--- The heights of labels that are end cells, in row order of the grid.
+-- `sources` has, for each place of the grid in row order, its height if it is a label and an end
+-- cell, else None.
 pub record AreSourcesOf (t : Terrain) (c : Cutting) (floods : List Flood)
     (sources : List (Option ℤ)) : Type 0 where
   pub size : length sources ≡ c.cols * c.rows
@@ -126,14 +128,15 @@ pub record AreEntries (entry : ℕ → Option ℤ) (count : ℕ) (list : List (O
   pub size : length list ≡ count
   pub each : (k : ℕ) → k < count → slice_index_or list k None ≡ entry k
 
--- `raised` has, for each i, the greater of entry i of `heights` and a least crest, None if that is
--- None. The least crest is the entry of `spills` at the index that entry i of `labels` has.
+-- Entry i of `raised` is the greater of entry i of `heights` and a least crest, or None if the
+-- least crest is None. The least crest is the entry of `spills` at the index that entry i of
+-- `labels` has.
 abbrev pub AreGreater : List ℤ → List ℕ → List (Option ℤ) → List (Option ℤ) → Type 0
 AreGreater heights labels spills raised =
     AreEntries (λ i. greater_of (Some (slice_index_or heights i (pos 0)))
     (slice_index_or spills (slice_index_or labels i 0) None)) (length heights) raised
 
--- Each cell of the tile is raised by these least crests of labels.
+-- `raised` has the raised height of each cell of the tile; `levels` has the least crests of labels.
 pub record IsRaised (c : Cutting) (f : Flood) (levels : List (Option ℤ))
     (raised : List (Option ℤ)) : Type 0 where
   pub size : length raised ≡ length f.levels

@@ -13,7 +13,7 @@ use smallvec::SmallVec;
 use std::alloc::{AllocError, Global};
 use std::marker::Model;
 
-/// The number that ends a list; joins are numbered from 1.
+/// The number for no join, which ends a linked list; joins are numbered from 1.
 const NO_JOIN: usize = 0;
 
 /// For each label of a join, the number of the previous join with that label, or [`NO_JOIN`].
@@ -132,9 +132,10 @@ impl ArcLists {
         Ok(arcs)
     }
 
-    /// Queues each neighbour of `from` that gets a first or a lower level in `levels`.
-    /// The level is the greater of the arc's height and `from.height`. A neighbour that has an
-    /// entry in `labels` gets none.
+    /// Queues each label to which an arc leads from `from.node`, if the arc lowers its level.
+    /// The level by an arc is the greater of the arc's height and `from.height`. It is noted in
+    /// `levels` if no level or a greater one is noted there. A label with an entry in `labels`
+    /// keeps its level.
     #[inline]
     pub(crate) fn spread(
         &self,

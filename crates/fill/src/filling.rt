@@ -94,7 +94,8 @@ fn into_lists(
 }
 
 /// Floods each tile in a job.
-/// Returns, in tile order, the floods and the joins inside each tile.
+/// Returns, in tile order, the floods and the joins inside each tile, except those that [`LeftOut`]
+/// names.
 fn tile_floods<R: Threads + Wait + Sync, G: Gate + Sync>(
     runner: &Runner<'_, R, G>,
     grid: &Grid,
@@ -112,7 +113,7 @@ fn tile_floods<R: Threads + Wait + Sync, G: Gate + Sync>(
 }
 
 /// Makes the spill graph of the floods, without the joins that [`LeftOut`] names.
-/// `inner` has the joins inside each tile.
+/// `inner` has the joins inside each tile, except those that [`LeftOut`] names.
 fn spill_graph(
     alloc: Global,
     tiles: &NumberedFloods<'_>,
@@ -136,7 +137,7 @@ fn spill_graph(
 }
 
 /// Returns the least crest from each label to an end cell, by a flood of the spill graph.
-/// `inner` has the joins inside each tile.
+/// `inner` has the joins inside each tile, except those that [`LeftOut`] names.
 fn label_levels(
     alloc: Global,
     tiles: &NumberedFloods<'_>,
@@ -156,7 +157,7 @@ fn label_levels(
 
 /// Returns the filled height of each cell, in row order.
 /// Floods the spill graph on the caller's thread, then raises each tile in a job.
-/// `inner` has the joins inside each tile.
+/// `inner` has the joins inside each tile, except those that [`LeftOut`] names.
 fn filled_cells<R: Threads + Wait + Sync, G: Gate + Sync>(
     runner: &Runner<'_, R, G>,
     tiling: &Tiling,

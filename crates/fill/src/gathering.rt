@@ -29,8 +29,8 @@ fn push_shifted(joins: &mut Vec<Join>, first: u32, inner: &[Join]) -> Result<(),
     Ok(())
 }
 
-/// Returns the joins inside tiles and over rims, except those left out.
-/// `inner` has the joins inside each tile.
+/// Returns the joins inside tiles and over rims, except those that `left_out` names.
+/// `inner` has the joins inside each tile, except those that `left_out` names.
 pub(crate) fn graph_joins(
     alloc: Global,
     tiles: &NumberedFloods<'_>,

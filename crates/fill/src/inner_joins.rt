@@ -72,10 +72,10 @@ fn push_near(
     push_join(table, left_out.sources, from, mark_of_entry(flood, near))
 }
 
-/// Adds the join, if any, of two cells that touch at a corner: `index` and `near`.
+/// Adds the join, if any, of the cells at `index` and `near`, which touch at a corner.
 /// `from` is the mark of the cell at `index`. `below` and `beside` are the indexes of the two cells
 /// beside both. With `left_out.bypassed`, no join is added if the detour by one of these two cells
-/// is no higher.
+/// is no higher than the join.
 #[inline(always)]
 fn push_corner(
     table: &mut JoinTable,
@@ -155,8 +155,9 @@ fn are_equal_after(labels: &[u32], index: usize, width: usize) -> bool
         & (labels[below + 1] == label)
 }
 
-/// Adds the joins of a cell whose four places after it lie in the tile, except those left out.
-/// Most cells have the same label as all four places, and so no join.
+/// Adds the joins of a cell, if the four places after it lie in the tile.
+/// Leaves out the joins that `left_out` names. Most cells have the same label as all four places,
+/// and so no join.
 #[inline(always)]
 fn push_inner_cell(
     table: &mut JoinTable,
@@ -204,7 +205,8 @@ fn push_inner_cells(
     Ok(())
 }
 
-/// Adds the joins of a row's cells with later neighbours in the tile, except those left out.
+/// Adds the joins of the cells of row `row` with later neighbours in the tile.
+/// Leaves out the joins that `left_out` names.
 fn push_row(
     table: &mut JoinTable,
     flood: &TileFlood,

@@ -41,7 +41,7 @@ impl<'a> LeftOut<'a> {
     }
 }
 
-/// Returns whether `sources` has an entry at index `node`, and that entry a height.
+/// Returns whether `sources` has a height at index `node`.
 #[inline(always)]
 fn is_source(sources: &[Cell], node: u32) -> bool
     ensures { result ≡ is_some (slice_index_or sources.now node None) }
@@ -60,7 +60,7 @@ fn are_both_sources(sources: &[Cell], from: u32, to: u32) -> bool
 }
 
 /// Returns the join of two cells, by their marks, if their labels differ.
-/// Returns `None` if both labels have heights in `sources`.
+/// Returns `None` if `to` is `None`, or if both labels have heights in `sources`.
 #[inline(always)]
 pub(crate) fn join_of(sources: &[Cell], from: CellMark, to: Option<CellMark>) -> Option<Join>
     ensures { joins_of sources.now from to ≡ option_to_list result }

@@ -62,7 +62,7 @@ pub(crate) fn label_nodes(
     Ok(nodes)
 }
 
-/// Returns `join` with nodes for its labels' numbers; `None` if both have one node.
+/// Returns `join` with nodes for its labels' numbers; `None` if both labels have the same node.
 /// `nodes` has the node of each number's label.
 #[inline(always)]
 fn place_join(join: Join, nodes: &[u32]) -> Option<Join>

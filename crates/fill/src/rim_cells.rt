@@ -62,7 +62,7 @@ pub(crate) fn push_join<J: JoinList>(
 /// Adds the join of the cell at `place` with the cell in direction `way`, if wanted.
 /// `way` is 0 for E, 1 for SE, 2 for S or 3 for SW. `from` is the cell's mark, and `below` that of
 /// the place south of the cell. With `left_out.bypassed`, leaves out a diagonal join if the detour
-/// by a cell beside both is no higher.
+/// by a cell beside both is no higher than the join.
 #[inline(always)]
 fn push_on_way<C: MarkedCells, J: JoinList>(
     joins: &mut J,

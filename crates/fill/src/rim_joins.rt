@@ -96,8 +96,9 @@ impl<'a> CellsAround<'a> {
         }
     }
 
-    /// Returns the tile of a place of the grid; a place near `self.tile` needs no division.
-    /// Each neighbour that comes after a cell of `self.tile` in row order is near.
+    /// Returns the tile of a place of the grid.
+    /// This takes no division if the place is near `self.tile` ([`is_near`]). Each neighbour that
+    /// comes after a cell of `self.tile` in row order is near.
     #[inline(always)]
     fn tile_of(&self, place: Place) -> u32
         requires { IsWithin self.now.tiles.now.tiling.now place }
@@ -141,8 +142,8 @@ impl<'a> MarkedCells for CellsAround<'a> {
     }
 }
 
-/// Pushes without a search, since no two joins over rims have the same labels.
-/// For a rim cell is its own label.
+/// Pushes a join without looking for a listed join of the same labels.
+/// Over rims no two joins have the same labels, since each rim cell is its own label.
 impl JoinList for Vec<Join> {
     ghost joins = { λ list. list.items };
 

@@ -217,8 +217,8 @@ impl SpillGraph {
     }
 
     /// Returns the least crest from each label to an end cell.
-    /// The list is in row order of the grid. An entry is `None` if its place is no label. So is the
-    /// entry of a label that is no end cell and from which no joins lead to one.
+    /// The list is in row order of the grid. An entry is `None` if its place is no label. It is
+    /// `None` too for a label that is no end cell and from which no joins lead to an end cell.
     ///
     /// # Errors
     ///

@@ -1,5 +1,6 @@
--- The invariant of a flood is `IsFlooding`. A push adds one entry to the queue, a pop removes one.
--- At the start each source is queued at its height, which becomes its level.
+-- The invariant of a flood, `IsFlooding`, says which nodes have final levels and which have entries
+-- in the queue. It holds at the start, when each source is queued at its height, its first level. A
+-- push to the queue's heap adds one entry, a pop removes one.
 use Rattle.std.proofs.Common.{[], ◌≡◌, ℕ, ◌<◌, ◌≤◌, ◌⊎◌, ℤ, List, length, Option, None, Some, IsSome, zero, suc, ◌+◌, ◌∷◌, get_or, set, replicate, ◌≤ℤ◌, sym, ap, subst, refl, ◌∙◌, arith, inl, inr}
 use Rattle.std.specs.Int.{int_max}
 use Rattle.std.specs.List.{Contains, All}
@@ -160,7 +161,8 @@ sources_passed source n m waiting s up none = record {
   ];
 }
 
--- If the queue has the sources below n, it has those below n + 1 after source n is added.
+-- If `now` has the entries of the sources below n, `new` has those of the sources below n + 1. Here
+-- w is the entry of source n, and `new` is `now` with w added.
 pub source_more : (source : Sources) (n : ℕ) (h : ℤ) (now new : List Candidate) (w : Candidate) →
     AreSourcesQueued n source now → source n ≡ Some h → w.node ≡ n → w.label ≡ n → w.height.0 ≡ h →
     PutsIn w now new → AreSourcesQueued (n + 1) source new

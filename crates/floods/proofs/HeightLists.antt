@@ -74,7 +74,8 @@ is_low a b e = record { le = T_from_true _ e }
 pub low_is : (a b : ℤ) → a ≤ℤ b → le_z a b ≡ true
 low_is a b h = true_from _ h.le
 
--- If the number stored at index i is a height at most h, entry i of `seen` is a height at most h.
+-- `seen` is the list of heights that marks and numbers store. If the number at index i stores a
+-- height of at most h, entry i of `seen` is a height of at most h.
 pub no_higher : (marks : List Bool) (heights : List ℤ) (seen : List (Option ℤ)) (i : ℕ) (h : ℤ) →
     length marks ≡ length heights → heights_where marks heights ≡ seen →
     noted (get_or marks i false) (get_or heights i lack) ≡ Some (get_or heights i lack) →

@@ -22,7 +22,8 @@ use Rattle.floods.specs.Walk.{Sources}
 use Rattle.floods.specs.Flood.{AreOwn, InOrder, PutsIn, candidates_in, entry_of, HasCandidate, IsCandidateBy, candidate_by, Queues, AreNoted, KeepsDone, Relaxes}
 use Rattle.floods.proofs.Heaps.{all_by_contains, cons_head, cons_tail, held_in, held_cases, one_held}
 
--- A neighbour with a label, or with an entry at most at its crest by the arc, needs no new entry.
+-- If an arc's end has a label, or an entry at most at its crest by the arc, `Queues` holds without
+-- a new entry.
 pub passed : (labels : List (Option ℕ)) (from : Candidate) (arc : Spill)
     (waiting : List Candidate) → (entry_of labels arc.to ≡ None → HasCandidate waiting arc.to
     (int_max arc.height from.height.0)) → Queues labels from (arc ∷ []) waiting waiting
@@ -74,7 +75,8 @@ neighbour_queued labels from arc old new perm = record {
     ≤ℤ_refl _,
   )
 
--- `AreNoted` is kept when a neighbour is queued and its crest by the arc becomes its level.
+-- `AreNoted` is kept when a neighbour is queued and its crest by the arc becomes its level. By
+-- `AreNoted`, each unlabelled node with a level has an entry at most at that level.
 pub noted : (labels : List (Option ℕ))
     (levels : List (Option ℤ)) (from : Candidate) (arc : Spill) (old new : List Candidate) →
     arc.to < length labels → AreNoted labels levels old → PutsIn (candidate_by from arc) old new →
@@ -102,7 +104,8 @@ noted labels levels from arc old new below s perm = record {
   crest = int_max arc.height from.height.0
 
 -- `AreOwn` is kept when an unlabelled neighbour is queued at a crest below its level, if any, and
--- the crest becomes its level.
+-- the crest becomes its level. By `AreOwn`, a source's entry at the source's height has the source
+-- as label; an unlabelled source has a level, at most its height.
 pub own_by_arc : (source : Sources) (labels : List (Option ℕ))
     (levels : List (Option ℤ)) (from : Candidate) (arc : Spill) (old new : List Candidate) →
     arc.to < length labels → length levels ≡ length labels → entry_of labels arc.to ≡ None →
@@ -163,7 +166,8 @@ no_arcs labels from waiting = record {
   reached = λ k d below. absurd (omega (arith, below));
 }
 
--- If `Queues` holds of some arcs, and then of others, it holds of all of them.
+-- If `Queues` holds for `arcs` from `old` to `now`, and for `last` from `now` to `new`, it holds
+-- for both together from `old` to `new`.
 pub more_arcs : (labels : List (Option ℕ)) (from : Candidate)
     (arcs last : List Spill) (old now new : List Candidate) → Queues labels from arcs old now →
     Queues labels from last now new → Queues labels from (arcs ++ last) old new
@@ -191,7 +195,8 @@ more_arcs labels from arcs last old now new s t = record {
       ]);
 }
 
--- Where no neighbour needs an entry, arcs are relaxed without a change of levels or queue.
+-- If the queue is in order, and `AreNoted` and `Queues` hold without a new entry, `Relaxes` holds
+-- with levels and queue unchanged.
 pub stays : (labels : List (Option ℕ)) (levels : List (Option ℤ))
     (from : Candidate) (arcs : List Spill) (queue : Queue) → InOrder queue → AreNoted labels levels
     (candidates_in queue) → Queues labels from arcs (candidates_in queue) (candidates_in queue) →

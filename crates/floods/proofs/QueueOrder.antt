@@ -1,4 +1,5 @@
--- Adding and taking keep the queue in order; an entry taken is a lowest one.
+-- A queue's list k has entries at height `base + k` alone, and none for k outside `first..end`; a
+-- heap has all other entries. Adding and taking keep this order; an entry taken is a lowest one.
 use Rattle.std.proofs.Common.{◌≡◌, ℕ, zero, suc, ◌<◌, ◌≤◌, false, List, [], ◌∷◌, ◌++◌, length, get_or, set, replicate, Option, None, Some, ℤ, pos, ◌+ℤ◌, ◌≤ℤ◌, Vec, ap, sym, subst, ◌∙◌, arith, inl, inr}
 use Rattle.std.specs.List.{Contains, All, flat_map}
 use Rattle.std.specs.Option.{IfSome, IfNone, option_to_list}
@@ -102,7 +103,7 @@ made_ordered count first lists others is heap = record {
       (ap (λ (z : List (List Candidate)). get_or z k []) is ∙ replicated [] count k) h));
 }
 
--- Skipping empty lists keeps the order.
+-- If the lists in `first..next` are empty, the order also holds with `next` in place of `first`.
 pub passed_ordered : (base : ℤ) (first next end : ℕ) (lists : List (List Candidate))
     (others : List Candidate) → AreOrdered base first end lists others → ((k : ℕ) → first ≤ k →
     k < next → get_or lists k [] ≡ []) → AreOrdered base next end lists others
@@ -204,8 +205,8 @@ pub where_none : {X P : Type 0} (r : Option X) → P → IfNone r P
 where_none None h = h
 where_none (Some x) h = tt
 
--- If `end` is at most `first`, the order also holds with any base, any heap in order, and `first`
--- and `end` 0.
+-- If `end` is at most `first`, all lists are empty. So they are in order with any new base, with
+-- `first` and `end` set to 0, and with any heap that is in order.
 pub base_moved : (base level : ℤ) (first end : ℕ) (lists : List (List Candidate))
     (old new : List Candidate) → AreOrdered base first end lists old → end ≤ first →
     IsHeap candidate_order new → AreOrdered level 0 0 lists new

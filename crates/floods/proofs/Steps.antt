@@ -1,4 +1,5 @@
--- A flood keeps its invariant as nodes are taken; at the end each node with a walk has its level.
+-- A flood keeps its invariant `IsFlooding` as nodes are taken from the queue and labelled. When no
+-- node without a label is queued, each node with a walk has its level and its label.
 use Rattle.std.proofs.Common.{◌≡◌, ◌≢◌, ℕ, ◌<◌, List, [], ◌∷◌, length, set, replicate, ℤ, pos, ◌≤ℤ◌, Option, None, Some, is_some, IsSome, unwrap_or, sym, ap, subst, refl, ◌∙◌, arith, ◌⊎◌, inl, inr}
 use Rattle.std.specs.Int.{int_max}
 use Rattle.std.specs.List.{Contains, All}
@@ -176,7 +177,8 @@ other_open labels n label a below none e = none_some (entry_of (set labels n (So
     (subst (λ (k : ℕ). entry_of (set labels n (Some label)) k ≡ None) e none)
     (get_or-set_same labels n (Some label) None below)
 
--- `IsFlooding` is kept when the lowest node gets level and label and its neighbours are queued.
+-- `IsFlooding` is kept when the node of the lowest entry w gets the height and the label of w, and
+-- its neighbours are queued.
 pub settle : (joins : Joins) (source : Sources) (nodes : ℕ) (levels after : List (Option ℤ))
     (labels : List (Option ℕ)) (old new more : List Candidate) (w : Candidate) (arcs : List Spill) →
     ((a b : ℕ) (h : ℤ) → joins a b h → b < nodes) → ((a b : ℕ) (h : ℤ) → joins a b h →
@@ -265,7 +267,7 @@ settle joins source nodes levels after labels old new more w arcs inside back s 
           ];
     }
 
--- `AreNoted` is kept once the lowest node has its level and label.
+-- `AreNoted` still holds after the lowest entry w is taken and its node gets a level and a label.
 pub noted_still : (labels : List (Option ℕ))
     (levels : List (Option ℤ)) (old new : List Candidate) (w : Candidate) (level : ℤ) (label : ℕ) →
     w.node < length labels → AreNoted labels levels old → TakesLowest labels old w new →
@@ -280,7 +282,7 @@ noted_still labels levels old new w level label below s t = record {
       (s.queue a h was (sym (get_or-set_other levels w.node a (Some level) None n) ∙ noted));
 }
 
--- `AreOwn` is kept once the lowest node has its level and label.
+-- `AreOwn` still holds after the lowest entry w is taken and its node gets a level and a label.
 pub own_still : (source : Sources) (labels : List (Option ℕ))
     (levels : List (Option ℤ)) (old new : List Candidate) (w : Candidate) (level : ℤ) (label : ℕ) →
     w.node < length labels → AreOwn source labels levels old → TakesLowest labels old w new →

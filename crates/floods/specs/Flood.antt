@@ -1,5 +1,6 @@
--- The queue of a flood, and its steps: a node is taken, and its arcs (the joins seen from it) are
--- relaxed. An unlabelled neighbour whose crest by the arc is below its level, if any, is queued.
+-- The queue of a flood has entries: a node, and the crest and end of a walk from it. A step takes a
+-- lowest entry and labels its node. A neighbour without a label is queued if it has no level or a
+-- level above its crest by the arc. An arc is a join seen from one of its nodes.
 -- Public.
 use Rattle.std.specs.Prelude.{◌≡◌, ℕ, ◌<◌, ◌≤◌, ◌⊎◌, ℤ, pos, ◌+ℤ◌, ◌≤ℤ◌, List, [], ◌∷◌, ◌++◌, map, length, Option, None, Some, IsSome, slice_index_or}
 use Rattle.std.specs.Ordering.{int_cmp}
@@ -30,20 +31,21 @@ all_entries lists others = flat_map (λ entries. entries) lists ++ others
 abbrev pub candidates_in : Queue → List Candidate
 candidates_in w = all_entries (entries_of w.lists.items) (heap_items w.others)
 
--- The entry w has the height of list k, and k is from `first` on and before `end`.
+-- Entry w has height `base + k`, the height of list k, and k is in `first..end`.
 pub record IsListed (base : ℤ) (first end k : ℕ) (w : Candidate) : Type 0 where
   pub level : w.height.0 ≡ base +ℤ pos k
   pub from : first ≤ k
   pub below : k < end
 
--- The heap is in order. Lists outside `first..end` are empty. An entry has its list's height.
+-- The heap is in order, and there are at least `end` lists. Those outside `first..end` are empty,
+-- and list k has entries at height `base + k` alone.
 pub record AreOrdered (base : ℤ) (first end : ℕ) (lists : List (List Candidate))
     (others : List Candidate) : Type 0 where
   pub heap : IsHeap candidate_order others
   pub end_inside : end ≤ length lists
   pub listed : (k : ℕ) → All (IsListed base first end k) (slice_index_or lists k [])
 
--- The queue is in order.
+-- `AreOrdered` holds for the lists and the heap of the queue.
 abbrev pub InOrder : Queue → Type 0
 InOrder w = AreOrdered w.base w.first w.end (entries_of w.lists.items) (heap_items w.others)
 
@@ -74,8 +76,8 @@ pub record TakesLowest (labels : List (Option ℕ)) (old : List Candidate) (w : 
   pub left : All (Contains old) new
   pub kept : All (λ x. HasLabel labels x ⊎ (x ≡ w) ⊎ Contains new x) old
 
--- The entry of the neighbour at `arc`. It has the greater of the heights of `arc` and `from`, and
--- the label of `from`.
+-- The entry of node `arc.to`, reached by `arc` from the node of `from`. The entry's height is the
+-- greater of the heights of `arc` and `from`, and its label that of `from`.
 abbrev pub candidate_by : Candidate → Spill → Candidate
 candidate_by from arc = record {
   height = record { 0 = int_max arc.height from.height.0 };
@@ -97,7 +99,7 @@ pub record HasSourcesNoted (count : ℕ) (source : Sources) (levels : List (Opti
   pub rest : (a : ℕ) → count ≤ a → entry_of levels a ≡ None
 
 -- If an entry's node is a source of the entry's height, the entry's label is that node. Each source
--- without a label has a level, at most its height.
+-- without a label has a level, at most the source's height.
 pub record AreOwn (source : Sources) (labels : List (Option ℕ)) (levels : List (Option ℤ))
     (waiting : List Candidate) : Type 0 where
   pub own : All (λ w. source w.node ≡ Some w.height.0 → w.label ≡ w.node) waiting
@@ -108,13 +110,12 @@ pub record AreOwn (source : Sources) (labels : List (Option ℕ)) (levels : List
 abbrev pub HasCandidate : List Candidate → ℕ → ℤ → Type 0
 HasCandidate waiting a h = (w : Candidate) × Contains waiting w × (w.node ≡ a) × (w.height.0 ≤ℤ h)
 
--- The entry w is that of the neighbour at one of `arcs`, which are arcs of `from`.
+-- Entry w is `candidate_by` of `from` and one of `arcs`.
 abbrev pub IsCandidateBy : Candidate → List Spill → Candidate → Type 0
 IsCandidateBy from arcs w = (arc : Spill) × Contains arcs arc × (w ≡ candidate_by from arc)
 
--- Old entries stay, and each added entry is that of the neighbour at one of `arcs`, arcs of `from`.
--- Each neighbour at one of `arcs` has a label, or an entry at most at its crest. The crest is the
--- greater of the heights of the arc and `from`.
+-- Old entries stay, and each added entry is `candidate_by` of `from` and one of `arcs`. An arc's
+-- end has a label, or an entry at most at the greater of the heights of the arc and `from`.
 pub record Queues (labels : List (Option ℕ)) (from : Candidate) (arcs : List Spill)
     (old : List Candidate) (new : List Candidate) : Type 0 where
   pub kept : All (Contains new) old
@@ -133,8 +134,9 @@ pub record AreNoted (labels : List (Option ℕ)) (levels : List (Option ℤ))
 abbrev pub KeepsDone : List (Option ℕ) → List (Option ℤ) → List (Option ℤ) → Type 0
 KeepsDone labels old new = (a : ℕ) → IsSome (entry_of labels a) → entry_of new a ≡ entry_of old a
 
--- The arcs `arcs` of `from` were relaxed as in Dijkstra's algorithm. `AreOwn` holds if it held
--- before.
+-- The arcs `arcs` of `from` were relaxed as in Dijkstra's algorithm: nodes are queued as `Queues`
+-- says. The new queue is in order, and nodes with labels keep their levels. A node with a level and
+-- without a label has an entry at most at that level. `AreOwn` holds after if it held before.
 pub record Relaxes (labels : List (Option ℕ)) (from : Candidate) (arcs : List Spill)
     (levels after : List (Option ℤ)) (old new : Queue) : Type 0 where
   pub order : InOrder new
@@ -144,7 +146,7 @@ pub record Relaxes (labels : List (Option ℕ)) (from : Candidate) (arcs : List 
       AreOwn source labels after (candidates_in new)
   pub queue : Queues labels from arcs (candidates_in old) (candidates_in new)
 
--- All arcs of `from` were relaxed.
+-- `Relaxes` holds for a list of all arcs of the node of `from`.
 abbrev pub Spreads : Joins → List (Option ℕ) → Candidate → List (Option ℤ) → List (Option ℤ) →
     Queue → Queue → Type 0
 Spreads joins labels from levels after old new =

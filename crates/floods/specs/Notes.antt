@@ -1,4 +1,4 @@
--- How lists of levels and labels, some of them missing, are stored as numbers.
+-- How lists of optional heights and of optional labels are stored as lists of numbers.
 -- Public.
 use Rattle.std.specs.Prelude.{ℕ, ℤ, pos, Bool, ◌==◌, List, [], ◌∷◌, map, Option, None, Some, if◌then◌else◌, unwrap_or}
 use Rattle.std.specs.Ordering.{int_eq}
@@ -12,7 +12,7 @@ abbrev pub noted : Bool → ℤ → Option ℤ
 noted marked height =
     if marked then Some height else (if int_eq height lack then None else Some height)
 
--- The heights stored as these marks and numbers.
+-- The optional heights stored as these numbers; a mark says whether `lack` is a height there.
 abbrev pub heights_where : List Bool → List ℤ → List (Option ℤ)
 heights_where [] heights = []
 heights_where (marked ∷ rest) [] = []

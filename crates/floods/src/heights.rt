@@ -17,7 +17,7 @@ const LACK: Height = Height::MAX;
 pub struct HeightList {
     /// A missing height is stored as [`LACK`].
     heights: Vec<Height>,
-    /// Whether an entry equal to [`LACK`] is a height. Read at such entries only.
+    /// Whether an entry of `heights` that equals [`LACK`] is a height. Read for such entries only.
     greatest: Vec<bool>,
     ghost size: { length greatest.items ≡ length heights.items },
 }

@@ -1,7 +1,7 @@
 //! The trait [`Net`]: nodes, joins of two nodes at a height, and sources with heights.
 //!
 //! A net may override [`Net::spread`] to queue neighbours without listing them, and
-//! [`Net::next_candidate`] to skip runs of nodes that are no sources.
+//! [`Net::next_candidate`] to skip nodes that are no sources.
 ghost use Rattle.std.specs.Prelude.{◌≡◌, ◌<◌, ◌≤◌, ℕ, ℤ, Option, IfOk, OnOk, length};
 ghost use Rattle.floods.specs.Walk.{HasJust, HasNoSource};
 ghost use Rattle.floods.specs.Flood.{candidates_in, InOrder, Spreads, AreNoted};

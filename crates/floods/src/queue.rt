@@ -1,6 +1,7 @@
 //! The priority queue of a flood: the node queued at the least height is taken first.
 //!
-//! Lists have nodes at consecutive heights, one list for each height. A heap has all other nodes.
+//! A node is queued at the crest of a walk from it to a source. Lists have nodes at consecutive
+//! heights, one list for each height. A heap has all other nodes.
 //! [`queue_neighbour`] queues a node again only at a lower crest.
 ghost use Rattle.std.specs.Prelude.{◌≡◌, ◌<◌, ◌≤◌, pos, ◌+ℤ◌, ◌≤ℤ◌, ◌∷◌, [], ℕ, ℤ, IfOk, OnOk, IfSome, IfNone, length, All, replicate, slice_index_or};
 ghost use Rattle.std.specs.BinaryHeap.{heap_items, heap_len};
@@ -15,7 +16,8 @@ use std::collections::BinaryHeap;
 use terrain::Height;
 
 /// A queued node; `height` is the crest of a walk from it to the source `label`.
-/// Entries compare by `height` alone. That of least height is the greatest, for a max-heap.
+/// Entries compare by `height` alone. The entry of least height is the greatest,
+/// since a [`BinaryHeap`] takes the greatest first.
 #[derive(Clone, Copy)]
 #[derive_where(PartialEq, Eq, PartialOrd, Ord)]
 pub struct Candidate {
@@ -38,8 +40,8 @@ const LEAST_LISTS: usize = 16;
 const NODES_A_LIST: usize = 16;
 
 /// The first capacity of each list and of the heap, in entries, so that few grow.
-/// At 16 bytes an entry this is above 1 KiB. An allocator may keep smaller blocks when they are
-/// freed, and then it cannot return the memory below them to the system.
+/// At 16 bytes an entry, 80 entries take more than 1 KiB. An allocator may keep smaller allocations
+/// after they are freed, and then it cannot return the memory below them to the system.
 const FIRST_CAPACITY: usize = 80;
 
 /// The priority queue of a flood. List `k` has nodes at height `base + k` alone.

@@ -1,4 +1,4 @@
--- If no other gauge drains through a gauge, accumulation + 1 cells have its number. An appended
+-- If no other gauge drains through gauge g, accumulation + 1 cells have g's number. An appended
 -- gauge changes only the catchments of cells that drain through it.
 use Rattle.std.proofs.Common.{◌≡◌, ◌≢◌, ℕ, zero, suc, ◌+◌, ◌-◌, ◌<◌, ◌≤◌, inl, inr, Bool, true, false, cond, not, ◌&&◌, ◌||◌, List, [], ◌∷◌, ◌++◌, length, map, get_or, count_by, Option, None, Some, is_some, unwrap_or, sym, ap, refl, ◌∙◌, arith}
 use Rattle.std.specs.Prelude.{◌==◌}
@@ -21,7 +21,8 @@ use Rattle.flow.proofs.Reaching.{IsEnding, reached_early, drains_at, drains_from
 use Rattle.flow.proofs.Sending.{and_on}
 use Rattle.flow.proofs.Windows.{any_in_range, sum_of_cells}
 
--- `at` is the first index whose entry passes p; `position_from` counts from i.
+-- `at` is the index of the first entry of xs that passes p. `position_from`, which counts from i,
+-- gives i + at.
 pub record IsPosition {X : Type 0} (p : X → Bool) (i : ℕ) (xs : List X) : Type 0 where
   pub at : ℕ
   pub found : position_from p i xs ≡ Some (i + at)

@@ -1,5 +1,5 @@
--- If 0 is written at one gauge after another, the codes are cut at all gauges. If cells are
--- numbered gauge by gauge, each has the number of the first gauge that names it.
+-- If 0, an outlet's code, is written at one gauge after another, the codes are cut at all gauges.
+-- If cells are numbered gauge by gauge, each has the number of the first gauge that names it.
 use Rattle.std.proofs.Common.{◌≡◌, ◌≢◌, ℕ, ◌+◌, ◌*◌, ◌<◌, inl, inr, true, cond, ◌||◌, List, length, get_or, set, take, Option, None, Some, is_some, sym, ap, refl, ◌∙◌, arith}
 use Rattle.std.specs.Prelude.{◌==◌}
 use Rattle.std.specs.Option.{option_or}
@@ -89,8 +89,8 @@ index_at cols n gauges k i d e below same read =
     read ∙ ap (λ m. index_of m (get_or gauges k d)) same
     ∙ ap (λ (q : Place). index_of cols q) (get_or_default gauges k d e below)
 
--- If index i has a number among the first k gauges, it has the same among the first k + 1. If not,
--- its number among these is k + 1 if gauge k, counted from 0, has index i.
+-- If row-order index i has a number by the first k gauges, it has the same number by the first
+-- k + 1. If not, its number by the first k + 1 is k + 1 if gauge k, counted from 0, has index i.
 pub number_next : (cols : ℕ) (gauges : List Place) (k i : ℕ) (d : Place) → k < length gauges →
     number_of_index cols (take (k + 1) gauges) i ≡ option_or (number_of_index cols
     (take k gauges) i) (cond (index_of cols (get_or gauges k d) == i) (Some (k + 1)) None)

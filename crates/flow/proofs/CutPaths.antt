@@ -23,7 +23,7 @@ use Rattle.flow.proofs.Piece.{match_none, match_some}
 use Rattle.flow.proofs.Reaching.{IsEnding, reached_early}
 use Rattle.flow.proofs.Windows.{mapped_next}
 
--- `at` is the index of the first of n values of f that passes the test.
+-- Of f's values below n, `f at` is the first that passes the test.
 pub record IsFirst {X : Type 0} (test : X → Bool) (f : ℕ → X) (n : ℕ) : Type 0 where
   pub at : ℕ
   pub below : at < n
@@ -147,7 +147,7 @@ module _ (d : Directed) (s : IsEnding d)
   follows p (suc k) clear = ap (next cut_d) (follows p k
       (λ j below. clear j (omega (arith, below)))) ∙ goes_on (follow d p k) (clear k (omega arith))
 
-  -- If the path of p meets a gauge, p's path in the cut map ends at the first.
+  -- If the path of p meets a gauge, p's path in the cut map ends at the first gauge on the path.
   last_first : (p : Place) → (w : IsFirst is_gauge (follow d p) (moves d)) →
       last_of cut_d p ≡ follow d p w.at
   last_first p w =
@@ -164,7 +164,7 @@ module _ (d : Directed) (s : IsEnding d)
   no_gauge_last p is w = let m = reached_early d s p (last_of d p) is (moves d) refl in
       ap is_gauge (sym m.3) ∙ w.fails m.0 m.1
 
-  -- For a data cell, the gauge number of the end of its path in the cut map is the catchment.
+  -- The catchment of a data cell p is the gauge number of the end of p's path in the cut map.
   pub caught : (p : Place) → IsCoded d p →
       gauge_number gauges (last_of cut_d p) ≡ catchment d gauges p
   caught p is = elim (cases_first is_gauge (follow d p) (moves d)) [
@@ -206,7 +206,7 @@ module _ (d : Directed) (s : IsEnding d)
             ∙ cut.elsewhere (last_of d p) (no_gauge_last p is w) ∙ s.ends p is.code is.is
       ]
 
-  -- Data cells have one index exactly if they are one cell.
+  -- Two data cells have the same row-order index exactly if they are the same cell.
   agree : (q g : Place) → IsCoded d q → IsCoded d g →
       (index_of d.cols g == index_of d.cols q) ≡ is_place q g
   agree q g a b = elim (cases_Bool (is_place q g)) [
@@ -224,7 +224,8 @@ module _ (d : Directed) (s : IsEnding d)
       agree q there is (coded_gauge there
       (list_any_at (is_place there) gauges k g below (is_place_from there there refl)))))
 
-  -- If `values` has the gauge number of each path's end in the cut map, it has the catchments.
+  -- If `values` has for each data cell the gauge number of the place where the cell's path ends in
+  -- the cut map, the values are the catchments.
   pub catchments_are : (n : EndNumbers) → ((i : ℕ) →
       n.number i ≡ unwrap_or (number_of_index d.cols gauges i) 0) → (values : List (Option ℕ)) →
       IsMapOf cut_d (end_number cut_d n) values → IsMapOf d (catchment d gauges) values

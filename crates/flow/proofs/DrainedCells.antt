@@ -1,5 +1,5 @@
--- How many cells' flow paths contain p, the path of p included, as a sum over all cells. A cell
--- adds 1 if its path contains p, else 0.
+-- How many cells' flow paths contain p, the path of p included, is a sum over all cells. In it a
+-- cell counts 1 if the cell's path contains p, else 0.
 use Rattle.std.proofs.Common.{◌≡◌, ◌≢◌, ℕ, ◌+◌, ◌-◌, ◌*◌, ◌<◌, ◌≤◌, Bool, true, false, not, ◌&&◌, cond, Option, is_some, sym, ap, refl, ◌∙◌, arith}
 use Rattle.std.proofs.Math.Nat.{mul-le-mul}
 use Rattle.std.proofs.lemmas.Bool.{and_from, and_left, and_right, eq-eqb, cond-true, cond-false, false_from_ne_true, not_from_true, not_from_false}

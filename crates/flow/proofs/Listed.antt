@@ -1,5 +1,6 @@
--- The entries of a tile's lists: codes, appended row by row; counts and exits, at each index; and
--- the number of the outlet to which each exit leads.
+-- Entry i of a tile's counts or exits is the value at cell i, `None` at NODATA. Entry i of the
+-- exit numbers is the number of the outlet of cell i if cell i is an exit, else 0. The codes of the
+-- tile's rows, appended row by row, are the tile's codes.
 use Rattle.std.proofs.Common.{◌≡◌, ℕ, ◌<◌, ◌≤◌, List, length, get_or, map, Option, None, Some, IfSome, sym, ap, subst, refl, ◌∙◌, arith, ◌+◌, ◌-◌, ◌*◌, inl, inr, ◌++◌}
 use Rattle.std.specs.List.{range_with_len}
 use Rattle.std.specs.Option.{option_map}
@@ -66,7 +67,8 @@ exit_index_is b cells ends i h = index_of_placed b (get_or cells i None) (get_or
     ∙ ap (option_map (index_in b)) (sym (exit_at b cells ends i h))
 
 module _ (o : Outlets) (flows : List Flow) (n : EndNumbers) (b : Bounds) where
-  -- If x is a numbered place, so is q, the place at x's index.
+  -- If x is a numbered place, so is q, the place at the index of x. A numbered place is in the
+  -- bounds and the grid, and the outlet listed for it, if any, has a number.
   pub exit_placed : (exit : ℕ) (x : Option Place) (q : Place) → q ≡ place_in b exit → Some exit
       ≡ option_map (index_in b) x → IfSome x (IsNumberedPlace o flows n b) →
       IsNumberedPlace o flows n b q

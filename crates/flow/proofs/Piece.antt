@@ -78,7 +78,8 @@ module _ (b : Bounds) (cells : List (Option ℕ)) (links upstream rim_ends : Lis
       subst (λ (l : List ℕ). AreEnds l ends) (sym s.linked)
       (subst (λ (z : Flow). AreEnds (links_by z.bounds z.codes) ends) (sym seen) are)
 
--- The lists made for a tile that a view shows.
+-- The codes (`cells`), links and weights of the tile that a view shows. In the view's map of
+-- directions all flow paths end.
 pub record AreLists (v : View (Option ℕ)) (b : Bounds) (cells : List (Option ℕ))
     (links weights : List ℕ) : Type 0 where
   pub ends : AllFlowEnds (directed_by v)
@@ -290,7 +291,8 @@ codes_from d t tile f cutting below right = record {
       sym entry ∙ right.same_codes (place_in (bounds_of t tile) i) inside;
 }
 
--- If the flow by these lists has the exits of a tile, the lists are those made for the tile.
+-- If the flow made of codes and ends has the exits of a view's tile, then the codes, their links
+-- and their weights are those of the tile.
 pub lists_seen : (v : View (Option ℕ)) (b : Bounds) (cells : List (Option ℕ))
     (upstream ends links : List ℕ) (f : Flow) → flow_by b cells upstream ends ≡ f →
     IsTileExits (directed_by v) v.cutting v.tile f →

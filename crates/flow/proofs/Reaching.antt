@@ -112,7 +112,8 @@ module _ (d : Directed) (s : IsEnding d) where
   drains_from c p y = let r = some_in_range (λ k. is_place p (follow d c k)) (moves d) y in
       (r.0, sym (place_is p (follow d c r.0) r.2))
 
-  -- A path of k moves ends in a region, which it entered from outside and has not left since.
+  -- The first k moves from q end in region `In`. The path was outside after `from` moves, and
+  -- inside after each later one of these moves.
   pub record EntersRegion (In : Place → Type 0) (q : Place) (k : ℕ) : Type 0 where
     pub from : ℕ
     pub before : from < k
@@ -176,7 +177,7 @@ module _ (d : Directed) (s : IsEnding d) where
         ]
       ]
 
-  -- A path whose last move reaches p from another place enters the region of p alone.
+  -- A path whose last move reaches p from another place enters the region that has only p.
   abbrev pub one_move : (q p : Place) (a : ℕ) → follow d q (suc a) ≡ p → follow d q a ≢ p →
       EntersRegion (λ z. z ≡ p) q (suc a)
   one_move q p a leads apart = record {

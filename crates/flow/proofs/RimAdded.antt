@@ -111,7 +111,8 @@ module _ (t : Cutting) (h : IsCutting t) (listed : List ℕ) (tile : ℕ) (below
       get_or weights (index_in (bounds_of t tile) p) 0
       ≡ get_or old (index_in (bounds_of t tile) p) 0 + sum_below (λ k. adds t listed tile k p) side
 
-  -- The amount listed for a side number, added at its cell, is what `adds` says.
+  -- With the cell of `side` and the amount listed for `side`, `adds_at` gives what `adds` does: the
+  -- inflow that `side` adds at p.
   one_added : (b : Bounds) → b ≡ bounds_of t tile → (side : ℕ) (cell : Option Place) (amount : ℕ) →
       cell ≡ side_cell (bounds_of t 0) b side →
       amount ≡ get_or listed (tile * stride (bounds_of t 0) + side) 0 → (p : Place) →

@@ -32,7 +32,7 @@ module _ (l b : Bounds) where
         | inr f ↦ absurd (none-some p (sym (cond-false {A = Option Place} _ _ None f) ∙ e))
       ]
 
-  -- A place that is the place of its own side number is the cell of this number.
+  -- If p is the place that p's side number gives, p is the cell with this side number.
   pub cell_at : (p : Place) → IsInBounds b p → side_place l b (side_number l b p) ≡ p →
       side_cell l b (side_number l b p) ≡ Some p
   cell_at p i back =

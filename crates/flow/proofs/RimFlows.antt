@@ -1,5 +1,5 @@
 -- Links lead from each exit into another tile to the next such exit on its flow path. Water that
--- leaves by the last one ends in the next tile.
+-- leaves by the last such exit ends in the next tile.
 use Rattle.std.proofs.Common.{◌≡◌, ◌≢◌, ℕ, zero, suc, ◌+◌, ◌*◌, ◌/◌, ◌%◌, ◌<◌, ◌⊎◌, inl, inr, true, false, cond, eqb, List, length, get_or, Option, None, Some, IfSome, is_some, slice_get, unwrap_or, sym, ap, subst, refl, ◌∙◌, arith}
 use Rattle.std.specs.Option.{option_and_then}
 use Rattle.std.proofs.lemmas.Bool.{cases_eq, cases_lt, cases_Bool, eqb-true, cond-true, cond-false, false_from_ne_true, false≢true}
@@ -32,7 +32,7 @@ pub outlet_from_code : (o : Option ℕ) → is_outlet_code o ≡ true → o ≡ 
 outlet_from_code None h = cc
 outlet_from_code (Some n) h = ap Some (eqb-true _ _ h)
 
--- A value read from the flow of a place's tile is the value read for the place.
+-- If `flow` is the flow of the tile of p, what `read` finds in `flow` is what `flows` gives for p.
 pub read_of_tile : {X : Type 0} (read : Flow → Option X) (t : Cutting) (flows : List Flow)
     (p : Place) (tile : ℕ) (flow : Flow) (x : Option X) →
     length flows ≡ tile_count t →
@@ -498,7 +498,8 @@ module _ (d : Directed) (t : Cutting) (flows : List Flow) (s : AreFlowsOf d t fl
         (on_way i h q e k)
 
     module _ (ends : List ℕ) (found : AreEnds links ends) where
-      -- If water leaves its tile at i, the end of i's path along links gives the water's outlet.
+      -- If water leaves its tile at rim number i, `rim_outlet` finds the water's outlet from the
+      -- end of i's path along links.
       pub outlet_of : (i : ℕ) → i < rim_number_count t → (q : Place) →
           target_by t flows i ≡ Some q →
           rim_outlet t flows ends i ≡ Some (last_of d (rim_place t i))

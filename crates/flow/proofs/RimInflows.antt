@@ -88,7 +88,8 @@ module _ (d : Directed) (t : Cutting) (flows : List Flow) (s : AreFlowsOf d t fl
       (one_move d e q p a first (λ z. c.apart (ap (tile_of_place t) (first ∙ sym z))))
       (one_move d e q p b second (λ z. x.apart (ap (tile_of_place t) (second ∙ sym z)))))
 
-  -- 1 if cell number c's flow path contains exit i, whose target has p's rim number, else 0.
+  -- 1 if rim number i has an exit into a place with p's rim number, and the flow path of cell c
+  -- contains this exit; else 0. Cell c has row-order index c.
   abbrev piece : Place → ℕ → ℕ → ℕ
   piece p c i =
       sent_to t (rim_number t p) (target_by t flows i) (drained d (rim_place t i) (cell d c))
@@ -185,7 +186,8 @@ module _ (d : Directed) (t : Cutting) (flows : List Flow) (s : AreFlowsOf d t fl
   module _ (links weights upstream : List ℕ) (targets : List (Option Place))
       (asked : targets ≡ targets_by t flows) (made : links ≡ rim_links_by t flows)
       (weighed : weights ≡ rim_weights_by t flows) (up : AreUpstream links weights upstream) where
-    -- Each rim number sends to its target the number of all cells that drain through its cell.
+    -- Rim number i sends to the rim number of its target how many cells' flow paths contain the
+    -- cell of i.
     sends : (k i : ℕ) → i < rim_number_count t → entering t targets weights upstream k i
         ≡ sent_to t k (target_by t flows i) (all_drained d (rim_place t i))
     sends k i h =

@@ -1,5 +1,6 @@
 -- The total of an exit into another tile, its weight and all weights upstream along links, is how
--- many cells' flow paths contain it.
+-- many cells' flow paths contain it. Exit i is the exit with rim number i, its number among the rim
+-- cells of all tiles.
 use Rattle.std.proofs.Common.{◌≡◌, ◌≢◌, ℕ, suc, ◌+◌, ◌-◌, ◌*◌, ◌<◌, ◌≤◌, ◌⊎◌, inl, inr, true, false, cond, ◌&&◌, eqb, List, length, get_or, Option, None, Some, is_some, sym, ap, subst, refl, ◌∙◌, arith, unwrap_or}
 use Rattle.std.specs.Option.{option_and_then}
 use Rattle.std.proofs.lemmas.Option.{none-some, MatchOption-at_some}
@@ -30,8 +31,7 @@ module _ (d : Directed) (t : Cutting) (flows : List Flow) (s : AreFlowsOf d t fl
   pub ending : IsEnding d
   ending = ending_of d t s.ends s.cutting s.of_tiles.size
 
-  -- If q's flow path leaves a tile at c, then c is q's exit e, or the path left q's tile by e
-  -- before.
+  -- If q's flow path leaves a tile at c, c is q's exit e, or the path left q's tile by e earlier.
   leaves_at : (q e c : Place) → IsExitOf d t q e → (m : ℕ) → follow d q m ≡ c →
       LeavesTile d t flows s c →
       (c ≡ e)
@@ -79,7 +79,7 @@ module _ (d : Directed) (t : Cutting) (flows : List Flow) (s : AreFlowsOf d t fl
   ]
 
   module _ (links : List ℕ) (made : links ≡ rim_links_by t flows) where
-    -- If j is linked to i, water from j leaves the next tile by exit i.
+    -- If exit j is linked to another exit i, water that leaves by j leaves the next tile by i.
     leads_out : (i j : ℕ) → j < rim_number_count t →
         leads_to links j i ≡ true → (g : NextExit d t flows s j) × (rim_number t g.to ≡ i) ×
         (q : Place)
@@ -107,7 +107,8 @@ module _ (d : Directed) (t : Cutting) (flows : List Flow) (s : AreFlowsOf d t fl
         ∙ ap (number_or t (rim_number t e)) (x.1.out
         ∙ cond-false {A = Option Place} _ None (Some x.0) (not_outlet d t flows s x.0 to))
 
-    -- A flow path from cell c to exit i stays in the tile of c, or passes one exit linked to i.
+    -- A flow path from cell c to exit i stays in the tile of c, or passes exactly one other exit
+    -- linked to i.
     module _ (i : ℕ) (q : Place) (target : target_by t flows i ≡ Some q) (c : Place)
         (is : IsCoded d c) where
       abbrev In : Place → Type 0
@@ -269,7 +270,8 @@ module _ (d : Directed) (t : Cutting) (flows : List Flow) (s : AreFlowsOf d t fl
         none-some (next d o.0.to) (sym none ∙ ap (target_by t flows) (sym o.1)
         ∙ target_on d t flows s o.0.to o.0.crosses)))
 
-    -- 1 if j is linked to i and the flow path of cell number c contains exit j, else 0.
+    -- 1 if exit j is linked to another exit i, and the flow path of cell c contains exit j; else 0.
+    -- Cell c has row-order index c.
     abbrev over : ℕ → ℕ → ℕ → ℕ
     over i c j = cond {A = ℕ} (leads_to links j i) (drained d (rim_place t j) (cell d c)) 0
 

@@ -12,7 +12,7 @@ use Rattle.flow.specs.Whole.{is_outlet_code}
 use Rattle.flow.specs.OutletRuns.{CodeRuns, AreCodeRuns, IsRunCounted, AreRunsCounted, run_start, run_codes}
 use Rattle.flow.specs.declared.outlet_runs.RunCounts.{RunCounts}
 
--- The outlets before a + i: those before a, and those among the first i codes from a on.
+-- The count of outlets before index a + i is that before a plus that in the first i codes from a.
 pub counted_inside : (codes : List (Option ℕ)) (a i b : ℕ) → a + i ≤ b →
     count_by is_outlet_code (take (a + i) codes) ≡ count_by is_outlet_code (take a codes)
     + count_by is_outlet_code (take i (slice_range codes a b))
@@ -49,7 +49,7 @@ counted_more r k =
 
 module _ (r : CodeRuns) (counts : List RunCounts) (counted : (k : ℕ) (c : RunCounts) →
     slice_get counts k ≡ Some c → IsRunCounted (run_codes r k) c) where
-  -- The outlets in the first k runs are those before run k.
+  -- The first k runs have in all as many outlets as the codes before run k.
   pub counted_before : (k : ℕ) → k ≤ length counts →
       sum_by (λ c. c.total) (take k counts) ≡ count_by is_outlet_code (take (run_start r k) r.codes)
   counted_before zero h =
@@ -101,7 +101,8 @@ module _ (r : CodeRuns) (counts : List RunCounts) (before : List ℕ) (are : Are
     (div-lt_iff_lt-mul {x = i} {y = length counts} are.some).1 (omega (arith, h, s.enough)),
   )
 
-  -- The outlets before i: those before its run, and those before i in the run.
+  -- The count of outlets before index i is that before run k, where i lies, plus that before i in
+  -- run k.
   counted_at : (k start : ℕ) → k ≡ i / r.run_length → start ≡ k * r.run_length →
       get_or before k 0 + count_by is_outlet_code (take (i - start) (run_codes r k))
       ≡ count_by is_outlet_code (take i r.codes)

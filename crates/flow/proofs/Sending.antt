@@ -1,5 +1,6 @@
--- `IsSending` stays true as a node sends its sum downstream along its link. When no entry of
--- `waits` is 0, all nodes have sent.
+-- A node's donors are the other nodes linked to it. As nodes send sums downstream, each sum stays
+-- what the node's donors have sent, and `waits` counts the donors that have not (`IsSending`). When
+-- no entry of `waits` is 0, all nodes have sent.
 use Rattle.std.proofs.Common.{◌≡◌, ◌≢◌, ℕ, ◌+◌, ◌<◌, Bool, true, false, not, ◌&&◌, cond, eqb, inl, inr, List, length, get_or, set, sym, ap, refl, ◌∙◌, arith, ◌^◌, ◌≤◌, ◌-◌}
 use Rattle.std.proofs.lemmas.Bool.{cases_eq, cases_Bool, eq-eqb, ne_eqb, eqb-true, cond-true, cond-false, and_left, and_right, and_parts, not-true, not_from_true, not_from_false, true_from_ne_false, false≢true, false_from_ne_true}
 use Rattle.std.proofs.lemmas.List.{get_or-set_same, get_or-set_other}
@@ -165,8 +166,8 @@ donors_begin links weights waits upstream few d none =
 
 -- One node sends its sum.
 
--- How `waits` and `upstream` change as `node` sends. If it is an end, it is marked as having sent,
--- and nothing else changes.
+-- How `waits` and `upstream` change as `node` sends. If `node` is an end, it is marked as having
+-- sent, and nothing else changes.
 pub record MovesOn (links weights waits upstream new_waits new_upstream : List ℕ) (node : ℕ) :
     Type 0 where
   pub waits_size : length new_waits ≡ length waits

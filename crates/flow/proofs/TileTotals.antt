@@ -39,8 +39,9 @@ module _ (d : Directed) (e : IsEnding d) (t : Cutting) (tile : ℕ) (b : Bounds)
   abbrev own : Place → Place → ℕ
   own p q = cond {A = ℕ} (is_some (code_at d q) && is_place p q) 1 0
 
-  -- The flow path of one data cell q. T k: its first k moves are allowed. R p: allowed moves reach
-  -- p. `over` is 1 if an allowed move enters cell i from outside the bounds, else 0.
+  -- The flow path of one data cell q. T k says that the first k moves of the path are allowed, R p
+  -- that allowed moves reach p. `over` is 1 if an allowed move enters cell i from outside the
+  -- bounds, else 0.
   module _ (q : Place) (is : IsCoded d q) (i : ℕ) (h : i < length links) (R : Place → Bool)
       (T : ℕ → Type 0) (start : T 0)
       (from : (p : Place) → R p ≡ true → (k : ℕ) × (follow d q k ≡ p) × T k)
@@ -161,8 +162,9 @@ module _ (d : Directed) (e : IsEnding d) (t : Cutting) (tile : ℕ) (b : Bounds)
                   )
             ]
 
-  -- Suppose that for each cell q the term at i is `own` plus `over` plus the terms at i's donors.
-  -- Then the sums over all cells q obey the equation too.
+  -- For a data cell q, the term at cell i is 1 if R holds of i and q, else 0. Suppose that for each
+  -- q the term at i is `own` plus `over` plus the terms at i's donors, the other cells linked to i.
+  -- Then the sums over all cells q obey the same equation.
   tallied : (R : Place → Place → Bool) (over : Place → Place → ℕ) (i : ℕ) → i < length links →
       ((q : Place) → IsCoded d q → cond {A = ℕ} (is_some (code_at d q) && R (place_in b i) q) 1 0
       ≡ own (place_in b i) q + over (place_in b i) q + sum_below (λ j. cond {A = ℕ} (leads_to links

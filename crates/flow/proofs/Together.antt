@@ -1,4 +1,5 @@
--- If each tile's list has the right entries, the lists joined are the map of a drained terrain.
+-- If each tile's list has the values of the tile's cells, the lists joined are the map of these
+-- values for a drained terrain.
 use Rattle.std.proofs.Common.{◌≡◌, ℕ, ◌*◌, List, length, Option, subst, sym, ap, ◌∙◌, Some, Vec, Global, vec_len, slice_get, arith}
 use Rattle.std.specs.Prelude.{Result, Ok, Err, IfOk}
 use Rattle.std.proofs.lemmas.Option.{get_or_from_slice_get, slice_get_within}
@@ -43,7 +44,8 @@ pub drained_coded : (d : Drained) → IsDraining d → (p : Place) → IsDataCel
     IsCoded (directed_of d) p
 drained_coded d draining p is = coded_from_some (directed_of d) p (draining.same_data p ∙ is)
 
--- If Q holds of every list of results that jobs may give by P, it holds of the list returned.
+-- If Q holds of every list of n results where P k holds of result k, Q holds of the list that n
+-- jobs return.
 pub jobs_gave : {X E : Type 0} (P : ℕ → X → Type 0) (r : Result (Vec X Global) E) (n m : ℕ)
     (Q : List X → Type 0) → n ≡ m →
     ((outs : List X) → length outs ≡ m → ((k : ℕ) (x : X) → slice_get outs k ≡ Some x → P k x) →
@@ -54,7 +56,8 @@ jobs_gave P (Ok v) n m Q same made len given = made v.items (omega (arith, v.ok.
     (given k x (omega (arith, v.ok.0, len, slice_get_within v.items k x there))))
 jobs_gave P (Err e) n m Q same made len given = len
 
--- A list with the right entry at each place of the cutting is the map of the drained terrain.
+-- A list with each data cell's value at its place, and `None` at NODATA, is the map of these values
+-- for the drained terrain.
 pub whole_map : (d : Drained) (t : Cutting) (codes : List (Option ℕ)) →
     Cuts t d.terrain → codes ≡ d.codes → (value : Directed → Place → ℕ) (whole : List (Option ℕ)) →
     length whole ≡ t.cols * t.rows →

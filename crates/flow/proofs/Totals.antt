@@ -1,5 +1,5 @@
--- If a node has a property whenever the other nodes linked to it have it, every node has it. This
--- bounds a node's total, its weight and all weights upstream.
+-- If a node has a property whenever its donors, the other nodes linked to it, have the property,
+-- then every node has it. This bounds a node's total: its weight plus all weights upstream.
 use Rattle.std.proofs.Common.{◌≡◌, ◌≢◌, ℕ, zero, suc, ◌+◌, ◌<◌, ◌≤◌, true, false, not, eqb, cond, inl, inr, List, length, get_or, sym, ap, subst, refl, ◌∙◌, arith}
 use Rattle.std.proofs.lemmas.Bool.{cases_eq, cases_Bool, cond-true, cond-false, and_from, and_parts, and_right, eq-eqb, ne_eqb, eqb-true, not-true, not_from_true, not_from_false, false_from_ne_true, false≢true}
 use Rattle.flow.specs.Streams.{AreStreams, total_within, total, onward, node_after, leads_to, upstream_sum}
@@ -77,7 +77,8 @@ sums_same links i f g same = omega (
   sums_le links i g f (λ j l on. omega (arith, same j l on)),
 )
 
--- If f is at most the weight plus the donors' f, and g at least the weight plus their g, f ≤ g.
+-- Let f be at most w plus the sum of f over the donors, and g at least w plus the sum of g over the
+-- donors, at each node. Then f ≤ g at each node.
 pub totals_le : (links : List ℕ) → AreStreams links → (w f g : ℕ → ℕ) →
     ((i : ℕ) → i < length links → f i ≤ w i + upstream_sum links f i) →
     ((i : ℕ) → i < length links → w i + upstream_sum links g i ≤ g i) → (i : ℕ) → i < length links →

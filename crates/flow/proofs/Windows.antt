@@ -1,5 +1,6 @@
--- A sum over a grid's cells is a sum over their row-order indexes. Tests of the numbers below n,
--- and lists of the values of a function there, are taken apart number by number.
+-- A sum over a grid's cells is a sum over their row-order indexes. A test holds of some number
+-- below n, or of all, exactly if `list_any` or `list_all` says so. The list of f's values below
+-- n + 1 is that of f's values below n with f n appended.
 use borrow.Author.Count.{below_more}
 use Rattle.std.proofs.Common.{◌≡◌, ℕ, zero, suc, ◌+◌, ◌*◌, ◌≤◌, List, length, map, sym, ap, refl, ◌∙◌, arith, add-one, zero-mul, ◌<◌, Bool, true, [], ◌∷◌, ◌++◌, get_or}
 use Rattle.std.proofs.lemmas.List.{length-append, get_or_append_left, get_or_push}

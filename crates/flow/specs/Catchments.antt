@@ -21,7 +21,8 @@ use Rattle.flow.specs.declared.gauges.GaugeFault.TheVariants.{Outside, OnNodata,
 abbrev pub gauge_number : List Place → Place → ℕ
 gauge_number gauges p = unwrap_or (position_from (is_place p) 1 gauges) 0
 
--- The flow path of p, from p on, its outlet repeated: as many places as the grid has cells.
+-- The flow path of p, from p on. Its outlet is repeated until the list has as many places as the
+-- grid has cells.
 abbrev pub flow_path : Directed → Place → List Place
 flow_path d p = map (follow d p) (range_with_len 0 (moves d))
 
@@ -38,7 +39,7 @@ AreCatchments d gauges values = IsMapOf d (catchment d gauges) values
 abbrev pub outlets : Directed → List Place
 outlets d = filter (λ p. option_map_or (λ c. c == 0) (code_at d p) false) (places d.cols d.rows)
 
--- The fault of a gauge, from the fault of a sink at its place.
+-- The fault of gauges that corresponds to a fault of sinks at the same places.
 abbrev pub fault_of_gauge : SinkFault → GaugeFault
 fault_of_gauge (sink.Outside i) = Outside i
 fault_of_gauge (sink.OnNodata i) = OnNodata i
@@ -49,7 +50,8 @@ fault_of_gauge sink.Memory = Jobs Memory
 abbrev pub gauges_fault : Terrain → List Place → Option GaugeFault
 gauges_fault t gauges = option_map fault_of_gauge (sinks_fault t gauges)
 
--- How catchments fail: with the gauges' fault if there is one, otherwise only as jobs fail.
+-- How catchments fail: with the gauges' fault if there is one. Otherwise only for want of memory, a
+-- bad number of workers, or a thread that cannot be started.
 pub record RefusesGauges {T : Type 0} (fault : Option GaugeFault) (workers : ℕ)
     (result : Result T GaugeFault) : Type 0 where
   pub reported : (f : GaugeFault) → fault ≡ Some f → result ≡ Err f

@@ -35,7 +35,8 @@ pub record AreRimWeights (inflows : Inflows) (b : Bounds) (cells : List (Option 
       slice_index weights (index_in b p)
       ≡ slice_index (weights_by cells) (index_in b p) + listed_inflow inflows p
 
--- The premises of a tile's job: its bounds and size, links whose paths end, sums of 32 bits.
+-- What a tile's job requires: the flow has the tile's bounds and size, at most 2^24 cells, and
+-- links whose paths all end. Inflows are below 2^31, and totals below 2^32.
 pub record IsCountable (inflows : Inflows) (tile : ℕ) (f : Flow) : Type 0 where
   pub bounds : f.bounds ≡ bounds_of inflows.cutting tile
   pub size : length f.codes ≡ cell_count inflows.cutting tile
@@ -48,7 +49,7 @@ pub record IsCountable (inflows : Inflows) (tile : ℕ) (f : Flow) : Type 0 wher
       AreRimWeights inflows (bounds_of inflows.cutting tile) f.codes weights →
       (i : ℕ) → i < length f.codes → total (links_by f.bounds f.codes) weights i < 2 ^ 32
 
--- The premises of all jobs: one flow for each tile, and `IsCountable` holds of each.
+-- What all jobs require: one flow for each tile, each as the tile's job requires (`IsCountable`).
 pub record AreCountable (t : Cutting) (flows : List Flow) (inflows : Inflows) : Type 0 where
   pub same_cutting : inflows.cutting ≡ t
   pub count : length flows ≡ tile_count t
@@ -61,7 +62,8 @@ counts_by cells weights upstream =
     map (λ i. where_data (slice_index_or cells i None)
     (slice_index upstream i + slice_index weights i - 1)) (range_with_len 0 (length cells))
 
--- The counts of a tile's cells, by their weights and the sums upstream of them.
+-- The values are the counts that `counts_by` makes of the tile's weights with inflows and of the
+-- sums of these weights upstream of each cell.
 pub record AreCounts (inflows : Inflows) (tile : ℕ) (f : Flow)
     (values : List (Option ℕ)) : Type 0 where
   pub weights : List ℕ

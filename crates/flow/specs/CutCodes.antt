@@ -1,4 +1,5 @@
--- Codes cut at gauges, which have 0, an outlet's code, at each gauge; and the numbers of gauges.
+-- Codes cut at gauges: the codes of a grid with 0, an outlet's code, written at each gauge. The
+-- numbers of the cells that gauges name, by the cells' indexes in row order.
 -- Private.
 use Rattle.std.specs.Prelude.{◌≡◌, ℕ, ◌==◌, nat_eq, true, false, List, length, Option, Some, IsSome, unwrap_or}
 use Rattle.std.specs.HashMap as hash
@@ -22,11 +23,13 @@ pub record AreCutCodes (cols rows : ℕ) (codes : List (Option ℕ)) (gauges : L
   pub elsewhere : (p : Place) → list_any (is_place p) gauges ≡ false →
       entry_at cols rows cut p ≡ entry_at cols rows codes p
 
--- The numbers that a hash map has for row-order indexes; 0 for an index that it lacks.
+-- Numbers for a grid of `cells` cells. A row-order index has its number in the hash map, or 0 if
+-- the hash map lacks the index.
 abbrev pub gauge_numbers : {S : Type 0} → ℕ → HashMap ℕ ℕ S → EndNumbers
 gauge_numbers cells numbers =
     record { cells = cells; number = λ i. unwrap_or (hash.get nat_eq numbers i) 0 }
 
--- The position, from 1, of the first entry with row-order index i; `None` if there is none.
+-- The position, from 1, of the first gauge in the list whose row-order index is i; `None` if there
+-- is no such gauge.
 abbrev pub number_of_index : ℕ → List Place → ℕ → Option ℕ
 number_of_index cols gauges i = position_from (λ (g : Place). index_of cols g == i) 1 gauges

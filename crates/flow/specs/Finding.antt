@@ -1,4 +1,5 @@
--- Lists of the nodes where nodes' paths along links end, with a mark for an end still unknown.
+-- Lists that have for each node the node where its path along links ends, or 2^32 - 1 while this
+-- end is unknown.
 -- Private.
 use Rattle.std.specs.Prelude.{◌≡◌, ◌≢◌, ℕ, ◌<◌, List, length, slice_index}
 use Rattle.flow.specs.Streams.{end_of}

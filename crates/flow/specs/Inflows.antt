@@ -16,7 +16,8 @@ use Rattle.flow.specs.RimGraph.{side_cell, target_by}
 abbrev pub through_by : Cutting → List Flow → Place → Option ℕ
 through_by t flows p = option_and_then (λ f. through_in f p) (slice_get flows (tile_of_place t p))
 
--- How many cells' flow paths first leave their own tile by one exit; 0 where no exit leads out.
+-- How many cells' flow paths first leave their own tile at one cell: 1 for the cell itself, plus
+-- `through`, its count in the tile. 0 without a target, the cell's next place in another tile.
 abbrev pub weight_or : Option ℕ → Option Place → ℕ
 weight_or through None = 0
 weight_or through (Some entry) = unwrap_or through 0 + 1
@@ -27,7 +28,7 @@ rim_weight t flows i = weight_or (through_by t flows (rim_place t i)) (target_by
 abbrev pub rim_weights_by : Cutting → List Flow → List ℕ
 rim_weights_by t flows = map (rim_weight t flows) (range_with_len 0 (rim_number_count t))
 
--- Rim number k's part of an amount sent to a place: all if the place has number k, else 0.
+-- What rim number k gets of an amount sent to a place: all if the place has rim number k, else 0.
 abbrev pub sent_to : Cutting → ℕ → Option Place → ℕ → ℕ
 sent_to t k None amount = 0
 sent_to t k (Some entry) amount = if rim_number t entry == k then amount else 0
@@ -64,12 +65,12 @@ pub record AreInflows (d : Directed) (t : Cutting) (l : Inflows) : Type 0 where
   pub size : length l.listed ≡ rim_number_count t
   pub each : (p : Place) → IsWithin t p → listed_inflow l p ≡ inflow_of d t p
 
--- The addition at p of an amount at a rim cell: the amount if p is that cell, 0 otherwise.
+-- What an amount listed for a rim cell adds at p: the amount if p is that cell, 0 otherwise.
 abbrev pub adds_at : Option Place → ℕ → Place → ℕ
 adds_at None amount p = 0
 adds_at (Some q) amount p = if is_place q p then amount else 0
 
--- The inflow that one side number of a tile adds at p.
+-- The inflow that one side number of a tile (a rim cell's number in its tile) adds at p.
 abbrev pub adds : Cutting → List ℕ → ℕ → ℕ → Place → ℕ
 adds t listed tile side p =
     let largest = bounds_of t 0 in

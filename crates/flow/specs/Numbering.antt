@@ -13,12 +13,13 @@ use Rattle.flow.specs.TileFlow.{Flow}
 use Rattle.flow.specs.Whole.{is_outlet_code}
 use Rattle.flow.specs.RimGraph.{AreFlowsOf, Outlets, AreOutlets, listed_outlet}
 
--- How many cells a grid has, and the number of each cell where a flow path may end.
+-- How many cells a grid has, and by row-order index the number of each cell where a flow path may
+-- end.
 pub record EndNumbers : Type 0 where
   pub cells : ℕ
   pub number : ℕ → ℕ
 
--- The number of an outlet: 1 plus the outlets before it in row order.
+-- The number of an outlet: 1 plus how many outlets precede it in row order.
 abbrev pub outlet_numbers : List (Option ℕ) → EndNumbers
 outlet_numbers codes =
     record { cells = length codes; number = λ i. 1 + count_by is_outlet_code (take i codes) }
@@ -50,15 +51,15 @@ pub record IsNumberedPlace (outlets : Outlets) (flows : List Flow) (n : EndNumbe
   pub numbered : IfSome (listed_outlet outlets flows e)
       (λ q. index_of outlets.cutting.cols q < n.cells)
 
--- The premises of a tile's job: `exits` has an entry for each cell, and `IsNumberedPlace` holds of
--- each exit.
+-- What a tile's job requires: `exits` has an entry for each cell. Each exit is in the tile and the
+-- grid, and the outlet listed for the exit, if any, has a number.
 pub record IsReady (t : Cutting) (flows : List Flow) (outlets : Outlets) (n : EndNumbers) (tile : ℕ)
     (f : Flow) : Type 0 where
   pub size : length f.exits ≡ cell_count t tile
   pub exits : (i : ℕ) →
       IfSome (slice_index_or f.exits i None) (IsNumberedPlace outlets flows n f.bounds)
 
--- The premises of all jobs: one flow for each tile, and `IsReady` holds of each.
+-- What all jobs require: one flow for each tile, each as the tile's job requires (`IsReady`).
 pub record AreReady (t : Cutting) (flows : List Flow) (outlets : Outlets)
     (n : EndNumbers) : Type 0 where
   pub same_cutting : outlets.cutting ≡ t
@@ -71,7 +72,7 @@ abbrev pub number_at : ℕ → EndNumbers → Option Place → ℕ
 number_at cols n None = 0
 number_at cols n (Some outlet) = n.number (index_of cols outlet)
 
--- The exit number at index i: the number of an exit's outlet if the exit has index i, else 0.
+-- The exit number at index i: the number of the outlet of exit e if e has index i, else 0.
 abbrev pub exit_number_by : Outlets → List Flow → EndNumbers → Bounds → ℕ → Option Place → ℕ
 exit_number_by outlets flows n b i None = 0
 exit_number_by outlets flows n b i (Some e) =

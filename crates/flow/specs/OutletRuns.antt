@@ -17,7 +17,8 @@ pub record AreCodeRuns (r : CodeRuns) : Type 0 where
   pub some : 0 < r.run_length
   pub short : r.run_length ≤ 2 ^ 32
 
--- The length of a full run: its share of the groups of 16 codes, rounded up, at least one group.
+-- The length of a full run: the groups of 16 codes, divided by the number of runs and rounded up,
+-- but at least one group.
 abbrev pub run_share : ℕ → ℕ → ℕ
 run_share codes runs = max 1 (div_ceil (div_ceil codes 16) runs) * 16
 
@@ -28,20 +29,22 @@ run_start r k = min (k * r.run_length) (length r.codes)
 abbrev pub run_codes : CodeRuns → ℕ → List (Option ℕ)
 run_codes r k = slice_range r.codes (run_start r k) (run_start r (k + 1))
 
--- The counts are the outlets before each group of 16 codes of the run, and in the whole run.
+-- `counts` has how many outlets of the run precede each of its groups of 16 codes, and how many the
+-- whole run has.
 pub record IsRunCounted (run : List (Option ℕ)) (counts : RunCounts) : Type 0 where
   pub enough : length run ≤ length counts.before.items * 16
   pub each : (k : ℕ) → k < length counts.before.items →
       slice_index counts.before.items k ≡ count_by is_outlet_code (take (k * 16) run)
   pub total : counts.total ≡ count_by is_outlet_code run
 
--- For each run, the sum of the outlets of all runs before it.
+-- Entry k of `before` is how many outlets the runs before run k have in all.
 pub record AreSumsBefore (counts : List RunCounts) (before : List ℕ) : Type 0 where
   pub size : length before ≡ length counts
   pub each : (k : ℕ) → k < length before →
       slice_index before k ≡ sum_by (λ c. c.total) (take k counts)
 
--- The runs hold all codes; `counts` has each run's outlets, `before` those of all earlier runs.
+-- The runs hold all codes. `counts` has how many outlets each run has, and `before` how many all
+-- earlier runs have.
 pub record AreRunsCounted (r : CodeRuns) (counts : List RunCounts) (before : List ℕ) : Type 0 where
   pub enough : length r.codes ≤ length counts * r.run_length
   pub counted : (k : ℕ) (c : RunCounts) → slice_get counts k ≡ Some c →

@@ -34,7 +34,7 @@ code_in t flows p =
 abbrev pub exit_by : Cutting → List Flow → Place → Option Place
 exit_by t flows p = option_and_then (λ f. exit_in f p) (slice_get flows (tile_of_place t p))
 
--- The cell of a tile with this side number, if there is one.
+-- The cell of a tile with this side number, a rim cell's number in its tile, if there is one.
 abbrev pub side_cell : Bounds → Bounds → ℕ → Option Place
 side_cell largest b side =
     let p = side_place largest b side in
@@ -84,7 +84,7 @@ rim_link t flows i =
 abbrev pub rim_links_by : Cutting → List Flow → List ℕ
 rim_links_by t flows = map (rim_link t flows) (range_with_len 0 (rim_number_count t))
 
--- The outlet of the water that leaves its tile at rim number i; `None` if none leaves there.
+-- The outlet of the water that leaves its tile at rim number i; `None` if no water leaves there.
 -- `ends` has the ends of paths along rim links.
 abbrev pub rim_outlet : Cutting → List Flow → List ℕ → ℕ → Option Place
 rim_outlet t flows ends i = option_and_then
@@ -94,8 +94,8 @@ rim_outlet t flows ends i = option_and_then
 abbrev pub rim_outlets_by : Cutting → List Flow → List ℕ → List (Option Place)
 rim_outlets_by t flows ends = map (rim_outlet t flows ends) (range_with_len 0 (rim_number_count t))
 
--- The outlet of an exit: the exit itself if it is an outlet, else the one listed for its rim
--- number, if any.
+-- The outlet found for p: p itself if p is an outlet. Otherwise, for p on the rim, the outlet
+-- listed for p's rim number, if any.
 abbrev pub outlet_by : Cutting → List Flow → List (Option Place) → Place → Option Place
 outlet_by t flows outlets p =
     if is_outlet_code (code_in t flows p) then Some p

@@ -46,7 +46,7 @@ total_within links weights (suc k) i =
 abbrev pub total : List ℕ → List ℕ → ℕ → ℕ
 total links weights i = total_within links weights (length links) i
 
--- The sums upstream of nodes. Each, plus the node's own weight, is the node's total.
+-- Entry i of `upstream` plus the weight of node i is the total of node i.
 pub record AreUpstream (links weights upstream : List ℕ) : Type 0 where
   pub size : length upstream ≡ length links
   pub each : (i : ℕ) → i < length links →

@@ -64,7 +64,8 @@ through_in f p = entry_in f.bounds f.through p
 abbrev pub exit_in : Flow → Place → Option Place
 exit_in f p = entry_in f.bounds f.exits p
 
--- The tile has a column and lies within the limits; codes and exits have an entry for each cell.
+-- The tile has a column and ends within the largest grid. Codes and exits have an entry for each
+-- cell.
 pub record IsFlow (f : Flow) : Type 0 where
   pub some_col : 1 ≤ f.bounds.cols
   pub few_rows : f.bounds.top + f.bounds.rows ≤ longest_axis

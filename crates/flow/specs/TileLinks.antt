@@ -29,8 +29,8 @@ pub record AreTileCodes (d : Directed) (b : Bounds) (cells : List (Option ℕ)) 
   pub size : length cells ≡ b.rows * b.cols
   pub each : (i : ℕ) → i < b.rows * b.cols → slice_index_or cells i None ≡ code_at d (place_in b i)
 
--- The link of cell i with this code: the index of the cell to which the code leads, or i if it
--- leads to none in the bounds.
+-- The link of cell i with this code: the index of the cell to which the code leads. The link is i
+-- if the code leads to no cell in the bounds.
 abbrev pub link_by : Bounds → ℕ → Option ℕ → ℕ
 link_by b i code =
     let p = place_in b i in
@@ -63,7 +63,7 @@ abbrev pub ends_by : List ℕ → List ℕ
 ends_by links = map (end_of links) (range_with_len 0 (length links))
 
 -- The index where each rim cell's path ends: for the first row of b, the last row, the first
--- column, then the last column, so corners occur twice.
+-- column, then the last column. Corners occur twice.
 abbrev pub rim_ends_by : Bounds → List ℕ → List ℕ
 rim_ends_by b links =
     map (λ side. end_of links (index_in b (side_place b b side))) (range_with_len 0 (stride b))

@@ -21,8 +21,8 @@ use tiles::Tiling;
 /// Outlets are numbered from 1 in row order. Values are in row order; NODATA has
 /// [`Count::no_data`].
 ///
-/// Each of three stages has as many jobs as tiles. The stages count outlets in runs of codes, find
-/// each tile's exits, and number each tile's cells.
+/// Each of three stages has as many jobs as tiles. The stages count outlets in runs of codes (parts
+/// of the list of all codes), find each tile's exits, and number each tile's cells.
 ///
 /// # Errors
 ///

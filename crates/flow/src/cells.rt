@@ -89,7 +89,7 @@ fn link_at(bounds: Bounds, row: u32, col: u32, code: Option<Code>) -> u32
     link_of(bounds, row * bounds.cols + col, place, code)
 }
 
-/// Returns whether all eight places around the cell lie in the tile.
+/// Returns whether a cell is interior: all eight places around it lie in the tile.
 #[inline(always)]
 fn is_interior(bounds: Bounds, row: u32, col: u32) -> bool
     requires small { EndsInLargestGrid bounds }

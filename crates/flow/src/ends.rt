@@ -43,7 +43,7 @@ fn find_ends(links: &[u32], ends: &mut [u32])
 }
 
 /// Returns the end of a node's path.
-/// Writes it into `ends` for each node of the path before the first whose end is known.
+/// Writes this end into `ends` for each node of the path before the first whose end is known.
 pub(crate) fn find_end(links: &[u32], ends: &mut [u32], node: usize) -> u32
     requires streams { AreStreams links.now }
     requires few { length links.now ≤ 2 ^ 30 }
@@ -94,7 +94,8 @@ fn end_from(links: &[u32], ends: &[u32], from: usize) -> u32
     ends[node]
 }
 
-/// Writes `last` into `ends` for path nodes before the first with a known end.
+/// Writes `last` as the end of nodes on the path of `from`.
+/// Stops at the first node whose end is known.
 fn mark_path(links: &[u32], ends: &mut [u32], from: usize, last: u32)
     requires streams { AreStreams links.now }
     requires few { length links.now ≤ 2 ^ 30 }

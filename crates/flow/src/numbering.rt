@@ -26,7 +26,8 @@ use tile_jobs::{Gate, JobFault};
 use tile_maps::{Runner, TileMap};
 use tiles::Tiling;
 
-/// Input of the jobs that number cells: flows, outlets of exits, numbers of path ends.
+/// Input of the jobs that number cells.
+/// It has flows, outlets of exits, and the numbers of the cells where flow paths end.
 #[derive(Drop)]
 struct Numbering<'a, N: EndNumbering> {
     tiling: &'a Tiling,

@@ -1,7 +1,7 @@
 //! Numbers the outlets of a list of codes from 1 in row order.
 //!
-//! A run is the part of the list that one job counts. An outlet's number is 1 plus the outlets in
-//! earlier runs and those before it in its own run.
+//! A run is the part of the list that one job counts. An outlet's number is 1 plus how many
+//! outlets earlier runs have, and how many precede it in its own run.
 ghost use Rattle.std.specs.Prelude.{◌≡◌, ℕ, ◌+◌, ◌-◌, ◌^◌, ◌<◌, ◌≤◌, length, take, count_by, IfOk};
 ghost use Rattle.std.specs.List.{sum_by};
 ghost use Rattle.tile_jobs.specs.Fault.{RefusesWorkers};

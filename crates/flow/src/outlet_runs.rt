@@ -80,7 +80,7 @@ impl<'a> Runs<'a> {
 /// The counts of outlets in one run of codes.
 #[derive(Drop)]
 pub struct RunCounts {
-    /// For each group of the run, the number of the run's outlets before it.
+    /// For each group of the run, the number of the run's outlets before the group.
     pub before: Vec<u32>,
     /// The number of outlets in the run.
     pub total: u32,
@@ -136,7 +136,7 @@ impl<'a> Work for CountRuns<'a> {
     }
 }
 
-/// Counts the outlets before `to`, given `before`, the number before `from`.
+/// Returns how many outlets precede index `to`, if `before` precede index `from`.
 #[inline(always)]
 fn count_on(codes: &[Option<Code>], from: usize, to: usize, before: u32) -> u32
     requires few { length codes.now < 2 ^ 32 - 1 }

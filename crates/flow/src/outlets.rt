@@ -87,7 +87,7 @@ fn exit_of(tiling: &Tiling, flows: &[TileFlow], place: Place) -> Option<Place>
 }
 
 /// Returns the outlet of the water that leaves its tile at rim number `number`.
-/// `None` if none leaves there.
+/// `None` if no water leaves there.
 fn outlet_of(
     tiling: &Tiling,
     flows: &[TileFlow],

@@ -1,9 +1,9 @@
 //! Finds the rim cells of a tile by side number, and where their paths along links end.
 //!
 //! A link leads to the next cell downstream in the tile.
-//! A side number is a rim cell's number in its tile (`Bounds::side_number`). A rim number is its
-//! number among the rim cells of all tiles (`Tiling::rim_number`). Side numbers depend on the size
-//! of the largest tile. `side_cell` takes that tile as `largest`, `rim_ends` the tile itself.
+//! A side number is a rim cell's number in its tile (`Bounds::side_number`). A rim number is a
+//! rim cell's number among those of all tiles (`Tiling::rim_number`). Side numbers depend on the
+//! size of a largest tile: in `side_cell` it is `largest`, in `rim_ends` the tile itself.
 ghost use Rattle.std.specs.Prelude.{◌≡◌, ◌*◌, ◌^◌, ◌<◌, ◌≤◌, length, IfOk, IfSome};
 ghost use Rattle.tiles.specs.Cutting.{IsInBounds, IsWithinLimits, index_in};
 ghost use Rattle.tiles.specs.RimNumbers.{stride};

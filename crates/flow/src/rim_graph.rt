@@ -61,7 +61,7 @@ fn next_exit(tiling: &Tiling, flows: &[TileFlow], entry: Place) -> Option<Place>
     flows[tiling.tile_of(entry) as usize].next_exit(entry)
 }
 
-/// Returns the place in another tile that the cell with number `side` flows into.
+/// Returns the place in another tile that the cell with side number `side` flows into.
 /// `None` if there is no such place.
 #[inline(always)]
 fn target_of(largest: Bounds, flow: &TileFlow, side: u32) -> Option<Place>
@@ -80,7 +80,7 @@ fn target_of(largest: Bounds, flow: &TileFlow, side: u32) -> Option<Place>
     }
 }
 
-/// Appends the target of each side number of a tile, `None` without one.
+/// Appends the target of each side number of a tile, `None` if it has no target.
 /// The target is the place in another tile that the cell with the number flows into.
 fn push_targets(
     targets: &mut Vec<Option<Place>>,

@@ -1,5 +1,5 @@
--- If one ramp is above another at two targets, so it is at all targets between the two. If it is
--- above the other at neither, it is so at none between.
+-- If a ramp is above another at two targets, it is above the other at all targets between them. If
+-- it is above the other at neither, it is above the other at no target between them.
 use Rattle.std.proofs.Common.{◌≡◌, ℕ, ◌+◌, ◌<◌, ◌≤◌, Bool, List, length, get_or, Some, sym, ap, ◌∙◌, arith}
 use Rattle.std.specs.Prelude.{slice_get}
 use Rattle.std.proofs.lemmas.Option.{slice_get-get_or}

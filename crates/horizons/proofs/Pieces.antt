@@ -1,5 +1,5 @@
--- A horizon grows by a new piece, or by extending its last piece. Targets covered before keep their
--- ramps, and the others up to the new end get the ramp of that piece.
+-- A piece pushed to a horizon is appended, or replaces the last piece if their ramps are equal.
+-- Targets covered before keep their ramps; the others up to the new end get the pushed ramp.
 use Rattle.std.proofs.Common.{◌≡◌, ℕ, zero, suc, ◌+◌, ◌<◌, ◌≤◌, max, List, [], ◌∷◌, ◌++◌, length, get_or, set, Some, refl, sym, ap, ◌∙◌, arith, inl, inr}
 use Rattle.std.specs.Prelude.{slice_get}
 use Rattle.std.proofs.lemmas.Bool.{cases_lt}

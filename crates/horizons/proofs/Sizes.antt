@@ -1,4 +1,5 @@
--- Numbers within limits, and products of such numbers, fit their machine types.
+-- Numbers within limits are kept when stored in 32, 64 or 128 bits. The product of a number of 64
+-- bits and one from -4096 to 4096 is exact in 128 bits.
 use Rattle.std.proofs.Common.{◌≡◌, ℕ, ◌^◌, ◌<◌, ◌≤◌, ℤ, pos, ◌*ℤ◌, unsigned_abs, arith, FitsSigned, to_z, of_z, w32, w64}
 use mir.Syntax.{w128}
 use Rattle.std.proofs.lemmas.Int.{ints, to_z-of_z, fits_signed_mul, fits_signed_from_abs}
@@ -23,7 +24,7 @@ pub product_fits : (z x : ℤ) → unsigned_abs z ≤ 2 ^ 63 → unsigned_abs x 
     FitsSigned w128 (z *ℤ x)
 product_fits z x h few = fits_signed_mul w128 z x (2 ^ 63) 4096 h few (omega arith)
 
--- The product of a number of 64 bits and another, as the code computes it in 128 bits.
+-- The product of z, a number of 64 bits, and x, as the code computes it in 128 bits.
 abbrev pub long_product : ℤ → ℤ → ℤ
 long_product z x = to_z w128 (of_z w128 (to_z w64 (of_z w64 z))) *ℤ to_z w128 (of_z w128 x)
 

@@ -55,7 +55,7 @@ extent (p ∷ ps) = max p.end (extent ps)
 abbrev pub hides : List Piece → ℕ → Target → ℤ → Bool
 hides ps i t rise = option_map_or (λ r. ramp_hides r t rise) (ramp_at ps i) false
 
--- The horizon covers all targets, with a ramp within bounds at each.
+-- The horizon covers all targets, with a ramp within the bounds of `IsRampAt` at each.
 pub record IsOver (targets : List Target) (ps : List Piece) : Type 0 where
   pub whole : extent ps ≡ length targets
   pub each : (i : ℕ) (t : Target) (r : Ramp) → slice_get targets i ≡ Some t →

@@ -1,5 +1,5 @@
--- The greater of two ramps at each target of a run. A ramp is a straight line over the slope of
--- sight, by which targets are sorted.
+-- A horizon extended by the greater of two ramps at each target from its extent up to an `end`. A
+-- ramp is a straight line over the slope of sight, by which targets are sorted.
 -- Public.
 use Rattle.std.specs.Prelude.{◌≡◌, ℕ, ◌<◌, ◌≤◌, Bool, if◌then◌else◌, List, Some, slice_get}
 use Rattle.horizons.specs.Horizons.{is_above, ramp_at, extent, IsRampAt}
@@ -7,12 +7,13 @@ use Rattle.horizons.specs.declared.target.Target.{Target}
 use Rattle.horizons.specs.declared.ramp.Ramp.{Ramp}
 use Rattle.horizons.specs.declared.horizon.Piece.{Piece}
 
--- The ramp is within bounds at the targets from `from` up to `end`.
+-- `IsRampAt` holds for the ramp at each target from index `from` on and before `end`.
 abbrev pub IsRampOn : List Target → Ramp → ℕ → ℕ → Type 0
 IsRampOn targets r from end =
     (i : ℕ) (t : Target) → from ≤ i → i < end → slice_get targets i ≡ Some t → IsRampAt r t
 
--- If b is true, ramp r is above ramp s at all targets from `from` up to `end`; else at none.
+-- If b is true, ramp r is above ramp s at all targets from index `from` on and before `end`; else
+-- at none of them.
 abbrev pub IsAboveOn : List Target → Ramp → Ramp → Bool → ℕ → ℕ → Type 0
 IsAboveOn targets r s b from end = (i : ℕ) (t : Target) → from ≤ i → i < end →
     slice_get targets i ≡ Some t → is_above r s t ≡ b
@@ -21,7 +22,8 @@ IsAboveOn targets r s b from end = (i : ℕ) (t : Target) → from ≤ i → i <
 abbrev pub greater_at : Ramp → Ramp → Target → Ramp
 greater_at r s t = if is_above r s t then r else s
 
--- The horizon was extended up to `end` by the greater of two ramps at each target.
+-- The horizon was extended up to `end`, by the greater of two ramps at each target from its old
+-- extent on.
 pub record IsGreaterPushed (targets : List Target) (r s : Ramp) (old : List Piece) (end : ℕ)
     (new : List Piece) : Type 0 where
   pub reach : extent new ≡ end

@@ -1,7 +1,7 @@
 //! Stores a horizon, which has a ramp for each of many targets, as a list of pieces: [`Horizon`].
 //!
-//! Targets are sorted by slope, and a piece is one ramp for a run of them. A [`Cursor`] speeds up
-//! lookups at rising indexes of targets.
+//! Targets are sorted by slope, and a piece is one ramp for consecutive ones. A [`Cursor`] speeds
+//! up lookups at rising indexes of targets.
 ghost use Rattle.std.specs.Prelude.{◌≡◌, ℕ, ◌+◌, ◌<◌, ◌≤◌, List, [], length, Some, OnOk, OnErr, slice_get};
 ghost use Rattle.horizons.specs.declared.horizon.Piece.{Piece};
 ghost use Rattle.horizons.specs.declared.ramp.Ramp.{Ramp};

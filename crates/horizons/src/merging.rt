@@ -1,4 +1,4 @@
-//! Extends a horizon by the greater of two ramps at each target of a run: [`push_greater`].
+//! Extends a horizon by the greater of two ramps at each target that it gains: [`push_greater`].
 //!
 //! A ramp is a straight line over the slope of sight, by which targets are sorted. So two ramps
 //! cross at most once, and a binary search finds where.

@@ -1,5 +1,5 @@
--- A list with an item appended is longer by 1. A property of the list's items and of the appended
--- item is a property of all items of the longer list.
+-- A list with an item appended is longer by 1. If `P` holds of each item of a list with its
+-- index, and of an appended item, `P` holds of each item of the longer list.
 use Rattle.std.proofs.Common.{◌≡◌, ℕ, ◌+◌, inl, inr, List, [], ◌∷◌, ◌++◌, length, Some, slice_get, subst, sym, ap, ◌∙◌, arith}
 use Rattle.std.proofs.lemmas.Bool.{cases_lt}
 use Rattle.std.proofs.lemmas.Option.{slice_get_within}

@@ -12,7 +12,8 @@ use std::thread::Threads;
 use terrain::{Grid, Height};
 use tile_jobs::{JobFault, NoGate};
 
-/// Returns the code of a cell by heights and steps, its own and its neighbours'.
+/// Returns the code of a cell of this height and these steps, an edge cell if `edge`.
+/// `ways` has the heights and steps of its neighbours.
 fn number(level: Height, steps: u32, edge: bool, ways: [Option<(Height, u32)>; 8]) -> u8
     requires { IsFitting (record { level = level; steps = steps; edge = edge; ways = ways }) }
 {

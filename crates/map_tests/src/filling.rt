@@ -108,13 +108,14 @@ fn expect_filled_or_refused<R: Abort + Threads + Wait + Sync>(rt: &R, alloc: Glo
     }
 }
 
-/// The first tile's two low cells have one label, with joins inside the tile and over its rim.
+/// With tiles of side 3, the first tile's two low cells have one label.
+/// That label has joins inside the tile and over its rim.
 #[test]
 fn refused_memory_is_told(rt: HostRuntime) {
     expect_filled_or_refused(&rt, rt.alloc(), 3);
 }
 
-/// Each cell is its own label, so tiles have no joins inside.
+/// With tiles of side 1 each cell is its own label, so tiles have no joins inside.
 #[test]
 fn refused_memory_of_single_cells_is_told(rt: HostRuntime) {
     expect_filled_or_refused(&rt, rt.alloc(), 1);

@@ -78,7 +78,7 @@ fn begun(alloc: Global, grid: &Grid) -> Result<Vec<Option<u32>>, AllocError>
     Ok(counts)
 }
 
-/// Returns the counts of a tile after one round, from the counts `begun`.
+/// Returns the counts of a tile after one round, made from the initial counts `begun`.
 fn round(
     alloc: Global,
     grid: &Grid,
@@ -127,7 +127,7 @@ fn rings_of_nines(rt: HostRuntime) {
     let rings = "0 0 0 0 0\n0 1 1 1 0\n0 1 2 1 0\n0 1 1 1 0\n0 0 0 0 0";
     let wanted = land(&rt, alloc, 5, 5, rings);
     assert!(rt; agree(&first_round(&rt, alloc, &grid, 5, 0), &wanted));
-    // The middle tile gets the counts of row 4 and column 4 over its rim.
+    // Tile 4 gets the counts of row 4 and column 4, which lie in other tiles, over its rim.
     let wanted = land(&rt, alloc, 2, 2, "2 1\n1 1");
     assert!(rt; agree(&first_round(&rt, alloc, &grid, 2, 4), &wanted));
 }
@@ -166,7 +166,7 @@ fn hole_among_nines(rt: HostRuntime) {
     assert!(rt; agree(&first_round(&rt, alloc, &grid, 7, 0), &wanted));
 }
 
-/// Only the lowest cell is no edge cell and has no lower neighbour.
+/// Only the lowest cell gets no count: the others are edge cells or have a lower neighbour.
 #[test]
 fn pits_as_read(rt: HostRuntime) {
     let alloc = rt.alloc();
@@ -181,7 +181,7 @@ fn pits_filled(rt: HostRuntime) {
     let filled = land(&rt, alloc, 4, 4, "9 9 9 9\n9 3 9 9\n9 9 3 9\n9 9 9 3");
     let wanted = land(&rt, alloc, 4, 4, "0 0 0 0\n0 2 0 0\n0 0 1 0\n0 0 0 0");
     assert!(rt; agree(&first_round(&rt, alloc, &filled, 4, 0), &wanted));
-    // The first tile has no count for its pit until the last tile has one for the pit there.
+    // The pit's cell in the first tile gets no count: its one neighbour of height 3 had none yet.
     let first = land(&rt, alloc, 2, 2, "0 0\n0 -9999");
     assert!(rt; agree(&first_round(&rt, alloc, &filled, 2, 0), &first));
     let last = land(&rt, alloc, 2, 2, "1 0\n0 0");

@@ -69,7 +69,7 @@ fn expect_tile_flows(rt: &impl Abort, flows: &[TileFlow]) {
     assert_eq!(rt; flows[1].exit(exit), None);
 }
 
-/// Returns the inflow at a place, and the outlet of its flow path if it is an exit.
+/// Returns the inflow at `place` and, if `place` is an exit, the outlet of its flow path.
 fn link_at(
     rt: &impl Abort,
     tiling: &Tiling,
@@ -83,8 +83,9 @@ fn link_at(
     (links.inflow(place), links.outlet(place))
 }
 
-/// Asserts the inflow and the outlet at two places.
-/// Links the flows twice, since the first attempt may be refused memory.
+/// Asserts the inflow and the outlet that [`link_at`] gives at two places.
+/// Links the flows once and drops the result, then again.
+/// If `rt try --fail-alloc` refuses memory to the first call, the second succeeds.
 pub(crate) fn expect_links(
     rt: &impl Abort,
     alloc: Global,

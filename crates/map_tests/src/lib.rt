@@ -10,7 +10,7 @@
 //! - `filling`: floods of tiles, and their spill graph
 //! - `lowering`: compares filled heights with those of a plain algorithm
 //! - `flats`: the steps of flats after one round over a tile
-//! - `draining`: the direction of one cell, and refused workers
+//! - `draining`: the direction of one cell, and refused numbers of workers
 //! - `flows`: flow in tiles and over their rims
 //! - `gauges`: catchments of gauges
 //! - `seeing`: lines of sight and viewsheds

@@ -1,4 +1,5 @@
-//! Compares filled heights of rough grids with those found by lowering upper bounds.
+//! Compares filled heights of rough grids with those that lowering gives.
+//! Lowering begins with upper bounds of the filled heights, and lowers all of them again and again.
 use crate::ground::heights_of;
 use ascii_grid::read_text;
 use fill::filled_heights;
@@ -61,7 +62,7 @@ fn grid_text(
     Ok(text)
 }
 
-/// Returns a cell's index; row and column count from 1. `None` at 0 or past `cols`.
+/// Returns a cell's index. Row and column count from 1; `None` if one is 0 or `col` is past `cols`.
 fn index_of(cols: u8, row: u8, col: u8) -> Option<usize> {
     if row == 0 || col == 0 || col > cols {
         return None;
@@ -74,7 +75,7 @@ fn level_at(levels: &[Option<Height>], cols: u8, row: u8, col: u8) -> Option<Hei
     *levels.get(index)?
 }
 
-/// Returns the least entry at and around a cell; `None` at edge cells and NODATA.
+/// Returns the least of `levels` at and around a cell; `None` at edge cells and NODATA.
 fn lowest_of_nine(levels: &[Option<Height>], cols: u8, row: u8, col: u8) -> Option<Height> {
     let mut lowest = HIGHEST;
     for near_row in row.saturating_sub(1)..=row.saturating_add(1) {
@@ -85,8 +86,8 @@ fn lowest_of_nine(levels: &[Option<Height>], cols: u8, row: u8, col: u8) -> Opti
     Some(lowest)
 }
 
-/// Lowers each inner cell's entry to the least entry at and around the cell.
-/// No entry falls below its cell's height.
+/// Lowers each inner cell's entry in `levels` to the least entry at and around the cell.
+/// No entry falls below its cell's height. An inner cell is a data cell that is no edge cell.
 fn sweep(heights: &[Option<Height>], levels: &mut [Option<Height>], cols: u8, rows: u8) {
     for row in 1..=rows {
         for col in 1..=cols {
@@ -126,7 +127,7 @@ fn lowered(
     Ok(levels)
 }
 
-/// Compares one grid with lowering, and returns whether it has a pit.
+/// Compares the filled heights of a new grid with lowering, and returns whether it has a pit.
 fn compare_one<R: Abort>(
     rt: &R,
     alloc: Global,
@@ -144,7 +145,7 @@ fn compare_one<R: Abort>(
     Ok(levels.as_slice() != ground.as_slice())
 }
 
-/// Compares grids of these heights with lowering; counts the small ones with a pit.
+/// Compares grids of these heights with lowering; returns how many small grids have a pit.
 /// The flood's queue has a heap alone in the small grids, of up to 6 by 6 cells. In the large grid,
 /// of 18 by 16, it has lists too.
 fn compare<R: Abort>(rt: &R, alloc: Global, heights: &[&'static str; 8]) -> Result<u32, Fail> {

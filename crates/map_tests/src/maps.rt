@@ -13,7 +13,7 @@ use std::thread::Threads;
 use terrain::{Count, Grid, NoMemory};
 use tile_jobs::NoGate;
 
-/// Sides of tiles and numbers of workers.
+/// Pairs of a tile side and a number of workers.
 const CUTS: [(u32, u32); 9] = [
     (1, 1),
     (1, 8),

@@ -1,6 +1,7 @@
 //! Floods a net of four nodes: finds their levels (least crests) and labels.
 //!
-//! Nodes 0 and 1 are joined at 5, 1 and 2 at 3, 0 and 2 at 7. Node 3 has no neighbour.
+//! Nodes 0 and 1 are neighbours that water passes at height 5; nodes 1 and 2 at 3, 0 and 2 at 7.
+//! Node 3 has no neighbour.
 ghost use Rattle.std.specs.Prelude.{◌≡◌, ◌∷◌, []};
 
 use fill::{Flooded, Net, Spill, flood};
@@ -72,7 +73,7 @@ impl Net for FourNodes {
     }
 }
 
-/// Asserts the labels of the nodes, and their levels, which all tests share.
+/// Asserts the nodes' labels, and their levels, which are the same in all tests.
 fn expect_labels(rt: &impl Abort, flooded: &Flooded, labels: &[Option<u32>]) {
     let levels = [Some(5), Some(3), Some(2), None];
     assert_eq!(rt; flooded.level.as_slice(), levels.as_slice());

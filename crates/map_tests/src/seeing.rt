@@ -1,5 +1,5 @@
 //! Tests lines of sight and viewsheds: small cases and refusals.
-//! Compares viewsheds with `sees`.
+//! Compares viewsheds with `sees`, which tests one line of sight.
 ghost use Rattle.std.specs.Prelude.{◌≡◌};
 
 use crate::ground::{cut, land};
@@ -109,7 +109,7 @@ fn one_line(rt: HostRuntime) {
     assert!(rt; !sees(&land, &CORNER, beyond, 2, 1));
 }
 
-/// Ground as high as the line does not block; ground one unit higher does.
+/// Ground as high as the line of sight does not block; ground one unit higher does.
 #[test]
 fn as_high_as_the_line(rt: HostRuntime) {
     let level = land(&rt, rt.alloc(), 3, 1, "0 5 10");
@@ -125,7 +125,7 @@ fn no_data_tests_nothing(rt: HostRuntime) {
     expect_far(&rt, rt.alloc(), &gap, &[CORNER], 0, "110 1.1");
 }
 
-/// At a crossing between two cells their average height decides.
+/// At a crossing halfway between two cells their average height decides.
 #[test]
 fn heights_between_two_cells(rt: HostRuntime) {
     let above = land(&rt, rt.alloc(), 3, 2, "0 8 0\n0 -7 0");
@@ -223,7 +223,7 @@ fn rough_heights(rt: &impl Abort, alloc: Global, seed: u32) -> String {
     text
 }
 
-/// Appends for each cell of a row the result of `sees`, or NODATA where there is no data.
+/// Appends for each data cell of row `row` 1 if `sees` is true, else 0; for other cells NODATA.
 fn push_plain_row(
     rt: &impl Abort,
     land: &Grid,
@@ -248,7 +248,7 @@ fn push_plain_row(
     }
 }
 
-/// Asserts that one observer's viewshed has the result of `sees` at each data cell.
+/// Asserts that one observer's viewshed is 1 at each data cell where `sees` is true, else 0.
 fn expect_plain<R: Abort + Threads + Wait + Sync>(
     rt: &R,
     alloc: Global,

@@ -184,9 +184,9 @@ fn level_ground(rt: HostRuntime) {
     maps.expect(&rt, rt.alloc());
 }
 
-/// Outlets are counted in groups of 16 codes. The first 16 codes of one terrain are all outlets, of
-/// the other none. The other has a river along row 0, a ridge in row 1, and in row 2 pairs of
-/// cells, the eastern one an outlet.
+/// Outlets are counted in runs of 16 codes. The first 16 cells of terrain `level` are all outlets,
+/// of terrain `pairs` none. `pairs` has a river along row 0 and a ridge in row 1. Row 2 has pairs
+/// of cells, and the eastern cell of each pair is an outlet.
 #[test]
 fn outlets_of_several_runs(rt: HostRuntime) {
     let fives =

@@ -1,5 +1,5 @@
--- A fault of tiles, sinks or gauges forbids the requested map. The fault that forbids a map of a
--- grid stays the same when sinks are added to the grid.
+-- A fault of tiles, sinks or gauges forbids the requested map, so a run may return it. The fault
+-- that forbids a map of a grid stays the same when the grid gets other sinks.
 use Rattle.std.proofs.Common.{◌≡◌, ℕ, ◌<◌, ◌≤◌, true, false, eqb, length, List, [], ◌∷◌, Option, None, Some, Err, sym, ap, subst, refl, ◌∙◌}
 use Rattle.std.specs.Option.{option_map, option_or}
 use Rattle.std.proofs.lemmas.Bool.{le-ltb, lt-ltb, cond-false, cond-true}
@@ -22,7 +22,8 @@ use Rattle.relief.specs.MapText.{IsMapOfText, IsMapText}
 use Rattle.relief.specs.Refusals.{tiles_of, gauge_fault, view_fault, named_place_fault, request_fault, IsFaultOnGrid}
 use Rattle.relief.proofs.Viewing.{forbidden}
 
--- a grid as read has no sinks, so `raster_with_sinks` with an empty list leaves it unchanged
+-- on a grid as read, `grid_with_sinks` and `raster_with_sinks` agree for every list, the empty one
+-- too, since such a grid has no sinks
 read_grid_has_no_sinks : (scale : ℕ) (text : List ℕ) (g : Raster) (sinks : List Place) →
     IsGridText scale text g → grid_with_sinks sinks g ≡ raster_with_sinks g sinks
 read_grid_has_no_sinks scale text g [] is = ap (λ (named : List Place). record g {
@@ -112,7 +113,8 @@ unseen g Basins drains = refl
 unseen g (Catchments gauges) drains = refl
 unseen g (View observers target radius) drains = absurd (drains tt)
 
--- Sinks without a fault are refused only for want of memory, a fault that a run may return.
+-- If neither sinks nor gauges have a fault, giving the grid these sinks fails only if memory is
+-- refused. A run may return that fault.
 pub sinks_refused : {T : Type 0} (w : Request) (g : Raster) (f : SinkFault) →
     (IsView w.map → w.sinks ≡ []) →
     eqb (length w.sinks) 0 ≡ false → tiles_of g w.tile ≤ most_tiles → named_place_fault w g ≡ None →

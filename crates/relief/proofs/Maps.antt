@@ -67,7 +67,7 @@ one_drainage g d e a b =
     ∙ ap (λ rows. directed e.cols rows d.codes) (a.same_size.1 ∙ sym b.same_size.1)
     ∙ ap (λ cs. directed e.cols e.rows cs) codes
 
--- `text` has the values that `value` gives on the grid's directions
+-- `text` has for each cell the number that `value` gives for it on the grid's directions
 abbrev HasValues : Raster → (Directed → Place → ℕ) → List ℕ → Type 0
 HasValues g value text = (d : Directed) × (values : List (Option ℕ)) × IsDrainage g d
     × IsMapOf d (value d) values × (text ≡ counts_text g values)
@@ -95,7 +95,8 @@ one_map_of_grid g (View observers target radius) text other a b =
     a.2 ∙ ap (λ vs. counts_text g vs)
     (viewsheds_are_one g.terrain observers.items target radius a.0 b.0 a.1 b.1) ∙ sym b.2
 
--- if `AreSame` holds of the maps `m` and `n`, a text of `n` is a text of `m`
+-- if the maps `m` and `n` have the same kind, gauges, observers, target and radius (`AreSame`), a
+-- text of `n` is a text of `m`
 same_text : (g : Raster) (m n : Map) (text : List ℕ) → AreSame m n → IsMapText g n text →
     IsMapText g m text
 same_text g Fill n text same h = subst (λ (k : Map). IsMapText g k text) (sym same) h

@@ -1,5 +1,5 @@
 -- If the words ask for help or are refused, or memory is refused before the run, the program ends
--- without reading, as `EndsUnread` demands.
+-- without reading, with status 0, 1 or 3, and has written what `EndsUnread` says.
 use Rattle.std.proofs.Common.{◌≡◌, ◌++◌, ℕ, suc, List, [], ◌∷◌, codes, arith, Option, sym, ap, subst, refl, inl, inr}
 use Rattle.std.specs.Prelude.{Any, decimal}
 use Rattle.clap.specs.Words.{Text, kind_of}

@@ -12,7 +12,8 @@ use Rattle.request.specs.Request.{Request}
 use Rattle.relief.specs.Runs.{Runs}
 use Rattle.request.specs.CommandLine.{AskForHelp, AreRefused, HasBadGauge, HasBadObserver, HasBadSink, IsHelp, RequestFor}
 
--- `text` was written to the device, or a front part of it if the write failed.
+-- `text` was written to the device, or a front part of it, perhaps none or all, if the write
+-- failed.
 abbrev pub WritesLine : {D : Type 0} → (D → Option (List ℕ)) → Device D → Device D → List ℕ → Type 0
 WritesLine contents old new text =
     (written : Result ⊤ WriteFailed) × Writes contents old new text written
@@ -39,7 +40,8 @@ abbrev pub EndsLine : List ℕ → Type 0
 EndsLine text = (front : List ℕ) × (text ≡ front ++ codes "\n")
 
 -- A message for refused words, with a line feed last. For a bad observer, gauge or sink word it
--- gives the place of the first such word. The text of other messages is left open.
+-- gives the first such word's number, from 0 among the words for observers, gauges or sinks. The
+-- text of other messages is left open.
 pub record IsRefusalText (words : List Text) (text : List ℕ) : Type 0 where
   pub refused : AreRefused words
   pub line : EndsLine text
@@ -50,9 +52,9 @@ pub record IsRefusalText (words : List Text) (text : List ℕ) : Type 0 where
   pub bad_sink : (place : ℕ) → HasBadSink words place →
       text ≡ codes "relief: bad sink word " ++ decimal place ++ codes "\n"
 
--- Nothing was read. Status 0: the words ask for help or the version, and a text went to the writer.
--- Status 1: the words are refused, and a message went to the error device. Status 3, for refused
--- memory: nothing was written.
+-- Nothing was read. Status 0: the words ask for help or the version, and a line was written to the
+-- writer as `WritesLine` says. Status 1: the words are refused, and a message was written to the
+-- error device as `WritesLine` says. Status 3: memory was refused, and nothing was written.
 pub record EndsUnread {R W E : Type 0} (contents : W → Option (List ℕ))
     (lines : E → Option (List ℕ)) (words : List Text) (reader left : Device R)
     (writer grown : Device W) (errors reported : Device E) (status : ℕ) : Type 0 where
@@ -73,9 +75,10 @@ EndsProgram remaining contents lines words reader left writer grown errors repor
     ⊎ ((request : Request) × RequestFor words request
     × EndsRun remaining contents lines request reader left writer grown errors reported status)
 
--- An error of `clap` of this kind was shown. Help or the version went to the writer, with status 0;
--- any other message went to the error device, with status 1. Or the status is 3, for refused
--- memory, and nothing was written.
+-- How the program ends when `clap` gives an error of this kind; help and the version are such
+-- kinds. Status 0: help or the version was written to the writer as `WritesLine` says. Status 1:
+-- for another kind, a message was written to the error device as `WritesLine` says. Status 3:
+-- memory was refused, for the message or before, and nothing was written.
 abbrev pub EndsShowing : {W E : Type 0} → (W → Option (List ℕ)) → (E → Option (List ℕ)) →
     ErrorKind → Device W → Device W → Device E → Device E → ℕ → Type 0
 EndsShowing contents lines kind writer grown errors reported status =

@@ -1,4 +1,5 @@
--- The requested sinks added to a grid (`grid_with_sinks`), and a finished map's text (`made_text`).
+-- A grid with the requested sinks in place of its own (`grid_with_sinks`), and a finished map's
+-- text (`made_text`).
 -- Private.
 use Rattle.std.specs.Prelude.{◌≡◌, ℕ, ◌*◌, ⊤, List, [], ◌∷◌, length}
 use Rattle.terrain.specs.Raster.{Raster}
@@ -8,7 +9,8 @@ use Rattle.ascii_grid.specs.Text.{heights_text, counts_text}
 use Rattle.relief.specs.declared.making.MadeMap.{MadeMap}
 use Rattle.relief.specs.declared.making.MadeMap.TheVariants.{Heights, Codes, Counts}
 
--- The grid `g` with these sinks, each once, in place of the sinks of `g`. For an empty list, `g`.
+-- The grid `g` with these sinks, each once, in place of the sinks of `g`. For an empty list, `g`
+-- with the sinks that it has.
 abbrev pub grid_with_sinks : List Place → Raster → Raster
 grid_with_sinks [] g = g
 grid_with_sinks (p ∷ rest) g = raster_with_sinks g (p ∷ rest)

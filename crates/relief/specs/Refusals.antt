@@ -20,7 +20,7 @@ use Rattle.relief.specs.declared.fault.RunFault.{RunFault}
 use Rattle.relief.specs.declared.fault.RunFault.TheVariants.{Grid, Tiling, Jobs, Sight, Sinks, Gauges, Read, Write}
 use Rattle.request.specs.Request.{Request}
 
--- The number of tiles of this side that a grid has.
+-- The number of tiles into which a grid is cut, for tiles of side `side`.
 abbrev pub tiles_of : Raster → ℕ → ℕ
 tiles_of g side = tile_count (record { cols = g.terrain.cols; rows = g.terrain.rows; side = side })
 
@@ -35,7 +35,7 @@ abbrev pub gauge_fault : Raster → Map → Option GaugeFault
 gauge_fault g (Catchments gauges) = gauges_fault g.terrain gauges.items
 gauge_fault g map = None
 
--- The fault of the sinks or, if they are sound, of the gauges.
+-- The fault of the sinks or, if they have none, of the gauges.
 abbrev pub named_place_fault : Request → Raster → Option RunFault
 named_place_fault w g =
     option_or (option_map Sinks (sinks_fault g.terrain w.sinks))
@@ -48,14 +48,16 @@ request_fault w g =
     else option_or (named_place_fault w g) (option_map Sight (view_fault g w.map))
 
 -- A run on this grid may return this fault. If `request_fault` is `None`, the fault is refused
--- memory or, with several workers, a refused thread. Otherwise it is the one in `request_fault`.
+-- memory or, with several workers, a refused thread. If `request_fault` is `Some`, its fault is the
+-- run's.
 abbrev pub IsFaultOnGrid : Request → Raster → RunFault → Type 0
 IsFaultOnGrid w g (Jobs jobs.Memory) = request_fault w g ≡ None
 IsFaultOnGrid w g (Jobs jobs.NoThread) = (request_fault w g ≡ None) × (1 < w.workers)
 IsFaultOnGrid w g fault = request_fault w g ≡ Some fault
 
--- A run may return this fault for this text. For each fault but `Grid` and `Read` the text spells a
--- grid.
+-- A run may return this fault for this text. `Read` may come for each text, and `Grid` for the
+-- text's first fault or for refused memory for its cells (`IsRefusal`). Any other fault may come
+-- only if the text spells a grid.
 abbrev pub IsFaultOnText : Request → List ℕ → RunFault → Type 0
 IsFaultOnText w text (Grid fault) = IsRefusal w.scale text fault
 IsFaultOnText w text Read = ⊤

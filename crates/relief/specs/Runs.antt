@@ -23,7 +23,7 @@ pub record Runs {R W T : Type 0} (remaining : R → Option (List ℕ)) (contents
   -- the grid that the bytes read spell. No byte is left to read.
   pub written : OnOk result ((map : List ℕ) × IsMapOfText w.scale w.map w.sinks taken.bytes map
       × HasWritten contents writer grown map × IsAtEnd (remaining left.device))
-  -- If the reader's whole text is known, a run may return the fault for that text.
+  -- If the reader's whole text is known, the fault is one that a run may return for that text.
   pub refused : (text : List ℕ) → remaining reader.device ≡ Some text →
       IfErr result (λ f. IsFaultOnText w text f)
   -- Unless a write failed, a fault leaves the writer unchanged.
@@ -35,5 +35,5 @@ pub record Runs {R W T : Type 0} (remaining : R → Option (List ℕ)) (contents
   pub read : (result ≡ Err Read) ↔ (reader.failures < left.failures)
   pub write : (result ≡ Err Write) ↔ (writer.failures < grown.failures)
   pub sound : OnOk result ((left.failures ≡ reader.failures) × (grown.failures ≡ writer.failures))
-  -- If a read failed, no word that ended before the failure has a fault.
+  -- If a read failed, the words that ended before the failure have no fault.
   pub clean : result ≡ Err Read → fault_so_far w.scale taken.bytes ≡ None

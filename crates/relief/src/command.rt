@@ -1,4 +1,4 @@
-//! [`run_words`] runs the program on a command line, and returns the status.
+//! [`run_words`] runs the program on a command line, and returns the exit status.
 ghost use Rattle.std.specs.Prelude.{◌≡◌, ◌≤◌, ◌<◌, ◌-◌, ◌^◌, ℕ, List, map};
 ghost use Rattle.ascii_grid.specs.Device.{Writes};
 ghost use Rattle.clap.specs.Words.{kind_of};
@@ -22,7 +22,7 @@ use tile_jobs::{Gate, NoGate};
 
 /// A [`Gate`] that reports the progress of a run.
 pub trait Progress: Gate {
-    /// Called once after a run with `--progress`, before the line of its fault is written.
+    /// Called once when a run with `--progress` has ended, before any fault line is written.
     fn finish(&self);
 }
 
@@ -89,9 +89,10 @@ fn show_error<W: Write, E: Write>(
 ///
 /// An empty list counts as the program's name alone.
 ///
-/// Help and the version go to `writer`. `errors` gets the line of a fault, the place of the first
-/// bad observer, gauge or sink word, or the message of `clap`. If such writes fail, the status is
-/// unchanged. `--progress` has no effect: see [`run_words_reported`].
+/// Help and the version go to `writer`. `errors` gets the line of a fault, the number of the first
+/// bad observer, gauge or sink word, or the message of `clap`. That number counts from 0 among the
+/// words of its kind. If writing one of these texts fails, the status is the same. `--progress` has
+/// no effect: see [`run_words_reported`].
 ///
 /// # Examples
 ///

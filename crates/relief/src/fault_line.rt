@@ -62,7 +62,7 @@ pub fn tell<W: Write>(fault: &RunFault, out: &mut Counted<W>) -> Result<(), Writ
     line.write_to(out)
 }
 
-/// Writes a line: `front`, then the place of a bad word, counted from 0.
+/// Writes a line: `front`, then `place`, the number of a bad word, counted from 0.
 pub(crate) fn tell_bad_word<W: Write>(
     front: &'static [u8],
     place: usize,

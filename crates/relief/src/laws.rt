@@ -1,4 +1,5 @@
-//! A theorem about the definitions, as the contract of a function without code.
+//! A grid text and a request determine the text of the map.
+//! [`maps_are_one`] has no code; its contract is the theorem.
 ghost use Rattle.std.specs.Prelude.{◌≡◌, ℕ, List};
 ghost use Rattle.terrain.specs.declared.place.Place.{Place};
 ghost use Rattle.request.specs.Laws.{AreSame};

@@ -7,7 +7,7 @@
 //!
 //! - `command`: `run_words`, from a command line to an exit status
 //! - `running`: `run`, from bytes to bytes
-//! - `making`: cuts tiles, adds sinks and makes the map
+//! - `making`: cuts a grid into tiles, gives it the requested sinks and makes the map
 //! - `fault_line`: writes the line of a fault
 //! - `fault`: faults with their numbers, names and exit statuses
 //! - `laws`: theorems about the definitions

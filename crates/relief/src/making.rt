@@ -1,4 +1,5 @@
-//! Cuts a grid into tiles and adds its sinks (`prepare`), then makes a map (`make_map`).
+//! `prepare` cuts a grid into tiles, checks the requested sinks and gauges, and gives the grid
+//! these sinks in place of its own. `make_map` then makes the requested map.
 ghost use Rattle.std.specs.Prelude.{◌≡◌, ◌<◌, ◌≤◌, ◌*◌, List, None, IfOk, IfErr, OnOk, option_map};
 ghost use Rattle.terrain.specs.declared.place.Place.{Place};
 ghost use Rattle.tiles.specs.Cutting.{Cuts, longest_side, most_tiles};
@@ -24,7 +25,7 @@ use terrain::{Count, Frame, Grid, sinks_fault};
 use tile_jobs::{Gate, JobFault};
 use tiles::{Tiling, TilingFault};
 
-/// A finished map with its header. Codes and counts keep no heights.
+/// A finished map with its header. Direction codes and counts are kept without the heights.
 #[derive(Drop)]
 pub(crate) enum MadeMap {
     Heights(Grid),
@@ -32,7 +33,7 @@ pub(crate) enum MadeMap {
     Counts(Frame, Vec<Count>),
 }
 
-/// Fills a grid and finds its directions. Frees the heights, keeps the header.
+/// Fills a grid and finds its directions. Frees all heights, and returns header and directions.
 fn find_directions<H: Threads + Wait + Sync, G: Gate + Sync>(
     rt: &H,
     alloc: Global,
@@ -67,7 +68,7 @@ fn cut(grid: &Grid, side: u32) -> Result<Tiling, TilingFault>
     Tiling::new(grid.cols(), grid.rows(), side)
 }
 
-/// Returns the fault of the requested sinks or, if they are sound, of the gauges.
+/// Returns the fault of the requested sinks or, if they have none, of the gauges.
 fn named_place_fault(options: &Options, grid: &Grid) -> Option<RunFault>
     ensures { result ≡ named_place_fault options.now grid.now }
 {
@@ -82,7 +83,8 @@ fn named_place_fault(options: &Options, grid: &Grid) -> Option<RunFault>
     None
 }
 
-/// Cuts a grid into tiles, checks sinks and gauges, and adds the sinks.
+/// Cuts a grid into tiles, and checks the requested sinks and gauges.
+/// Returns the grid with these sinks in place of its own; if none is requested, it keeps its own.
 pub(crate) fn prepare(
     alloc: Global,
     options: &Options,

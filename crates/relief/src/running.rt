@@ -1,6 +1,6 @@
 //! [`run`] reads a grid and writes a map; [`run_gated`] also calls a [`Gate`].
 //!
-//! Reads, cuts tiles, makes the map, then writes. Nothing is written before the map is complete.
+//! Both read the whole grid, cut it into tiles, and write only when the map is complete.
 ghost use Rattle.std.specs.Prelude.{◌<◌, ◌-◌, ◌^◌};
 ghost use Rattle.ascii_grid.specs.Device.{Writes};
 ghost use Rattle.relief.specs.MadeMap.{made_text, FitsGrid};

@@ -1,5 +1,5 @@
--- A command line has at most one meaning. A command line with a meaning is not refused. The
--- examples of `Laws` hold.
+-- Requests of one command line have the same map, options and sinks. A command line with a request
+-- is not refused and asks for no help. The examples of `specs/Laws` hold.
 use Rattle.std.proofs.Common.{◌≡◌, ◌<◌, ◌^◌, ℕ, List, [], ◌∷◌, map, drop, get_or, slice_index, codes, arith, rules, Option, Some, None, sym, ap, ap₂, subst, refl, inl, inr, ◌∙◌}
 use Rattle.std.specs.Prelude.{Any}
 use Rattle.std.specs.Option.{option_map_or}

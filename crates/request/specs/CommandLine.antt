@@ -23,7 +23,7 @@ use Rattle.request.specs.Request.{Request, IsRequest}
 
 -- ---- subcommands and options
 
--- A parser that accepts the whole numbers from low to high.
+-- A parser that accepts the whole numbers from `low` to `high`, both included.
 abbrev pub from_to : ℕ → ℕ → ValueParser
 from_to low high = Signed (pos low) (pos high)
 
@@ -97,12 +97,12 @@ sinks_rule = record (new_rule (codes "sinks")) {
   value_names = 1;
 }
 
--- A subcommand with the options that all maps share.
+-- Subcommand `name` with the options that all maps share.
 abbrev pub map_shape : Text → Shape
 map_shape name = record
     (new_shape name) { rules = tile_rule ∷ workers_rule ∷ scale_rule ∷ progress_rule ∷ [] }
 
--- The subcommand of a drainage map other than catchments. It takes sink words.
+-- The subcommand `name` of filled heights, directions, accumulation or basins. It takes sink words.
 abbrev pub drainage_shape : Text → Shape
 drainage_shape name = record (new_shape name) {
   rules = tile_rule ∷ workers_rule ∷ scale_rule ∷ progress_rule ∷ sinks_rule ∷ [];
@@ -145,7 +145,7 @@ IsHelp kind = (kind ≡ DisplayHelp) ⊎ (kind ≡ DisplayVersion)
 abbrev pub AskForHelp : List Text → Type 0
 AskForHelp words = Any IsHelp (fault_of program_app words)
 
--- `clap` accepts the words, as the subcommand of this name with these values.
+-- `clap` accepts the words as subcommand `name`, and `rows` has the values of its arguments.
 pub record AreCommand (words : List Text) (name : Text) (rows : List Row) : Type 0 where
   pub accepted : fault_of program_app words ≡ []
   pub found : subcommand_of program_app words ≡ Some (name, rows)
@@ -166,11 +166,11 @@ is_given id rows = option_map_or (λ text. bytes_eq text (codes "true")) (first_
 abbrev pub words_of : Text → List Row → List Text
 words_of id rows = unwrap_or (all_of id rows) []
 
--- The words spell these items, one each, in order.
+-- Each word spells one item, and the words in order spell the items in order.
 abbrev pub Spell : {X : Type 0} → (Text → Option X) → List Text → List X → Type 0
 Spell spelled words items = map spelled words ≡ map Some items
 
--- The first word that spells nothing is at this place from 0.
+-- The first word that spells nothing is number `place` of the words, counted from 0.
 abbrev pub IsFirstBad : {X : Type 0} → (Text → Option X) → List Text → ℕ → Type 0
 IsFirstBad spelled words place = position (λ word. is_none (spelled word)) words ≡ Some place
 
@@ -182,7 +182,7 @@ HasObservers rows observers = Spell observer_of (words_of (codes "observers") ro
 abbrev pub HasGauges : List Row → List Place → Type 0
 HasGauges rows gauges = Spell place_of_word (words_of (codes "gauges") rows) gauges
 
--- The subcommand of this name with these values requests this map.
+-- Subcommand `name`, with the argument values `rows`, requests this map.
 abbrev pub Names : Text → List Row → Map → Type 0
 Names name rows Fill = name ≡ codes "fill"
 Names name rows Flow = name ≡ codes "flow"
@@ -193,17 +193,18 @@ Names name rows (View observers target radius) =
     (name ≡ codes "view") × HasObservers rows observers.items
     × HasNumber rows (codes "target") target × HasNumber rows (codes "radius") radius
 
--- The words given for sinks; a viewshed takes none.
+-- The words given for sinks; none for subcommand `view`.
 abbrev pub sink_words : Text → List Row → List Text
 sink_words name rows = if bytes_eq name (codes "view") then [] else words_of (codes "sinks") rows
 
--- The options that all maps share, except the flag `--progress`, have these values.
+-- `--tile`, `--workers` and `--scale` have these values.
 abbrev pub HasOptions : List Row → ℕ → ℕ → ℕ → Type 0
 HasOptions rows tile workers scale =
     HasNumber rows (codes "tile") tile × HasNumber rows (codes "workers") workers
     × HasNumber rows (codes "scale") scale
 
--- The words request this map with these sinks and options; side, workers and scale are in limits.
+-- The words spell the map, sinks and options of `request`; tile side, workers and scale are within
+-- their limits.
 pub record RequestFor (words : List Text) (request : Request) : Type 0 where
   pub name : Text
   pub rows : List Row
@@ -219,19 +220,22 @@ abbrev pub AreRefused : List Text → Type 0
 AreRefused words = Any (λ kind. ¬ IsHelp kind) (fault_of program_app words)
     ⊎ ((fault_of program_app words ≡ []) × ((request : Request) → ¬ RequestFor words request))
 
--- The subcommand is `view`, and the first word that is no observer is at this place from 0.
+-- The subcommand is `view`, and the first observer word that spells no observer is number `place`
+-- of the observer words, counted from 0.
 pub record HasBadObserver (words : List Text) (place : ℕ) : Type 0 where
   pub rows : List Row
   pub command : AreCommand words (codes "view") rows
   pub first : IsFirstBad observer_of (words_of (codes "observers") rows) place
 
--- The subcommand is `catchments`, and the first word that is no gauge is at this place from 0.
+-- The subcommand is `catchments`, and the first gauge word that spells no gauge is number `place`
+-- of the gauge words, counted from 0.
 pub record HasBadGauge (words : List Text) (place : ℕ) : Type 0 where
   pub rows : List Row
   pub command : AreCommand words (codes "catchments") rows
   pub first : IsFirstBad place_of_word (words_of (codes "gauges") rows) place
 
--- The words name a map, and the first sink word that is no sink is at this place from 0.
+-- The words name a map, and the first sink word that spells no sink is number `place` of the sink
+-- words, counted from 0.
 pub record HasBadSink (words : List Text) (place : ℕ) : Type 0 where
   pub name : Text
   pub rows : List Row

@@ -1,4 +1,5 @@
--- Statements about the definitions, which `laws` proves.
+-- Statements that module `laws` proves: a command line has at most one request, and what seven
+-- examples of command lines mean.
 -- Public.
 use Rattle.std.specs.Prelude.{◌≡◌, true, false, List, [], ◌∷◌, Vec, codes}
 use Rattle.std.specs.declared.alloc.Global.{Global}
@@ -20,7 +21,7 @@ AreSame (View observers target radius) (View others height reach) =
 AreSame (Catchments gauges) (Catchments others) = gauges.items ≡ others.items
 AreSame map other = map ≡ other
 
--- A command line has at most one meaning.
+-- Two requests of one command line have the same map, options and sinks.
 abbrev pub RequestsAreOne : Type 0
 RequestsAreOne = (words : List Text) (request other : Request) → RequestFor words request →
     RequestFor words other →

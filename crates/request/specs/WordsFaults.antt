@@ -14,13 +14,13 @@ use Rattle.request.specs.declared.words.WordsFault.TheVariants.{Clap, BadObserve
 use Rattle.request.specs.declared.words.BadWord.{BadWord}
 use Rattle.request.specs.declared.words.BadWord.TheVariants.{At, NoMemory}
 
--- Memory was refused, or `Bad` holds of the place of the bad word.
+-- Memory was refused, or `Bad` holds of the bad word's number `place`.
 abbrev pub IsBadWord : (ℕ → Type 0) → BadWord → Type 0
 IsBadWord Bad (At place) = Bad place
 IsBadWord Bad (NoMemory e) = ⊤
 
--- Memory was refused; or `Observer`, `Gauge` or `Sink` holds of the place of the bad word; or the
--- fault is `NoMap` and `Missing` holds.
+-- If a word is bad, `Observer`, `Gauge` or `Sink`, by the word's kind, holds of the word's number
+-- `place`. If the fault is `NoMap`, `Missing` holds. Any other fault is refused memory.
 abbrev pub IsFaultWith : (ℕ → Type 0) → (ℕ → Type 0) → (ℕ → Type 0) → Type 0 → WordsFault → Type 0
 IsFaultWith Observer Gauge Sink Missing (Clap e) = kind_of e ≡ OutOfMemory
 IsFaultWith Observer Gauge Sink Missing (BadObserver place) = Observer place
@@ -32,12 +32,14 @@ IsFaultWith Observer Gauge Sink Missing NoMap = Missing
 abbrev pub IsNoMemory : WordsFault → Type 0
 IsNoMemory fault = IsFaultWith (λ _. ⊥) (λ _. ⊥) (λ _. ⊥) ⊥ fault
 
--- The subcommand is `view`, and the first word that is no observer is at this place.
+-- The subcommand is `view`, and the first word that spells no observer is number `place` of the
+-- observer words, counted from 0.
 abbrev pub IsBadObserverAfter : Text → List Row → ℕ → Type 0
 IsBadObserverAfter name rows place =
     (name ≡ codes "view") × IsFirstBad observer_of (words_of (codes "observers") rows) place
 
--- The subcommand is `catchments`, and the first word that is no gauge is at this place.
+-- The subcommand is `catchments`, and the first word that spells no gauge is number `place` of the
+-- gauge words, counted from 0.
 abbrev pub IsBadGaugeAfter : Text → List Row → ℕ → Type 0
 IsBadGaugeAfter name rows place =
     (name ≡ codes "catchments") × IsFirstBad place_of_word (words_of (codes "gauges") rows) place
@@ -48,13 +50,14 @@ IsNoMap name rows = ((map : Map) → ¬ Names name rows map)
     × ((place : ℕ) → ¬ IsBadObserverAfter name rows place)
     × ((place : ℕ) → ¬ IsBadGaugeAfter name rows place)
 
--- The subcommand `name` with these values has this fault, where faults of sink words do not count.
+-- The subcommand `name` with these values has this fault. Bad sink words are no fault here.
 abbrev pub IsMapFault : Text → List Row → WordsFault → Type 0
 IsMapFault name rows = IsFaultWith (IsBadObserverAfter name rows) (IsBadGaugeAfter name rows)
     (λ _. ⊥)
     (IsNoMap name rows)
 
--- The words have this fault.
+-- The words have this fault. They have `NoMap` if `clap` accepts them, they request no map, and no
+-- observer, gauge or sink word is bad.
 abbrev pub IsFaultOf : List Text → WordsFault → Type 0
 IsFaultOf words (Clap e) = HasKind (fault_of program_app words) e
 IsFaultOf words (BadObserver place) = HasBadObserver words place

@@ -1,7 +1,8 @@
-//! Theorems about the definitions, as the contracts of functions without code.
+//! A command line has at most one request. Seven examples mean what their theorems say.
+//! The functions have no code; their contracts are the theorems.
 ghost use Rattle.request.specs.Laws.{BasinsOfSinks, CatchmentsOfAGauge, FillAlone, HelpOfView, NoSideOfZero, VersionAlone, ViewWithRadius, RequestsAreAccepted, RequestsAreOne};
 
-/// Proves that a command line has at most one meaning.
+/// Proves that requests of one command line have the same map, options and sinks.
 pub fn requests_are_one()
     ensures { RequestsAreOne }
 {}

@@ -45,7 +45,7 @@ fn comma_at(bytes: &[u8]) -> Option<usize>
     bytes.iter().position(|b| *b == b',')
 }
 
-/// Splits at the first comma. Returns `None` if there is none.
+/// Returns the bytes before and after the first comma, or `None` without a comma.
 fn split_at_comma(bytes: &[u8]) -> Option<(&[u8], &[u8])>
     ensures some { IfSome result (λ parts.
         slice_split (λ b. b == 44) bytes.now

@@ -105,7 +105,7 @@ fn sink_option<'a>(alloc: Global) -> Arg<'a>
         .help(SINK_OPTION)
 }
 
-/// Returns the positional sink words of a drainage map other than catchments.
+/// Returns the positional sink words, which `fill`, `flow`, `accumulate` and `basins` take.
 fn sink_words<'a>(alloc: Global) -> Arg<'a>
     ensures { IsArg sinks_rule result }
 {
@@ -116,7 +116,7 @@ fn sink_words<'a>(alloc: Global) -> Arg<'a>
         .help(SINK_WORDS)
 }
 
-/// Returns a subcommand with the options that all maps share.
+/// Returns subcommand `name` with the options that all maps share.
 fn map_command<'a>(alloc: Global, name: &'a str, help: MapHelp) -> Result<Command<'a>, AllocError>
     ensures { IfOk result (IsLeaf (map_shape name.entry.now)) }
 {
@@ -141,7 +141,7 @@ fn drainage_command<'a>(
     map_command(alloc, name, help)?.arg(sink_words(alloc))
 }
 
-/// Adds the subcommand of a drainage map other than catchments to the program.
+/// Adds subcommand `name`, which takes positional sink words, to the program.
 fn with_drainage<'a>(
     alloc: Global,
     program: Command<'a>,

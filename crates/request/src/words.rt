@@ -23,11 +23,11 @@ static NAME_ALONE: [&str; 1] = ["relief"];
 pub enum WordsFault {
     /// `clap` refuses the words, they ask for help or the version, or memory ran out.
     Clap(Error),
-    /// The first word that is no observer, by its place from 0 among observer words.
+    /// The number of the first word that is no observer, from 0 among observer words.
     BadObserver(usize),
-    /// The first word that is no gauge, by its place from 0 among gauge words.
+    /// The number of the first word that is no gauge, from 0 among gauge words.
     BadGauge(usize),
-    /// The first word that is no sink, by its place from 0 among sink words.
+    /// The number of the first word that is no sink, from 0 among sink words.
     BadSink(usize),
     /// The words name no map or exceed a limit. `clap` refuses such words first.
     NoMap,
@@ -60,7 +60,7 @@ fn number_given(found: &ArgMatches<'_>, id: &str) -> Option<u32>
 /// Why words were not parsed into a list of observers, gauges or sinks.
 #[derive(Drop)]
 pub(crate) enum BadWord {
-    /// The first bad word, by its place from 0 among the words.
+    /// The number of the first bad word, from 0 among the words.
     At(usize),
     NoMemory(AllocError),
 }
@@ -73,7 +73,7 @@ impl From<AllocError> for BadWord {
     }
 }
 
-/// Parses each of the words, up to the first bad one.
+/// Parses the words in order, and returns their values or the first bad word's number.
 fn read_words<T: FromWord + Drop>(alloc: Global, words: &[&str]) -> Result<Vec<T>, BadWord>
     ensures some { IfOk result (λ v. Spell T.spelled (map (λ w. w.now) words.now) v.items) }
     ensures bad { IfErr result (IsBadWord (IsFirstBad T.spelled (map (λ w. w.now) words.now))) }
@@ -168,7 +168,7 @@ fn map_of(alloc: Global, name: &str, found: &ArgMatches<'_>) -> Result<Map, Word
     }
 }
 
-/// Returns the sinks given for the map of this name; a viewshed has none.
+/// Returns the sinks given with subcommand `name`; with `view`, none.
 fn sinks_given(alloc: Global, name: &str, found: &ArgMatches<'_>) -> Result<Vec<Place>, WordsFault>
     ensures some { IfOk result
         (λ v. Spell place_of_word (sink_words name.now (rows_of (found_of found.now))) v.items) }
@@ -241,7 +241,7 @@ fn requested_options<'a>(alloc: Global, words: &'a [&'a str]) -> Result<Options,
 /// - [`WordsFault::Clap`] if `clap` refuses the words, if they ask for help or the version, or if
 ///   memory is refused
 /// - [`WordsFault::BadObserver`], [`WordsFault::BadGauge`] or [`WordsFault::BadSink`] with the
-///   place of the first bad word; a bad gauge is reported before a bad sink
+///   number, from 0, of the first bad word of its kind; a bad gauge is reported before a bad sink
 ///
 /// # Examples
 ///

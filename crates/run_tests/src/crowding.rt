@@ -35,7 +35,7 @@ impl Crowd {
         })
     }
 
-    /// Waits until a job has entered more than `before` times; returns false on giving up.
+    /// Waits until `job`, a count of entries, is above `before`; returns false on giving up.
     fn enters_again(&self, job: &AtomicU64, before: u64) -> bool {
         for _ in 0..MOST_LOOKS {
             if job.load(Ordering::SeqCst) > before {
@@ -75,7 +75,7 @@ fn level_strip(alloc: Global, tiles: u32) -> Result<Vec<u8>, Fail> {
     Ok(text)
 }
 
-/// Asserts that each stage, with one tile a worker, runs all tiles at once.
+/// Asserts that each stage runs the jobs of all tiles at once, with as many workers as tiles.
 fn expect_crowded<R: Abort + Threads + Wait + Sync>(
     rt: &R,
     alloc: Global,

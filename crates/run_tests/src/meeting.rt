@@ -44,7 +44,7 @@ const MOST_LOOKS: u32 = 10_000_000;
 /// A gate that holds a stage's first two jobs until both have entered, or gives up.
 #[derive(Drop)]
 struct Meeting {
-    // how often each of the two has entered: once at each stage
+    // how often each of the first two jobs has entered: once at each stage
     entered: [AtomicU64; 2],
     all: AtomicU64,
     looks: u32,
@@ -87,7 +87,7 @@ impl Meeting {
         assert_eq!(rt; self.missed.load(Ordering::SeqCst), 0, "{map}");
     }
 
-    /// Asserts the number of stages and tiles, and that the first two jobs met.
+    /// Asserts that each stage had a job for each tile, and that the first two jobs met.
     fn expect(&self, rt: &impl Abort, stages: u64, tiles: u64, map: &str) {
         let first = self.entered[0].load(Ordering::SeqCst);
         let second = self.entered[1].load(Ordering::SeqCst);
@@ -116,8 +116,9 @@ fn cut(rt: &impl Abort, alloc: Global, text: &[u8], side: u32) -> (Grid, Tiling)
 }
 
 /// Each stage has as many jobs as there are tiles.
-/// `viewshed`: greatest heights of blocks, values. `filled`: floods, raising. `accumulation` and
-/// `catchments`: flow in tiles, values. `basins`: outlets, flow in tiles, values.
+/// The stages of `viewshed` find greatest heights of blocks, then values. Those of `filled` flood,
+/// then raise. Those of `accumulation` and `catchments` find flow in tiles, then values. `basins`
+/// has a stage before these two, which counts outlets.
 #[test]
 fn tiles_meet_at_each_stage(rt: HostRuntime) {
     let alloc = rt.alloc();
@@ -271,7 +272,7 @@ fn tiles_of_catchments_meet(rt: HostRuntime) {
     expect_map(&rt, alloc, &out, 4, 4, lines);
 }
 
-/// A run has the stages of its calls: `filled` 2, `directions` 4, `accumulation` 2,
+/// A run has the stages of the calls that it makes: `filled` 2, `directions` 4, `accumulation` 2,
 /// `basins` 3, `viewshed` 2.
 #[test]
 fn tiles_meet_over_corridors(rt: HostRuntime) {

@@ -1,5 +1,5 @@
-//! On a long text, a run asks for few bytes at a time.
-//! No run reads far ahead of the cells that it has parsed.
+//! On a long text, each read requests at most 4,096 bytes.
+//! No run reads over 1 MiB ahead of the cells that it has parsed.
 use relief::{Counted, GridFault, Map, Options, RunFault, run};
 use std::alloc::{AllocError, Global};
 use std::io;
@@ -83,7 +83,7 @@ fn bytes_given(
 }
 
 /// A run refuses a bad word before it reads over 1 MiB past the word's first byte.
-/// A run cannot foresee a bad word, so it parses good words as early.
+/// A run cannot foresee which word is bad, so each good word too is parsed within 1 MiB.
 #[test]
 fn little_is_read_ahead(rt: HostRuntime) -> Result<(), Fail> {
     let alloc = rt.alloc();
@@ -104,7 +104,7 @@ fn little_is_read_ahead(rt: HostRuntime) -> Result<(), Fail> {
     Ok(())
 }
 
-/// The whole text is read, and the failure after it is the fault.
+/// A long text without a bad word is read whole; the failure after it is the run's fault.
 #[test]
 fn a_long_text_and_a_failure(rt: HostRuntime) -> Result<(), Fail> {
     let alloc = rt.alloc();

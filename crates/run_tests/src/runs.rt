@@ -50,7 +50,8 @@ impl Read for Endless {
     }
 }
 
-/// A writer of at most `each` bytes a call and `room` in all; then an error, or 0 if `stuck`.
+/// A writer that takes at most `each` bytes a call and `room` bytes in all.
+/// Then it returns an error, or 0 if `stuck`.
 #[derive(Drop)]
 struct Short {
     taken: Vec<u8>,
@@ -272,7 +273,7 @@ fn expect_refused(
     Ok(())
 }
 
-/// Only a word with a separator after it is checked before the failure.
+/// If a read fails, only the words with a separator after them have been checked.
 #[test]
 fn a_reader_that_fails(rt: HostRuntime) -> Result<(), Fail> {
     for (bytes, fault) in [

@@ -253,7 +253,8 @@ struct Tally {
     job_numbers: AtomicU64,
     parts: AtomicU64,
     due_parts: AtomicU64,
-    /// With one worker, jobs that left before their parts were finished; stage 1 has no parts.
+    /// With one worker, the number of jobs that left before all their parts were finished.
+    /// A job of the second stage has a part for each observer, one of the first none.
     early: AtomicU64,
     ends: AtomicU64,
 }
@@ -322,7 +323,7 @@ fn reported<R: Threads + Wait + Sync>(rt: &R, alloc: Global, words: &[&str]) -> 
     tally
 }
 
-/// A viewshed has two stages of four jobs. A job of the second has three parts.
+/// A viewshed has two stages of four jobs. Jobs of the second stage have a part for each observer.
 #[test]
 fn progress_of_a_view(rt: HostRuntime) {
     for workers in ["--workers=1", "--workers=2"] {
@@ -350,7 +351,7 @@ fn progress_of_a_view(rt: HostRuntime) {
     }
 }
 
-/// A refused map calls `finish` alone. Without `--progress` nothing is called.
+/// A run whose map is refused calls `finish` alone. Without `--progress`, a run calls nothing.
 #[test]
 fn progress_where_asked_for(rt: HostRuntime) {
     let alloc = rt.alloc();

@@ -1,6 +1,6 @@
 -- The ramp of ground of one height hides all that a family's line blocks, if no cell near the
--- targets' rays is higher. A ray is a line of sight without its heights; a family's lines are the
--- columns, or the rows, on one side of an observer.
+-- targets' rays is higher. A ray leads from the observer to a target, seen from above. A family's
+-- lines are the columns, or the rows, on one side of the observer.
 use Rattle.std.proofs.Common.{arith, refl, sym, ap, ◌∙◌, ◌≡◌, ◌+◌, ◌-◌, ◌<◌, ◌≤◌, ◌⊎◌, ℕ, ℤ, pos, ◌+ℤ◌, ◌-ℤ◌, ◌*ℤ◌, ◌≤ℤ◌, ◌<ℤ◌, true, List, length, Option, None, Some, get_or, inl, inr}
 use borrow.Author.Differences.{true_is_lt}
 use Rattle.std.specs.Int.{int_div_euclid}
@@ -24,7 +24,7 @@ smaller : (a b : ℤ) (n : ℕ) → (a *ℤ pos n) <ℤ ((b +ℤ pos 1) *ℤ pos
 smaller a b n less = by_lt_z b a (λ past. absurd
     (omega (arith, ints, less, grows (b +ℤ pos 1) a n (omega (arith, ints, past))))) (λ is. is)
 
--- a ray of no smaller slope crosses a line at no lower offset
+-- if the slope of t is no smaller than that of s, the ray to t crosses line k at no lower offset
 offsets_rise : (k : ℕ) (a b : ℤ) (s t : Target) → 0 < s.line → 0 < t.line → IsSlopeUpTo s t →
     Passes k a s → Passes k b t → a ≤ℤ b
 offsets_rise k a b s t some more slope low high =
@@ -57,7 +57,8 @@ among_shows cells f k first last ramp t some among here onward =
       );
     }))
 
--- of targets `from` to below `end`, each ray crosses a line between the first ray and the last
+-- let target t have an index from `from` to below `end`. Its ray crosses line k at an offset from
+-- `low`, that of the first of these targets, to `high`, that of the last.
 pub passes_between : (targets : List Target) (none : Target)
     (k from end i : ℕ) (low high : ℤ) (t : Target) → AreTargets targets → end ≤ length targets →
     Passes k low (get_or targets from none) → Passes k high (get_or targets (end - 1) none)
@@ -179,7 +180,8 @@ level_hides f k offset near far top rise t passes a b hides =
     joined : (e j : ℤ) (r m : ℕ) → (e *ℤ pos r) +ℤ (e *ℤ pos m) ≡ (pos 0 *ℤ j) +ℤ (e *ℤ pos (r + m))
     joined e j r m = omega (arith, ints)
 
--- no cell of line k from offset `low` to `high + 1` is above `top`; for None, none has data
+-- no cell of line k from offset `low` to `high + 1` is above `top`; if `top` is None, none of these
+-- cells has data
 abbrev pub IsTopNear : List (Option ℤ) → Family → ℕ → ℤ → ℤ → Option ℤ → Type 0
 IsTopNear cells f k low high top = (c : ℕ) (h : ℤ) → c < f.side.cells → low ≤ℤ offset_of f c →
     offset_of f c ≤ℤ (high +ℤ pos 1) → height_at cells f k c ≡ Some h → IsTopOf top h

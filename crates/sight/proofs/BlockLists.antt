@@ -66,13 +66,13 @@ ground_of_tops size t tops some cols rows are = record {
   heights = are.heights;
 }
 
--- block heights right for a terrain without its sinks are right for the terrain
+-- entries that bound the blocks of a terrain without its sinks bound the blocks of the terrain
 pub tops_of_ground : (size : ℕ) (t : Terrain) (tops : List (Option ℤ)) →
     AreTops size (ground_of t.cols t.rows t.cells) tops → AreTops size t tops
 tops_of_ground size t tops are =
     record { count = are.count; heights = are.heights; above = are.above }
 
--- a row or column of cells meets as many groups of 8 near blocks as it meets far blocks
+-- a row of cells needs as many groups of 8 near blocks as far blocks
 in_blocks : (cells : ℕ) → blocks_in 8 (blocks_in 16 cells) ≡ blocks_in 128 cells
 in_blocks cells = omega arith
 

@@ -1,5 +1,5 @@
--- A family's lines are the columns, or the rows, on one side of an observer. Some line before a
--- target's own blocks the target exactly if the walk along the line of sight is blocked.
+-- A walk to a target is blocked exactly if a family's line before the target's own blocks the
+-- target. A family's lines are the columns, or the rows, on one side of an observer.
 use Rattle.std.proofs.Common.{ap, ◌∙◌, ◌≡◌, ℕ, ◌-◌, ℤ, ◌+ℤ◌, List, Option}
 use Rattle.std.specs.List.{list_any, range_with_len}
 use Rattle.sightlines.specs.Walk.{step_blocks, steps_of, walk_blocks}

@@ -1,5 +1,6 @@
--- Line by line and cell by cell, a list gets the rays of all marked cells on lines 2 and beyond. A
--- ray is a line of sight without its heights; lines are columns or rows out from an observer.
+-- A family's lines are the columns, or the rows, on one side of an observer, counted outward from
+-- 1. A ray leads from the observer to a target, seen from above. Line by line and cell by cell, a
+-- list gets the rays to all marked cells from line 2 on.
 use Rattle.std.proofs.Common.{arith, refl, sym, ap, subst, ◌∙◌, ◌≡◌, ℕ, ◌+◌, ◌*◌, ◌<◌, ◌≤◌, ◌++◌, ◌⊎◌, Bool, false, List, [], ◌∷◌, length, Some, inl, inr}
 use Rattle.std.specs.Prelude.{slice_get}
 use Rattle.std.proofs.lemmas.Bool.{cases_lt}
@@ -12,8 +13,8 @@ use Rattle.sight.specs.declared.family.Family.{Family}
 use Rattle.sight.specs.declared.window.Window.{Window}
 use Rattle.sight.proofs.Ranking.{slice_get-front, slice_get-last}
 
--- rays of cells before cell c of line n are those of all lines before line k, if the window has no
--- cell between
+-- let `rays` lead to each marked cell of lines before n, and of line n before cell c. If the window
+-- has no other cell before line k, `rays` lead to each marked cell before line k.
 lines_passed : (f : Family) (w : Window) (marks : List Bool) (n c k : ℕ) (rays : List Target)
     → n < k → length rays ≤ k * 4096 → ((m y : ℕ) → m < k → Crosses f w m → IsInRun w.side y →
     (m < n) ⊎ ((m ≡ n) × (y < c))) → AreRays f w marks n c rays → AreRays f w marks k 0 rays

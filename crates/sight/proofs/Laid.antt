@@ -1,5 +1,6 @@
--- The pieces that the code pushes are those of the old horizon, raised to the ground of a line. A
--- piece is one ramp for successive targets; a line is a column or row out from an observer.
+-- The pieces that the code pushes make the old horizon, raised to the ground of a line. A piece is
+-- one ramp for successive targets; a line is a column or row on one side of the observer. A ray
+-- leads from the observer to a target, seen from above.
 use Rattle.std.proofs.Common.{arith, refl, ap, negsuc, ◌∙◌, ◌≡◌, ℕ, ◌+◌, ◌-◌, ◌*◌, ◌<◌, ◌≤◌, ℤ, pos, ◌+ℤ◌, ◌-ℤ◌, ◌*ℤ◌, ◌≤ℤ◌, ◌<ℤ◌, subst, true, List, [], Option, Some, inl, inr}
 use Rattle.std.specs.Prelude.{slice_get}
 use Rattle.std.proofs.lemmas.Bool.{cases_lt}
@@ -25,16 +26,16 @@ grows a b n h = by (b -ℤ a) refl
     by (pos m) e = omega (arith, ints, rest_times b a (pos n), ap (λ z. z *ℤ pos n) e)
     by (negsuc m) e = absurd (omega (arith, ints, e, h))
 
--- if the ray to target m passes before the cell at `offset`, so do the rays to all targets of lower
--- index
+-- if the ray to target m passes line k before the cell at `offset`, so do the rays to all targets
+-- of lower index
 pub before_to : (targets : List Target) (k m : ℕ) (offset : ℤ) (u : Target) → AreTargets targets →
     slice_get targets m ≡ Some u → IsBefore k offset u → AreBefore targets k offset (m + 1)
 before_to targets k m offset u are at_m before i t below at_i =
     high_back offset t.offset u.offset t.line u.line k (are.each i t at_i).line.0
     (slope_up targets i m t u are (omega arith) at_i at_m) before
 
--- if the ray to target `from` passes `offset`, it and later rays that cross before `last + 1` pass
--- among cells `offset` to `last`
+-- let the ray to target `from` pass the cell at `offset`. If this ray or a later one crosses line k
+-- before the cell at `last + 1`, the ray passes among cells `offset` to `last`.
 pub passes_onward : (targets : List Target) (k from end i : ℕ) (offset last : ℤ) (u t : Target) →
     AreTargets targets → slice_get targets from ≡ Some u → Passes k offset u →
     AreBefore targets k (last +ℤ pos 1) end
@@ -45,8 +46,8 @@ passes_onward targets k from end i offset last u t are at_u passes before low hi
   high = before i t high at_t;
 }
 
--- a ray that passes the cell at `offset` passes among those from `offset` to any `last` not below
--- it
+-- a ray that passes the cell at `offset` passes among the cells from `offset` to `last`, if `last`
+-- is not below `offset`
 pub passes_before : (k : ℕ) (offset last : ℤ) (t : Target) → offset ≤ℤ last → Passes k offset t →
     PassesAmong k offset last t
 passes_before k offset last t up passes = record {
@@ -192,8 +193,8 @@ passed_high f k y t is stands some later past =
       rest_times (pos f.side.cells) (pos f.side.at) (pos (r + k)),
     ))
 
--- over targets whose rays cross before the side's first cell, any ramp within bounds begins the
--- raised horizon
+-- over targets whose rays cross line k before the side's first cell, the raised horizon may begin
+-- with any ramp within bounds
 pub low_raised : (cells : List (Option ℤ)) (f : Family) (targets : List Target) (k end : ℕ)
     (highest : List Piece) (ramp : Ramp) (old new : List Piece) → old ≡ [] → IsFamily f →
     AreTargets targets → IsPushed old end ramp new
@@ -213,8 +214,8 @@ low_raised cells f targets k end highest ramp old new e is are pushed before at 
       ),
     )
 
--- over targets whose rays cross past the side's last cell, any ramp within bounds extends the
--- raised horizon
+-- over targets whose rays cross line k past the side's last cell, any ramp within bounds may extend
+-- the raised horizon
 pub high_raised : (cells : List (Option ℤ)) (f : Family) (targets : List Target) (k from end : ℕ)
     (highest : List Piece) (offset : ℤ) (u : Target) (ramp : Ramp) (old new : List Piece) → 0 < k →
     IsFamily f → AreTargets targets → slice_get targets from ≡ Some u

@@ -8,21 +8,21 @@ pub mod Rays
 pub mod Spans
 pub mod Laid
 pub mod Below
--- a horizon over all lines so far
+-- the horizon of all lines passed so far
 pub mod Passed
 -- rays in the order of their slopes, and of their lines
 pub mod Ranking
 pub mod Gathered
 -- the marks that a family of crossings removes
 pub mod Unmarking
--- a family blocks as the walk does
+-- a family's lines block exactly what a walk finds blocked
 pub mod Families
 -- the marks that a tile keeps on all sides of an observer
 pub mod BothSides
 pub mod PlacesLeft
--- observers and refusals
+-- faults of observers, and refusals
 pub mod Refused
--- a tile, observer by observer
+-- the values of a tile, observer by observer
 pub mod Far
 pub mod Marked
 pub mod Counting

@@ -1,4 +1,5 @@
--- Marks set place by place, and the marks that a sweep leaves, are right for their places.
+-- If each mark has a property as it is set, place by place in row order, all marks have it. After a
+-- check of the first crossings of lines of sight, a sweep leaves exactly the marks of seen places.
 use Rattle.std.proofs.Common.{arith, sym, ap, subst, ◌∙◌, ◌≡◌, ◌+◌, ◌<◌, ℕ, Bool, false, List, length, get_or, set, inl, inr}
 use Rattle.std.proofs.lemmas.Bool.{cases_eq}
 use Rattle.std.proofs.lemmas.List.{length-set, get_or-set_same, get_or-set_other}
@@ -29,7 +30,8 @@ marked_more b Holds p marks i x inside at before is = record {
   ];
 }
 
--- from marks right for the first crossings, a sweep leaves exactly the marks of seen places
+-- let the old marks be as in `MarksSeenIfOpen`. If the new marks keep just those of places whose
+-- line of sight no crossing blocks, exactly the seen places are marked.
 pub left_seen : (b : Bounds) (t : Terrain) (o : Observer) (target radius : ℕ)
     (old new : List Bool) → AreMarked b (MarksSeenIfOpen t o target radius) old →
     AreLeft b (λ (p : Place). is_open t o p target) old new

@@ -1,5 +1,6 @@
--- If a horizon hides what the lines before line k block, then raised to line k's ground it hides
--- what line k blocks too. Lines are columns or rows out from an observer.
+-- If a horizon hides exactly what the lines before line k block, the horizon raised to line k's
+-- ground hides what line k blocks too. Lines are the columns, or the rows, on one side of an
+-- observer.
 use Rattle.std.proofs.Common.{arith, refl, sym, ap, subst, ◌∙◌, ◌≡◌, ℕ, zero, suc, ◌+◌, ◌-◌, ◌<◌, ◌||◌, ◌≤◌, ◌^◌, ℤ, unsigned_abs, Bool, true, false, List, [], length, Option, Some}
 use Rattle.std.specs.Prelude.{slice_get}
 use Rattle.std.specs.List.{list_any, range_with_len}

@@ -1,5 +1,5 @@
--- Sweeps over columns leave the marks of places whose line of sight no crossing with a column
--- blocks; sweeps over rows do so for rows.
+-- Of the marks, sweeps over columns leave exactly those of places whose line of sight no crossing
+-- with a column blocks. Sweeps over rows do so for crossings with rows.
 use Rattle.std.proofs.Common.{arith, sym, ap, ◌∙◌, ◌≡◌, ◌+◌, ◌-◌, ◌*◌, ◌<◌, ◌≤◌, ℕ, ℤ, pos, ◌+ℤ◌, Bool, true, false, not, ◌&&◌, List, Option, get_or, unwrap_or}
 use Rattle.std.proofs.lemmas.Nat.{mul-add-lt}
 use Rattle.terrain.specs.Raster.{Terrain}
@@ -34,7 +34,8 @@ pub row_marks : (b : Bounds) (x y n : ℕ) → n ≡ b.rows * b.cols → x < b.r
     x * b.cols + y * 1 < n
 row_marks b x y n size in_x in_y = omega (arith, size, mul-add-lt x b.cols y b.rows in_x in_y)
 
--- the equation of a new mark stays true, if index i is replaced by j and `walked` by `blocked`
+-- the equation of a new mark stays true, if index i is replaced by an equal j, and `walked` by an
+-- equal `blocked`
 reported : (new old : List Bool) (i j : ℕ) (walked blocked : Bool) →
     i ≡ j → walked ≡ blocked → get_or new i false ≡ (get_or old i false && not walked) →
     get_or new j false ≡ (get_or old j false && not blocked)

@@ -1,5 +1,6 @@
--- The ramp of the ground between two cells hides what this ground blocks. Before its target's line,
--- a ray (a line of sight without its heights) crosses lines only at cells that exist.
+-- The ramp of the ground between two cells hides what this ground blocks. A ray leads from the
+-- observer to a target, seen from above. Up to the target, it crosses columns or rows only at cells
+-- that exist.
 use Rattle.std.proofs.Common.{arith, refl, sym, ap, ◌∙◌, ◌≡◌, ◌+◌, ◌-◌, ◌*◌, ◌/◌, ◌%◌, ◌<◌, ◌≤◌, ℕ, ℤ, pos, negsuc, ◌+ℤ◌, ◌-ℤ◌, ◌*ℤ◌, ◌≤ℤ◌, ◌<ℤ◌, int_lt, false, Option, None, Some, inl, inr}
 use borrow.Author.Differences.{up, down}
 use Rattle.std.proofs.lemmas.Int.{ints}
@@ -203,7 +204,8 @@ back_from a b j l i h n m k some slope high =
       ))
     ]
 
--- if slope j / n reaches an offset on line k, so does i / m, which is no less
+-- let slope i / m be no less than j / n. If the ray of slope j / n crosses line k at `offset` or
+-- beyond, so does the ray of slope i / m.
 pub low_onward : (offset j i : ℤ) (n m k : ℕ) → 0 < n → (j *ℤ pos m) ≤ℤ (i *ℤ pos n) →
     (offset *ℤ pos n) ≤ℤ (j *ℤ pos k) → (offset *ℤ pos m) ≤ℤ (i *ℤ pos k)
 low_onward offset j i n m k some slope low =

@@ -1,6 +1,6 @@
 -- Of targets whose rays cross a line between two cells, the ramp of the ground there hides exactly
--- those that the line blocks. A ray is a line of sight without its heights; a line is a column or
--- row out from an observer.
+-- those that the line blocks. A ray leads from the observer to a target, seen from above; a line is
+-- a column or row on one side of the observer.
 use Rattle.std.proofs.Common.{arith, refl, sym, ap, ◌∙◌, ◌≡◌, ◌+◌, ◌-◌, ◌*◌, ◌/◌, ◌^◌, ◌<◌, ◌≤◌, ℕ, ℤ, pos, negsuc, ◌+ℤ◌, ◌-ℤ◌, ◌*ℤ◌, ◌≤ℤ◌, ◌<ℤ◌, unsigned_abs, false, List, Option, None, Some, get_or, inl, inr}
 use borrow.Author.Differences.{up, down}
 use Rattle.std.specs.Int.{int_div_euclid}
@@ -147,7 +147,7 @@ pub level_small : (near far e offset : ℤ) → IsHeight near → IsHeight far �
 level_small near far e offset a b is few = rest_small (near -ℤ e) ((far -ℤ near) *ℤ offset)
     (base_small near e a is) (tilt_within near far offset a b few)
 
--- a ramp's value is a weighted sum of its two cells' heights above the eye
+-- two forms of a ramp's value; the second is a weighted sum of two cells' heights above the eye
 mixed : (near far e : ℤ) (r m : ℕ) → ((near -ℤ e) *ℤ pos (r + m)) +ℤ (pos m *ℤ (far -ℤ near))
     ≡ ((near -ℤ e) *ℤ pos r) +ℤ ((far -ℤ e) *ℤ pos m)
 mixed near far e r m = omega (
@@ -185,7 +185,8 @@ ramp_is f k offset near far t is line a b is_t passes =
       value = rw between (omega (arith, small));
     }
 
--- the ramp of the ground between two cells hides exactly what the line blocks
+-- let a target's ray cross line k from cell c on and before the next cell. The ramp of the ground
+-- between these two cells hides the target exactly if line k blocks the target.
 pub shows_ramp : (cells : List (Option ℤ)) (f : Family) (k c y : ℕ) (offset near far rise : ℤ)
     (t : Target) → IsAtCell f y t → k < t.line → Passes k offset t → pos c ≡ pos f.side.at +ℤ offset
     → get_or cells (near_index f k c) None ≡ Some near →
@@ -197,7 +198,8 @@ shows_ramp cells f k c y offset near far rise t stands later passes at some also
     shown_between near far f.eye rise offset t.offset t.line k m.0 m.1 (omega arith) m.2
     ∙ sym (here ∙ rw (some, also) refl)
 
--- at the centre of a cell, the cell's height alone hides exactly what the line blocks
+-- let a target's ray cross line k at the centre of cell c. Ground of this cell's height hides the
+-- target exactly if line k blocks the target.
 pub shows_centre : (cells : List (Option ℤ)) (f : Family) (k c y : ℕ) (offset near rise : ℤ)
     (t : Target) → IsAtCell f y t → k < t.line → (t.offset *ℤ pos k) ≡ offset *ℤ pos t.line →
     pos c ≡ pos f.side.at +ℤ offset

@@ -1,5 +1,6 @@
--- Ray by ray, the marks of cells that a family's lines hide are removed. A ray is a line of sight
--- without its heights; a family's lines are the columns, or the rows, on one side of an observer.
+-- Ray by ray, the marks of cells that a family's lines hide are removed. A ray leads from the
+-- observer to a target, seen from above. A family's lines are the columns, or the rows, on one side
+-- of the observer.
 use Rattle.std.proofs.Common.{arith, refl, sym, ap, subst, ◌∙◌, ◌≡◌, ◌≢◌, ◌⊎◌, ℕ, ◌+◌, ◌-◌, ◌*◌, ◌<◌, ◌≤◌, Bool, true, false, not, ◌&&◌, ℤ, pos, ◌+ℤ◌, unsigned_abs, to_z, of_z, w32, List, length, get_or, set, Option, Some, inl, inr}
 use Rattle.std.specs.Prelude.{slice_get, if◌then◌else◌}
 use Rattle.std.proofs.lemmas.Bool.{cases_lt, cases_eq, cases_Bool, and_left, and_right}
@@ -100,7 +101,8 @@ rank_at rays targets ranks n rank within are at =
     ap (slice_get targets) (sym (get_or_from_slice_get ranks n rank 0 has))
     ∙ are.each n t (slice_get-get_or rays n (record { offset = pos 0; line = 0 }) within)
 
--- a lookup stays right with a new cursor and last rank, if the cursor may be used at that rank
+-- a lookup still looks from its line with a new cursor and last rank, if the cursor may be used at
+-- that rank
 pub looked_on : (cells : List (Option ℤ)) (f : Family) (targets : List Target) (k : ℕ) (old new :
     SweepLookup) → LooksFrom cells f targets k old → new.line ≡ old.line → new.sweep ≡ old.sweep
     → IsUpTo new.sweep.highest new.cursor new.last → LooksFrom cells f targets new.line new
@@ -144,8 +146,8 @@ same_target : (f : Family) (t : Target) (m z y : ℕ) → IsAtCell f y t → t �
 same_target f t m z y stands e =
     (ap (λ q. q.line) (sym e), omega (arith, ints, stands.offset, ap (λ q. q.offset) e))
 
--- on lines 2 and beyond, cells of the rays of index below `end` have the mark `mark_left`; others
--- have this or their old mark
+-- on lines 2 and beyond, the new mark of the cell of a ray of index below `end` is `mark_left`. The
+-- new mark of any other cell there is `mark_left` or the old mark.
 pub record AreHiddenBelow (cells : List (Option ℤ)) (f : Family) (w : Window) (height : ℕ)
     (rays : List Target) (end : ℕ) (old new : List Bool) : Type 0 where
   pub size : length new ≡ length old

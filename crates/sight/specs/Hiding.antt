@@ -1,5 +1,5 @@
--- A window is a part of the grid whose cells have marks. A family of crossings, with the columns or
--- with the rows on one side of an observer, removes the marks of cells that it hides.
+-- A window is a part of the grid whose cells have marks. A cell loses its mark if a line of a
+-- family hides the cell. These lines are the columns, or the rows, on one side of an observer.
 -- Private.
 use Rattle.std.specs.Prelude.{◌≡◌, ℕ, ◌+◌, ◌-◌, ◌*◌, ◌<◌, ◌≤◌, Bool, true, false, not, ◌&&◌, ◌⊎◌, ℤ, pos, ◌+ℤ◌, ◌-ℤ◌, List, length, Option, None, Some, unwrap_or, slice_get, slice_index_or}
 use Rattle.horizons.specs.declared.target.Target.{Target}
@@ -8,12 +8,12 @@ use Rattle.sight.specs.declared.family.Family.{Family}
 use Rattle.sight.specs.declared.window.CellRun.{CellRun}
 use Rattle.sight.specs.declared.window.Window.{Window}
 
--- The coordinate is in the run.
+-- The run has a cell at coordinate x.
 abbrev pub IsInRun : CellRun → ℕ → Type 0
 IsInRun r x = (r.first ≤ x) × (x < r.first + r.cells)
 
--- The run across the lines ends by 4096, and strides are at most 4096. The run along the lines is
--- in the family's side. Each cell has a mark.
+-- The run across the lines ends by 4096, and strides are at most 4096. The run along the lines has
+-- only cells of the family's side. Each cell of the window has a mark.
 pub record IsWindow (f : Family) (w : Window) (marks : List Bool) : Type 0 where
   pub lines : w.lines.first + w.lines.cells ≤ 4096
   pub first : f.side.first ≤ w.side.first
@@ -22,13 +22,13 @@ pub record IsWindow (f : Family) (w : Window) (marks : List Bool) : Type 0 where
   pub inside : (x y : ℕ) → x < w.lines.cells → y < w.side.cells →
       x * w.lines.stride + y * w.side.stride < length marks
 
--- Along one coordinate marks are adjacent; along the other they are at least as far apart as the
--- first coordinate's run has cells. So different cells have different marks.
+-- Along one coordinate the marks of neighbouring cells are adjacent. Along the other they are at
+-- least as far apart as the first coordinate's run has cells. So no two cells share a mark.
 pub record IsApart (w : Window) : Type 0 where
   pub apart : ((w.side.stride ≡ 1) × (w.side.cells ≤ w.lines.stride))
       ⊎ ((w.lines.stride ≡ 1) × (w.lines.cells ≤ w.side.stride))
 
--- Line n, from 2 on, exists and crosses the window.
+-- Line n exists, n is at least 2, and the line's coordinate is in the window's run across lines.
 pub record Crosses (f : Family) (w : Window) (n : ℕ) : Type 0 where
   pub later : 2 ≤ n
   pub line : IsLine f n
@@ -42,7 +42,7 @@ mark_index w x y = (x - w.lines.first) * w.lines.stride + (y - w.side.first) * w
 abbrev pub mark_in_window : Window → ℕ → ℕ → List Bool → Bool
 mark_in_window w x y marks = slice_index_or marks (mark_index w x y) false
 
--- The target is a cell of the window, on a line from 2 on that crosses the window.
+-- The target is a cell of the window, on line 2 or beyond.
 pub record IsRay (f : Family) (w : Window) (t : Target) : Type 0 where
   pub cell : ℕ
   pub stands : IsAtCell f cell t
@@ -53,8 +53,8 @@ pub record IsRay (f : Family) (w : Window) (t : Target) : Type 0 where
 abbrev pub target_at : Family → ℕ → ℕ → Target
 target_at f n y = record { offset = offset_of f y; line = n }
 
--- Rays in the order of their lines, none past line n. From line 2 on, each marked cell of a line
--- before line n, or of line n before cell c, has its ray.
+-- The targets are cells of the window, in the order of their lines, none past line n. From line 2
+-- on, each marked cell of a line before line n, or of line n before cell c, is among the targets.
 pub record AreRays (f : Family) (w : Window) (marks : List Bool) (n c : ℕ)
     (rays : List Target) : Type 0 where
   pub few : length rays ≤ n * 4096 + (c - w.side.first)
@@ -79,8 +79,8 @@ mark_left cells f w height old n y =
     mark_in_window w (lead_of f n) y old
     && not (is_blocked_before cells f n y (rise_at cells f height n y) n)
 
--- From line 2 on, a cell keeps its mark unless a line before its own blocks it. All other marks
--- are kept.
+-- A cell on line 2 or beyond keeps its mark unless a line before its own blocks the cell. All other
+-- cells of the window keep their marks.
 pub record AreHidden (cells : List (Option ℤ)) (f : Family) (w : Window) (height : ℕ)
     (old new : List Bool) : Type 0 where
   pub size : length new ≡ length old

@@ -1,5 +1,5 @@
--- A lookup tells which targets of a line are hidden by the lines before it, then goes on to a later
--- line. Lines are columns or rows out from an observer.
+-- A lookup tells which targets on a line are hidden by the lines nearer the observer; then it goes
+-- on to a later line. Lines are the columns, or the rows, on one side of the observer.
 -- Private.
 use Rattle.std.specs.Prelude.{◌≡◌, ℕ, ℤ, List, Option}
 use Rattle.horizons.specs.declared.target.Target.{Target}
@@ -8,8 +8,8 @@ use Rattle.sight.specs.Sweep.{HidesBefore}
 use Rattle.sight.specs.declared.family.Family.{Family}
 use Rattle.sight.specs.declared.looking.SweepLookup.{SweepLookup}
 
--- The lookup is at line k. The lookup's horizon hides each target on line k or beyond exactly where
--- a line before line k blocks the target. The lookup's cursor may be used at rank `last`.
+-- The lookup is at line k. The lookup's horizon hides each target on line k or beyond exactly if a
+-- line before line k blocks the target. The lookup's cursor may be used at rank `last`.
 pub record LooksFrom (cells : List (Option ℤ)) (f : Family) (targets : List Target) (k : ℕ)
     (l : SweepLookup) : Type 0 where
   pub line : l.line ≡ k

@@ -1,4 +1,5 @@
--- Marks of the places within some bounds, one for each place in row order.
+-- Marks of the places within some bounds, one for each place in row order: which places an observer
+-- sees, or may see.
 -- Private.
 use Rattle.std.specs.Prelude.{◌≡◌, ℕ, ◌*◌, ◌<◌, Bool, false, ◌&&◌, List, length, slice_index_or}
 use Rattle.terrain.specs.Raster.{Terrain}
@@ -14,8 +15,8 @@ use Rattle.sight.specs.declared.marking.Check.TheVariants.{Whole, FirstCrossings
 abbrev pub mark_at : Bounds → List Bool → Place → Bool
 mark_at b marks p = slice_index_or marks (index_in b p) false
 
--- There is a mark for each place. `Holds` is true of each place of index below `end` and the
--- place's mark.
+-- Each place of the bounds has a mark. If a place's index in row order is below `end`, `Holds` is
+-- true of the place and its mark.
 pub record AreMarkedBelow (b : Bounds) (Holds : Place → Bool → Type 0) (end : ℕ)
     (marks : List Bool) : Type 0 where
   pub size : length marks ≡ b.rows * b.cols
@@ -34,7 +35,8 @@ abbrev pub MarksSeenIfOpen : Terrain → Observer → ℕ → ℕ → Place → 
 MarksSeenIfOpen t o target radius p mark =
     (mark && is_open t o p target) ≡ is_seen t o p target radius
 
--- The mark is right for a check of the whole line of sight, or of its first crossings.
+-- The mark is as a check leaves it. If the whole line of sight is checked, `MarksSeen` tells what
+-- the mark means; if the first crossings are, `MarksSeenIfOpen` does.
 abbrev pub IsMarkOf : Check → Terrain → Observer → ℕ → ℕ → Place → Bool → Type 0
 IsMarkOf Whole = MarksSeen
 IsMarkOf FirstCrossings = MarksSeenIfOpen

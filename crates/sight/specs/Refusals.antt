@@ -1,4 +1,4 @@
--- The faults of observers, target height and radius, and their order.
+-- The first fault of observers, target height and radius, and which errors a viewshed may give.
 -- Source: this project.
 -- Trust base.
 use Rattle.std.specs.Prelude.{◌≡◌, ◌↔◌, ◌⊎◌, Result, Err, ℕ, ◌+◌, ◌<◌, Bool, ◌&&◌, ◌||◌, not, nat_lt, is_none, if◌then◌else◌, List, [], ◌∷◌, length, Option, None, Some, option_map}
@@ -13,7 +13,7 @@ use Rattle.sight.specs.declared.fault.SightFault.{SightFault}
 use Rattle.sight.specs.declared.fault.SightFault.TheVariants.{Outside, OnNodata, TooManyObservers, BadEye, BadRadius, Jobs}
 use Rattle.tile_jobs.specs.declared.JobFault.TheVariants.{Memory, BadWorkers, NoThread}
 
--- The height of an eye or a target is above the limit.
+-- Height n of an eye or a target above its ground is above the limit.
 abbrev pub is_high : ℕ → Bool
 is_high n = nat_lt highest_eye n
 
@@ -21,20 +21,21 @@ is_high n = nat_lt highest_eye n
 abbrev pub is_outside : Terrain → Observer → Bool
 is_outside t o = not (nat_lt o.row t.rows && nat_lt o.col t.cols)
 
--- The fault of the place of observer i.
+-- The fault of observer `o`, of index i, if the observer is outside the terrain or on NODATA.
 abbrev pub place_fault_of : Terrain → ℕ → Observer → Option SightFault
 place_fault_of t i o =
     if is_outside t o then Some (Outside i)
     else if is_none (height_at t (place_of o)) then Some (OnNodata i)
     else None
 
--- The fault of the first observer at a bad place; the list's observers count from i.
+-- The fault of the first observer outside the terrain or on NODATA. The list's first observer has
+-- index i.
 abbrev pub place_fault : Terrain → ℕ → List Observer → Option SightFault
 place_fault t i [] = None
 place_fault t i (o ∷ rest) = option_or (place_fault_of t i o) (place_fault t (i + 1) rest)
 
 -- The first fault of observers, target height and radius over a terrain. The order: too many
--- observers, the target height, the first bad eye, the radius, the first bad place.
+-- observers, the target height, the first eye too high, the radius, the first bad place.
 abbrev pub observers_fault : Terrain → List Observer → ℕ → ℕ → Option SightFault
 observers_fault t observers target radius =
     if nat_lt most_observers (length observers) then Some TooManyObservers
@@ -44,8 +45,8 @@ observers_fault t observers target radius =
     (if nat_lt radius 1 || nat_lt longest_radius radius then Some BadRadius
     else place_fault t 0 observers)
 
--- The result is `fault` where there is one. Otherwise it is `BadWorkers` exactly for 0 or above 64
--- workers, and may be want of memory or, with several workers, of a thread.
+-- If there is a `fault`, the result is this error. Otherwise the result is `BadWorkers` exactly for
+-- 0 or above 64 workers. Any other error is want of memory or, with several workers, of a thread.
 pub record RefusesSight {T : Type 0} (fault : Option SightFault) (workers : ℕ)
     (result : Result T SightFault) : Type 0 where
   pub reported : (f : SightFault) → fault ≡ Some f → result ≡ Err f

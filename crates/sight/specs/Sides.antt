@@ -1,5 +1,5 @@
--- The lines of sight to the cells of a window, and the marks left where no crossing blocks them. A
--- window is a part of the grid whose cells have marks.
+-- Which marks a window keeps: those of cells whose line of sight no crossing with columns, or with
+-- rows, blocks. A window is a part of the grid whose cells have marks, here a tile.
 -- Private.
 use Rattle.std.specs.Prelude.{◌≡◌, ℕ, ◌+◌, ◌*◌, ◌<◌, ◌≤◌, Bool, false, not, ◌&&◌, ℤ, pos, ◌+ℤ◌, List, length, Option, None, unwrap_or, slice_index_or, min, max}
 use Rattle.sight.specs.Hiding.{IsInRun, mark_in_window}
@@ -10,7 +10,7 @@ use Rattle.sight.specs.declared.sides.TileAxis.{TileAxis}
 use Rattle.sightlines.specs.declared.walk.Sightline.{Sightline}
 use Rattle.sight.specs.declared.window.Window.{Window}
 
--- The numbers of an axis are within their limits.
+-- The observer's coordinate is below 4096, the tile ends by 4096, and strides are at most 4096.
 pub record IsTileAxis (c : TileAxis) : Type 0 where
   pub at : c.at < 4096
   pub tile : c.tile.first + c.tile.cells ≤ 4096

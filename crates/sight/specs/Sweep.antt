@@ -1,5 +1,6 @@
--- A family of crossings: with the columns east or west of an observer, or with the rows south or
--- north. Its lines count 1, 2, 3, .. outward from the observer.
+-- Which targets the lines of a family block, and when a ramp or a horizon hides the same targets. A
+-- family's lines are the columns east or west of an observer, or the rows south or north. They
+-- count 1, 2, 3, .. outward. A ray leads from the observer to a target, seen from above.
 -- Private.
 use Rattle.std.specs.Prelude.{◌≡◌, ℕ, ◌+◌, ◌-◌, ◌*◌, ◌^◌, ◌<◌, ◌≤◌, Bool, true, ◌||◌, if◌then◌else◌, ℤ, pos, unsigned_abs, ◌+ℤ◌, ◌-ℤ◌, ◌*ℤ◌, ◌<ℤ◌, ◌≤ℤ◌, List, Option, Some, slice_get}
 use Rattle.std.specs.List.{list_any, range_with_len}
@@ -37,7 +38,8 @@ abbrev pub is_blocked_before : List (Option ℤ) → Family → ℕ → ℕ → 
 is_blocked_before cells f n y rise k =
     list_any (line_blocks cells f n y rise) (range_with_len 1 (k - 1))
 
--- The numbers of a family are within their limits.
+-- The observer's coordinates are below 4096, and strides are at most 4096. The side has the
+-- observer's cell and ends by 4096. The eye's level is within its limit.
 pub record IsFamily (f : Family) : Type 0 where
   pub lines : f.lines.at < 4096
   pub first : f.side.first ≤ f.side.at
@@ -46,16 +48,18 @@ pub record IsFamily (f : Family) : Type 0 where
   pub strides : (f.lines.stride ≤ 4096) × (f.side.stride ≤ 4096)
   pub eye : IsLevel f.eye
 
--- Line k is from 1 to 4096, and not past coordinate 0.
+-- k is from 1 to 4096. If lines count toward coordinate 0, line k is not past it.
 abbrev pub IsLine : Family → ℕ → Type 0
 IsLine f k = (0 < k) × (k ≤ 4096) × (f.lines.back ≡ true → k ≤ f.lines.at)
 
--- The cell at an offset on line k exists, and has this index in the list of cells.
+-- The coordinate of the cell at this offset is from 0 to below the side's end. On line k the cell
+-- has this index in the list of cells.
 abbrev pub IsCell : Family → ℕ → ℤ → ℕ → Type 0
 IsCell f k offset index = (c : ℕ) × (c < f.side.cells) × (pos c ≡ pos f.side.at +ℤ offset)
     × (index ≡ lead_of f k * f.lines.stride + c * f.side.stride)
 
--- On line k the ray to a target passes over the cell at this offset, or between it and the next.
+-- On line k the ray to a target passes over the cell at this offset, or between this cell and the
+-- next.
 pub record Passes (k : ℕ) (offset : ℤ) (t : Target) : Type 0 where
   pub low : (offset *ℤ pos t.line) ≤ℤ (t.offset *ℤ pos k)
   pub high : (t.offset *ℤ pos k) <ℤ ((offset +ℤ pos 1) *ℤ pos t.line)
@@ -96,7 +100,8 @@ level_ramp f k height = record { gain = pos 0; level = height -ℤ f.eye; lines 
 abbrev pub IsRise : ℤ → Type 0
 IsRise rise = unsigned_abs rise ≤ 2 ^ 51
 
--- The ramp hides a target beyond line k exactly where line k blocks it.
+-- Let target t be beyond line k. At each rise within the limit, the ramp hides t exactly if line k
+-- blocks t.
 pub record Shows (cells : List (Option ℤ)) (f : Family) (k : ℕ) (t : Target)
     (r : Ramp) : Type 0 where
   pub at : IsRampAt r t
@@ -110,22 +115,24 @@ IsHiddenOn cells f targets k r from end =
     → (y : ℕ) (rise : ℤ) → IsAtCell f y t → k < t.line →
     line_blocks cells f t.line y rise k ≡ true → ramp_hides r t rise ≡ true
 
--- The ramp hides target t, beyond line k, exactly where the old horizon does or line k blocks it.
+-- Let target t, of index i, be beyond line k. At each rise within the limit, the ramp hides t
+-- exactly if the old horizon does or line k blocks t.
 pub record Raises (cells : List (Option ℤ)) (f : Family) (k : ℕ) (old : List Piece) (i : ℕ)
     (t : Target) (r : Ramp) : Type 0 where
   pub at : IsRampAt r t
   pub hides : (y : ℕ) (rise : ℤ) → IsAtCell f y t → k < t.line → IsRise rise →
       ramp_hides r t rise ≡ (hides old i t rise || line_blocks cells f t.line y rise k)
 
--- The new horizon hides each target below index `end`, if beyond line k, exactly where the old one
--- does or line k blocks it.
+-- The new horizon has a ramp for each target below index `end`. If the target is beyond line k, the
+-- ramp hides it exactly if the old horizon does or line k blocks it (`Raises`).
 abbrev pub RaisesBelow : List (Option ℤ) → Family → List Target → ℕ → List Piece → ℕ → List Piece →
     Type 0
 RaisesBelow cells f targets k old end new =
     (i : ℕ) (t : Target) → i < end → slice_get targets i ≡ Some t
     → (r : Ramp) × (ramp_at new i ≡ Some r) × Raises cells f k old i t r
 
--- The horizon hides each target from line k on exactly where a line before line k blocks it.
+-- Take a target on line k or beyond, at a rise within the limit. The horizon hides the target
+-- exactly if a line before line k blocks the target.
 pub record HidesBefore (cells : List (Option ℤ)) (f : Family) (targets : List Target) (k : ℕ)
     (h : List Piece) : Type 0 where
   pub over : IsOver targets h

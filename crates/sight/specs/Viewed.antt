@@ -1,4 +1,4 @@
--- The viewshed value of one place, and how it grows from observer to observer.
+-- The viewshed value of one place, and how the value grows from observer to observer.
 -- Private.
 use Rattle.std.specs.Prelude.{◌≡◌, ℕ, ◌+◌, ◌≤◌, Bool, if◌then◌else◌, List, Option, None, Some, option_map, IsTrue, is_none, slice_index_or}
 use Rattle.terrain.specs.Raster.{Terrain}
@@ -13,11 +13,11 @@ abbrev pub value_at : Terrain → List Observer → ℕ → ℕ → Place → Op
 value_at t observers target radius p =
     option_map (λ _. viewshed_value t observers target radius p) (height_at t p)
 
--- The entry is the viewshed value of its place.
+-- The entry is the viewshed value of place p, or None if p is NODATA.
 abbrev pub HasValue : Terrain → List Observer → ℕ → ℕ → Place → Option ℕ → Type 0
 HasValue t observers target radius p entry = entry ≡ value_at t observers target radius p
 
--- A value after one more observer, who sees its cell or does not.
+-- A cell's value after one more observer: 1 is added if this observer sees the cell.
 abbrev pub counted : Option ℕ → Bool → Option ℕ
 counted value is_seen = if is_seen then option_map (λ n. n + 1) value else value
 

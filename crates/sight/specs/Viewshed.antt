@@ -1,4 +1,5 @@
--- The viewshed of a grid. Source: as for the line of sight, see `sightlines/specs/Sight`.
+-- The viewshed of a grid: how many entries of a list of observers see each data cell. Source: as
+-- for the line of sight, see `sightlines/specs/Sight`.
 -- Trust base.
 use Rattle.std.specs.Prelude.{◌≡◌, ℕ, ◌*◌, List, length, count_by, Option, None, Some, MatchOption}
 use Rattle.terrain.specs.Raster.{Terrain}

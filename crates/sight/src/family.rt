@@ -1,8 +1,8 @@
 //! A family of crossings: with the columns, or the rows, on one side of an observer.
 //!
-//! These columns or rows are the family's lines, and count outward from 1. A ray is a line of sight
-//! without its heights, given by its target. `Family::span` returns the ground that a ray meets on
-//! a line.
+//! These columns or rows are the family's lines, and count outward from 1. A ray leads from the
+//! observer to a target, seen from above. `Family::span` returns the ground that a ray meets on a
+//! line.
 ghost use Rattle.std.specs.Prelude.{◌≡◌, ◌↔◌, ℕ, ◌^◌, ◌≤◌, IsTrue, true, pos, ◌+ℤ◌, ◌-ℤ◌, ◌*ℤ◌, ◌≤ℤ◌, ◌<ℤ◌, ◌<◌, ℤ, None, Some, MatchOption, unsigned_abs};
 ghost use Rattle.std.specs.Bool.{OnTrue};
 ghost use Rattle.horizons.specs.declared.target.Target.{Target};
@@ -48,9 +48,9 @@ pub struct Family {
 }
 
 /// The ground that a ray meets on a line, as a ramp.
-/// The ray passes over the cell at `offset`, or between it and the next. The ramp holds for this
-/// ray, and for rays of no lower slope that cross the line before the cell at `last + 1`. With
-/// `alone` it holds for this ray only.
+/// The ray passes over the cell at `offset`, or between this cell and the next. The ramp holds for
+/// this ray, and for rays of no lower slope that cross the line before the cell at `last + 1`. If
+/// `alone` is set, the ramp holds for this ray only.
 #[derive(Clone, Copy)]
 pub struct Span {
     pub offset: i32,
@@ -146,7 +146,8 @@ impl Family {
         }
     }
 
-    /// Returns the list index of a line's cell at `offset`, if there is such a cell.
+    /// Returns the index, in the list of cells, of a line's cell at `offset`.
+    /// `None` if the cell's coordinate is below 0 or not below `side.cells`.
     #[inline(always)]
     pub(crate) fn index_at(self, line: u32, offset: i32) -> Option<usize>
         requires family { IsFamily self }

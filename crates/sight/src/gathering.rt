@@ -1,7 +1,7 @@
 //! Collects the rays of a window's marked cells, line by line of a family.
 //!
-//! A ray is a line of sight without its heights, given by its target. A window is a tile with a
-//! mark for each cell. A family's lines are the columns, or the rows, on one side of an observer.
+//! A ray leads from the observer to a target, seen from above. A window is a tile with a mark for
+//! each cell. A family's lines are the columns, or the rows, on one side of the observer.
 ghost use Rattle.std.specs.Prelude.{◌≡◌, ℕ, ◌+◌, ◌-◌, ◌*◌, ◌^◌, ◌<◌, ◌≤◌, length, IfOk, OnOk};
 ghost use Rattle.sight.specs.Sweep.{IsFamily, IsLine};
 ghost use Rattle.sight.specs.Hiding.{target_at, AreRays, Crosses, IsWindow};
@@ -84,7 +84,7 @@ impl Family {
     }
 
     /// Returns the rays of all marked cells of a window on lines 2 and beyond.
-    /// No line is before line 1, so nothing hides its cells.
+    /// No line is before line 1, so nothing hides the cells of line 1.
     pub(crate) fn gather(
         self,
         alloc: Global,

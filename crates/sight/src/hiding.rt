@@ -29,7 +29,7 @@ impl Family {
     }
 }
 
-/// Removes the marks of the window's cells that the family hides.
+/// Removes the marks of the window's cells that lines of the family hide.
 /// Targets are `height` units above their cells' ground.
 pub(crate) fn hide(
     alloc: Global,

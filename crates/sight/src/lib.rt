@@ -15,7 +15,7 @@
 //! - `marking`: marks the cells that one observer sees, by walks or by a sweep
 //! - `sides`: sweeps a tile on all four sides of the observer
 //! - `hiding`: removes the marks of cells that one family of crossings hides
-//! - `looking`: looks up in the horizon which targets of a line are hidden
+//! - `looking`: looks up which targets on a line are hidden by nearer lines
 //! - `sweep`: a horizon, raised line by line
 //! - `line_ground`: raises a horizon to the ground of one line
 //! - `gathering`: collects the rays of marked cells, line by line
@@ -25,7 +25,7 @@
 //! - `window`: parts of the grid whose cells have marks
 //! - `heights`: heights of cells in a list
 //! - `by_place`: builds lists with one entry for each place of a tile
-//! - `laws`: a theorem about the definitions
+//! - `laws`: a theorem: a viewshed is unique
 #![tactic(auto)]
 
 mod by_place;

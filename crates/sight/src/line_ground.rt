@@ -1,7 +1,7 @@
 //! Raises a horizon to the ground of one line (`raise`), a column or row out from the observer.
 //!
-//! A piece is one ramp of the horizon, for successive targets. It is kept whole if a quick test
-//! finds no ground of the line above it.
+//! A horizon has a ramp for each target; a piece of it is one ramp for successive targets. A piece
+//! is kept whole if a quick test finds no ground of the line above the piece.
 ghost use Rattle.std.specs.Prelude.{◌≡◌, ℕ, ◌+◌, ◌^◌, ◌<◌, ◌≤◌, IsTrue, true, ◌↔◌, pos, ◌-ℤ◌, ◌≤ℤ◌, length, Some, OnOk, slice_get, unsigned_abs};
 ghost use Rattle.std.specs.Bool.{OnTrue};
 ghost use Rattle.horizons.specs.declared.target.Target.{Target};
@@ -27,8 +27,8 @@ fn is_before(target: Target, line: u32, offset: i32) -> bool
 }
 
 /// Finds, by bisection, the end of the targets whose rays cross before a cell.
-/// The cell is at `offset` on line `line`. The ray to target `low` crosses before it; the result is
-/// at most `high`.
+/// The cell is at `offset` on line `line`. The ray to target `low` crosses before this cell. The
+/// result, an exclusive end, is at most `high`.
 fn bisect(targets: &[Target], low: usize, high: usize, line: u32, offset: i32) -> usize
     requires targets { AreTargets targets.now }
     requires line { line ≤ 4096 }
@@ -52,8 +52,8 @@ fn bisect(targets: &[Target], low: usize, high: usize, line: u32, offset: i32) -
 }
 
 /// Returns the end of the targets whose rays cross a line before a cell.
-/// The cell is at `offset`. The ray to target `from` crosses before it; the result is at most
-/// `end`. Leaps 1, 2, 4, .. targets on, then bisects.
+/// The cell is at `offset`. The ray to target `from` crosses before this cell. The result, an
+/// exclusive end, is at most `end`. The search leaps 1, 2, 4, .. targets on, then bisects.
 #[inline]
 fn end_before(targets: &[Target], from: usize, end: usize, line: u32, offset: i32) -> usize
     requires targets { AreTargets targets.now }
@@ -115,7 +115,7 @@ fn count_before_side(family: Family, line: u32, targets: &[Target]) -> usize
 }
 
 /// Whether a piece's ramp may be ground of the line just before `line`.
-/// The ground of `line` mostly rises above such a piece, so `raise` does not test it.
+/// The ground of `line` mostly rises above such a piece, so `raise` leaves out the quick test.
 #[inline(always)]
 fn is_of_last_line(piece: Piece, line: u32) -> bool
     requires line { 0 < line }

@@ -24,7 +24,7 @@ fn cursor_at(cursor: Cursor, last: usize, rank: usize) -> Cursor
 }
 
 /// A sweep of the lines before `line`, with a cursor into its horizon.
-/// `last` is the rank that was looked up last, and 0 before the first.
+/// `last` is the rank that was looked up last, and 0 before the first lookup.
 #[derive(Drop)]
 pub struct SweepLookup {
     pub sweep: Sweep,
@@ -48,7 +48,8 @@ impl SweepLookup {
         })
     }
 
-    /// Sweeps the lines from the current one to below line `line`, which becomes current.
+    /// Sweeps the lines from `self.line` to below `line`.
+    /// Then `self.line` is `line`.
     pub(crate) fn go_to(
         &mut self,
         cells: &[Cell],
@@ -74,8 +75,8 @@ impl SweepLookup {
         Ok(())
     }
 
-    /// Whether a line before the current one hides `target`, whose rank by slope is `rank`.
-    /// The target is `rise` units above the eye.
+    /// Whether a line before line `self.line` hides `target`.
+    /// The target's rank by slope is `rank`, and the target is `rise` units above the eye.
     #[inline(always)]
     pub(crate) fn hides(&mut self, rank: usize, target: Target, rise: i64) -> bool
         requires rank { rank < extent self.old.sweep.highest }

@@ -1,7 +1,7 @@
 //! Sorts rays by slope, in whole numbers.
 //!
-//! A ray is a line of sight without its heights. Its slope is its target's `offset` over its
-//! target's `line`; its rank is its target's index among the sorted targets.
+//! A ray leads from the observer to a target, seen from above. Its slope is the target's `offset`
+//! over the target's `line`; its rank is the target's index among the sorted targets.
 ghost use Rattle.std.specs.Prelude.{◌≡◌, ℕ, ◌^◌, ◌≤◌, length, Some, IfOk, slice_get};
 ghost use Rattle.horizons.specs.declared.target.Target.{Target};
 ghost use Rattle.horizons.specs.Horizons.{IsTarget};

@@ -9,7 +9,7 @@ use sightlines::is_in_reach;
 use terrain::Place;
 use tiles::Bounds;
 
-/// Whether the nearest place of the bounds is within the radius of the eye.
+/// Whether the place of the bounds nearest to `eye` is within the radius.
 pub(crate) fn is_any_in_reach(eye: Place, bounds: Bounds, radius: u32) -> bool
     requires eye { (eye.row < 4096) × (eye.col < 4096) }
     requires some { (1 ≤ bounds.rows) × (1 ≤ bounds.cols) }

@@ -1,4 +1,4 @@
-//! The rise of a target: how many units it is above the observer's eye.
+//! Computes a target's rise: how many units the target is above the observer's eye.
 ghost use Rattle.std.specs.Prelude.{◌≡◌, ℕ, ◌≤◌, ℤ, Some};
 ghost use Rattle.horizons.specs.Horizons.{IsTarget};
 ghost use Rattle.horizons.specs.declared.target.Target.{Target};
@@ -13,7 +13,8 @@ use horizons::Target;
 use terrain::{Cell, Height};
 
 impl Family {
-    /// Returns the height of a target's cell, `None` for NODATA or without such a cell.
+    /// Returns the height of a target's cell.
+    /// `None` for NODATA, or if no such cell exists.
     #[inline(always)]
     fn height_of(self, cells: &[Cell], target: Target) -> Option<Height>
         requires heights { AreHeights cells.now }

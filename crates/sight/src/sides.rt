@@ -1,4 +1,4 @@
-//! Sweeps a tile: removes the marks of cells that a crossing hides.
+//! Sweeps a tile: removes the marks of cells whose line of sight a crossing blocks.
 //!
 //! Crossings come in four families: those with the columns east or west of the observer, and with
 //! the rows south or north. These columns or rows are a family's lines. The sweep takes one family
@@ -24,7 +24,8 @@ use terrain::{Cell, Observer, Place};
 use tiles::Bounds;
 
 impl Family {
-    /// Returns the family of the same axis whose lines lie west or north of the observer.
+    /// Returns the family with its lines west or north of the observer.
+    /// The lines are still columns, or still rows.
     fn reverse(self) -> Self
         ensures { result ≡ facing self true }
     {
@@ -50,7 +51,7 @@ pub struct TileAxis {
     pub tile: CellRun,
 }
 
-/// Removes the marks of cells that crossings on either side of the observer hide.
+/// Removes the marks of cells that lines on either side of the observer hide.
 /// The lines of both families are counted along the axis `lines`, and run along the axis `side`.
 fn hide_on_both_sides(
     alloc: Global,
@@ -119,7 +120,7 @@ impl<'a> ViewshedInput<'a> {
             row: observer.row,
             col: observer.col,
         };
-        // no contract here asks for data: without it the specs' `height_of` is 0 too
+        // no contract here asks for an observer on data: on NODATA the specs' `height_of` is 0 too
         let ground = height_at(cells, stands.index_in(cols));
         let eye = level(ground.unwrap_or(0), observer.eye);
         let columns = TileAxis {

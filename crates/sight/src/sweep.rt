@@ -1,4 +1,5 @@
-//! A horizon over all targets, raised line by line: by columns or rows out from an observer.
+//! Raises a horizon, which has a ramp for each target, to the ground of line after line. Lines are
+//! the columns, or the rows, on one side of an observer.
 ghost use Rattle.std.specs.Prelude.{◌+◌, ◌≤◌, ℤ, List, Option, IfOk, OnOk};
 ghost use Rattle.horizons.specs.Horizons.{AreTargets};
 ghost use Rattle.sightlines.specs.Walk.{AreHeights};
@@ -12,7 +13,8 @@ use std::alloc::{AllocError, Global};
 use std::mem;
 use terrain::Cell;
 
-/// The horizon of the lines so far, and a spare one whose memory is reused.
+/// The horizon of the lines passed so far.
+/// `spare` is another horizon, whose memory is reused.
 #[derive(Drop)]
 pub struct Sweep {
     pub highest: Horizon,
@@ -20,7 +22,8 @@ pub struct Sweep {
 }
 
 impl Sweep {
-    /// Returns a sweep that has passed no line yet, so it hides no target.
+    /// Returns a sweep that has passed no line yet.
+    /// Its horizon hides no target.
     pub(crate) fn new(alloc: Global, targets: &[Target]) -> Result<Self, AllocError>
         requires { AreTargets targets.now }
         ensures { IfOk result (λ s. (cells : List (Option ℤ)) (f : Family) →

@@ -152,8 +152,9 @@ fn shared_tops<R: Threads + Wait + Sync, G: Gate + Sync>(
     Ok(tops)
 }
 
-/// Returns the greatest heights of near and far blocks, and the grid's peak.
-/// `jobs` jobs find the heights of the near blocks.
+/// Returns the greatest height of each near and far block, and of the grid.
+/// Near blocks are 16 by 16 cells, far blocks 128 by 128. `jobs` jobs find the heights of the near
+/// blocks. The grid's greatest height is its peak: `LOWEST` if no cell has data.
 pub(crate) fn tops_of<R: Threads + Wait + Sync, G: Gate + Sync>(
     runner: &Runner<R, G>,
     grid: &Grid,

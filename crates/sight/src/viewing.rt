@@ -19,8 +19,8 @@ use tiles::Tiling;
 /// Returns how many entries of `observers` see each cell, in row order.
 ///
 /// NODATA cells have no count. Eyes and `target_height` are in units, `radius` in cells. Two stages
-/// run on `workers` workers, each with as many jobs as tiles. The first finds the greatest heights
-/// of blocks, since a line of sight skips a low block in one step; the second counts.
+/// run on `workers` workers; each stage has as many jobs as tiles. The first finds the greatest
+/// heights of blocks, since a line of sight skips a low block in one step; the second counts.
 ///
 /// # Errors
 ///

@@ -1,4 +1,5 @@
--- The ground between two data cells of weights above 0 is the sum of their weighted heights.
+-- Between two data cells of weights above 0, the ground is above the sight z exactly if the sum of
+-- their weighted heights is.
 use Rattle.std.proofs.Common.{arith, refl, ◌≡◌, ◌<◌, ℕ, eqb, ℤ, pos, ◌+ℤ◌, ◌*ℤ◌, int_lt, Option, Some, option_map}
 use Rattle.std.proofs.lemmas.Bool.{ne_eqb, cond-false}
 use Rattle.sightlines.specs.Walk.{is_above, weighed_height}

@@ -1,5 +1,5 @@
--- Between two steps, no crossing blocks a line that is above the blocks that it meets there. A
--- block or a cell is low if it is not above the line.
+-- If each block that a line can meet between two steps is low at both, no crossing between them
+-- blocks. A block or a cell is low if it is not above the line.
 use Rattle.std.proofs.Common.{arith, refl, sym, ap, subst, ◌∙◌, ◌≡◌, ◌+◌, ◌-◌, ◌*◌, ◌/◌, ◌<◌, ◌≤◌, ℕ, ℤ, pos, ◌+ℤ◌, ◌*ℤ◌, ◌≤ℤ◌, false, int_lt, List, Option, None, Some, get_or, min, max, inl, inr}
 use borrow.Author.Differences.{up, down}
 use Rattle.std.proofs.lemmas.Int.{ints}
@@ -40,7 +40,7 @@ between_parts a b i p q r =
       | inr high ↦ let is = falling a b i p q r high in (omega (arith, is), omega (arith, is))
     ]
 
--- at a step between two other steps, a line is between its places at those two
+-- at a step k from i to j, a line's coordinate is between those at steps i and j
 pub toward_between : (a b n i j k : ℕ) → i ≤ k → k ≤ j → j ≤ n → (min (toward a b n i)
     (toward a b n j) ≤ toward a b n k) × (toward a b n k ≤ max (toward a b n i) (toward a b n j))
 toward_between a b n i j k low high few =
@@ -96,7 +96,7 @@ whole_between a n i j k some low high few =
       omega (arith, div_max ti tj n some, div_le tk (max ti tj) n some is.1),
     )
 
--- a sight of at least z at an earlier and a later step is at least z between them
+-- a sight of at least z at an earlier and a later step is at least z at each step between
 sight_parts : (e f z : ℤ) (i p q r : ℕ) → z ≤ℤ ((e *ℤ pos (p + (q + r))) +ℤ (f *ℤ pos i)) →
     z ≤ℤ ((e *ℤ pos r) +ℤ (f *ℤ pos (i + p + q)))
     → z ≤ℤ ((e *ℤ pos (q + r)) +ℤ (f *ℤ pos (i + p)))

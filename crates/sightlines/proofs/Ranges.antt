@@ -1,5 +1,5 @@
--- Tests over a range of whole numbers: what one number's passing, or all numbers' failing, says of
--- the range, its parts and joined ranges.
+-- If a number passes a test, some number passes in each range that has it. If none passes in a
+-- range, none does in its parts; if none passes in two adjoining ranges, none does in both joined.
 use Rattle.std.proofs.Common.{arith, refl, sym, ap, ◌∙◌, ◌≡◌, ◌+◌, ◌-◌, ◌<◌, ◌≤◌, ℕ, zero, suc, Bool, true, false, get_or, inl, inr}
 use Rattle.std.specs.List.{list_any, range_with_len}
 use Rattle.std.proofs.lemmas.Bool.{or_from, cases_lt, false_from_ne_true, true_from_ne_false}

@@ -1,4 +1,5 @@
--- Crossings of a small grid, computed from the definitions.
+-- On a small grid, no crossing with a column blocks a line of sight, but one with a row has ground
+-- above the line: computed from the definitions.
 use Rattle.std.proofs.Common.{◌≡◌, ℕ, List, [], ◌∷◌, Option, Some, ℤ, pos, negsuc, refl}
 use Rattle.terrain.specs.Raster.{Terrain}
 use Rattle.terrain.specs.declared.place.Place.{Place}

@@ -1,6 +1,6 @@
--- A step of a walk has its near cell's index, and the n-ths of a cell by which the line is past
--- that cell. The pace, the change of both, leads to the next step. The near and the far cell of
--- each step are in the list.
+-- At each step a walk has the index of the near cell, which is at or before the line, and the
+-- n-ths of a cell between the two. The pace, the change of both, leads to the next step. The near
+-- cell is in the list, and so is the far cell if these n-ths are above 0.
 use Rattle.std.proofs.Common.{arith, ap, ◌≡◌, ◌+◌, ◌*◌, ◌^◌, ◌/◌, ◌%◌, ◌<◌, ◌≤◌, ℕ, ℤ, Option, List, length, max, inl, inr}
 use Rattle.std.specs.Int.{abs_diff}
 use Rattle.std.proofs.lemmas.Bool.{cases_lt}

@@ -1,4 +1,5 @@
--- Blocks of `size` by `size` cells, entries that bound their heights, and when a line skips blocks.
+-- For blocks of `size` by `size` cells: lists of entries that bound each block's heights, and which
+-- blocks are not above a line.
 -- Public clauses cite `blocks_in` and `IsTops` alone.
 -- Public.
 use Rattle.std.specs.Prelude.{◌≡◌, ℕ, ◌+◌, ◌-◌, ◌*◌, ◌/◌, ◌<◌, ◌≤◌, ℤ, pos, ◌*ℤ◌, ◌≤ℤ◌, List, length, Option, None, Some, MatchOption, slice_index_or, min, max}
@@ -11,7 +12,7 @@ use Rattle.sightlines.specs.declared.walk.Step.{Step}
 use Rattle.sightlines.specs.declared.passing.BlockStrides.{BlockStrides}
 use Rattle.sightlines.specs.declared.tops.MaxHeights.{MaxHeights}
 
--- The number of blocks, side by side, that hold a row of n cells.
+-- The number of blocks that hold n cells side by side.
 abbrev pub blocks_in : ℕ → ℕ → ℕ
 blocks_in size n = (n + (size - 1)) / size
 
@@ -41,8 +42,8 @@ pub record IsTops (t : Terrain) (tops : MaxHeights) : Type 0 where
   pub height : IsHeight tops.peak
   pub peak : IsPeak tops.far.items tops.peak
 
--- No height of a cell up to the greater end of each coordinate is above the entry of its block. In
--- the list of entries, neighbouring blocks are the strides `s` apart.
+-- No cell's height is above the entry of its block, for cells up to the line's greater end on each
+-- coordinate. In `tops`, the list of entries, neighbouring blocks are the strides `s` apart.
 pub record AreTopsAlong (size : ℕ) (cells tops : List (Option ℤ)) (l : Sightline)
     (s : BlockStrides) : Type 0 where
   pub heights : AreHeights tops
@@ -52,12 +53,12 @@ pub record AreTopsAlong (size : ℕ) (cells tops : List (Option ℤ)) (l : Sight
       → slice_index_or cells (a * l.lead.stride + b * l.side.stride) None ≡ Some h
       → IsTopOf (slice_index_or tops (a / size * s.lead + b / size * s.side) None) h
 
--- The block's entry is NODATA, or n times its height is not above the sight z.
+-- The block's entry is NODATA, or a height that, times n, is not above the sight z.
 abbrev pub IsLow : Option ℤ → ℕ → ℤ → Type 0
 IsLow top n z = MatchOption top (Unit {0}) (λ m. (pos n *ℤ m) ≤ℤ z)
 
--- Each block that a line can meet between two steps is low at both, if between them the leading
--- coordinate stays in block `block`.
+-- Each block that a line can meet between steps `start` and `end` is low at both. These are the
+-- blocks that it can meet while its leading coordinate stays in block `block`.
 abbrev pub AreLowBetween : ℕ → List (Option ℤ) → BlockStrides → Sightline → ℕ → Step → Step → Type 0
 AreLowBetween size tops s l block start end =
     (cell : ℕ) → min start.whole end.whole ≤ cell → cell ≤ max start.whole end.whole + 1 →

@@ -1,4 +1,5 @@
--- How the numbers of a walk along a line of sight change from step to step.
+-- How far a line of sight moves on a coordinate in m steps, and how its level rises. How the index
+-- of the cell at or before the line, its near cell, changes in one step.
 -- Private.
 use Rattle.std.specs.Prelude.{◌≡◌, ℕ, ◌+◌, ◌*◌, ◌<◌, ◌≤◌, pos, ◌-ℤ◌, ◌*ℤ◌}
 use Rattle.sightlines.specs.declared.walk.Axis.{Axis}

@@ -18,8 +18,8 @@ highest_eye = 1000000
 abbrev pub longest_radius : ℕ
 longest_radius = 8192
 
--- n times the point that is k of n steps from a toward b. Its quotient by n is a whole cell, its
--- remainder the n-ths of a cell past that cell.
+-- n times the point that is k of n steps from a toward b. This product divided by n gives
+-- a whole cell; the remainder is the n-ths of a cell past that cell.
 abbrev pub toward : ℕ → ℕ → ℕ → ℕ → ℕ
 toward a b n k = a * (n - k) + b * k
 
@@ -111,7 +111,7 @@ abbrev pub place_of : Observer → Place
 place_of o = record { row = o.row; col = o.col }
 
 -- No crossing blocks the line from the observer's eye to `target` units above a place. The ground
--- of a NODATA cell at its ends counts as 0.
+-- of a NODATA cell at an end of the line counts as 0.
 abbrev pub is_open : Terrain → Observer → Place → ℕ → Bool
 is_open t o q target =
     let p = place_of o in

@@ -1,6 +1,6 @@
--- A walk along a line of sight, over a list of cells. Between its ends the line is tested at each
--- cell of its leading coordinate; the other coordinate is its side. Public clauses cite `IsLevel`
--- and, through `IsTops` of `Blocks`, `AreHeights`.
+-- Whether the ground of a list of cells blocks a line of sight. A walk tests the line at steps: one
+-- for each cell, between the line's ends, of the coordinate that leads. The other coordinate is the
+-- line's side. Public clauses cite `IsLevel` and, through `IsTops` of `Blocks`, `AreHeights`.
 -- Public.
 use Rattle.std.specs.Prelude.{◌≡◌, ℕ, ◌+◌, ◌-◌, ◌*◌, ◌/◌, ◌%◌, ◌^◌, ◌<◌, ◌≤◌, Bool, false, not, ◌&&◌, ◌==◌, if◌then◌else◌, ℤ, pos, unsigned_abs, ◌+ℤ◌, ◌*ℤ◌, int_lt, List, length, Option, None, Some, option_map, option_and_then, slice_index_or, max}
 use Rattle.std.specs.Int.{abs_diff}
@@ -85,7 +85,7 @@ abbrev pub IsOver : List (Option ℤ) → Axis → Axis → Type 0
 IsOver cells lead side =
     max lead.from lead.to * lead.stride + max side.from side.to * side.stride < length cells
 
--- The heights of the list are within their limits.
+-- Each height of the list is within the limits of a height (`IsHeight`).
 abbrev pub AreHeights : List (Option ℤ) → Type 0
 AreHeights cells = (i : ℕ) (h : ℤ) → slice_index_or cells i None ≡ Some h → IsHeight h
 
@@ -94,21 +94,21 @@ AreHeights cells = (i : ℕ) (h : ℤ) → slice_index_or cells i None ≡ Some 
 abbrev pub IsLevel : ℤ → Type 0
 IsLevel z = unsigned_abs z ≤ 2 ^ 50
 
--- The numbers of a line are within their limits.
+-- The line's ends are below 4096, its strides at most 4096, and its levels within 2 ^ 50 of 0.
 pub record IsSightline (l : Sightline) : Type 0 where
   pub ends : (l.lead.from < 4096) × (l.lead.to < 4096) × (l.side.from < 4096) × (l.side.to < 4096)
   pub strides : (l.lead.stride ≤ 4096) × (l.side.stride ≤ 4096)
   pub from_level : IsLevel l.from_level
   pub to_level : IsLevel l.to_level
 
--- The place on the side coordinate and the sight are those of the line at step k.
+-- `s` has the whole cell and the part on the side coordinate, and the sight, of the line at step k.
 pub record IsAt (l : Sightline) (k : ℕ) (s : Step) : Type 0 where
   pub whole : s.whole ≡ whole_at l.side (steps_of l) k
   pub part : s.part ≡ part_at l.side (steps_of l) k
   pub sight : s.sight ≡ sight l.from_level l.to_level (steps_of l) k
 
 -- The lines from a target to an observer over columns and over rows. The observer sees the target
--- exactly where neither is blocked.
+-- exactly if neither is blocked.
 pub record AreSightlines (t : Terrain) (o : Observer) (q : Place) (target radius : ℕ)
     (lines : Sightlines) : Type 0 where
   pub columns : lines.columns ≡ over_columns t q (place_of o) (height_of t q +ℤ pos target)

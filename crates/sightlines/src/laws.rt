@@ -1,4 +1,4 @@
-//! A theorem about the definitions, as a function without code.
+//! The theorem that crossings are on the line of sight, as a function without code.
 ghost use Rattle.sightlines.specs.Sight.{CrossingsAreOnTheLine};
 
 /// Proves that crossings computed in unsigned numbers are on the line of sight.

@@ -1,7 +1,7 @@
-//! Whether an observer sees a place: [`sees`], [`sees_past_blocks`].
+//! Says whether an observer sees a place, by the crossings on the line of sight between them.
 //!
-//! [`sees_past_blocks`] first tests crossings about as far from the observer as those that hid
-//! earlier targets.
+//! [`sees`] tests crossings until one blocks. [`sees_past_blocks`] first tests those about as far
+//! from the observer as crossings that hid earlier targets. [`may_see`] tests only a few.
 ghost use Rattle.std.specs.Prelude.{◌≡◌, ◌<◌, ◌≤◌, pos, ◌+ℤ◌, true, false, not, is_some, ◌&&◌, MatchOption};
 ghost use Rattle.terrain.specs.Raster.{IsHeight};
 ghost use Rattle.terrain.specs.Neighbours.{IsInside};
@@ -136,7 +136,7 @@ pub fn sees(
 /// The most column crossings, and the most row crossings, that `may_see` tests.
 const FIRST_CROSSINGS: u32 = 2;
 
-/// The most crossings tested about as far from the observer as a blocker was.
+/// The most crossings tested about as far from the observer as a kept blocker.
 const NEARBY_CROSSINGS: u32 = 4;
 
 /// Whether one of at most `crossings` crossings, from step `first` on, blocks.
@@ -157,8 +157,8 @@ fn is_blocked_from(cells: &[Cell], line: Sightline, first: u32, crossings: u32) 
 }
 
 /// Returns false only if the observer does not see the place.
-/// If the result is true, the place is seen unless an untested crossing blocks. Tests the data, the
-/// radius and the crossings nearest to the target, which block most often.
+/// If the result is true, the place is seen unless an untested crossing blocks. Tests whether both
+/// cells have data, the radius, and the crossings nearest to the target, which block most often.
 #[inline(always)]
 pub fn may_see(
     grid: &Grid,
@@ -185,7 +185,7 @@ pub fn may_see(
     !is_blocked_from(cells, lines.rows, 1, FIRST_CROSSINGS)
 }
 
-/// Whether a crossing around `left` steps before the observer blocks.
+/// Whether one of a few crossings about `left` steps from the observer blocks.
 #[inline(always)]
 fn is_blocked_near(cells: &[Cell], line: Sightline, left: u32) -> bool
     requires heights { AreHeights cells.now }
@@ -198,8 +198,9 @@ fn is_blocked_near(cells: &[Cell], line: Sightline, left: u32) -> bool
     is_blocked_from(cells, line, first, NEARBY_CROSSINGS)
 }
 
-/// A crossing that hides a target, `left` steps before the observer.
-/// It is a crossing with a row if `over_rows`, else with a column.
+/// A crossing that hid an earlier target.
+/// It is with a row, `left` rows from the observer, if `over_rows`; else with a column, `left`
+/// columns from the observer.
 #[derive(Clone, Copy)]
 pub(crate) struct Blocker {
     over_rows: bool,
@@ -207,7 +208,8 @@ pub(crate) struct Blocker {
 }
 
 impl Blocker {
-    /// Whether a crossing about as far out as this blocker hides the target of `lines`.
+    /// Whether a crossing about as far from the observer as `self` hides a target.
+    /// `lines` has both forms of the line of sight from this target.
     #[inline(always)]
     fn hides(self, cells: &[Cell], lines: Sightlines) -> bool
         requires heights { AreHeights cells.now }
@@ -244,14 +246,17 @@ impl Blocker {
 /// Columns share an entry if they are a multiple of `COLUMNS` apart.
 const COLUMNS: usize = 256;
 
-/// The blockers of earlier targets, and a count of crossings tested.
-/// `above` has a column's last blocker, or `None` before any blocker and after a seen target.
+/// The crossings that hid earlier targets, and a count of crossings tested.
+/// `above` has, for a column, the blocker by which its last tested target was found hidden. The
+/// entry is `None` if that target was seen or none was tested. `last` is the blocker by which any
+/// target was last found hidden; in an empty cache it is arbitrary.
 #[derive(Clone, Copy)]
 pub struct WalkCache {
     last: Blocker,
     above: [Option<Blocker>; COLUMNS],
-    /// The number of crossings in the runs that walks tested, at most 2^32 - 1.
-    /// Walks test or skip runs of crossings. A run that a blocker cuts short counts whole.
+    /// The number of crossings that walks tested block by block, at most 2^32 - 1.
+    /// Where one blocks, all crossings of its block count. Those tested first, near an earlier
+    /// blocker, do not count.
     pub crossings_tested: u32,
 }
 
@@ -276,7 +281,8 @@ impl WalkCache {
         self.above[col as usize % COLUMNS]
     }
 
-    /// Keeps a column's blocker, also as the last one, or `None` for a seen target.
+    /// Keeps the blocker of a target in column `col`, also as `last`.
+    /// `None`, for a seen target, leaves `last` as it was.
     #[inline(always)]
     fn keep(&mut self, col: u32, blocker: Option<Blocker>) {
         if let Some(blocker) = blocker {
@@ -286,7 +292,8 @@ impl WalkCache {
     }
 }
 
-/// Returns the block list's strides, along a line whose columns lead.
+/// Returns how far apart neighbouring blocks are listed, if columns lead.
+/// The list has blocks of `size` by `size` cells of a grid with `cols` columns, in row order.
 #[inline(always)]
 fn along_columns(size: u32, cols: u32) -> BlockStrides
     requires size { (0 < size) × (size ≤ 4096) }
@@ -299,7 +306,8 @@ fn along_columns(size: u32, cols: u32) -> BlockStrides
     }
 }
 
-/// Returns the block list's strides, along a line whose rows lead.
+/// Returns how far apart neighbouring blocks are listed, if rows lead.
+/// The list has blocks of `size` by `size` cells of a grid with `cols` columns, in row order.
 #[inline(always)]
 fn along_rows(size: u32, cols: u32) -> BlockStrides
     requires size { (0 < size) × (size ≤ 4096) }
@@ -312,9 +320,9 @@ fn along_rows(size: u32, cols: u32) -> BlockStrides
     }
 }
 
-/// Returns a blocker on one form of a line of sight, if any.
-/// The form is that over rows if `over_rows`, else that over columns. Skips blocks below the line,
-/// and adds the crossings of each run that it tests to `crossings_tested`.
+/// Returns a crossing that blocks `line`, if any.
+/// `line` is tested at rows if `over_rows`, else at columns. Skips blocks below the line, and adds
+/// the number of crossings of each near block that it tests to `crossings_tested`.
 #[inline(always)]
 fn blocker_on(
     cells: &[Cell],

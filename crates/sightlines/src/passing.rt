@@ -1,4 +1,4 @@
-//! A walk along a line of sight that skips blocks of cells below the line.
+//! Looks for a crossing that blocks a line of sight, and skips those in blocks below the line.
 ghost use Rattle.std.specs.Prelude.{◌≡◌, ℕ, ◌+◌, ◌-◌, ◌*◌, ◌/◌, ◌<◌, ◌≤◌, length, slice_index_or, None, IfSome, is_some, max, pos, ◌*ℤ◌, ◌≤ℤ◌};
 ghost use Rattle.std.specs.Bool.{OnTrue};
 ghost use Rattle.sightlines.specs.Pace.{IsPace, IsLeap};
@@ -10,7 +10,7 @@ use crate::tops::{FAR_BLOCK, MaxHeights, NEAR_BLOCK};
 use crate::walk::{Leap, Pace, Sightline, Step, blocking_step, weigh};
 use terrain::{Cell, Height};
 
-/// Only a run of steps that meets at most this many blocks can be skipped.
+/// The most blocks that `is_clear_of_blocks` compares with a line.
 const MOST_BLOCKS: u32 = 5;
 
 /// The distances, in the list of blocks, of neighbouring blocks along a line.
@@ -21,8 +21,8 @@ pub struct BlockStrides {
     pub side: usize,
 }
 
-/// Returns the first step past the block that `step` is in, at most `last`.
-/// Only the block's extent along the leading coordinate counts.
+/// Returns the first step after `step` at which `line.lead` is in another block.
+/// A block has `size` cells along this coordinate. The result is at most `last`.
 #[inline(always)]
 fn block_end(line: Sightline, size: u32, step: u32, last: u32) -> u32
     requires line { IsSightline line }
@@ -43,8 +43,8 @@ fn block_end(line: Sightline, size: u32, step: u32, last: u32) -> u32
     last.min(step + left)
 }
 
-/// Whether none of `count` blocks, from index `first` on, is above a line.
-/// The blocks are `stride` apart in their list. `sight` is the line's level times `weight`.
+/// Whether none of `count` greatest heights, times `weight`, is above `sight`.
+/// They are the entries of `tops` at index `first` and then at every `stride`-th index.
 #[inline(always)]
 fn are_low(tops: &[Cell], first: usize, stride: usize, count: u32, weight: u32, sight: i64) -> bool
     requires heights { AreHeights tops.now }
@@ -64,9 +64,9 @@ fn are_low(tops: &[Cell], first: usize, stride: usize, count: u32, weight: u32, 
     true
 }
 
-/// Returns true only if no block met between two steps is above the line.
-/// Tests only blocks at `lead_block` of the leading coordinate. Between the two steps the line must
-/// stay there.
+/// Returns true only if no block is above the line at `start` or at `end`.
+/// The blocks are those that the line can meet between these two steps, while its leading
+/// coordinate stays in block `lead_block`.
 #[inline(always)]
 fn is_clear_of_blocks(
     tops: &[Cell],
@@ -101,8 +101,8 @@ fn is_clear_of_blocks(
 }
 
 /// Returns a step from `first` to below `end` with ground above the line, if any.
-/// Skips near blocks below the line; `tops` has their greatest heights. Adds the crossings of each
-/// run that it tests to `crossings_tested`.
+/// `start` is the line at step `first`. Skips near blocks below the line; `tops` has their greatest
+/// heights. Adds the number of crossings of each block that it tests to `crossings_tested`.
 #[inline(always)]
 fn blocking_step_past_near_blocks(
     cells: &[Cell],
@@ -160,7 +160,7 @@ fn is_clear(peak: Height, line: Sightline, here: Step) -> bool
 /// Returns a step between a line's two ends with ground above the line, if any.
 /// The walk ends once the line cannot fall below the peak. It tests the near block where it begins,
 /// which is seldom below the line; later it skips far or near blocks below the line. Adds the
-/// crossings of each run that it tests to `crossings_tested`.
+/// number of crossings of each near block that it tests to `crossings_tested`.
 #[inline(never)]
 pub(crate) fn blocking_step_past_blocks(
     cells: &[Cell],

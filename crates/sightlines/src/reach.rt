@@ -1,4 +1,4 @@
-//! Whether a place is within a radius, in cells.
+//! Says whether a target is at most a radius, counted in cells, away from an observer's eye.
 ghost use Rattle.std.specs.Prelude.{◌≡◌, ◌<◌, ◌≤◌};
 ghost use Rattle.sightlines.specs.Sight.{longest_radius, is_near};
 

@@ -10,8 +10,8 @@ pub const NEAR_BLOCK: u32 = 16;
 /// The side of a far block, in cells: 8 near blocks.
 pub const FAR_BLOCK: u32 = 128;
 
-/// The greatest heights of a grid's blocks, in row order, and an upper bound.
-/// A block without data is a NODATA cell of its list.
+/// The greatest heights of a grid's blocks, in row order, and a bound of all.
+/// A list has a NODATA cell for a block without data.
 #[derive(Drop)]
 pub struct MaxHeights {
     /// The greatest heights of blocks of [`NEAR_BLOCK`] by [`NEAR_BLOCK`] cells.
@@ -22,7 +22,7 @@ pub struct MaxHeights {
     pub peak: Height,
 }
 
-/// Returns how many blocks, `size` cells wide, hold a row of `cells` cells.
+/// Returns how many blocks, `size` cells wide, hold `cells` cells side by side.
 #[inline(always)]
 pub fn blocks_in(size: u32, cells: u32) -> usize
     requires size { (0 < size) × (size ≤ 4096) }

@@ -1,4 +1,4 @@
-//! A walk along a line of sight: sums and differences alone lead from crossing to crossing.
+//! Looks for a crossing that blocks a line of sight, from one to the next by sums and differences.
 ghost use Rattle.std.specs.Prelude.{◌≡◌, ◌^◌, ◌+◌, ◌-◌, ◌*◌, ◌<◌, ◌≤◌, ℤ, pos, unsigned_abs, ◌*ℤ◌, length, slice_index_or, None, IfSome, is_some};
 ghost use Rattle.std.specs.Int.{abs_diff};
 ghost use Rattle.terrain.specs.Raster.{IsHeight};
@@ -9,7 +9,7 @@ use crate::tops::NEAR_BLOCK;
 use terrain::{Cell, Height};
 
 /// One coordinate of a line of sight, where the line runs from `from` to `to`.
-/// Neighbouring cells along it are `stride` apart in the list of cells.
+/// In the list of cells, neighbours along this coordinate are `stride` apart.
 #[derive(Clone, Copy)]
 pub struct Axis {
     pub from: u32,
@@ -18,7 +18,8 @@ pub struct Axis {
 }
 
 /// A line of sight from one level to another, along two coordinates.
-/// Between its ends it is tested at each cell of `lead`, its leading coordinate.
+/// Between its ends the line is tested at each cell of `lead`, its leading coordinate. `side` is
+/// the other coordinate.
 #[derive(Clone, Copy)]
 pub struct Sightline {
     pub lead: Axis,
@@ -27,8 +28,8 @@ pub struct Sightline {
     pub to_level: i64,
 }
 
-/// The place and the level of a line at one of its steps.
-/// On `side` the line is `part` parts past cell `whole`. As many parts as steps make a cell.
+/// Where a line is on its side coordinate, and its level, at one of its steps.
+/// The line is `part` parts past cell `whole`. A cell has as many parts as the line has steps.
 /// `sight` is the line's level times the number of steps.
 #[derive(Clone, Copy)]
 pub struct Step {
@@ -61,7 +62,7 @@ impl Sightline {
         }
     }
 
-    /// Returns the place and the level of the line at a step.
+    /// Returns where the line is on `side`, and its level, at a step.
     #[inline(always)]
     pub(crate) fn at(self, step: u32) -> Step
         requires line { IsSightline self }
@@ -81,7 +82,8 @@ impl Sightline {
 }
 
 /// How far a coordinate moves in one or more of a line's steps.
-/// The move is `ahead` less `behind` cells, and `part` parts. As many parts as steps make a cell.
+/// The move is `ahead` less `behind` cells, and `part` parts. A cell has as many parts as the line
+/// has steps.
 #[derive(Clone, Copy)]
 struct Gain {
     ahead: u32,
@@ -169,8 +171,8 @@ impl Leap {
         }
     }
 
-    /// Returns the place and the level of a line at step `end`, from those at `first`.
-    /// Over the steps of a whole near block, additions suffice.
+    /// Returns the line at step `end`, from `start`, the line at step `first`.
+    /// If `end` is 16 steps after `first`, sums and differences suffice.
     #[inline(always)]
     pub(crate) fn to(self, line: Sightline, first: u32, start: Step, end: u32) -> Step
         requires line { IsSightline line }
@@ -214,7 +216,7 @@ pub(crate) fn weigh(height: Height, weight: u32) -> i64
     weight as i64 * height
 }
 
-/// Whether the weighted ground between two neighbouring cells is above `sight`.
+/// Whether two cells' heights, times their weights, sum to more than `sight`.
 /// The cells are at `index` and `index + beside`. A cell of weight 0 takes no part. Where a NODATA
 /// cell takes part, the result is false.
 #[inline(always)]
@@ -245,8 +247,9 @@ fn is_higher(
     weigh(near, near_weight) + weigh(far, far_weight) > sight
 }
 
-/// The change of the near cell's index, and of the part past that cell, at each step.
-/// The index grows by `ahead` less `behind`, and by `beside` more where the part fills a cell.
+/// How the index of the cell at or before the line, and the part past it, change.
+/// At each step the index grows by `ahead` less `behind`, and the part by `part`. If the part
+/// reaches `steps`, it falls by `steps`, and the index grows by `beside` more.
 #[derive(Clone, Copy)]
 pub struct Pace {
     steps: u32,
@@ -277,7 +280,7 @@ impl Pace {
         }
     }
 
-    /// Returns the index and the part at the next crossing.
+    /// Returns the index and the part one step after `index` and `part`.
     #[inline(always)]
     fn next(self, index: usize, part: u32) -> (usize, u32)
         requires parts { (part < self.steps) × (self.part < self.steps) × (self.steps ≤ 4096) }
@@ -303,8 +306,8 @@ impl Pace {
     }
 }
 
-/// Returns the first step with ground above the line, if any from `first` to below `end`.
-/// `start` is the place and the level of the line at step `first`.
+/// Returns the first step with ground above the line, if any.
+/// Looks from step `first` to below `end`; `start` is the line at step `first`.
 #[inline(always)]
 pub(crate) fn blocking_step(
     cells: &[Cell],

@@ -1,4 +1,4 @@
--- A terrain's heights are within their limits, and fit in an `i64`.
+-- A terrain's heights are from -10^15 to 10^15 units, and fit in an `i64`.
 use Rattle.std.proofs.Common.{◌≡◌, ℕ, ◌<◌, ◌≤◌, ◌^◌, ℤ, pos, negsuc, true, List, length, get_or, Option, None, Some, IfSome, unwrap_or, sym, ap, ◌∙◌, arith}
 use Rattle.std.specs.Prelude.{int_le, unsigned_abs}
 use Rattle.std.proofs.lemmas.Int.{fits_signed_from_abs}

@@ -1,4 +1,4 @@
--- A search of a list for a place succeeds exactly if the list contains the place.
+-- A list has an entry q with `is_place p q` exactly if the list contains place p.
 use Rattle.std.proofs.Common.{◌≡◌, ◌<◌, ℕ, zero, suc, true, List, [], ◌∷◌, length, get_or, refl, sym, subst, arith}
 use Rattle.std.specs.Prelude.{◌==◌}
 use Rattle.std.specs.List.{list_any, Contains}

@@ -1,4 +1,5 @@
--- An option is either `None` or some x. An index at which a list of options has some x is in range.
+-- An option is either `None` or `Some x`. An index at which a list of options has a `Some x`
+-- is below the list's length.
 use Rattle.std.proofs.Common.{◌≡◌, ◌⊎◌, inl, inr, ℕ, ◌<◌, List, length, get_or, false, Option, None, Some, IsSome, MatchOption, is_some, sym, refl}
 use Rattle.std.proofs.lemmas.Bool.{false≢true, cases_lt}
 use Rattle.std.proofs.lemmas.List.{get_or_past}

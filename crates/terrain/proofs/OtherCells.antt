@@ -1,5 +1,5 @@
--- A grid stays lawful (`IsLawful`) when as many other cells replace its own, if their heights are
--- in range and not the NODATA value.
+-- A lawful grid is within all limits (`IsLawful`). Such a grid stays lawful with as many other
+-- cells, if their heights are in range and none equals the NODATA value.
 use Rattle.std.proofs.Common.{◌≡◌, ◌≢◌, ◌*◌, ℤ, List, length, get_or, Option, None, Some}
 use Rattle.std.specs.Prelude.{IfSome}
 use Rattle.std.specs.List.{All, Contains}

@@ -1,5 +1,5 @@
--- In row order each place of a grid has an index of its own, below the number of cells. A place at
--- the grid's end has a place outside the grid beside it, which counts as a gap.
+-- In row order each place of a grid has an index of its own, below the number of cells. A place in
+-- the first or last row or column has a place outside the grid beside it, which counts as a gap.
 use Rattle.std.proofs.Common.{◌≡◌, ◌≢◌, ℕ, ◌+◌, ◌*◌, ◌/◌, ◌%◌, ◌<◌, ◌≤◌, List, get_or, Option, None, Some, IsNone, is_some, sym, ap, ◌∙◌, ◌⊎◌, inl, inr, arith}
 use Rattle.std.proofs.lemmas.Bool.{cases_eq, cond-true, cond-false, lt-ltb, and_from, le-ltb, and_left, and_right, cases_lt}
 use Rattle.std.proofs.lemmas.Nat.{mul-add-lt, div-mul-add, mod-mul-add}
@@ -70,7 +70,8 @@ IsBefore q row col = (q.row < row) ⊎ ((q.row ≡ row) × (q.col < col))
 abbrev pub HasNoGapBefore : (Place → Type 0) → Place → ℕ → ℕ → Type 0
 HasNoGapBefore is_gap p row col = (q : Place) → Touches p q → IsBefore q row col → is_gap q → ⊥
 
--- a place at the grid's end has a gap around it, if each place south or east of the grid is a gap
+-- If all places south or east of the grid are gaps, a place in its last row or column has a gap
+-- around it. In row 0 and column 0 `HasGapWhere` always holds.
 pub gap_at_end : {G : Place → Type 0} (cols rows : ℕ) (p : Place) →
     ((q : Place) → (rows ≤ q.row) ⊎ (cols ≤ q.col) → G q) →
     (p.row ≡ 0) ⊎ (p.row + 1 ≡ rows) ⊎ (p.col ≡ 0) ⊎ (p.col + 1 ≡ cols) → HasGapWhere G p

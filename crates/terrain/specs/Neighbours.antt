@@ -52,8 +52,8 @@ pub record IsNeighbour (t : Terrain) (p q : Place) : Type 0 where
   pub from_data : IsDataCell t p
   pub to_data : IsDataCell t q
 
--- `is_gap` holds at place p or at one of the eight places around p. A place in row 0 or column 0
--- always has a gap, since some places around it are outside the grid.
+-- `is_gap` holds at place p or at one of the eight places around p, or p is in row 0 or column 0.
+-- (Around a place in row 0 or column 0 some places are outside the grid.)
 abbrev pub HasGapWhere : (Place → Type 0) → Place → Type 0
 HasGapWhere is_gap p = (p.row ≡ 0) ⊎ (p.col ≡ 0) ⊎ ((q : Place) × Touches p q × is_gap q)
 

@@ -35,7 +35,8 @@ first_sink_fault t index [] = None
 first_sink_fault t index (p ∷ rest) =
     option_or (sink_fault_of t index p) (first_sink_fault t (index + 1) rest)
 
--- The fault of a list of sinks: too many, repeats counted; else that of its first faulty sink.
+-- The fault of a list of sinks, if any: more than `most_sinks` entries, repeats counted; else the
+-- fault of the first faulty sink.
 abbrev pub sinks_fault : Terrain → List Place → Option SinkFault
 sinks_fault t sinks =
     if nat_lt most_sinks (length sinks) then Some TooManySinks else first_sink_fault t 0 sinks
@@ -48,7 +49,8 @@ with_sinks t sinks = record t { sinks = sinks }
 abbrev pub raster_with_sinks : Raster → List Place → Raster
 raster_with_sinks g sinks = record g { terrain = with_sinks g.terrain (each_once sinks) }
 
--- The fault of a list of sinks, if any, is the result's error. Else the only error is `Memory`.
+-- If a list of sinks has fault f, `result` is the error f. If the list has no fault, `result` has
+-- no error but, perhaps, `Memory`.
 pub record RefusesSinks {T : Type 0} (fault : Option SinkFault)
     (result : Result T SinkFault) : Type 0 where
   pub reported : (f : SinkFault) → fault ≡ Some f → result ≡ Err f

@@ -42,7 +42,7 @@ impl Model for Cell {
 }
 
 impl Cell {
-    /// Returns a cell with this height, or without data if it is [`NO_DATA`].
+    /// Returns a cell of `height`, or without data if `height` is [`NO_DATA`].
     #[inline(always)]
     #[tactic(auto, using(crate::proofs::Stored::stored_some))]
     pub fn of(height: Height) -> Cell

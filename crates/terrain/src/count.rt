@@ -38,7 +38,7 @@ impl Model for Count {
 }
 
 impl Count {
-    /// Returns an entry with this number, or without data if it is `u32::MAX`.
+    /// Returns an entry of `number`, or without data if `number` is `u32::MAX`.
     #[inline(always)]
     #[tactic(auto, using(crate::proofs::Stored::stored_count_some))]
     pub fn of(number: u32) -> Count

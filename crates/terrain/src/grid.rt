@@ -27,8 +27,8 @@ impl From<AllocError> for NoMemory {
     }
 }
 
-/// The x or y coordinate of the lower left cell, as the header spells it.
-/// It is that of the cell's centre if `centre`, else that of its lower left corner.
+/// The x or y coordinate of the grid's lower left cell, as the header spells it.
+/// The coordinate is that of the cell's centre if `centre`, else of the cell's lower left corner.
 #[derive(Drop)]
 pub struct Anchor {
     pub centre: bool,
@@ -177,9 +177,9 @@ impl Frame {
         &self.header.nodata
     }
 
-    /// Returns the frame's grid with `cells` in place of its own cells.
+    /// Returns a grid of the frame's header, scale and sinks, and of `cells`.
     /// `cells` must have one cell for each place, each without data or with a height that some cell
-    /// of the grid has. So each height is in range and differs from the NODATA value.
+    /// of the frame's grid has. So each height is in range and differs from the NODATA value.
     ///
     /// # Errors
     ///
@@ -219,7 +219,7 @@ impl Grid {
         Grid { frame, cells }
     }
 
-    /// Makes a grid without sinks. Its cells are in row order.
+    /// Makes a grid of these parts, without sinks. `cells` is in row order.
     ///
     /// # Examples
     ///

@@ -1,4 +1,4 @@
-//! A header word of at most 64 bytes, stored inline.
+//! A header word of at most 64 bytes, stored without an allocation.
 ghost use Rattle.std.specs.Prelude.{◌≡◌, ◌≤◌, ℕ, List, length, take};
 ghost use Rattle.terrain.specs.declared.word.TheConstants.{MOST_WORD_BYTES};
 

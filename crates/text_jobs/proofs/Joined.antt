@@ -27,8 +27,8 @@ joined-rest f runs job =
     ∙ ap concat (sym (map-append f (take job runs) (drop job runs)))
     ∙ ap (λ z. concat (map f z)) (take-append-drop job runs)
 
--- if `runs` and then `rest` are `piece`, they still are after a run moves from the front of `rest`
--- to the end of `runs`
+-- let `more` be `runs` with `run`, the first `len` bytes of `rest`, appended, and `back` the other
+-- bytes of `rest`. If `runs` and then `rest`, joined, are `piece`, so are `more` and then `back`
 pub joined-cut : {X : Type 0} (f : X → List ℕ) (runs more : List X) (run : X)
     (len : ℕ) (rest back piece : List ℕ) → more ≡ runs ++ run ∷ [] → f run ≡ take len rest →
     back ≡ drop len rest → concat (map f runs) ++ rest ≡ piece → concat (map f more) ++ back ≡ piece
@@ -41,7 +41,7 @@ joined-cut f runs more run len rest back piece pushed front behind all =
     ∙ ap (λ z. concat (map f runs) ++ z) (take-append-drop len rest)
     ∙ all
 
--- if `runs` and then `run` are `piece`, the runs with `run` appended are `piece`
+-- if `runs` and then `run`, joined, are `piece`, so are the runs with `run` appended, joined
 pub joined-last : {X : Type 0} (f : X → List ℕ) (runs more : List X) (run : X) (piece : List ℕ) →
     more ≡ runs ++ run ∷ [] → concat (map f runs) ++ f run ≡ piece → concat (map f more) ≡ piece
 joined-last f runs more run piece pushed all = ap (λ z. concat (map f z)) pushed

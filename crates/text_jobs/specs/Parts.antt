@@ -1,4 +1,5 @@
--- The text of a map's rows is made in parts, each by one job. Source: this project.
+-- A map's rows are cut into parts of `each` rows, the last perhaps of fewer. One job makes the text
+-- of each part. Source: this project.
 -- Private.
 use Rattle.std.specs.Prelude.{ℕ, ◌-◌, ◌*◌, ◌/◌, min, List, length, drop}
 use Rattle.ascii_grid.specs.Text.{rows_text}

@@ -1,5 +1,5 @@
-//! Reads a text in batches: up to 255 pieces in one buffer.
-//! Several workers then parse a batch.
+//! Reads a text in batches, which several workers then parse.
+//! A batch is up to 255 pieces in one buffer; a piece is the at most 4,096 bytes of one read.
 ghost use Rattle.std.specs.Prelude.{◌≡◌, ◌≤◌, ◌<◌, length, take};
 ghost use Rattle.std.specs.Io.KnownBytes.{IsAtEnd};
 ghost use Rattle.ascii_grid.specs.Device.{HasRead};
@@ -9,7 +9,7 @@ use std::io::Read;
 
 /// The most pieces of a batch.
 ///
-/// Not 256: with the unfinished word before it, a batch reads at most 1 MiB ahead of the cells.
+/// Not 256: even if the batch begins within a word, at most 1 MiB is read ahead of the cells.
 const BATCH_PIECES: usize = 255;
 
 /// The most bytes of a batch.

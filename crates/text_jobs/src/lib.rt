@@ -8,7 +8,7 @@
 //!
 //! - `reading`: reads a grid from a device
 //! - `batches`: reads pieces into batches of at most 1 MiB
-//! - `runs`: cuts a batch into runs, and the jobs that parse them
+//! - `runs`: cuts a batch into runs, and has the jobs that each parse one run
 //! - `writing`: writes maps as text
 #![tactic(auto)]
 

@@ -67,7 +67,8 @@ pub fn read_grid<T: Threads + Wait + Sync, R: Read, G: Gate + Sync>(
     ascii_grid::read_grid(runner.alloc, scale, reader)
 }
 
-/// Reads and feeds a batch. Returns its length, or `None` at the text's end.
+/// Reads a batch and feeds it to `grid_reader`.
+/// Returns the batch's length, or `None` at the text's end.
 fn feed_next_batch<T: Threads + Wait + Sync, R: Read, G: Gate + Sync>(
     runner: &Runner<T, G>,
     grid_reader: &mut GridReader,
@@ -92,7 +93,7 @@ fn feed_next_batch<T: Threads + Wait + Sync, R: Read, G: Gate + Sync>(
     }
 }
 
-/// Feeds a batch to the reader. Workers parse most heights of a long batch.
+/// Feeds the batch `piece` to the reader. Workers parse most heights of a long batch.
 fn feed_batch<T: Threads + Wait + Sync, G: Gate + Sync>(
     runner: &Runner<T, G>,
     reader: &mut GridReader,
@@ -108,8 +109,8 @@ fn feed_batch<T: Threads + Wait + Sync, G: Gate + Sync>(
     feed_heights(runner, reader, rest)
 }
 
-/// Feeds `piece` to the reader.
-/// Jobs parse it if the reader has read a first height and is not within a word.
+/// Feeds the bytes `piece` to the reader.
+/// Jobs parse `piece` if the reader has read a first height and is not within a word.
 fn feed_heights<T: Threads + Wait + Sync, G: Gate + Sync>(
     runner: &Runner<T, G>,
     reader: &mut GridReader,

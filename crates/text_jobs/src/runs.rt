@@ -1,4 +1,4 @@
-//! Cuts bytes of a text at separators into runs.
+//! Cuts bytes of a text into runs, each time after a separator.
 //! One job parses the heights of each run.
 ghost use Rattle.std.specs.Prelude.{◌≡◌, ◌<◌, ◌≤◌, ℕ, List, map, length, slice_index_or, IfOk, IfSome, None};
 ghost use Rattle.std.specs.List.{concat};
@@ -11,12 +11,12 @@ use std::alloc::{AllocError, Global};
 use terrain::Cell;
 use tile_jobs::{JobFault, Work};
 
-/// The bytes of a run before it is extended to the next separator.
+/// The number of bytes of a run before the run is extended to the next separator.
 pub(crate) const RUN_BYTES: usize = 65_536;
 
-/// Cuts a piece into runs of [`RUN_BYTES`] bytes, each extended to a separator or the end.
+/// Cuts `piece` into runs of [`RUN_BYTES`] bytes, each extended to a separator or the end.
 ///
-/// The rest, at most [`RUN_BYTES`] bytes, is cut into two runs, after its last separator.
+/// The last bytes, at most [`RUN_BYTES`], are cut into two runs, after their last separator.
 pub(crate) fn runs_of(alloc: Global, piece: &[u8]) -> Result<Vec<&[u8]>, AllocError>
     ensures { IfOk result (λ runs. concat (map (λ run. run.now) runs.items) ≡ piece.now) }
 {
@@ -33,7 +33,7 @@ pub(crate) fn runs_of(alloc: Global, piece: &[u8]) -> Result<Vec<&[u8]>, AllocEr
     Ok(runs)
 }
 
-/// Returns the index after the first separator from `from` on, else the length.
+/// Returns the index after the first separator from `from` on, or the length if none is there.
 pub(crate) fn after_separator(bytes: &[u8], from: usize) -> usize
     requires { from < length bytes.now }
     ensures { (from < result) × (result ≤ length bytes.now) }
@@ -56,7 +56,7 @@ fn after_last_separator(bytes: &[u8]) -> usize
 }
 
 /// One job for each run.
-/// The job returns the run's cells, or `None` where [`HeightParser::cells`] does.
+/// The job returns the run's cells, or `None` if [`HeightParser::cells`] gives none.
 #[derive(Drop)]
 pub(crate) struct RunJobs<'a> {
     pub parser: &'a HeightParser,
@@ -80,7 +80,7 @@ impl<'a> Work for RunJobs<'a> {
 }
 
 /// Feeds runs to a reader in order.
-/// A run that has cells in `lists` is fed as these cells.
+/// A run with `Some` cells in `lists` is fed as these cells, any other as bytes.
 pub(crate) fn feed_runs(
     reader: &mut GridReader,
     parser: &HeightParser,

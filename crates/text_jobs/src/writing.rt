@@ -61,7 +61,7 @@ impl<'a, E: MapCell> Work for LineJobs<'a, E> {
 
 /// Makes the texts of a map's rows, in order, by several workers.
 ///
-/// `None` with one worker, and if a thread, memory or the number of workers is refused.
+/// Returns `None` with one worker, or if a thread, memory or the number of workers is refused.
 fn make_lines<T: Threads + Wait + Sync, G: Gate + Sync, E: MapCell + Sync>(
     runner: &Runner<T, G>,
     frame: &Frame,

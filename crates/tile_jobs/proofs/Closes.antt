@@ -1,5 +1,5 @@
--- If a board is closed deque by deque, `IsLeft` holds of the jobs left after each deque, and
--- `IsClosed` after the last.
+-- As a board is closed deque by deque, `left` has the jobs left in the deques closed so far
+-- (`IsLeft`). After the last deque it has exactly the jobs that no seat took (`IsClosed`).
 use Rattle.std.proofs.Common.{◌≡◌, ◌≢◌, ℕ, zero, suc, ◌+◌, ◌-◌, ◌%◌, ◌<◌, ◌≤◌, true, false, cond, ◌==◌, nat_lt, add-one, add-zero, List, [], ◌∷◌, ◌++◌, length, get_or, drop, sym, refl, ap, ◌∙◌, arith, inl, inr, below_more}
 use Rattle.std.proofs.lemmas.Bool.Decides.{nat_tests}
 use Rattle.std.proofs.lemmas.Bool.{cases_eq, eq-eqb, ne_eqb}
@@ -93,7 +93,7 @@ next_row s v xs =
           rw (ne_eqb s v far) (drop-drop 1 (v - cond (nat_lt s v) 1 0) xs ∙ ap (λ k. drop k xs) at)
     ]
 
--- `left` has the jobs left in the deques below n.
+-- `left` has the jobs left in deques 0 to n - 1.
 pub record IsLeft (jobs seats : ℕ) (ss : List SeatState) (n : ℕ) (left : List ℕ) : Type 0 where
   pub parts : ArePartsOf jobs seats n left
   pub low : length left ≤ sum_to n (λ v. length (deal jobs seats v))

@@ -1,5 +1,6 @@
 -- As a deque is closed, the jobs popped are the last of its deal, the jobs dealt to it. Each
--- job of the deal was taken before or is popped. Counts of the ends joined.
+-- job of the deal was taken before or is popped. Each end (handle) joined adds 1 to the number of
+-- ends joined, and its jobs to those taken.
 use Rattle.std.proofs.Common.{◌≡◌, ◌≢◌, ℕ, zero, suc, ◌+◌, ◌<◌, ◌≤◌, Bool, true, false, true≢false, cond, ◌==◌, nat_lt, add-one, List, [], ◌∷◌, ◌++◌, length, drop, replicate, sym, refl, ap, ◌∙◌, arith}
 use Rattle.std.proofs.lemmas.Bool.{ne_eqb}
 use Rattle.std.proofs.lemmas.List.{append-nil, append_assoc, drop_all}

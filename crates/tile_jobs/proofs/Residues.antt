@@ -1,5 +1,6 @@
--- A job's remainder by `seats` is the number of its deque: lists of jobs split by deque, and sums
--- over all deques. Which entry has an index in a deque's feed, its jobs and then its end marks.
+-- A job's remainder by `seats` is the number of its deque. If a list of jobs is split by deque, the
+-- parts' lengths add up to its length. Which entry is at an index of a deque's feed: the deque's
+-- jobs, then its end marks.
 use Rattle.std.proofs.Common.{◌≡◌, ◌≢◌, ℕ, zero, suc, ◌+◌, ◌%◌, ◌<◌, ◌≤◌, Bool, true, false, cond, ◌==◌, List, [], ◌∷◌, ◌++◌, length, drop, replicate, sym, refl, ap, ◌∙◌, arith, inl, inr}
 use Rattle.std.proofs.lemmas.Bool.Decides.{nat_tests}
 use lib.ListN.{length-append, length-replicate}

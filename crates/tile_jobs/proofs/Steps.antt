@@ -1,4 +1,5 @@
--- Each push, take, split and join on a deque keeps `Lawful`.
+-- Each push, take, split and join on a deque keeps `Lawful`: the deque holds the entries pushed and
+-- not taken. The views of its passes (rights to act on it) record the entries taken.
 use Rattle.std.proofs.Common.{◌≡◌, ◌≢◌, ℕ, zero, suc, ◌+◌, ◌-◌, ◌<◌, ◌≤◌, inl, inr, ⊎_elim, true, true≢false, List, [], ◌∷◌, ◌++◌, length, take, drop, set, All, sym, refl, ap, ◌∙◌, subst, arith}
 use Rattle.std.specs.List.{concat}
 use Rattle.std.proofs.lemmas.List.{append_assoc, take_all}
@@ -44,7 +45,8 @@ left_of_feed items views h port u at can =
     h.held ∙ ap (drop (total taken views))
     (rw (all_pushed items views h port u at can) (take_all (length all) all (omega arith)))
 
--- A take keeps `Lawful` if the pass's new view w is `IsOf`, counts the entry and keeps `share`.
+-- A take keeps `Lawful` if the pass's new view w is lawful (`IsOf`) and counts the entry. The end
+-- marks due and taken together (`share`) have to be as many as in u.
 taken_after : (x : Entry) (items : List Entry) (views : List Log) (h : Lawful (x ∷ items) views)
     (port : ℕ) (u w : Log) → get_elem? views port ≡ some u → CanTake u
     → taken w ≡ suc (taken u) → share w ≡ share u → ((y : ℕ) → times y (all_taken w)
@@ -182,7 +184,8 @@ pub finds_few : (port : ℕ) (u : Log) → CanTake u → FindsFew Lawful 0 port 
 finds_few port u can [] views few h at = never_empty port u can views h at
 finds_few port u can (x ∷ xs) views few h at = absurd (omega arith)
 
--- Splitting a pass off the owner's keeps `Lawful` if all is pushed and two marks or more are due.
+-- Splitting a pass off the owner's keeps `Lawful` if all entries were pushed and the owner's pass
+-- may take at least two end marks.
 pub forks : (port : ℕ) (u : Log) → u.owns ≡ true → u.pushed ≡ length (feed u.jobs u.seats u.deque) →
     1 < u.marks_due → Forks Lawful port u (after_split u) (split_off u)
 forks port u owns all two items views h at =
@@ -353,8 +356,8 @@ begins = record {
   views_are = first_is;
 }
 
--- Pushing the next entry keeps `Lawful` if no entry was taken, only the owner has a share, and the
--- other views stay lawful.
+-- Pushing the next entry keeps `Lawful` if no entry was taken, only the owner's pass may take end
+-- marks, and the other views stay lawful.
 pushed_after : (J S V n : ℕ) (e : Entry) (rest items : List Entry) (views : List Log)
     (h : Lawful items views) (port : ℕ) → get_elem? views port ≡ some (dealing J S V n) →
     e ∷ rest ≡ drop n (feed J S V)
@@ -466,7 +469,8 @@ next_is xs items views h port u at can owns whole =
     let only = total_alone taken share views port u weigh at alone in
     (items, rw (n.0, n.1, n.2, ← only) (left_of_feed (xs ++ items) views h port u at can))
 
--- An owner to whose pass all others are joined takes the next entry of the feed.
+-- If all other passes are joined to the owner's, the owner takes the next entry in the order
+-- pushed.
 pub takes_next : (port : ℕ) (u : Log) → CanTake u → u.owns ≡ true → share u ≡ u.seats →
     Takes Lawful port u 1 (TookNext u)
 takes_next port u can owns whole xs items views some_x few h at =

@@ -1,4 +1,5 @@
--- Which jobs and end marks a board deals to each deque. How often a number occurs in a list.
+-- Which jobs a board deals to each deque, and the end marks after them, one for each seat. How
+-- often a number occurs in a list.
 -- Public.
 use Rattle.std.specs.Prelude.{ℕ, zero, suc, ◌+◌, ◌%◌, ◌<◌, List, [], ◌∷◌, ◌++◌, map, replicate, cond, ◌==◌, AllPairs}
 use Rattle.tile_jobs.specs.declared.deque.Entry.{Entry}

@@ -1,11 +1,13 @@
--- The promise of `Board::close`: which jobs are left, and that each job occurs exactly once.
+-- What `Board::close` promises: each job of the board is once in the list of a seat that took it,
+-- or once among the jobs left.
 -- Public.
 use Rattle.std.specs.Prelude.{◌≡◌, ℕ, ◌+◌, ◌%◌, ◌<◌, ◌≤◌, true, List, [], length, drop, get_or}
 use Rattle.std.specs.List.{concat}
 use Rattle.tile_jobs.specs.Board.{deal, times, sum_to}
 use Rattle.tile_jobs.specs.Ends.{SeatState, HasAllMarks}
 
--- `left` has jobs of the deques below n, deque by deque: of each deque the last jobs of its deal.
+-- `left` has jobs of deques 0 to n - 1, in the order of the deques. Of each deque it has the last
+-- of the jobs dealt to the deque, or none.
 abbrev pub ArePartsOf : ℕ → ℕ → ℕ → List ℕ → Type 0
 ArePartsOf jobs seats n left = (parts : List (List ℕ)) × (length parts ≡ n) × (left ≡ concat parts)
     × ((v : ℕ) → v < n → (k : ℕ) × (get_or parts v [] ≡ drop k (deal jobs seats v)))
@@ -16,12 +18,13 @@ in_seats y seats ss d = sum_to seats (λ s. times y (get_or ss s d).taken)
 
 -- `left` has exactly the jobs below `jobs` that no seat took.
 pub record IsClosed (jobs seats : ℕ) (ss : List SeatState) (left : List ℕ) : Type 0 where
-  -- `left` has, deque by deque, the last jobs of each deque's deal.
+  -- `left` has, deque by deque, the last of the jobs dealt to each deque, or none.
   pub parts : ArePartsOf jobs seats seats left
   -- Each job below `jobs` occurs once, in one seat's list or in `left`. No other number occurs.
   pub once : (j : ℕ) (d : SeatState) → j < jobs → in_seats j seats ss d + times j left ≡ 1
   pub none_else : (j : ℕ) (d : SeatState) → jobs ≤ j → in_seats j seats ss d + times j left ≡ 0
-  -- No job is left if some seat has its end marks of all deques.
+  -- An end mark follows a deque's jobs, one for each seat. No job is left if some seat took one
+  -- from every deque.
   pub empty : (s : ℕ) (d : SeatState) → s < seats → HasAllMarks (get_or ss s d) → left ≡ []
   -- No job of a deque is left if its owner took an end mark there.
   pub own_empty : (s : ℕ) (d : SeatState) → s < seats → (get_or ss s d).own.marked ≡ true →

@@ -1,5 +1,6 @@
 -- The states of seats, of their ends (handles of deques), of dealers and of deques being closed,
--- and how calls change them. `Log` is the view of one pass, a right to act on a deque (see Rule).
+-- and how calls change these states. A dealer fills one deque and makes its ends. A `Log` is the
+-- view of a pass: what was pushed and taken by one right to act on a deque (see Rule).
 -- Public.
 use Rattle.std.specs.Prelude.{◌≡◌, ◌≢◌, ℕ, zero, suc, ◌%◌, ◌<◌, ◌≤◌, ◌⊎◌, Bool, true, false, cond, nat_lt, ◌==◌, List, [], ◌∷◌, ◌++◌, length, get_or, drop, All}
 use Rattle.std.specs.List.{concat}
@@ -13,8 +14,8 @@ use Rattle.tile_jobs.specs.Rule.{share}
 abbrev pub DequeId : Type 0
 DequeId = RowsId × Global
 
--- One seat's end (handle) of one deque. `jobs` and `seats` are the board's numbers of jobs and
--- seats, `deque` is the deque's number. `took` has the jobs that the seat took there; `marked` says
+-- One seat's end (handle) of one deque. `jobs` and `seats` say how many jobs and seats the board
+-- has; `deque` is the deque's number. `took` has the jobs that the seat took there; `marked` says
 -- whether the seat took its end mark. `seen` counts the entries that the seat saw taken from the
 -- deque. For the owner, and before the seat first tries to steal there, `seen` is 0.
 pub record EndState : Type 0 where
@@ -26,7 +27,7 @@ pub record EndState : Type 0 where
   pub marked : Bool
   pub seen : ℕ
 
--- The end of deque `id` whose numbers and jobs taken are those of the view u.
+-- The end of deque `id` with this `marked` and `seen`; all else is as in the view u.
 abbrev pub end_of : DequeId → Bool → ℕ → Log → EndState
 end_of id marked seen u = record {
   id = id;
@@ -38,7 +39,8 @@ end_of id marked seen u = record {
   seen = seen;
 }
 
--- A seat's view between two calls: the seat may take one end mark, or took it and is `marked`.
+-- A seat's view between two calls: the seat took its end mark if `marked` is true; otherwise it may
+-- still take one.
 abbrev pub IsSeated : Bool → Log → Type 0
 IsSeated marked u = (u.gathered ≡ []) × (u.marks_due ≡ cond marked 0 1)
     × (u.marks ≡ cond marked 1 0) × (length u.took ≤ length (deal u.jobs u.seats u.deque))
@@ -73,7 +75,7 @@ pub record TookJob (e : EndState) (j : ℕ) (f : EndState) : Type 0 where
   pub of_deque : j % e.seats ≡ e.deque
   pub fits : length f.took ≤ length (deal e.jobs e.seats e.deque)
 
--- A steal at this end lost a race: the end has no mark, and only `seen` changed: `seen` rose.
+-- A steal at this end lost a race. The end has no mark; `seen` rose, and nothing else changed.
 abbrev pub LostSteal : EndState → EndState → Type 0
 LostSteal e f = (f ≡ record e { seen = f.seen }) × (e.seen < f.seen) × (e.marked ≡ false)
 
@@ -126,7 +128,8 @@ pub record SeatState : Type 0 where
   -- the jobs that it took, in the order taken
   pub taken : List ℕ
 
--- The seat has one end of each deque, and each end lists the seat's jobs of its deque.
+-- The seat has one end of each deque, and the end lists the jobs that the seat took from that
+-- deque.
 pub record IsSeat (s : SeatState) : Type 0 where
   pub below : s.number < s.own.seats
   pub count : suc (length s.others) ≡ s.own.seats
@@ -202,7 +205,7 @@ abbrev pub IsFresh : ℕ → ℕ → ℕ → EndState → Type 0
 IsFresh jobs seats v e =
     (e.jobs ≡ jobs) × (e.seats ≡ seats) × (e.deque ≡ v) × (e.took ≡ []) × (e.marked ≡ false)
 
--- Each element v of the list is an end of deque v, and nothing was taken at it.
+-- The element at each index v is an end of deque v, and nothing was taken at this end.
 abbrev pub AllFresh : ℕ → ℕ → List EndState → Type 0
 AllFresh jobs seats es =
     (v : ℕ) (d : EndState) → v < length es → IsFresh jobs seats v (get_or es v d)
@@ -244,7 +247,7 @@ closing_of id marked u = record {
   marked = marked;
 }
 
--- The owner's view during the closing: it has an end mark if `marked`, else it may take one.
+-- The owner's view as its deque is closed: an end mark was taken if `marked`, else one may be.
 abbrev pub IsClosing : Bool → Log → Type 0
 IsClosing marked u = (u.owns ≡ true) × (u.pushed ≡ length (feed u.jobs u.seats u.deque))
     × (marked ≡ true → 0 < u.marks) × (marked ≡ false → 0 < u.marks_due)
@@ -270,12 +273,12 @@ position_of s = length (s.took ++ s.gathered)
 abbrev pub deal_of : ClosingState → List ℕ
 deal_of s = deal s.jobs s.seats s.deque
 
--- The owner popped job j, the next of the deal. No end mark was taken before.
+-- The owner popped job j, the first job left of those dealt to the deque. No end mark was taken.
 abbrev pub PoppedJob : ClosingState → ℕ → ClosingState → Type 0
 PoppedJob s j t = (t ≡ record s { took = s.took ++ j ∷ [] }) × (s.marks ≡ 0)
     × (j ∷ drop (suc (position_of s)) (deal_of s) ≡ drop (position_of s) (deal_of s))
 
--- The owner popped an end mark. If it is the first one taken, all jobs were taken.
+-- The owner popped an end mark. If no end mark was taken before, all jobs were taken.
 abbrev pub PoppedMark : ClosingState → ClosingState → Type 0
 PoppedMark s t = (t ≡ record s { marks = suc s.marks; marked = true })
     × (s.marks ≡ 0 → length (deal_of s) ≤ position_of s)

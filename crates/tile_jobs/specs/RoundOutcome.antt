@@ -1,4 +1,5 @@
--- What steals at several ends, a seat's handles of deques, change, by the outcome of the steals.
+-- How steals change a seat's ends (handles of deques), by the outcome of the steals. A job was
+-- taken, a race was lost, or each end tried has its end mark.
 -- Private.
 use Rattle.std.specs.Prelude.{ℕ, List}
 use Rattle.tile_jobs.specs.declared.ends.RoundOutcome.{RoundOutcome}

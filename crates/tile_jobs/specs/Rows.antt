@@ -1,4 +1,5 @@
--- The stealing ends of a board, a row for each seat, while `Board::close` closes deque by deque.
+-- While `Board::close` closes deque by deque, a row for each seat has the seat's ends (handles)
+-- of the other seats' deques not closed yet.
 -- To close a deque, `close` takes the first end off each row but that of the deque's owner.
 -- Private.
 use Rattle.std.specs.Prelude.{◌≡◌, ◌≢◌, ℕ, ◌+◌, ◌<◌, ◌==◌, true, cond, List, [], length, drop, slice_index_or}
@@ -30,12 +31,13 @@ WithoutHeads n v rows new = (s : ℕ) (d : Vec EndState Global) → s < n →
 
 -- `left` has the jobs left in the deque of seat v, whose own end is `own`.
 pub record IsLeftOf (own : EndState) (n v : ℕ) (rows : Rows) (left : List ℕ) : Type 0 where
-  -- The jobs left are the last jobs of the deque's deal.
+  -- The jobs left are the last of the jobs dealt to the deque, or none.
   pub part : (k : ℕ) × (left ≡ drop k (deal own.jobs own.seats own.deque))
   -- No job is left if some seat has its end mark of this deque.
   pub own_mark : own.marked ≡ true → left ≡ []
   pub marks : EachHead n v rows (λ s e. e.marked ≡ true → left ≡ [])
-  -- A number occurs in the lists of the deque's ends and in `left` as often as in its deal.
+  -- A number occurs in the lists of the deque's ends and in `left` together as often as among the
+  -- jobs dealt to the deque.
   pub once : (y : ℕ) (f : ℕ → ℕ) → EachHead n v rows (λ s e. times y e.took ≡ f s) →
       times y own.took ≡ f v
       → sum_to n f + times y left ≡ times y (deal own.jobs own.seats own.deque)

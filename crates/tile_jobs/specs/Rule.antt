@@ -51,12 +51,12 @@ blank = record {
 abbrev pub spent : Log
 spent = record blank { owns = false }
 
--- One of the deque's numbers after n pushes: 0 before the first push, which sets the number to x.
+-- A number in the owner's view after n pushes: 0 before the first push, which sets it to x.
 abbrev pub once : ℕ → ℕ → ℕ
 once zero x = 0
 once (suc n) x = x
 
--- The dealer's view after n pushes. The first push sets the deque's numbers.
+-- The dealer's view after n pushes. The first push sets `jobs`, `seats`, `deque` and `marks_due`.
 abbrev pub dealing : ℕ → ℕ → ℕ → ℕ → Log
 dealing jobs seats v n = record {
   jobs = once n jobs;
@@ -73,7 +73,8 @@ dealing jobs seats v n = record {
 
 -- The view u of the pass with number `port` is lawful; `owner` is the number of the owner's pass.
 pub record IsOf (jobs seats v pushed owner : ℕ) (port : ℕ) (u : Log) : Type 0 where
-  -- A pass that owns, took or may take has the deque's numbers.
+  -- A pass that owns the deque, or took or may take an end mark, has the board's `jobs` and `seats`
+  -- and the deque's number v.
   pub named : (u.owns ≡ true) ⊎ (0 < share u) → (u.jobs ≡ jobs) × (u.seats ≡ seats) × (u.deque ≡ v)
   pub owns : u.owns ≡ true → (port ≡ owner) × (u.pushed ≡ pushed)
   pub ready : u.ready ≡ true → (pushed ≡ length (feed jobs seats v)) × (0 < share u)
@@ -83,7 +84,8 @@ pub record IsOf (jobs seats v pushed owner : ℕ) (port : ℕ) (u : Log) : Type 
 
 -- A lawful deque: its entries, and the views of all its passes.
 pub record Lawful (items : List Entry) (views : List Log) : Type 0 where
-  -- the deque's numbers, the number of entries pushed, and the number of the owner's pass
+  -- how many jobs and seats the board has, the deque's number v, how many entries were pushed, and
+  -- the number of the owner's pass
   pub jobs : ℕ
   pub seats : ℕ
   pub v : ℕ

@@ -11,7 +11,8 @@ MatchTake (Job j) job again empty = job j
 MatchTake Again job again empty = again
 MatchTake Empty job again empty = empty
 
--- The seat took job j, the last of its list. It steals only once it has its own deque's end mark.
+-- The seat took job j, now the last of the seat's list. A job of another deque is taken only after
+-- the end mark of the seat's own deque.
 pub record TakesJob (s : SeatState) (j : ℕ) (t : SeatState) : Type 0 where
   pub below : j < s.own.jobs
   pub taken : t.taken ≡ s.taken ++ j ∷ []

@@ -9,7 +9,8 @@ use Rattle.tile_jobs.specs.Board.{times}
 use Rattle.tile_jobs.specs.Ends.{SeatState, SameSeat, HasAllMarks, IsNew}
 
 module _ {O : Type 0} where
-  -- The worker took jobs until its seat had all end marks, and has a result of each job it took.
+  -- The worker took jobs until its seat had an end mark of each deque. `output` has a result of
+  -- each job taken.
   pub record IsWorked (gives : ℕ → O → Type 0) (seat : SeatState)
       (output : WorkerResult O) : Type 0 where
     pub same : SameSeat seat output.seat
@@ -17,7 +18,8 @@ module _ {O : Type 0} where
     pub right : AreJobResults gives seat.own.jobs output.answers.items
     pub whole : (j : ℕ) → 0 < times j output.seat.taken → HasResult output.answers.items j
 
-  -- A worker's outcome: `Ok` as `IsWorked` says, or else the fault `Memory`.
+  -- A worker's outcome: its seat and the results of all jobs taken (`IsWorked`), or the fault
+  -- `Memory`.
   abbrev pub IsOutcome : (ℕ → O → Type 0) → SeatState → Result (WorkerResult O) JobFault → Type 0
   IsOutcome gives seat result = IfOk result (IsWorked gives seat) × IfErr result (λ e. e ≡ Memory)
 
@@ -28,7 +30,7 @@ module _ {O : Type 0} where
     pub each : (s : ℕ) (d : SeatState) (r : Result (WorkerResult O) JobFault) → s < length seats →
         IsOutcome gives (slice_index_or seats s d) (slice_index_or results s r)
 
--- The seats took nothing, and the jobs of their board are below `most`.
+-- The seats took nothing, and their board has at most `most` jobs.
 abbrev pub AreNew : ℕ → List SeatState → Type 0
 AreNew most seats = (s : ℕ) (d : SeatState) → s < length seats →
     ((slice_index_or seats s d).own.jobs ≤ most) × IsNew (slice_index_or seats s d)

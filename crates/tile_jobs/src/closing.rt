@@ -42,7 +42,8 @@ impl Closing {
         self.worker.absorb::<SplitsEnd>(pass);
     }
 
-    /// Pops the next job. Returns `None` if it pops an end mark, which no job follows.
+    /// Pops the next entry: a job, or an end mark, which no job follows.
+    /// Returns `None` for an end mark.
     pub(crate) fn next(&mut self) -> Option<u32>
         requires back { self.old.back ≡ self.old.seats }
         requires unmarked { self.old.marked ≡ false }
@@ -59,7 +60,7 @@ impl Closing {
     }
 
     /// Drops the deque.
-    /// `len_as` yields the fact that each job dealt to it was taken exactly once.
+    /// `len_as` yields the fact that each job dealt to the deque was taken exactly once.
     pub(crate) fn finish(self)
         requires back { self.back ≡ self.seats }
         requires marked { self.marked ≡ true }

@@ -26,7 +26,8 @@ impl Model for Dealer {
 }
 
 /// Returns how many of the jobs below `jobs` deque `v` gets.
-/// Each whole round over the seats gives it one job, and so does a partial round that reaches it.
+/// Each whole round over the seats gives the deque one job; so does a last, partial round if it
+/// reaches seat `v`.
 #[tactic(auto, using(std::proofs::lemmas::Bool::Decides::nat_tests, crate::proofs::Rounds::deal_count))]
 fn count_jobs(jobs: u32, seats: u32, v: u32) -> u32
     requires { v < seats }

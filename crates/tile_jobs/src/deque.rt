@@ -31,8 +31,8 @@ pub struct Log {
     pub pushed: u64,
     // true for a stealing pass: all entries were pushed before it was split off
     pub ready: bool,
-    // how many end marks the pass may still take and how many it took; a pass joined to it adds its
-    // own
+    // how many end marks the pass may still take and how many it took, each with those of the
+    // passes joined to it
     pub marks_due: u64,
     pub marks: u64,
     // the jobs taken by this pass
@@ -42,6 +42,7 @@ pub struct Log {
 }
 
 /// The protocol of a deque: each push, pop, steal, split and join keeps `Lawful`.
+/// The deque holds the entries pushed and not taken; the views record those taken.
 pub struct DequeRule;
 
 impl Protocol<Entry, Log> for DequeRule {
@@ -92,7 +93,8 @@ impl<D: DequeKey> Outcome<Entry, Log> for Deals<D> {
     ghost then = { λ v xs w. w ≡ dealing D.jobs D.seats D.deque (suc v.pushed) };
 }
 
-/// The outcome of taking one entry, as `Took` says. The deque is never found empty.
+/// The outcome of a take: the pass's view gets the job or end mark taken (`Took`).
+/// The deque is never found empty.
 pub struct Takes;
 
 impl Outcome<Entry, Log> for Takes {
@@ -103,7 +105,7 @@ impl Outcome<Entry, Log> for Takes {
     ghost empty = { λ _. ⊥ };
 }
 
-/// The outcome of taking one entry, as `TookNext` says.
+/// The outcome of taking the next entry in the order pushed (`TookNext`).
 /// The deque is never found empty.
 pub struct TakesNext;
 

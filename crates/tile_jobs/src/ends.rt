@@ -173,7 +173,8 @@ pub(crate) fn steal_among(others: &mut Vec<OtherEnd>, from: usize, to: usize) ->
     }
 }
 
-/// Tries each end once, from index `first`, then from 0, until a steal gets a job.
+/// Tries each end at most once until a steal gets a job.
+/// Begins at index `first`; after the last end come those from index 0 on.
 pub(crate) fn steal_round(others: &mut Vec<OtherEnd>, first: usize) -> RoundOutcome
     requires { first ≤ vec_len others.old }
     ensures len { vec_len others.new ≡ vec_len others.old }

@@ -15,7 +15,7 @@ pub trait Gate {
     /// Called after each job that succeeds, on the thread that ran it.
     fn leave(&self, _job: u32) {}
 
-    /// Called after each part that succeeds, on the thread that runs the job.
+    /// Called each time a part of a job succeeds, on the thread that runs the job.
     /// The job has `parts` parts. A job without parts never calls `finish_part`.
     fn finish_part(&self, _parts: usize) {}
 }

@@ -15,7 +15,7 @@ use std::marker::Model;
 pub enum Take {
     /// The job that the caller has to run; no other seat gets it.
     Job(u32),
-    /// No job, since a steal lost a race. A later try may get one.
+    /// No job, since a steal lost a race. A later try may get a job.
     Again,
     /// No deque holds a job, now or later.
     Empty,

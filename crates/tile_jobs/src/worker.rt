@@ -54,7 +54,7 @@ where
     Ok(WorkerResult { seat, answers })
 }
 
-/// A worker's promise about its result, for the seat that it started with.
+/// The promise that the worker at `seat` returns a result of each job taken, or a fault.
 #[derive(Drop)]
 pub struct WorkerPromise<'a, W> {
     pub work: &'a W,

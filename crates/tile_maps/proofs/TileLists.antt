@@ -1,5 +1,5 @@
--- A list of entries for a tile's first n places, with the next place's entry appended, is one for
--- the first n + 1. A list of entries for all places is the tile's list.
+-- If the next place's entry is appended to a list for a tile's first n places, the new list is for
+-- the first n + 1. A list with the entries of all places is the tile's list.
 use Rattle.std.proofs.Common.{◌≡◌, ℕ, ◌+◌, ◌-◌, ◌*◌, ◌<◌, inl, inr, List, ◌∷◌, ◌++◌, [], get_or, Option, None, slice_get, sym, ap, subst, ◌∙◌, arith}
 use Rattle.std.proofs.lemmas.Bool.{cases_eq}
 use Rattle.std.proofs.lemmas.List.{length_push}

@@ -1,5 +1,5 @@
--- Lists with one entry for each place of a grid, of a tile, or of a tile's first places. `Has` says
--- which entries a place may have.
+-- Lists of a map's entries in row order, for all places of a grid or a tile, or for the first
+-- places of bounds (a rectangle). `Has p entry` says that place p may have this entry.
 -- Source: this project.
 -- Public.
 use Rattle.std.specs.Prelude.{◌≡◌, ℕ, ◌*◌, ◌<◌, List, length, Some, slice_get}

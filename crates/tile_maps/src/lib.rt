@@ -1,6 +1,6 @@
 //! Makes maps of a grid tile by tile, by one job for each tile.
 //!
-//! A [`TileMap`] returns a tile's entries. A [`Runner`] has what a stage needs to run jobs.
+//! A [`TileMap`] returns a tile's entries. A [`Runner`] runs numbered jobs; each run is a stage.
 //! [`Runner::map_tiles`] makes the whole map.
 //!
 //! Modules, callers first:

@@ -1,5 +1,5 @@
 -- The places in the eight directions that pass a test are found one by one: each direction appends
--- its place, if that exists and passes.
+-- the place there, if there is a place and it passes the test.
 use Rattle.std.proofs.Common.{◌≡◌, ℕ, ◌+◌, ◌<◌, Bool, List, [], ◌∷◌, ◌++◌, length, get_or, take, filter, Option, None, Some, ap, refl, ◌∙◌}
 use Rattle.std.specs.Option.{option_to_list}
 use Rattle.std.specs.List.{filter_map}
@@ -11,7 +11,8 @@ pub filter_map_one : {X : Type 0} (o : Option X) →
 filter_map_one None = refl
 filter_map_one (Some x) = refl
 
--- entry `way` of `xs` is appended, if it is a place that passes the test
+-- the first `way + 1` options of `xs` have the passing values of the first `way`, then the value of
+-- entry `way`, if it has a value that passes
 pub filter_ways_more : {X : Type 0} (test : X → Bool) (xs : List (Option X)) (way : ℕ) →
     way < length xs →
     filter test (filter_map (λ (x : Option X). x) (take (way + 1) xs)) ≡ filter test (filter_map

@@ -62,7 +62,7 @@ row_is t lists tile row list part from h l a s top bottom e f =
           ∙ sym (listed_in t lists tile list p i.1 s);
     }
 
--- a row of the grid and a column of tiles meet in a tile
+-- there is a tile where a row of the grid meets a column of tiles
 pub crossed_below : (t : Cutting) (row column : ℕ) → IsCutting t → row < t.rows →
     column < across t → row / t.side * across t + column < tile_count t
 crossed_below t row column h r c = mul-add-lt (row / t.side) (across t) column (down t)
@@ -86,7 +86,8 @@ crossed_at t row column h r c =
       ap (λ n. min t.side (t.cols - n)) left,
     )
 
--- the number of cells in the rows before `row`, plus those of `row` in its first `column` tiles
+-- the number of cells before `row`, plus the number of cells of `row` in the first `column` tiles
+-- that `row` crosses
 abbrev pub crossed_length : Cutting → ℕ → ℕ → ℕ
 crossed_length t row column = row * t.cols + min t.cols (column * t.side)
 
@@ -101,7 +102,8 @@ pub crossed_all : (t : Cutting) (row : ℕ) → IsCutting t →
 crossed_all t row h =
     let a = (div_ceil_times t.cols t.side h.some_side).0 in omega (arith, a)
 
--- `IsPutBackBelow` is kept when the row's next `width` entries, each from its tile, are appended
+-- `whole` has the entries for the grid's first n places, and `part` those for the next `width`
+-- places, all in one row. Then `whole ++ part` has the entries for the first n + width places.
 pub IsPutBackBelow-more : {X : Type 0} (t : Cutting) (lists : List (Vec X Global))
     (row left width n : ℕ) (whole part : List X) → left + width ≤ t.cols → n ≡ row * t.cols + left →
     IsPutBackBelow t lists n whole → length part ≡ width →
@@ -126,7 +128,8 @@ IsPutBackBelow-more t lists row left width n whole part fits e h size each = rec
       ];
 }
 
--- `IsPutBackBelow` is kept when the row's entries in one more column of tiles are appended
+-- `whole` has the entries for the rows before `row` and for `row` in its first `column` tiles. If
+-- `part` has the entries for `row` in the next tile, then `whole ++ part` has both.
 pub crosses_more : {X : Type 0} (t : Cutting) (lists : List (Vec X Global)) (row column first : ℕ)
     (whole part next : List X) → IsCutting t → row < t.rows → column < across t →
     first ≡ row / t.side * across t → next ≡ whole ++ part → IsPutBackBelow t lists

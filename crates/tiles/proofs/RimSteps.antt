@@ -1,4 +1,5 @@
--- The rim from one of its places on (`rim_from`) is that place, then the rim from the next one on.
+-- If place p is on a rim, the rim's places from p on (`rim_from`) are p, then the places from the
+-- rim's next place on.
 use Rattle.std.proofs.Common.{◌≡◌, ◌≢◌, ℕ, zero, suc, ◌+◌, ◌-◌, ◌<◌, ◌≤◌, Bool, true, false, List, ◌∷◌, ◌++◌, map, filter, sym, ap, subst, refl, ◌∙◌, arith}
 use Rattle.std.specs.List.{range_with_len, flat_map}
 use Rattle.std.proofs.lemmas.Bool.{cond-true, cond-false}
@@ -73,7 +74,8 @@ pub inside_fails : (b : Bounds) (r c : ℕ) → r ≢ b.top → r + 1 ≢ b.top 
     c + 1 ≢ b.left + b.cols → is_first_or_last b (make_place r c) ≡ false
 inside_fails b r c h i j k = grind (arith, nat_tests, h, i, j, k)
 
--- in bounds of two or more columns, the rim goes on from an inner row's first place to its last
+-- in bounds of two or more columns, the rim's next place after the first place of an inner row is
+-- the last place of that row
 pub rim_across : (b : Bounds) (p : Place) (last : ℕ) → p.col ≡ b.left → last + 1 ≡ b.left + b.cols →
     p.col < last → p.row ≢ b.top → p.row + 1 ≢ b.top + b.rows → is_first_or_last b p ≡ true →
     rim_from b p ≡ p ∷ rim_from b (make_place p.row last)

@@ -1,4 +1,5 @@
--- A view shows a tile and the cells next to it; all these have indices within the grid's list.
+-- A view of a tile shows the tile's cells and the cells next to the tile. All of these have indices
+-- within the grid's list of cells.
 use Rattle.std.proofs.Common.{◌≡◌, ℕ, ◌+◌, ◌*◌, ◌<◌, ◌≤◌, ◌-◌, true, length, get_or, drop, ap, ◌∙◌, arith}
 use Rattle.std.proofs.lemmas.Bool.{and_parts, ltb-true}
 use Rattle.std.proofs.lemmas.List.{get_or-take, get_or-drop}
@@ -9,7 +10,7 @@ use Rattle.terrain.proofs.Places.{make_place}
 use Rattle.tiles.specs.declared.bounds.Bounds.{Bounds}
 use Rattle.tiles.specs.Cutting.{Cutting, IsWithin, View, IsView, AreBounds, bounds_of, is_shown, row_shown}
 
--- each row of a tile ends within the grid's list
+-- each row of a tile ends within the grid's list of cells
 pub row_end : (t : Cutting) (b : Bounds) (i : ℕ) → AreBounds t b → i < b.rows →
     (b.top + i) * t.cols + b.left + b.cols ≤ t.cols * t.rows
 row_end t b i h l =

@@ -1,7 +1,8 @@
 -- Defines how a grid is cut into square tiles, numbered in row order. A view shows a tile and the
--- cells next to it. A tile's list has an entry for each of its cells, in row order.
+-- cells next to it. A tile's list has an entry for each of the tile's cells, in row order.
 -- Source: the tiles of a TIFF file (TIFF 6.0, section 15), left to right and top to bottom.
--- Unlike in TIFF, the last row or column of tiles is smaller if the side does not divide the grid.
+-- Unlike in TIFF, tiles in the last row or column of tiles are smaller if the side does not divide
+-- the number of the grid's rows or columns.
 -- Trust base.
 use Rattle.std.specs.Prelude.{◌≡◌, ℕ, ℤ, slice_index_or, ◌+◌, ◌-◌, ◌*◌, ◌/◌, ◌%◌, ◌<◌, ◌≤◌, min, Bool, ◌&&◌, ◌||◌, not, ◌==◌, nat_lt, nat_le, if◌then◌else◌, List, [], map, filter, length, Option, None, slice_get, slice_range, Some, Vec, option_and_then}
 use Rattle.std.specs.declared.alloc.Global.{Global}
@@ -196,7 +197,7 @@ pub record IsPutBack {X : Type 0} (t : Cutting) (lists : List (Vec X Global))
 abbrev pub Cuts : Cutting → Terrain → Type 0
 Cuts c t = (c.cols ≡ t.cols) × (c.rows ≡ t.rows)
 
--- The terrain of a view's cells. It has no sinks.
+-- The whole grid whose cells a view has, as a terrain without sinks.
 abbrev pub terrain_of : View (Option ℤ) → Terrain
 terrain_of v = record { cols = v.cutting.cols; rows = v.cutting.rows; cells = v.cells; sinks = [] }
 

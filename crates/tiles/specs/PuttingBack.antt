@@ -1,4 +1,5 @@
--- How far `Tiling::put_back` has merged the lists of all tiles into one list of the grid.
+-- Defines what `Tiling::put_back` has taken from the tiles' lists so far: entries for the grid's
+-- first places, and for one row of one tile.
 -- Source: this project.
 -- Private.
 use Rattle.std.specs.Prelude.{◌≡◌, ℕ, ◌+◌, ◌-◌, ◌<◌, ◌≤◌, List, length, slice_get, Vec}

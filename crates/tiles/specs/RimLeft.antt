@@ -1,5 +1,5 @@
--- Defines what is left of a rim, a tile's outermost cells in row order, from one place on. The
--- iterator `Rim` still has these places to yield. Source: this project.
+-- Defines the places of a rim, a tile's outermost cells, from one place on in row order: those that
+-- iterator `Rim` still has to yield. Source: this project.
 -- Public.
 use Rattle.std.specs.Prelude.{◌≡◌, ◌+◌, ◌-◌, ◌<◌, ◌≤◌, IsTrue, List, ◌++◌, map, filter}
 use Rattle.std.specs.List.{range_with_len, flat_map}
@@ -18,8 +18,8 @@ places_from b p =
 abbrev pub rim_from : Bounds → Place → List Place
 rim_from b p = filter (is_first_or_last b) (places_from b p)
 
--- The bounds have a cell and are within limits. The place is on the rim, or one column past the end
--- of the last row, where the rim ends.
+-- Bounds b have a cell and are within limits. Place p, the next to yield, is on the rim, or one
+-- column past the end of the last row once all are yielded.
 pub record IsRimState (b : Bounds) (p : Place) : Type 0 where
   pub some_row : 1 ≤ b.rows
   pub some_col : 1 ≤ b.cols

@@ -6,12 +6,12 @@ use Rattle.terrain.specs.declared.place.Place.{Place}
 use Rattle.tiles.specs.declared.bounds.Bounds.{Bounds}
 use Rattle.tiles.specs.Cutting.{Cutting, bounds_of, tile_count, tile_of_place}
 
--- How many numbers each tile has, from the bounds of the largest tile.
+-- How many numbers each tile has, if `largest` are the bounds of the largest tile.
 abbrev pub stride : Bounds → ℕ
 stride largest = 2 * largest.cols + 2 * largest.rows
 
--- The number of rim cell p within the tile of bounds b, and the rim cell of number i there.
--- Numbers run along the first row, the last row, the first column, then the last column.
+-- The number, from 0, that rim cell p has in its tile, of bounds b, and the rim cell of number i in
+-- that tile. Numbers run along the first row, the last row, the first column, then the last column.
 abbrev pub side_number : Bounds → Bounds → Place → ℕ
 side_number largest b p =
     if p.row == b.top then p.col - b.left

@@ -1,4 +1,5 @@
-//! [`Bounds`] has a tile's position and size, and finds its places by index and their indices.
+//! [`Bounds`] has a tile's position and size. In the tile's row order it finds the place at an
+//! index, and the index of a place.
 ghost use Rattle.std.specs.Prelude.{◌≡◌, ◌*◌, ◌<◌};
 ghost use Rattle.tiles.specs.Cutting.{is_first_or_last, index_in, place_in, IsInBounds, IsWithinLimits, is_in_bounds};
 

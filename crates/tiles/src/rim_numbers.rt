@@ -12,7 +12,7 @@ use crate::tiling::Tiling;
 use terrain::Place;
 
 impl Tiling {
-    /// Returns how many rim numbers all tiles have.
+    /// Returns how many rim numbers all tiles have together.
     pub fn rim_number_count(&self) -> u32
         ensures value { result ≡ rim_number_count self.now }
         ensures few { result ≤ 2 ^ 30 }
@@ -66,7 +66,7 @@ impl Bounds {
         2 * self.cols + 2 * self.rows
     }
 
-    /// Returns the number of the rim cell at `place` within this tile.
+    /// Returns the number, from 0, of the rim cell at `place` in its tile, `self`.
     /// No tile is larger than `largest`. Numbers run along the first row, the last row, the first
     /// column, then the last column.
     pub fn side_number(self, largest: Bounds, place: Place) -> u32

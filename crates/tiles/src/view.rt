@@ -85,7 +85,7 @@ impl<'a, T> TileView<'a, T> {
     }
 
     /// Returns three cells: west of `place`, at `place` and east of it.
-    /// They may lie anywhere in the grid. Returns `None` if one of them is outside it.
+    /// These may lie outside the tile. Returns `None` if one of the three is outside the grid.
     #[inline(always)]
     pub fn beside(&self, place: Place) -> Option<&'a [T]>
         requires { place.col < 4294967295 }

@@ -7,7 +7,8 @@ use Rattle.fill.specs.Gathering.{IsInner, IsOuterOfRow, mark_in}
 use Rattle.fill.proofs.Adding.{adds_as, adds_then}
 use Rattle.fill.proofs.inner_joins.push_row.Goals as goal
 
--- The cells of a row above the last are those of `IsOuterOfRow` and the inner cells.
+-- A row above the last has two kinds of cells. The places E, SE, S and SW of an inner cell all lie
+-- in the tile; those of an `IsOuterOfRow` cell do not.
 row_parts : (b : Bounds) (row : ℕ) → b.top ≤ row → row + 1 < b.top + b.rows → (p : Place) →
     (IsInBounds b p × (p.row ≡ row)) ↔ (IsOuterOfRow b row p ⊎ (IsInner b p × (p.row ≡ row)))
 row_parts b row above below p = (

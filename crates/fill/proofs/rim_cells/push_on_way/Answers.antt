@@ -25,7 +25,7 @@ returns-then-not-is_wanted g c =
     absurd (cc (c.if-not-is_wanted.ensures ∙ ap (g.C.MarkedCells.wanted c.args.cells.now) same
     ∙ at.2)))
 
--- The neighbour is the cell below.
+-- If the neighbour is the cell below, its mark is `below`.
 pub returns-then-near-place : goal.returns-then-near-place
 returns-then-near-place g c =
     let on = sym c.place_on.ensures ∙ c.in-Some.is in
@@ -39,7 +39,7 @@ returns-then-near-place g c =
     (sym c.is_wanted.ensures ∙ cc c.if-not-is_wanted.false) added) (rw
     (ap (λ (z : LeftOutJoins). z.sources) c.left_out.view_is) at c.push_join.ensures)
 
--- The cell below bypasses the join.
+-- If the cell below bypasses the join, `Adds` holds of an unchanged list.
 pub returns-then-is_left_out : goal.returns-then-is_left_out
 returns-then-is_left_out g c =
     let marks = g.C.MarkedCells.marks c.args.cells.now in

@@ -30,7 +30,7 @@ apart : (b : Bool) → b ≡ not b → ⊥
 apart true e = cc
 apart false e = cc
 
--- The run has more than one target, since the comparison differs at its first and last.
+-- More than one target is searched, since the comparison differs at the first and the last.
 some : (c : goal.Else-is_above_at-first) → c.args.from < c.args.end - 1
 some c = elim (cases_lt c.args.from (c.args.end - 1)) [
   | inl less ↦ less

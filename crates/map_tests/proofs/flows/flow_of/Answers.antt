@@ -6,7 +6,7 @@ use Rattle.flow.specs.TileFlow.{IsTileFlow, directed_by}
 use Rattle.flow.specs.Whole.{make_directed}
 use Rattle.map_tests.proofs.flows.flow_of.Goals as goal
 
--- a view of the codes has the directions of the whole grid
+-- from a tile's view of the codes, `directed_by` gives the directions of the whole grid
 shows_ways : (c : Cutting) (d : Drained) (v : View (Option ℕ)) (codes : List (Option ℕ))
     (tile : ℕ) → Cuts c d.terrain
     → v ≡ record { cutting = c; tile = tile; cells = codes } → codes ≡ d.codes →
