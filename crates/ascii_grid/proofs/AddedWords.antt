@@ -1,4 +1,4 @@
--- A `GridBuilder` that one more word is added to has read all words so far, or returns a fault that
+-- After one more word is added, a `GridBuilder` has read all words so far, or returns a fault that
 -- may be reported for them.
 use Rattle.std.proofs.Common.{◌≡◌, ℕ, ◌+◌, ◌<◌, ◌≤◌, Bool, true, false, cond, List, [], ◌∷◌, ◌++◌, length, take, Option, None, Some, arith, refl, ap, sym, ◌∙◌, subst, inl, inr, nat_lt, ◌⊎◌, Result, MatchResult}
 use Rattle.std.specs.Prelude.{MatchOption, option_map}
@@ -170,8 +170,8 @@ words-after h ps hs k begun =
 pub paired : (ps : Pairs) → key_left (flat ps) ≡ None
 paired ps = ap key_left (sym (append-nil (flat ps))) ∙ key_left-flat ps []
 
--- a header without missing slots, and then heights `hs`, ask for the list of cells, if the first
--- height is not too long
+-- reading a faultless header without missing slots, and then heights `hs`, allocates the cells
+-- (`AsksForCells`), if the first height is not too long
 pub asks : (h : Header) (ps : Pairs) (hs : List Word) → IsHeaderOf h ps →
     HasBegun hs → missing_fault (flat ps) ≡ None → list_any is_long (take 1 hs) ≡ false →
     AsksForCells (flat ps ++ hs)
@@ -190,8 +190,8 @@ first_short d header [] w short none = rw (is_short w short) refl
 first_short d header (x ∷ hs) w short none =
     rw (then_none (is_long x) TooLong _ (or_none (height_fault d header 0 x) _ none).0).0 refl
 
--- the builder `j'` has read `ws` and `more`, if the heights `hs ++ more` have no fault and `j'`
--- stores their cells
+-- let the words `ws` be a header and heights `hs`. If the heights `hs ++ more` have no fault and
+-- `j'` stores their cells, `j'` has read `ws` and `more`
 pub judged-heights : (j j' : GridBuilder) (ws : List Word) (ps : Pairs) (hs more : List Word) →
     IsHeaderOf j.header ps → ws ≡ flat ps ++ hs → HasBegun (hs ++ more) → AreHeights j' ps (hs
     ++ more) → j'.header ≡ j.header → j'.stage ≡ AtHeights → HasAdded j' (ws ++ more)
@@ -213,8 +213,8 @@ next-height d ws ps hs w h k e begun none =
     ∙ ap (λ o. option_or o (height_fault d (flat ps) (0 + length hs) w)) none
     ∙ ap (λ n. height_fault d (flat ps) n w) (omega arith)
 
--- a header without missing slots, faultless heights `hs` and one more height `w` of at most 64
--- bytes ask for the list of cells
+-- reading a faultless header without missing slots, faultless heights `hs` and a height `w` of at
+-- most 64 bytes allocates the cells at the first height (`AsksAtHeight`)
 pub memory-height : (j : GridBuilder) (ws : List Word) (ps : Pairs) (hs : List Word) (w : Word)
     (h : Header) → IsHeaderOf h ps → ws ≡ flat ps ++ hs → HasBegun (hs ++ w ∷ []) →
     missing_fault (flat ps) ≡ None → heights_fault j.scale (flat ps) 0 hs ≡ None → length w ≤ 64 →
@@ -342,7 +342,8 @@ long_fault j ws w h far = by_stage j.stage refl
         next-height j.scale ws h.pairs h.rest w j.header h.header h.words
         (HasBegun-more h.rest (w ∷ []) there.0) there.1.faultless ∙ rw long refl
 
--- a result `r` that is right for `w` as the height after `hs` is right for the words `ws` and `w`
+-- if `r` meets what `add_height` ensures for `w` after the heights `hs`, it meets what `add_word`
+-- ensures for `w` after the words `ws`, which are a header and `hs`
 pub height_word : {T : Type 0} (j j' : GridBuilder) (ws : List Word) (ps : Pairs) (hs : List Word)
     (w : Word) (r : Result T GridFault) → IsHeaderOf j.header ps → ws ≡ flat ps ++ hs →
     HasBegun (hs ++ w ∷ []) → AreHeights j ps hs → length w ≤ 64 → j'.header ≡ j.header →
@@ -360,8 +361,8 @@ height_word j j' ws ps hs w r k e begun heights short same stage m =
           (next-height j.scale ws ps hs w j.header k e begun heights.faultless ∙ fault)
     ])
 
--- where `w` is the first height, a missing slot's fault may be reported for `ws` and `w`, or
--- `Memory` if no slot is missing
+-- where `w` is the first height and not too long, a missing slot's fault may be reported for `ws`
+-- and `w`, or `Memory` if no slot is missing
 pub no_first_height : (j : GridBuilder) (ws : List Word) (w : Word)
     (f : GridFault) (h : HasAdded j ws) → j.stage ≡ AtKey →
     begins_with_letter w ≡ false → length w ≤ 64 → (missing_fault (flat h.pairs) ≡ Some f)

@@ -1,4 +1,5 @@
--- The scaled value of a word, if it has one, decides if the word means NODATA, a height or nothing.
+-- A word with a scaled value is NODATA exactly if the NODATA word has that value too. If the value
+-- is another height, the word means a cell of that height.
 use Rattle.std.proofs.Common.{◌≡◌, ℕ, Bool, Option, true, false, cond, Some, ℤ, refl, ap, sym, ◌∙◌, inl, inr}
 use Rattle.std.specs.Str.{bytes_eq}
 use Rattle.std.specs.Ordering.{int_eq}

@@ -1,4 +1,4 @@
--- What a `Tokenizer` has read after one more byte of a word, a word's end, or a whole word.
+-- The words that a `Tokenizer` has read after one more byte, a word's end, or a whole word.
 use Rattle.std.proofs.Common.{◌≡◌, ℕ, ◌+◌, ◌<◌, ◌≤◌, true, false, List, [], ◌∷◌, ◌++◌, length, take, drop, get_or, Some, ℤ, Result, MatchResult, ◌⊎◌, arith, refl, ap, sym, ◌∙◌, subst, inl, inr}
 use Rattle.std.specs.Prelude.{filter}
 use Rattle.std.specs.List.{list_any}
@@ -130,8 +130,8 @@ IsParted-bytes text ws w (b ∷ more) h none =
     subst (λ t. IsParted t ws (w ++ b ∷ more)) (append_assoc text (b ∷ []) more)
     (subst (λ z. IsParted ((text ++ b ∷ []) ++ more) ws z) (append_assoc w (b ∷ []) more) next)
 
--- where no word is unfinished, the first `len` bytes and the separator `b` after them are one more
--- ended word
+-- where no word is unfinished, the first `len` bytes, none a separator, are one more ended word if
+-- the separator `b` follows them
 pub parted_word : (text bytes : List ℕ) (ws : List Word) (len b : ℕ) →
     IsParted text ws [] → list_any is_separator (take len bytes) ≡ false →
     0 < len → len < length bytes → b ≡ get_or bytes len 0 → is_separator b ≡ true →
@@ -155,7 +155,7 @@ parted_ended p text h e =
     subst (λ z. IsParted text h.ended z) last h.parted
 
 -- let the first `len` bytes after a height spell `value` (`IsPlain`), and the separator `b` follow.
--- If `r` is right as the result of adding that height, it is right for reading these bytes.
+-- If `r` meets what `add_height_value` ensures, it meets what `take_plain` ensures.
 pub plain_word : {T : Type 0} (p : Tokenizer) (j : GridBuilder) (text bytes : List ℕ)
     (len b : ℕ) (value : ℤ) (r : Result T GridFault) → HasWords p text → p.word ≡ [] →
     p.builder.stage ≡ AtHeights → IsPlain p.builder.scale bytes len value → len < length bytes →

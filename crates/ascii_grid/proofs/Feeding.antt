@@ -1,5 +1,5 @@
--- What a reader has read, or which fault it returns, after one more piece and at the text's end. A
--- fault found so far remains, whatever bytes follow.
+-- The text that a reader has read, or the fault that it returns, after one more piece and at the
+-- text's end. A fault found so far remains, whatever bytes follow.
 use Rattle.std.proofs.Common.{◌≡◌, ℕ, ◌+◌, ◌-◌, ◌<◌, ◌≤◌, cond, nat_le, List, [], ◌++◌, length, take, drop, min, None, Some, arith, refl, ap, sym, ◌∙◌, subst, inl, inr, Result, MatchResult, Ok, Err}
 use Rattle.std.specs.Prelude.{MatchOption, OnOk, IfErr}
 use Rattle.std.specs.Option.{option_or}
@@ -176,8 +176,8 @@ end_refused d text f short h =
     (λ asks. asked text short asks.0)
     (λ g e. few_fault d text short ∙ ap (λ o. option_or o (end_fault (words text))) e) h
 
--- where a text of at most 2^29 bytes has no faulty word, a result that is right for its end is
--- right for the text
+-- let a text of at most 2^29 bytes have no faulty word. A result that meets what
+-- `GridBuilder::finish` ensures meets what `GridReader::finish` ensures
 pub finished : (d : ℕ) (text : List ℕ) (r : Result Raster GridFault) → length text ≤ most_bytes →
     words_fault d (words text) ≡ None → MatchResult r (λ g. (end_fault (words text) ≡ None)
     × (g ≡ grid_of d (words text))) (IsEndFault (words text)) →

@@ -1,5 +1,5 @@
 -- If a job has the cells of a piece's first bytes and adds the next word's cell, it has the cells
--- of the bytes with that word. A `GridBuilder` may add the cells of a whole piece.
+-- of the bytes with that word. A `Tokenizer` that adds a whole piece's cells has read the piece.
 use Rattle.std.proofs.Common.{◌≡◌, ℕ, ◌+◌, ◌<◌, ◌≤◌, ℤ, true, false, List, [], ◌∷◌, ◌++◌, length, take, get_or, map, Option, None, Some, Bool, zero, suc, inl, inr, arith, refl, ap, sym, ◌∙◌, subst}
 use Rattle.std.specs.Prelude.{filter}
 use Rattle.std.specs.Option.{option_or}

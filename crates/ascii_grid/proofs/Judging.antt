@@ -195,8 +195,8 @@ with_value-at Nodata p ps qs h = rw (
   h.1 Cellsize (λ e. cc),
 ) refl
 
--- filling the empty slot of the key `k` with `v` gives the slots that `ps` and then the pair of `k`
--- and `v` fill
+-- if the pairs `ps` leave the slot of the key `k` empty, filling it with `v` gives the slots that
+-- `ps` and then the pair of `k` and `v` fill
 pub with_value-slots_of : (slot : Key) (ps : Pairs) (k v : Word) →
     slot_of k ≡ Some slot → is_given (slots_of ps) slot ≡ false →
     with_value (slots_of ps) slot (is_centre k) v ≡ slots_of (ps ++ (k, v) ∷ [])

@@ -1,5 +1,5 @@
--- Two reads in turn, or two writes in turn, move and count the bytes of both. One call moves and
--- counts the number of bytes that it returns.
+-- Two reads in turn, or two writes in turn, read or write the bytes of both and count them. One
+-- call reads or writes, and counts, as many bytes as it returns.
 use Rattle.std.proofs.Common.{ℕ, List, [], ◌++◌, ◌≡◌, ◌≤◌, length, take, Option, None, Some, sym, ap, ◌∙◌, arith}
 use Rattle.std.specs.Io.KnownBytes.{Appends, Consumes, Keeps}
 use Rattle.std.proofs.lemmas.List.{append_assoc, length-append, length-take-le}

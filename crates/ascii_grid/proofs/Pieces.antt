@@ -67,8 +67,7 @@ takes remaining first old new scale taken room r r' result held step fits = reco
   few = omega (arith, length-append held.text step.bytes, held.size, held.room, step.within, fits);
 }
 
--- at the end of the text, a result that is right for the text fed to the reader is right for the
--- device
+-- at the end of the text, a result that meets what `finish_grid` ensures meets `ReadsGrid`
 pub pieces_ended : {R : Type 0} (remaining : R → Option (List ℕ)) (first old new : Device R)
     (scale taken room : ℕ) (r r' : Reader) (result : Result Raster InputFault) →
     HasFedSoFar remaining first old scale r taken →

@@ -199,7 +199,7 @@ some_wanted header none missing =
     one-le-mul (size_between (word_for Ncols header) (value_of header Ncols none given.cols).0).0
     (size_between (word_for Nrows header) (value_of header Nrows none given.rows).0).0
 
--- where a key comes next and the header is whole, the fault at the end is `TooFew` with 0
+-- where a key comes next and no required slot is missing, the fault at the end is `TooFew 0`
 pub end-none : (j j' : GridBuilder) (ws : List Word) (h : HasAdded j ws) → j.stage ≡ AtKey →
     AreHeights j' h.pairs [] → end_fault ws ≡ Some (TooFew 0)
 end-none j j' ws h e heights =
@@ -231,8 +231,8 @@ word_of : (o : Option (Word × Word)) → option_map_or (λ (a : Anchor).
 word_of None = refl
 word_of (Some p) = refl
 
--- the slots that the pairs `ps` fill and the cells of the heights `hs` make the grid that the words
--- `ws` spell
+-- if the words `ws` are the pairs `ps` and then the heights `hs`, the slots of `ps` and the cells
+-- of `hs` make the grid that `ws` spell
 raster_of-grid_of : (d : ℕ) (ps : Pairs) (ws hs : List Word) → header_words ws ≡ flat ps →
     height_words ws ≡ hs → raster_of (slots_of ps) d (nodata_for (flat ps))
     (map (spelled_cell d (nodata_for (flat ps))) hs) ≡ grid_of d ws

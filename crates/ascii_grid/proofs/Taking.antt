@@ -1,5 +1,5 @@
--- While a grid is read from a device in pieces: after each piece, the reader was fed all bytes read
--- so far, and these have no fault.
+-- A grid is read from a device in pieces. After each piece (`HasFedSoFar`), the reader was fed all
+-- bytes read so far, and they have no fault.
 use Rattle.std.proofs.Common.{ℕ, List, ◌++◌, Option, None, Some, sym, ap, ◌∙◌, ◌≡◌, ◌≤◌, length, take, inl, inr}
 use Rattle.std.specs.Io.KnownBytes.{Consumes, IsAtEnd}
 use Rattle.std.proofs.lemmas.List.{append-nil}
@@ -13,7 +13,7 @@ use Rattle.ascii_grid.specs.declared.fault.GridFault.TheVariants.{TooLong}
 use Rattle.ascii_grid.proofs.Judging.{or_none}
 use Rattle.ascii_grid.proofs.Feeding.{many_so_far}
 
--- `taken` bytes of the device were fed to the reader, without a fault so far
+-- `taken` bytes were read and fed to the reader, without a fault or a counted failure so far
 pub record HasFedSoFar {R : Type 0} (remaining : R → Option (List ℕ)) (first now : Device R)
     (scale : ℕ) (r : Reader) (taken : ℕ) : Type 0 where
   pub text : List ℕ

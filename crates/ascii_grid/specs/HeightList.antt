@@ -1,5 +1,5 @@
--- Which cells some bytes of a text spell, told from the scale and the NODATA word alone, without
--- the text before the bytes. Source: this project.
+-- The cells that some bytes of a text spell, found from the scale and the NODATA word alone,
+-- without the text before the bytes. Source: this project.
 -- Public.
 use Rattle.std.specs.Prelude.{◌≡◌, ℕ, ◌<◌, ◌≤◌, ℤ, true, false, List, map, length, take, get_or, Option}
 use Rattle.std.specs.List.{All, list_any}

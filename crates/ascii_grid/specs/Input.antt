@@ -22,16 +22,16 @@ pub record Takes {R : Type 0} (remaining : R → Option (List ℕ)) (old new : D
 pub record ReadsGrid {R : Type 0} (remaining : R → Option (List ℕ)) (scale : ℕ) (old new : Device R)
     (result : Result Raster InputFault) : Type 0 where
   pub taken : Takes remaining old new
-  -- The bytes read spell the grid, and no byte is left to read.
+  -- On `Ok` the bytes read spell the grid, and no byte is left.
   pub grid : IfOk result (λ g. IsGridText scale taken.bytes g × IsAtEnd (remaining new.device))
-  -- A fault `Grid f` is one with which all the text that was left to read may be refused, whether
-  -- or not all of it was read.
+  -- On `Err (Grid f)`, `f` is the first fault of the whole text that the device held before the
+  -- call, or `Memory`, even if only part was read.
   pub fault : (text : List ℕ) (f : GridFault) → remaining old.device ≡ Some text →
       result ≡ Err (Grid f) → IsRefusal scale text f
-  -- The count of failures rises by one if a read failed, and else does not change.
+  -- The count of failures rises by one on `Err Read`, and else does not change.
   pub read : result ≡ Err Read → new.failures ≡ old.failures + 1
   pub sound : result ≢ Err Read → new.failures ≡ old.failures
-  -- If a read failed, no word that ended before the failure has a fault.
+  -- On `Err Read`, no word that a separator ended before the failure has a fault.
   pub clean : result ≡ Err Read → fault_so_far scale taken.bytes ≡ None
 
 -- The reader has no fault, the device can count one more failure, and the buffer `piece` has room.
@@ -42,8 +42,8 @@ pub record CanRead {R : Type 0} (reader : Reader) (device : Device R)
   pub room : 0 < length piece
 
 -- The result of reading and feeding a piece: its length, or `None` at the end of the text. A piece
--- may take several reads, of which the last may fail. If the piece's words have a fault, that fault
--- is returned and the failure is not counted.
+-- may take several reads, of which the last may fail. If feeding returns a fault, the call returns
+-- that fault; if a read failed too, that failure is not counted.
 abbrev pub IsPieceResult : ℕ → Option (List ℕ) → Result (Unit {0}) GridFault → ℕ → ℕ →
     Result (Option ℕ) InputFault → Type 0
 IsPieceResult count left fed old new (Ok (Some n)) =

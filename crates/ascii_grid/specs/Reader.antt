@@ -1,4 +1,4 @@
--- What a reader has read, or which fault it has returned, after pieces of a text were fed to it.
+-- After pieces of a text were fed to a reader: the text that it has read, or its fault.
 -- Source: this project.
 -- Public.
 use Rattle.std.specs.Prelude.{◌≡◌, ℕ, ◌≤◌, List, ◌++◌, length, Option, None, Some, MatchOption, Result, Err, OnOk, IfErr}
@@ -22,7 +22,7 @@ pub record IsReading (r : Reader) (text : List ℕ) : Type 0 where
   pub size : r.count ≡ length text
   pub short : length text ≤ most_bytes
 
--- The reader was fed this text. It has read the whole text, or has returned a fault of the text.
+-- The reader was fed this text. It has read the whole text, or has refused it with a fault.
 abbrev pub WasFed : Reader → List ℕ → Type 0
 WasFed r text = MatchOption r.fault (IsReading r text) (IsRefusalSoFar r.scale text)
 

@@ -1,4 +1,4 @@
--- What `GridBuilder` and `Tokenizer` store of the words so far: slots, cells, an unfinished word.
+-- The words so far as `GridBuilder` and `Tokenizer` store them: slots, cells, an unfinished word.
 -- Source: this project.
 -- Public.
 use Rattle.std.specs.Prelude.{◌≡◌, ℕ, Bool, true, false, List, [], ◌∷◌, ◌++◌, map, filter, find, take, Option, None, Some, option_map}

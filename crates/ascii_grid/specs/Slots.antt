@@ -35,8 +35,7 @@ is_given h Yll = is_some h.yll
 is_given h Cellsize = is_some h.cellsize
 is_given h Nodata = is_some h.nodata
 
--- A coordinate of the lower left cell: the word `w`, and whether it is that of the cell's centre,
--- not of its corner.
+-- The coordinate `w` of the lower left cell's centre if `centre`, else of that cell's corner.
 abbrev pub anchor_at : Bool → Word → Anchor
 anchor_at centre w = record { centre = centre; word = w }
 

@@ -1,4 +1,4 @@
--- What a call does that adds text to a page, a buffer that goes to the device when it is full.
+-- The effect of a call that adds text to a page, a buffer that goes to the device when it is full.
 -- Source: this project.
 -- Private.
 use Rattle.std.specs.Prelude.{◌≡◌, ℕ, List, ◌++◌, Option, Result, OnOk, OnErr}

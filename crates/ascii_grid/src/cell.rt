@@ -1,4 +1,4 @@
-//! Tells what a word among the heights means: a cell with a height, a NODATA cell, or neither.
+//! Finds the meaning of a word among the heights: a cell with a height, a NODATA cell, or neither.
 ghost use Rattle.std.specs.Prelude.{◌≡◌, ℕ, List, Option, Some, None};
 ghost use Rattle.terrain.specs.Decimal.{scaled_value};
 ghost use Rattle.ascii_grid.specs.GridText.{same_value};

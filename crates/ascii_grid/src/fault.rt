@@ -1,4 +1,4 @@
-//! The faults of a grid text. The line that reports a fault has its number, from 1 to 12.
+//! The faults of a grid text. `docs/grid-text.md` numbers them from 1 to 12, in this order.
 
 /// A slot: the room for one of six header values.
 ///

@@ -41,7 +41,6 @@ impl HeightParser {
         HeightParser { scale, nodata }
     }
 
-    /// Whether the parser has this scale and NODATA word.
     pub(crate) fn has_settings(&self, scale: u8, nodata: &[u8]) -> bool
         ensures { IsTrue result → (self.now.scale ≡ scale) × (self.now.nodata ≡ nodata.now) }
     {

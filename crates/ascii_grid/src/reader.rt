@@ -117,8 +117,8 @@ impl GridReader {
 
     /// Reads a piece of the text, which [`HeightParser::cells`] parsed into `cells`.
     ///
-    /// Adds `cells` if these are not too many, and `parser` equals the parser that
-    /// [`height_parser`](Self::height_parser) returns now. Otherwise parses the piece.
+    /// Adds `cells` if the text's bytes and cells stay within their limits, and `parser` equals the
+    /// parser that [`height_parser`](Self::height_parser) returns now. Otherwise parses the piece.
     ///
     /// # Errors
     ///

@@ -11,7 +11,7 @@ use std::thread;
 use std::thread::Threads;
 use tile_jobs::{Gate, JobFault, NoGate, Work, run_jobs, run_jobs_capped};
 
-/// How often at most a held job checks for other jobs: enough for any worker to begin one.
+/// The most checks for other jobs by a held job: enough time for any worker to begin a job.
 const MOST_LOOKS: u32 = 10_000_000;
 
 /// Work whose job `j` returns the square of `j`, for `j` below `most`.
@@ -59,13 +59,13 @@ impl Work for Hungry {
     }
 }
 
-/// A gate that holds job `j` until the jobs of `waits[j]` have entered.
+/// A gate that holds job `j` until the jobs of `waits[j]` have entered, or for `looks` checks.
 /// Records the order in which jobs enter.
 #[derive(Drop)]
 struct Turns {
     // bit k of `waits[j]`: job j waits for job k
     waits: [u8; 4],
-    // how often a held job checks for the jobs that it waits for
+    // the most checks of a held job for the jobs that it waits for
     looks: u32,
     // the position of each job in the order of entering, from 1; 0 before the job enters
     entries: [AtomicU64; 4],

@@ -193,7 +193,8 @@ gap_beside v cell p cells size are col some above below not_all =
       ],
     ))
 
--- If the three cells of a row around a cell have data, no place of that row around it is a gap.
+-- Let the grid have p's row and the column after p's, and let p be in the cell's column. If the
+-- three cells at and beside p have data, no place around the cell in p's row is a gap.
 pub no_gap_beside : (v : View (Option ℤ)) (cell p q : Place) (cells : List (Option ℤ))
     → length cells ≡ 3 → AreBeside v p cells → p.col ≡ cell.col → (p.row < v.cutting.rows)
     × (p.col + 1 < v.cutting.cols)

@@ -1,6 +1,6 @@
 -- A table lists the places of labels, and each cell has an index into it. If the next cell's label
--- is found in the table or appended to it, table and indexes still fit (`IsTable`). The cells
--- before it keep their labels.
+-- is found in the table or appended to it, table and indexes still fit (`IsTable`). The earlier
+-- cells keep their labels.
 use Rattle.std.proofs.Common.{◌≡◌, ◌≢◌, ◌==◌, ℕ, ◌+◌, ◌<◌, ◌≤◌, inl, inr, zero, suc, List, [], ◌∷◌, ◌++◌, length, get_or, Option, None, Some, ◌∙◌, sym, ap, subst, refl, arith}
 use Rattle.std.specs.Prelude.{IsSome}
 use Rattle.std.specs.List.{All}

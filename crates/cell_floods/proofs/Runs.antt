@@ -1,5 +1,4 @@
--- If all cells of a run, a slice of a list of cells, have data, so have the list's cells at the
--- run's indexes.
+-- All cells of a slice have data exactly if all of the list's cells at the slice's indexes have.
 use Rattle.std.proofs.Common.{◌≡◌, ℕ, ◌+◌, ◌-◌, ◌<◌, ◌≤◌, ℤ, List, length, get_or, drop, slice_range, Option, None, IsSome, ◌∙◌, sym, ap, subst, arith}
 use Rattle.std.specs.List.{EachIndex}
 use Rattle.std.proofs.lemmas.List.{get_or-take, get_or-drop, length-take-le, length-drop}

@@ -127,7 +127,7 @@ mapped_entry b xs p size i =
     ∙ ap (label_of_node b) (sym (entry_in-inside b xs p i))
 
 -- Each data cell of the tile has its level and its label in these lists, other cells have None. `b`
--- has the tile's bounds, which are in the limits.
+-- has the tile's bounds, which lie within 4,096 by 4,096 cells.
 pub record AreTileLevels (t : Terrain) (c : Cutting) (tile : ℕ) (b : Bounds)
     (levels : List (Option ℤ)) (labels : List (Option Place)) : Type 0 where
   pub bounds : b ≡ bounds_of c tile

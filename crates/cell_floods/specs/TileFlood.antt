@@ -78,7 +78,7 @@ level_in f p = entry_in f.bounds f.levels p
 abbrev pub label_in : Flood → Place → Option Place
 label_in f p = entry_in f.bounds f.labels p
 
--- The invariant of a `TileFlood`: bounds in the limits, labels by a table, an entry for each cell.
+-- A `TileFlood`'s invariant: bounds within 4,096 by 4,096, labels by a table, an entry a cell.
 pub record IsFlood (f : Flood) : Type 0 where
   pub labels : f.labels ≡ labels_by f.table.places f.table.indexes
   pub table : IsTable f.table.places f.table.indexes

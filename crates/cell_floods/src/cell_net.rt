@@ -342,7 +342,7 @@ impl Net for CellNet {
         }
     }
 
-    /// Tests runs from multiples of [`RUN`] alone.
+    /// Tests only runs that begin at a multiple of [`RUN`].
     /// So a cell without data makes few tests fail.
     #[inline]
     fn next_candidate(&self, from: u32) -> u32 {

@@ -1,7 +1,7 @@
 //! The cells of a tile or a grid as a net, with neighbours joined, and the flood of that net.
 //!
-//! A flood finds each cell's least crest, its level, and a place where a path of that crest ends,
-//! its label.
+//! A flood finds the level and the label of each data cell. The level is the least crest of the
+//! cell's paths, and the label is the place where a path of that crest ends.
 //!
 //! [`tile_flood`] floods one tile, [`filled_heights`] a whole grid at once.
 //!

@@ -1,5 +1,5 @@
--- Finds the scaled value of a word (its number in units of 10^-d) from its sign and the digits
--- before and after its point. Up to 16 digits at a text's front spell a value as `IsPlain` says.
+-- A word's scaled value (its number in units of 10^-d) follows from its sign and its digits around
+-- its point. 1 to 16 digits after an optional `-` spell it (`IsPlain`), if its size is up to 10^18.
 use Rattle.std.proofs.Common.{◌≡◌, ℕ, ◌+◌, ◌*◌, ◌-◌, ◌^◌, ◌<◌, ◌≤◌, min, Bool, true, false, ◌&&◌, ◌||◌, cond, nat_le, nat_lt, ◌==◌, List, [], ◌∷◌, ◌++◌, length, take, drop, fold, replicate, Option, None, Some, ℤ, pos, neg_ℤ, inl, inr, arith, refl, ap, sym, ◌∙◌, suc, zero, add-one}
 use Rattle.std.specs.List.{list_any, list_all, position_or_len, before_first, after_first}
 use Rattle.std.specs.Char.{is_ascii_digit}
@@ -31,8 +31,8 @@ take-padded (suc d) k (x ∷ xs) h =
     ap (λ z. x ∷ z) (take-padded d k xs (omega arith))
     ∙ ap (λ n. x ∷ take d xs ++ replicate n 48) left
 
--- the number that `a` and then d digits spell, those of `xs` padded with zeros, comes from that of
--- `a` by two folds. They go over the first d digits of `xs`, then over the zeros.
+-- `a`, the first d digits of `xs`, and a 0 for each missing one spell a number. Two folds find it
+-- from the number of `a`: the first over the digits of `xs`, the second over the zeros.
 pub number_of-padded : (d : ℕ) (a xs : List ℕ) → number_of (a ++ take d (xs ++ replicate d 48))
     ≡ fold (λ n b. 10 * n + (b - 48)) (fold (λ n b. 10 * n + (b - 48)) (number_of a) (take d xs))
     (replicate (d - min d (length xs)) 48)
@@ -68,8 +68,8 @@ mantissa-plain : (w : Word) → has_exponent w ≡ false → mantissa w ≡ with
 mantissa-plain w h =
     before_first-none is_exponent_mark (without_sign w) (list_any-without_sign is_exponent_mark w h)
 
--- a word without exponent has no scaled value unless `a` before its point and `b` after it are one
--- or more digits together
+-- let a word without exponent have, after its sign, `a` before its point and `b` after it. If `a`
+-- and `b` together are empty or have a byte other than a digit, the word has no scaled value.
 pub scaled_value-not_digits : (d : ℕ) (w a b : Word) → has_exponent w ≡ false →
     a ≡ before_first is_point (without_sign w) → b ≡ after_first is_point (without_sign w) →
     are_digits (a ++ b) ≡ false → scaled_value d w ≡ None
@@ -83,9 +83,9 @@ option_map-cond : (t : Bool) (n : ℕ) (g : ℕ → ℤ) →
 option_map-cond true n g = refl
 option_map-cond false n g = refl
 
--- The scaled value of a decimal text `w` without exponent is `size` with the sign of `w`. `size` is
--- the number that `a` and d digits of `b` spell. It is `None` if that number is above 10^18, or a
--- later digit of `b` is not 0.
+-- A decimal text `w` without exponent has digits `a` before its point and `b` after it. Its scaled
+-- value is `size` with the sign of `w`. `size` is the number that `a` and the first d digits of `b`
+-- (0 for a missing one) spell; `None` if it is above 10^18, or a later digit of `b` is not 0.
 pub scaled_value-digits : (d : ℕ) (w a b : Word) (size : Option ℕ) → has_exponent w ≡ false →
     a ≡ before_first is_point (without_sign w) → b ≡ after_first is_point (without_sign w) →
     are_digits (a ++ b) ≡ true → size ≡ cond (list_all (λ x. x == 48) (drop d b)

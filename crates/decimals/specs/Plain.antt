@@ -1,4 +1,4 @@
--- The first bytes of a text spell a number: what the fast path `plain_number` promises.
+-- Defines that the first bytes of a text spell a value, as `plain_number` promises.
 -- Source: this project.
 -- Public.
 use Rattle.std.specs.Prelude.{◌≡◌, ℕ, ◌≤◌, ◌<◌, ℤ, List, length, take, false, Some}

@@ -12,7 +12,7 @@ use crate::digits::{OVER, all_digits, are_digits, digits_after};
 /// The most digits of a height in units; 10^15 has this many.
 const HEIGHT_DIGITS: usize = 16;
 
-/// Whether a word is a decimal text, as `-12.5` or `3E2`.
+/// Returns whether a word is a decimal text, as `-12.5` or `3E2`.
 ///
 /// A decimal text has an optional sign, one or more digits with at most one point, and an optional
 /// exponent.
@@ -26,7 +26,7 @@ pub fn is_decimal(word: &[u8]) -> bool
         && (!has_exponent(word) || are_digits(without_sign(exponent)))
 }
 
-/// Whether a decimal text is above 0: no `-`, and a digit before the exponent is not 0.
+/// Returns whether a decimal text is above 0: no `-` in front, and a mantissa other than 0.
 pub fn is_above_zero(word: &[u8]) -> bool
     ensures { result ≡ is_above_zero word.now }
 {

@@ -9,7 +9,6 @@ use Rattle.tiles.specs.Cutting.{Cutting, IsCutting, IsWithin, IsInTile, bounds_o
 use Rattle.drain.specs.Entering.{IsInterior}
 use Rattle.tiles.proofs.Cut.{in_bounds, in_tile, tile_of_place_below}
 
--- a place that touches one outside its tile lies on the rim of the tile
 pub on_rim : (c : Cutting) (p q : Place) → IsCutting c → IsWithin c p →
     (IsInTile c (tile_of_place c p) q → ⊥) → Touches p q → is_on_rim c p ≡ true
 on_rim c p q lawful within other touch =

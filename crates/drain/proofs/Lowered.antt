@@ -154,8 +154,8 @@ module _ (t : Terrain) (c : Cutting) (tile : ℕ) (steps : List (Option ℕ)) wh
     left = omega (arith, f.left, g.left);
   }
 
-  -- if change x is appended and its cell gets its lower count, the search has lowered that cell to
-  -- `x.count` (`IsLoweredTo`)
+  -- if change x is appended and the higher count of its cell set to `x.count`, the search has
+  -- lowered the cell's count to `x.count` (`IsLoweredTo`)
   pub reached_put : (old new : Lowered) (x : Change) →
       IsInTile c tile x.place → IsWalked (HasCountZero t steps) t x.place x.count →
       x.count < counts_in c tile steps old (index_of c.cols x.place) →

@@ -22,7 +22,7 @@ decided b d = elim (cases_Bool b) [
       inr (not_from_Decides b d fails)
 ]
 
--- whether some neighbour has a decidable property is decidable
+-- it is decidable whether some neighbour has a decidable property
 beside : (t : Terrain) (test : Place → Bool) (P : Place → Type 0) (p : Place) →
     ((q : Place) → IsNeighbour t p q → Decides (test q) (P q)) →
     Decides (list_any (λ q. is_next t p q && test q) (field t)) ((q : Place) × IsNeighbour t p q

@@ -1,6 +1,6 @@
--- A list of entries grows by one after another. An entry is a lower count that follows from a
--- neighbour in another tile. Of neighbours p and q of one height, p's count is at most one above
--- q's, or an entry lowers it so far (`AreEntered`). This holds for each pair looked at.
+-- A list of entries grows entry by entry. An entry is a lower count that follows from a neighbour
+-- in another tile. For each pair (p, q) looked at of neighbours of one height, p's count or an
+-- entry's for p is at most one above q's (`AreEntered`).
 use Rattle.std.proofs.Common.{◌≡◌, ◌≢◌, ℕ, ◌+◌, ◌^◌, ◌<◌, ◌≤◌, ◌⊎◌, inl, inr, List, [], ◌∷◌, ◌++◌, length, Option, Some, ℤ, is_some, unwrap_or, sym, ap, subst, refl, ◌∙◌, arith}
 use Rattle.std.specs.Prelude.{slice_get, Contains}
 use Rattle.std.proofs.lemmas.Bool.{cases_eq}

@@ -1,4 +1,5 @@
--- If a round over all tiles of a filled terrain changes nothing, the counts are the steps.
+-- In a filled terrain, counts that a round over all tiles leaves unchanged are the steps. Each cell
+-- that drains at once must have the count 0.
 use Rattle.std.proofs.Common.{◌≡◌, inl, inr, ℕ, ◌*◌, ◌^◌, ◌<◌, ◌≤◌, List, [], ◌∷◌, length, Option, None, Some, is_some, IfSome, MatchOption, sym, ap, subst, refl, ◌∙◌, arith}
 use Rattle.std.proofs.lemmas.Bool.{false≢true}
 use Rattle.std.proofs.lemmas.Option.{MatchOption-at_some}
@@ -141,8 +142,8 @@ begun_counting t counts begun = record {
       input) (begun_walked (HasCountZero t counts) t counts begun (begun_zeros t counts begun));
 }
 
--- counts of a round for walks to places of A are those for walks to places of B, if A implies B,
--- with any sinks
+-- counts of a round with walks to places of A are also those of a round with walks to places of B,
+-- if A implies B, with any sinks
 pub round_to : (A B : Place → Type 0) (t : Terrain) (sinks : List Place) (c : Cutting) (tile : ℕ)
     (old new : List (Option ℕ)) → ((p : Place) → A p → B p) →
     IsRound A t c tile old new → IsRound B (with_sinks t sinks) c tile old new

@@ -390,7 +390,7 @@ next_none r rounding = record {
   low = omega arith;
 }
 
--- if each of two rounds keeps the cells of count 0, the first state and the last have the same ones
+-- if each of two rounds keeps the cells of count 0, the last state has those of the first state
 zeros_on : (first second : Rounding) (third : List (Option ℕ)) → second.cutting ≡ first.cutting →
     second.levels ≡ first.levels → HaveSameZeros (levels_of first) first.steps second.steps →
     HaveSameZeros (levels_of second) second.steps third →

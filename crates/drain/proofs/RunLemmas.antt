@@ -1,5 +1,6 @@
--- A list with one element appended has the old elements and that one. A list of runs, or of their
--- results, covers the entries before its last run's end. A run is the range of one tile's entries.
+-- A list with one element appended has the old elements and that one. If runs, or their results,
+-- cover the entries before a further run, with that run they cover the entries before its end. A
+-- run is the range of one tile's entries.
 use Rattle.std.proofs.Common.{◌≡◌, ℕ, ◌+◌, ◌<◌, ◌≤◌, ◌⊎◌, inl, inr, List, [], ◌∷◌, ◌++◌, length, Some, Vec, Global, sym, ap, subst, ◌∙◌, arith}
 use Rattle.std.specs.Prelude.{slice_get}
 use Rattle.std.proofs.lemmas.Bool.{cases_eq, cases_lt}
@@ -12,7 +13,6 @@ use Rattle.drain.specs.declared.changes.Change.{Change}
 use Rattle.drain.specs.declared.changes.Run.{Run}
 
 module _ {X : Type 0} (xs ys : List X) (y : X) (pushed : ys ≡ xs ++ y ∷ []) where
-  -- an element of the longer list is an old one or the last
   pub at_push : (k : ℕ) (x : X) → slice_get ys k ≡ Some x → (slice_get xs k ≡ Some x)
       ⊎ ((k ≡ length xs) × (y ≡ x))
   at_push k x at =

@@ -173,7 +173,7 @@ pub shown_all : {X : Type 0} (cols rows : ℕ) (entries : List X) (none : X) (b 
 shown_all cols rows entries none b end shown whole f =
     λ s spot. f.each s spot (omega (arith, spot_below b s spot))
 
--- a list up to the last spot has the values of all spots, under equal bounds
+-- a list made up to the last spot has the values of all spots; b and c are equal bounds
 pub shown_whole : {X : Type 0} (cols rows : ℕ) (entries : List X) (none : X) (b c : Bounds)
     (end : ℕ) (shown : List X) → b ≡ c → end ≡ (b.rows + 2) * (b.cols + 2) →
     AreShownBelow cols rows entries none b end shown → (length shown ≡ area_of c)

@@ -142,9 +142,9 @@ module _ (level : ℤ) (heights : List (Option ℤ)) (parity : ℕ) (lowest : �
         ]
       ]
 
--- The first `turn` ways of a parity were looked at, and the first `turns` lie above `lowest`. If
--- `is_past`, these are all that were looked at. If not, the height on the parity's next way is
--- not above `lowest`.
+-- The first `turn` ways of a parity were looked at. The heights on the first `turns` of them are
+-- above `lowest`. If `is_past`, `turns` is `turn`. If not, `turns` is less, and the height on the
+-- parity's way `2 * turns + parity` is not above `lowest`.
 pub record ArePast (level : ℤ) (heights : List (Option ℤ)) (parity : ℕ) (lowest : ℤ)
     (turns turn : ℕ) (is_past : Bool) : Type 0 where
   pub past : (other : ℕ) → other < turns → lowest <ℤ height_on level heights parity other

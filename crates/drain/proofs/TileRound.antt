@@ -339,7 +339,7 @@ module _ (t : Terrain) (c : Cutting) (tile : ℕ) (b : Bounds) (steps shown : Li
     kept = kept_here;
   }
 
--- two views with one cutting and one tile have the same window
+-- window counts by w's cutting and tile are those by v's, if cuttings and tiles are equal
 pub input_to : (v : View (Option ℤ)) (w : View (Option ℕ)) (b : Bounds) (old : List ℕ) →
     w.cutting ≡ v.cutting → w.tile ≡ v.tile → b ≡ bounds_of v.cutting v.tile →
     AreWindowCounts w.cutting.cols w.cutting.rows w.cells (bounds_of w.cutting w.tile) old →

@@ -34,7 +34,7 @@ some_cols cols rows i h = elim (cases_eq cols 0) [
   | inr ne ↦ omega arith
 ]
 
--- a property of each place inside holds at each index
+-- a property of the indexes of all places of a grid holds at each index of the grid
 pub at_place : (P : ℕ → Type 0) (cols rows : ℕ) → ((p : Place) → p.row < rows → p.col < cols →
     P (index_of cols p)) → (i : ℕ) → i < cols * rows → P i
 at_place P cols rows each i h =

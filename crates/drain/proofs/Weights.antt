@@ -48,7 +48,6 @@ drop_from_weight way drop h =
           | inr e ↦ (let is : weight way drop ≡ drop * drop = cond-false _ _ _ e in omega arith)
         ]
 
--- if no weight is above 0, no way leads down
 pub no_way_down : (a : Around) → fold max 0 (weights a) ≤ 0 →
     list_any (λ w. ltb 0 (drop_to a.level w)) a.ways ≡ false
 no_way_down a h =

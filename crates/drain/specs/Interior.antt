@@ -1,7 +1,7 @@
--- Which way down is the steepest, by the eight heights around a cell, and how lists read by index
--- give an interior cell's surroundings. Surroundings are heights and steps of a cell and its
--- neighbours. An interior cell has eight places of the grid around it. Ways are the eight
--- directions, from 0 to 7 in code order.
+-- The steepest way down by the eight heights around a cell, and an interior cell's surroundings by
+-- indexes into lists. Surroundings are heights and steps of a cell and its neighbours. An interior
+-- cell has eight places of the grid around it. Ways are the eight directions, from 0 to 7 in code
+-- order.
 -- Private.
 use Rattle.std.specs.Prelude.{◌≡◌, ℕ, ◌+◌, ◌%◌, ◌<◌, ◌≤◌, ◌*◌, ◌⊎◌, ◌==◌, max, ℤ, ◌-ℤ◌, ◌≤ℤ◌, List, length, fold, Option, None, Some, option_map, unwrap_or, position, slice_index_or}
 use Rattle.std.specs.Option.{option_zip}

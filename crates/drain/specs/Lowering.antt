@@ -117,7 +117,7 @@ pub record IsLoweredTo (t : Terrain) (c : Cutting) (tile : ℕ) (steps : List (O
   pub left : length new.changes.items + total (c.cols * c.rows) (counts_in c tile steps new)
       ≤ length old.changes.items + total (c.cols * c.rows) (counts_in c tile steps old)
 
--- No cell has a count above that of an entry for the cell at an index in `from..end`.
+-- For each entry at an index in `from..end`, the count of its cell is at most the entry's count.
 pub record IsEntered (c : Cutting) (entries : List Entry) (from end : ℕ)
     (counts : ℕ → ℕ) : Type 0 where
   pub each : (k : ℕ) (e : Entry) → from ≤ k → k < end → slice_get entries k ≡ Some e →

@@ -22,8 +22,8 @@ abbrev pub IsWalked : (Place → Type 0) → Terrain → Place → ℕ → Type 
 IsWalked Ends t p n =
     (n < 2 ^ 24) × (rest : List Place) × IsWalkAtOneHeight Ends t p rest × (length rest ≡ n)
 
--- Each known count of the list, in row order, is the length of a walk at one height to a cell of
--- `Ends`.
+-- Each known count of the list, in row order, is below 2^24 and the length of a walk at one height
+-- to a cell of `Ends`.
 abbrev pub AreWalked : (Place → Type 0) → Terrain → List (Option ℕ) → Type 0
 AreWalked Ends t steps = (p : Place) → IfSome (entry_at t.cols t.rows steps p) (IsWalked Ends t p)
 

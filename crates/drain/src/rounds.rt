@@ -1,7 +1,7 @@
 //! Later rounds: they carry counts of steps over rims until a round changes nothing.
 //!
 //! An entry is a lower count that follows from a neighbour in another tile. The first few later
-//! rounds, and those with many or no entries, run as jobs. The others run on the caller's thread.
+//! rounds, and those with many or no entries, run as jobs. Other rounds run on the caller's thread.
 ghost use Rattle.std.specs.Prelude.{◌≡◌, ◌≢◌, ℕ, ◌*◌, ◌<◌, ◌≤◌, ◌↔◌, [], true, false, IsTrue, Vec, length, vec_len, OnOk, IfOk};
 ghost use Rattle.tile_jobs.specs.Fault.{RefusesWorkers};
 ghost use Rattle.tiles.specs.Cutting.{IsCutting, IsWithin, tile_of_place};

@@ -1,8 +1,8 @@
 //! The D8 direction of one cell: [`direction`].
 //!
-//! Ways are the eight directions, from 0 to 7 in code order. Those of parity 0, the even ones, lead
-//! along a row or column, the others across a diagonal. `steepest` finds the steepest way down by
-//! exact squares of drops. `onward` finds a way over the flat. Of equally good ways, both return
+//! Ways are the eight directions, from 0 to 7 in code order. Even ways, of parity 0, lead along a
+//! row or column, odd ways, of parity 1, across a diagonal. `steepest` finds the steepest way down
+//! by exact squares of drops. `onward` finds a way over the flat. Of equally good ways, both return
 //! the first.
 ghost use Rattle.std.specs.Prelude.{◌≡◌, ◌*◌, ◌<◌, ◌≤◌, ◌<ℤ◌, ◌≤ℤ◌, ℕ, IfSome, IsTrue, Some, None, option_map, slice_index_or, position};
 ghost use Rattle.std.specs.Bool.{MatchBool};
@@ -61,6 +61,7 @@ fn is_above(height: Height, lowest: Height) -> bool
 }
 
 /// Returns the first way of `parity` with height `lowest`, else the last of `parity`.
+/// A way without a height counts as one with height `level`.
 // Without an early return: a processor seldom predicts which way is lowest.
 #[inline(always)]
 fn first_lowest(

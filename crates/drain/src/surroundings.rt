@@ -1,7 +1,7 @@
 //! Finds the direction codes of a tile's cells.
 //!
 //! Cells in the grid's first or last row or column, the outermost cells, get codes by
-//! [`Around`](crate::Around). All others get codes by `interior`.
+//! [`Around`](crate::Around). All other cells get codes by `interior`.
 ghost use Rattle.std.specs.Prelude.{◌≡◌, ◌+◌, ◌*◌, ◌<◌, Some, None, length, OnOk, IfOk};
 ghost use Rattle.std.specs.Option.{option_zip};
 ghost use Rattle.terrain.specs.Raster.{IsTerrain};

@@ -98,7 +98,7 @@ fn least_of_three(window: &Window, counts: &[u32], from: Place, level: Cell, bou
     least
 }
 
-/// Returns 1 plus the least count among spots around `spot`, at most `bound`.
+/// Returns 1 plus the least count at and around `spot`, at most `bound`.
 /// Spots of another height than `spot` are left out.
 #[inline(always)]
 fn least_around(window: &Window, counts: &[u32], spot: Place, bound: u32) -> u32

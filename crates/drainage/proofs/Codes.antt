@@ -1,5 +1,5 @@
--- What is shown for each of the nine codes holds for every code. The direction of a code but 0 is
--- the number of its trailing zeros.
+-- A property of each of the nine codes holds for each number that `IsCode` allows. The direction
+-- of a code other than 0 is the number of its trailing zeros, which is below 8.
 use Rattle.std.proofs.Common.{◌≡◌, ◌≢◌, ℕ, ◌<◌, List, [], ◌∷◌, true, inl, inr, Some, subst, sym, refl, ◌==◌, lit<}
 use Rattle.std.proofs.lemmas.Bool.{or_cases, eqb-true}
 use Rattle.std.specs.List.{list_any}
@@ -26,7 +26,6 @@ cases_code P zero each n is = elim (or_cases _ _ is) [
   | inr any ↦ of_list P way_codes each n any
 ]
 
--- the direction of a code other than 0 is the number of its trailing zeros, which is below 8
 pub way_by_zeros : (n : ℕ) → IsCode n → n ≢ 0 → (way_of n ≡ Some (count_trailing_zeros 8 n))
     × (count_trailing_zeros 8 n < 8)
 unfolding count_trailing_zeros

@@ -1,4 +1,4 @@
--- A test whether a cell has a path to an end cell with a crest of at most c.
+-- A test (`reaches`) whether some path from a cell to an end cell has a crest of at most c.
 use Rattle.std.proofs.Common.{◌≡◌, ℕ, zero, suc, ◌+◌, ◌*◌, ◌/◌, ◌%◌, ◌<◌, Bool, true, not, ◌&&◌, ◌||◌, leb, List, [], ◌∷◌, map, is_some, ℤ, ◌≤ℤ◌, ap, ◌∙◌, arith, inl, inr}
 use Rattle.std.specs.Prelude.{◌==◌, int_le}
 use Rattle.std.specs.List.{list_any, range_with_len}

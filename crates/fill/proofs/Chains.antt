@@ -1,5 +1,5 @@
 -- Each new join is linked to the previous join of each of its two labels. Then the linked list of
--- each label has just the arcs of all joins from that label.
+-- each label has just the arcs from that label.
 use Rattle.std.proofs.Common.{◌≡◌, ◌≢◌, ℕ, zero, suc, ◌+◌, ◌-◌, ◌<◌, ◌≤◌, ◌⊎◌, ◌↔◌, inl, inr, true, false, ℤ, pos, List, [], ◌∷◌, ◌++◌, length, get_or, set, replicate, ◌∙◌, sym, ap, subst, refl, arith}
 use Rattle.std.proofs.lemmas.Bool.{cases_eq, cases_lt, cond-true, cond-false, eq-eqb, ne_eqb}
 use Rattle.std.proofs.lemmas.List.{ext_get_or, length-map, length-set, length_push, length-replicate, get_or-replicate, get_or-set_same, get_or-set_other, get_or_append_left, get_or_push, get_or_default, get_or_past, append-nil, append_assoc}
@@ -354,7 +354,7 @@ some_arc lasts joins previous label linked low =
           ∙ chain_none (link_at joins previous label) (length previous)),
     )
 
--- The arcs from a label are `done`, and then those from join `at` on.
+-- The arcs from a label are `done`, and then those of its joins from `at` back to its first.
 pub record IsOnChain (lasts : List ℕ) (joins : List Join) (previous : List PreviousJoins)
     (label : ℕ) (done : List Spill) (at : ℕ) : Type 0 where
   pub inside : at ≤ length previous

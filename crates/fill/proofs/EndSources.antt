@@ -109,8 +109,8 @@ put_length cols (Some p) (Some h) heights = length-set heights (index_of cols p)
 abbrev IsEndNode : Terrain → Cutting → ℕ → ℤ → Type 0
 IsEndNode t c a h = (p : Place) × (index_of c.cols p ≡ a) × IsEnd t p × (height_at t p ≡ Some h)
 
--- Each entry of `heights` is None or the height of an end cell. Each label of the first `count`
--- tiles that is an end cell has its height at its node.
+-- An entry of `heights` is None or the height of an end cell whose node is the entry's index. Each
+-- label of the first `count` tiles that is an end cell has its height at its node.
 pub record HaveEnds (t : Terrain) (c : Cutting) (floods : List Flood) (count : ℕ)
     (heights : List (Option ℤ)) : Type 0 where
   pub size : length heights ≡ c.cols * c.rows

@@ -1,5 +1,5 @@
 -- The spill graph with labels given by number: its arcs are those of the joins. A flood from the
--- sources that have arcs gives the least crest of each label.
+-- sources that have arcs, with the heights of other sources, gives each label's least crest.
 use Rattle.std.proofs.Common.{◌≡◌, ℕ, zero, suc, ◌+◌, ◌<◌, ◌⊎◌, ◌↔◌, inl, inr, true, false, ℤ, pos, ◌≤ℤ◌, List, [], ◌∷◌, ◌++◌, length, get_or, replicate, Option, None, Some, is_some, unwrap_or, ◌∙◌, sym, ap, subst, refl, arith}
 use Rattle.std.specs.Prelude.{IsSome, MatchOption}
 use Rattle.std.specs.Int.{int_max}

@@ -1,4 +1,4 @@
--- The least crests of the spill graph raise the levels of tiles to the filled heights.
+-- The least crests of any net of labels (`IsLabelNet`) raise levels to the filled heights.
 use Rattle.std.proofs.Common.{◌≡◌, ℕ, ◌<◌, inl, inr, ℤ, pos, ◌≤ℤ◌, List, [], ◌∷◌, length, get_or, Option, None, Some, is_some, unwrap_or, ◌∙◌, sym, ap, subst, refl, arith}
 use Rattle.std.specs.Prelude.{slice_get, option_and_then, IsSome, ◌≢◌, ◌⊎◌}
 use Rattle.std.specs.Int.Signed.{≤ℤ_refl}
@@ -74,8 +74,8 @@ level_has_data t c floods h are p l within e = elim (cases_option (height_at t p
       none_some _ l (among_is (λ f. level_in f p) floods tile f.0 f.1 ∙ here.0) e
 ]
 
--- A low path has a crest of at most m. If a cell's neighbour has one, so has the cell, if its
--- height is at most m.
+-- A low path has a crest of at most m. If a neighbour of a cell of height at most m has a low path,
+-- so has the cell.
 low_step : (t : Terrain) (m : ℤ) (p q : Place) → IsNeighbour t p q → height_of t p ≤ℤ m →
     HasLowPath t m q → HasLowPath t m p
 low_step t m p q next low way =
@@ -217,7 +217,7 @@ pub record IsLabelNet (t : Terrain) (c : Cutting) (floods : List Flood) (number 
 module _ (t : Terrain) (c : Cutting) (floods : List Flood) (h : IsCutting c)
     (are : AreFloods t c floods) (number : Place → Option ℕ) (joins : Joins) (source : Sources)
     (net : IsLabelNet t c floods number joins source) where
-  -- If a cell's label is a source, the label has a walk of crest at most any bound on the level.
+  -- If a cell's level is at most m and its label a source, the label has a walk of crest at most m.
   source_walk : (p : Place) (a : ℕ) (l : HasTileLevel t c floods p) (m : ℤ) →
       IsDataCell t p → number p ≡ Some a → l.level ≤ℤ m → IsSome (source a) → (walk : List Spill)
       × IsWalk joins source a walk × (walk_crest source a walk ≤ℤ m)

@@ -17,5 +17,5 @@ mod Lowest
 mod Placed
 pub mod Gathered
 mod EndSources
--- Raising, and all tiles together.
+-- Raised heights are filled heights, in a tile and in the grid.
 pub mod Raised

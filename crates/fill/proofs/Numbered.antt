@@ -1,6 +1,6 @@
 -- In lists over all tiles, a label's number finds its place and, if it is an end cell, its height.
--- So the spill graph with labels given by number is a net whose nodes are labels (`IsLabelNet`):
--- its joins are those of neighbouring cells, and its sources are the labels that are end cells.
+-- So the spill graph with labels given by number is a net whose nodes are labels (`IsLabelNet`).
+-- Each join is one of neighbouring cells, and the sources are the labels that are end cells.
 use Rattle.std.proofs.Common.{◌≡◌, ℕ, zero, suc, ◌+◌, ◌*◌, ◌<◌, ◌≤◌, ◌≤ℤ◌, ◌⊎◌, inl, inr, ℤ, List, [], ◌∷◌, length, get_or, take, Option, None, Some, ◌∙◌, sym, ap, subst, refl, arith}
 use Rattle.std.specs.Prelude.{slice_get, option_map}
 use Rattle.std.specs.List.{flat_map}

@@ -134,7 +134,7 @@ raised_by_table c f places cells heights levels spills raised are table where_is
           ∙ by.each i (omega (arith, low, same));
     }
 
--- The stored raised height is the same if the least crest was stored as a cell before.
+-- If h is at most NODATA's number, storing the least crest first changes no stored raised height.
 greater_stored : (h : ℤ) (spill : Option ℤ) → h ≤ℤ no_data →
     cell_of (greater_of (Some h) (cell_of spill)) ≡ cell_of (greater_of (Some h) spill)
 greater_stored h None low = refl

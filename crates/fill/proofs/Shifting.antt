@@ -151,7 +151,7 @@ module _ (t : Terrain) (c : Cutting) (floods : List Flood)
     },
   )
 
-  -- The shifted labels of the joins inside the tile fit in 32 bits.
+  -- If the table's numbers fit in 32 bits, so do the shifted labels of the joins inside the tile.
   pub inner_few : (inner : List Join) →
       first_of floods tile + length f.table.places ≤ 4294967295 → IsInnerOf spare f inner →
       All (λ j. (first + j.from ≤ 4294967295) × (first + j.to ≤ 4294967295)) inner
@@ -204,7 +204,7 @@ module _ (t : Terrain) (c : Cutting) (floods : List Flood)
             ];
       })
 
-  -- Adding the joins inside the tile and then those over its rim adds all that begin in it.
+  -- Adding the joins inside the tile, then those over its rim, adds all joins from its cells.
   pub tile_adds : (old now new : List Join) → Adds (mark_among c floods) (left_out_of spare floods)
       (λ p q. IsInTile c tile p × IsInTile c tile q) old now → Adds (mark_among c floods)
       (left_out_of spare floods) (λ p q. IsInTile c tile p × IsOutside c tile q) now new →

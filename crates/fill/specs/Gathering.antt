@@ -163,8 +163,8 @@ abbrev pub AddsNear : Flood → LeftOutJoins → CellMark → ℕ → List Join 
 AddsNear f out from near old new =
     AddsCovered old (joins_of out.sources from (mark_with 0 f near)) new
 
--- `AddsNear` holds of two cells that touch at a corner. Or no join has been added, and the cell at
--- index `below` or the cell at index `beside` bypasses their join.
+-- The join of two cells that touch at a corner has been added, if any (`AddsNear`). Or none has
+-- been added, bypassed joins are left out, and the cell at index `below` or `beside` bypasses it.
 abbrev pub AddsCorner : Flood → LeftOutJoins → CellMark → ℕ → ℕ → ℕ → List Join → List Join →
     Type 0
 AddsCorner f out from below beside near old new =

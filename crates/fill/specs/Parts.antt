@@ -19,7 +19,8 @@ pub record BeginAt (joins : List Join) (node start : ℕ) : Type 0 where
 abbrev pub graph_with : Cutting → List Join → List (Option ℤ) → Graph
 graph_with c joins sources = record { nodes = c.cols * c.rows; joins = joins; sources = sources }
 
--- Each node has a source entry. The joins, between nodes, are in order and in both directions.
+-- `sources` has an entry for each node, None where the node is no source. The joins, between nodes,
+-- are in order and in both directions.
 pub record IsGraph (g : Graph) : Type 0 where
   pub sources : length g.sources ≡ g.nodes
   pub ends : All (λ j. (j.from < g.nodes) × (j.to < g.nodes)) g.joins

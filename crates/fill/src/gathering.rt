@@ -1,6 +1,6 @@
 //! Gathers the joins inside all tiles and those over their rims in one list: [`graph_joins`].
 //!
-//! A join gives each label by its number, which counts the labels of all tiles, tile by tile.
+//! A join gives a label by its number, which counts the entries of all tiles' tables of labels.
 ghost use Rattle.std.specs.Prelude.{◌≡◌, Bool, ◌+◌, ◌<◌, ◌≤◌, ◌++◌, IfOk, OnOk, length, map};
 ghost use Rattle.std.specs.List.{All};
 ghost use Rattle.terrain.specs.Raster.{Terrain};
@@ -30,7 +30,7 @@ fn push_shifted(joins: &mut Vec<Join>, first: u32, inner: &[Join]) -> Result<(),
 }
 
 /// Returns the joins inside tiles and over rims, except those that `left_out` names.
-/// `inner` has the joins inside each tile, except those that `left_out` names.
+/// `inner` has those inside each tile, with labels by index in the tile's table.
 pub(crate) fn graph_joins(
     alloc: Global,
     tiles: &NumberedFloods<'_>,

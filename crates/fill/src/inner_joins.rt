@@ -1,7 +1,7 @@
 //! Finds the joins between the labels of one tile: [`inner_joins`].
 //!
 //! A label is given by its index in the tile's table, which lists the tile's labels. Each pair of
-//! neighbouring cells is looked at once, from the cell that comes first in row order. The four
+//! neighbouring cells is visited once, from the cell that comes first in row order. The four
 //! places after a cell are those E, SE, S and SW of it.
 ghost use Rattle.std.specs.Prelude.{◌≡◌, ◌+◌, ◌<◌, ◌≤◌, [], Some, slice_index_or, MatchOption, IfOk, OnOk, length};
 ghost use Rattle.std.specs.Bool.{OnTrue};
@@ -9,7 +9,7 @@ ghost use Rattle.tiles.specs.Cutting.{IsInBounds};
 ghost use Rattle.fill.specs.Gathering.{IsInner, AreEqualAfter, Adds, AddsAfter, AddsCorner, AddsNear, mark_in, mark_with};
 
 use crate::join_table::JoinTable;
-use crate::left_out::{LeftOut, is_left_out, join_of};
+use crate::left_out::{LeftOut, is_bypassed, join_of};
 use crate::marks::{CellMark, mark_in, mark_of_entry};
 use crate::rim_cells::{JoinList, MarkedCells, push_join, push_outer_cells};
 use crate::spills::Join;
@@ -49,7 +49,7 @@ fn has_same_label(flood: &TileFlood, first: usize, second: usize) -> bool
     indexes[first] == indexes[second]
 }
 
-/// Adds the join of the cells at indexes `index` and `near`, if they have one.
+/// Adds the join of the cells at indexes `index` and `near`, if [`join_of`] returns one.
 /// `from` is the mark (level and label) of the cell at `index`. Labels are compared first, since
 /// that is cheaper than reading a level.
 #[inline(always)]
@@ -102,10 +102,10 @@ fn push_corner(
     let Some(join) = join_of(left_out.sources, from, to) else {
         return Ok(());
     };
-    if is_left_out(left_out, from, mark_of_entry(flood, below), to) {
+    if is_bypassed(left_out, from, mark_of_entry(flood, below), to) {
         return Ok(());
     }
-    if is_left_out(left_out, from, mark_of_entry(flood, beside), to) {
+    if is_bypassed(left_out, from, mark_of_entry(flood, beside), to) {
         return Ok(());
     }
     table.add(join)
@@ -155,9 +155,9 @@ fn are_equal_after(labels: &[u32], index: usize, width: usize) -> bool
         & (labels[below + 1] == label)
 }
 
-/// Adds the joins of a cell, if the four places after it lie in the tile.
-/// Leaves out the joins that `left_out` names. Most cells have the same label as all four places,
-/// and so no join.
+/// Adds the joins of a cell with its neighbours after it in row order.
+/// The four places after the cell must lie in the tile. Leaves out the joins that `left_out` names.
+/// Most cells have the same label as all four places, and so no join.
 #[inline(always)]
 fn push_inner_cell(
     table: &mut JoinTable,

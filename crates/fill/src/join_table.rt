@@ -1,7 +1,7 @@
 //! Lists the joins inside one tile, seldom two with the same `from` and `to`: [`JoinTable`].
 //!
-//! A hash table finds a listed join that has both labels of a new one. Then only the lower of the
-//! two is kept.
+//! A hash table mostly finds a listed join with the `from` and `to` of a new one. Then only the
+//! lower of the two is kept.
 ghost use Rattle.std.specs.Prelude.{◌≡◌, ◌<◌, ◌≤◌, ◌∷◌, [], IfOk, OnOk, length};
 ghost use Rattle.std.specs.Bool.{OnTrue, OnFalse};
 ghost use Rattle.fill.specs.Gathering.{AddsCovered};

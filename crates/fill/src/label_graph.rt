@@ -1,7 +1,7 @@
 //! The spill graph of all tiles, with each label given by its number: [`LabelGraph`].
 //!
-//! Numbers count the labels of all tiles, tile by tile. `filled` makes this graph, and floods it to
-//! find each label's least crest to an end cell.
+//! Numbers count the entries of all tiles' tables of labels, tile by tile. `filled` makes this
+//! graph, and floods it to find each label's least crest to an end cell.
 ghost use Rattle.std.specs.Prelude.{◌≡◌, ◌<◌, ◌≤◌, IfOk, length, slice_index_or, None};
 ghost use Rattle.std.specs.List.{All};
 ghost use Rattle.fill.specs.LabelNet.{AreNumberLevels, HasArcsOf};

@@ -1,4 +1,4 @@
-//! Tells which joins are left out of the spill graph, as they lower no filled height: [`LeftOut`].
+//! The joins that the spill graph leaves out, since they lower no filled height: [`LeftOut`].
 ghost use Rattle.std.specs.Prelude.{◌≡◌, [], false, None, slice_index_or, is_some};
 ghost use Rattle.std.specs.Bool.{OnTrue};
 ghost use Rattle.std.specs.Option.{option_to_list};
@@ -10,8 +10,8 @@ use std::marker::Model;
 use terrain::Cell;
 
 /// The joins to leave out, since they lower no filled height.
-/// These are the joins of two labels that have heights in `sources`. If `bypassed`, they include
-/// joins of cells that touch at a corner, where the detour by a third cell is no higher.
+/// One kind is joins of two labels that both have heights in `sources`. The other, if `bypassed`,
+/// is joins of cells that touch at a corner, where the detour by a third cell is no higher.
 #[derive(Drop)]
 pub(crate) struct LeftOut<'a> {
     /// Empty, or the heights of labels that are end cells, no data for other labels.
@@ -79,12 +79,12 @@ pub(crate) fn join_of(sources: &[Cell], from: CellMark, to: Option<CellMark>) ->
     })
 }
 
-/// Returns whether to leave out the join of two cells that touch at a corner.
+/// Returns whether the join of two cells over a corner is left out as bypassed.
 /// `from` and `to` are their marks, and `between` is that of a cell beside both. If
-/// `left_out.bypassed`, the join is left out where the level of `between` is at most the greater of
-/// the other two levels. Then the detour by the cell between is no higher than the join.
+/// `left_out.bypassed`, a join is bypassed where the level of `between` is at most the greater of
+/// the other two. Then the detour is no higher. [`join_of`] leaves out joins of two sources.
 #[inline(always)]
-pub(crate) fn is_left_out(
+pub(crate) fn is_bypassed(
     left_out: &LeftOut<'_>,
     from: CellMark,
     between: Option<CellMark>,

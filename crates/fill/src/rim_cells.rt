@@ -1,15 +1,15 @@
 //! Finds the joins of cells in a tile's last row, first column and last column.
 //!
-//! [`push_outer_cells`] does so for one row. The four places after such a cell, those E, SE, S and
-//! SW of it, do not all lie in the tile. A [`MarkedCells`] has the mark (level and label) of each
-//! cell, and says with which cells joins are wanted.
+//! [`push_outer_cells`] adds those of one row. The four places after such a cell (E, SE, S and SW
+//! of it) do not all lie in the tile. A [`MarkedCells`] has the mark (level and label) of each
+//! cell, and says with which cells joins are wanted. Joins that a [`LeftOut`] names are left out.
 ghost use Rattle.std.specs.Prelude.{◌≡◌, ◌+◌, ◌<◌, ◌≤◌, ◌∷◌, [], List, Bool, Some, true, OnOk};
 ghost use Rattle.terrain.specs.declared.place.Place.{Place};
 ghost use Rattle.tiles.specs.Cutting.{IsInBounds, IsWithinLimits};
 ghost use Rattle.fill.specs.Gathering.{Adds, AddsCovered, IsOuterOfRow, IsPairFrom, IsPairOn, Marks, joins_of};
 ghost use Rattle.fill.specs.declared.spills.Join.{Join};
 
-use crate::left_out::{LeftOut, is_left_out, join_of};
+use crate::left_out::{LeftOut, is_bypassed, join_of};
 use crate::marks::CellMark;
 use crate::spills::Join;
 use std::alloc::AllocError;
@@ -41,7 +41,7 @@ pub(crate) trait JoinList {
 }
 
 /// Adds the join of two cells, by their marks, if their labels differ.
-/// Adds nothing if both labels have heights in `sources`.
+/// Adds nothing if `to` is `None`, or if both labels have heights in `sources`.
 #[inline(always)]
 pub(crate) fn push_join<J: JoinList>(
     joins: &mut J,
@@ -61,8 +61,7 @@ pub(crate) fn push_join<J: JoinList>(
 
 /// Adds the join of the cell at `place` with the cell in direction `way`, if wanted.
 /// `way` is 0 for E, 1 for SE, 2 for S or 3 for SW. `from` is the cell's mark, and `below` that of
-/// the place south of the cell. With `left_out.bypassed`, leaves out a diagonal join if the detour
-/// by a cell beside both is no higher than the join.
+/// the place south of the cell. Leaves out the joins that `left_out` names.
 #[inline(always)]
 fn push_on_way<C: MarkedCells, J: JoinList>(
     joins: &mut J,
@@ -94,14 +93,14 @@ fn push_on_way<C: MarkedCells, J: JoinList>(
         return Ok(());
     };
     if near.row != place.row {
-        if is_left_out(left_out, from, below, to) {
+        if is_bypassed(left_out, from, below, to) {
             return Ok(());
         }
         let beside = cells.mark(Place {
             row: place.row,
             col: near.col,
         });
-        if is_left_out(left_out, from, beside, to) {
+        if is_bypassed(left_out, from, beside, to) {
             return Ok(());
         }
     }

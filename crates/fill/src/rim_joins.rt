@@ -1,7 +1,7 @@
 //! Finds the joins of a tile's labels with labels of other tiles: [`push_rim_joins`].
 //!
-//! A label is given by its number, which counts the labels of all tiles, tile by tile. Each pair of
-//! neighbouring cells of two tiles is looked at once, from the cell that comes first in row order.
+//! A label is given by its number, which counts the entries of all tiles' tables, tile by tile.
+//! Each pair of neighbouring cells of two tiles is visited once, from the one first in row order.
 ghost use Rattle.std.proofs.Props.{props};
 ghost use Rattle.std.specs.Bool.{OnTrue};
 ghost use Rattle.std.specs.Prelude.{◌≡◌, ◌+◌, ◌<◌, ◌≤◌, OnOk};

@@ -1,6 +1,6 @@
 -- The invariant of a flood, `IsFlooding`, says which nodes have final levels and which have entries
--- in the queue. It holds at the start, when each source is queued at its height, its first level. A
--- push to the queue's heap adds one entry, a pop removes one.
+-- in the queue. Sources are queued one by one, each at its height, its first level. Takes drop the
+-- entries of labelled nodes, up to a lowest entry of an unlabelled node or until none is left.
 use Rattle.std.proofs.Common.{[], ◌≡◌, ℕ, ◌<◌, ◌≤◌, ◌⊎◌, ℤ, List, length, Option, None, Some, IsSome, zero, suc, ◌+◌, ◌∷◌, get_or, set, replicate, ◌≤ℤ◌, sym, ap, subst, refl, ◌∙◌, arith, inl, inr}
 use Rattle.std.specs.Int.{int_max}
 use Rattle.std.specs.List.{Contains, All}

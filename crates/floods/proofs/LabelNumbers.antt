@@ -1,5 +1,5 @@
--- Labels stored as numbers of 32 bits, the greatest for none: a new list has none, and one written
--- number is one label.
+-- Labels stored as numbers of 32 bits; the greatest number stands for no label. A new list has no
+-- label, and a label written at a node is the label there.
 use Rattle.std.proofs.Common.{◌≡◌, ℕ, zero, suc, ◌<◌, List, ◌∷◌, set, replicate, None, Some, ◌∙◌, ap, refl, Bool, true, false, if◌then◌else◌, ◌==◌, arith}
 use Rattle.std.proofs.lemmas.Bool.{eqb-true}
 use Rattle.std.proofs.lemmas.List.{map-set}

@@ -1,5 +1,5 @@
--- A node's arcs (the joins seen from it) are relaxed one by one. A neighbour whose crest by the arc
--- is below its level, if any, is queued, and the crest becomes its level.
+-- Relaxing a node's arcs, the joins seen from it, queues each unlabelled neighbour whose crest is
+-- below its level, if any. That crest, the greater height of arc and node entry, becomes its level.
 use Rattle.std.proofs.Common.{◌≡◌, ℕ, ◌<◌, List, [], ◌∷◌, ◌++◌, length, get_or, set, map, take, drop, ℤ, ◌≤ℤ◌, Option, None, Some, IsSome, ◌+◌, sym, ap, subst, refl, ◌∙◌, arith, ◌⊎◌, inl, inr, to_z, of_z}
 use Rattle.std.specs.Int.{int_max}
 use Rattle.std.specs.Int.Signed.{≤ℤ_refl}

@@ -1,5 +1,5 @@
--- A flood keeps its invariant `IsFlooding` as nodes are taken from the queue and labelled. When no
--- node without a label is queued, each node with a walk has its level and its label.
+-- A flood's invariant `IsFlooding` holds once the sources are queued, and as nodes are taken and
+-- labelled. When no unlabelled node is queued, each node with a walk has its level and its label.
 use Rattle.std.proofs.Common.{◌≡◌, ◌≢◌, ℕ, ◌<◌, List, [], ◌∷◌, length, set, replicate, ℤ, pos, ◌≤ℤ◌, Option, None, Some, is_some, IsSome, unwrap_or, sym, ap, subst, refl, ◌∙◌, arith, ◌⊎◌, inl, inr}
 use Rattle.std.specs.Int.{int_max}
 use Rattle.std.specs.List.{Contains, All}

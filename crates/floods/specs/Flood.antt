@@ -1,6 +1,6 @@
 -- The queue of a flood has entries: a node, and the crest and end of a walk from it. A step takes a
--- lowest entry and labels its node. A neighbour without a label is queued if it has no level or a
--- level above its crest by the arc. An arc is a join seen from one of its nodes.
+-- lowest entry and labels its node. An unlabelled neighbour is queued if its crest, the greater of
+-- the entry's and the arc's heights, is below its level, if any. An arc is a join seen from a node.
 -- Public.
 use Rattle.std.specs.Prelude.{◌≡◌, ℕ, ◌<◌, ◌≤◌, ◌⊎◌, ℤ, pos, ◌+ℤ◌, ◌≤ℤ◌, List, [], ◌∷◌, ◌++◌, map, length, Option, None, Some, IsSome, slice_index_or}
 use Rattle.std.specs.Ordering.{int_cmp}

@@ -147,6 +147,7 @@ impl Queue {
     }
 
     /// Returns how many lists before `end` are for heights below the heap's least.
+    /// Returns `end` if the heap is empty.
     #[inline(always)]
     fn lists_below_heap(&self) -> usize
         requires { InOrder self.now }

@@ -52,7 +52,7 @@ weights_le cells i = elim (cases_lt i (length cells)) [
 pub weights_size : (cells : List (Option ℕ)) → length (weights_by cells) ≡ length cells
 weights_size cells = length-map cells (λ (code : Option ℕ). cond {A = ℕ} (is_some code) 1 0)
 
--- The flows and inflows found for a grid are those of its map of directions.
+-- A map's flows, with counts, and the inflows found from them meet `IsCounting`.
 pub counting_of :
     (t : Cutting) (codes : List (Option ℕ)) (flows joined : List Flow) (inflows : Inflows) →
     IsGridFlow t.cols t.rows codes → AreFlowsOf (make_directed t.cols t.rows codes) t flows →

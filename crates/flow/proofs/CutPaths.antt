@@ -1,4 +1,4 @@
--- With gauges as outlets, the numbers of the ends of flow paths are the catchments.
+-- With gauges as outlets, the gauge numbers of the ends of flow paths are the catchments.
 use Rattle.std.proofs.Common.{◌≡◌, ℕ, zero, suc, ◌+◌, ◌<◌, ◌≤◌, ◌⊎◌, inl, inr, Bool, true, false, cond, List, [], ◌∷◌, ◌++◌, length, map, get_or, Option, None, Some, IsSome, unwrap_or, sym, ap, subst, refl, ◌∙◌, arith, add-one}
 use Rattle.std.specs.Prelude.{◌==◌}
 use Rattle.std.specs.Option.{option_and_then, option_or, option_map_or}
@@ -23,7 +23,7 @@ use Rattle.flow.proofs.Piece.{match_none, match_some}
 use Rattle.flow.proofs.Reaching.{IsEnding, reached_early}
 use Rattle.flow.proofs.Windows.{mapped_next}
 
--- Of f's values below n, `f at` is the first that passes the test.
+-- Of f's values at the numbers below n, `f at` is the first that passes the test.
 pub record IsFirst {X : Type 0} (test : X → Bool) (f : ℕ → X) (n : ℕ) : Type 0 where
   pub at : ℕ
   pub below : at < n

@@ -1,5 +1,5 @@
--- How many cells' flow paths contain p, the path of p included, is a sum over all cells. In it a
--- cell counts 1 if the cell's path contains p, else 0.
+-- Three counts of cells, each a sum of 1 or 0 over all cells. They count cells whose flow paths
+-- contain p, reach p without leaving their tile, or enter p from another tile.
 use Rattle.std.proofs.Common.{◌≡◌, ◌≢◌, ℕ, ◌+◌, ◌-◌, ◌*◌, ◌<◌, ◌≤◌, Bool, true, false, not, ◌&&◌, cond, Option, is_some, sym, ap, refl, ◌∙◌, arith}
 use Rattle.std.proofs.Math.Nat.{mul-le-mul}
 use Rattle.std.proofs.lemmas.Bool.{and_from, and_left, and_right, eq-eqb, cond-true, cond-false, false_from_ne_true, not_from_true, not_from_false}

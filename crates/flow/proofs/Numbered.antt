@@ -31,7 +31,7 @@ outlet_number_few codes few i =
     let before = take i codes in
     omega (arith, few, count_by-le-length is_outlet_code before, length-take i codes)
 
--- The flows and outlets found for a grid are those of its map of directions.
+-- A map's flows, the outlets found from them, and numbers below `uncounted` meet `IsNumbering`.
 pub numbering_of : (t : Cutting) (codes : List (Option ℕ)) (flows joined : List Flow) (o : Outlets)
     (n : EndNumbers) →
     AreFlowsOf (make_directed t.cols t.rows codes) t flows → joined ≡ flows → o.cutting ≡ t →
@@ -149,7 +149,7 @@ module _ (d : Directed) (t : Cutting) (flows : List Flow) (o : Outlets) (n : End
       ];
     }
 
-    -- The exit number at a cell's exit is the number of the end of the cell's flow path.
+    -- `exit_numbers_by` has at p's exit the number of the cell where the flow path of p ends.
     exit_number_is : (p : Place) → IsCoded d p → (h : Has p) →
         get_or (exit_numbers_by o flows n f) (index_in f.bounds h.exit) 0 ≡ end_number d n p
     exit_number_is p is h =

@@ -32,7 +32,7 @@ pub outlet_from_code : (o : Option ℕ) → is_outlet_code o ≡ true → o ≡ 
 outlet_from_code None h = cc
 outlet_from_code (Some n) h = ap Some (eqb-true _ _ h)
 
--- If `flow` is the flow of the tile of p, what `read` finds in `flow` is what `flows` gives for p.
+-- If `read` finds x in `flow`, the flow of p's tile, it finds x in the entry of `flows` for p.
 pub read_of_tile : {X : Type 0} (read : Flow → Option X) (t : Cutting) (flows : List Flow)
     (p : Place) (tile : ℕ) (flow : Flow) (x : Option X) →
     length flows ≡ tile_count t →

@@ -186,8 +186,8 @@ module _ (d : Directed) (t : Cutting) (flows : List Flow) (s : AreFlowsOf d t fl
   module _ (links weights upstream : List ℕ) (targets : List (Option Place))
       (asked : targets ≡ targets_by t flows) (made : links ≡ rim_links_by t flows)
       (weighed : weights ≡ rim_weights_by t flows) (up : AreUpstream links weights upstream) where
-    -- Rim number i sends to the rim number of its target how many cells' flow paths contain the
-    -- cell of i.
+    -- The amount that rim number i sends to the rim number of its target is the number of cells
+    -- whose flow paths contain the cell of i.
     sends : (k i : ℕ) → i < rim_number_count t → entering t targets weights upstream k i
         ≡ sent_to t k (target_by t flows i) (all_drained d (rim_place t i))
     sends k i h =

@@ -1,6 +1,6 @@
--- A node's donors are the other nodes linked to it. As nodes send sums downstream, each sum stays
--- what the node's donors have sent, and `waits` counts the donors that have not (`IsSending`). When
--- no entry of `waits` is 0, all nodes have sent.
+-- As nodes send sums downstream, each node's sum stays the amount that its donors, the other nodes
+-- linked to it, have sent. Its entry in `waits` counts the donors that have not sent, and becomes
+-- `sent_mark` when the node itself sends. If no entry is 0, all are `sent_mark`.
 use Rattle.std.proofs.Common.{◌≡◌, ◌≢◌, ℕ, ◌+◌, ◌<◌, Bool, true, false, not, ◌&&◌, cond, eqb, inl, inr, List, length, get_or, set, sym, ap, refl, ◌∙◌, arith, ◌^◌, ◌≤◌, ◌-◌}
 use Rattle.std.proofs.lemmas.Bool.{cases_eq, cases_Bool, eq-eqb, ne_eqb, eqb-true, cond-true, cond-false, and_left, and_right, and_parts, not-true, not_from_true, not_from_false, true_from_ne_false, false≢true, false_from_ne_true}
 use Rattle.std.proofs.lemmas.List.{get_or-set_same, get_or-set_other}

@@ -164,7 +164,7 @@ module _ (d : Directed) (e : IsEnding d) (t : Cutting) (tile : ℕ) (b : Bounds)
 
   -- For a data cell q, the term at cell i is 1 if R holds of i and q, else 0. Suppose that for each
   -- q the term at i is `own` plus `over` plus the terms at i's donors, the other cells linked to i.
-  -- Then the sums over all cells q obey the same equation.
+  -- If `over` is 0 at NODATA, sums over all cells q obey this equation, with i's weight for `own`.
   tallied : (R : Place → Place → Bool) (over : Place → Place → ℕ) (i : ℕ) → i < length links →
       ((q : Place) → IsCoded d q → cond {A = ℕ} (is_some (code_at d q) && R (place_in b i) q) 1 0
       ≡ own (place_in b i) q + over (place_in b i) q + sum_below (λ j. cond {A = ℕ} (leads_to links

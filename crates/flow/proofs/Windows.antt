@@ -1,6 +1,6 @@
 -- A sum over a grid's cells is a sum over their row-order indexes. A test holds of some number
--- below n, or of all, exactly if `list_any` or `list_all` says so. The list of f's values below
--- n + 1 is that of f's values below n with f n appended.
+-- below n, or of all, exactly if `list_any` or `list_all` says so. The list of f 0 to f n is that
+-- of f's values at the numbers below n, with f n appended.
 use borrow.Author.Count.{below_more}
 use Rattle.std.proofs.Common.{◌≡◌, ℕ, zero, suc, ◌+◌, ◌*◌, ◌≤◌, List, length, map, sym, ap, refl, ◌∙◌, arith, add-one, zero-mul, ◌<◌, Bool, true, [], ◌∷◌, ◌++◌, get_or}
 use Rattle.std.proofs.lemmas.List.{length-append, get_or_append_left, get_or_push}
@@ -88,7 +88,7 @@ all_in_range f n h = list_all-from_AllPass f (range_with_len 0 n)
     (λ k d below. (let l : k < n = omega (arith, below, length-range_with_len 0 n) in
     ap f (number_at n k d l) ∙ h k l))
 
--- The values of f at 0 to n are its values below n, with f n appended.
+-- The values of f at 0 to n are those at the numbers below n, with f n appended.
 pub mapped_next : {X : Type 0} (f : ℕ → X) (n : ℕ) →
     map f (range_with_len 0 (n + 1)) ≡ map f (range_with_len 0 n) ++ f n ∷ []
 mapped_next f n = map-range_with_len_more f 0 n n (omega arith)

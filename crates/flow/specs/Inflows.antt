@@ -17,7 +17,7 @@ abbrev pub through_by : Cutting → List Flow → Place → Option ℕ
 through_by t flows p = option_and_then (λ f. through_in f p) (slice_get flows (tile_of_place t p))
 
 -- How many cells' flow paths first leave their own tile at one cell: 1 for the cell itself, plus
--- `through`, its count in the tile. 0 without a target, the cell's next place in another tile.
+-- `through`, its count in the tile. It is 0 if the cell flows into no other tile (has no target).
 abbrev pub weight_or : Option ℕ → Option Place → ℕ
 weight_or through None = 0
 weight_or through (Some entry) = unwrap_or through 0 + 1

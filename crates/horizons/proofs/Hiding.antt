@@ -9,7 +9,7 @@ use Rattle.horizons.specs.Merging.{greater_at}
 use Rattle.horizons.specs.declared.target.Target.{Target}
 use Rattle.horizons.specs.declared.ramp.Ramp.{Ramp}
 
--- From X k < A and A l <= C k follows X l < C, for X = x - y, A = a - b, C = c - d.
+-- For k, l > 0: if X k < A and A l <= C k, then X l < C. Here X = x - y, A = a - b, C = c - d.
 passed_on : (x y a b c d k l : ℕ) → 0 < k → 0 < l → x * k + b < y * k + a →
     a * l + d * k ≤ c * k + b * l → x * l + d < y * l + c
 passed_on x y a b c d k l some more less h =

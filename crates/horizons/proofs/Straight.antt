@@ -1,6 +1,6 @@
 -- If a ramp is above another at two slopes, it is above the other at all slopes between them. If it
--- is above the other at neither, it is above the other at no slope between them. For the difference
--- of two ramps is straight.
+-- is above the other at neither, it is above the other at no slope between them. The reason: the
+-- difference of two ramps is straight.
 use Rattle.std.proofs.Common.{◌≡◌, ℕ, ◌+◌, ◌-◌, ◌*◌, ◌<◌, ◌≤◌, Bool, true, false, List, Some, pos, ◌*ℤ◌, sym, ap, subst, ◌∙◌, arith, inl, inr}
 use Rattle.std.specs.Prelude.{slice_get}
 use borrow.Author.Differences.{up, down, true_is_lt, false_is_lt}

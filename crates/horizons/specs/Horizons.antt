@@ -28,7 +28,7 @@ pub record AreTargets (targets : List Target) : Type 0 where
 abbrev pub value_at : Ramp → Target → ℤ
 value_at r t = (r.gain *ℤ t.offset) +ℤ (r.level *ℤ pos t.line)
 
--- A ramp hides a target of this rise: its value at the target's slope is above rise / line.
+-- A ramp hides a target of this rise: its value at the target's slope is above `rise / line`.
 abbrev pub ramp_hides : Ramp → Target → ℤ → Bool
 ramp_hides r t rise = int_lt (rise *ℤ pos r.lines) (value_at r t)
 
@@ -71,6 +71,6 @@ pub record IsPushed (old : List Piece) (end : ℕ) (ramp : Ramp) (new : List Pie
 abbrev pub AreUpTo : List Piece → ℕ → ℕ → Type 0
 AreUpTo ps k index = (m : ℕ) (p : Piece) → m < k → slice_get ps m ≡ Some p → p.end ≤ index
 
--- The cursor may be used to look up target `index`: no piece before the cursor's ends above it.
+-- The cursor may look up target `index`: no piece before its piece has an `end` above `index`.
 abbrev pub IsUpTo : List Piece → Cursor → ℕ → Type 0
 IsUpTo ps c index = AreUpTo ps c.piece index

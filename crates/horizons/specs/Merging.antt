@@ -1,5 +1,5 @@
 -- A horizon extended by the greater of two ramps at each target from its extent up to an `end`. A
--- ramp is a straight line over the slope of sight, by which targets are sorted.
+-- ramp is a straight line over targets' slopes: cells aside per row or column outward.
 -- Public.
 use Rattle.std.specs.Prelude.{◌≡◌, ℕ, ◌<◌, ◌≤◌, Bool, if◌then◌else◌, List, Some, slice_get}
 use Rattle.horizons.specs.Horizons.{is_above, ramp_at, extent, IsRampAt}

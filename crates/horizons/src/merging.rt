@@ -1,7 +1,7 @@
 //! Extends a horizon by the greater of two ramps at each target that it gains: [`push_greater`].
 //!
-//! A ramp is a straight line over the slope of sight, by which targets are sorted. So two ramps
-//! cross at most once, and a binary search finds where.
+//! A ramp is a straight line over the slope by which targets are sorted: cells aside per row or
+//! column outward. So two ramps cross at most once, and a binary search finds where.
 ghost use Rattle.std.specs.Prelude.{◌≡◌, ◌+◌, ◌<◌, ◌≤◌, not, Bool, false, length, Some, OnOk, slice_get};
 ghost use Rattle.std.specs.Bool.{OnTrue};
 ghost use Rattle.horizons.specs.declared.target.Target.{Target};

@@ -1,4 +1,4 @@
-//! A ramp: the ground between two cells, as a straight line over slopes of sight: [`Ramp`].
+//! A ramp: the ground between two cells, as a straight line over directions of targets: [`Ramp`].
 ghost use Rattle.std.specs.Prelude.{◌≡◌, ℤ, ◌^◌, ◌≤◌, false, unsigned_abs};
 ghost use Rattle.horizons.specs.declared.target.Target.{Target};
 ghost use Rattle.horizons.specs.Horizons.{IsTarget, IsRampAt, value_at, ramp_hides, is_above};
@@ -12,8 +12,8 @@ pub type Value = i64;
 type Product = i128;
 
 /// A straight line over the slope `s`: `(gain * s + level) / lines`.
-/// The slope is a target's cells aside per row or column outward. The value is the ground's rise
-/// above the eye, in units per row or column outward.
+/// The slope is a target's direction seen from above: cells aside per row or column outward. The
+/// value is the ground's rise above the eye, in units per row or column outward.
 #[derive(Clone, Copy, PartialEq)]
 pub struct Ramp {
     pub gain: Value,

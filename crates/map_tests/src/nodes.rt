@@ -1,6 +1,6 @@
 //! Floods a net of four nodes: finds their levels (least crests) and labels.
 //!
-//! Nodes 0 and 1 are neighbours that water passes at height 5; nodes 1 and 2 at 3, 0 and 2 at 7.
+//! Water passes between nodes 0 and 1 at height 5, between 1 and 2 at 3, and between 0 and 2 at 7.
 //! Node 3 has no neighbour.
 ghost use Rattle.std.specs.Prelude.{◌≡◌, ◌∷◌, []};
 

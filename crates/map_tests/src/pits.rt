@@ -1,5 +1,5 @@
 //! Makes calls that allocate, on a grid with a pit.
-//! Repeats each call that is refused memory.
+//! `again!` repeats a call that was refused memory.
 ghost use Rattle.std.specs.Prelude.{◌≡◌, ◌<◌, ◌*◌, length};
 ghost use Rattle.fill.specs.Spills.{AreFloods};
 

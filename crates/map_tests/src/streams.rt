@@ -184,9 +184,9 @@ fn level_ground(rt: HostRuntime) {
     maps.expect(&rt, rt.alloc());
 }
 
-/// Outlets are counted in runs of 16 codes. The first 16 cells of terrain `level` are all outlets,
-/// of terrain `pairs` none. `pairs` has a river along row 0 and a ridge in row 1. Row 2 has pairs
-/// of cells, and the eastern cell of each pair is an outlet.
+/// With tile sides 1 to 4, outlets are counted in runs of 16 codes. The first 16 cells of terrain
+/// `level` are all outlets, those of `pairs` none. `pairs` has a river along row 0 and a ridge in
+/// row 1. Row 2 has pairs of cells, and the eastern cell of each pair is an outlet.
 #[test]
 fn outlets_of_several_runs(rt: HostRuntime) {
     let fives =

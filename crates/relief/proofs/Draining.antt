@@ -113,8 +113,8 @@ unseen g Basins drains = refl
 unseen g (Catchments gauges) drains = refl
 unseen g (View observers target radius) drains = absurd (drains tt)
 
--- If neither sinks nor gauges have a fault, giving the grid these sinks fails only if memory is
--- refused. A run may return that fault.
+-- Let tiles, sinks and gauges have no fault, and let no viewshed have sinks. If giving the grid one
+-- or more requested sinks ends with a fault, a run may return that fault: refused memory.
 pub sinks_refused : {T : Type 0} (w : Request) (g : Raster) (f : SinkFault) →
     (IsView w.map → w.sinks ≡ []) →
     eqb (length w.sinks) 0 ≡ false → tiles_of g w.tile ≤ most_tiles → named_place_fault w g ≡ None →

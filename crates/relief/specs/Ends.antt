@@ -75,10 +75,10 @@ EndsProgram remaining contents lines words reader left writer grown errors repor
     ⊎ ((request : Request) × RequestFor words request
     × EndsRun remaining contents lines request reader left writer grown errors reported status)
 
--- How the program ends when `clap` gives an error of this kind; help and the version are such
--- kinds. Status 0: help or the version was written to the writer as `WritesLine` says. Status 1:
--- for another kind, a message was written to the error device as `WritesLine` says. Status 3:
--- memory was refused, for the message or before, and nothing was written.
+-- How the program ends when `clap` gives an error of this kind. Status 0: the kind is help or the
+-- version, and a line was written to the writer as `WritesLine` says. Status 1: the kind is any
+-- other but `OutOfMemory`, and a line was written to the error device as `WritesLine` says. Status
+-- 3: memory was refused, for the message or before, and nothing was written.
 abbrev pub EndsShowing : {W E : Type 0} → (W → Option (List ℕ)) → (E → Option (List ℕ)) →
     ErrorKind → Device W → Device W → Device E → Device E → ℕ → Type 0
 EndsShowing contents lines kind writer grown errors reported status =

@@ -16,9 +16,9 @@ const WORDS_REFUSED: u8 = 1;
 
 const NO_MEMORY: u8 = 3;
 
-/// The length of the list that [`keep_freed_lists`] frees, in bytes.
-/// With the allocator's header the list takes one page less than 32 MiB. Freeing a list that takes
-/// over 32 MiB would not change what the C library keeps.
+/// The length of the list that [`keep_freed_lists`] frees: 32 MiB less 8 KiB.
+/// With the allocator's header, rounded up to whole pages of 4 KiB, the list takes 32 MiB less
+/// 4 KiB. Freeing a list that takes over 32 MiB would not change what the C library keeps.
 const LONGEST_KEPT: usize = (1 << 25) - (1 << 13);
 
 /// Returns the exit status for unreadable words. Writes a line if a word is not UTF-8.

@@ -1,4 +1,4 @@
--- Which command lines the program accepts, as `clap` reads them, and what they request.
+-- The command lines that the program accepts, as `clap` reads them, and their requests.
 -- Trust base.
 use Rattle.std.specs.Prelude.{◌≡◌, ◌⊎◌, ℕ, Bool, ◌<◌, ◌^◌, pos, true, false, List, [], ◌∷◌, map, Option, Some, codes, Any, is_none, unwrap_or, if◌then◌else◌}
 use Rattle.std.specs.List.{position}
@@ -215,7 +215,7 @@ pub record RequestFor (words : List Text) (request : Request) : Type 0 where
   pub progress : request.progress ≡ is_given (codes "progress") rows
   pub limits : IsRequest request
 
--- `clap` refuses the words, or accepts them although they request no map.
+-- `clap` refuses the words, or accepts them although they have no request.
 abbrev pub AreRefused : List Text → Type 0
 AreRefused words = Any (λ kind. ¬ IsHelp kind) (fault_of program_app words)
     ⊎ ((fault_of program_app words ≡ []) × ((request : Request) → ¬ RequestFor words request))

@@ -1,5 +1,5 @@
--- Statements that module `laws` proves: a command line has at most one request, and what seven
--- examples of command lines mean.
+-- Statements that module `laws` proves. A command line has at most one request, and is accepted
+-- if it has one. Seven examples of command lines have the meaning given here.
 -- Public.
 use Rattle.std.specs.Prelude.{◌≡◌, true, false, List, [], ◌∷◌, Vec, codes}
 use Rattle.std.specs.declared.alloc.Global.{Global}

@@ -1,4 +1,4 @@
--- What holds of a command line's words if `parse` returns a fault for them.
+-- Conditions that a command line's words meet if `parse` returns a fault for them.
 -- Public.
 use Rattle.std.specs.Prelude.{◌≡◌, ℕ, ⊤, List, [], codes}
 use Rattle.clap.specs.Words.{Row, Text, kind_of}
@@ -56,7 +56,7 @@ IsMapFault name rows = IsFaultWith (IsBadObserverAfter name rows) (IsBadGaugeAft
     (λ _. ⊥)
     (IsNoMap name rows)
 
--- The words have this fault. They have `NoMap` if `clap` accepts them, they request no map, and no
+-- The words have this fault. They have `NoMap` if `clap` accepts them, they have no request, and no
 -- observer, gauge or sink word is bad.
 abbrev pub IsFaultOf : List Text → WordsFault → Type 0
 IsFaultOf words (Clap e) = HasKind (fault_of program_app words) e

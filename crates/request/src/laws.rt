@@ -1,5 +1,5 @@
-//! A command line has at most one request. Seven examples mean what their theorems say.
-//! The functions have no code; their contracts are the theorems.
+//! A command line has at most one request, and is accepted if it has one. Seven examples mean
+//! what their theorems say. The functions have no code; their contracts are the theorems.
 ghost use Rattle.request.specs.Laws.{BasinsOfSinks, CatchmentsOfAGauge, FillAlone, HelpOfView, NoSideOfZero, VersionAlone, ViewWithRadius, RequestsAreAccepted, RequestsAreOne};
 
 /// Proves that requests of one command line have the same map, options and sinks.

@@ -51,8 +51,8 @@ impl Read for WatchedReader<'_> {
     }
 }
 
-/// Runs on a reader that fails at the text's end; returns the bytes that it gave.
-/// Asserts the fault of the run and the number of failures.
+/// Runs `fill` on a [`WatchedReader`], and returns how many bytes the reader gave.
+/// Asserts the run's fault, the failures, and that no read requests over [`MOST_ASKED`] bytes.
 fn bytes_given(
     rt: &(impl Abort + Threads + Wait + Sync),
     alloc: Global,

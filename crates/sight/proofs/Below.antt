@@ -24,7 +24,7 @@ smaller : (a b : ℤ) (n : ℕ) → (a *ℤ pos n) <ℤ ((b +ℤ pos 1) *ℤ pos
 smaller a b n less = by_lt_z b a (λ past. absurd
     (omega (arith, ints, less, grows (b +ℤ pos 1) a n (omega (arith, ints, past))))) (λ is. is)
 
--- if the slope of t is no smaller than that of s, the ray to t crosses line k at no lower offset
+-- if s has at most the slope of t, its ray crosses line k at an offset at most that of t's ray
 offsets_rise : (k : ℕ) (a b : ℤ) (s t : Target) → 0 < s.line → 0 < t.line → IsSlopeUpTo s t →
     Passes k a s → Passes k b t → a ≤ℤ b
 offsets_rise k a b s t some more slope low high =

@@ -139,7 +139,7 @@ hidden_raised cells f targets k i from end highest ramp t over is hidden low hig
       t.line y rise k) (hidden i t low high at y rise stands later) ∙ (rw is refl);
 }
 
--- a ray from cell `at` to cell y, neither below cell `first`, crosses no line below cell `first`
+-- a ray from cell `at` to cell y, both at least `first`, crosses each line at `first` or beyond
 low_side : (first at y k r : ℕ) → first ≤ at → first ≤ y →
     y * k + at * (r + k) < first * (r + k) + at * k → ⊥
 low_side first at y k r a b less =

@@ -30,8 +30,8 @@ marked_more b Holds p marks i x inside at before is = record {
   ];
 }
 
--- let the old marks be as in `MarksSeenIfOpen`. If the new marks keep just those of places whose
--- line of sight no crossing blocks, exactly the seen places are marked.
+-- let a place be seen exactly if it has an old mark and no crossing blocks its line of sight. If it
+-- has a new mark exactly if both are true, the new marks are those of the seen places.
 pub left_seen : (b : Bounds) (t : Terrain) (o : Observer) (target radius : ℕ)
     (old new : List Bool) → AreMarked b (MarksSeenIfOpen t o target radius) old →
     AreLeft b (λ (p : Place). is_open t o p target) old new

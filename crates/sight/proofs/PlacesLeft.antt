@@ -1,5 +1,5 @@
--- Of the marks, sweeps over columns leave exactly those of places whose line of sight no crossing
--- with a column blocks. Sweeps over rows do so for crossings with rows.
+-- Sweeps over columns keep a place's mark exactly if no crossing with a column blocks its line of
+-- sight. Sweeps over rows keep it exactly if no crossing with a row does.
 use Rattle.std.proofs.Common.{arith, sym, ap, ◌∙◌, ◌≡◌, ◌+◌, ◌-◌, ◌*◌, ◌<◌, ◌≤◌, ℕ, ℤ, pos, ◌+ℤ◌, Bool, true, false, not, ◌&&◌, List, Option, get_or, unwrap_or}
 use Rattle.std.proofs.lemmas.Nat.{mul-add-lt}
 use Rattle.terrain.specs.Raster.{Terrain}

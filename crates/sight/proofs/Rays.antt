@@ -1,6 +1,6 @@
--- The ramp of the ground between two cells hides what this ground blocks. A ray leads from the
--- observer to a target, seen from above. Up to the target, it crosses columns or rows only at cells
--- that exist.
+-- The ramp of the ground between two cells hides exactly the targets that this ground blocks. A ray
+-- leads from the observer to a target, seen from above. Up to its target, a ray crosses columns or
+-- rows only at, or between, cells that exist.
 use Rattle.std.proofs.Common.{arith, refl, sym, ap, ◌∙◌, ◌≡◌, ◌+◌, ◌-◌, ◌*◌, ◌/◌, ◌%◌, ◌<◌, ◌≤◌, ℕ, ℤ, pos, negsuc, ◌+ℤ◌, ◌-ℤ◌, ◌*ℤ◌, ◌≤ℤ◌, ◌<ℤ◌, int_lt, false, Option, None, Some, inl, inr}
 use borrow.Author.Differences.{up, down}
 use Rattle.std.proofs.lemmas.Int.{ints}
@@ -53,8 +53,7 @@ above_between near far z n m h =
           rw (m_is, weighed_height-some (Some near) (n - 0) (omega arith), no_part far) refl
     ]
 
--- the ramp between two cells hides a target exactly where the ground between them is above the line
--- of sight
+-- the ramp between two cells hides a target exactly if the ground there is above the line of sight
 pub shown_between : (near far e rise offset j : ℤ) (n k m : ℕ) → m < n → k ≤ n →
     j *ℤ pos k ≡ (offset *ℤ pos n) +ℤ pos m
     → int_lt (rise *ℤ pos k) ((((far -ℤ near) *ℤ pos k) *ℤ j)
@@ -110,7 +109,7 @@ cell_is o y c n k m offset few below is at =
     let t_is : toward o y n k ≡ c * n + m = there ∙ ap (λ z. c * z + m) (sym n_is) in
     (rw t_is (div-mul-add c n m below), rw t_is (mod-mul-add c n m below))
 
--- a ray from cell o to cell y, both below `cells`, crosses a line at a cell c below `cells`
+-- a ray from cell o to cell y, both below `cells`, crosses a line at or past a cell c below `cells`
 at_most : (o y cells r k c m : ℕ) → o < cells → y < cells → 0 < r + k →
     o * r + y * k ≡ c * (r + k) + m → c < cells
 at_most o y cells r k c m a b some is =

@@ -1,6 +1,6 @@
--- The first fault of observers, target height and radius, given as an error, refuses a viewshed as
--- `RefusesSight` says. Without a fault, observers are inside the grid; their number, their eyes,
--- the target height and the radius are within the limits.
+-- An error that is the first fault of observers, target height and radius satisfies `RefusesSight`.
+-- Without a fault, observers are inside the grid; their number, their eyes, the target height and
+-- the radius are within the limits.
 use Rattle.std.proofs.Common.{◌≡◌, ◌+◌, ◌||◌, ℕ, Bool, true, false, cond, ltb, is_none, List, [], ◌∷◌, length, Option, None, Some, option_map, Err, arith, refl, ◌<◌, ◌≤◌, zero, suc, ◌&&◌, get_or}
 use Rattle.std.specs.Option.{option_or}
 use Rattle.std.specs.List.{position_from}
@@ -50,7 +50,7 @@ module _ (f : JobFault) where
       0 os)) _ (not_eye (position_from (λ (o : Observer). is_high o.eye) 0 os))
       (not_if (ltb radius 1 || ltb 8192 radius) _ _ (λ e. absurd (cc)) (not_place t 0 os))))
 
--- if `fault` is f, which is no fault of jobs, the error f refuses a viewshed as `RefusesSight` says
+-- if the first fault is f, and is no fault of jobs, the error f satisfies `RefusesSight`
 pub refuses : {T : Type 0} (fault : Option SightFault) (f : SightFault) (workers : ℕ) →
     ((job : JobFault) → IsNot (Jobs job) fault) → fault ≡ Some f →
     RefusesSight {T = T} fault workers (Err f)

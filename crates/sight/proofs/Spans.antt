@@ -1,6 +1,6 @@
--- Of targets whose rays cross a line between two cells, the ramp of the ground there hides exactly
--- those that the line blocks. A ray leads from the observer to a target, seen from above; a line is
--- a column or row on one side of the observer.
+-- Lines are the columns, or the rows, on one side of an observer. A ray leads from the observer to
+-- a target, seen from above. A ray crosses a line at a cell, or between a cell and the next. The
+-- ramp of the ground there hides the target exactly if the line blocks the target.
 use Rattle.std.proofs.Common.{arith, refl, sym, ap, ◌∙◌, ◌≡◌, ◌+◌, ◌-◌, ◌*◌, ◌/◌, ◌^◌, ◌<◌, ◌≤◌, ℕ, ℤ, pos, negsuc, ◌+ℤ◌, ◌-ℤ◌, ◌*ℤ◌, ◌≤ℤ◌, ◌<ℤ◌, unsigned_abs, false, List, Option, None, Some, get_or, inl, inr}
 use borrow.Author.Differences.{up, down}
 use Rattle.std.specs.Int.{int_div_euclid}
@@ -36,7 +36,8 @@ floor_small (pos a) n some h =
 floor_small (negsuc a) n some h =
     omega (arith, ints, mul-le (a / n) 1 (a / n) n (omega arith) (omega arith), div-add-mod' a n)
 
--- for a target on line n, its ray crosses line k at m n-ths past the cell at `offset`, with m < n
+-- let the ray to a target on line n cross line k at the cell at `offset`, or between this cell and
+-- the next. Then the ray crosses m n-ths past the cell at `offset`, for an m below n.
 pub past : (k : ℕ) (offset : ℤ) (t : Target) → Passes k offset t → (m : ℕ) × (m < t.line)
     × ((t.offset *ℤ pos k) ≡ (offset *ℤ pos t.line) +ℤ pos m)
 past k offset t p =
@@ -80,7 +81,8 @@ crossing_is cells f k c m y offset rise t stands later below is at =
     let lead = lead_is f t.line k stands.line (omega arith) in
     rw (cell.0, cell.1, lead) refl
 
--- on line k, before its target's line, a ray passes a cell c from 0 to below the side's end
+-- before its target's line, a ray crosses line k at a cell c, or between c and the next cell. This
+-- cell c is from 0 to below the side's end.
 pub none_outside : (f : Family) (k y : ℕ) (offset : ℤ) (t : Target) → IsFamily f →
     IsAtCell f y t → k < t.line → Passes k offset t → (c : ℕ) × (pos c ≡ pos f.side.at +ℤ offset)
     × (c < f.side.cells)
@@ -185,8 +187,8 @@ ramp_is f k offset near far t is line a b is_t passes =
       value = rw between (omega (arith, small));
     }
 
--- let a target's ray cross line k from cell c on and before the next cell. The ramp of the ground
--- between these two cells hides the target exactly if line k blocks the target.
+-- let a target's ray cross line k at cell c, or between c and the next cell. If both have data, the
+-- ramp of the ground between them hides the target exactly if line k blocks the target.
 pub shows_ramp : (cells : List (Option ℤ)) (f : Family) (k c y : ℕ) (offset near far rise : ℤ)
     (t : Target) → IsAtCell f y t → k < t.line → Passes k offset t → pos c ≡ pos f.side.at +ℤ offset
     → get_or cells (near_index f k c) None ≡ Some near →

@@ -101,8 +101,7 @@ rank_at rays targets ranks n rank within are at =
     ap (slice_get targets) (sym (get_or_from_slice_get ranks n rank 0 has))
     ∙ are.each n t (slice_get-get_or rays n (record { offset = pos 0; line = 0 }) within)
 
--- a lookup still looks from its line with a new cursor and last rank, if the cursor may be used at
--- that rank
+-- `LooksFrom` stays true for a new cursor and last rank, if the cursor may be used at that rank
 pub looked_on : (cells : List (Option ℤ)) (f : Family) (targets : List Target) (k : ℕ) (old new :
     SweepLookup) → LooksFrom cells f targets k old → new.line ≡ old.line → new.sweep ≡ old.sweep
     → IsUpTo new.sweep.highest new.cursor new.last → LooksFrom cells f targets new.line new
@@ -146,8 +145,8 @@ same_target : (f : Family) (t : Target) (m z y : ℕ) → IsAtCell f y t → t �
 same_target f t m z y stands e =
     (ap (λ q. q.line) (sym e), omega (arith, ints, stands.offset, ap (λ q. q.offset) e))
 
--- on lines 2 and beyond, the new mark of the cell of a ray of index below `end` is `mark_left`. The
--- new mark of any other cell there is `mark_left` or the old mark.
+-- the new mark of a cell on line 2 or beyond is the old mark or `mark_left`. It is `mark_left` if a
+-- ray of index below `end` leads to the cell. Cells on no such line keep their marks.
 pub record AreHiddenBelow (cells : List (Option ℤ)) (f : Family) (w : Window) (height : ℕ)
     (rays : List Target) (end : ℕ) (old new : List Bool) : Type 0 where
   pub size : length new ≡ length old

@@ -35,8 +35,8 @@ abbrev pub MarksSeenIfOpen : Terrain → Observer → ℕ → ℕ → Place → 
 MarksSeenIfOpen t o target radius p mark =
     (mark && is_open t o p target) ≡ is_seen t o p target radius
 
--- The mark is as a check leaves it. If the whole line of sight is checked, `MarksSeen` tells what
--- the mark means; if the first crossings are, `MarksSeenIfOpen` does.
+-- After a check of the whole line of sight, `MarksSeen` is true of the mark. After a check of the
+-- first crossings, `MarksSeenIfOpen` is true of it.
 abbrev pub IsMarkOf : Check → Terrain → Observer → ℕ → ℕ → Place → Bool → Type 0
 IsMarkOf Whole = MarksSeen
 IsMarkOf FirstCrossings = MarksSeenIfOpen

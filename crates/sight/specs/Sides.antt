@@ -1,5 +1,5 @@
--- Which marks a window keeps: those of cells whose line of sight no crossing with columns, or with
--- rows, blocks. A window is a part of the grid whose cells have marks, here a tile.
+-- A window is a part of the grid whose cells have marks, here a tile. A cell keeps its mark exactly
+-- if no crossing with the lines (all columns, or all rows) blocks its line of sight.
 -- Private.
 use Rattle.std.specs.Prelude.{◌≡◌, ℕ, ◌+◌, ◌*◌, ◌<◌, ◌≤◌, Bool, false, not, ◌&&◌, ℤ, pos, ◌+ℤ◌, List, length, Option, None, unwrap_or, slice_index_or, min, max}
 use Rattle.sight.specs.Hiding.{IsInRun, mark_in_window}

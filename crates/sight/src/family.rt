@@ -236,7 +236,7 @@ impl Family {
         self.ramp(line, offset, near, far) == ramp
     }
 
-    /// Returns the last offset from `first` to which a line's ground has ramp `ramp`.
+    /// Returns the last offset, from `first` on, up to which a line has ramp `ramp`.
     #[inline(always)]
     fn last_of(self, cells: &[Cell], line: u32, first: i32, ramp: Ramp) -> i32
         requires heights { AreHeights cells.now }

@@ -1,4 +1,4 @@
-//! Looks up which targets on a family's line are hidden by its lines nearer the observer.
+//! Looks up which targets on a line are hidden by lines (columns, or rows) nearer the observer.
 ghost use Rattle.std.specs.Prelude.{◌≡◌, ◌<◌, ◌≤◌, ℤ, List, Option, Some, IfOk, OnOk};
 ghost use Rattle.horizons.specs.declared.horizon.Piece.{Piece};
 ghost use Rattle.horizons.specs.declared.ramp.Ramp.{Ramp};

@@ -221,7 +221,7 @@ step_passed size cells tops line s i j k block start end some low high few at_st
     let two = rw at_end.sight at (low_height top n end.sight h is_under lows.1) in
     sight_between line.from_level line.to_level (pos n *ℤ h) n i j k low (omega arith) few one two)
 
--- a line not below the peak at a step and at its end is not blocked from that step on
+-- a line at or above the peak at a step and at its end is not blocked from that step on
 pub step_above : (size : ℕ) (cells tops : List (Option ℤ)) (line : Sightline) (s : BlockStrides)
     (peak : ℤ) (i k : ℕ) (start : Step)
     → 0 < steps_of line → i ≤ k →

@@ -48,7 +48,7 @@ any_within p a m b n low high any = elim (list_any p (range_with_len a m)) as (�
           none_at p a m k e (omega arith) (omega arith)) in absurd (cc)
     ] refl
 
--- whether some number passes does not change if the range is counted from its other end
+-- for k from 1 to below n, let p k be q (n - k). Some such k passes p exactly if some passes q.
 pub any_back : (p q : ℕ → Bool) (n : ℕ) → ((k : ℕ) → 1 ≤ k → k < n → p k ≡ q (n - k)) →
     list_any p (range_with_len 1 (n - 1)) ≡ list_any q (range_with_len 1 (n - 1))
 any_back p q n same = elim (list_any q (range_with_len 1 (n - 1))) as (λ v.

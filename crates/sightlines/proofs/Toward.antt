@@ -1,5 +1,6 @@
--- In m steps, a line's whole cell and n-ths of a cell on a coordinate grow by what the line gains
--- in these steps. If the n-ths reach n, they count as one more cell.
+-- At step k of n from a toward b, a line is at a whole cell and some n-ths past it. In m more steps
+-- the cell changes by `ahead` - `behind`, and the n-ths grow by `part`. If the n-ths reach n, they
+-- count as one more cell.
 use Rattle.std.proofs.Common.{arith, sym, ap, ◌∙◌, ◌≡◌, ◌+◌, ◌-◌, ◌*◌, ◌/◌, ◌%◌, ◌<◌, ◌≤◌, ℕ, max, inl, inr}
 use Rattle.std.specs.Int.{abs_diff}
 use Rattle.std.proofs.Math.Nat.{zero-mod}
@@ -38,8 +39,8 @@ toward_le a b n k h =
     within a b (max a b) k (n - k) (omega arith) (omega arith) in
     omega (arith, ap (λ z. max a b * z) e)
 
--- from step k, m steps gain `ahead` - `behind` whole cells and `part` n-ths, if the n-ths at
--- step k and `part` sum below n
+-- let the n-ths at step k and `part` add up to less than n. Then m steps from step k on gain
+-- `ahead` - `behind` whole cells and `part` n-ths.
 pub step_stays : (a b n k m ahead behind part : ℕ) → k + m ≤ n →
     m * b + behind * n ≡ m * a + ahead * n + part → toward a b n k % n + part < n
     → (toward a b n (k + m) / n + behind ≡ toward a b n k / n + ahead)

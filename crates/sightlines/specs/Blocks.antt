@@ -1,5 +1,5 @@
--- For blocks of `size` by `size` cells: lists of entries that bound each block's heights, and which
--- blocks are not above a line.
+-- Blocks of `size` by `size` cells: lists with an upper bound of each block's heights, and blocks
+-- that are low, which means not above a line.
 -- Public clauses cite `blocks_in` and `IsTops` alone.
 -- Public.
 use Rattle.std.specs.Prelude.{◌≡◌, ℕ, ◌+◌, ◌-◌, ◌*◌, ◌/◌, ◌<◌, ◌≤◌, ℤ, pos, ◌*ℤ◌, ◌≤ℤ◌, List, length, Option, None, Some, MatchOption, slice_index_or, min, max}
@@ -57,8 +57,8 @@ pub record AreTopsAlong (size : ℕ) (cells tops : List (Option ℤ)) (l : Sight
 abbrev pub IsLow : Option ℤ → ℕ → ℤ → Type 0
 IsLow top n z = MatchOption top (Unit {0}) (λ m. (pos n *ℤ m) ≤ℤ z)
 
--- Each block that a line can meet between steps `start` and `end` is low at both. These are the
--- blocks that it can meet while its leading coordinate stays in block `block`.
+-- Each block that a line can meet between steps `start` and `end`, while the line's leading
+-- coordinate is in block `block`, is low at both steps.
 abbrev pub AreLowBetween : ℕ → List (Option ℤ) → BlockStrides → Sightline → ℕ → Step → Step → Type 0
 AreLowBetween size tops s l block start end =
     (cell : ℕ) → min start.whole end.whole ≤ cell → cell ≤ max start.whole end.whole + 1 →

@@ -1,6 +1,6 @@
--- Whether the ground of a list of cells blocks a line of sight. A walk tests the line at steps: one
--- for each cell, between the line's ends, of the coordinate that leads. The other coordinate is the
--- line's side. Public clauses cite `IsLevel` and, through `IsTops` of `Blocks`, `AreHeights`.
+-- Whether the ground of a list of cells blocks a line of sight. One coordinate of the line leads,
+-- the other is its side. A walk tests a step at each cell of the leading coordinate between the
+-- line's ends. Public clauses cite `IsLevel` and, through `IsTops` of `Blocks`, `AreHeights`.
 -- Public.
 use Rattle.std.specs.Prelude.{◌≡◌, ℕ, ◌+◌, ◌-◌, ◌*◌, ◌/◌, ◌%◌, ◌^◌, ◌<◌, ◌≤◌, Bool, false, not, ◌&&◌, ◌==◌, if◌then◌else◌, ℤ, pos, unsigned_abs, ◌+ℤ◌, ◌*ℤ◌, int_lt, List, length, Option, None, Some, option_map, option_and_then, slice_index_or, max}
 use Rattle.std.specs.Int.{abs_diff}
@@ -24,7 +24,7 @@ whole_at a n k = toward a.from a.to n k / n
 abbrev pub part_at : Axis → ℕ → ℕ → ℕ
 part_at a n k = toward a.from a.to n k % n
 
--- The index of the near cell of step k of n in the list of cells.
+-- The index, in the list of cells, of the near cell of step k of n: the cell at or before the line.
 abbrev pub index_at : Axis → Axis → ℕ → ℕ → ℕ
 index_at lead side n k = whole_at lead n k * lead.stride + whole_at side n k * side.stride
 

@@ -1,4 +1,4 @@
-//! Looks for a crossing that blocks a line of sight, from one to the next by sums and differences.
+//! Looks for a crossing that blocks a line of sight; sums and differences lead to the next one.
 ghost use Rattle.std.specs.Prelude.{◌≡◌, ◌^◌, ◌+◌, ◌-◌, ◌*◌, ◌<◌, ◌≤◌, ℤ, pos, unsigned_abs, ◌*ℤ◌, length, slice_index_or, None, IfSome, is_some};
 ghost use Rattle.std.specs.Int.{abs_diff};
 ghost use Rattle.terrain.specs.Raster.{IsHeight};

@@ -186,9 +186,9 @@ zip_some {X = X} {Y = Y} f g (Some q) x y e = at (f q) (g q) refl refl e
         ∙ ap (λ (z : Option Y). option_zip (Some a) z) v) ∙ e) in
         (q, refl, u ∙ ap Some both.0, v ∙ ap Some both.1)
 
--- `q` is the place in direction `way` from `p`, and another place that touches `p`. In bounds of
--- `cols` columns from row `top` and column `left` on, entry `way` of `around_index cols at` is the
--- index of `q`. Here `at` is the index of `p`.
+-- Indices count from row `top` and column `left`, in rows of `cols` cells. `q` is the place in
+-- direction `way` from `p`, touches `p` and differs from it. Its index is entry `way` of
+-- `around_index cols at`, where `at` stands for the index of `p`.
 pub record IsOnWay (top left cols at : ℕ) (p : Place) (way : ℕ) (q : Place) : Type 0 where
   pub on : place_on way p ≡ Some q
   pub index : (q.row - top) * cols + (q.col - left) ≡ get_or (around_index cols at) way 0

@@ -1,5 +1,6 @@
--- A lawful grid is within all limits (`IsLawful`). Such a grid stays lawful with as many other
--- cells, if their heights are in range and none equals the NODATA value.
+-- In a lawful grid all parts are within limits, and no height is the NODATA value (`IsLawful`). The
+-- grid stays lawful if equally many cells replace its own, each NODATA or of a height in range and
+-- other than the NODATA value. Places inside the grid may replace its sinks.
 use Rattle.std.proofs.Common.{◌≡◌, ◌≢◌, ◌*◌, ℤ, List, length, get_or, Option, None, Some}
 use Rattle.std.specs.Prelude.{IfSome}
 use Rattle.std.specs.List.{All, Contains}
@@ -18,8 +19,8 @@ heights_kept P old cells all held i d low = at (get_or cells i d) (held i d low)
   at None h = h
   at (Some z) h = All-contains (λ c. IfSome c P) old (Some z) all h
 
--- a grid stays lawful with as many other cells, of heights in range and not NODATA, and with other
--- sinks inside the grid
+-- a lawful grid stays lawful with `cells`, one for each place, and `sinks` inside the grid. Each of
+-- `cells` is NODATA or has a height in range other than the NODATA value.
 pub lawful_with_parts : (g : Raster) (cells : List (Option ℤ)) (sinks : List Place) → IsLawful g
     → length cells ≡ g.terrain.cols * g.terrain.rows → All (λ c. IfSome c IsHeight) cells
     → All (λ c. IfSome c (λ h. scaled_value g.scale g.nodata ≢ Some h)) cells

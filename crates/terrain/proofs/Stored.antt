@@ -1,5 +1,5 @@
--- A height or a count that is stored as a number is read back unchanged. The number that means no
--- data is above every height, or above every count.
+-- A height, or a count below `uncounted`, is read back from its stored number unchanged. Different
+-- numbers store different cells.
 use Rattle.std.proofs.Common.{◌≡◌, ◌≤ℤ◌, ◌<◌, ℕ, ℤ, inl, inr, Option, Some, false, unwrap_or, ap, sym, ◌∙◌, arith}
 use Rattle.std.proofs.lemmas.Int.{ints}
 use Rattle.terrain.specs.Raster.{highest}

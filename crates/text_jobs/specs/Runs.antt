@@ -1,4 +1,4 @@
--- A run is a list of bytes of the text whose heights one job parses. Source: this project.
+-- A run is bytes of a text that one job parses into cells. Source: this project.
 -- Private.
 use Rattle.std.specs.Prelude.{ℕ, ℤ, List, [], Option, slice_index_or}
 use Rattle.ascii_grid.specs.HeightList.{ParserSettings, AreCells}

@@ -1,5 +1,5 @@
 //! Reads a text in batches, which several workers then parse.
-//! A batch is up to 255 pieces in one buffer; a piece is the at most 4,096 bytes of one read.
+//! A batch is up to 255 pieces in one buffer; a piece is the bytes of one read, at most 4,096.
 ghost use Rattle.std.specs.Prelude.{◌≡◌, ◌≤◌, ◌<◌, length, take};
 ghost use Rattle.std.specs.Io.KnownBytes.{IsAtEnd};
 ghost use Rattle.ascii_grid.specs.Device.{HasRead};

@@ -13,7 +13,7 @@ use terrain::Grid;
 use tile_jobs::{Gate, MOST_JOBS};
 use tile_maps::Runner;
 
-/// The caller's thread parses at least this many first bytes of a long batch.
+/// The caller's thread parses at least this many bytes at the front of a long batch.
 ///
 /// They may hold the header, or the rest of a word that began in the previous batch.
 const FRONT_BYTES: usize = 4096;
@@ -22,7 +22,7 @@ const FRONT_BYTES: usize = 4096;
 ///
 /// Heights are in units of 10^-scale. With more than one worker, the caller's thread reads batches
 /// of at most 1 MiB, and jobs parse most heights of batches of 128 KiB or more. If a thread or
-/// memory for jobs is refused, the caller's thread parses all heights of the batch.
+/// memory for jobs is refused, the caller's thread parses the jobs' heights.
 ///
 /// # Memory
 ///

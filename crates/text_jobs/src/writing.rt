@@ -119,7 +119,7 @@ fn write_map<T: Threads + Wait + Sync, G: Gate + Sync, E: MapCell + Sync, W: Wri
 ///
 /// # Memory
 ///
-/// With more than one worker, the text of all rows. If it or a thread is refused, the map is
+/// With more than one worker, the text of all rows. If memory or a thread is refused, the map is
 /// written without jobs, which allocates nothing.
 ///
 /// # Errors
@@ -145,12 +145,12 @@ pub fn write_heights<T: Threads + Wait + Sync, G: Gate + Sync, W: Write>(
     write_map(runner, frame, grid.cells(), frame.nodata().as_bytes(), out)
 }
 
-/// Writes a map of whole numbers by several workers.
-/// Its header is that of `frame`, a grid's header and scale without the cells.
+/// Writes a map of whole numbers, with NODATA -9999, by several workers.
+/// The rest of the header is that of `frame`, a grid's header, scale and sinks without the cells.
 ///
 /// # Memory
 ///
-/// With more than one worker, the text of all rows. If it or a thread is refused, the map is
+/// With more than one worker, the text of all rows. If memory or a thread is refused, the map is
 /// written without jobs, which allocates nothing.
 ///
 /// # Errors
@@ -169,11 +169,12 @@ pub fn write_framed_counts<T: Threads + Wait + Sync, G: Gate + Sync, W: Write>(
     write_map(runner, frame, values, COUNTS_NODATA, out)
 }
 
-/// Writes a map of direction codes, with a frame's header, by several workers.
+/// Writes a map of direction codes, with NODATA -9999, by several workers.
+/// The rest of the header is that of `frame`.
 ///
 /// # Memory
 ///
-/// With more than one worker, the text of all rows. If it or a thread is refused, the map is
+/// With more than one worker, the text of all rows. If memory or a thread is refused, the map is
 /// written without jobs, which allocates nothing.
 ///
 /// # Errors

@@ -1,6 +1,6 @@
--- As a deque is closed, the jobs popped are the last of its deal, the jobs dealt to it. Each
--- job of the deal was taken before or is popped. Each end (handle) joined adds 1 to the number of
--- ends joined, and its jobs to those taken.
+-- As a deque is closed, the owner pops the jobs of its deal, the jobs dealt to it, from some index
+-- on. Each job of the deal was taken before or is popped. Each end (handle) joined adds 1 to the
+-- number of ends joined, and its jobs to those taken.
 use Rattle.std.proofs.Common.{◌≡◌, ◌≢◌, ℕ, zero, suc, ◌+◌, ◌<◌, ◌≤◌, Bool, true, false, true≢false, cond, ◌==◌, nat_lt, add-one, List, [], ◌∷◌, ◌++◌, length, drop, replicate, sym, refl, ap, ◌∙◌, arith}
 use Rattle.std.proofs.lemmas.Bool.{ne_eqb}
 use Rattle.std.proofs.lemmas.List.{append-nil, append_assoc, drop_all}
@@ -44,13 +44,13 @@ pub mark_shows : (marked : Bool) (u : Log) → IsSeated marked u → marked ≡ 
 mark_shows true u is e = let b = is.2 in omega arith
 mark_shows false u is e = absurd (true≢false (sym e))
 
--- Popping job j, at index t of the deal d, keeps this: the popped jobs, then the rest of d, are d
--- from k on.
+-- If the popped jobs p and then the rest of the deal d are d from index k on, they still are once
+-- job j, at index t of d, is popped.
 pub part_more : (d p : List ℕ) (k t j : ℕ) → t ≡ k + length p → p ++ drop t d ≡ drop k d →
     j ∷ drop (suc t) d ≡ drop t d → (p ++ j ∷ []) ++ drop (suc t) d ≡ drop k d
 part_more d p k t j at e next = append_assoc p (j ∷ []) (drop (suc t) d) ∙ ap (λ l. p ++ l) next ∙ e
 
--- Once an end mark is popped, the jobs p popped before it are the last jobs of the deal d.
+-- Once an end mark is popped, the jobs p popped before it are the deal d from some index on.
 pub part_ends : (d p : List ℕ) (k t m : ℕ) → p ++ drop t d ≡ drop k d → (m ≡ 0 → length d ≤ t) →
     (0 < m → p ≡ []) → (i : ℕ) × (p ≡ drop i d)
 part_ends d p k t zero e past none =

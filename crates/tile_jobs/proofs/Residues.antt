@@ -1,6 +1,6 @@
 -- A job's remainder by `seats` is the number of its deque. If a list of jobs is split by deque, the
--- parts' lengths add up to its length. Which entry is at an index of a deque's feed: the deque's
--- jobs, then its end marks.
+-- parts' lengths add up to its length. A deque's feed, all entries pushed to it, has its jobs in
+-- rising order, then its end marks.
 use Rattle.std.proofs.Common.{◌≡◌, ◌≢◌, ℕ, zero, suc, ◌+◌, ◌%◌, ◌<◌, ◌≤◌, Bool, true, false, cond, ◌==◌, List, [], ◌∷◌, ◌++◌, length, drop, replicate, sym, refl, ap, ◌∙◌, arith, inl, inr}
 use Rattle.std.proofs.lemmas.Bool.Decides.{nat_tests}
 use lib.ListN.{length-append, length-replicate}

@@ -45,8 +45,8 @@ left_of_feed items views h port u at can =
     h.held ∙ ap (drop (total taken views))
     (rw (all_pushed items views h port u at can) (take_all (length all) all (omega arith)))
 
--- A take keeps `Lawful` if the pass's new view w is lawful (`IsOf`) and counts the entry. The end
--- marks due and taken together (`share`) have to be as many as in u.
+-- A take by a pass that may take (`CanTake`) keeps `Lawful` if the pass's new view w is lawful
+-- (`IsOf`), counts the entry, and has the `share` (end marks due or taken) of its old view u.
 taken_after : (x : Entry) (items : List Entry) (views : List Log) (h : Lawful (x ∷ items) views)
     (port : ℕ) (u w : Log) → get_elem? views port ≡ some u → CanTake u
     → taken w ≡ suc (taken u) → share w ≡ share u → ((y : ℕ) → times y (all_taken w)
@@ -152,7 +152,7 @@ takes_mark items views h port u at can =
       refl,
     )
 
--- A pass that may take keeps `Lawful` when it takes the first entry, as `Took` says.
+-- A pass that may take keeps `Lawful` when it takes the first entry; its view changes as in `Took`.
 pub takes : (port : ℕ) (u : Log) → CanTake u → Takes Lawful port u 1 (Took u)
 takes port u can [] items views some_x few h at = absurd (omega arith)
 takes port u can (x ∷ y ∷ zs) items views some_x few h at = absurd (omega arith)

@@ -1,6 +1,6 @@
 -- The states of seats, of their ends (handles of deques), of dealers and of deques being closed,
--- and how calls change these states. A dealer fills one deque and makes its ends. A `Log` is the
--- view of a pass: what was pushed and taken by one right to act on a deque (see Rule).
+-- and how calls change these states. A dealer fills one deque and makes its ends. A pass is a right
+-- to act on a deque. Its view, a `Log`, records the pushes and takes made by it (see Rule).
 -- Public.
 use Rattle.std.specs.Prelude.{◌≡◌, ◌≢◌, ℕ, zero, suc, ◌%◌, ◌<◌, ◌≤◌, ◌⊎◌, Bool, true, false, cond, nat_lt, ◌==◌, List, [], ◌∷◌, ◌++◌, length, get_or, drop, All}
 use Rattle.std.specs.List.{concat}
@@ -219,8 +219,8 @@ pub record IsDeal (jobs seats : ℕ) (ss : List SeatState) : Type 0 where
   pub ends : (s k : ℕ) (d : SeatState) (e : EndState) → s < seats → suc k < seats →
       (get_or (get_or ss s d).others k e).id ≡ (get_or ss (skip s k) d).own.id
 
--- A deque that is being closed. `took` has the jobs that its owner took, `gathered` those taken at
--- the ends joined to the owner's. `marked`: whether the owner took an end mark.
+-- A deque that is being closed. `took` has the jobs that its owner took before or pops to close it,
+-- `gathered` those taken at the ends joined to the owner's. `marked`: the owner took an end mark.
 pub record ClosingState : Type 0 where
   pub id : DequeId
   pub jobs : ℕ

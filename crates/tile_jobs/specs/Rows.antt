@@ -31,7 +31,7 @@ WithoutHeads n v rows new = (s : ℕ) (d : Vec EndState Global) → s < n →
 
 -- `left` has the jobs left in the deque of seat v, whose own end is `own`.
 pub record IsLeftOf (own : EndState) (n v : ℕ) (rows : Rows) (left : List ℕ) : Type 0 where
-  -- The jobs left are the last of the jobs dealt to the deque, or none.
+  -- The jobs left are those from some index of the deque's deal on, perhaps none.
   pub part : (k : ℕ) × (left ≡ drop k (deal own.jobs own.seats own.deque))
   -- No job is left if some seat has its end mark of this deque.
   pub own_mark : own.marked ≡ true → left ≡ []

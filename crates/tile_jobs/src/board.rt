@@ -16,9 +16,9 @@ use crate::seat::Seat;
 use crate::{JobFault, MOST_JOBS, MOST_WORKERS, check_workers};
 use std::alloc::Global;
 
-/// Joins deque `v`'s ends, one in each row but row `v`, to its owner's end, `own`.
-/// A row has a seat's ends of the other deques not closed yet. Deques close in order, so the end
-/// of deque `v` is the first of the row.
+/// Joins deque `v`'s ends (handles), one in each row but row `v`, to its owner's end, `own`.
+/// A row has a seat's ends of the other deques not closed yet. Deques close in order, so an end of
+/// deque `v` is the first of its row.
 fn join_ends(own: OwnEnd, rows: &mut Vec<Vec<OtherEnd>>, v: usize) -> Closing
     requires own { v < vec_len rows.old }
     requires ids { HaveHeads (vec_len rows.old) v rows.old.items own.id }

@@ -179,7 +179,7 @@ pub(crate) fn pop(worker: &mut Deque) -> Entry
     }
 }
 
-/// Pops the next entry in the order pushed, with all passes joined to the owner's.
+/// Pops the next entry in the order pushed. All other passes must be joined to the owner's.
 pub(crate) fn pop_next(worker: &mut Deque) -> Entry
     requires can { CanTake (worker_view worker.old) }
     requires whole { ((worker_view worker.old).owns ≡ true)

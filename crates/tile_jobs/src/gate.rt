@@ -1,10 +1,9 @@
 //! [`Gate`]: callbacks before each stage and job, and after each job or part of a job.
 //!
-//! A stage is one run of jobs.
-//!
-//! Tests use a gate to hold jobs; the program uses one to report progress.
+//! A stage is one run of jobs. Tests use a gate to hold jobs; the program uses one to report
+//! progress.
 
-/// Observes the jobs of a run, stage by stage. Only `enter` has no default.
+/// Observes stages and their jobs. Only `enter` has no default.
 pub trait Gate {
     /// Called once before each job, on the thread that runs it; may block.
     fn enter(&self, job: u32);

@@ -62,7 +62,7 @@ pub enum JobFault {
     Memory,
     /// The number of workers or seats is 0 or above `MOST_WORKERS`.
     BadWorkers,
-    /// A thread could not be started.
+    /// A thread could not be started, or [`run_jobs_capped`] needs more threads than it may start.
     NoThread,
 }
 

@@ -1,7 +1,6 @@
 //! A push to a list that has spare capacity: it neither allocates nor fails.
 ghost use Rattle.std.specs.Prelude.{◌≡◌, suc, ◌<◌, ◌≤◌, [], ◌∷◌, ◌++◌, vec_len, vec_capacity};
 
-/// Pushes an element to a list with spare capacity. Never allocates.
 pub(crate) fn put<T: Drop>(list: &mut Vec<T>, x: T)
     requires { vec_len list.old < vec_capacity list.old }
     ensures items { list.new.items ≡ list.old.items ++ x ∷ [] }

@@ -22,9 +22,9 @@ fn join_all<R: Threads, T: Drop, P: Promise<T>>(rt: &R, children: Vec<PromisedHa
 
 /// Runs each seat's worker on a thread of its own, and joins all threads.
 ///
-/// Starts at most `starts` threads. Returns [`JobFault::NoThread`] if there are more seats than
-/// `starts` and memory suffices. Every started thread is joined before the call returns, even on
-/// an error.
+/// Starts at most `starts` threads. Returns [`JobFault::NoThread`] if a thread cannot be started,
+/// or if memory suffices and there are more seats than `starts`. Every started thread is joined
+/// before the call returns, even on an error.
 pub(crate) fn run_on_threads<'s, E, R: Threads + Wait + Sync, W: Work + Sync, G: Gate + Sync>(
     rt: &'s R,
     alloc: Global,

@@ -16,7 +16,7 @@ pub trait TileMap {
     // The grid's size and the side of its tiles.
     ghost cutting: { Self → Cutting };
 
-    // Whether the map may have this entry at this place.
+    // The map may have this entry at this place.
     ghost has: { Self → Place → Self.Entry → Type 0 };
 
     /// Returns the tiling of the grid.

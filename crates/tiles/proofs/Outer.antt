@@ -11,8 +11,8 @@ pub filter_map_one : {X : Type 0} (o : Option X) →
 filter_map_one None = refl
 filter_map_one (Some x) = refl
 
--- the first `way + 1` options of `xs` have the passing values of the first `way`, then the value of
--- entry `way`, if it has a value that passes
+-- the passing values of the first `way + 1` options of `xs` are those of the first `way`, then the
+-- value of entry `way`, if it has one that passes
 pub filter_ways_more : {X : Type 0} (test : X → Bool) (xs : List (Option X)) (way : ℕ) →
     way < length xs →
     filter test (filter_map (λ (x : Option X). x) (take (way + 1) xs)) ≡ filter test (filter_map

@@ -1,4 +1,4 @@
--- The tiles' lists are merged into the grid's list row by row, and each row tile by tile.
+-- The tiles' lists, merged row by row and each row tile by tile, make the list of the grid.
 use Rattle.std.proofs.Common.{◌≡◌, ℕ, ◌+◌, ◌-◌, ◌*◌, ◌/◌, ◌%◌, ◌<◌, ◌≤◌, min, List, ◌++◌, length, drop, Option, Some, None, sym, ap, subst, refl, ◌∙◌, arith, inl, inr, slice_get, slice_range, Vec}
 use Rattle.std.specs.declared.alloc.Global.{Global}
 use Rattle.std.specs.Prelude.{option_and_then}

@@ -24,7 +24,7 @@ longest_side = 4096
 abbrev pub most_tiles : ℕ
 most_tiles = 65536
 
--- A cutting: how many columns and rows the grid has, and how many cells a tile's side.
+-- A cutting: the numbers of columns and rows of a grid, and of cells along a tile's side.
 pub record Cutting : Type 0 where
   pub cols : ℕ
   pub rows : ℕ

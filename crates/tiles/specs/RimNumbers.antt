@@ -10,8 +10,8 @@ use Rattle.tiles.specs.Cutting.{Cutting, bounds_of, tile_count, tile_of_place}
 abbrev pub stride : Bounds → ℕ
 stride largest = 2 * largest.cols + 2 * largest.rows
 
--- The number, from 0, that rim cell p has in its tile, of bounds b, and the rim cell of number i in
--- that tile. Numbers run along the first row, the last row, the first column, then the last column.
+-- In a tile of bounds b: the number, from 0, of rim cell p, and the rim cell of number i. Numbers
+-- run along the first row, the last row, the first column, then the last column.
 abbrev pub side_number : Bounds → Bounds → Place → ℕ
 side_number largest b p =
     if p.row == b.top then p.col - b.left

@@ -1,4 +1,4 @@
--- A take changes neither a seat's number nor which deques it has, so the seats stay those dealt.
+-- A take keeps a seat's number and its set of deques, so the seats stay those dealt.
 use Rattle.std.proofs.Common.{rules, arith, ◌≡◌, ℕ, ◌<◌, List, ◌++◌, length, take, drop, get_or, sym, ap, ◌∙◌}
 use Rattle.std.proofs.lemmas.Grind.{common_steps}
 use Rattle.tile_jobs.specs.Ends.{SeatState, IsDeal, SameSeat}

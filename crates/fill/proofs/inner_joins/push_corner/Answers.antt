@@ -12,17 +12,17 @@ returns-then-has_same_label c =
     inr (same_label_adds c.args.flood.now c.args.left_out.now.sources c.args.index c.args.near
     c.args.from _ c.requires.from (OnTrue_at c.if-has_same_label.true c.has_same_label.ensures))
 
-pub returns-then-is_left_out : goal.returns-then-is_left_out
-returns-then-is_left_out c = inl (
+pub returns-then-is_bypassed : goal.returns-then-is_bypassed
+returns-then-is_bypassed c = inl (
   inl (rw (c.mark_of_entry-to.ensures, c.mark_of_entry.ensures) at
-      (OnTrue_at c.if-is_left_out.true c.is_left_out.ensures)),
+      (OnTrue_at c.if-is_bypassed.true c.is_bypassed.ensures)),
   refl,
 )
 
-pub returns-then-is_left_out-2 : goal.returns-then-is_left_out-2
-returns-then-is_left_out-2 c = inl (
+pub returns-then-is_bypassed-2 : goal.returns-then-is_bypassed-2
+returns-then-is_bypassed-2 c = inl (
   inr (rw (c.mark_of_entry-to.ensures, c.mark_of_entry-2.ensures) at
-      (OnTrue_at c.if-is_left_out-2.true c.is_left_out-2.ensures)),
+      (OnTrue_at c.if-is_bypassed-2.true c.is_bypassed-2.ensures)),
   refl,
 )
 

@@ -40,8 +40,8 @@ returns-then-near-place g c =
     (ap (λ (z : LeftOutJoins). z.sources) c.left_out.view_is) at c.push_join.ensures)
 
 -- If the cell below bypasses the join, `Adds` holds of an unchanged list.
-pub returns-then-is_left_out : goal.returns-then-is_left_out
-returns-then-is_left_out g c =
+pub returns-then-is_bypassed : goal.returns-then-is_bypassed
+returns-then-is_bypassed g c =
     let marks = g.C.MarkedCells.marks c.args.cells.now in
     let on = sym c.place_on.ensures ∙ c.in-Some.is in
     let row = next_row c.args.place c.in-Some.near c.args.way c.requires.after on (λ e.
@@ -52,10 +52,10 @@ returns-then-is_left_out g c =
     (record { row = c.args.place.row + 1; col = c.args.place.col })
     c.args.from c.args.below c.mark-to.result
     (inl (sym row, refl)) c.requires.from c.requires.below c.mark-to.ensures row
-    (λ e. c.if-near-place.false (sym e)) (OnTrue_at c.if-is_left_out.true c.is_left_out.ensures))
+    (λ e. c.if-near-place.false (sym e)) (OnTrue_at c.if-is_bypassed.true c.is_bypassed.ensures))
 
-pub returns-then-is_left_out-2 : goal.returns-then-is_left_out-2
-returns-then-is_left_out-2 g c =
+pub returns-then-is_bypassed-2 : goal.returns-then-is_bypassed-2
+returns-then-is_bypassed-2 g c =
     let marks = g.C.MarkedCells.marks c.args.cells.now in
     let on = sym c.place_on.ensures ∙ c.in-Some.is in
     let row = next_row c.args.place c.in-Some.near c.args.way c.requires.after on (λ e.
@@ -67,7 +67,7 @@ returns-then-is_left_out-2 g c =
     c.args.from c.mark-beside.result c.mark-to.result
     (inr (refl, refl)) c.requires.from c.mark-beside.ensures c.mark-to.ensures row
     (λ e. c.if-near-place.false (sym e))
-    (OnTrue_at c.if-is_left_out-2.true c.is_left_out-then-near-place-2.ensures))
+    (OnTrue_at c.if-is_bypassed-2.true c.is_bypassed-then-near-place-2.ensures))
 
 pub returns : goal.returns
 returns g c =

@@ -13,7 +13,7 @@ use Rattle.sightlines.proofs.Ranges.{none_from, none_joined, any_within}
 use Rattle.sightlines.proofs.LowBlocks.{step_above, step_passed}
 use Rattle.sightlines.proofs.passing.blocking_step_past_blocks.Goals as goal
 
--- if the line is not below the peak at step k and at its end, no step from k on blocks
+-- if the line is at or above the peak at step k and at its end, no step from k on blocks
 none_above : (cells tops : List (Option ℤ)) (line : Sightline) (s : BlockStrides) (peak : ℤ)
     (k : ℕ) (here : Step) → 0 < steps_of line → k ≤ steps_of line → IsAt line k here →
     AreTopsAlong 128 cells tops line s → IsPeak tops peak
