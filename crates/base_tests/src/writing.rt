@@ -287,8 +287,8 @@ fn failure_past_the_first_page(rt: HostRuntime) -> Result<(), Fail> {
     Ok(())
 }
 
-/// Writes 50 bytes a call, interrupted at `call`.
-/// Asserts that only the bytes of the earlier calls were taken.
+/// Writes `lenient_grid`, 50 bytes a call, interrupted at `call`.
+/// Asserts that exactly the bytes of the earlier calls were taken.
 fn write_until(rt: &impl Abort, alloc: Global, grid: &Grid, call: usize, failures: u64) {
     let mut taker = Taker::new(alloc, 50, ALL);
     taker.interrupted_at = Some(call);

@@ -12,12 +12,12 @@ pub record LabelTable : Type 0 where
   pub places : List (Option Place)
   pub indexes : List ℕ
 
--- The labels of cells, whose indexes into the table `places` are `cells`.
+-- The cells' labels. `cells` has the index of each cell's label in the table `places`.
 abbrev pub labels_by : List (Option Place) → List ℕ → List (Option Place)
 labels_by places cells = map (λ k. slice_index_or places k None) cells
 
--- The table is None, then places, at most as many as cells. `cells` has each cell's index, which
--- lies in the table. Each place of the table is the label of some cell.
+-- The table `places` begins with None; then come places, at most as many as cells. `cells` has the
+-- index of each cell's label in the table. Each place of the table is the label of some cell.
 pub record IsTable (places : List (Option Place)) (cells : List ℕ) : Type 0 where
   pub few : length places ≤ length cells + 1
   pub first : slice_index_or places 0 None ≡ None

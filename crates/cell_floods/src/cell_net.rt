@@ -134,8 +134,8 @@ fn queue_neighbour_out_of_line(
 }
 
 /// Returns whether the neighbour `cell` need not be queued.
-/// It has no data, or `noted`, its least crest so far, is at most the greater of its height and
-/// `top`. `top` is the level of the cell from which `cell` would be queued.
+/// It has no data, or `noted`, its least crest so far (`NO_DATA` if none), is at most the greater
+/// of its height and `top`. `top` is the level of the cell from which `cell` would be queued.
 #[inline(always)]
 fn is_passed(cell: Cell, top: Height, noted: Height) -> bool
     ensures { OnTrue result (IsPassed cell top noted) }

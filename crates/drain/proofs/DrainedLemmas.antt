@@ -62,7 +62,7 @@ are_draining t steps codes are all = record {
       ];
 }
 
--- a terrain without sinks is given by its size and cells
+-- a terrain with its sinks removed is given by its size and cells
 pub same_terrain : (t : Terrain) (cols rows : ℕ) (cells : List (Option ℤ)) →
     cols ≡ t.cols → rows ≡ t.rows → cells ≡ t.cells →
     with_sinks t [] ≡ record { cols = cols; rows = rows; cells = cells; sinks = [] }

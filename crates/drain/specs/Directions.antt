@@ -1,4 +1,4 @@
--- The D8 direction of each cell. The heights of the terrain are its filled heights.
+-- The D8 direction of each cell of a filled terrain: the terrain's heights are filled heights.
 -- Source: the D8 method of Jenson and Domingue (1988), with this project's ties and outlets.
 -- Trust base.
 use Rattle.std.specs.Prelude.{◌≡◌, ℕ, ◌+◌, ◌*◌, ◌≤◌, ◌||◌, ◌==◌, if◌then◌else◌, List, length, Option, None, Some, MatchOption}

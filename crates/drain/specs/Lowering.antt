@@ -124,8 +124,8 @@ pub record IsEntered (c : Cutting) (entries : List Entry) (from end : ℕ)
       counts (index_of c.cols e.change.place) ≤ e.change.count
 
 -- The changes are the result of a tile's job: they apply the entries at indexes `from..end`.
--- With the changes, no count inside the tile is more than one above that of a neighbour of equal
--- height.
+-- With the changes, no count of the tile is more than one above that of a neighbour of equal height
+-- in the same tile.
 pub record IsTileResult (t : Terrain) (c : Cutting) (tile : ℕ) (steps : List (Option ℕ))
     (entries : List Entry) (from end : ℕ) (changes : List Change) : Type 0 where
   pub counts : ℕ → ℕ

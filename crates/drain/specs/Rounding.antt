@@ -64,8 +64,8 @@ pub record AreJobs (j : Jobs) : Type 0 where
   pub rounding : IsRounding j.rounding
   pub runs : AreRuns j.rounding.entries (tile_count j.rounding.cutting) j.runs
 
--- The changes are a result of the run: they apply its entries to its tile. With them, no count
--- inside the tile is more than one above that of a neighbour of equal height.
+-- The changes are a result of the run: they apply its entries to its tile. With them, no count of
+-- the tile is more than one above that of a neighbour of equal height in the same tile.
 abbrev pub IsRunResult : Rounding → Run → List Change → Type 0
 IsRunResult r run changes =
     IsTileResult (levels_of r) r.cutting run.tile r.steps r.entries run.from run.end changes

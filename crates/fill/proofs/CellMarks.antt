@@ -400,8 +400,8 @@ pub shift_back : (first : ℕ) (o : Option CellMark) (m : CellMark) →
 shift_back first None m e = absurd (cc)
 shift_back first (Some n) m e = (n, refl, same_Some _ m e)
 
--- A place's mark by number is its mark by index in the tile's table, with the table's first number
--- added to that index.
+-- A mark gives a label by its number or by its index in the tile's table. A place's mark by number
+-- is its mark by index, with the table's first number added to the index.
 pub among_shift : (c : Cutting) (floods : List Flood) (tile : ℕ) (f : Flood) (p : Place) →
     slice_get floods tile ≡ Some f → tile_of_place c p ≡ tile →
     mark_among c floods p ≡ option_map (shift (first_of floods tile)) (mark_in 0 f p)

@@ -113,7 +113,7 @@ make_arc to height = record { to = to; height = height }
 one : (x k : Join) → Contains (x ∷ []) k → k ≡ x
 one x k h = elim (cons_cases x [] k h) [ inl same ↦ same | inr none ↦ absurd (no_join k none) ]
 
--- A list with one more arc, which is that of join `j`, has just the old arcs and that of `j`.
+-- A list with one more arc, an arc of join `j`, has just the old arcs and that one.
 one_arc : (j : Join) (w : Spill) (old new : List Spill) (a b : ℕ) (h : ℤ) → new ≡ w ∷ old →
     (make_arc b h ≡ w ↔ IsJoinOf (j ∷ []) a b h)
     → Contains new (make_arc b h) ↔ (Contains old (make_arc b h) ⊎ IsJoinOf (j ∷ []) a b h)

@@ -1,5 +1,5 @@
 -- The spill graph with labels given by number: its arcs are those of the joins. A flood from the
--- sources that have arcs, with the heights of other sources, gives each label's least crest.
+-- sources with arcs gives each label's least crest, once other sources have their heights.
 use Rattle.std.proofs.Common.{◌≡◌, ℕ, zero, suc, ◌+◌, ◌<◌, ◌⊎◌, ◌↔◌, inl, inr, true, false, ℤ, pos, ◌≤ℤ◌, List, [], ◌∷◌, ◌++◌, length, get_or, replicate, Option, None, Some, is_some, unwrap_or, ◌∙◌, sym, ap, subst, refl, arith}
 use Rattle.std.specs.Prelude.{IsSome, MatchOption}
 use Rattle.std.specs.Int.{int_max}
@@ -257,7 +257,8 @@ module _ (arcs : List (List Spill)) (sources : List (Option ℤ)) where
         (none [] (subst (λ (o : Option ℤ). IsSome o) (sym (source_is a has)) (ap is_some some.1)))
   ]
 
-  -- The ends of the walks of `levels_or`: the flood's label or, if None, a source's own number.
+  -- For each entry of `levels_or`, the end of a walk of that crest: the flood's label or, if None,
+  -- a source's own number.
   abbrev labels_or : ℕ → List (Option ℕ) → List (Option ℤ) → List (Option ℕ)
   labels_or a [] rest = []
   labels_or a (label ∷ labels) [] = []

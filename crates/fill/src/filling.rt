@@ -32,7 +32,7 @@ use tile_jobs::{Gate, JobFault, Work};
 use tile_maps::Runner;
 use tiles::Tiling;
 
-/// A tile's flood, and the joins inside the tile, except those that [`LeftOut`] names.
+/// A tile's flood, and the joins inside the tile, except those that [`LeftOut`] describes.
 #[derive(Drop)]
 struct FloodWithJoins {
     flood: TileFlood,
@@ -112,8 +112,8 @@ fn tile_floods<R: Threads + Wait + Sync, G: Gate + Sync>(
     Ok((floods, inner))
 }
 
-/// Makes the spill graph of the floods, without the joins that [`LeftOut`] names.
-/// `inner` has the joins inside each tile, except those that [`LeftOut`] names.
+/// Makes the spill graph of the floods, without the joins that [`LeftOut`] describes.
+/// `inner` has the joins inside each tile, except those that [`LeftOut`] describes.
 fn spill_graph(
     alloc: Global,
     tiles: &NumberedFloods<'_>,
@@ -137,7 +137,7 @@ fn spill_graph(
 }
 
 /// Returns the least crest from each label to an end cell, by a flood of the spill graph.
-/// `inner` has the joins inside each tile, except those that [`LeftOut`] names.
+/// `inner` has the joins inside each tile, except those that [`LeftOut`] describes.
 fn label_levels(
     alloc: Global,
     tiles: &NumberedFloods<'_>,
@@ -157,7 +157,7 @@ fn label_levels(
 
 /// Returns the filled height of each cell, in row order.
 /// Floods the spill graph on the caller's thread, then raises each tile in a job.
-/// `inner` has the joins inside each tile, except those that [`LeftOut`] names.
+/// `inner` has the joins inside each tile, except those that [`LeftOut`] describes.
 fn filled_cells<R: Threads + Wait + Sync, G: Gate + Sync>(
     runner: &Runner<'_, R, G>,
     tiling: &Tiling,

@@ -29,7 +29,7 @@ fn push_shifted(joins: &mut Vec<Join>, first: u32, inner: &[Join]) -> Result<(),
     Ok(())
 }
 
-/// Returns the joins inside tiles and over rims, except those that `left_out` names.
+/// Returns the joins inside tiles and over rims, except those that `left_out` describes.
 /// `inner` has those inside each tile, with labels by index in the tile's table.
 pub(crate) fn graph_joins(
     alloc: Global,

@@ -112,8 +112,8 @@ fn push_corner(
 }
 
 /// Adds the joins of a cell with its neighbours after it in row order.
-/// Leaves out the joins that `left_out` names. The cell has index `index` and mark `from`, and the
-/// four places after it all lie in the tile. `width` is the number of the tile's columns.
+/// Leaves out the joins that `left_out` describes. The cell has index `index` and mark `from`, and
+/// the four places after it all lie in the tile. `width` is the number of the tile's columns.
 fn push_after(
     table: &mut JoinTable,
     flood: &TileFlood,
@@ -156,8 +156,8 @@ fn are_equal_after(labels: &[u32], index: usize, width: usize) -> bool
 }
 
 /// Adds the joins of a cell with its neighbours after it in row order.
-/// The four places after the cell must lie in the tile. Leaves out the joins that `left_out` names.
-/// Most cells have the same label as all four places, and so no join.
+/// The four places after the cell must lie in the tile. Leaves out the joins that `left_out`
+/// describes. Most cells have the same label as all four places, and so no join.
 #[inline(always)]
 fn push_inner_cell(
     table: &mut JoinTable,
@@ -183,7 +183,7 @@ fn push_inner_cell(
 }
 
 /// Adds the joins of a row's cells whose four places after them lie in the tile.
-/// Leaves out the joins that `left_out` names.
+/// Leaves out the joins that `left_out` describes.
 fn push_inner_cells(
     table: &mut JoinTable,
     flood: &TileFlood,
@@ -206,7 +206,7 @@ fn push_inner_cells(
 }
 
 /// Adds the joins of the cells of row `row` with later neighbours in the tile.
-/// Leaves out the joins that `left_out` names.
+/// Leaves out the joins that `left_out` describes.
 fn push_row(
     table: &mut JoinTable,
     flood: &TileFlood,
@@ -227,7 +227,7 @@ fn push_row(
     Ok(())
 }
 
-/// Returns the joins inside a tile, except those that `left_out` names.
+/// Returns the joins inside a tile, except those that `left_out` describes.
 /// A join gives each label by its index in the tile's table.
 pub(crate) fn inner_joins(
     alloc: Global,

@@ -2,7 +2,7 @@
 //!
 //! [`push_outer_cells`] adds those of one row. The four places after such a cell (E, SE, S and SW
 //! of it) do not all lie in the tile. A [`MarkedCells`] has the mark (level and label) of each
-//! cell, and says with which cells joins are wanted. Joins that a [`LeftOut`] names are left out.
+//! cell, and says with which cells joins are wanted. A [`LeftOut`] describes joins to leave out.
 ghost use Rattle.std.specs.Prelude.{◌≡◌, ◌+◌, ◌<◌, ◌≤◌, ◌∷◌, [], List, Bool, Some, true, OnOk};
 ghost use Rattle.terrain.specs.declared.place.Place.{Place};
 ghost use Rattle.tiles.specs.Cutting.{IsInBounds, IsWithinLimits};
@@ -61,7 +61,7 @@ pub(crate) fn push_join<J: JoinList>(
 
 /// Adds the join of the cell at `place` with the cell in direction `way`, if wanted.
 /// `way` is 0 for E, 1 for SE, 2 for S or 3 for SW. `from` is the cell's mark, and `below` that of
-/// the place south of the cell. Leaves out the joins that `left_out` names.
+/// the place south of the cell. Leaves out the joins that `left_out` describes.
 #[inline(always)]
 fn push_on_way<C: MarkedCells, J: JoinList>(
     joins: &mut J,
@@ -152,8 +152,9 @@ fn push_row<C: MarkedCells, J: JoinList>(
     Ok(())
 }
 
-/// Adds the wanted joins of a row's cells whose four places after them are not all in the tile.
-/// Such cells are all those of the tile's last row, and the first and last of any other row.
+/// Adds the wanted joins of a row's outer cells with the neighbours after them.
+/// A cell is outer if the four places after it are not all in the tile. These are all cells of the
+/// tile's last row, and the first and last of any other row.
 pub(crate) fn push_outer_cells<C: MarkedCells, J: JoinList>(
     joins: &mut J,
     cells: &C,

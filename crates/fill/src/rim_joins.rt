@@ -155,7 +155,7 @@ impl JoinList for Vec<Join> {
 }
 
 /// Adds the joins of a tile's cells with cells of other tiles after them in row order.
-/// Leaves out the joins that `left_out` names.
+/// Leaves out the joins that `left_out` describes.
 pub(crate) fn push_rim_joins(
     joins: &mut Vec<Join>,
     tiles: &NumberedFloods<'_>,

@@ -1,5 +1,6 @@
--- Three counts of cells, each a sum of 1 or 0 over all cells. They count cells whose flow paths
--- contain p, reach p without leaving their tile, or enter p from another tile.
+-- Three counts of cells, each a sum of 1 or 0 over all cells. The first counts cells whose flow
+-- paths contain p. The second counts cells whose paths reach p without leaving their tile, the
+-- third those whose paths enter p from another tile.
 use Rattle.std.proofs.Common.{◌≡◌, ◌≢◌, ℕ, ◌+◌, ◌-◌, ◌*◌, ◌<◌, ◌≤◌, Bool, true, false, not, ◌&&◌, cond, Option, is_some, sym, ap, refl, ◌∙◌, arith}
 use Rattle.std.proofs.Math.Nat.{mul-le-mul}
 use Rattle.std.proofs.lemmas.Bool.{and_from, and_left, and_right, eq-eqb, cond-true, cond-false, false_from_ne_true, not_from_true, not_from_false}

@@ -44,7 +44,7 @@ adds_off (Some q) amount p other =
     cond-false {A = ℕ} _ amount 0 (false_from_ne_true _ (λ y. other q refl (place_is _ _ y)))
 
 module _ (t : Cutting) (h : IsCutting t) (listed : List ℕ) where
-  -- Only the side number of p itself adds to the weight of p.
+  -- No side number but that of p adds to the weight of p.
   only_own : (p : Place) → IsWithin t p → (side : ℕ) → side ≢ side_number (bounds_of t 0)
       (bounds_of t (tile_of_place t p)) p → adds t listed (tile_of_place t p) side p ≡ 0
   only_own p w side ne =

@@ -18,7 +18,7 @@ pub enum Map {
     },
     /// Viewshed: how many of the observers see each cell.
     ///
-    /// `target` is a height in units of 10^-scale, `radius` a number of cells.
+    /// `target` is a height above the ground in units of 10^-scale, `radius` a number of cells.
     View {
         observers: Vec<Observer>,
         target: u32,

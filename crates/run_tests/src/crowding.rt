@@ -1,4 +1,4 @@
-//! At each stage of a run, as many jobs run at once as there are workers.
+//! At each stage of a map with as many tiles as workers, the jobs of all tiles run at once.
 use relief::{Counted, Gate, Map, Observer, Options, Place, run_gated};
 use std::alloc::{AllocError, Global};
 use std::process::Abort;
@@ -75,7 +75,8 @@ fn level_strip(alloc: Global, tiles: u32) -> Result<Vec<u8>, Fail> {
     Ok(text)
 }
 
-/// Asserts that each stage runs the jobs of all tiles at once, with as many workers as tiles.
+/// Asserts that each stage of the map runs the jobs of all tiles at once.
+/// There are as many tiles as workers.
 fn expect_crowded<R: Abort + Threads + Wait + Sync>(
     rt: &R,
     alloc: Global,

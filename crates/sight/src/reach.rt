@@ -1,4 +1,4 @@
-//! Whether any cell of a tile is within the radius of an observer.
+//! Tests whether a cell of a tile may be within the radius of an observer.
 ghost use Rattle.std.specs.Prelude.{◌≡◌, ◌+◌, ◌<◌, ◌≤◌, false};
 ghost use Rattle.std.specs.Bool.{OnFalse};
 ghost use Rattle.terrain.specs.declared.place.Place.{Place};
@@ -9,7 +9,8 @@ use sightlines::is_in_reach;
 use terrain::Place;
 use tiles::Bounds;
 
-/// Whether the place of the bounds nearest to `eye` is within the radius.
+/// Returns whether the place of the bounds nearest to `eye` is within the radius.
+/// If not, no place of the bounds is.
 pub(crate) fn is_any_in_reach(eye: Place, bounds: Bounds, radius: u32) -> bool
     requires eye { (eye.row < 4096) × (eye.col < 4096) }
     requires some { (1 ≤ bounds.rows) × (1 ≤ bounds.cols) }

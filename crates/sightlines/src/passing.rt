@@ -13,7 +13,7 @@ use terrain::{Cell, Height};
 /// The most blocks that `is_clear_of_blocks` compares with a line.
 const MOST_BLOCKS: u32 = 5;
 
-/// The distances, in the list of blocks, of neighbouring blocks along a line.
+/// The distances, in the list of blocks, of neighbouring blocks along each coordinate of a line.
 /// `lead` is along the leading coordinate, `side` along the other.
 #[derive(Clone, Copy)]
 pub struct BlockStrides {
@@ -158,9 +158,9 @@ fn is_clear(peak: Height, line: Sightline, here: Step) -> bool
 }
 
 /// Returns a step between a line's two ends with ground above the line, if any.
-/// The walk ends once the line cannot fall below the peak. It tests the near block where it begins,
-/// which is seldom below the line; later it skips far or near blocks below the line. Adds the
-/// number of crossings of each near block that it tests to `crossings_tested`.
+/// At step 1, and where a far block begins, the walk ends if the line cannot fall below the peak.
+/// It tests the near block where it begins, which is seldom below the line; later it skips far or
+/// near blocks below the line. Adds each tested near block's crossings to `crossings_tested`.
 #[inline(never)]
 pub(crate) fn blocking_step_past_blocks(
     cells: &[Cell],
