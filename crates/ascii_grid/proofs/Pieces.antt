@@ -56,7 +56,8 @@ piece_sound remaining old new room n r r' step =
     (subst (λ (z : Result (Unit {0}) GridFault). Feeds r r' step.bytes z)
     step.answered.0 step.feeds).fault
 
--- the bytes read before and the bytes of one more piece are at most 2^29 + 1 together
+-- let `taken` bytes be read before. If the room for one more piece is at most 2^29 + 1 - `taken`,
+-- all bytes with the piece are at most 2^29 + 1 (`Takes`)
 abbrev takes : {R : Type 0} (remaining : R → Option (List ℕ)) (first old new : Device R)
     (scale taken room : ℕ) (r r' : Reader) (result : Result (Option ℕ) InputFault) →
     HasFedSoFar remaining first old scale r taken → ReadsPiece remaining old new r r' room result →

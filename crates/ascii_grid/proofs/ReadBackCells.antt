@@ -189,7 +189,8 @@ reads_cell d nodata (Some z) few h height apart =
           (scaled_value d (height_text d z)) not_nodata ∙ value;
     }
 
--- the texts of `cells`, the grid's last cells, have no fault as heights after `place` others
+-- if the text of each of `cells`, the grid's last cells, reads as that cell, these texts have no
+-- fault as heights after `place` others
 pub no_heights_fault : (d : ℕ) (header : List Word)
     (nodata : Word) (place : ℕ) (cells : List (Option ℤ)) → missing_fault header ≡ None →
     nodata_for header ≡ nodata → place + length cells ≡ cells_wanted header →

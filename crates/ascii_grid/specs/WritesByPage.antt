@@ -1,4 +1,5 @@
--- The effect of a call that adds text to a page, a buffer that goes to the device when it is full.
+-- The effect of a call that adds text to a page. A page is a buffer that goes to the device when
+-- its free part may be too short for the next text.
 -- Source: this project.
 -- Private.
 use Rattle.std.specs.Prelude.{◌≡◌, ℕ, List, ◌++◌, Option, Result, OnOk, OnErr}

@@ -1,6 +1,7 @@
 //! Theorems about texts, their grids and their faults; the functions have no code.
 //!
-//! A lawful grid, `IsLawful` in `terrain/specs/Raster.antt`, has all its parts within limits.
+//! A lawful grid, `IsLawful` in `terrain/specs/Raster.antt`, has all its parts within limits and
+//! no height equal to the NODATA value.
 ghost use Rattle.std.specs.Prelude.{◌≡◌, ℕ, ◌≤◌, ◌++◌, List, [], length, Some};
 ghost use Rattle.terrain.specs.Raster.{Raster, IsLawful};
 ghost use Rattle.terrain.specs.Sinks.{raster_with_sinks};

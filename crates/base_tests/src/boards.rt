@@ -334,7 +334,7 @@ fn have_each_job_once(
     Ok(())
 }
 
-/// Each seat is on a thread of its own.
+/// Each seat is on a thread of its own, where threads can be started.
 #[test]
 fn seats_apart_take_each_job_once(rt: HostRuntime) -> Result<(), Fail> {
     for (jobs, seats) in [(7u32, 3u32), (0, 2), (10000, 4)] {

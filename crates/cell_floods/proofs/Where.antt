@@ -91,7 +91,8 @@ both_or_neither t c tile b levels labels h l is i = elim (cases_lt i (b.rows * b
       sym (ap is_some label) ∙ both ∙ ap is_some level
 ]
 
--- `levels_where` of a tile's labels and heights gives the tile's levels.
+-- `levels_where` of a tile's labels and of `heights`, which encode the tile's levels, gives the
+-- levels.
 pub levels_where_are : (t : Terrain) (c : Cutting) (tile : ℕ) (b : Bounds)
     (levels : List (Option ℤ)) (labels : List (Option Place)) (heights : List ℤ) → IsCutting c →
     tile < tile_count c → heights ≡ map height_or_lack levels

@@ -181,7 +181,8 @@ pub record AreMeeting (t : Terrain) (c : Cutting) (floods : List Flood) (number 
 abbrev IsStraight : Place → Place → Type 0
 IsStraight p q = (p.row ≡ q.row) ⊎ (p.col ≡ q.col)
 
--- A third cell, whose level is at most this height, bypasses two cells that touch at a corner.
+-- Cells p and q touch at a corner. A third cell, in the row of one and the column of the other,
+-- with a level of at most `height`, leads round the corner.
 pub record LeadsRound (t : Terrain) (c : Cutting) (floods : List Flood) (p q : Place) (height : ℤ) :
     Type 0 where
   pub middle : Place

@@ -1,5 +1,6 @@
 -- The joins inside a tile give labels by index in the tile's table. With the number of the table's
--- first entry added to each index, they are the joins of the tile's pairs of cells by number.
+-- first entry added to each index, they are the joins, with labels by number, of the tile's pairs
+-- of cells, except joins left out.
 use Rattle.std.proofs.Common.{◌≡◌, ℕ, ◌+◌, ◌<◌, ◌≤◌, ◌⊎◌, ◌&&◌, inl, inr, Bool, ℤ, List, ◌++◌, length, get_or, map, Option, None, Some, is_some, ◌∙◌, sym, ap, subst, arith}
 use Rattle.std.specs.Prelude.{slice_get, option_map}
 use Rattle.std.specs.List.{All, Contains}
@@ -151,7 +152,8 @@ module _ (t : Terrain) (c : Cutting) (floods : List Flood)
     },
   )
 
-  -- If the table's numbers fit in 32 bits, so do the shifted labels of the joins inside the tile.
+  -- If the numbers of the table's entries, and the next number, fit in 32 bits, so do the shifted
+  -- labels of the joins inside the tile.
   pub inner_few : (inner : List Join) →
       first_of floods tile + length f.table.places ≤ 4294967295 → IsInnerOf spare f inner →
       All (λ j. (first + j.from ≤ 4294967295) × (first + j.to ≤ 4294967295)) inner
@@ -164,7 +166,8 @@ module _ (t : Terrain) (c : Cutting) (floods : List Flood)
             (omega (arith, few, from), omega (arith, few, to))
       ])
 
-  -- Appending the shifted joins inside the tile adds the joins of its pairs of cells.
+  -- Appending the shifted joins inside the tile adds the joins of its pairs of cells, except joins
+  -- left out (`Adds`).
   pub shift_adds : (inner old new : List Join) → IsInnerOf spare f inner →
       new ≡ old ++ map (shifted first) inner → Adds (mark_among c floods) (left_out_of spare floods)
       (λ p q. IsInTile c tile p × IsInTile c tile q) old new
@@ -204,7 +207,8 @@ module _ (t : Terrain) (c : Cutting) (floods : List Flood)
             ];
       })
 
-  -- Adding the joins inside the tile, then those over its rim, adds all joins from its cells.
+  -- Adding the joins inside the tile, then those over its rim, adds the joins of its cells with all
+  -- cells after them, except joins left out (`Adds`).
   pub tile_adds : (old now new : List Join) → Adds (mark_among c floods) (left_out_of spare floods)
       (λ p q. IsInTile c tile p × IsInTile c tile q) old now → Adds (mark_among c floods)
       (left_out_of spare floods) (λ p q. IsInTile c tile p × IsOutside c tile q) now new →

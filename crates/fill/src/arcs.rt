@@ -134,8 +134,8 @@ impl ArcLists {
 
     /// Queues each label to which an arc leads from `from.node`, if the arc lowers its level.
     /// The level by an arc is the greater of the arc's height and `from.height`. It is noted in
-    /// `levels` if no level or a greater one is noted there. A label with an entry in `labels`
-    /// keeps its level.
+    /// `levels` if no level or a greater one is noted there. A label that the flood has labelled,
+    /// which has an entry in `labels`, is not queued and keeps its level.
     #[inline]
     pub(crate) fn spread(
         &self,

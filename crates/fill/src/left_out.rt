@@ -1,4 +1,4 @@
-//! The joins that the spill graph leaves out, since they lower no filled height: [`LeftOut`].
+//! The joins that `filled` leaves out, since they lower no filled height: [`LeftOut`].
 ghost use Rattle.std.specs.Prelude.{◌≡◌, [], false, None, slice_index_or, is_some};
 ghost use Rattle.std.specs.Bool.{OnTrue};
 ghost use Rattle.std.specs.Option.{option_to_list};

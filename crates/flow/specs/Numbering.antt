@@ -51,8 +51,8 @@ pub record IsNumberedPlace (outlets : Outlets) (flows : List Flow) (n : EndNumbe
   pub numbered : IfSome (listed_outlet outlets flows e)
       (λ q. index_of outlets.cutting.cols q < n.cells)
 
--- What a tile's job requires: `exits` has an entry for each cell. Each exit is in the tile and the
--- grid, and the outlet listed for the exit, if any, has a number.
+-- A tile's job requires that `exits` has an entry for each cell. Each exit is in the flow's bounds
+-- and the grid, and the outlet listed for the exit, if any, has a number.
 pub record IsReady (t : Cutting) (flows : List Flow) (outlets : Outlets) (n : EndNumbers) (tile : ℕ)
     (f : Flow) : Type 0 where
   pub size : length f.exits ≡ cell_count t tile
@@ -84,7 +84,8 @@ exit_numbers_by outlets flows n f =
     map (λ i. exit_number_by outlets flows n f.bounds i (slice_index_or f.exits i None))
     (range_with_len 0 (length f.exits))
 
--- The number of a cell: the exit number at the index of its exit; `None` without an exit.
+-- The number of a cell: the exit number at the index of its exit, read by `stored_count`; `None`
+-- without an exit.
 abbrev pub cell_number : Bounds → List ℕ → Option Place → Option ℕ
 cell_number b by_exit None = None
 cell_number b by_exit (Some e) = stored_count (slice_index by_exit (index_in b e))

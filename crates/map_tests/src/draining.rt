@@ -12,7 +12,7 @@ use std::thread::Threads;
 use terrain::{Grid, Height};
 use tile_jobs::{JobFault, NoGate};
 
-/// Returns the code of a cell of this height and these steps, an edge cell if `edge`.
+/// Returns the code of a cell of this height and these steps, an end cell if `edge`.
 /// `ways` has the heights and steps of its neighbours.
 fn number(level: Height, steps: u32, edge: bool, ways: [Option<(Height, u32)>; 8]) -> u8
     requires { IsFitting (record { level = level; steps = steps; edge = edge; ways = ways }) }
@@ -39,7 +39,7 @@ fn code_of_one_cell(rt: HostRuntime) {
     assert_eq!(rt; number(20, 0, true, [same, same, n, n, n, n, n, n]), 0);
 }
 
-/// Drops decide, then steps, then the smallest code; an edge cell without drops has code 0.
+/// Drops decide, then steps, then the smallest code; an end cell without drops has code 0.
 #[test]
 fn codes_of_surroundings(rt: HostRuntime) {
     let (side, corner, s) = (Some((15, 0)), Some((13, 0)), Some((20, 0)));

@@ -47,9 +47,9 @@ request_fault w g =
     if nat_lt most_tiles (tiles_of g w.tile) then Some (Tiling TooManyTiles)
     else option_or (named_place_fault w g) (option_map Sight (view_fault g w.map))
 
--- A run on this grid may return this fault. If `request_fault` is `None`, the fault is refused
--- memory or, with several workers, a refused thread. If `request_fault` is `Some`, its fault is the
--- run's.
+-- A run on this grid may return this fault before it writes. If `request_fault` is `None`, the
+-- fault is refused memory or, with several workers, a refused thread. If `request_fault` is `Some`,
+-- its fault is the run's.
 abbrev pub IsFaultOnGrid : Request → Raster → RunFault → Type 0
 IsFaultOnGrid w g (Jobs jobs.Memory) = request_fault w g ≡ None
 IsFaultOnGrid w g (Jobs jobs.NoThread) = (request_fault w g ≡ None) × (1 < w.workers)

@@ -33,7 +33,8 @@ abbrev pub weighed_height : Option ℤ → ℕ → Option ℤ
 weighed_height height weight =
     if weight == 0 then Some (pos 0) else option_map (λ h. pos weight *ℤ h) height
 
--- The ground between two cells has data, and is above the sight z.
+-- The ground between two cells has data, and its weighted sum of heights is above z, the line's
+-- level times the number of steps.
 abbrev pub is_above : Option ℤ → ℕ → Option ℤ → ℕ → ℤ → Bool
 is_above near near_weight far far_weight z =
     option_map_or (λ g. int_lt z g)

@@ -17,7 +17,7 @@ DequeId = RowsId × Global
 -- One seat's end (handle) of one deque. `jobs` and `seats` say how many jobs and seats the board
 -- has; `deque` is the deque's number. `took` has the jobs that the seat took there; `marked` says
 -- whether the seat took its end mark. `seen` counts the entries that the seat saw taken from the
--- deque. For the owner, and before the seat first tries to steal there, `seen` is 0.
+-- deque; it is 0 in the view of the owner, and of a seat that has not tried to steal there.
 pub record EndState : Type 0 where
   pub id : DequeId
   pub jobs : ℕ

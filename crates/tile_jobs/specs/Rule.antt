@@ -84,8 +84,8 @@ pub record IsOf (jobs seats v pushed owner : ℕ) (port : ℕ) (u : Log) : Type 
 
 -- A lawful deque: its entries, and the views of all its passes.
 pub record Lawful (items : List Entry) (views : List Log) : Type 0 where
-  -- how many jobs and seats the board has, the deque's number v, how many entries were pushed, and
-  -- the number of the owner's pass
+  -- how many jobs and seats the board has and the deque's number v (each 0 before the first push),
+  -- how many entries were pushed, and the number of the owner's pass
   pub jobs : ℕ
   pub seats : ℕ
   pub v : ℕ
