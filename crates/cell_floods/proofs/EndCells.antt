@@ -51,14 +51,6 @@ pub record AreFirstEnds (t : Terrain) (places : List (Option Place)) (count : �
   pub each : (k : ℕ) (p : Place) → k < count → get_or places k None ≡ Some p →
       IsEndHeight t p (get_or ends k None)
 
-pub no_ends : (t : Terrain) (places : List (Option Place)) (ends : List (Option ℤ)) → ends ≡ []
-    → AreFirstEnds t places 0 ends
-no_ends t places ends is = record {
-  size = ap length is;
-  none = λ k low. absurd (omega (arith, low));
-  each = λ k p low. absurd (omega (arith, low));
-}
-
 pub one_end : (t : Terrain) (places : List (Option Place)) (count : ℕ) (ends new : List (Option ℤ))
     (x : Option ℤ)
     → new ≡ ends ++ x ∷ [] → (get_or places count None ≡ None → x ≡ None) → ((p : Place)

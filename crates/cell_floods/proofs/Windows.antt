@@ -545,8 +545,8 @@ window_none t w n levels labels net flooded p inside none below =
           none_done (height_at t p) none (path_data t w p path.0 path.1)
     ]
 
--- `sinks` says of each place of the window whether it is a sink. Each of these sinks is one of
--- `places`. Of the first `count` of `places`, those in the window are sinks.
+-- `sinks` marks nodes as sinks: those of the window and of the border around it. Each place of the
+-- window marked so is one of `places`. Of the first `count` of `places`, those in the window are.
 pub record HasFirstSinks (w : Bounds) (places : List Place) (count : ℕ) (sinks : List Bool) :
     Type 0 where
   pub size : length sinks ≡ (w.rows + 2) * (w.cols + 2)

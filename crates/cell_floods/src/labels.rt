@@ -31,7 +31,7 @@ impl Model for Labels {
 }
 
 impl Labels {
-    /// Returns the table: `None` for cells without a label, then each label once.
+    /// Returns the table: `None` for cells without a label, then the labels.
     #[inline(always)]
     pub fn places(&self) -> &[Option<Place>]
         ensures value { result.now ≡ self.now.places }

@@ -52,6 +52,7 @@ interior_tile c tile p q lawful below interior touch =
       omega (arith, interior.3),
     )).1
 
+-- if `xs` is `x` and then `ys`, `xs` contains each place of `ys`
 pub left_of : (x : Place) (xs ys : List Place) (p : Place) → xs ≡ x ∷ ys → Contains ys p →
     Contains xs p
 left_of x xs ys p e has =

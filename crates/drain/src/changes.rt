@@ -1,11 +1,12 @@
-//! Lower counts of steps: a `Change` is a cell with its new count.
+//! Counts of steps that rounds pass on: a `Change` is a cell with a count, mostly a new, lower one.
 //!
 //! An `Entry` is a change that follows from a neighbour in another tile. A `Run` is the range of
 //! the entries into one tile.
 
 use terrain::Place;
 
-/// A cell and its new, lower count.
+/// A cell and a count for it: mostly a new, lower one.
+/// As the neighbour from which a count follows, it has the cell's present count.
 #[derive(Clone, Copy)]
 pub(crate) struct Change {
     pub(crate) place: Place,

@@ -1,10 +1,10 @@
 -- The heights of all labels that are end cells are written into one list, tile by tile. Then that
 -- list has just the sources of the spill graph.
-use Rattle.std.proofs.Common.{◌≡◌, ℕ, ◌+◌, ◌*◌, ◌<◌, ◌≤◌, ◌⊎◌, inl, inr, ℤ, List, length, get_or, set, replicate, Option, None, Some, IsSome, IfSome, is_some, ◌∙◌, sym, ap, subst, refl, arith}
+use Rattle.std.proofs.Common.{◌≡◌, ℕ, ◌+◌, ◌*◌, ◌<◌, ◌≤◌, ◌⊎◌, inl, inr, ℤ, List, length, get_or, set, Option, None, Some, IsSome, IfSome, is_some, ◌∙◌, sym, ap, subst, arith}
 use Rattle.std.specs.Prelude.{slice_get}
 use Rattle.std.proofs.lemmas.Bool.{cases_eq, cases_lt}
 use Rattle.std.proofs.lemmas.Option.{same_Some, MatchOption-at_some, MatchOption-at_none, slice_get_within}
-use Rattle.std.proofs.lemmas.List.{length-set, get_or-set_same, get_or-set_other, get_or-map, get_or_past, get_or-replicate, length-replicate, length-map}
+use Rattle.std.proofs.lemmas.List.{length-set, get_or-set_same, get_or-set_other, get_or-map, get_or_past, length-map}
 use Rattle.terrain.specs.Raster.{Terrain}
 use Rattle.terrain.specs.Neighbours.{height_at, index_of, IsEnd}
 use Rattle.terrain.specs.declared.place.Place.{Place}
@@ -29,10 +29,6 @@ pub record PutsFirst (c : Cutting) (f : Flood) (count : ℕ) (old new : List (Op
   pub only : (a : ℕ) → (get_or new a None ≡ get_or old a None) ⊎ IsEndAt c f a (get_or new a None)
   pub every : (k : ℕ) (p : Place) → k < count → get_or f.table.places k None ≡ Some p → IsSome
       (get_or f.ends k None) → IsEndAt c f (index_of c.cols p) (get_or new (index_of c.cols p) None)
-
-pub none_put : (c : Cutting) (f : Flood) (old : List (Option ℤ)) → PutsFirst c f 0 old old
-none_put c f old =
-    record { size = refl; only = λ a. inl refl; every = λ k p low. absurd (omega (arith, low)) }
 
 pub one_put : (c : Cutting) (f : Flood) (k : ℕ) (label : Option Place) (end : Option ℤ)
     (old now : List (Option ℤ))
@@ -100,12 +96,6 @@ all_put c f count old new all s = record {
   ];
 }
 
-pub put_length : (cols : ℕ) (label : Option Place) (end : Option ℤ) (heights : List (Option ℤ))
-    → length (put_end cols label end heights) ≡ length heights
-put_length cols None end heights = refl
-put_length cols (Some p) None heights = refl
-put_length cols (Some p) (Some h) heights = length-set heights (index_of cols p) (Some h)
-
 abbrev IsEndNode : Terrain → Cutting → ℕ → ℤ → Type 0
 IsEndNode t c a h = (p : Place) × (index_of c.cols p ≡ a) × IsEnd t p × (height_at t p ≡ Some h)
 
@@ -118,20 +108,6 @@ pub record HaveEnds (t : Terrain) (c : Cutting) (floods : List Flood) (count : �
   pub every : (tile : ℕ) (f : Flood) (k : ℕ) (p : Place) (h : ℤ) →
       tile < count → slice_get floods tile ≡ Some f → get_or f.labels k None ≡ Some p → IsEnd t p →
       height_at t p ≡ Some h → get_or heights (index_of c.cols p) None ≡ Some h
-
-pub no_tile :
-    (t : Terrain) (c : Cutting) (floods : List Flood) (places : ℕ) (heights : List (Option ℤ))
-    → places ≡ c.cols * c.rows → heights ≡ replicate places None → HaveEnds t c floods 0 heights
-no_tile t c floods places heights size is = record {
-  size = ap length is ∙ length-replicate {A = Option ℤ} places None ∙ size;
-  only = λ a h e. elim (cases_lt a places) [
-    | inl low ↦ none_some (get_or heights a None) h (ap
-        (λ (z : List (Option ℤ)). get_or z a None) is ∙ get_or-replicate places a None None low) e
-    | inr past ↦ none_some (get_or heights a None) h (get_or_past heights a None
-        (omega (arith, past, ap length is, length-replicate {A = Option ℤ} places None))) e
-  ];
-  every = λ tile f k p h low. absurd (omega (arith, low));
-}
 
 -- The height that `IsEndAt` gives is that of an end cell with this node.
 end_is : (t : Terrain) (c : Cutting) (f : Flood) (a : ℕ) (o : Option ℤ)

@@ -12,13 +12,6 @@ use Rattle.fill.specs.declared.spills.Join.{Join}
 use Rattle.floods.proofs.Heaps.{cons_head, cons_cases}
 use Rattle.fill.proofs.Adding.{no_join}
 
-pub none_placed : (nodes : List ℕ) (placed : List Join) → AddsPlaced nodes [] placed placed
-none_placed nodes placed = record {
-  kept = λ j there. there;
-  only = λ j there. inl there;
-  every = λ j from. absurd (no_join from.0 from.1);
-}
-
 of_both : (nodes : List ℕ) (first second : List Join) (j : Join) →
     IsPlacedOf nodes (first ++ second) j → IsPlacedOf nodes first j ⊎ IsPlacedOf nodes second j
 of_both nodes first second j from = elim (Contains-append_cases first second from.0 from.1) [

@@ -31,8 +31,8 @@ pub record Fit (c : Cutting) (floods : List Flood) : Type 0 where
   pub levels : (tile : ℕ) (f : Flood) → slice_get floods tile ≡ Some f →
       length f.levels ≡ f.bounds.rows * f.bounds.cols
 
--- The mark of a cell with this level and label, where `node` is the label's number. None if level
--- or label is None.
+-- The mark of a cell with this level and label, where `node` is the label's number or index. None
+-- if level or label is None.
 abbrev pub mark_of : ℕ → Option ℤ → Option Place → Option CellMark
 mark_of node (Some level) (Some label) = Some (record { level = level; node = node })
 mark_of node (Some level) None = None
@@ -136,8 +136,8 @@ abbrev pub IsInner : Bounds → Place → Type 0
 IsInner b p = (b.top ≤ p.row) × (p.row + 1 < b.top + b.rows) × (b.left < p.col)
     × (p.col + 1 < b.left + b.cols)
 
--- The place lies in row `row` of the bounds. The places E, SE, S and SW of it do not all lie in the
--- bounds.
+-- The place lies in the bounds, in row `row` of the grid. The places E, SE, S and SW of it do not
+-- all lie in the bounds.
 abbrev pub IsOuterOfRow : Bounds → ℕ → Place → Type 0
 IsOuterOfRow b row p = IsInBounds b p × (p.row ≡ row) × (IsInner b p → ⊥)
 
@@ -211,8 +211,8 @@ abbrev pub IsTileWithRow : Cutting → ℕ → ℕ → ℕ → Type 0
 IsTileWithRow c tile row other = other ≡ row / c.side * across c + tile % across c
 
 -- The joins of those `pairs` of places whose first is before the second in row order have been
--- added, except joins that `out` leaves out. Joins of the same labels may have been merged into the
--- lowest. No join of other pairs has been added.
+-- added. Joins that `out` leaves out may be missing, and joins of the same labels may have been
+-- merged into the lowest. Each join added is that of one of `pairs`, in either order of its places.
 pub record Adds (marks : Marks) (out : LeftOutJoins) (pairs : Place → Place → Type 0)
     (old new : List Join) : Type 0 where
   pub kept : (j : Join) → Contains old j → Covered new j
@@ -240,8 +240,8 @@ pub record AreLowest (joins lowest : List Join) : Type 0 where
   pub every : (j : Join) → Contains joins j → Covered lowest j
   pub rising : AreRising lowest
 
--- `joins` has the joins of all cells with the cells after them in row order, except joins that
--- `out` leaves out.
+-- `joins` has the joins of all cells with the cells after them in row order, or lower joins of the
+-- same labels. Joins that `out` leaves out may be missing. Each of `joins` is a join of two cells.
 pub record AreGathered (c : Cutting) (floods : List Flood) (out : LeftOutJoins)
     (joins : List Join) : Type 0 where
   pub only : (j : Join) → Contains joins j →

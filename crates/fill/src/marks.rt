@@ -18,7 +18,7 @@ pub struct CellMark {
     pub node: u32,
 }
 
-/// Returns the node of a place: its index in row order of the grid.
+/// Returns the node of a place in a net of places: its index in row order of the grid.
 #[inline(always)]
 pub(crate) fn node_of(tiling: &Tiling, place: Place) -> u32
     requires { IsWithin tiling.now place }

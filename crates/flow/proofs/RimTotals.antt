@@ -1,6 +1,6 @@
--- The total of an exit into another tile, its weight and all weights upstream along links, is how
--- many cells' flow paths contain it. Exit i is the exit with rim number i, its number among the rim
--- cells of all tiles.
+-- The total of an exit into another tile is the sum of its weight and all weights upstream along
+-- links. It is the number of cells whose flow paths contain the exit. Exit i is the exit with rim
+-- number i, its number among the rim cells of all tiles.
 use Rattle.std.proofs.Common.{◌≡◌, ◌≢◌, ℕ, suc, ◌+◌, ◌-◌, ◌*◌, ◌<◌, ◌≤◌, ◌⊎◌, inl, inr, true, false, cond, ◌&&◌, eqb, List, length, get_or, Option, None, Some, is_some, sym, ap, subst, refl, ◌∙◌, arith, unwrap_or}
 use Rattle.std.specs.Option.{option_and_then}
 use Rattle.std.proofs.lemmas.Option.{none-some, MatchOption-at_some}
@@ -202,7 +202,8 @@ module _ (d : Directed) (t : Cutting) (flows : List Flow) (s : AreFlowsOf d t fl
             ])
       ]
         where
-          -- The exit by which the flow path of c enters the tile of exit i is linked to i.
+          -- The exit by which the flow path of c last enters the tile of exit i, before it reaches
+          -- i, is linked to i.
           linked : (k : ℕ) → follow d c k ≡ rim_place t i →
               (x : EntersRegion d ending In c k) → (cr : LeavesTile d t flows s
               (follow d c x.from)) →

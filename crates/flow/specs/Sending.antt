@@ -26,8 +26,8 @@ sent_on links weights waits upstream i j =
     if leads_to links j i && has_sent waits j then slice_index upstream j + slice_index weights j
     else 0
 
--- A node's sum is the amount that its donors have sent. Until it sends, `waits` counts its donors
--- that have not. The donors of a node that has sent have all sent.
+-- A node's sum, its entry in `upstream`, is the amount that its donors have sent. Until it sends,
+-- `waits` counts its donors that have not. The donors of a node that has sent have all sent.
 pub record IsSending (links weights waits upstream : List ℕ) : Type 0 where
   pub waits_size : length waits ≡ length links
   pub upstream_size : length upstream ≡ length links

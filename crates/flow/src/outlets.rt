@@ -60,6 +60,7 @@ impl Outlets {
     }
 
     /// Returns the outlet of an exit's flow path; `None` if the place is no exit.
+    /// `flows` must be those given to [`Outlets::join`].
     pub(crate) fn outlet(&self, flows: &[TileFlow], exit: Place) -> Option<Place>
         requires count { length flows.now ≡ tile_count self.now.cutting }
         requires within { IsWithin self.now.cutting exit }

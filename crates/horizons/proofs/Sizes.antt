@@ -1,6 +1,6 @@
 -- Numbers within limits are kept when stored in 32, 64 or 128 bits. The product of a number of 64
 -- bits and one from -4096 to 4096 is exact in 128 bits.
-use Rattle.std.proofs.Common.{◌≡◌, ℕ, ◌^◌, ◌<◌, ◌≤◌, ℤ, pos, ◌*ℤ◌, unsigned_abs, arith, FitsSigned, to_z, of_z, w32, w64}
+use Rattle.std.proofs.Common.{◌≡◌, ◌^◌, ◌<◌, ◌≤◌, ℤ, ◌*ℤ◌, unsigned_abs, arith, FitsSigned, to_z, of_z, w32, w64}
 use mir.Syntax.{w128}
 use Rattle.std.proofs.lemmas.Int.{ints, to_z-of_z, fits_signed_mul, fits_signed_from_abs}
 
@@ -12,9 +12,6 @@ back_short z h = to_z-of_z w32 z (fits_signed_from_abs w32 z h)
 
 pub back_long : (z : ℤ) → unsigned_abs z < 2 ^ 127 → to_z w128 (of_z w128 z) ≡ z
 back_long z h = to_z-of_z w128 z (fits_signed_from_abs w128 z h)
-
-pub back_count : (n : ℕ) → n ≤ 4096 → to_z w128 (of_z w128 (pos n)) ≡ pos n
-back_count n h = back_long (pos n) (omega arith)
 
 pub value_abs : (z : ℤ) → FitsSigned w64 z → unsigned_abs z ≤ 2 ^ 63
 value_abs z fits = omega (arith, ints, fits)

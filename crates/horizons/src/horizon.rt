@@ -134,7 +134,8 @@ impl Horizon {
     }
 
     /// Returns the piece that covers target `index`, and moves the cursor there.
-    /// The cursor must have been used on this horizon only, not cleared since, at no greater index.
+    /// Since it was new, the cursor must have been used on this horizon only, at no greater index,
+    /// and the horizon must not have been cleared.
     #[inline(always)]
     pub fn piece(&self, cursor: &mut Cursor, index: usize) -> Piece
         requires index { index < extent self.now }
@@ -150,7 +151,8 @@ impl Horizon {
 
     /// Returns whether the horizon hides a target that is `rise` above the eye.
     /// `index` is the index of `target` among the targets of the horizon.
-    /// The cursor must have been used on this horizon only, not cleared since, at no greater index.
+    /// Since it was new, the cursor must have been used on this horizon only, at no greater index,
+    /// and the horizon must not have been cleared.
     #[inline(always)]
     pub fn hides(&self, cursor: &mut Cursor, index: usize, target: Target, rise: Value) -> bool
         requires index { index < extent self.now }

@@ -132,7 +132,7 @@ fn rings_of_nines(rt: HostRuntime) {
     assert!(rt; agree(&first_round(&rt, alloc, &grid, 2, 4), &wanted));
 }
 
-/// One round counts all steps inside a tile: here up to 13.
+/// One round counts all steps inside a tile: here up to 13, in one tile of the whole grid.
 #[test]
 fn flat_through_ten_tiles(rt: HostRuntime) {
     let alloc = rt.alloc();

@@ -95,16 +95,6 @@ pub sound_gauges : (w : Request) (g : Raster) → named_place_fault w g ≡ None
     gauge_fault g w.map ≡ None
 sound_gauges w g sound = no_gauges (sinks_fault g.terrain w.sinks) (gauge_fault g w.map) sound
 
-pub fault_of_sinks : (w : Request) (g : Raster) (f : SinkFault) →
-    sinks_fault g.terrain w.sinks ≡ Some f → named_place_fault w g ≡ Some (Sinks f)
-fault_of_sinks w g f e =
-    ap (λ o. option_or (option_map Sinks o) (option_map Gauges (gauge_fault g w.map))) e
-
-pub fault_of_gauges : (w : Request) (g : Raster) → sinks_fault g.terrain w.sinks ≡ None →
-    named_place_fault w g ≡ option_map Gauges (gauge_fault g w.map)
-fault_of_gauges w g e =
-    ap (λ o. option_or (option_map Sinks o) (option_map Gauges (gauge_fault g w.map))) e
-
 unseen : (g : Raster) (m : Map) → ¬ IsView m → view_fault g m ≡ None
 unseen g Fill drains = refl
 unseen g Flow drains = refl

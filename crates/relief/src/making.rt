@@ -1,5 +1,5 @@
 //! `prepare` cuts a grid into tiles, checks the requested sinks and gauges, and gives the grid
-//! these sinks in place of its own. `make_map` then makes the requested map.
+//! these sinks, if any, in place of its own. `make_map` then makes the requested map.
 ghost use Rattle.std.specs.Prelude.{◌≡◌, ◌<◌, ◌≤◌, ◌*◌, List, None, IfOk, IfErr, OnOk, option_map};
 ghost use Rattle.terrain.specs.declared.place.Place.{Place};
 ghost use Rattle.tiles.specs.Cutting.{Cuts, longest_side, most_tiles};

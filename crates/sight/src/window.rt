@@ -12,8 +12,9 @@ pub struct CellRun {
 }
 
 /// A part of the grid whose cells have marks.
-/// The lines of a `Family` are the columns, or the rows, on one side of an observer.
-/// `lines` is the run of those columns or rows in the window, `side` the run of cells along each.
+/// A `Family` has as lines the columns, or the rows, on one side of an observer.
+/// `lines` is the run of all columns, or all rows, of the window, those on the other side included.
+/// `side` is the run of cells along each.
 #[derive(Clone, Copy)]
 pub struct Window {
     pub lines: CellRun,

@@ -1,7 +1,8 @@
 //! Writes maps by several workers.
 //!
-//! With several workers, jobs make the text of all rows before the first byte is written. After
-//! that byte nothing is allocated.
+//! With several workers, jobs make the text of all rows before the first byte is written. If memory
+//! or a thread is refused, the rows are written without jobs. After the first byte nothing is
+//! allocated.
 ghost use Rattle.std.specs.Prelude.{◌≡◌, ◌++◌, ◌*◌, ◌-◌, ◌/◌, ◌^◌, ◌<◌, ◌≤◌, length, IfSome};
 ghost use Rattle.std.specs.List.{flat_map};
 ghost use Rattle.terrain.specs.declared.word.TheConstants.{MOST_WORD_BYTES};
