@@ -1,5 +1,5 @@
--- Finds the fault at a text's end. At a scale of at most 6, a text without a fault spells a lawful
--- grid: one with all its parts within limits.
+-- The fault at a text's end, by the stage of the builder. At a scale of at most 6, a text without a
+-- fault spells a lawful grid: one with all its parts within limits, no height equal to NODATA.
 use Rattle.std.proofs.Common.{◌≡◌, ◌≢◌, ℕ, ◌+◌, ◌<◌, ◌≤◌, Bool, true, false, not, cond, nat_lt, nat_le, List, [], ◌∷◌, ◌++◌, length, map, Option, None, Some, ℤ, arith, lit≤, refl, ap, sym, ◌∙◌, subst, inl, inr}
 use Rattle.std.specs.Prelude.{is_some, All, IfSome, unwrap_or, option_map, int_le, codes}
 use Rattle.std.specs.Option.{option_map_or}
@@ -199,7 +199,8 @@ some_wanted header none missing =
     one-le-mul (size_between (word_for Ncols header) (value_of header Ncols none given.cols).0).0
     (size_between (word_for Nrows header) (value_of header Nrows none given.rows).0).0
 
--- where a key comes next and no required slot is missing, the fault at the end is `TooFew 0`
+-- where a key or the first height comes next and no required slot is missing, the fault at the end
+-- is `TooFew 0`
 pub end-none : (j j' : GridBuilder) (ws : List Word) (h : HasAdded j ws) → j.stage ≡ AtKey →
     AreHeights j' h.pairs [] → end_fault ws ≡ Some (TooFew 0)
 end-none j j' ws h e heights =

@@ -187,7 +187,8 @@ known_again [] few = refl
 known_again (n ∷ counts) few = ap (λ (m : ℕ). m ∷ counts) (sym (known_number n (few 0))) ∙ ap
     (λ (xs : List ℕ). unwrap_or (known n) no_count ∷ xs) (known_again counts (λ k. few (suc k)))
 
--- the initial counts at a window's spots are those that the terrain's list has at their places
+-- Let `counts` be the initial counts at a window's spots. They are those that the terrain's list
+-- has at the spots' places, and none is above `no_count`.
 module _ (t : Terrain) (b : Bounds) (counts : List ℕ) (begun : List (Option ℕ))
     (are : AreBegunSpots (DrainsAtOnce t) b counts) where
   pub begun_small : AreCounts counts

@@ -158,9 +158,9 @@ reached_all f each = record {
   left = f.left;
 }
 
--- In the tile each new count is at most one above the old counts of adjacent spots of equal height
--- (`IsNear`). If the list has each spot whose count changed, only listed spots can lower others of
--- the tile (`IsRelaxedBut`).
+-- Let each new count in the tile be at most one above the old counts of adjacent spots of equal
+-- height (`IsNear`), and let the list have each spot whose count changed. Then only listed spots
+-- can lower others of the tile (`IsRelaxedBut`).
 pub even_begin :
     (b : Bounds) (levels : List (Option ℤ)) (old counts : List ℕ) (reached : List Place) →
     ((s : Place) → IsInner b s → IsNear b levels old counts s) → AreNoted b old counts [] reached →
@@ -173,8 +173,8 @@ even_begin b levels old counts reached near noted = record {
   ];
 }
 
--- after the search has spread from the spot at index `done`, only spots from `done + 1` on can
--- lower others of the tile (`IsRelaxedBut`)
+-- let only listed spots at indexes from `done` on lower others of the tile (`IsRelaxedBut`). Once
+-- the search has spread from the spot at `done`, only those from `done + 1` on can.
 pub even_spread : {b : Bounds} {levels : List (Option ℤ)} {counts new : List ℕ} {waiting after :
     List Place} {done : ℕ} {spot : Place} → IsRelaxedBut b levels counts waiting done →
     slice_get waiting done ≡ Some spot → IsReached b levels spot

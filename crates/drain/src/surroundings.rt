@@ -1,7 +1,8 @@
 //! Finds the direction codes of a tile's cells.
 //!
-//! Cells in the grid's first or last row or column, the outermost cells, get codes by
-//! [`Around`](crate::Around). All other cells get codes by `interior`.
+//! Cells in the grid's first or last row or column, the outermost cells, get the
+//! [`direction`](crate::direction) of an [`Around`](crate::Around). All other cells get codes by
+//! `interior`.
 ghost use Rattle.std.specs.Prelude.{◌≡◌, ◌+◌, ◌*◌, ◌<◌, Some, None, length, OnOk, IfOk};
 ghost use Rattle.std.specs.Option.{option_zip};
 ghost use Rattle.terrain.specs.Raster.{IsTerrain};
@@ -22,7 +23,7 @@ use std::alloc::{AllocError, Global};
 use terrain::{Grid, Height, Place, place_on};
 use tiles::Bounds;
 
-/// Returns height and steps of the neighbour in direction `way`, if there is one.
+/// Returns height and steps of the neighbour in direction `way`, if there is one with steps.
 #[inline(always)]
 fn entry_on(grid: &Grid, steps: &[StepCount], way: usize, place: Place) -> Option<(Height, u32)>
     requires size { length steps.now ≡ grid.now.terrain.cols * grid.now.terrain.rows }

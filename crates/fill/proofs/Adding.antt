@@ -1,5 +1,5 @@
--- `Adds` says that the joins of some pairs of cells have been added. If it holds of a cell and each
--- neighbour E, SE, S and SW, it holds of the cell and all cells after it.
+-- `Adds` says that the joins of some pairs of cells have been added. If it holds of a cell and its
+-- wanted neighbours E, SE, S and SW, it holds of the cell and all wanted cells after it.
 use Rattle.std.proofs.Common.{◌≡◌, ◌≢◌, ◌==◌, ◌↔◌, Bool, ℕ, zero, suc, ◌+◌, ◌<◌, ◌⊎◌, inl, inr, ℤ, ◌≤ℤ◌, false, true, List, [], ◌∷◌, ◌++◌, length, get_or, set, Option, None, Some, ◌∙◌, sym, ap, subst, refl, arith}
 use Rattle.std.specs.Int.{int_max}
 use Rattle.std.specs.Int.Signed.{≤ℤ_refl}

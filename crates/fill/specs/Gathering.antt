@@ -172,8 +172,8 @@ AddsCorner f out from below beside near old new =
     ⊎ IsLowBetween out from (mark_with 0 f beside) (mark_with 0 f near)) × (new ≡ old))
     ⊎ AddsNear f out from near old new
 
--- The joins of a cell with its neighbours E, SE, S and SW have been added, except joins that `out`
--- leaves out. The cell has index `i` and mark `from`; a row has `width` cells.
+-- The joins of a cell with its neighbours E, SE, S and SW have been added. Joins that `out` leaves
+-- out may be missing. The cell has index `i` and mark `from`; a row has `width` cells.
 pub record AddsAfter (f : Flood) (out : LeftOutJoins) (from : CellMark) (i width : ℕ)
     (old new : List Join) : Type 0 where
   pub after_first : List Join
@@ -212,7 +212,8 @@ IsTileWithRow c tile row other = other ≡ row / c.side * across c + tile % acro
 
 -- The joins of those `pairs` of places whose first is before the second in row order have been
 -- added. Joins that `out` leaves out may be missing, and joins of the same labels may have been
--- merged into the lowest. Each join added is that of one of `pairs`, in either order of its places.
+-- merged into the lowest. Each join added is that of one of `pairs`, whichever of the two places
+-- comes first in row order.
 pub record Adds (marks : Marks) (out : LeftOutJoins) (pairs : Place → Place → Type 0)
     (old new : List Join) : Type 0 where
   pub kept : (j : Join) → Contains old j → Covered new j
@@ -261,13 +262,13 @@ left_out_of spare floods =
 abbrev pub left_out_in : Bool → Flood → LeftOutJoins
 left_out_in spare f = record { sources = if spare then f.ends else []; bypassed = spare }
 
--- `joins` has the joins inside a tile, except joins that `left_out_in` leaves out. They give labels
--- by index in the tile's table.
+-- `joins` has the joins inside a tile, as `Adds` says; those that `left_out_in` leaves out may be
+-- missing. They give labels by index in the tile's table.
 abbrev pub IsInnerOf : Bool → Flood → List Join → Type 0
 IsInnerOf spare f joins =
     Adds (mark_in 0 f) (left_out_in spare f) (λ p q. IsInBounds f.bounds p) [] joins
 
--- `inner` has, for each tile, the joins inside it, except joins that `left_out_in` leaves out.
+-- `inner` has, for each tile, the joins inside it (`IsInnerOf`).
 pub record AreInner (floods : List Flood) (spare : Bool)
     (inner : List (Vec Join Global)) : Type 0 where
   pub count : length inner ≡ length floods

@@ -9,7 +9,7 @@ use Rattle.std.specs.Ordering.{is_lt}
 use Rattle.std.proofs.lemmas.Bool.{cases_eq, cases_lt}
 use Rattle.std.proofs.lemmas.Int.{ints, by_lt_z}
 use Rattle.std.proofs.lemmas.List.{map-set, set-get_or, get_or-map, get_or-set_same, get_or-set_other, length-set}
-use Rattle.std.proofs.lemmas.List.Elements.{All-contains, All-from_recursion, All-weaker, All-append, All-push, All-pop, Contains-append_left, Contains-append_right, Contains-append_cases}
+use Rattle.std.proofs.lemmas.List.Elements.{All-contains, All-from_recursion, All-weaker, All-append, All-push, All-pop, Contains-append_cases}
 use Rattle.std.proofs.lemmas.List.Sorted.{IsPermutation-sym, IsPermutation-trans, IsPermutation-to_front, IsPermutation-middle, IsPermutation-append_left, IsPermutation-append_right}
 use Rattle.floods.specs.declared.queue.Candidate.{Candidate}
 use Rattle.floods.specs.Flood.{candidate_order, entries_of, all_entries, AreOrdered, IsListed, PutsIn, HasNone}
@@ -43,13 +43,6 @@ in_some_list (l ∷ lists) x h = elim (Contains-append_cases l (flat_map (λ l. 
   | inl here ↦ (0, here)
   | inr later ↦ let i = in_some_list lists x later in (suc i.0, i.1)
 ]
-
-pub in_lists : {X : Type 0} (lists : List (List X)) (k : ℕ) (x : X) →
-    Contains (get_or lists k []) x → Contains (flat_map (λ l. l) lists) x
-in_lists [] k x h = absurd (omega (arith, h.1))
-in_lists (l ∷ lists) zero x h = Contains-append_left l (flat_map (λ l. l) lists) x h
-in_lists (l ∷ lists) (suc k) x h =
-    Contains-append_right l (flat_map (λ l. l) lists) x (in_lists lists k x h)
 
 -- An entry pushed to one list is one more among the entries of all lists together.
 one_more : {X : Type 0} (x : X) (lists : List (List X)) (k : ℕ) (old new : List X) →

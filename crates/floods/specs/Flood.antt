@@ -1,6 +1,7 @@
 -- The queue of a flood has entries: a node, and the crest and end of a walk from it. A step takes a
--- lowest entry and labels its node. An unlabelled neighbour is queued if its crest, the greater of
--- the entry's and the arc's heights, is below its level, if any. An arc is a join seen from a node.
+-- lowest entry of an unlabelled node and labels the node. An unlabelled neighbour is queued if its
+-- crest, the greater of the entry's and the arc's heights, is below its level, if any. An arc is a
+-- join seen from a node.
 -- Public.
 use Rattle.std.specs.Prelude.{◌≡◌, ℕ, ◌<◌, ◌≤◌, ◌⊎◌, ℤ, pos, ◌+ℤ◌, ◌≤ℤ◌, List, [], ◌∷◌, ◌++◌, map, length, Option, None, Some, IsSome, slice_index_or}
 use Rattle.std.specs.Ordering.{int_cmp}
@@ -99,7 +100,7 @@ pub record HasSourcesNoted (count : ℕ) (source : Sources) (levels : List (Opti
   pub rest : (a : ℕ) → count ≤ a → entry_of levels a ≡ None
 
 -- If an entry's node is a source of the entry's height, the entry's label is that node. Each source
--- without a label has a level, at most the source's height.
+-- of the net without a label has a level, at most the source's height.
 pub record AreOwn (source : Sources) (labels : List (Option ℕ)) (levels : List (Option ℤ))
     (waiting : List Candidate) : Type 0 where
   pub own : All (λ w. source w.node ≡ Some w.height.0 → w.label ≡ w.node) waiting

@@ -1,4 +1,4 @@
--- How lists of optional heights and of optional labels are stored as lists of numbers.
+-- How optional labels are stored as a list of numbers, and optional heights as one with marks.
 -- Public.
 use Rattle.std.specs.Prelude.{ℕ, ℤ, pos, Bool, ◌==◌, List, [], ◌∷◌, map, Option, None, Some, if◌then◌else◌, unwrap_or}
 use Rattle.std.specs.Ordering.{int_eq}

@@ -116,12 +116,6 @@ pub next_on_path : (links : List ℕ) → AreStreams links → (from node : ℕ)
     SharesEnd links from node → SharesEnd links from (onward links node)
 next_on_path links s from node on = (s.inside node on.0, end-onward links s node on.0 ∙ on.1)
 
-pub end-along : (links : List ℕ) → AreStreams links → (i : ℕ) → i < length links → (k : ℕ) →
-    end_of links (node_after links i k) ≡ end_of links i
-end-along links s i h zero = refl
-end-along links s i h (suc k) = end-onward links s (node_after links i k)
-    (node_after-inside links s i h k) ∙ end-along links s i h k
-
 pub end-inside : (links : List ℕ) → AreStreams links → (i : ℕ) → i < length links →
     end_of links i < length links
 end-inside links s i h = node_after-inside links s i h (length links)

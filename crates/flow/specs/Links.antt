@@ -8,7 +8,8 @@ use Rattle.flow.specs.TileFlow.{Flow, inflow_of, IsExitCell}
 use Rattle.flow.specs.RimGraph.{outlet_by}
 use Rattle.flow.specs.Inflows.{inflow_by}
 
--- The tiles and their flows, and by rim number the inflows and the outlets of exits.
+-- The tiles and their flows, and by rim number the inflows and the outlets of exits into other
+-- tiles.
 pub record Links : Type 0 where
   pub cutting : Cutting
   pub flows : List Flow

@@ -81,8 +81,8 @@ crossing_is cells f k c m y offset rise t stands later below is at =
     let lead = lead_is f t.line k stands.line (omega arith) in
     rw (cell.0, cell.1, lead) refl
 
--- before its target's line, a ray crosses line k at a cell c, or between c and the next cell; c
--- lies in the grid
+-- before its target's line, a ray crosses line k at a cell c, or between c and the next cell. The
+-- coordinate of c along the line is below `side.cells`, the end of the side.
 pub none_outside : (f : Family) (k y : ℕ) (offset : ℤ) (t : Target) → IsFamily f →
     IsAtCell f y t → k < t.line → Passes k offset t → (c : ℕ) × (pos c ≡ pos f.side.at +ℤ offset)
     × (c < f.side.cells)

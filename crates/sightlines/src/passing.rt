@@ -158,9 +158,10 @@ fn is_clear(peak: Height, line: Sightline, here: Step) -> bool
 }
 
 /// Returns a step between a line's two ends with ground above the line, if any.
-/// At step 1, and where a far block begins, the walk ends if the line cannot fall below the peak.
-/// It tests the near block where it begins, which is seldom below the line; later it skips far or
-/// near blocks below the line. Adds each tested near block's crossings to `crossings_tested`.
+/// The walk ends if the line cannot fall below the peak: tested at step 1, after the first near
+/// block, and where a far block begins. It tests the near block where it begins, which is seldom
+/// below the line; later it skips far or near blocks below the line. Adds each tested near block's
+/// crossings to `crossings_tested`.
 #[inline(never)]
 pub(crate) fn blocking_step_past_blocks(
     cells: &[Cell],

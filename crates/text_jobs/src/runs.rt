@@ -80,7 +80,8 @@ impl<'a> Work for RunJobs<'a> {
 }
 
 /// Feeds runs to a reader in order.
-/// A run with `Some` cells in `lists` is fed as these cells, any other as bytes.
+/// A run with `Some` cells in `lists` is fed by [`GridReader::feed_cells`], which adds these cells
+/// or, past a limit, parses the run. Any other run is fed as bytes.
 pub(crate) fn feed_runs(
     reader: &mut GridReader,
     parser: &HeightParser,

@@ -21,7 +21,7 @@ pub struct Runner<'a, R, G> {
     pub alloc: Global,
     /// The number of workers, from 1 to 64; a single one runs on the caller's thread.
     pub workers: u32,
-    /// Called as stages begin, before each job, and after each job that succeeds.
+    /// Called as stages begin, before each job, and after each job, or part of one, that succeeds.
     pub gate: &'a G,
 }
 

@@ -27,8 +27,8 @@ last_in b row above below some p same =
       λ inner. omega (arith, inner.3, some),
     )
 
--- Let the places E, SE, S and SW of a cell not all lie in the bounds (`IsOuterOfRow`). Above the
--- last row, such a cell is the first or the last cell of its row.
+-- Let a cell lie in the bounds, and the places E, SE, S and SW of it not all (`IsOuterOfRow`).
+-- Above the last row, such a cell is the first or the last cell of its row.
 ends : (b : Bounds) (row : ℕ) → row + 1 < b.top + b.rows → (p : Place) → IsOuterOfRow b row p →
     (p ≡ record { row = row; col = b.left }) ⊎ (p ≡ record { row = row; col = b.left + b.cols - 1 })
 ends b row below p at = elim (cases_eq p.col b.left) [
