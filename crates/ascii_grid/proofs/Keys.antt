@@ -12,7 +12,7 @@ use Rattle.ascii_grid.specs.Header.{all_slots, keys_of, fills, slot_of}
 use Rattle.ascii_grid.specs.declared.fault.Key.{Key}
 use Rattle.ascii_grid.specs.declared.fault.Key.TheVariants.{Ncols, Nrows, Xll, Yll, Cellsize, Nodata}
 
--- the slot of a word that has no capital letters
+-- the slot of a word without capital letters; `None` for other words
 abbrev slot_at : Word → Option Key
 slot_at w = find (λ slot. list_any (λ key. bytes_eq key w) (keys_of slot)) all_slots
 

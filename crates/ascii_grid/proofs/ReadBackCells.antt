@@ -190,7 +190,7 @@ reads_cell d nodata (Some z) few h height apart =
     }
 
 -- if the text of each of `cells`, the grid's last cells, reads as that cell, these texts have no
--- fault as heights after `place` others
+-- fault as heights after a header without missing slots and `place` other heights
 pub no_heights_fault : (d : ℕ) (header : List Word)
     (nodata : Word) (place : ℕ) (cells : List (Option ℤ)) → missing_fault header ≡ None →
     nodata_for header ≡ nodata → place + length cells ≡ cells_wanted header →

@@ -128,7 +128,7 @@ fn other_cells(rt: HostRuntime) {
     assert_eq!(rt; grid.at(MIDDLE), Some(-1));
 }
 
-/// A grid with other cells, here all 9, keeps its size, header and sinks.
+/// A grid with other cells, here all 9, keeps its size and header.
 #[test]
 fn nine_nines(rt: HostRuntime) -> Result<(), NoMemory> {
     let pit = grid_of(&rt, rt.alloc(), 0, PIT, &PIT_CELLS);

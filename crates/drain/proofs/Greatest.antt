@@ -1,5 +1,6 @@
 -- The greatest number of a list and its first index, kept while the numbers are seen one by one. At
--- the end they are the list's `fold max 0` and the `position` of that number.
+-- the end the greatest is the list's `fold max 0`. The index is the `position` of that number, if
+-- the number is above 0.
 use Rattle.std.proofs.Common.{◌≡◌, ℕ, zero, suc, ◌+◌, ◌<◌, ◌≤◌, ◌⊎◌, max, Bool, true, false, eqb, List, [], ◌∷◌, length, get_or, fold, Some, inl, inr, sym, ap, subst, refl, ◌∙◌, arith}
 use Rattle.std.proofs.lemmas.Bool.{cases_eq, cases_lt, false≢true, eq-eqb, ne_eqb, lt-ltb, cond-true, or_from}
 use Rattle.std.specs.List.{position, position_or_len, list_any}

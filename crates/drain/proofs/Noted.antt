@@ -173,8 +173,9 @@ even_begin b levels old counts reached near noted = record {
   ];
 }
 
--- let only listed spots at indexes from `done` on lower others of the tile (`IsRelaxedBut`). Once
--- the search has spread from the spot at `done`, only those from `done + 1` on can.
+-- Suppose that only listed spots at indexes from `done` on can lower others of the tile
+-- (`IsRelaxedBut`). Once the search has spread from the spot at `done`, only those from `done + 1`
+-- on can.
 pub even_spread : {b : Bounds} {levels : List (Option ℤ)} {counts new : List ℕ} {waiting after :
     List Place} {done : ℕ} {spot : Place} → IsRelaxedBut b levels counts waiting done →
     slice_get waiting done ≡ Some spot → IsReached b levels spot

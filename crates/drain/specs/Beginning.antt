@@ -33,8 +33,8 @@ pub record AreInitialCounts (t : Terrain) (counts : List (Option ℕ)) : Type 0 
       IsInitialCount (DrainsAtOnce t) p (entry_at t.cols t.rows counts p)
 
 -- `count` is the initial count at spot s: 0 if `Drains` holds for the place that s shows, else
--- unknown, as north or west of the grid. Spots are the places of a tile's window: the tile and one
--- row or column on each side.
+-- unknown. North and west of the grid it is unknown too. Spots are the places of a tile's window:
+-- the tile and one row or column on each side.
 abbrev pub IsBegunSpot : (Place → Type 0) → Bounds → Place → ℕ → Type 0
 IsBegunSpot Drains b s count = (count ≤ no_count)
     × ((p : Place) → Shows b s p → IsInitialCount Drains p (known count))

@@ -29,7 +29,7 @@ pub record IsInner (b : Bounds) (s : Place) : Type 0 where
   pub first_col : 1 ≤ s.col
   pub last_col : s.col ≤ b.cols
 
--- The spot of the window shows the place p of the grid.
+-- The spot of the window shows the place p, which may lie south or east of the grid.
 abbrev pub Shows : Bounds → Place → Place → Type 0
 Shows b s p = (b.top + s.row ≡ p.row + 1) × (b.left + s.col ≡ p.col + 1)
 

@@ -320,7 +320,8 @@ inner_row_index b row index above below last =
       mul-le (row - b.top + 2) b.cols b.rows b.cols (omega (arith, above, below)) (omega arith),
     )
 
--- The inner cells of a row up to `index` are those before `index` and the one at `index`.
+-- The inner cells of a row up to `index` are those before `index` and the one at `index`. Indexes
+-- are in the tile's row order; the row begins at `start`.
 pub inner_so_far : (b : Bounds) (row start index : ℕ) → b.top ≤ row → row + 1 < b.top + b.rows →
     start < index → index + 1 < start + b.cols → (p : Place) →
     (IsInner b p × (p.row ≡ row) × (p.col + start < b.left + (index + 1)))

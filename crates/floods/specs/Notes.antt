@@ -22,9 +22,13 @@ heights_where (marked ∷ rest) (height ∷ heights) = noted marked height ∷ h
 abbrev pub height_or_lack : Option ℤ → ℤ
 height_or_lack entry = unwrap_or entry lack
 
--- The label stored as this number: the greatest number of 32 bits means none.
+-- The greatest number of 32 bits, stored for no label.
+abbrev pub no_label : ℕ
+no_label = 4294967295
+
+-- The label stored as this number.
 abbrev pub label_of : ℕ → Option ℕ
-label_of number = if number == 4294967295 then None else Some number
+label_of number = if number == no_label then None else Some number
 
 -- The labels stored as these numbers.
 abbrev pub numbered_labels : List ℕ → List (Option ℕ)

@@ -1,6 +1,6 @@
 //! The labels of a net's nodes, in 4 bytes a node. A label is the number of a source.
 ghost use Rattle.std.specs.Prelude.{◌≡◌, ◌<◌, ◌-◌, IfOk, None, Some, length, replicate, set, slice_index_or, is_some};
-ghost use Rattle.floods.specs.Notes.{label_of, numbered_labels};
+ghost use Rattle.floods.specs.Notes.{label_of, no_label, numbered_labels};
 
 use std::alloc::{AllocError, Global};
 use std::marker::Model;
@@ -54,7 +54,7 @@ impl NodeLabels {
     #[inline(always)]
     pub(crate) fn put(&mut self, node: u32, label: u32)
         requires node { node < length self.old }
-        requires label { label < 4294967295 }
+        requires label { label < no_label }
         ensures { self.new ≡ set self.old node (Some label) }
     {
         self.numbers[node as usize] = label;

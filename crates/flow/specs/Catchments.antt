@@ -21,8 +21,8 @@ use Rattle.flow.specs.declared.gauges.GaugeFault.TheVariants.{Outside, OnNodata,
 abbrev pub gauge_number : List Place → Place → ℕ
 gauge_number gauges p = unwrap_or (position_from (is_place p) 1 gauges) 0
 
--- The flow path of p, from p on. Its outlet is repeated until the list has as many places as the
--- grid has cells.
+-- The flow path of p, from p on. Where it ends, its last place is repeated until the list has as
+-- many places as the grid has cells.
 abbrev pub flow_path : Directed → Place → List Place
 flow_path d p = map (follow d p) (range_with_len 0 (moves d))
 

@@ -5,6 +5,7 @@
 ghost use Rattle.std.specs.Prelude.{◌≡◌, ℕ, ◌+◌, ◌-◌, ◌^◌, ◌<◌, ◌≤◌, length, take, count_by, IfOk};
 ghost use Rattle.std.specs.List.{sum_by};
 ghost use Rattle.tile_jobs.specs.Fault.{RefusesWorkers};
+ghost use Rattle.tiles.specs.Cutting.{most_tiles};
 ghost use Rattle.flow.specs.OutletRuns.{AreSumsBefore};
 
 use crate::end_numbers::EndNumbering;
@@ -45,7 +46,7 @@ impl<'a> OutletNumbers<'a> {
         runs: u32,
     ) -> Result<OutletNumbers<'a>, JobFault>
         requires few { length codes.now < 2 ^ 32 - 1 }
-        requires runs { (1 ≤ runs) × (runs ≤ 65536) }
+        requires runs { (1 ≤ runs) × (runs ≤ most_tiles) }
         ensures codes { IfOk result (λ n. n ≡ codes.now) }
         ensures workers { RefusesWorkers runner.now.workers result }
     {

@@ -124,9 +124,10 @@ pub struct CountRuns<'a> {
 impl<'a> Work for CountRuns<'a> {
     type Out = RunCounts;
 
+    ghost use Rattle.tiles.specs.Cutting.{most_tiles};
     ghost use Rattle.flow.specs.OutletRuns.{IsRunCounted, run_codes};
 
-    ghost most = { λ w. 65536 };
+    ghost most = { λ w. most_tiles };
 
     ghost gives = { λ w job out. IsRunCounted (run_codes w.runs.now job) out };
 

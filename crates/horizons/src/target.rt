@@ -1,4 +1,4 @@
-//! [`Target`]: a cell at which an observer looks, by its row or column outward and its offset.
+//! The cells that lines of sight lead to: [`Target`].
 /// A cell at which an observer looks, relative to the observer's cell.
 /// `line` counts rows or columns outward from the observer's own. `offset` counts cells along that
 /// row or column, from the observer's column or row.

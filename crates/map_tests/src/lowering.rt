@@ -1,5 +1,6 @@
 //! Compares filled heights of rough grids with those that lowering gives.
-//! Lowering begins with upper bounds of the filled heights, and lowers all of them again and again.
+//! Lowering begins with upper bounds of the filled heights. It sweeps over the grid again and again
+//! and lowers the bounds of inner cells.
 use crate::ground::heights_of;
 use ascii_grid::read_text;
 use fill::filled_heights;

@@ -20,7 +20,7 @@ pub record Runs {R W T : Type 0} (remaining : R → Option (List ℕ)) (contents
   -- At most 2^29 + 1 bytes are read; a text of that many bytes is too long.
   pub taken : Takes remaining reader left
   -- On `Ok` the whole map was written and nothing else. It is the map, with the requested sinks, of
-  -- the grid that the bytes read spell. No byte is left to read.
+  -- the grid that the bytes read spell. No byte is left to read, if that is known.
   pub written : OnOk result ((map : List ℕ) × IsMapOfText w.scale w.map w.sinks taken.bytes map
       × HasWritten contents writer grown map × IsAtEnd (remaining left.device))
   -- If the reader's whole text is known, the fault is one that a run may return for that text.
@@ -31,9 +31,10 @@ pub record Runs {R W T : Type 0} (remaining : R → Option (List ℕ)) (contents
   -- If a write failed, a front part of the map was written, perhaps nothing or all of it.
   pub part : result ≡ Err Write → (map : List ℕ) × IsMapOfText w.scale w.map w.sinks taken.bytes map
       × HasWrittenPart contents writer grown map × IsAtEnd (remaining left.device)
-  -- The result is `Read` exactly if the reader failed, and `Write` exactly if the writer failed.
+  -- The result is `Read` exactly if a failure of the reader was counted, and `Write` exactly if one
+  -- of the writer was. Not counted is a read by several workers that fails behind a faulty word.
   pub read : (result ≡ Err Read) ↔ (reader.failures < left.failures)
   pub write : (result ≡ Err Write) ↔ (writer.failures < grown.failures)
   pub sound : OnOk result ((left.failures ≡ reader.failures) × (grown.failures ≡ writer.failures))
-  -- If a read failed, the words that ended before the failure have no fault.
+  -- On `Read`, the words that a separator ended before the failure have no fault.
   pub clean : result ≡ Err Read → fault_so_far w.scale taken.bytes ≡ None

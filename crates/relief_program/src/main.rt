@@ -18,10 +18,10 @@ const NO_MEMORY: u8 = 3;
 
 /// The length of the list that [`keep_freed_lists`] frees: 32 MiB less 8 KiB.
 /// With the allocator's header, rounded up to whole pages of 4 KiB, the list takes 32 MiB less
-/// 4 KiB. Freeing a list that takes over 32 MiB would not change what the C library keeps.
+/// 4 KiB. Freeing a list that takes over 32 MiB would not change what glibc keeps.
 const LONGEST_KEPT: usize = (1 << 25) - (1 << 13);
 
-/// Returns the exit status for unreadable words. Writes a line if a word is not UTF-8.
+/// Returns the exit status for unreadable words. Writes a line unless memory was refused.
 fn refuse_words(error: &io::Error, errors: &mut impl Write) -> u8 {
     if error.kind() == ErrorKind::OutOfMemory {
         return NO_MEMORY;
@@ -35,7 +35,7 @@ fn read_words(rt: &(impl Env + AllocGlobal)) -> io::Result<Vec<String>> {
     Ok(words)
 }
 
-/// Frees one long list, after which the C library keeps the memory of freed shorter lists.
+/// Frees one long list, after which glibc keeps the memory of freed shorter lists.
 /// A map of millions of cells then touches a third fewer new pages of memory.
 fn keep_freed_lists(alloc: Global) {
     drop(Vec::<u8>::with_capacity(alloc, LONGEST_KEPT));

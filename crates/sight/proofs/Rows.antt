@@ -43,18 +43,17 @@ small_grids = refl
 hidden_by_a_row : values_from_corner hidden ≡ 1 ∷ 1 ∷ 1 ∷ 1 ∷ 1 ∷ 1 ∷ 1 ∷ 0 ∷ 1 ∷ 0 ∷ 0 ∷ 0 ∷ []
 hidden_by_a_row = refl
 
--- an observer who is named twice counts twice; cells outside the radius are not seen
 abbrev pub flat : Terrain
 flat = land 3 3 (map up (0 ∷ 0 ∷ 0 ∷ 0 ∷ 0 ∷ 0 ∷ 0 ∷ 0 ∷ 0 ∷ []))
 
 abbrev pub middle : Observer
 middle = record { row = 1; col = 1; eye = 0 }
 
+-- an observer who is named twice counts twice; cells outside the radius are not seen
 an_observer_twice : map (viewshed_value flat (middle ∷ middle ∷ []) 0 1) (places 3 3) ≡ 0 ∷ 2 ∷ 0
     ∷ 2 ∷ 2 ∷ 2 ∷ 0 ∷ 2 ∷ 0 ∷ []
 an_observer_twice = refl
 
--- the first faults of observers, target height and radius, over a grid with one NODATA cell
 abbrev pub gap : Terrain
 gap = land 3 2 (up 0 ∷ up 1 ∷ up 2 ∷ up 3 ∷ None ∷ up 5 ∷ [])
 
@@ -67,6 +66,7 @@ FaultRow = Option SightFault × Option SightFault
 abbrev pub HaveFaults : List FaultRow → Type 0
 HaveFaults rows = map (λ (row : FaultRow). row.0) rows ≡ map (λ (row : FaultRow). row.1) rows
 
+-- the first faults of observers, target height and radius, over a grid with one NODATA cell
 observer_faults : HaveFaults (
     (observers_fault gap (observer_at 2 0 0 ∷ []) 0 1, Some (Outside 0))
     ∷ (observers_fault gap (observer_at 0 0 0 ∷ observer_at 0 3 0 ∷ []) 0 1, Some (Outside 1))

@@ -1,6 +1,7 @@
 //! Removes the marks of cells whose line of sight is blocked where it crosses a family's lines:
 //! columns, or rows, on one side of the observer (`hide`).
 ghost use Rattle.std.specs.Prelude.{◌≡◌, ℕ, ◌≤◌, false, OnOk, slice_set};
+ghost use Rattle.sightlines.specs.Sight.{highest_eye};
 ghost use Rattle.sightlines.specs.Walk.{AreHeights};
 ghost use Rattle.sight.specs.Sweep.{IsFamily, IsAtCell, lead_of};
 ghost use Rattle.sight.specs.Hiding.{mark_index, AreHidden, IsApart, IsRay, IsWindow};
@@ -43,7 +44,7 @@ pub(crate) fn hide(
     requires family { IsFamily family }
     requires window { IsWindow family window marks.old }
     requires apart { IsApart window }
-    requires height { height ≤ 1000000 }
+    requires height { height ≤ highest_eye }
     ensures { OnOk result (AreHidden cells.now family window height marks.old marks.new) }
 {
     let rays = family.gather(alloc, window, marks)?;

@@ -3,6 +3,7 @@ ghost use Rattle.std.specs.Prelude.{◌≡◌, ℕ, ◌≤◌, ℤ, Some};
 ghost use Rattle.horizons.specs.Horizons.{IsTarget};
 ghost use Rattle.horizons.specs.declared.target.Target.{Target};
 ghost use Rattle.terrain.specs.Raster.{IsHeight};
+ghost use Rattle.sightlines.specs.Sight.{highest_eye};
 ghost use Rattle.sightlines.specs.Walk.{AreHeights};
 ghost use Rattle.sight.specs.Sweep.{IsFamily, IsLine, IsRise, IsAtCell};
 ghost use Rattle.sight.specs.Hiding.{height_at, rise_at};
@@ -39,7 +40,7 @@ impl Family {
         requires family { IsFamily self }
         requires line { IsLine self target.line }
         requires target { IsTarget target }
-        requires height { height ≤ 1000000 }
+        requires height { height ≤ highest_eye }
         ensures value { (y : ℕ) → IsAtCell self y target →
             result ≡ rise_at cells.now self height target.line y }
         ensures small { IsRise result }

@@ -5,6 +5,7 @@ ghost use Rattle.tile_jobs.specs.Fault.{RefusesWorkers};
 ghost use Rattle.sightlines.specs.Blocks.{IsTopOf, AreTops, IsTops};
 ghost use Rattle.sight.specs.BlockTops.{ground_of, IsGround, IsBlock, IsBlockTop, block_count, AreTopsBetween};
 ghost use Rattle.terrain.specs.Raster.{IsHeight};
+ghost use Rattle.tiles.specs.Cutting.{most_tiles};
 
 use crate::heights::{greater_height, height_at};
 use sightlines::{FAR_BLOCK, MaxHeights, NEAR_BLOCK, blocks_in};
@@ -110,11 +111,12 @@ struct BlockShares<'a> {
 }
 
 impl<'a> Work for BlockShares<'a> {
+    ghost use Rattle.tiles.specs.Cutting.{most_tiles};
     ghost use Rattle.sight.specs.BlockTops.{ground_of, AreTopsOfShare};
 
     type Out = Vec<Cell>;
 
-    ghost most = { λ w. 65536 };
+    ghost most = { λ w. most_tiles };
 
     ghost gives = { λ w job out.
         AreTopsOfShare w.blocks.now.size
@@ -136,7 +138,7 @@ fn shared_tops<R: Threads + Wait + Sync, G: Gate + Sync>(
     blocks: &Blocks,
     jobs: u32,
 ) -> Result<Vec<Cell>, JobFault>
-    requires jobs { (1 ≤ jobs) × (jobs ≤ 65536) }
+    requires jobs { (1 ≤ jobs) × (jobs ≤ most_tiles) }
     ensures tops { IfOk result (λ v.
         AreTops blocks.now.size
         (ground_of blocks.now.cols blocks.now.rows blocks.now.cells.now) v.items) }
@@ -160,7 +162,7 @@ pub(crate) fn tops_of<R: Threads + Wait + Sync, G: Gate + Sync>(
     grid: &Grid,
     jobs: u32,
 ) -> Result<MaxHeights, JobFault>
-    requires jobs { (1 ≤ jobs) × (jobs ≤ 65536) }
+    requires jobs { (1 ≤ jobs) × (jobs ≤ most_tiles) }
     ensures tops { IfOk result (λ t. IsTops grid.now.terrain t) }
     ensures workers { RefusesWorkers runner.now.workers result }
 {
