@@ -22,16 +22,17 @@ pub record Takes {R : Type 0} (remaining : R → Option (List ℕ)) (old new : D
 pub record ReadsGrid {R : Type 0} (remaining : R → Option (List ℕ)) (scale : ℕ) (old new : Device R)
     (result : Result Raster InputFault) : Type 0 where
   pub taken : Takes remaining old new
-  -- On `Ok` the bytes read spell the grid, and no byte is left.
+  -- On `Ok` the bytes read spell the grid, and no byte is left, if that is known.
   pub grid : IfOk result (λ g. IsGridText scale taken.bytes g × IsAtEnd (remaining new.device))
-  -- On `Err (Grid f)`, `f` is the first fault of the whole text that the device held before the
-  -- call, or `Memory`, even if only part was read.
+  -- On `Err (Grid f)`, if the text that the device held before the call is known, `f` is its first
+  -- fault, or `Memory` where reading it allocates the cells. Only part of it may have been read.
   pub fault : (text : List ℕ) (f : GridFault) → remaining old.device ≡ Some text →
       result ≡ Err (Grid f) → IsRefusal scale text f
   -- The count of failures rises by one on `Err Read`, and else does not change.
   pub read : result ≡ Err Read → new.failures ≡ old.failures + 1
   pub sound : result ≢ Err Read → new.failures ≡ old.failures
-  -- On `Err Read`, no word that a separator ended before the failure has a fault.
+  -- On `Err Read`, no word that a separator ended before the failure has a fault, and at most 2^29
+  -- bytes were read.
   pub clean : result ≡ Err Read → fault_so_far scale taken.bytes ≡ None
 
 -- The reader has no fault, the device can count one more failure, and the buffer `piece` has room.

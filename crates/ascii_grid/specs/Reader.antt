@@ -8,7 +8,8 @@ use Rattle.ascii_grid.specs.Reading.{HasWords}
 use Rattle.ascii_grid.specs.declared.fault.GridFault.{GridFault}
 use Rattle.ascii_grid.specs.declared.tokenizer.Tokenizer.{Tokenizer}
 
--- A reader's scale, the fault that it has returned, if any, its words, and its count of bytes read.
+-- A reader's scale, the fault that it has returned, if any, its words, and its count of bytes read
+-- without a fault.
 pub record Reader : Type 0 where
   pub scale : ℕ
   pub fault : Option GridFault

@@ -22,7 +22,7 @@ pub enum GridFault {
     RepeatedKey(Key),
     /// The header ends without this slot.
     MissingKey(Key),
-    /// The number of columns or rows is not a whole number from 1 to 4,096.
+    /// The number of columns or rows is not spelled by digits alone, or is not 1 to 4,096.
     BadSize(Key),
     /// A coordinate is no decimal text, or the cell size is no decimal text above 0.
     BadPlace(Key),

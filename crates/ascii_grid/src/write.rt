@@ -296,8 +296,8 @@ fn write_texts<W: Write>(texts: &[Vec<u8>], out: &mut Counted<W>) -> Result<(), 
 
 /// Writes a map's header and the texts of its rows. Allocates nothing.
 ///
-/// `texts` holds results of [`lines`], each for some successive rows. Together they are the texts
-/// of all rows, from north to south.
+/// For a map, `texts` must hold results of [`lines`], each for some successive rows. Together they
+/// must be the texts of all rows, from north to south.
 ///
 /// # Errors
 ///

@@ -38,7 +38,7 @@ fn has_gap(view: &TileView<'_, Cell>, cell: Place) -> bool
     false
 }
 
-/// Returns whether a place of the tile has a gap around it or is a sink.
+/// Returns whether a place of the tile is a gap, has a gap around it, or is a sink.
 #[inline]
 fn is_end(view: &TileView<'_, Cell>, sinks: &[bool], place: Place) -> bool
     requires { IsInBounds (bounds_of view.now.cutting view.now.tile) place }

@@ -31,9 +31,9 @@ pub record PointsToFirst (IsSuch : Place → Type 0) (p : Place) (code : ℕ) : 
   pub one : (q : Place) × (place_toward code p ≡ Some q) × IsSuch q
   pub first : (other : ℕ) (q : Place) → place_toward other p ≡ Some q → IsSuch q → code ≤ other
 
--- The direction of a data cell leads to a steepest lower neighbour. If no neighbour is lower, an
--- end cell is an outlet, with the direction 0. The direction of any other cell leads to a neighbour
--- of equal height with one step fewer. Ties take the least code.
+-- The direction of a data cell leads to a steepest lower neighbour, if it has a lower one. If not,
+-- an end cell is an outlet, with the direction 0. The direction of any other cell leads to a
+-- neighbour of equal height with one step fewer. Ties take the least code.
 pub record IsDirection (t : Terrain) (p : Place) (code : ℕ) : Type 0 where
   pub steepest : HasLower t p → PointsToFirst (IsSteepest t p) p code
   pub outlet : (HasLower t p → ⊥) → IsEnd t p → code ≡ 0

@@ -1,5 +1,5 @@
--- Rounds of counting steps after the first: the job of each tile returns changes, the lower counts
--- of the tile's cells. The state between rounds has the entries of the next round. These are lower
+-- Rounds of counting steps after the first. A round finds each tile's changes, the lower counts of
+-- the tile's cells. The state between rounds has the entries of the next round. These are lower
 -- counts that follow from neighbours in other tiles.
 -- Private.
 use Rattle.std.specs.Prelude.{◌≡◌, ◌≢◌, ℕ, ◌*◌, ◌<◌, ◌≤◌, ◌⊎◌, ℤ, List, length, Option, None, Some, Vec, slice_get, slice_index_or}

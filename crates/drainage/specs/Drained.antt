@@ -17,8 +17,8 @@ pub record Drained : Type 0 where
 abbrev pub directed_of : Drained → Directed
 directed_of d = record { cols = d.terrain.cols; rows = d.terrain.rows; codes = d.codes }
 
--- Cell q is lower than p, or as high with fewer steps. If the steps of p or q are unknown, equal
--- height is enough.
+-- For data cells: q is lower than p, or as high with fewer steps. If the steps of p or q are
+-- unknown, equal height is enough. (The height of a place without data counts as 0 here.)
 abbrev pub Falls : Drained → Place → Place → Type 0
 Falls d p q =
     (height_of d.terrain q <ℤ height_of d.terrain p)

@@ -50,8 +50,9 @@ fault_of_gauge sink.Memory = Jobs Memory
 abbrev pub gauges_fault : Terrain → List Place → Option GaugeFault
 gauges_fault t gauges = option_map fault_of_gauge (sinks_fault t gauges)
 
--- How catchments fail: with the gauges' fault if there is one. Otherwise only for want of memory, a
--- bad number of workers, or a thread that cannot be started.
+-- How catchments fail: with the gauges' fault if there is one. Otherwise with `BadWorkers`, exactly
+-- for 0 or more than `MOST_WORKERS` workers, or for refused memory or, with several workers, for a
+-- refused thread.
 pub record RefusesGauges {T : Type 0} (fault : Option GaugeFault) (workers : ℕ)
     (result : Result T GaugeFault) : Type 0 where
   pub reported : (f : GaugeFault) → fault ≡ Some f → result ≡ Err f

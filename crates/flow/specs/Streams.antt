@@ -1,6 +1,6 @@
 -- Nodes numbered from 0, each linked to the next one downstream. An end is linked to itself.
 -- A node's path follows links from the node.
--- Source: a forest, given by the parent of each node.
+-- Source: textbook forests, given by the parent of each node.
 -- Public.
 use Rattle.std.specs.Prelude.{◌≡◌, ℕ, zero, suc, ◌+◌, ◌<◌, Bool, not, ◌&&◌, ◌==◌, if◌then◌else◌, List, length, slice_index}
 

@@ -1,4 +1,5 @@
-//! Gives numbers to the cells where flow paths end, outlets or gauges: [`EndNumbering`].
+//! Gives numbers to the cells where flow paths end: [`EndNumbering`].
+//! These are outlets or, for catchments, gauges with an outlet's code.
 ghost use Rattle.std.specs.Prelude.{◌≡◌, ◌<◌};
 ghost use Rattle.flow.specs.Numbering.{EndNumbers};
 

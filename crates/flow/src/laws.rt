@@ -10,7 +10,7 @@ ghost use Rattle.flow.specs.Counts.{accumulation, basin, drains_through};
 ghost use Rattle.flow.specs.Catchments.{catchment, gauge_number, outlets};
 
 /// If no other gauge drains through gauge `g`, `accumulation + 1` cells have the number of `g`.
-/// They are the cell of `g` and all other cells that drain through `g`.
+/// So these are the cell of `g` and all other cells that drain through `g`.
 pub fn highest_gauges_have_all_upstream_cells()
     ensures { (d : Drained) (gauges : List Place) (g : Place) → IsTerrain d.terrain → IsDraining d
         → IsDataCell d.terrain g → Contains gauges g

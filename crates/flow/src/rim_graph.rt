@@ -1,7 +1,7 @@
 //! Links each exit into another tile to the next such exit on its flow path: [`RimGraph`].
 //!
-//! An exit without a next one is linked to itself. Exits are listed by rim number, their number
-//! among the rim cells of all tiles (`Tiling::rim_number`).
+//! An exit without a next one is linked to itself. The lists have an entry for each rim number, a
+//! number for a rim cell among those of all tiles (`Tiling::rim_number`).
 ghost use Rattle.std.specs.Prelude.{◌≡◌, ◌+◌, ◌*◌, ◌<◌, ◌≤◌, length, IfOk, OnOk};
 ghost use Rattle.tiles.specs.Cutting.{IsCutting, IsWithin, IsWithinLimits, bounds_of, tile_count};
 ghost use Rattle.drainage.specs.Following.{Directed};
@@ -17,8 +17,9 @@ use terrain::Place;
 use tiles::{Bounds, Tiling};
 
 /// The target, if any, and the link of each rim number (`Tiling::rim_number`).
-/// A target is the place in another tile that the cell with the number flows into. A link is the
-/// rim number of the next exit into another tile, or the cell's own number if there is none.
+/// A target is the place in another tile that the cell with the number flows into. The link of an
+/// exit into another tile is the rim number of the next such exit on its flow path. An exit without
+/// a next one, and any other rim number, has its own number as link.
 #[derive(Drop)]
 pub(crate) struct RimGraph {
     pub(crate) targets: Vec<Option<Place>>,
@@ -121,7 +122,7 @@ fn rim_targets(
 }
 
 /// Returns the rim number of the next exit into another tile after the exit `number`.
-/// If there is none, returns `number`.
+/// If there is none, or `number` is no exit into another tile, returns `number`.
 fn link_of(tiling: &Tiling, flows: &[TileFlow], targets: &[Option<Place>], number: u32) -> u32
     requires flows { (d : Directed) × AreFlowsOf d tiling.now flows.now }
     requires targets { targets.now ≡ targets_by tiling.now flows.now }

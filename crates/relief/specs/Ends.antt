@@ -52,9 +52,10 @@ pub record IsRefusalText (words : List Text) (text : List ℕ) : Type 0 where
   pub bad_sink : (place : ℕ) → HasBadSink words place →
       text ≡ codes "relief: bad sink word " ++ decimal place ++ codes "\n"
 
--- Nothing was read. Status 0: the words ask for help or the version, and a line was written to the
--- writer as `WritesLine` says. Status 1: the words are refused, and a message was written to the
--- error device as `WritesLine` says. Status 3: memory was refused, and nothing was written.
+-- Nothing was read. Status 0: the words ask for help or the version, and a text that ends with a
+-- line feed was written to the writer as `WritesLine` says. Status 1: the words are refused, and a
+-- message was written to the error device as `WritesLine` says. Status 3: nothing was written. The
+-- program ends so only where memory is refused; the definition does not ask why.
 pub record EndsUnread {R W E : Type 0} (contents : W → Option (List ℕ))
     (lines : E → Option (List ℕ)) (words : List Text) (reader left : Device R)
     (writer grown : Device W) (errors reported : Device E) (status : ℕ) : Type 0 where
@@ -76,9 +77,10 @@ EndsProgram remaining contents lines words reader left writer grown errors repor
     × EndsRun remaining contents lines request reader left writer grown errors reported status)
 
 -- How the program ends when `clap` gives an error of this kind. Status 0: the kind is help or the
--- version, and a line was written to the writer as `WritesLine` says. Status 1: the kind is any
--- other but `OutOfMemory`, and a line was written to the error device as `WritesLine` says. Status
--- 3: memory was refused, for the message or before, and nothing was written.
+-- version. Status 1: the kind is any other but `OutOfMemory`. A text that ends with a line feed was
+-- written, as `WritesLine` says: at status 0 to the writer, at status 1 to the error device.
+-- Status 3: nothing was written. The program ends so only where memory is refused; the definition
+-- does not ask why.
 abbrev pub EndsShowing : {W E : Type 0} → (W → Option (List ℕ)) → (E → Option (List ℕ)) →
     ErrorKind → Device W → Device W → Device E → Device E → ℕ → Type 0
 EndsShowing contents lines kind writer grown errors reported status =

@@ -36,7 +36,7 @@ abbrev pub detail_text : Detail → List ℕ
 detail_text (Slot key) = slot_text key
 detail_text (Count n) = decimal n
 
--- The parts of a fault's line: number, name and, for some faults, a detail (`Detail`).
+-- The parts of a fault's line: number, name and, for some faults, the text of a detail.
 pub record FaultParts : Type 0 where
   pub number : ℕ
   pub name : List ℕ

@@ -25,8 +25,8 @@ use tile_maps::Runner;
 /// byte written.
 ///
 /// The contract does not model the bytes of standard input and output. For these two streams it
-/// gives only the counts of failures and of bytes moved. A fault other than a failed write leaves
-/// `writer` unchanged.
+/// gives only the counts of failures and of bytes moved, and that a fault other than a failed write
+/// leaves `writer` unchanged.
 ///
 /// # Errors
 ///

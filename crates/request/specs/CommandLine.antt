@@ -41,7 +41,8 @@ number_rule name numbers default = record (new_rule name) {
 abbrev pub tile_rule : Rule
 tile_rule = number_rule (codes "tile") (from_to 1 4096) (codes "256")
 
--- `--workers N`: the number of threads.
+-- `--workers N`: the number of workers. One runs on the caller's thread; several have a thread
+-- each.
 abbrev pub workers_rule : Rule
 workers_rule = number_rule (codes "workers") (from_to 1 64) (codes "1")
 
@@ -137,11 +138,11 @@ program_app = record {
 
 -- ---- what a command line requests
 
--- An error of `clap` of this kind displays help or the version.
+-- An error of `clap` of this kind answers a request for help or the version.
 abbrev pub IsHelp : ErrorKind → Type 0
 IsHelp kind = (kind ≡ DisplayHelp) ⊎ (kind ≡ DisplayVersion)
 
--- The words ask for help or the version.
+-- `clap` answers the words with help or the version.
 abbrev pub AskForHelp : List Text → Type 0
 AskForHelp words = Any IsHelp (fault_of program_app words)
 

@@ -10,7 +10,7 @@ use Rattle.terrain.specs.declared.observer.Observer.{Observer}
 abbrev pub is_number : List ℕ → Bool
 is_number bs = are_digits bs && nat_le (length bs) 10 && nat_lt (number_of bs) (2 ^ 32)
 
--- The observer of three parts that are whole numbers: row, column and eye. `None` for other parts.
+-- The observer of three parts that pass `is_number`: row, column and eye. `None` for other parts.
 abbrev pub observer_of_parts : List (List ℕ) → Option Observer
 observer_of_parts (row ∷ col ∷ eye ∷ []) =
     if is_number row && is_number col && is_number eye
@@ -22,7 +22,7 @@ observer_of_parts parts = None
 abbrev pub observer_of : List ℕ → Option Observer
 observer_of word = observer_of_parts (slice_split (λ b. b == 44) word)
 
--- The place of two parts that are whole numbers: row and column. `None` for other parts.
+-- The place of two parts that pass `is_number`: row and column. `None` for other parts.
 abbrev pub place_of_parts : List (List ℕ) → Option Place
 place_of_parts (row ∷ col ∷ []) =
     if is_number row && is_number col

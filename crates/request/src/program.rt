@@ -66,7 +66,8 @@ fn progress_flag<'a>(alloc: Global) -> Arg<'a>
         .help("Report on standard error how far the run is, in tenths of each stage")
 }
 
-/// Returns `--target N`. The run, not `clap`, refuses more than 1,000,000 units.
+/// Returns `--target N`.
+/// `clap` takes any number below 2^32; the run refuses those above 1,000,000 units.
 fn target_option<'a>(alloc: Global) -> Arg<'a>
     ensures { IsArg target_rule result }
 {
@@ -74,7 +75,8 @@ fn target_option<'a>(alloc: Global) -> Arg<'a>
     number_option(alloc, "target", "N", value_parser!(u32), "0", help)
 }
 
-/// Returns `--radius N`. The run, not `clap`, refuses what is not 1 to 8,192 cells.
+/// Returns `--radius N`.
+/// `clap` takes any number below 2^32; the run refuses 0 and those above 8,192 cells.
 fn radius_option<'a>(alloc: Global) -> Arg<'a>
     ensures { IsArg radius_rule result }
 {

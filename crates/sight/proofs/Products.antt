@@ -34,7 +34,8 @@ times_between a b c = omega (
   ap (λ z. down a * z) (product_is c b).1,
 )
 
--- a product of numbers up to 4096 fits in 32 signed bits, and the code computes it
+-- the product of `a`, of size up to 4096, and `n` up to 4096 fits in 32 signed bits. Read from 32
+-- bits, the two numbers have this product.
 pub times_short : (a : ℤ) (n : ℕ) → unsigned_abs a ≤ 4096 → n ≤ 4096 → FitsSigned w32 (a *ℤ pos n)
     × (to_z w32 (of_z w32 a) *ℤ to_z w32 n ≡ a *ℤ pos n)
 times_short a n small few = (

@@ -20,7 +20,8 @@ use tiles::Tiling;
 ///
 /// NODATA cells have no count. Eyes and `target_height` are in units, `radius` in cells. Two stages
 /// run on `workers` workers; each stage has as many jobs as tiles. The first finds the greatest
-/// heights of blocks, since a line of sight skips a low block in one step; the second counts.
+/// heights of blocks of 16 by 16 cells, since a line of sight skips a low block in one step; the
+/// second counts.
 ///
 /// # Errors
 ///

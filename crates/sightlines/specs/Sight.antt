@@ -19,7 +19,7 @@ abbrev pub longest_radius : ℕ
 longest_radius = 8192
 
 -- n times the point that is k of n steps from a toward b. This product divided by n gives
--- a whole cell; the remainder is the n-ths of a cell past that cell.
+-- a whole cell. The remainder is by how many n-ths of a cell the point lies south or east of it.
 abbrev pub toward : ℕ → ℕ → ℕ → ℕ → ℕ
 toward a b n k = a * (n - k) + b * k
 
@@ -43,7 +43,7 @@ pub record Crossing : Type 0 where
   pub far : Place
   pub far_weight : ℕ
 
--- The crossing with the k-th of n columns from p to q, m n-ths of a row past the near cell.
+-- The crossing with the k-th of n columns from p to q, m n-ths of a row south of the near cell.
 abbrev pub column_crossing : Place → Place → ℕ → ℕ → Crossing
 column_crossing p q n k =
     let col = onward p.col q.col k in
@@ -56,7 +56,7 @@ column_crossing p q n k =
       far_weight = m;
     }
 
--- The crossing with the k-th of n rows from p to q, m n-ths of a column past the near cell.
+-- The crossing with the k-th of n rows from p to q, m n-ths of a column east of the near cell.
 abbrev pub row_crossing : Place → Place → ℕ → ℕ → Crossing
 row_crossing p q n k =
     let row = onward p.row q.row k in

@@ -9,7 +9,8 @@ use std::io::Read;
 
 /// The most pieces of a batch.
 ///
-/// Not 256: even if the batch begins within a word, at most 1 MiB is read ahead of the cells.
+/// Not 256: a batch may begin within a word. With the at most 64 bytes of a lawful word that were
+/// read before, at most 1 MiB has then been read and not yet parsed.
 const BATCH_PIECES: usize = 255;
 
 /// The most bytes of a batch.

@@ -1,5 +1,5 @@
--- Entry i of the part of a list from index a on is entry a + i of the list. Entry i of `xs ++ ys`
--- is entry i of `xs` if i is below `length xs`, else entry `i - length xs` of `ys`.
+-- Entry i of the part of a list from index a on, before b, is entry a + i of the list. Entry i of
+-- `xs ++ ys` is entry i of `xs` if i is below `length xs`, else entry `i - length xs` of `ys`.
 use Rattle.std.proofs.lemmas.Grind.{common_steps}
 use Rattle.std.proofs.lemmas.Option.{gets}
 use Rattle.std.proofs.lemmas.List.{get_or-take, get_or-drop, length-take, length-drop, get_or_append_left, get_or-append-add, length-append}

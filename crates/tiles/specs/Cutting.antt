@@ -103,7 +103,7 @@ pub record AreBounds (t : Cutting) (b : Bounds) : Type 0 where
   pub rows_inside : b.top + b.rows ≤ t.rows
   pub cols_inside : b.left + b.cols ≤ t.cols
 
--- The place lies in the first or last row or column of the bounds.
+-- For a place in the bounds: it lies in their first or last row or column.
 abbrev pub is_first_or_last : Bounds → Place → Bool
 is_first_or_last b p = p.row == b.top || p.row + 1 == b.top + b.rows || p.col == b.left
     || p.col + 1 == b.left + b.cols
@@ -164,7 +164,7 @@ abbrev pub cell_shown : {X : Type 0} → View X → Place → Option X
 cell_shown v p =
     if is_shown v.cutting v.tile p then slice_get v.cells (index_of v.cutting.cols p) else None
 
--- The cells of row i of the view's tile.
+-- The cells of row i of the view's tile; its first row is row 0.
 abbrev pub row_shown : {X : Type 0} → View X → ℕ → List X
 row_shown v i =
     let b = bounds_of v.cutting v.tile in
