@@ -1,5 +1,5 @@
 -- One more byte ends the unfinished word or is added to it. The words of written rows are the texts
--- of their cells.
+-- of their cells, if each text is one word.
 use Rattle.std.proofs.Common.{◌≡◌, ℕ, ◌+◌, ◌-◌, ◌≤◌, Bool, true, false, not, cond, List, [], ◌∷◌, ◌++◌, length, take, arith, refl, ap, sym, ◌∙◌, inl, inr, zero, suc, ◌*◌, ◌<◌, drop, map}
 use Rattle.std.specs.Prelude.{filter}
 use Rattle.std.specs.List.{slice_split, onto_first, before_last, suffix_len, prefix_len, All, list_any, filter, join_with_byte}

@@ -79,7 +79,8 @@ no_value_faults g h =
       h.nodata.value,
     ) refl
 
--- a written header, and then the words `rest`, reads back as the header of the grid `g`
+-- a written header, and then the words `rest`, reads back as the header of the grid `g`, but with
+-- centres by `x` and `y`. Field `header` is for words `rest` of which none is read as header
 record ReadsBack (x y : Bool) (g : Raster) (rest : List Word) : Type 0 where
   header : header_words rest ≡ [] → header_words (header_and x y g rest) ≡ header_and x y g []
   heights : height_words (header_and x y g rest) ≡ height_words rest

@@ -66,7 +66,8 @@ abbrev pub HasBegun : List Word → Type 0
 HasBegun [] = ⊥
 HasBegun (h ∷ rest) = begins_with_letter h ≡ false
 
--- The words `hs` follow the pairs `ps` as heights without a fault, and `j` stores their cells.
+-- The pairs `ps` fill all required slots, and the words `hs` follow as heights without a fault.
+-- `j` stores the cells of `hs`, and the count of cells and the NODATA word for `ps`.
 pub record AreHeights (j : GridBuilder) (ps : List (Word × Word)) (hs : List Word) : Type 0 where
   pub whole : missing_fault (flat ps) ≡ None
   pub wanted : j.wanted ≡ cells_wanted (flat ps)
@@ -75,8 +76,8 @@ pub record AreHeights (j : GridBuilder) (ps : List (Word × Word)) (hs : List Wo
   pub faultless : heights_fault j.scale (flat ps) 0 hs ≡ None
   pub cells : j.cells.items ≡ map (spelled_cell j.scale j.nodata) hs
 
--- `rest` is what follows the pairs: nothing if a key comes next, a key if its value comes next, or
--- else the heights.
+-- `rest` is what follows the pairs: nothing before a key or the first height, a key before its
+-- value, or else the heights so far.
 abbrev pub IsAt : GridBuilder → List (Word × Word) → List Word → Stage → Type 0
 IsAt j ps rest AtKey = rest ≡ []
 IsAt j ps rest (AtValue slot centre) = (k : Word) × (rest ≡ k ∷ []) × AwaitsValue ps k slot centre

@@ -65,6 +65,7 @@ impl HeightParser {
     }
 
     /// Skips a separator or adds the next word's cell. Returns the count of bytes read.
+    /// `None` if the word or refused memory makes [`cells`](Self::cells) return `None`.
     #[inline(always)]
     fn add_next(
         &self,

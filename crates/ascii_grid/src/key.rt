@@ -38,7 +38,7 @@ pub(crate) fn names_centre(word: &[u8]) -> bool
     is_key(b"xllcenter", word) || is_key(b"yllcenter", word)
 }
 
-/// Whether a word begins with a letter, as a key does and a height does not.
+/// Whether a word begins with an ASCII letter, as a key does and a height does not.
 pub(crate) fn begins_with_letter(word: &[u8]) -> bool
     ensures { result ≡ begins_with_letter word.now }
 {

@@ -54,7 +54,7 @@ has_gap_around n a = list_any (λ b. is_none (cell_at n b)) (cells_around n.stri
 abbrev pub is_sink : List Bool → ℕ → Bool
 is_sink sinks a = slice_index_or sinks a false
 
--- The height of a source: a sink, or a data cell beside a cell without data. Else None.
+-- The height of a source: a data cell that is a sink or is beside a cell without data. Else None.
 abbrev pub source_of : Cells → ℕ → Option ℤ
 source_of n a = if has_gap_around n a || is_sink n.sinks a then cell_at n a else None
 

@@ -1,6 +1,6 @@
 //! Finds the filled heights of a grid by one flood, without tiles: [`filled_heights`].
 //!
-//! Tests compare the filling by tiles with this flood.
+//! Only tests call it. They compare it with expected maps and with repeated lowering.
 ghost use Rattle.std.specs.Prelude.{IfOk};
 ghost use Rattle.drainage.specs.Filled.{IsFilled};
 

@@ -1,5 +1,6 @@
--- A word's scaled value (its number in units of 10^-d) follows from its sign and its digits around
--- its point. 1 to 16 digits after an optional `-` spell it (`IsPlain`), if its size is up to 10^18.
+-- Without exponent, a word's scaled value (its number in units of 10^-d) follows from its sign and
+-- its digits around its point. 1 to 16 digits after an optional `-` spell it (`IsPlain`), if its
+-- size is up to 10^18.
 use Rattle.std.proofs.Common.{◌≡◌, ℕ, ◌+◌, ◌*◌, ◌-◌, ◌^◌, ◌<◌, ◌≤◌, min, Bool, true, false, ◌&&◌, ◌||◌, cond, nat_le, nat_lt, ◌==◌, List, [], ◌∷◌, ◌++◌, length, take, drop, fold, replicate, Option, None, Some, ℤ, pos, neg_ℤ, inl, inr, arith, refl, ap, sym, ◌∙◌, suc, zero, add-one}
 use Rattle.std.specs.List.{list_any, list_all, position_or_len, before_first, after_first}
 use Rattle.std.specs.Char.{is_ascii_digit}
@@ -32,7 +33,7 @@ take-padded (suc d) k (x ∷ xs) h =
     ∙ ap (λ n. x ∷ take d xs ++ replicate n 48) left
 
 -- `a`, the first d digits of `xs`, and a 0 for each missing one spell a number. Two folds find it
--- from the number of `a`: the first over the digits of `xs`, the second over the zeros.
+-- from the number of `a`: the first over those digits of `xs`, the second over the zeros.
 pub number_of-padded : (d : ℕ) (a xs : List ℕ) → number_of (a ++ take d (xs ++ replicate d 48))
     ≡ fold (λ n b. 10 * n + (b - 48)) (fold (λ n b. 10 * n + (b - 48)) (number_of a) (take d xs))
     (replicate (d - min d (length xs)) 48)

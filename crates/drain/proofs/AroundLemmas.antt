@@ -1,5 +1,5 @@
--- The surroundings of a cell have, on each way, height and steps of the place on that way. Ways are
--- the eight directions, from 0 to 7 in code order.
+-- The surroundings of a cell have, on each way, height and steps of the place on that way, if both
+-- are known. Ways are the eight directions, from 0 to 7 in code order.
 use Rattle.std.proofs.Common.{◌≡◌, ℕ, zero, suc, ◌+◌, ◌*◌, ◌<◌, ◌<ℤ◌, ◌-ℤ◌, ◌%◌, inl, inr, Bool, true, eqb, List, [], ◌∷◌, get_or, Option, None, Some, ℤ, pos, negsuc, sym, ap, refl, ◌∙◌, arith}
 use Rattle.std.proofs.lemmas.Int.{ints}
 use Rattle.std.proofs.lemmas.Bool.{cases_Bool, and_parts, eqb-true, cond-true, cond-false, false≢true}

@@ -1,5 +1,5 @@
 -- The direction of a cell is `direction_of` its surroundings: heights and steps of the cell and its
--- neighbours.
+-- neighbours, and whether it is an end cell.
 use Rattle.std.proofs.Common.{◌≡◌, ℕ, ◌+◌, ◌*◌, ◌<◌, ◌≤◌, ◌<ℤ◌, ◌-ℤ◌, inl, inr, true, eqb, ltb, cond, max, fold, List, [], ◌∷◌, length, get_or, Option, None, Some, is_some, unwrap_or, MatchOption, ℤ, pos, sym, ap, subst, refl, ◌∙◌, arith}
 use Rattle.std.proofs.lemmas.Bool.{cases_Bool, cases_lt, and_from, eq-eqb, eqb-true, lt-ltb, le-ltb, cond-true, cond-false, false≢true}
 use Rattle.std.proofs.lemmas.Bool.Decides.{Decides-int_eq}

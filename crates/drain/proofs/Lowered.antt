@@ -28,7 +28,7 @@ unfolding total
 total_low zero f g low = omega arith
 total_low (suc n) f g low = omega (arith, low n, total_low n f g low)
 
--- the sum falls if no count rises and some count falls
+-- the sum of the first n counts falls if no count rises and one of those n falls
 pub total_less : (n : ℕ) (f g : ℕ → ℕ) → ((k : ℕ) → g k ≤ f k) → (j : ℕ) → j < n → g j < f j →
     total n g < total n f
 unfolding total

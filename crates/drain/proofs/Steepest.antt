@@ -106,7 +106,7 @@ module _ (level : ℤ) (heights : List (Option ℤ)) (parity : ℕ) (lowest : �
       level_drop : drop_by level (Some level) ≡ 0
       level_drop = elim (part_of (level -ℤ level)) [ inl e ↦ omega (arith, ints) | inr e ↦ e.0 ]
 
-  -- the first lowest way has the greatest drop, or no way leads down
+  -- the parity's first lowest way has the greatest drop of its ways, or none of them leads down
   pub first_is_furthest : (turns : ℕ) →
       turns < 4 → ((turn : ℕ) → turn < turns → height_on level heights parity turn ≢ lowest) →
       (turns < 3 → height_on level heights parity turns ≡ lowest) →

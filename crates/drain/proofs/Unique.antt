@@ -43,7 +43,7 @@ at_place P cols rows each i h =
     let col : i % cols < cols = mod_below i cols some in
     subst P (index-place_at cols i) (each (place_at cols i) row col)
 
--- lists with equal entries at each place are equal
+-- two lists of a grid's size with equal entries at each place are equal
 pub same_entries : {X : Type 0} (cols rows : ℕ) (xs ys : List (Option X)) →
     length xs ≡ cols * rows → length ys ≡ cols * rows
     → ((p : Place) → p.row < rows → p.col < cols →

@@ -1,6 +1,7 @@
 //! Each data cell of a filled terrain has one number of steps, below 2^24, and one direction.
 //!
-//! Counts of steps that a round over all tiles leaves unchanged are the steps.
+//! Counts that a round over all tiles leaves unchanged are the steps of a filled terrain. Each cell
+//! that drains at once must have the count 0.
 ghost use Rattle.std.specs.Prelude.{◌≡◌, ℕ, ◌*◌, ◌^◌, ◌<◌, List, length, Option};
 ghost use Rattle.terrain.specs.Raster.{Terrain, IsTerrain};
 ghost use Rattle.terrain.specs.Neighbours.{IsDataCell};

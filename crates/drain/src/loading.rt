@@ -14,7 +14,7 @@ use terrain::{Cell, Place};
 use tiles::{Bounds, TileView};
 
 /// Returns the place at a spot, `None` if it lies north or west of the grid.
-/// A spot south or east of the grid gets a place outside the grid.
+/// Any other spot south or east of the grid gets a place outside the grid.
 #[inline(always)]
 pub(crate) fn place_shown(bounds: Bounds, spot: Place) -> Option<Place>
     requires bounds { (bounds.top + bounds.rows ≤ 4096) × (bounds.left + bounds.cols ≤ 4096) }
@@ -161,7 +161,7 @@ pub(crate) fn window(alloc: Global, levels: &TileView<'_, Cell>) -> Result<Windo
     })
 }
 
-/// Copies the counts of a tile and the places around it; `NO_COUNT` for `None`.
+/// Copies counts of a tile and around it; `NO_COUNT` for `None` and off the grid.
 pub(crate) fn counts(
     alloc: Global,
     steps: &TileView<'_, Option<u32>>,

@@ -156,7 +156,7 @@ fn reach(
     Ok(())
 }
 
-/// Lowers counts in `row` around `from` to at most that of `from` plus 1.
+/// Lowers the tile's counts in `row` around `from` to at most `from.count + 1`.
 /// Cells of another height than `from` are left out.
 #[inline(always)]
 fn reach_along(

@@ -16,7 +16,7 @@ use terrain::{Height, NoMemory, Place};
 use tiles::Tiling;
 
 /// Returns the least crest of `label` in the spill graph; `None` for no label.
-/// `levels` has the least crests, in row order of the grid.
+/// `levels` has the least crests, in row order of the grid; `None` for a node without one.
 #[inline(always)]
 fn spill(tiling: &Tiling, levels: &[Option<Height>], label: Option<Place>) -> Option<Height>
     requires size { length levels.now ≡ tiling.now.cols * tiling.now.rows }
@@ -57,8 +57,8 @@ fn greater(height: Height, spill: Option<Height>) -> Option<Height>
 }
 
 /// Returns the greater of each cell's level and its label's least crest.
-/// `heights` has the level of each cell. `labels` has the index in `spills` of the least crest of
-/// each cell's label.
+/// Returns `None` where that crest is `None`. `heights` has the level of each cell with a label;
+/// `labels` has the index in `spills` of the least crest of each cell's label.
 fn greater_levels(
     alloc: Global,
     heights: &[Height],

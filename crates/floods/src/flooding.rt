@@ -1,7 +1,8 @@
 //! The flood: finds each node's level, the least crest of its walks to sources, and its label.
 //! The label is a source where a walk of that crest ends. A walk's crest is its greatest height.
 //!
-//! [`flood_net`] takes the node queued at the least height, labels it, and queues its neighbours.
+//! [`flood_net`] labels the unlabelled node queued at the least height. It queues each unlabelled
+//! neighbour whose crest is below its level, if any.
 ghost use Rattle.std.specs.Prelude.{◌≡◌, IfOk, length, replicate, None};
 ghost use Rattle.floods.specs.Walk.{IsFlooded};
 ghost use Rattle.floods.specs.Flood.{candidates_in, InOrder, AreSourcesQueued, HasSourcesNoted};

@@ -1,5 +1,5 @@
 -- The counts that a tile's job makes from flow and inflows are the accumulations of the tile's
--- cells.
+-- data cells; entries are `None` at NODATA.
 use Rattle.std.proofs.Common.{◌≡◌, ℕ, ◌+◌, ◌-◌, ◌<◌, ◌≤◌, inl, inr, List, length, get_or, cond, Option, None, Some, is_some, slice_get, sym, ap, subst, refl, ◌∙◌, arith}
 use Rattle.std.proofs.Math.ListN.{length-map}
 use Rattle.std.proofs.lemmas.Bool.{cases_lt, cases_Bool, cond-true, cond-false}

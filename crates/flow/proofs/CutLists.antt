@@ -32,8 +32,8 @@ entry_set_other cols rows xs x p g col apart = elim (cases_lt p.row rows) [
   ]
 ]
 
--- Setting the code at gauge k to 0 turns codes cut at the first k gauges into codes cut at the
--- first k + 1. Gauges are counted from 0.
+-- Setting the code at gauge k, a cell of the grid, to 0 turns codes cut at the first k gauges into
+-- codes cut at the first k + 1. Gauges are counted from 0.
 pub cut_next : (cols rows : ℕ) (codes : List (Option ℕ)) (gauges : List Place) (k : ℕ)
     (cut new : List (Option ℕ)) (d : Place) →
     length codes ≡ cols * rows → k < length gauges → let g = get_or gauges k d in
@@ -90,7 +90,7 @@ index_at cols n gauges k i d e below same read =
     ∙ ap (λ (q : Place). index_of cols q) (get_or_default gauges k d e below)
 
 -- If row-order index i has a number by the first k gauges, it has the same number by the first
--- k + 1. If not, its number by the first k + 1 is k + 1 if gauge k, counted from 0, has index i.
+-- k + 1. If not, its number by these is k + 1 if gauge k, counted from 0, has index i, else `None`.
 pub number_next : (cols : ℕ) (gauges : List Place) (k i : ℕ) (d : Place) → k < length gauges →
     number_of_index cols (take (k + 1) gauges) i ≡ option_or (number_of_index cols
     (take k gauges) i) (cond (index_of cols (get_or gauges k d) == i) (Some (k + 1)) None)

@@ -225,7 +225,7 @@ module _ (d : Directed) (s : IsEnding d)
       (list_any_at (is_place there) gauges k g below (is_place_from there there refl)))))
 
   -- If `values` has for each data cell the gauge number of the place where the cell's path ends in
-  -- the cut map, the values are the catchments.
+  -- the cut map, and `None` at NODATA, the values are the catchments.
   pub catchments_are : (n : EndNumbers) → ((i : ℕ) →
       n.number i ≡ unwrap_or (number_of_index d.cols gauges i) 0) → (values : List (Option ℕ)) →
       IsMapOf cut_d (end_number cut_d n) values → IsMapOf d (catchment d gauges) values

@@ -1,4 +1,4 @@
--- The cells of a tile get the numbers of the ends of their flow paths.
+-- The data cells of a tile get the numbers of the ends of their flow paths.
 use Rattle.std.proofs.Common.{◌≡◌, ℕ, ◌*◌, ◌<◌, ◌≤◌, inl, inr, List, length, get_or, take, Option, None, Some, IfSome, slice_get, sym, ap, subst, refl, ◌∙◌, arith}
 use Rattle.std.proofs.lemmas.Bool.{cases_lt, cond-true, eq-eqb}
 use Rattle.std.proofs.lemmas.List.{get_or_past, length-take}

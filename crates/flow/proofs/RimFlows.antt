@@ -55,7 +55,7 @@ toward_touches p q code e = elim (cases_option (way_of code)) [
       ])
 ]
 
--- On the rim, a place that is no outlet has the outlet listed for its rim number.
+-- On the rim, a place that is no outlet has the outlet listed for its rim number, if any.
 pub outlet_listed : (t : Cutting) (flows : List Flow) (listed : List (Option Place)) (p : Place) →
     is_outlet_code (code_in t flows p) ≡ false → is_place (rim_place t (rim_number t p)) p ≡ true →
     outlet_by t flows listed p ≡ get_or listed (rim_number t p) None

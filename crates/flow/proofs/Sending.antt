@@ -164,7 +164,7 @@ donors_begin links weights waits upstream few d none =
       closed = λ i j h l on t. absurd (false≢true (sym (low i h) ∙ t));
     }
 
--- One node sends its sum.
+-- One node sends its sum and its weight.
 
 -- How `waits` and `upstream` change as `node` sends. If `node` is an end, it is marked as having
 -- sent, and nothing else changes.

@@ -63,7 +63,7 @@ abbrev pub ends_by : List ℕ → List ℕ
 ends_by links = map (end_of links) (range_with_len 0 (length links))
 
 -- The index where each rim cell's path ends: for the first row of b, the last row, the first
--- column, then the last column. Corners occur twice.
+-- column, then the last column. A cell in several of these occurs in each.
 abbrev pub rim_ends_by : Bounds → List ℕ → List ℕ
 rim_ends_by b links =
     map (λ side. end_of links (index_in b (side_place b b side))) (range_with_len 0 (stride b))

@@ -1,7 +1,7 @@
 //! Finds where each node's path along links ends: at a node that is linked to itself.
 //!
-//! Nodes are the indexes of `links`: a tile's cells, or the rim cells of all tiles. The entry at a
-//! node is its link, the next node downstream.
+//! Nodes are the indexes of `links`: a tile's cells, or the rim numbers of all tiles
+//! (`Tiling::rim_number`). The entry at a node is its link, the next node downstream.
 //!
 //! The `while` loops have labels, by which proofs name them.
 ghost use Rattle.std.specs.Prelude.{◌≡◌, ◌^◌, ◌<◌, ◌≤◌, ℕ, length, IfOk};

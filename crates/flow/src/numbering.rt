@@ -149,6 +149,7 @@ pub(crate) fn number_cells<R: Threads + Wait + Sync, G: Gate + Sync, N: EndNumbe
 }
 
 /// Returns each cell's number, which `by_exit` has at the index of its exit.
+/// NODATA has [`Count::no_data`].
 #[tactic(auto, using(crate::proofs::Windows::mapped_next))]
 fn cell_numbers(
     alloc: Global,

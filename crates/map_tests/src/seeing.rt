@@ -248,7 +248,7 @@ fn push_plain_row(
     }
 }
 
-/// Asserts that one observer's viewshed is 1 at each data cell where `sees` is true, else 0.
+/// Asserts that at each data cell one observer's viewshed is 1 if `sees` is true, else 0.
 fn expect_plain<R: Abort + Threads + Wait + Sync>(
     rt: &R,
     alloc: Global,

@@ -1,5 +1,5 @@
--- A fault of tiles, sinks or gauges forbids the requested map, so a run may return it. The fault
--- that forbids a map of a grid stays the same when the grid gets other sinks.
+-- The first fault of tiles, sinks and gauges, in this order, forbids the requested map: a run may
+-- return it. The fault that forbids a map of a grid stays the same when the grid gets other sinks.
 use Rattle.std.proofs.Common.{◌≡◌, ℕ, ◌<◌, ◌≤◌, true, false, eqb, length, List, [], ◌∷◌, Option, None, Some, Err, sym, ap, subst, refl, ◌∙◌}
 use Rattle.std.specs.Option.{option_map, option_or}
 use Rattle.std.proofs.lemmas.Bool.{le-ltb, lt-ltb, cond-false, cond-true}

@@ -67,7 +67,7 @@ one_drainage g d e a b =
     ∙ ap (λ rows. directed e.cols rows d.codes) (a.same_size.1 ∙ sym b.same_size.1)
     ∙ ap (λ cs. directed e.cols e.rows cs) codes
 
--- `text` has for each cell the number that `value` gives for it on the grid's directions
+-- `text` has for each data cell the number that `value` gives for it on the grid's directions
 abbrev HasValues : Raster → (Directed → Place → ℕ) → List ℕ → Type 0
 HasValues g value text = (d : Directed) × (values : List (Option ℕ)) × IsDrainage g d
     × IsMapOf d (value d) values × (text ≡ counts_text g values)

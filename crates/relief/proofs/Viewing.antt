@@ -1,5 +1,5 @@
--- If a viewshed or catchments end with a fault, a run may return that fault, for the grid and for
--- the text that spells it.
+-- Let tiles, sinks and gauges have no fault. If a viewshed or catchments end with a fault, a run
+-- may return that fault, for the grid and for the text that spells it.
 use Rattle.std.proofs.Common.{◌≡◌, ◌⊎◌, ℕ, ◌<◌, ◌≤◌, Option, None, Some, Ok, Err, sym, ap, subst, refl, ◌∙◌, arith, inl, inr, Bool, true, false, cond, List}
 use Rattle.std.specs.Option.{option_map, option_or}
 use Rattle.terrain.specs.Raster.{Raster}

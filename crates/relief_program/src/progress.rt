@@ -43,6 +43,7 @@ impl Stage {
     }
 
     /// Replaces the terminal's line, at most once in [`LEAST_PAUSE_MS`] milliseconds.
+    /// Does nothing if the clock fails.
     fn report_in_place(&mut self, alloc: Global, clock: &impl Clock) {
         let Ok(now) = Instant::now(clock) else {
             return;
@@ -86,9 +87,9 @@ impl Stage {
 
 /// A [`Gate`] that reports the progress of each stage of a run.
 ///
-/// On a terminal it replaces one line at most ten times a second. It clears the line when the stage
-/// ends, as the map may be written there. Elsewhere it writes a line whenever a further tenth is
-/// finished. A line that cannot be allocated or written is dropped.
+/// On a terminal it replaces one line at most ten times a second. It clears the line when all jobs
+/// of a stage succeed or the run ends: the map or a fault may be written there. Elsewhere it writes
+/// a line whenever a further tenth is finished. It drops lines that cannot be allocated or written.
 #[derive(Drop)]
 pub struct ProgressReport<'a, R> {
     rt: &'a R,

@@ -1,5 +1,5 @@
--- If an argument is added to a command, its rule is added to the command's `Shape`. If a subcommand
--- is added to the program, its shape is added to the `App`.
+-- An argument that is not global adds its rule to the `Shape` of a command without subcommands and
+-- without global arguments (`IsLeaf`). Such a command as a subcommand adds its shape to the `App`.
 use Rattle.std.proofs.Common.{◌≡◌, ◌++◌, ◌∷◌, [], ◌||◌, ap, ap₂, ◌∙◌}
 use Rattle.clap.specs.Words.{App, Rule, Shape, app_of, with_rule, with_subcommand}
 use Rattle.clap.specs.Built.{AddsArg, AddsSubcommand}

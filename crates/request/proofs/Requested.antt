@@ -1,5 +1,5 @@
--- The subcommand that `clap` finds decides what a command line requests, or which fault the command
--- line has.
+-- The subcommand that `clap` finds, with its values, decides what a command line requests, or which
+-- fault the command line has.
 use Rattle.std.proofs.Common.{◌≡◌, ℕ, List, [], ◌∷◌, length, map, eqb, Option, Some, None, true, false, slice_index, codes, arith, sym, ap, ap₂, subst, refl, inl, ◌∙◌, Bor, Box}
 use Rattle.std.specs.Prelude.{option_map}
 use Rattle.std.specs.Box.{box_value}

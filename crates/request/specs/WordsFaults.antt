@@ -50,14 +50,15 @@ IsNoMap name rows = ((map : Map) → ¬ Names name rows map)
     × ((place : ℕ) → ¬ IsBadObserverAfter name rows place)
     × ((place : ℕ) → ¬ IsBadGaugeAfter name rows place)
 
--- The subcommand `name` with these values has this fault. Bad sink words are no fault here.
+-- The subcommand `name` with these values has this fault, or the fault is refused memory. Bad sink
+-- words are no fault here.
 abbrev pub IsMapFault : Text → List Row → WordsFault → Type 0
 IsMapFault name rows = IsFaultWith (IsBadObserverAfter name rows) (IsBadGaugeAfter name rows)
     (λ _. ⊥)
     (IsNoMap name rows)
 
--- The words have this fault. They have `NoMap` if `clap` accepts them, they have no request, and no
--- observer, gauge or sink word is bad.
+-- The words have this fault, or the fault is refused memory. They have `NoMap` if `clap` accepts
+-- them, they have no request, and no observer, gauge or sink word is bad.
 abbrev pub IsFaultOf : List Text → WordsFault → Type 0
 IsFaultOf words (Clap e) = HasKind (fault_of program_app words) e
 IsFaultOf words (BadObserver place) = HasBadObserver words place

@@ -1,4 +1,4 @@
-//! The texts of `--help`, with line breaks, since `clap` does not wrap lines.
+//! The long texts of `--help`, with line breaks, since `clap` does not wrap lines.
 
 /// The help texts of a map: a summary, the details and the usage line.
 #[derive(Clone, Copy)]

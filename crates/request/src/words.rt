@@ -73,7 +73,8 @@ impl From<AllocError> for BadWord {
     }
 }
 
-/// Parses the words in order, and returns their values or the first bad word's number.
+/// Returns the values of the words in order.
+/// `Err` has the first bad word's number, or refused memory.
 fn read_words<T: FromWord + Drop>(alloc: Global, words: &[&str]) -> Result<Vec<T>, BadWord>
     ensures some { IfOk result (λ v. Spell T.spelled (map (λ w. w.now) words.now) v.items) }
     ensures bad { IfErr result (IsBadWord (IsFirstBad T.spelled (map (λ w. w.now) words.now))) }
@@ -191,7 +192,7 @@ fn progress_given(found: &ArgMatches<'_>) -> bool
     }
 }
 
-/// Adds the given options to a map. `None` if an option is missing or outside its limits.
+/// Adds the given options to a map. `None` if an option has no number within its limits.
 fn with_options(map: Map, found: &ArgMatches<'_>) -> Option<Options>
     ensures some { IfSome result (λ o. (o.map ≡ map) × (o.sinks ≡ [])
         × HasOptions (rows_of (found_of found.now)) o.tile o.workers o.scale) }

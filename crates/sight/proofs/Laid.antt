@@ -1,6 +1,6 @@
--- The pieces that the code pushes make the old horizon, raised to the ground of a line. A piece is
--- one ramp for successive targets; a line is a column or row on one side of the observer. A ray
--- leads from the observer to a target, seen from above.
+-- For targets beyond a line, the pieces that the code pushes make the old horizon, raised to the
+-- line's ground. A piece is one ramp for successive targets; a line is a column or row on one side
+-- of the observer. A ray leads from the observer to a target, seen from above.
 use Rattle.std.proofs.Common.{arith, refl, ap, negsuc, ◌∙◌, ◌≡◌, ℕ, ◌+◌, ◌-◌, ◌*◌, ◌<◌, ◌≤◌, ℤ, pos, ◌+ℤ◌, ◌-ℤ◌, ◌*ℤ◌, ◌≤ℤ◌, ◌<ℤ◌, subst, true, List, [], Option, Some, inl, inr}
 use Rattle.std.specs.Prelude.{slice_get}
 use Rattle.std.proofs.lemmas.Bool.{cases_lt}

@@ -23,7 +23,7 @@ entry_is_value : (h : Option ℤ) (n : ℕ) (entry : Option ℕ) →
 entry_is_value None n entry e = e
 entry_is_value (Some x) n entry e = e
 
--- the entry at index k is the viewshed value of the place of index k
+-- the entry at index k is the viewshed value of the place of index k, or None for NODATA
 entry_is : (t : Terrain) (observers : List Observer) (target radius : ℕ) (values : List (Option ℕ))
     (k : ℕ) → IsViewshed t observers target radius values → k < t.cols * t.rows
     → get_or values k None ≡ value_at t observers target radius (place_of_index t.cols k)

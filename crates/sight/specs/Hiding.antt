@@ -55,6 +55,7 @@ target_at f n y = record { offset = offset_of f y; line = n }
 
 -- The targets are cells of the window, in the order of their lines, none past line n. From line 2
 -- on, each marked cell of a line before line n, or of line n before cell c, is among the targets.
+-- There are at most 4096 for each of n lines, and one more for each of the window's cells before c.
 pub record AreRays (f : Family) (w : Window) (marks : List Bool) (n c : ℕ)
     (rays : List Target) : Type 0 where
   pub few : length rays ≤ n * 4096 + (c - w.side.first)

@@ -255,6 +255,7 @@ impl Family {
     }
 
     /// Returns the ground that the ray to a target meets on a line.
+    /// Where the ray meets NODATA or no cell, the ramp is `Ramp::nothing()`.
     #[inline(always)]
     pub(crate) fn span(self, cells: &[Cell], line: u32, target: Target) -> Span
         requires heights { AreHeights cells.now }

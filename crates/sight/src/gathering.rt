@@ -1,4 +1,4 @@
-//! Collects the rays of a window's marked cells, line by line of a family.
+//! Collects the rays of a window's marked cells, line by line of a family, from line 2 on.
 //!
 //! A ray leads from the observer to a target, seen from above. A window is a tile with a mark for
 //! each cell. A family's lines are the columns, or the rows, on one side of the observer.

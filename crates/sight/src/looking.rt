@@ -15,7 +15,7 @@ use std::alloc::{AllocError, Global};
 use terrain::Cell;
 
 /// Returns a cursor for `rank`: a new one if `rank` is below `last`, else `cursor`.
-/// The last rank that `cursor` was used at is `last`. A new cursor is at the horizon's first piece.
+/// If `cursor` may be used at rank `last`, the result may be used at `rank`.
 #[inline(always)]
 fn cursor_at(cursor: Cursor, last: usize, rank: usize) -> Cursor
     ensures { (pieces : List Piece) → IsUpTo pieces cursor last → IsUpTo pieces result rank }
@@ -76,7 +76,7 @@ impl SweepLookup {
     }
 
     /// Whether a line before line `self.line` hides `target`.
-    /// The target's rank by slope is `rank`, and the target is `rise` units above the eye.
+    /// `target` is on that line or beyond, has rank `rank` by slope, and is `rise` above the eye.
     #[inline(always)]
     pub(crate) fn hides(&mut self, rank: usize, target: Target, rise: i64) -> bool
         requires rank { rank < extent self.old.sweep.highest }

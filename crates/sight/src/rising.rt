@@ -15,7 +15,7 @@ use terrain::{Cell, Height};
 
 impl Family {
     /// Returns the height of a target's cell.
-    /// `None` for NODATA, or if no such cell exists.
+    /// `None` for NODATA, below coordinate 0, past the side's end, or past the end of `cells`.
     #[inline(always)]
     fn height_of(self, cells: &[Cell], target: Target) -> Option<Height>
         requires heights { AreHeights cells.now }

@@ -77,7 +77,7 @@ impl<'a> ViewshedInput<'a> {
     }
 
     /// Adds to each value of a tile the number of observers that see its cell.
-    /// Overwrites `seen`. Each observer is one part of the tile's job: `gate` is called after it.
+    /// Overwrites `seen`. Observers are parts of the job: calls `gate` after each that succeeds.
     fn count_observers<G: Gate>(
         &self,
         alloc: Global,

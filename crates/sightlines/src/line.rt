@@ -186,6 +186,7 @@ pub fn may_see(
 }
 
 /// Whether one of a few crossings about `left` steps from the observer blocks.
+/// On a line with fewer steps, tests the crossings nearest to the target.
 #[inline(always)]
 fn is_blocked_near(cells: &[Cell], line: Sightline, left: u32) -> bool
     requires heights { AreHeights cells.now }

@@ -1,5 +1,5 @@
 -- If a list of sinks has no fault, each of them is a data cell. A lawful grid (all parts within
--- limits, no height equal to the NODATA value) stays lawful with these sinks in place of its own.
+-- limits, no height equal to the NODATA value) stays lawful with these, each once, as its sinks.
 use Rattle.std.proofs.Common.{◌≡◌, ◌+◌, ℕ, ℤ, zero, suc, true, false, not, ◌&&◌, List, [], ◌∷◌, length, Option, None, Some, fold, refl, sym, ap, subst, ◌∙◌, inl, inr, arith, is_none, is_some}
 use Rattle.std.specs.Prelude.{nat_lt, if◌then◌else◌}
 use Rattle.std.specs.List.{All, list_any}

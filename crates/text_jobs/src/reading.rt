@@ -1,4 +1,4 @@
-//! Reads a grid from a device, by several workers.
+//! Reads a grid from a device, by one or several workers.
 ghost use Rattle.std.specs.Prelude.{◌-◌, ◌^◌, ◌<◌, ◌≤◌, length};
 ghost use Rattle.ascii_grid.specs.Input.{ReadsGrid, ReadsPiece, CanRead};
 ghost use Rattle.ascii_grid.specs.Reader.{Feeds};
@@ -18,11 +18,12 @@ use tile_maps::Runner;
 /// They may hold the header, or the rest of a word that began in the previous batch.
 const FRONT_BYTES: usize = 4096;
 
-/// Reads a grid from a device, by several workers.
+/// Reads a grid from a device, by one or several workers.
 ///
 /// Heights are in units of 10^-scale. With more than one worker, the caller's thread reads batches
 /// of at most 1 MiB, and jobs parse most heights of batches of 128 KiB or more. If a thread or
-/// memory for jobs is refused, the caller's thread parses the jobs' heights.
+/// memory for jobs is refused, the caller's thread parses the jobs' heights. If memory for a batch
+/// is refused, it reads the text as [`ascii_grid::read_grid`] does.
 ///
 /// # Memory
 ///
@@ -110,7 +111,8 @@ fn feed_batch<T: Threads + Wait + Sync, G: Gate + Sync>(
 }
 
 /// Feeds the bytes `piece` to the reader.
-/// Jobs parse `piece` if the reader has read a first height and is not within a word.
+/// Jobs parse most of `piece` if the reader has read a first height and is not within a word. If a
+/// thread or memory for jobs is refused, the reader parses all of `piece`.
 fn feed_heights<T: Threads + Wait + Sync, G: Gate + Sync>(
     runner: &Runner<T, G>,
     reader: &mut GridReader,

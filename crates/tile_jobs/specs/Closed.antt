@@ -1,5 +1,5 @@
--- What `Board::close` promises: each job of the board is once in the list of a seat that took it,
--- or once among the jobs left.
+-- What `Board::close` promises if it succeeds: each job of the board is once in the list of a seat
+-- that took it, or once among the jobs left.
 -- Public.
 use Rattle.std.specs.Prelude.{◌≡◌, ℕ, ◌+◌, ◌%◌, ◌<◌, ◌≤◌, true, List, [], length, drop, get_or}
 use Rattle.std.specs.List.{concat}

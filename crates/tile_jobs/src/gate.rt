@@ -1,4 +1,4 @@
-//! [`Gate`]: callbacks before each stage and job, and after each job or part of a job.
+//! [`Gate`]: callbacks before each stage and job, and after each job or part that succeeds.
 //!
 //! A stage is one run of jobs. Tests use a gate to hold jobs; the program uses one to report
 //! progress.

@@ -1,5 +1,5 @@
 -- The numbers below n are cut into `div_ceil n s` pieces. Piece k has the numbers from k * s to
--- (k + 1) * s - 1. So number x is in piece x / s.
+-- (k + 1) * s - 1, the last piece perhaps fewer. So number x is in piece x / s.
 use Rattle.std.proofs.Common.{◌≡◌, ℕ, ◌+◌, ◌-◌, ◌*◌, ◌/◌, ◌<◌, ◌≤◌, sym, ap, ◌∙◌, arith, inl, inr}
 use Rattle.std.specs.Int.{div_ceil}
 use Rattle.std.proofs.lemmas.Bool.{cases_lt}

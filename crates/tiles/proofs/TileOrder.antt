@@ -1,5 +1,5 @@
 -- `place_in` is the place at an index, `index_in` the index of a place, in the row order of bounds
--- (a tile's position and size). Each undoes the other.
+-- (a tile's position and size). At places in the bounds each undoes the other.
 use Rattle.std.proofs.Common.{◌≡◌, ℕ, ◌+◌, ◌-◌, ◌*◌, ◌/◌, ◌%◌, ◌<◌, ◌≤◌, List, get_or, Option, None, Some, inl, inr, sym, ap, ◌∙◌, arith, mul_comm}
 use Rattle.std.proofs.lemmas.Bool.{cases_Bool, cond-true, cond-false, and_from, lt-ltb}
 use Rattle.std.proofs.lemmas.Bool.Decides.{nat_tests}
