@@ -344,8 +344,8 @@ impl<'a> Counting<'a> {
 }
 
 /// Returns the fewest entries worth a round of jobs, after `rounds` rounds of jobs.
-/// Fewer are left to the caller's thread: a winding flat takes thousands of rounds, each with an
-/// entry or two into a single tile.
+/// Fewer, unless there are none, are left to the caller's thread. A winding flat takes thousands of
+/// rounds, each with an entry or two into a single tile.
 fn enough_entries(tiling: &Tiling, rounds: u32) -> usize {
     if rounds < FULL_ROUNDS {
         return 0;

@@ -85,7 +85,7 @@ fn first_lowest(
     2 * turns + parity
 }
 
-/// Returns the greatest drop on the ways of one parity and the first way with it.
+/// Returns the greatest drop on ways of one parity and, if above 0, its first way.
 #[inline(always)]
 fn greatest_fall(level: Height, heights: &[Option<Height>; 8], parity: usize) -> Fall
     requires parity { parity < 2 }

@@ -1,4 +1,5 @@
--- A test (`reaches`) whether some path from a cell to an end cell has a crest of at most c.
+-- A test (`reaches`) whether some path from a cell to an end cell has a crest of at most c. It
+-- looks at most k moves far, which is enough if k + 1 moves bring no more cells there (`IsStable`).
 use Rattle.std.proofs.Common.{◌≡◌, ℕ, zero, suc, ◌+◌, ◌*◌, ◌/◌, ◌%◌, ◌<◌, Bool, true, not, ◌&&◌, ◌||◌, leb, List, [], ◌∷◌, map, is_some, ℤ, ◌≤ℤ◌, ap, ◌∙◌, arith, inl, inr}
 use Rattle.std.specs.Prelude.{◌==◌, int_le}
 use Rattle.std.specs.List.{list_any, range_with_len}

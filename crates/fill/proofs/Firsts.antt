@@ -27,8 +27,9 @@ flat_more g floods i f low is =
     ∙ flat_map-append g (take i floods) (get_or floods i f ∷ [])
     ∙ ap (λ z. flat_map g (take i floods) ++ z) (append-nil (g (get_or floods i f)) ∙ ap g (sym is))
 
--- `firsts` has the number of the first entry of each of the first `count` tables, and `next` is
--- that of the table after them. `next`, and so each number of these tables, fits in 32 bits.
+-- `firsts` has the number of the first entry of each of the first `count` tables. `next` is the
+-- number after all of theirs. It, and so each number of these tables, fits in 32 bits. The floods
+-- of these tables have the property `IsFlood`.
 pub record AreFirstNumbers (floods : List Flood) (count : ℕ) (firsts : List ℕ) (next : ℕ) :
     Type 0 where
   pub size : length firsts ≡ count

@@ -1,5 +1,6 @@
--- `AreInner` says that each tile's list has the joins inside the tile. It holds of the lists that
--- jobs return with the tiles' floods, and of those that one thread collects.
+-- `AreInner` says that each tile's list has the joins inside the tile, except joins left out if
+-- `spare` is true. With `spare`, it holds of the lists that jobs return with the tiles' floods. The
+-- caller's thread collects lists with no join left out, tile by tile (`AreFirstInner`).
 use Rattle.std.proofs.Common.{◌≡◌, ℕ, ◌+◌, ◌<◌, inl, inr, false, true, List, [], ◌∷◌, ◌++◌, length, get_or, map, Some, ◌∙◌, sym, ap, subst, arith, Vec, Global}
 use Rattle.std.specs.Prelude.{slice_get}
 use Rattle.std.proofs.lemmas.Bool.{cases_eq}

@@ -1,5 +1,5 @@
--- A place in a tile, or touching it beside or below, lies in that tile or the tile below. Or it
--- lies in the tile west or east of one of these two.
+-- A place of the grid in a tile, or touching it beside or below, lies in that tile or the tile
+-- below. Or it lies in the tile west or east of one of these two.
 use Rattle.std.proofs.Common.{◌≡◌, ℕ, ◌+◌, ◌-◌, ◌*◌, ◌/◌, ◌%◌, ◌<◌, ◌≤◌, ◌∙◌, sym, ap, arith, inl, inr}
 use Rattle.std.proofs.lemmas.Bool.{cases_eq}
 use Rattle.std.proofs.lemmas.Nat.{div-add-mod'}

@@ -1,6 +1,6 @@
--- `AddsPlaced` says that joins have been added by the places of their labels. It holds of an empty
--- list of joins and of a single join. If it holds of two lists added in turn, it holds of both as
--- one list.
+-- `AddsPlaced` says that joins have been added by the places of their labels. It holds of a single
+-- join, added in both directions, or not added if its labels have one node. If it holds of two
+-- lists added in turn, it holds of both as one list.
 use Rattle.std.proofs.Common.{◌≡◌, ◌≢◌, ℕ, inl, inr, ◌⊎◌, List, [], ◌∷◌, ◌++◌, Some, ◌∙◌, sym, ap, subst}
 use Rattle.std.specs.List.{Contains}
 use Rattle.std.specs.Option.{option_to_list}

@@ -147,7 +147,8 @@ greater_stored h (Some z) low = elim (cases_Bool (int_eq z no_data)) [
   | inr other ↦ ap (λ (o : Option ℤ). cell_of (greater_of (Some h) o)) (cond-false _ _ _ other)
 ]
 
--- The lists of a raised tile give each cell the raised height that the flood and `levels` give.
+-- The lists of a raised tile give a cell, in stored form, the raised height that the flood and
+-- `levels` give. The entry of its `heights` must be at most NODATA's number.
 pub raised_stored : (first : ℕ) (f : Flood) (levels : List (Option ℤ)) (x : RaisedTile) (i : ℕ) →
     IsRaisedTile first f levels x → i < length f.labels → get_or x.heights.now i (pos 0) ≤ℤ no_data
     → cell_of (greater_of

@@ -150,6 +150,7 @@ impl JoinTable {
     }
 
     /// Returns the joins without spare capacity, since the joins of all tiles are kept at once.
+    /// The list keeps its spare capacity if memory for a smaller one is refused.
     pub(crate) fn into_joins(self) -> Vec<Join>
         ensures { result.items ≡ self }
     {

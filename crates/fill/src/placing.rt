@@ -103,6 +103,7 @@ pub(crate) fn placed_joins(
 }
 
 /// Returns whether the joins at `index` and `index - 1` have the same labels.
+/// Returns `false` for index 0.
 #[inline(always)]
 fn is_repeat(joins: &[Join], index: usize) -> bool
     requires { index < length joins.now }
