@@ -190,8 +190,8 @@ first_short d header [] w short none = rw (is_short w short) refl
 first_short d header (x ∷ hs) w short none =
     rw (then_none (is_long x) TooLong _ (or_none (height_fault d header 0 x) _ none).0).0 refl
 
--- let the words `ws` be a header and heights `hs`. If the heights `hs ++ more` have no fault and
--- `j'` stores their cells, `j'` has read `ws` and `more`
+-- let the words `ws` be the header of `j` and heights `hs`, and `j'` be among the heights of this
+-- header. If `hs ++ more` have no fault and `j'` stores their cells, it has read `ws` and `more`
 pub judged-heights : (j j' : GridBuilder) (ws : List Word) (ps : Pairs) (hs more : List Word) →
     IsHeaderOf j.header ps → ws ≡ flat ps ++ hs → HasBegun (hs ++ more) → AreHeights j' ps (hs
     ++ more) → j'.header ≡ j.header → j'.stage ≡ AtHeights → HasAdded j' (ws ++ more)
@@ -342,8 +342,8 @@ long_fault j ws w h far = by_stage j.stage refl
         next-height j.scale ws h.pairs h.rest w j.header h.header h.words
         (HasBegun-more h.rest (w ∷ []) there.0) there.1.faultless ∙ rw long refl
 
--- if `r` meets what `add_height` ensures for `w` after the heights `hs`, it meets what `add_word`
--- ensures for `w` after the words `ws`, which are a header and `hs`
+-- if `r` meets what `add_height` ensures for `w` after the heights `hs`, it meets the clause `word`
+-- of `add_word` for `w` after the words `ws`, which are a header and `hs`
 pub height_word : {T : Type 0} (j j' : GridBuilder) (ws : List Word) (ps : Pairs) (hs : List Word)
     (w : Word) (r : Result T GridFault) → IsHeaderOf j.header ps → ws ≡ flat ps ++ hs →
     HasBegun (hs ++ w ∷ []) → AreHeights j ps hs → length w ≤ 64 → j'.header ≡ j.header →

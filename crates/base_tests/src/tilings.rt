@@ -161,8 +161,7 @@ fn rim_of_one_cell_ends(rt: HostRuntime) {
     assert_eq!(rt; rim.next(), None);
 }
 
-/// Asserts that a cell has `number` among the rim cells of all tiles.
-/// Asserts also that `rim_place` returns the cell for this number.
+/// Asserts that a cell has this rim number, and that `rim_place` returns the cell for it.
 fn has_rim_number(rt: &impl Abort, tiling: &Tiling, row: u32, col: u32, number: u32) {
     let place = place_in(rt, tiling, row, col);
     assert_eq!(rt; tiling.rim_number(place), number, "row {row}, column {col}");

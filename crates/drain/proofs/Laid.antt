@@ -49,7 +49,7 @@ module _ (t : Terrain) (steps : List (Option ℕ)) (p : Place) (a : Around) (are
   with_steps some drains = let least : a.steps ≤ length {A = Place} [] = own.least [] drains in
       omega (arith, some)
 
-  -- the surroundings have height and steps of each neighbour on its way
+  -- the surroundings have, at the index of each way, height and steps of the neighbour on that way
   shown : (q : Place) (way : ℕ) → way < 8 → place_on way p ≡ Some q → IsDataCell t q →
       (n : ℕ) × (get_or a.ways way None ≡ Some (height_of t q, n)) × IsSteps t q n
   shown q way below e is =

@@ -1,4 +1,4 @@
--- `AddsPlaced` says that joins have been added by the places of their labels. It holds of a single
+-- `AddsPlaced` says that joins have been added with the nodes of their labels. It holds of a single
 -- join, added in both directions, or not added if its labels have one node. If it holds of two
 -- lists added in turn, it holds of both as one list.
 use Rattle.std.proofs.Common.{◌≡◌, ◌≢◌, ℕ, inl, inr, ◌⊎◌, List, [], ◌∷◌, ◌++◌, Some, ◌∙◌, sym, ap, subst}

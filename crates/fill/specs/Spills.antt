@@ -57,7 +57,7 @@ pub record IsJoined (t : Terrain) (c : Cutting) (floods : List Flood) (a b : ℕ
   pub pass : IsPass t c floods a b height
   pub least : (other : ℤ) → IsPass t c floods a b other → height ≤ℤ other
 
--- A spill graph: its nodes, its joins in both directions, and the heights of its sources.
+-- A spill graph: its number of nodes, its joins in both directions, and its sources' heights.
 pub record Graph : Type 0 where
   pub nodes : ℕ
   pub joins : List Join

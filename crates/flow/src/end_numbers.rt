@@ -1,5 +1,5 @@
 //! Gives numbers to the cells where flow paths end: [`EndNumbering`].
-//! These are outlets or, for catchments, gauges with an outlet's code.
+//! These are outlets and, for catchments, gauges too, which get an outlet's code.
 ghost use Rattle.std.specs.Prelude.{◌≡◌, ◌<◌};
 ghost use Rattle.flow.specs.Numbering.{EndNumbers};
 

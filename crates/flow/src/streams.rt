@@ -9,9 +9,9 @@ ghost use Rattle.flow.specs.Sending.{IsSending, AreDonorCounts, AreZeros};
 
 use std::alloc::{AllocError, Global};
 
-/// The entry in `waits` of a node that has sent its sum downstream.
-/// An end has this entry too, once its sum is complete. Any other entry counts the donors that have
-/// not sent.
+/// The entry in `waits` of a node that has sent its sum and weight downstream.
+/// An end gets it when `send_from` comes to it and all its donors have sent. Any other entry counts
+/// the donors that have not sent.
 const SENT: u32 = u32::MAX;
 
 pub(crate) fn zeros(alloc: Global, len: usize) -> Result<Vec<u32>, AllocError>
@@ -53,7 +53,7 @@ pub(crate) fn upstream_weights(
     Ok(upstream)
 }
 
-/// Sends every node's sum downstream, each after the sums of its donors.
+/// Sends downstream, from each node that is no end, its sum and weight, after those of its donors.
 fn send_all(links: &[u32], weights: &[u32], waits: &mut [u32], upstream: &mut [u32])
     requires streams { AreStreams links.now }
     requires few { length links.now ≤ 2 ^ 30 }
@@ -68,7 +68,7 @@ fn send_all(links: &[u32], weights: &[u32], waits: &mut [u32], upstream: &mut [u
     }
 }
 
-/// Sends sums downstream, beginning at node `from`.
+/// Sends sums and weights downstream, beginning at node `from`.
 /// Stops at an end, or at a node that awaits donors or has sent.
 fn send_from(links: &[u32], weights: &[u32], waits: &mut [u32], upstream: &mut [u32], from: usize)
     requires streams { AreStreams links.now }

@@ -138,7 +138,7 @@ fn gauges_on_a_flat_through_ten_tiles(rt: HostRuntime) {
     );
 }
 
-/// A gauge on a named sink has the sink's whole basin.
+/// A gauge on a named sink that keeps its water has the sink's whole basin.
 #[test]
 fn gauge_on_a_sink(rt: HostRuntime) {
     let bowl = land(&rt, rt.alloc(), 3, 3, "9 9 9\n9 1 9\n9 9 9");

@@ -1,6 +1,7 @@
 //! Compares a terrain's drainage maps, without catchments, with expected maps.
 //!
-//! `Maps::expect` takes many tile sides and numbers of workers, `Maps::expect_cut` one of each.
+//! `Maps::expect` makes them with the tile sides and numbers of workers of `CUTS`,
+//! `Maps::expect_cut` with those given.
 use crate::ground::{cut, expect_cells, expect_heights, land};
 use crate::stages::{directions_of, filled_grid};
 use drain::Code;

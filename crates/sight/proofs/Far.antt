@@ -9,7 +9,7 @@ use Rattle.tiles.specs.declared.bounds.Bounds.{Bounds}
 use Rattle.tiles.specs.Cutting.{IsInBounds}
 use Rattle.sightlines.specs.Sight.{is_near}
 
--- no number of a range is nearer to a than a clamped to the range
+-- no number of a range is nearer to `a` than `a` clamped to the range
 nearest : (a from count x : ℕ) → from ≤ x → x < from + count →
     abs_diff a (max from (min a (from + count - 1))) ≤ abs_diff a x
 nearest a from count x low high = omega arith

@@ -75,7 +75,7 @@ impl SweepLookup {
         Ok(())
     }
 
-    /// Whether a line before line `self.line` hides `target`.
+    /// Returns whether the horizon hides `target`, as a line before line `self.line` does.
     /// `target` is on that line or beyond, has rank `rank` by slope, and is `rise` above the eye.
     #[inline(always)]
     pub(crate) fn hides(&mut self, rank: usize, target: Target, rise: i64) -> bool
