@@ -1,5 +1,5 @@
-//! On a long text, each read requests at most 4,096 bytes.
-//! No run reads over 1 MiB ahead of the cells that it has parsed.
+//! On a long text of short words, each read requests at most 4,096 bytes. A run parses each word
+//! before it reads over 1 MiB past the word's first byte.
 use relief::{Counted, GridFault, Map, Options, RunFault, run};
 use std::alloc::{AllocError, Global};
 use std::io;
@@ -82,7 +82,7 @@ fn bytes_given(
     Ok(watched.given)
 }
 
-/// A run refuses a bad word before it reads over 1 MiB past the word's first byte.
+/// A run refuses the bad word `/7` before it reads over 1 MiB past the word's first byte.
 /// A run cannot foresee which word is bad, so each good word too is parsed within 1 MiB.
 #[test]
 fn little_is_read_ahead(rt: HostRuntime) -> Result<(), Fail> {
