@@ -227,7 +227,7 @@ memory-height j ws ps hs w h k e begun whole none short =
       rw ((words-after h ps (hs ++ w ∷ []) k begun).1) (omega (arith, length-append hs (w ∷ []))),
     )
 
--- ---- the stored heights
+-- ---- words without a fault, the count of cells, and faults that are not `Memory`
 
 pub height_fault-none : (d : ℕ) (header : List Word) (place : ℕ) (w : Word) →
     length w ≤ 64 → missing_fault header ≡ None → place < cells_wanted header →

@@ -1,4 +1,5 @@
--- The digits of a number can be written one by one. If it is below 2^64, they spell the number.
+-- The digits of a number can be written one by one. If it is below 2^64, they spell the number, and
+-- there are more than k of them if it is at least 10^k.
 use Rattle.std.proofs.Common.{◌≡◌, ℕ, zero, suc, ◌+◌, ◌*◌, ◌/◌, ◌%◌, ◌^◌, ◌<◌, ◌≤◌, ◌-◌, List, [], ◌∷◌, ◌++◌, length, drop, set, sym, ap, refl, ◌∙◌, arith, add-one, true, leb}
 use Rattle.std.specs.Prelude.{decimal}
 use Rattle.std.proofs.Math.Nat.{div-div-eq-div-mul, pow-succ', div-one, pow-le-pow_right}

@@ -155,7 +155,7 @@ parted_ended p text h e =
     subst (λ z. IsParted text h.ended z) last h.parted
 
 -- let the first `len` bytes after a height spell `value` (`IsPlain`), and the separator `b` follow.
--- If `r` meets what `add_height_value` ensures, it meets what `take_plain` ensures.
+-- If `r` meets the clause `word` of `add_height_value`, it meets `words` of `take_plain`.
 pub plain_word : {T : Type 0} (p : Tokenizer) (j : GridBuilder) (text bytes : List ℕ)
     (len b : ℕ) (value : ℤ) (r : Result T GridFault) → HasWords p text → p.word ≡ [] →
     p.builder.stage ≡ AtHeights → IsPlain p.builder.scale bytes len value → len < length bytes →

@@ -1,5 +1,6 @@
 -- The text that a reader has read, or the fault that it returns, after one more piece and at the
--- text's end. A fault found so far remains, whatever bytes follow.
+-- text's end. A fault found so far remains, whatever bytes follow. A grid that a text spells at a
+-- scale of at most 6 is lawful.
 use Rattle.std.proofs.Common.{◌≡◌, ℕ, ◌+◌, ◌-◌, ◌<◌, ◌≤◌, cond, nat_le, List, [], ◌++◌, length, take, drop, min, None, Some, arith, refl, ap, sym, ◌∙◌, subst, inl, inr, Result, MatchResult, Ok, Err}
 use Rattle.std.specs.Prelude.{MatchOption, OnOk, IfErr}
 use Rattle.std.specs.Option.{option_or}
@@ -22,7 +23,7 @@ use Rattle.ascii_grid.proofs.AddedWords.{judged_none, reported_further}
 use Rattle.ascii_grid.proofs.Stays.{ended-more, ended-words, words_fault-more, asks-more}
 use Rattle.ascii_grid.proofs.Spelled.{lawful_words}
 
--- ---- texts of few and of many bytes
+-- ---- texts of few and of many bytes, and faults that stay
 
 pub few_fault : (d : ℕ) (text : List ℕ) → length text ≤ most_bytes →
     text_fault d text ≡ option_or (words_fault d (words text)) (end_fault (words text))
@@ -177,7 +178,7 @@ end_refused d text f short h =
     (λ g e. few_fault d text short ∙ ap (λ o. option_or o (end_fault (words text))) e) h
 
 -- let a text of at most 2^29 bytes have no faulty word. A result that meets what
--- `GridBuilder::finish` ensures meets what `GridReader::finish` ensures
+-- `GridBuilder::finish` ensures meets the clauses `grid` and `fault` of `GridReader::finish`
 pub finished : (d : ℕ) (text : List ℕ) (r : Result Raster GridFault) → length text ≤ most_bytes →
     words_fault d (words text) ≡ None → MatchResult r (λ g. (end_fault (words text) ≡ None)
     × (g ≡ grid_of d (words text))) (IsEndFault (words text)) →

@@ -1,4 +1,5 @@
--- Finds the header, heights and first fault of words that begin with pairs of key and value.
+-- Finds the header, heights and first fault of words that begin with pairs of key and value, and
+-- the slots that the pairs fill.
 use Rattle.std.proofs.Common.{◌≡◌, ℕ, ◌+◌, Bool, true, false, ◌||◌, cond, List, [], ◌∷◌, ◌++◌, length, Option, None, Some, arith, refl, ap, sym, ◌∙◌}
 use Rattle.std.specs.Prelude.{find, is_some, unwrap_or, option_map}
 use Rattle.std.specs.Option.{option_or}

@@ -73,7 +73,7 @@ before_last-no p xs b h =
     ap (λ n. take n (xs ++ b ∷ [])) at
     ∙ take-append-le (length xs - suffix_len (λ x. not (p x)) xs - 1) xs (b ∷ []) within
 
--- ---- one more byte
+-- ---- one more byte, and the words of written rows
 
 -- the words of a text are the ended words `ws`, and the bytes `w` after the last separator if `w`
 -- is a word

@@ -1,5 +1,6 @@
 -- The fault at a text's end, by the stage of the builder. At a scale of at most 6, a text without a
 -- fault spells a lawful grid: one with all its parts within limits, no height equal to NODATA.
+-- Among the heights, the builder's slots and cells make the grid that its words spell.
 use Rattle.std.proofs.Common.{◌≡◌, ◌≢◌, ℕ, ◌+◌, ◌<◌, ◌≤◌, Bool, true, false, not, cond, nat_lt, nat_le, List, [], ◌∷◌, ◌++◌, length, map, Option, None, Some, ℤ, arith, lit≤, refl, ap, sym, ◌∙◌, subst, inl, inr}
 use Rattle.std.specs.Prelude.{is_some, All, IfSome, unwrap_or, option_map, int_le, codes}
 use Rattle.std.specs.Option.{option_map_or}
@@ -190,7 +191,7 @@ end-memory j ws f h e m whole =
     } in
     rw (m, same) asks
 
--- ---- the grid
+-- ---- too few heights at the end, and the grid
 
 some_wanted : (header : List Word) → header_fault [] header ≡ None → missing_fault header ≡ None →
     1 ≤ cells_wanted header

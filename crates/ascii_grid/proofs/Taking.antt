@@ -1,4 +1,4 @@
--- A grid is read from a device in pieces. After each piece (`HasFedSoFar`), the reader was fed all
+-- A grid is read from a device in pieces. Before each piece (`HasFedSoFar`), the reader was fed all
 -- bytes read so far, and they have no fault.
 use Rattle.std.proofs.Common.{ℕ, List, ◌++◌, Option, None, Some, sym, ap, ◌∙◌, ◌≡◌, ◌≤◌, length, take, inl, inr}
 use Rattle.std.specs.Io.KnownBytes.{Consumes, IsAtEnd}

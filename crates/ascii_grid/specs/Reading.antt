@@ -1,4 +1,5 @@
 -- The words so far as `GridBuilder` and `Tokenizer` store them: slots, cells, an unfinished word.
+-- Also the faults that may be reported for words.
 -- Source: this project.
 -- Public.
 use Rattle.std.specs.Prelude.{◌≡◌, ℕ, Bool, true, false, List, [], ◌∷◌, ◌++◌, map, filter, find, take, Option, None, Some, option_map}

@@ -1,7 +1,8 @@
 //! Checks the words of a text in their order, and stores the header and the cells that they give.
 //!
 //! `GridBuilder::add_word` takes the next word. A key names a slot, which is the room for one of
-//! six header values; a value fills the slot; a height adds a cell.
+//! six header values; a value fills the slot; a height adds a cell. `add_height_value` takes a
+//! height's parsed value, `add_cells` the cells that a job parsed; `finish` returns the grid.
 ghost use Rattle.std.specs.Prelude.{◌↔◌, IsTrue, ◌≡◌, ◌≤◌, ◌<◌, ◌⊎◌, ◌++◌, [], ◌∷◌, List, map, length, false, Option, Some, None, Err, IfOk, MatchResult};
 ghost use Rattle.terrain.specs.Words.{Word};
 ghost use Rattle.terrain.specs.Decimal.{scaled_value};

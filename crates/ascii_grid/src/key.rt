@@ -1,4 +1,5 @@
-//! Finds the header slot that a key word fills, and tests whether a word is read as a key.
+//! Finds the header slot that a key word fills. Tests whether a key names a cell's centre, and
+//! whether a word is read as a key.
 ghost use Rattle.std.specs.Prelude.{◌≡◌, map};
 ghost use Rattle.std.specs.Char.{to_ascii_lowercase};
 ghost use Rattle.ascii_grid.specs.Header.{is_key, slot_of, begins_with_letter};

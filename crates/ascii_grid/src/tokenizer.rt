@@ -1,4 +1,5 @@
-//! Splits a text into words, and passes each word, or a height's value, to `GridBuilder`.
+//! Splits a text into words, and passes each word, or a height's value, to `GridBuilder`. Passes on
+//! the cells of a piece that a job parsed, without splitting the piece.
 //!
 //! `GridBuilder` checks a word once a separator or the text's end follows it. Therefore the result
 //! does not depend on where the text is cut into pieces.

@@ -1,7 +1,7 @@
 //! Writes a grid or a map as text.
 //!
 //! [`write_heights`], [`write_codes`] and [`write_counts`] write to a device; [`lines`] returns the
-//! text of rows.
+//! text of rows, for [`write_lines`].
 ghost use Rattle.std.specs.Prelude.{◌≡◌, ◌∷◌, ◌+◌, ◌++◌, ◌*◌, ◌/◌, ◌-◌, ◌^◌, ◌<◌, ◌≤◌, [], ℕ, List, length, decimal, codes, OnOk, IfOk};
 ghost use Rattle.std.specs.List.{flat_map};
 ghost use Rattle.terrain.specs.Sinks.{raster_with_sinks};

@@ -1,6 +1,6 @@
 //! Tests boards of jobs: the jobs that seats take in order, by stealing and on threads.
 //!
-//! Also the jobs taken and left when a board is closed, and a `close` that is refused memory.
+//! Also the jobs taken and left at `close`, a `close` refused memory, and bad numbers of seats.
 ghost use Rattle.std.specs.Prelude.{◌≡◌, ◌<◌, ◌≤◌, ◌⊎◌, vec_len, IfOk, IfErr, IfSome};
 ghost use Rattle.tile_jobs.specs.Ends.{IsBoard, SameSeat};
 
@@ -273,7 +273,7 @@ fn take_all<R: Wait>(rt: &R, seat: &mut Seat)
     }
 }
 
-/// Deals a board, takes all jobs with one thread a seat, and closes it.
+/// Deals a board, takes all jobs with at most one thread a seat, and closes it.
 fn take_with_threads<R: Threads + Wait + Sync>(
     rt: &R,
     alloc: Global,

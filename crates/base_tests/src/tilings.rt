@@ -1,4 +1,4 @@
-//! Tests tilings: counts of tiles, bounds, rims, views, and tile lists joined into one list.
+//! Tests tilings: tiles, bounds, rims, outer neighbours, views, tile lists joined into one list.
 ghost use Rattle.std.specs.Prelude.{◌≡◌, IfOk};
 ghost use Rattle.tiles.specs.Cutting.{IsWithin};
 

@@ -88,8 +88,8 @@ all_ends t places count ends below above s = record {
   ];
 }
 
--- Let a place p have a gap around it or be a sink. If p has data, it is an end cell, and `cell` is
--- its height; else `cell` is None (`IsEndHeight`).
+-- Let a place p have a gap around it or be a sink, and let `cell` be its height, None without data.
+-- If p has data, it is an end cell, else it is not. So `IsEndHeight` holds for p and `cell`.
 pub end_found : (t : Terrain) (p : Place) (end : Bool) (cell : Option ℤ) → height_at t p ≡ cell
     → (IsTrue end → HasGapAround t p ⊎ Contains t.sinks p) → end ≡ true → IsEndHeight t p cell
 end_found t p end None is found holds =
@@ -186,7 +186,7 @@ gap_beside v cell p cells size are col some above below not_all =
     ))
 
 -- Let the grid have p's row and the column after p's, and let p be in the cell's column. If the
--- three cells at and beside p have data, no place around the cell in p's row is a gap.
+-- three cells at and beside p have data, no `Place` around the cell in p's row is a gap.
 pub no_gap_beside : (v : View (Option ℤ)) (cell p q : Place) (cells : List (Option ℤ))
     → length cells ≡ 3 → AreBeside v p cells → p.col ≡ cell.col → (p.row < v.cutting.rows)
     × (p.col + 1 < v.cutting.cols)

@@ -1,5 +1,6 @@
 -- A window is a rectangle of a terrain's cells. The paths in a window are the walks of its net. So
--- a flood of the net finds the levels and the labels of the window's cells.
+-- a flood of the net finds the levels and the labels of the window's cells. `HasFirstSinks` is for
+-- the list of sinks, which is made place by place.
 use Rattle.std.proofs.lemmas.Option.{MatchOption-at_some, MatchOption-at_none}
 use Rattle.std.proofs.Common.{◌≡◌, ◌≢◌, ℕ, zero, suc, ◌+◌, ◌-◌, ◌*◌, ◌<◌, ◌≤◌, ◌⊎◌, inl, inr, ℤ, pos, ◌≤ℤ◌, true, ◌||◌, List, [], ◌∷◌, length, get_or, Option, None, Some, IsSome, is_some, is_none, unwrap_or, ◌∙◌, sym, ap, subst, refl, arith, Bool, false, set}
 use Rattle.std.specs.Int.{int_max}
@@ -545,8 +546,8 @@ window_none t w n levels labels net flooded p inside none below =
           none_done (height_at t p) none (path_data t w p path.0 path.1)
     ]
 
--- `sinks` marks nodes as sinks: those of the window and of the border around it. Each place of the
--- window marked so is one of `places`. Of the first `count` of `places`, those in the window are.
+-- `sinks` has a mark for each node of the window and its border. Each place of the window marked as
+-- a sink is one of `places`. Of the first `count` of `places`, each in the window is marked so.
 pub record HasFirstSinks (w : Bounds) (places : List Place) (count : ℕ) (sinks : List Bool) :
     Type 0 where
   pub size : length sinks ≡ (w.rows + 2) * (w.cols + 2)

@@ -1,4 +1,4 @@
-//! Parses decimal texts, such as `-12.5`, into whole numbers of units of 10^-scale.
+//! Tests for decimal texts, as `-12.5`, and parses them into whole numbers of units of 10^-scale.
 //!
 //! [`scaled_value`] parses a word, [`plain_number`] an optional `-` and digits at a text's front.
 ghost use Rattle.std.specs.Prelude.{◌<◌, true, length, ◌≡◌, IfSome, pos, neg_ℤ, ◌≤◌, not, ℕ, ◌+◌, ◌*◌, ◌-◌, ◌^◌, ◌++◌, ◌&&◌, ◌==◌, nat_le, take, drop, replicate, min, fold, if◌then◌else◌, Option, Some, None};

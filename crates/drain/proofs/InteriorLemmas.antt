@@ -1,5 +1,5 @@
--- The surroundings of an interior cell are the heights and steps at the eight row-order indexes
--- around the cell. An interior cell has eight places of the grid around it.
+-- The surroundings of an interior cell have the heights and steps at the eight row-order indexes
+-- around it, and give its direction. An interior cell has eight places of the grid around it.
 use Rattle.std.proofs.Common.{◌≡◌, ◌≢◌, ℕ, ◌+◌, ◌-◌, ◌*◌, ◌<◌, ◌≤◌, inl, inr, true, false, max, fold, List, get_or, Option, None, Some, is_some, IfSome, ℤ, sym, ap, subst, refl, ◌∙◌, arith}
 use Rattle.std.specs.Prelude.{option_map}
 use Rattle.std.specs.List.{list_any, position}

@@ -8,14 +8,14 @@ pub mod Nearby
 pub mod Counted
 -- from tiles' lists to the map of codes
 pub mod TileLists
--- the search over a window
+-- the values and initial counts of a tile's window, and the search over it
 pub mod Spreading
 pub mod Noted
 pub mod Least
 pub mod Spots
 pub mod Begun
 pub mod TileRound
--- the search of a later round, and rounds over all tiles
+-- later rounds: the search in a tile, entries and runs, and the state between rounds
 pub mod Kept
 pub mod Lowered
 pub mod Noting

@@ -1,5 +1,5 @@
--- A code that points to a place is that of a way, one of the eight directions. Along a direction
--- other than 0 the pair of filled height and steps falls.
+-- A code that points to a place is that of a way, one of the eight directions. A cell has at most
+-- one direction. Along a direction other than 0 the pair of filled height and steps falls.
 use Rattle.std.proofs.Common.{◌≡◌, ◌≢◌, ℕ, ◌+◌, ◌^◌, ◌<◌, ◌≤◌, inl, inr, List, Option, None, Some, eqb, sym, ap, refl, ◌∙◌, arith}
 use Rattle.std.proofs.Math.Nat.{pow-le-pow_right}
 use Rattle.std.proofs.lemmas.Bool.{eqb-true}

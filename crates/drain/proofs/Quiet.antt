@@ -133,7 +133,7 @@ begun_walked Ends t counts begun to p =
     (omega (arith, at.1), [], to p at.0, sym at.1))
 
 -- each known initial count is the length of a walk at one height to a cell of count 0
--- (`AreCounting`), also without sinks
+-- (`AreCounting`), in the terrain with its sinks removed
 pub begun_counting : (t : Terrain) (counts : List (Option ℕ)) → AreInitialCounts t counts →
     AreCounting (with_sinks t []) counts
 begun_counting t counts begun = record {

@@ -158,7 +158,7 @@ module _ (r : Rounding) (outs : List (Vec Change Global)) (answered : AreRoundRe
 module _ (r : Rounding) (outs : List (Vec Change Global)) (new : List (Option ℕ))
     (rounding : IsRounding r) (answered : AreRoundResults r outs)
     (put : ArePut r.cutting.cols r.steps new (IsGiven outs)) where
-  -- no new count is above the count of its cell after a job's changes
+  -- no new count is above the count of its cell after the changes of one result
   put_below : (tile from end : ℕ) (j : ℕ) (list : Vec Change Global) →
       slice_get outs j ≡ Some list →
       (a : IsTileResult (levels_of r) r.cutting tile r.steps r.entries from end list.items) →

@@ -70,8 +70,8 @@ pub record IsChange (t : Terrain) (c : Cutting) (tile : ℕ) (steps : List (Opti
   pub less : x.count < count_of steps (index_of c.cols x.place)
   pub least : counts (index_of c.cols x.place) ≤ x.count
 
--- A search in a tile of bounds b may spread from x, one of the search's changes. No current count
--- is above that of the input `steps`.
+-- A search in a tile of bounds b may spread from x, a change of that tile (`IsChange`). No current
+-- count is above that of the input `steps`.
 pub record MaySpread (t : Terrain) (c : Cutting) (steps : List (Option ℕ)) (b : Bounds)
     (l : Lowered) (x : Change) : Type 0 where
   pub counting : AreCounting t steps
@@ -123,7 +123,7 @@ pub record IsEntered (c : Cutting) (entries : List Entry) (from end : ℕ)
   pub each : (k : ℕ) (e : Entry) → from ≤ k → k < end → slice_get entries k ≡ Some e →
       counts (index_of c.cols e.change.place) ≤ e.change.count
 
--- The changes are the result of a tile's job: they apply the entries at indexes `from..end`.
+-- The changes are a round's result for the tile: they apply the entries at indexes `from..end`.
 -- With the changes, no count of the tile is more than one above that of a neighbour of equal height
 -- in the same tile.
 pub record IsTileResult (t : Terrain) (c : Cutting) (tile : ℕ) (steps : List (Option ℕ))

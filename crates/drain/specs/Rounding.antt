@@ -105,8 +105,8 @@ pub record ArePut (cols : ℕ) (old new : List (Option ℕ)) (Given : Change →
 abbrev pub count_sum : Rounding → ℕ
 count_sum r = total (r.cutting.cols * r.cutting.rows) (count_of r.steps)
 
--- `new` is a later state between rounds (`IsRounding`). Cutting, heights and cells of count 0 are
--- those of `old`, and the sum of counts is no greater.
+-- `new` is a state between rounds (`IsRounding`), `old` itself or a later one. Its cutting, heights
+-- and cells of count 0 are those of `old`, and its sum of counts is no greater.
 pub record IsNext (old new : Rounding) : Type 0 where
   pub rounding : IsRounding new
   pub same_cutting : new.cutting ≡ old.cutting

@@ -1,4 +1,5 @@
 //! Finds the steps and then the directions of a filled grid, tile by tile: [`directions`].
+//! [`flat_steps`] runs one round of counting over one tile.
 ghost use Rattle.std.specs.Prelude.{◌≡◌, [], IfOk, OnOk, length};
 ghost use Rattle.terrain.specs.Raster.{Terrain, IsTerrain};
 ghost use Rattle.terrain.specs.Sinks.{with_sinks};

@@ -163,7 +163,7 @@ impl<'a> RoundInput<'a> {
     }
 
     /// Appends entries for cells of other tiles whose counts `changes` lower.
-    /// A job's changes lie in one tile, and only those on its rim touch other tiles. After the
+    /// A search's changes lie in one tile, and only those on its rim touch other tiles. After the
     /// tile's search they lower no cell of their own tile.
     pub(crate) fn note_changes(
         &self,

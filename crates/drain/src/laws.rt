@@ -1,4 +1,5 @@
 //! Each data cell of a filled terrain has one number of steps, below 2^24, and one direction.
+//! `direction_of` gives the direction by the cell's surroundings.
 //!
 //! Counts that a round over all tiles leaves unchanged are the steps of a filled terrain. Each cell
 //! that drains at once must have the count 0.

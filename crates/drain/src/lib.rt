@@ -8,7 +8,7 @@
 //!
 //! Modules by stage, each stage's main module first:
 //!
-//! - `draining`: `directions`, which runs all stages
+//! - `draining`: `directions`, which runs all stages, and `flat_steps`
 //! - `first`: the first round
 //! - `beginning`: finds the cells that drain at once
 //! - `window`: searches one tile for steps

@@ -1,4 +1,4 @@
-//! The search of a later round in a tile, over counts that all jobs read and none writes.
+//! The search of a later round in a tile, over counts that all searches read and none writes.
 //!
 //! The search starts at the tile's entries: lower counts that follow from neighbours in other
 //! tiles. It returns only the changed counts.

@@ -107,7 +107,7 @@ fn put(tiling: &Tiling, steps: &mut [StepCount], change: Change)
     }
 }
 
-/// Applies one job's changes to the counts of the grid, each if it lowers a count.
+/// Applies one tile's changes to the counts of the grid, each if it lowers a count.
 fn put_changes(tiling: &Tiling, steps: &mut [StepCount], changes: &[Change])
     requires steps { length steps.old ≡ tiling.now.cols * tiling.now.rows }
     requires changes { (x : Change) → IsAmong changes.now x → IsWithin tiling.now x.place }
@@ -118,7 +118,7 @@ fn put_changes(tiling: &Tiling, steps: &mut [StepCount], changes: &[Change])
     }
 }
 
-/// Applies all jobs' changes to the counts of the grid, each if it lowers a count.
+/// Applies a round's changes to the counts of the grid, each if it lowers a count.
 fn put_all(tiling: &Tiling, steps: &mut [StepCount], outs: &[Vec<Change>])
     requires steps { length steps.old ≡ tiling.now.cols * tiling.now.rows }
     requires changes { (x : Change) → IsGiven outs.now x → IsWithin tiling.now x.place }
@@ -354,7 +354,7 @@ fn enough_entries(tiling: &Tiling, rounds: u32) -> usize {
 }
 
 /// Runs later rounds until one changes nothing, and returns the counts.
-/// After [`FULL_ROUNDS`] rounds of jobs, rounds with few entries run on the caller's thread.
+/// After [`FULL_ROUNDS`] rounds of jobs, rounds with a few entries run on the caller's thread.
 pub(crate) fn run_rounds<R: Threads + Wait + Sync, G: Gate + Sync>(
     runner: &Runner<'_, R, G>,
     tiling: &Tiling,

@@ -1,8 +1,8 @@
 //! Finds the direction codes of a tile's cells.
 //!
-//! Cells in the grid's first or last row or column, the outermost cells, get the
-//! [`direction`](crate::direction) of an [`Around`](crate::Around). All other cells get codes by
-//! `interior`.
+//! The code of an outermost data cell, one in the grid's first or last row or column, is the
+//! [`direction`](crate::direction) of its [`Around`](crate::Around). All other data cells get codes
+//! by `interior`.
 ghost use Rattle.std.specs.Prelude.{◌≡◌, ◌+◌, ◌*◌, ◌<◌, Some, None, length, OnOk, IfOk};
 ghost use Rattle.std.specs.Option.{option_zip};
 ghost use Rattle.terrain.specs.Raster.{IsTerrain};

@@ -1,4 +1,5 @@
--- The crest of a path and the filled height of a cell are heights of cells of the terrain.
+-- The crest of a path and the filled height of a cell are heights of cells of the terrain. A cell's
+-- height is at most the crest of each path from it.
 use Rattle.std.proofs.Common.{◌≡◌, ℕ, List, [], ◌∷◌, length, get_or, Option, None, Some, ℤ, pos, ◌≤ℤ◌, sym, subst, refl, ◌∙◌, arith, ◌⊎◌, inl, inr}
 use Rattle.std.specs.Prelude.{unwrap_or, Contains, IsSome, int_lt}
 use Rattle.std.specs.Int.{int_max}

@@ -26,7 +26,7 @@ abbrev pub follow : Directed → Place → ℕ → Place
 follow d p zero = p
 follow d p (suc k) = next d (follow d p k)
 
--- The number of cells. A flow path that ends does so in fewer moves.
+-- The number of cells. A flow path that reaches an outlet makes fewer moves than this.
 abbrev pub moves : Directed → ℕ
 moves d = d.cols * d.rows
 

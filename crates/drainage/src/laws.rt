@@ -1,6 +1,7 @@
 //! Each data cell has exactly one filled height, the height of some cell.
 //!
-//! If directions lead down, or over a flat to fewer steps, each flow path ends at an outlet.
+//! Filling a filled terrain changes nothing. If directions lead down, or over a flat to fewer
+//! steps, each flow path ends at an outlet.
 ghost use Rattle.std.specs.Prelude.{◌≡◌, ℤ, List, Option, Some, Contains};
 ghost use Rattle.terrain.specs.Raster.{Terrain, IsTerrain};
 ghost use Rattle.terrain.specs.Neighbours.{IsDataCell};

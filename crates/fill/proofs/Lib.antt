@@ -11,7 +11,7 @@ mod Shifting
 mod InnerLists
 mod Chains
 mod LabelGraphs
--- The spill graph by place.
+-- The spill graph by place; `Gathered` has that by number too.
 mod GraphParts
 mod Lowest
 mod Placed

@@ -12,7 +12,7 @@ use Rattle.fill.specs.declared.arcs.PreviousJoins.{PreviousJoins}
 use Rattle.fill.specs.declared.arcs.Link.{Link}
 
 -- The arc of join `j` from `label`, one of its labels, and the previous join with that label. `b`
--- has the previous joins with both labels of `j`.
+-- has, for both labels of `j`, the previous join with that label.
 abbrev pub link_from : ℕ → Join → PreviousJoins → Link
 link_from label j b =
     if j.from == label then record { arc = arc_of j; before = b.from }

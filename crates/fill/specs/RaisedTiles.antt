@@ -1,5 +1,5 @@
--- Tiles whose cells are raised: each cell gets the greater of its level and the least crest of its
--- label in the spill graph.
+-- Tiles whose cells are raised: each data cell gets the greater of its level and the least crest of
+-- its label in the spill graph.
 -- Private.
 use Rattle.std.specs.Prelude.{◌≡◌, ℕ, ◌+◌, ℤ, List, length, Option, None, slice_index_or, option_and_then}
 use Rattle.terrain.specs.StoredCells.{cell_of}

@@ -1,6 +1,6 @@
--- The spill graph of all tiles: how labels are joined, and the least crests of labels. A label's
--- node is its place's index in row order of the grid. A walk leads from a node along joins to a
--- source. The crest of a walk is the greatest height of its joins and its source.
+-- The spill graph of all tiles: how labels are joined, their least crests, and the raised heights
+-- of cells. A label's node is its place's index in row order of the grid. A walk leads from a node
+-- along joins to a source. The crest of a walk is the greatest height of its joins and its source.
 -- Public.
 use Rattle.std.specs.Prelude.{◌≡◌, ◌≢◌, ℕ, ◌*◌, ◌<◌, ℤ, pos, ◌≤ℤ◌, List, length, Option, None, Some, MatchOption, slice_get, slice_index_or, option_and_then}
 use Rattle.std.specs.Int.{int_max}

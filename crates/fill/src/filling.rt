@@ -155,7 +155,7 @@ fn label_levels(
     Ok(levels)
 }
 
-/// Returns the filled height of each cell, in row order.
+/// Returns the filled height of each data cell, no data elsewhere, in row order.
 /// Floods the spill graph on the caller's thread, then raises each tile in a job.
 /// `inner` has the joins inside each tile, except those that [`LeftOut`] describes.
 fn filled_cells<R: Threads + Wait + Sync, G: Gate + Sync>(

@@ -138,9 +138,9 @@ fn push_after(
     Ok(())
 }
 
-/// Returns whether the cell at `index` and the four places after it have one label.
-/// `labels` has the index of each cell's label, in rows of `width` cells. All four are compared
-/// without branches, since a processor seldom predicts which differs first.
+/// Returns whether the entry at `index` equals those of the four places after it.
+/// `labels` has the index of each cell's label, 0 for no label, in rows of `width` cells. All four
+/// are compared without branches, since a processor seldom predicts which differs first.
 #[inline(always)]
 fn are_equal_after(labels: &[u32], index: usize, width: usize) -> bool
     requires some { 0 < index }

@@ -1,7 +1,7 @@
 //! Filled heights: floods of tiles, the spill graph over them, and raising.
 //!
-//! The flood of a tile gives each cell its level and label. The flood of the spill graph gives each
-//! label its least crest. Raising gives each cell the greater of its level and that crest.
+//! The flood of a tile gives each data cell its level and label. The flood of the spill graph gives
+//! each label its least crest. Raising gives a data cell the greater of its level and that crest.
 //!
 //! Begin with [`filled`], which runs all stages. [`SpillGraph`] and [`raise`] run single stages, on
 //! the full graph; [`filled`] leaves out two kinds of joins that lower no filled height. This crate

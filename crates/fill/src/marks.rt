@@ -1,4 +1,5 @@
 //! Reads a cell's mark, which is its level and its label, from the flood of its tile: [`CellMark`].
+//! Also returns the node of a place, its index in row order of the grid: [`node_of`].
 ghost use Rattle.std.specs.Prelude.{◌≡◌, ◌+◌, ◌*◌, ◌<◌, ◌≤◌, length};
 ghost use Rattle.tiles.specs.Cutting.{IsCutting, IsInTile, IsWithin};
 ghost use Rattle.terrain.specs.Neighbours.{index_of};

@@ -1,7 +1,7 @@
-//! Numbers the labels of all tiles from 0, and lists the heights of those that are end cells.
+//! Numbers the labels of all tiles, and lists the heights of those that are end cells.
 //!
-//! Each tile has a table that lists its labels. Numbers count the entries of all tables, tile by
-//! tile. The first entry of each table, `None`, has a number too.
+//! Each tile has a table that lists its labels. Numbers count the entries of all tables from 0,
+//! tile by tile. The first entry of each table, `None`, has a number too.
 ghost use Rattle.std.specs.Prelude.{◌≡◌, ◌+◌, ◌<◌, ◌≤◌, IfOk, length, map, slice_index_or};
 ghost use Rattle.std.specs.List.{flat_map};
 ghost use Rattle.terrain.specs.Raster.{Terrain};

@@ -1,7 +1,7 @@
 //! Turns joins whose labels are given by number into joins whose labels are given by place.
 //!
 //! Numbers count the entries of all tiles' tables of labels, tile by tile. A place is given by its
-//! node: its index in row order of the grid.
+//! node: its index in row order of the grid. Of each pair of labels the lowest join is kept.
 ghost use Rattle.std.specs.Prelude.{◌≡◌, ◌↔◌, ◌<◌, ◌++◌, [], IfOk, IfSome, IsTrue, OnOk, length, map};
 ghost use Rattle.std.specs.Option.{option_to_list};
 ghost use Rattle.std.specs.List.{All};

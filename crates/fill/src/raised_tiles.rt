@@ -24,7 +24,7 @@ struct RaisedTile<'a> {
     heights: &'a [Height],
     labels: &'a [u32],
     /// The least crest of each of the tile's labels in the spill graph, as a cell.
-    /// No data for a label without a least crest.
+    /// No data for the table's first entry, `None`, and for a label without a least crest.
     spills: Vec<Cell>,
 }
 

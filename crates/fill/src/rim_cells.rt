@@ -108,6 +108,7 @@ fn push_on_way<C: MarkedCells, J: JoinList>(
 }
 
 /// Adds the wanted joins of a cell with its neighbours after it in row order.
+/// Leaves out the joins that `left_out` describes.
 fn push_cell<C: MarkedCells, J: JoinList>(
     joins: &mut J,
     cells: &C,
@@ -133,6 +134,7 @@ fn push_cell<C: MarkedCells, J: JoinList>(
 }
 
 /// Adds the wanted joins of all cells in a row of the bounds with the neighbours after them.
+/// Leaves out the joins that `left_out` describes.
 fn push_row<C: MarkedCells, J: JoinList>(
     joins: &mut J,
     cells: &C,
@@ -154,7 +156,7 @@ fn push_row<C: MarkedCells, J: JoinList>(
 
 /// Adds the wanted joins of a row's outer cells with the neighbours after them.
 /// A cell is outer if the four places after it are not all in the tile. These are all cells of the
-/// tile's last row, and the first and last of any other row.
+/// tile's last row, and the first and last of any other row. Leaves out the joins of `left_out`.
 pub(crate) fn push_outer_cells<C: MarkedCells, J: JoinList>(
     joins: &mut J,
     cells: &C,

@@ -84,7 +84,7 @@ no_walk joins source nodes levels labels waiting inside s all a below none walk 
     none_done (entry_of labels found.0.node) found.2
     (All-contains (HasLabel labels) waiting found.0 all found.1)
 
--- If the nodes of all entries have labels, a node without a label has no level.
+-- By `AreNoted`, a node without a label has no level if the nodes of all entries have labels.
 pub none_left : (labels : List (Option ℕ)) (levels : List (Option ℤ)) (waiting : List Candidate)
     (a : ℕ) → AreNoted labels levels waiting → All (HasLabel labels) waiting →
     entry_of labels a ≡ None → entry_of levels a ≡ None

@@ -1,4 +1,4 @@
--- A path along links that ends does so in fewer moves than there are nodes.
+-- If a path along links ends, it ends after fewer moves than there are nodes.
 use Rattle.std.proofs.Common.{◌≡◌, ℕ, zero, suc, ◌+◌, ◌-◌, ◌<◌, ◌≤◌, ◌⊎◌, inl, inr, cond, eqb, List, length, sym, ap, subst, ◌∙◌, arith, add-zero, ◌≢◌, get_or, set, refl}
 use Rattle.std.proofs.lemmas.Bool.{cases_eq, cases_lt, cond-true, cond-false, eq-eqb, ne_eqb}
 use Rattle.std.proofs.lemmas.List.{get_or-set_same, get_or-set_other}

@@ -24,7 +24,7 @@ pub mod RimTotals
 pub mod RimInflows
 pub mod RimAdded
 pub mod Linked
--- counts of the cells upstream
+-- counts of the cells upstream, and maps of whole terrains
 pub mod TileTotals
 pub mod Counted
 pub mod Together

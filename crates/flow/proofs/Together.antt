@@ -1,5 +1,5 @@
--- The flow paths of a drained terrain all end. A list with each data cell's value at its place is
--- the map of these values for the terrain.
+-- The flow paths of a drained terrain all end. A list with each data cell's value at its place, and
+-- `None` at NODATA, is the map of these values for the terrain.
 use Rattle.std.proofs.Common.{◌≡◌, ℕ, ◌*◌, List, length, Option, subst, sym, ap, ◌∙◌, Some, Vec, Global, vec_len, slice_get, arith}
 use Rattle.std.specs.Prelude.{Result, Ok, Err, IfOk}
 use Rattle.std.proofs.lemmas.Option.{get_or_from_slice_get, slice_get_within}
@@ -44,8 +44,8 @@ pub drained_coded : (d : Drained) → IsDraining d → (p : Place) → IsDataCel
     IsCoded (directed_of d) p
 drained_coded d draining p is = coded_from_some (directed_of d) p (draining.same_data p ∙ is)
 
--- If Q holds of every list of n results where P k holds of result k, Q holds of the list that n
--- jobs return.
+-- Let P k hold of the result of each job k, of n jobs. If Q holds of every list of n entries where
+-- P k holds of entry k, Q holds of the list that the jobs return.
 pub jobs_gave : {X E : Type 0} (P : ℕ → X → Type 0) (r : Result (Vec X Global) E) (n m : ℕ)
     (Q : List X → Type 0) → n ≡ m →
     ((outs : List X) → length outs ≡ m → ((k : ℕ) (x : X) → slice_get outs k ≡ Some x → P k x) →

@@ -1,5 +1,5 @@
--- How a tile's accumulations come from its flow, of which they use the codes alone, and from its
--- inflows.
+-- How a tile's accumulations come from its flow, of which they use the bounds and codes alone, and
+-- from its inflows.
 -- Private.
 use Rattle.std.specs.Prelude.{◌≡◌, ℕ, ◌+◌, ◌-◌, ◌^◌, ◌<◌, ◌≤◌, List, map, length, Option, None, Some, slice_get, slice_index, slice_index_or}
 use Rattle.std.specs.List.{range_with_len}

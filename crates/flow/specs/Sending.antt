@@ -4,8 +4,8 @@
 use Rattle.std.specs.Prelude.{◌≡◌, ℕ, ◌+◌, ◌<◌, Bool, true, false, not, ◌&&◌, ◌==◌, if◌then◌else◌, List, length, slice_index}
 use Rattle.flow.specs.Streams.{leads_to, sum_below}
 
--- The entry in `waits` of a node that has sent. A node that leads to itself, an end, sends nothing
--- and gets it when the sending comes to it.
+-- The entry in `waits` of a node that has sent. A node linked to itself, an end, sends nothing, and
+-- gets it when the sending comes to it and all its donors have sent.
 abbrev pub sent_mark : ℕ
 sent_mark = 4294967295
 

@@ -1,5 +1,5 @@
--- Flow inside one tile: each cell's exit, and its count of flow paths that reach it there. Inflow:
--- how many flow paths enter a cell from another tile.
+-- Flow inside one tile: each data cell's exit, and its count of other cells' flow paths that reach
+-- it there. Inflow: how many flow paths enter a cell from another tile.
 -- Public.
 use Rattle.std.specs.Prelude.{◌*◌, ◌≤◌, ◌≡◌, ◌≢◌, ℕ, ◌+◌, ◌-◌, ◌<◌, ◌⊎◌, Bool, not, ◌&&◌, ◌==◌, List, length, count_by, Option, None, Some, is_some, IsSome, MatchOption, slice_get, IsTrue}
 use Rattle.std.specs.List.{list_any, list_all, range_with_len}

@@ -1,8 +1,8 @@
 //! Counts for each cell the other cells whose flow paths contain it: [`accumulation`].
 //!
-//! One job for each tile finds the tile's flow: exits, and how many flow paths reach each cell
-//! inside the tile. `inflows` sums what enters each rim cell from other tiles. A second job for
-//! each tile finds accumulations.
+//! One job for each tile finds the tile's flow: exits, and how many other cells' flow paths reach
+//! each cell inside the tile. `inflows` sums what enters each rim cell from other tiles. A second
+//! job for each tile finds accumulations.
 ghost use Rattle.std.proofs.Props.{props};
 ghost use Rattle.std.specs.Prelude.{◌≡◌, ◌+◌, ◌^◌, ◌<◌, ℕ, length, slice_index, IfOk};
 ghost use Rattle.tiles.specs.Cutting.{Cuts, IsInBounds, bounds_of, cell_count, tile_count};

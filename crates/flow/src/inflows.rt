@@ -186,8 +186,8 @@ fn rim_weights(
     Ok(weights)
 }
 
-/// Adds each exit's entries in `weights` and `upstream` to the inflow of its target.
-/// The target is the place in another tile that the exit flows into.
+/// Adds each rim number's entries in `weights` and `upstream` to the inflow of its target, if any.
+/// The target is the place in another tile that the cell with the number flows into.
 fn send_all(
     tiling: &Tiling,
     targets: &[Option<Place>],

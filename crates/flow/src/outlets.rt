@@ -16,7 +16,7 @@ use std::marker::Model;
 use terrain::Place;
 use tiles::Tiling;
 
-/// The outlets where the flow paths of all exits end.
+/// The outlets where the flow paths of all exits into other tiles end.
 #[derive(Drop)]
 pub struct Outlets {
     tiling: Tiling,

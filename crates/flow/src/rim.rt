@@ -1,6 +1,6 @@
 //! Finds the rim cells of a tile by side number, and where their paths along links end.
 //!
-//! A link leads to the next cell downstream in the tile.
+//! A cell's link leads to the next cell downstream, or to the cell itself if none is in the tile.
 //! A side number is a rim cell's number in its tile (`Bounds::side_number`). A rim number is a
 //! rim cell's number among those of all tiles (`Tiling::rim_number`). Side numbers depend on the
 //! size of a largest tile: in `side_cell` it is `largest`, in `rim_ends` the tile itself.

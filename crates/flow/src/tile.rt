@@ -1,8 +1,8 @@
 //! The flow inside one tile: [`tile_flow`].
 //!
-//! A flow has each cell's code, link and exit. A link is the index of the next cell downstream in
-//! the tile. A flow with counts also has how many other cells' flow paths reach each cell inside
-//! the tile.
+//! A flow has each data cell's code and exit, and each cell's link: the index of the next cell
+//! downstream, or the cell's own index if none is in the tile. A flow with counts also has how many
+//! other cells' flow paths reach each data cell inside the tile.
 ghost use Rattle.std.specs.Prelude.{◌≡◌, ◌<◌, length, slice_index_or, IfOk, IfSome, None};
 ghost use Rattle.std.specs.Option.{option_map};
 ghost use Rattle.terrain.specs.StoredCells.{uncounted};

@@ -1,5 +1,7 @@
--- A piece pushed to a horizon is appended, or replaces the last piece if their ramps are equal.
--- Targets covered before keep their ramps; those from there to the new end get the pushed ramp.
+-- If a target's index is below the extent, some piece ends above the index; the first such piece
+-- has the target's ramp. A piece pushed to a horizon is appended, or replaces the last piece if
+-- their ramps are equal. Targets covered before keep their ramps; those from there to the new end
+-- get the pushed ramp.
 use Rattle.std.proofs.Common.{◌≡◌, ℕ, zero, suc, ◌+◌, ◌<◌, ◌≤◌, max, List, [], ◌∷◌, ◌++◌, length, get_or, set, Some, refl, sym, ap, ◌∙◌, arith, inl, inr}
 use Rattle.std.specs.Prelude.{slice_get}
 use Rattle.std.proofs.lemmas.Bool.{cases_lt}

@@ -61,8 +61,8 @@ pub record IsOver (targets : List Target) (ps : List Piece) : Type 0 where
   pub each : (i : ℕ) (t : Target) (r : Ramp) → slice_get targets i ≡ Some t →
       ramp_at ps i ≡ Some r → IsRampAt r t
 
--- The horizon was extended up to `end` by this ramp. The ramps of targets that it reached before
--- are the same.
+-- The horizon was extended up to `end` by this ramp, unless its extent was at least `end`. The
+-- ramps of targets that it reached before are the same.
 pub record IsPushed (old : List Piece) (end : ℕ) (ramp : Ramp) (new : List Piece) : Type 0 where
   pub reach : extent new ≡ max (extent old) end
   pub kept : (i : ℕ) → i < extent old → ramp_at new i ≡ ramp_at old i

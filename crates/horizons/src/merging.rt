@@ -1,7 +1,8 @@
 //! Extends a horizon by the greater of two ramps at each target that it gains: [`push_greater`].
 //!
 //! A ramp is a straight line over the slope by which targets are sorted: cells aside per row or
-//! column outward. So two ramps cross at most once, and a binary search finds where.
+//! column outward. So two ramps cross at most once: a binary search finds where, and
+//! [`is_never_above`] tests the first and the last target alone.
 ghost use Rattle.std.specs.Prelude.{◌≡◌, ◌+◌, ◌<◌, ◌≤◌, not, Bool, false, length, Some, OnOk, slice_get};
 ghost use Rattle.std.specs.Bool.{OnTrue};
 ghost use Rattle.horizons.specs.declared.target.Target.{Target};

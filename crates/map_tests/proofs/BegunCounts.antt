@@ -1,6 +1,6 @@
 -- The initial count of steps is `Some 0` at a cell that drains at once, else `None`. If the counts
 -- of all cells are pushed in row order, the list has each cell's initial count
--- (`AreInitialCounts`).
+-- (`AreInitialCounts`). A cell has no lower neighbour if a search of all cells finds none.
 use Rattle.std.proofs.Common.{◌≡◌, ◌↔◌, ℕ, ◌+◌, ◌*◌, ◌<◌, Bool, true, false, IsTrue, inl, inr, List, [], ◌∷◌, ◌++◌, length, get_or, Option, None, sym, ap, subst, refl, ◌∙◌, arith}
 use Rattle.std.proofs.lemmas.Bool.{cases_eq, false≢true}
 use Rattle.std.proofs.lemmas.List.{get_or_append_left, get_or_push, length_push}

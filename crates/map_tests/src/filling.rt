@@ -1,4 +1,4 @@
-//! Floods tiles for levels and labels, and gathers the spill graph of all tiles.
+//! Floods tiles for levels and labels, gathers their spill graph, and fills a grid.
 //!
 //! Under `rt try --fail-alloc` a call may be refused memory.
 ghost use Rattle.std.specs.Prelude.{IfOk};

@@ -7,7 +7,7 @@
 //! - `stages`: calls filling and directions without a gate
 //! - `ground`: builds, cuts and compares small grids
 //! - `nodes`: floods a net of four nodes
-//! - `filling`: floods of tiles, and their spill graph
+//! - `filling`: floods of tiles, their spill graph, and filled heights
 //! - `lowering`: compares filled heights with those of a plain algorithm
 //! - `flats`: the steps of flats after one round over a tile
 //! - `draining`: the direction of one cell, and refused numbers of workers

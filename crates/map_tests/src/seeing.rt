@@ -93,7 +93,7 @@ fn expect_far<R: Abort + Threads + Wait + Sync>(
     );
 }
 
-/// A ridge hides a cell, unless eye or target is high enough.
+/// A ridge hides a cell, unless eye or target is high enough. Past the radius no cell is seen.
 #[test]
 fn one_line(rt: HostRuntime) {
     let land = land(&rt, rt.alloc(), 3, 1, "0 6 10");

@@ -1,5 +1,5 @@
--- Let tiles, sinks and gauges have no fault. If a viewshed or catchments end with a fault, a run
--- may return that fault, for the grid and for the text that spells it.
+-- A run may return the fault that forbids its map and, if tiles, sinks and gauges have none, the
+-- fault that ends its viewshed or catchments. What it may return for a grid, it may for its text.
 use Rattle.std.proofs.Common.{◌≡◌, ◌⊎◌, ℕ, ◌<◌, ◌≤◌, Option, None, Some, Ok, Err, sym, ap, subst, refl, ◌∙◌, arith, inl, inr, Bool, true, false, cond, List}
 use Rattle.std.specs.Option.{option_map, option_or}
 use Rattle.terrain.specs.Raster.{Raster}

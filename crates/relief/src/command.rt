@@ -1,4 +1,4 @@
-//! [`run_words`] runs the program on a command line, and returns the exit status.
+//! [`run_words`] and [`run_words_reported`] run a command line, and return the exit status.
 ghost use Rattle.std.specs.Prelude.{◌≡◌, ◌≤◌, ◌<◌, ◌-◌, ◌^◌, ℕ, List, map};
 ghost use Rattle.ascii_grid.specs.Device.{Writes};
 ghost use Rattle.clap.specs.Words.{kind_of};

@@ -1,4 +1,4 @@
-//! [`tell`] writes the one line of text that reports the fault of a run.
+//! [`tell`] writes the line that reports a run's fault, `tell_bad_word` that of a bad word.
 ghost use Rattle.std.specs.Prelude.{◌≡◌, ◌<◌, ◌≤◌, ◌+◌, ◌-◌, ◌^◌, ◌++◌, [], length, codes, decimal, option_map};
 ghost use Rattle.std.specs.Option.{option_map_or};
 ghost use Rattle.ascii_grid.specs.Device.{Writes};

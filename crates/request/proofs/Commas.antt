@@ -1,5 +1,5 @@
--- The parts of a word with a comma are the bytes before its first comma and the parts of the bytes
--- after it. A word of four or more parts spells no observer, one of three or more no gauge or sink.
+-- A word without a comma is one part. Else its parts are the bytes before the first comma and the
+-- parts of the bytes after it. Four or more spell no observer, three or more no gauge or sink.
 use Rattle.std.proofs.Common.{◌≡◌, ℕ, ◌+◌, ◌<◌, ◌≤◌, Bool, true, false, cond, eqb, List, [], ◌∷◌, length, take, drop, None, Some, sym, ap, subst, refl, ◌∙◌, arith}
 use Rattle.std.specs.Prelude.{nat_lt}
 use Rattle.std.specs.List.{slice_split, position, position_or_len}

@@ -1,4 +1,4 @@
--- The command lines that the program accepts, as `clap` reads them, and their requests.
+-- Subcommands and options for `clap`, and what a command line means: a request, help or refusal.
 -- Trust base.
 use Rattle.std.specs.Prelude.{◌≡◌, ◌⊎◌, ℕ, Bool, ◌<◌, ◌^◌, pos, true, false, List, [], ◌∷◌, map, Option, Some, codes, Any, is_none, unwrap_or, if◌then◌else◌}
 use Rattle.std.specs.List.{position}

@@ -1,5 +1,5 @@
--- A command of `clap` has a given `Shape`, its settings and its arguments' rules (`IsLeaf`). An
--- argument of `clap` has a given `Rule` (`IsArg`).
+-- The program without its subcommands (`bare_app`). A command of `clap` has a given `Shape`, its
+-- settings and its arguments' rules (`IsLeaf`). An argument of `clap` has a given `Rule` (`IsArg`).
 -- Private.
 use Rattle.std.specs.Prelude.{◌≡◌, true, false, [], codes}
 use Rattle.clap.specs.Words.{App, Rule, Shape, app_of, rule_of}

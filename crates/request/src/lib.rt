@@ -6,7 +6,7 @@
 //!
 //! - `words`: parses the command line
 //! - `program`: declares subcommands and options
-//! - `help`: the texts of `--help`
+//! - `help`: the long texts of `--help`
 //! - `options`: a map and its options, with tile side, workers and scale within limits
 //! - `map`: the six maps
 //! - `place_words`: parses observer, gauge and sink words

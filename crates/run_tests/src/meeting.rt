@@ -1,4 +1,4 @@
-//! At each stage of each map, the jobs of two tiles run at once.
+//! At each stage of each map, two jobs run at once.
 ghost use Rattle.tiles.specs.Cutting.{Cuts};
 
 use ascii_grid::{Counted, read_text};
@@ -87,7 +87,7 @@ impl Meeting {
         assert_eq!(rt; self.missed.load(Ordering::SeqCst), 0, "{map}");
     }
 
-    /// Asserts that each stage had a job for each tile, and that the first two jobs met.
+    /// Asserts that the first two jobs met at `stages` stages, which had `stages * tiles` jobs.
     fn expect(&self, rt: &impl Abort, stages: u64, tiles: u64, map: &str) {
         let first = self.entered[0].load(Ordering::SeqCst);
         let second = self.entered[1].load(Ordering::SeqCst);
@@ -166,7 +166,7 @@ fn tiles_meet_in_each_round(rt: HostRuntime) {
     gate.expect(&rt, 4, 2, "directions");
 }
 
-/// A round has a job for each tile, though in round 2 only one tile gets steps.
+/// Each of three rounds has a job for each tile, though in round 2 only one tile gets steps.
 #[test]
 fn idle_tiles_have_a_job_in_each_round(rt: HostRuntime) {
     let alloc = rt.alloc();
@@ -177,7 +177,7 @@ fn idle_tiles_have_a_job_in_each_round(rt: HostRuntime) {
     gate.expect(&rt, 4, 4, "directions");
 }
 
-/// Each of three tiles has one job at each of three stages, also with one worker.
+/// A grid of three tiles has three jobs at each of three stages, also with one worker.
 #[test]
 fn three_stages_of_three_jobs(rt: HostRuntime) {
     let alloc = rt.alloc();
@@ -225,7 +225,7 @@ fn expect_map(rt: &impl Abort, alloc: Global, map: &[u8], cols: u32, rows: u32, 
     assert_eq!(rt; map, wanted.as_bytes());
 }
 
-/// At each stage of a map without gauges, the first two of four tiles run at once.
+/// At each stage of a map without gauges, the first two of four jobs run at once.
 #[test]
 fn tiles_meet(rt: HostRuntime) {
     let alloc = rt.alloc();
@@ -259,7 +259,7 @@ fn tiles_meet(rt: HostRuntime) {
     }
 }
 
-/// At each stage of catchments, the first two of four tiles run at once.
+/// At each stage of catchments, the first two of four jobs run at once.
 #[test]
 fn tiles_of_catchments_meet(rt: HostRuntime) {
     let alloc = rt.alloc();

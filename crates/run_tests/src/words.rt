@@ -1,5 +1,5 @@
-//! Runs the program on command lines.
-//! Checks exit statuses, help, fault lines and progress.
+//! Runs the program on command lines, and checks exit statuses, help, fault lines and progress.
+//! Also checks, without a run, observer and sink words, fault lines and the limits of options.
 use relief::{
     Counted, Gate, GaugeFault, GridFault, JobFault, Key, Map, Observer, Options, Place, Progress,
     RunFault, SightFault, SinkFault, TilingFault, VERSION, WriteFailed, parse_observer, parse_sink,

@@ -180,8 +180,8 @@ level_hides f k offset near far top rise t passes a b hides =
     joined : (e j : ℤ) (r m : ℕ) → (e *ℤ pos r) +ℤ (e *ℤ pos m) ≡ (pos 0 *ℤ j) +ℤ (e *ℤ pos (r + m))
     joined e j r m = omega (arith, ints)
 
--- no cell of line k from offset `low` to `high + 1` is above `top`; if `top` is None, none of these
--- cells has data
+-- no cell of line k before the side's end, from offset `low` to `high + 1`, is above `top`; if
+-- `top` is None, none of these cells has data
 abbrev pub IsTopNear : List (Option ℤ) → Family → ℕ → ℤ → ℤ → Option ℤ → Type 0
 IsTopNear cells f k low high top = (c : ℕ) (h : ℤ) → c < f.side.cells → low ≤ℤ offset_of f c →
     offset_of f c ≤ℤ (high +ℤ pos 1) → height_at cells f k c ≡ Some h → IsTopOf top h

@@ -127,7 +127,7 @@ greater_raised cells f targets k from end highest ground ramp old new reach more
       ],
     )
 
--- if a ramp of the old horizon hides all that line k blocks, it is a ramp of the raised horizon too
+-- if a ramp of the old horizon hides all that line k blocks, the raised horizon may keep this ramp
 pub hidden_raised : (cells : List (Option ℤ)) (f : Family) (targets : List Target)
     (k i from end : ℕ) (highest : List Piece) (ramp : Ramp) (t : Target) → IsOver targets highest →
     ramp_at highest i ≡ Some ramp

@@ -181,7 +181,7 @@ impl Family {
     }
 
     /// Returns the greatest height of a line's cells from offset `low` to `high + 1`.
-    /// `None` where none of them is a data cell.
+    /// Cells past the side's end are left out. `None` where no other is a data cell.
     #[inline(always)]
     pub(crate) fn top_between(
         self,
@@ -214,6 +214,7 @@ impl Family {
     }
 
     /// Whether a line's ground from the cell at `offset` to the next has ramp `ramp`.
+    /// False where the cell at `offset` is past the side's end.
     #[inline(always)]
     fn has_ramp(self, cells: &[Cell], line: u32, offset: i32, ramp: Ramp) -> bool
         requires heights { AreHeights cells.now }
@@ -236,7 +237,7 @@ impl Family {
         self.ramp(line, offset, near, far) == ramp
     }
 
-    /// Returns the last offset, from `first` on, up to which a line has ramp `ramp`.
+    /// Returns the last offset past `first` up to which `has_ramp` is true, else `first`.
     #[inline(always)]
     fn last_of(self, cells: &[Cell], line: u32, first: i32, ramp: Ramp) -> i32
         requires heights { AreHeights cells.now }
@@ -255,7 +256,8 @@ impl Family {
     }
 
     /// Returns the ground that the ray to a target meets on a line.
-    /// Where the ray meets NODATA or no cell, the ramp is `Ramp::nothing()`.
+    /// Where the ray meets NODATA or no cell, the ramp is `Ramp::nothing()`. A target that is not
+    /// beyond the line may get any ramp.
     #[inline(always)]
     pub(crate) fn span(self, cells: &[Cell], line: u32, target: Target) -> Span
         requires heights { AreHeights cells.now }

@@ -124,6 +124,7 @@ fn is_of_last_line(piece: Piece, line: u32) -> bool
 }
 
 /// Returns true only if a line's ground is nowhere above a piece from target `from` on.
+/// That says nothing of targets on or before the line.
 #[inline(always)]
 fn is_ground_below_piece(
     cells: &[Cell],

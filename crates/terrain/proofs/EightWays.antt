@@ -1,5 +1,6 @@
 -- The eight directions (ways) from place p lead exactly to the other places whose row and column
--- differ from p's by at most 1.
+-- differ from p's by at most 1. If p is past the row and the column that indices count from,
+-- `around_index` has the indices of the eight places.
 use Rattle.std.proofs.Common.{◌≡◌, ◌≢◌, ℕ, zero, suc, ◌+◌, ◌-◌, ◌*◌, ◌%◌, ◌<◌, ◌≤◌, ◌||◌, ◌⊎◌, inl, inr, eqb, false, get_or, Contains, Option, None, Some, slice_index_or, sym, ap, refl, ◌∙◌, arith, lit<}
 use Rattle.std.proofs.Math.Nat.{suc-mul}
 use Rattle.std.proofs.lemmas.Bool.{cases_order, eq-eqb, ne_eqb, or_left, or_right, or_from}

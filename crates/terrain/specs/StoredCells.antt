@@ -20,6 +20,6 @@ cell_of height = option_and_then stored_cell height
 abbrev pub uncounted : ℕ
 uncounted = 4294967295
 
--- The count that a number stores.
+-- The map's entry that a number stores.
 abbrev pub stored_count : ℕ → Option ℕ
 stored_count n = if n == uncounted then None else Some n

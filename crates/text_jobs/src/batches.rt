@@ -1,4 +1,4 @@
-//! Reads a text in batches, which several workers then parse.
+//! Reads a text in batches, for the caller's thread and several workers to parse.
 //! A batch is up to 255 pieces in one buffer; a piece is the bytes of one read, at most 4,096.
 ghost use Rattle.std.specs.Prelude.{◌≡◌, ◌≤◌, ◌<◌, length, take};
 ghost use Rattle.std.specs.Io.KnownBytes.{IsAtEnd};

@@ -21,9 +21,9 @@ const FRONT_BYTES: usize = 4096;
 /// Reads a grid from a device, by one or several workers.
 ///
 /// Heights are in units of 10^-scale. With more than one worker, the caller's thread reads batches
-/// of at most 1 MiB, and jobs parse most heights of batches of 128 KiB or more. If a thread or
-/// memory for jobs is refused, the caller's thread parses the jobs' heights. If memory for a batch
-/// is refused, it reads the text as [`ascii_grid::read_grid`] does.
+/// of at most 1 MiB, and jobs parse most heights of batches of 128 KiB or more. If a thread, memory
+/// for jobs or the number of workers is refused, the caller's thread parses the jobs' heights. If
+/// memory for a batch is refused, it reads the text as [`ascii_grid::read_grid`] does.
 ///
 /// # Memory
 ///
@@ -111,8 +111,9 @@ fn feed_batch<T: Threads + Wait + Sync, G: Gate + Sync>(
 }
 
 /// Feeds the bytes `piece` to the reader.
-/// Jobs parse most of `piece` if the reader has read a first height and is not within a word. If a
-/// thread or memory for jobs is refused, the reader parses all of `piece`.
+/// Jobs parse most of `piece` if the reader has read a first height and is not within a word. The
+/// reader parses all of `piece` if a thread, memory for jobs or the number of workers is refused.
+/// If a job returns `None`, also for want of memory for its cells, the reader parses its run.
 fn feed_heights<T: Threads + Wait + Sync, G: Gate + Sync>(
     runner: &Runner<T, G>,
     reader: &mut GridReader,

@@ -1,4 +1,4 @@
-//! Cuts bytes of a text into runs, each time after a separator.
+//! Cuts bytes of a text into runs, each time after a separator if any, and feeds runs to a reader.
 //! One job parses the heights of each run.
 ghost use Rattle.std.specs.Prelude.{◌≡◌, ◌<◌, ◌≤◌, ℕ, List, map, length, slice_index_or, IfOk, IfSome, None};
 ghost use Rattle.std.specs.List.{concat};
@@ -16,7 +16,7 @@ pub(crate) const RUN_BYTES: usize = 65_536;
 
 /// Cuts `piece` into runs of [`RUN_BYTES`] bytes, each extended to a separator or the end.
 ///
-/// The last bytes, at most [`RUN_BYTES`], are cut into two runs, after their last separator.
+/// The last bytes, at most [`RUN_BYTES`], are cut into two runs, after their last separator if any.
 pub(crate) fn runs_of(alloc: Global, piece: &[u8]) -> Result<Vec<&[u8]>, AllocError>
     ensures { IfOk result (λ runs. concat (map (λ run. run.now) runs.items) ≡ piece.now) }
 {
@@ -81,7 +81,7 @@ impl<'a> Work for RunJobs<'a> {
 
 /// Feeds runs to a reader in order.
 /// A run with `Some` cells in `lists` is fed by [`GridReader::feed_cells`], which adds these cells
-/// or, past a limit, parses the run. Any other run is fed as bytes.
+/// or parses the run. Any other run is fed as bytes.
 pub(crate) fn feed_runs(
     reader: &mut GridReader,
     parser: &HeightParser,

@@ -1,8 +1,8 @@
 //! Writes maps by several workers.
 //!
-//! With several workers, jobs make the text of all rows before the first byte is written. If memory
-//! or a thread is refused, the rows are written without jobs. After the first byte nothing is
-//! allocated.
+//! With several workers, jobs make the text of all rows before the first byte is written. If
+//! memory, a thread or the number of workers is refused, the rows are written without jobs. After
+//! the first byte nothing is allocated.
 ghost use Rattle.std.specs.Prelude.{◌≡◌, ◌++◌, ◌*◌, ◌-◌, ◌/◌, ◌^◌, ◌<◌, ◌≤◌, length, IfSome};
 ghost use Rattle.std.specs.List.{flat_map};
 ghost use Rattle.terrain.specs.declared.word.TheConstants.{MOST_WORD_BYTES};
@@ -120,8 +120,8 @@ fn write_map<T: Threads + Wait + Sync, G: Gate + Sync, E: MapCell + Sync, W: Wri
 ///
 /// # Memory
 ///
-/// With more than one worker, the text of all rows. If memory or a thread is refused, the map is
-/// written without jobs, which allocates nothing.
+/// With more than one worker, the text of all rows. If memory, a thread or the number of workers is
+/// refused, the map is written without jobs, which allocates nothing.
 ///
 /// # Errors
 ///
@@ -151,8 +151,8 @@ pub fn write_heights<T: Threads + Wait + Sync, G: Gate + Sync, W: Write>(
 ///
 /// # Memory
 ///
-/// With more than one worker, the text of all rows. If memory or a thread is refused, the map is
-/// written without jobs, which allocates nothing.
+/// With more than one worker, the text of all rows. If memory, a thread or the number of workers is
+/// refused, the map is written without jobs, which allocates nothing.
 ///
 /// # Errors
 ///
@@ -175,8 +175,8 @@ pub fn write_framed_counts<T: Threads + Wait + Sync, G: Gate + Sync, W: Write>(
 ///
 /// # Memory
 ///
-/// With more than one worker, the text of all rows. If memory or a thread is refused, the map is
-/// written without jobs, which allocates nothing.
+/// With more than one worker, the text of all rows. If memory, a thread or the number of workers is
+/// refused, the map is written without jobs, which allocates nothing.
 ///
 /// # Errors
 ///

@@ -1,5 +1,5 @@
 -- Which jobs a board deals to each deque, and the end marks after them, one for each seat. How
--- often a number occurs in a list.
+-- often a number occurs in a list, rising lists, and sums of a function's first values.
 -- Public.
 use Rattle.std.specs.Prelude.{ℕ, zero, suc, ◌+◌, ◌%◌, ◌<◌, List, [], ◌∷◌, ◌++◌, map, replicate, cond, ◌==◌, AllPairs}
 use Rattle.tile_jobs.specs.declared.deque.Entry.{Entry}

@@ -1,4 +1,4 @@
--- What a worker returns: its seat and a result of each job that the seat took, or a fault.
+-- A worker begins at a new seat. It returns its seat and a result of each job taken, or a fault.
 -- Private.
 use Rattle.std.specs.Prelude.{◌≡◌, ℕ, ◌<◌, ◌≤◌, List, Result, IfOk, IfErr, length, slice_index_or}
 use Rattle.tile_jobs.specs.declared.JobFault.{JobFault}

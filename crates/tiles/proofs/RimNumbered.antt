@@ -1,4 +1,5 @@
 -- The number of a rim cell is below `rim_number_count`, and `rim_place` of this number is the cell.
+-- `rim_number_count` is at most 2^30.
 use Rattle.std.proofs.Common.{◌≡◌, ◌≢◌, ℕ, ◌+◌, ◌-◌, ◌*◌, ◌/◌, ◌%◌, ◌^◌, ◌<◌, ◌≤◌, true, inl, inr, ap, ◌∙◌, arith, mul_comm, zero-mul}
 use Rattle.std.proofs.Math.Nat.{zero-div, zero-mod, mul-le-mul}
 use Rattle.std.proofs.lemmas.Bool.{cases_eq, or_cases, eqb-true, eq-eqb, ne_eqb, lt-ltb, le-ltb, cond-true, cond-false}

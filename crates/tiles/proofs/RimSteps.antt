@@ -1,5 +1,6 @@
--- If place p is on a rim, the rim's places from p on (`rim_from`) are p, then the places from the
--- rim's next place on.
+-- A rim's places from its first place on (`rim_from`) are the whole rim. From the second row on, a
+-- row's first place follows the last place of the row before. In bounds of two or more columns, the
+-- last place of an inner row follows its first place.
 use Rattle.std.proofs.Common.{◌≡◌, ◌≢◌, ℕ, zero, suc, ◌+◌, ◌-◌, ◌<◌, ◌≤◌, Bool, true, false, List, ◌∷◌, ◌++◌, map, filter, sym, ap, subst, refl, ◌∙◌, arith}
 use Rattle.std.specs.List.{range_with_len, flat_map}
 use Rattle.std.proofs.lemmas.Bool.{cond-true, cond-false}
