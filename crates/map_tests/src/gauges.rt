@@ -169,6 +169,8 @@ fn gauges_are_refused_in_their_order(rt: HostRuntime) {
     assert!(rt; matches!(outside, Err(GaugeFault::Outside(1))));
     let empty = find_catchments(&rt, alloc, &gap, &[place(0, 0), place(1, 0)], 1, 65);
     assert!(rt; matches!(empty, Err(GaugeFault::OnNodata(0))));
+    let too_few = find_catchments(&rt, alloc, &gap, &[place(0, 1)], 1, 0);
+    assert!(rt; matches!(too_few, Err(GaugeFault::Jobs(JobFault::BadWorkers))));
     let bad = find_catchments(&rt, alloc, &gap, &[place(0, 1)], 1, 65);
     assert!(rt; matches!(bad, Err(GaugeFault::Jobs(JobFault::BadWorkers))));
     let mut many = Vec::new(alloc);
