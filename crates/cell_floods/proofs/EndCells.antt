@@ -1,6 +1,6 @@
 -- A label of a tile is an end cell if it is a sink or has a gap around it: a place off the grid or
--- without data. The tile's view shows the places of the grid at and around the label, and so any
--- gap there.
+-- without data. The tile's view shows the places of the grid at and around the label, and no place
+-- off the grid, and so tells whether there is a gap.
 use Rattle.std.proofs.Common.{◌≡◌, ℕ, zero, suc, ◌<◌, ◌≤◌, ◌+◌, ◌-◌, ◌*◌, inl, inr, true, false, ℤ, List, [], ◌∷◌, ◌++◌, length, get_or, Option, None, Some, IsNone, is_some, ◌∙◌, sym, ap, subst, refl, arith, unwrap_or}
 use Rattle.std.specs.Prelude.{Bool, IsTrue, ◌⊎◌, Contains}
 use Rattle.std.proofs.lemmas.Bool.{cases_Bool, cases_eq, cases_lt, cond-true, cond-false, and_from, lt-ltb, le-leb, false≢true}
@@ -15,7 +15,7 @@ use Rattle.tiles.specs.Cutting.{View, IsWithin, IsInBounds, bounds_of, cell_show
 use Rattle.tiles.proofs.Shown.{shown_within}
 use Rattle.cell_floods.specs.TileFlood.{AreEndHeights, IsEndHeight}
 
--- A view shows the height at each place that touches a cell of its tile.
+-- A view shows the height at each place of the grid that touches a cell of its tile.
 pub near_shown : (v : View (Option ℤ)) (p q : Place) → IsInBounds (bounds_of v.cutting v.tile) p
     → Touches p q → height_at (terrain_of v) q ≡ unwrap_or (cell_shown v q) None
 near_shown v p q inside near = elim (cases_lt q.row v.cutting.rows) [

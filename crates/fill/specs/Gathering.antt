@@ -251,14 +251,14 @@ pub record AreGathered (c : Cutting) (floods : List Flood) (out : LeftOutJoins)
       Meets (mark_among c floods) out p q j →
       IsLeftOut (mark_among c floods) out p q ⊎ Covered joins j
 
--- The joins left out over all tiles: if `spare`, joins of two end cells and bypassed joins, which
--- lower no filled height; else none.
+-- The joins left out over all tiles: if `spare`, joins of two labels that are end cells, and
+-- bypassed joins: they lower no filled height. Else none.
 abbrev pub left_out_of : Bool → List Flood → LeftOutJoins
 left_out_of spare floods =
     record { sources = if spare then ends_of floods else []; bypassed = spare }
 
--- The joins left out inside a tile: if `spare`, joins of two end cells and bypassed joins, which
--- lower no filled height; else none.
+-- The joins left out inside a tile: if `spare`, joins of two labels that are end cells, and
+-- bypassed joins: they lower no filled height. Else none.
 abbrev pub left_out_in : Bool → Flood → LeftOutJoins
 left_out_in spare f = record { sources = if spare then f.ends else []; bypassed = spare }
 

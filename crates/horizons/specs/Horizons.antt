@@ -1,6 +1,7 @@
--- A horizon has a ramp, which is a straight line over slopes, for each target of a sorted list. A
--- target in the n-th row (or column) out from the observer, j cells aside, has `line` n and the
--- slope j / n. Targets are sorted by slope. The rise of a target is its height above the eye.
+-- A horizon has a ramp, which is a straight line over slopes, for each target of a sorted list, or
+-- for the first ones. A target in the n-th row (or column) out from the observer, j cells aside,
+-- has `line` n and the slope j / n. Targets are sorted by slope. A target's rise is its height
+-- above the eye.
 -- Public.
 use Rattle.std.specs.Prelude.{◌≡◌, ℕ, ◌^◌, ◌<◌, ◌≤◌, max, nat_lt, if◌then◌else◌, Bool, false, ℤ, pos, unsigned_abs, int_lt, ◌+ℤ◌, ◌*ℤ◌, ◌≤ℤ◌, List, [], ◌∷◌, length, Option, None, Some, slice_get}
 use Rattle.std.specs.Option.{option_map_or}

@@ -33,7 +33,7 @@ pub record Runs {R W T : Type 0} (remaining : R → Option (List ℕ)) (contents
       × HasWrittenPart contents writer grown map × IsAtEnd (remaining left.device)
   -- The result is `Read` exactly if a failure of the reader was counted, and `Write` exactly if one
   -- of the writer was. With several workers a failed read is not counted if the bytes read before
-  -- it end a faulty word, or memory for their cells was refused.
+  -- it end a faulty word, or memory for the grid's cells was refused.
   pub read : (result ≡ Err Read) ↔ (reader.failures < left.failures)
   pub write : (result ≡ Err Write) ↔ (writer.failures < grown.failures)
   pub sound : OnOk result ((left.failures ≡ reader.failures) × (grown.failures ≡ writer.failures))

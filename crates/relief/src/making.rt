@@ -109,7 +109,7 @@ pub(crate) fn prepare(
     Ok((grid, tiling))
 }
 
-/// Checks the observers, and makes the requested map.
+/// Makes the requested map; of a view, checks observers, target and radius first.
 pub(crate) fn make_map<H: Threads + Wait + Sync, G: Gate + Sync>(
     rt: &H,
     alloc: Global,

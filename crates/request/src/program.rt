@@ -14,7 +14,7 @@ use clap::builder::ValueParser;
 use clap::{Arg, ArgAction, Command, value_parser};
 use std::alloc::{AllocError, Global};
 
-/// Returns an option that takes a number, which the help names `value`.
+/// Returns an option that takes a number; `value` is the number's name in the help.
 fn number_option<'a>(
     alloc: Global,
     name: &'a str,
@@ -84,7 +84,7 @@ fn radius_option<'a>(alloc: Global) -> Arg<'a>
     number_option(alloc, "radius", "N", value_parser!(u32), "8192", help)
 }
 
-/// Returns positional words, at least one, which the help names `value`.
+/// Returns positional words, at least one; `value` is a word's name in the help.
 fn required_words<'a>(alloc: Global, name: &'a str, value: &'a str, help: &'a str) -> Arg<'a>
     ensures { IsArg (words_rule name.entry.now) result }
 {

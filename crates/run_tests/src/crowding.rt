@@ -1,4 +1,4 @@
-//! At each stage of a map with as many tiles as workers, all jobs run at once.
+//! At each stage of a map with as many tiles as workers, all jobs can run at once.
 use relief::{Counted, Gate, Map, Observer, Options, Place, run_gated};
 use std::alloc::{AllocError, Global};
 use std::process::Abort;
@@ -75,7 +75,7 @@ fn level_strip(alloc: Global, tiles: u32) -> Result<Vec<u8>, Fail> {
     Ok(text)
 }
 
-/// Asserts that at each stage of the map all jobs run at once.
+/// Asserts that at each stage of the map all jobs run at once, each held until all have entered.
 /// There are as many tiles as workers.
 fn expect_crowded<R: Abort + Threads + Wait + Sync>(
     rt: &R,

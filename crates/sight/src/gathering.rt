@@ -1,7 +1,8 @@
 //! Collects the rays of a window's marked cells, line by line of a family, from line 2 on.
 //!
-//! A ray leads from the observer to a target, seen from above. A window is a tile with a mark for
-//! each cell. A family's lines are the columns, or the rows, on one side of the observer.
+//! A ray leads from the observer to a target, seen from above. A window is a part of the grid, here
+//! a tile, with a mark for each cell. A family's lines are the columns, or the rows, on one side of
+//! the observer.
 ghost use Rattle.std.specs.Prelude.{◌≡◌, ℕ, ◌+◌, ◌-◌, ◌*◌, ◌^◌, ◌<◌, ◌≤◌, length, IfOk, OnOk};
 ghost use Rattle.sight.specs.Sweep.{IsFamily, IsLine};
 ghost use Rattle.sight.specs.Hiding.{target_at, AreRays, Crosses, IsWindow};

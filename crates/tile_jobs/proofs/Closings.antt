@@ -44,8 +44,8 @@ pub mark_shows : (marked : Bool) (u : Log) → IsSeated marked u → marked ≡ 
 mark_shows true u is e = let b = is.2 in omega arith
 mark_shows false u is e = absurd (true≢false (sym e))
 
--- If the popped jobs p and then the rest of the deal d are d from index k on, they still are once
--- job j, at index t of d, is popped.
+-- Let the popped jobs p, and then the deal d from index t on, be d from index k on. Then so are p
+-- and job j, and then d from index t + 1 on, once j at index t is popped.
 pub part_more : (d p : List ℕ) (k t j : ℕ) → t ≡ k + length p → p ++ drop t d ≡ drop k d →
     j ∷ drop (suc t) d ≡ drop t d → (p ++ j ∷ []) ++ drop (suc t) d ≡ drop k d
 part_more d p k t j at e next = append_assoc p (j ∷ []) (drop (suc t) d) ∙ ap (λ l. p ++ l) next ∙ e

@@ -17,7 +17,7 @@ net_size : (c : goal.After-heights) → let b = c.bounds-bounds.result in
     length c.in_ok-net.net.cells ≡ (b.rows + 2) * (b.cols + 2)
 net_size c = rw c.bounds-bounds.ensures.value c.in_ok-net.ensures.size
 
--- Inside the border, the two lists encode the levels and the labels that the flood found.
+-- Inside the border, `heights` and `nodes` encode the levels and the labels that the flood found.
 inner : (c : goal.After-deref) → let b = c.bounds-bounds.result in
     (c.in_ok-heights.heights.items
     ≡ map height_or_lack (inner_rows c.in_ok-levels.field-0.levels b.cols b.rows))
