@@ -323,7 +323,7 @@ fn reported<R: Threads + Wait + Sync>(rt: &R, alloc: Global, words: &[&str]) -> 
     tally
 }
 
-/// A viewshed has two stages of four jobs. Jobs of the second stage have a part for each observer.
+/// This viewshed has two stages of four jobs. Those of the second have a part for each observer.
 #[test]
 fn progress_of_a_view(rt: HostRuntime) {
     for workers in ["--workers=1", "--workers=2"] {
@@ -351,7 +351,7 @@ fn progress_of_a_view(rt: HostRuntime) {
     }
 }
 
-/// A run whose map is refused calls `finish` alone. Without `--progress`, a run calls nothing.
+/// A run refused before its first stage calls `finish` alone, one without `--progress` nothing.
 #[test]
 fn progress_where_asked_for(rt: HostRuntime) {
     let alloc = rt.alloc();
