@@ -12,23 +12,24 @@ use Rattle.horizons.specs.Horizons.{value_at, is_above, IsTarget, IsSlopeUpTo, A
 use Rattle.horizons.specs.declared.target.Target.{Target}
 use Rattle.horizons.specs.declared.ramp.Ramp.{Ramp}
 
--- `lead q p c t` less `lead p q e t` is `value_at` of t by a ramp of gain q - p and `level` c - e.
+-- `lead q p c t` less `lead p q e t` is `value_at` of t by a ramp of gain q - p and
+-- intercept c - e.
 abbrev lead : ℕ → ℕ → ℕ → Target → ℕ
 lead q p c t = q * up t.offset + p * down t.offset + c * t.line
 
 abbrev gain : Ramp → Ramp → ℕ
 gain r s = up r.gain * s.lines + down s.gain * r.lines
 
-abbrev level : Ramp → Ramp → ℕ
-level r s = up r.level * s.lines + down s.level * r.lines
+abbrev intercept : Ramp → Ramp → ℕ
+intercept r s = up r.intercept * s.lines + down s.intercept * r.lines
 
 -- `over r s t` less `over s r t` is `value_at r t * s.lines` less `value_at s t * r.lines`.
 abbrev over : Ramp → Ramp → Target → ℕ
-over r s t = lead (gain r s) (gain s r) (level r s) t
+over r s t = lead (gain r s) (gain s r) (intercept r s) t
 
 value_is : (r : Ramp) (t : Target) → up (value_at r t) + (up r.gain * down t.offset
-    + down r.gain * up t.offset + down r.level * t.line) ≡ down (value_at r t)
-    + (up r.gain * up t.offset + down r.gain * down t.offset + up r.level * t.line)
+    + down r.gain * up t.offset + down r.intercept * t.line) ≡ down (value_at r t)
+    + (up r.gain * up t.offset + down r.gain * down t.offset + up r.intercept * t.line)
 value_is r t = omega (arith, ints)
 
 difference : (r s : Ramp) (t : Target) → up (value_at r t) * s.lines + down (value_at s t) * r.lines
@@ -50,7 +51,7 @@ not_if_not_over : (r s : Ramp) (t : Target) → over r s t ≤ over s r t → is
 not_if_not_over r s t h = sym (false_is_lt (value_at s t *ℤ pos r.lines)
     (value_at r t *ℤ pos s.lines) (omega (arith, ints, h, difference r s t)))
 
--- The ramp of gain q - p and `level` c - e is no higher at target t than at target u.
+-- The ramp of gain q - p and intercept c - e is no higher at target t than at target u.
 abbrev Grows : ℕ → ℕ → ℕ → ℕ → Target → Target → Type 0
 Grows p q c e t u =
     lead q p c t * u.line + lead p q e u * t.line ≤ lead q p c u * t.line + lead p q e t * u.line
@@ -117,10 +118,11 @@ holds_between p q c e t u v some more low high first last =
 above_between : (r s : Ramp) (t u v : Target) (b : Bool) → IsTarget t → IsTarget u → IsTarget v →
     IsSlopeUpTo t u → IsSlopeUpTo u v → is_above r s t ≡ b → is_above r s v ≡ b → is_above r s u ≡ b
 above_between r s t u v true is_t is_u is_v low high first last =
-    above_if_over r s u (leads_between (gain s r) (gain r s) (level r s)
-    (level s r) t u v is_u.line.0 low high (over_if_above r s t first) (over_if_above r s v last))
+    above_if_over r s u (leads_between (gain s r) (gain r s) (intercept r s)
+    (intercept s r) t u v is_u.line.0 low high
+    (over_if_above r s t first) (over_if_above r s v last))
 above_between r s t u v false is_t is_u is_v low high first last =
-    not_if_not_over r s u (holds_between (gain r s) (gain s r) (level s r) (level r s) t u v
+    not_if_not_over r s u (holds_between (gain r s) (gain s r) (intercept s r) (intercept r s) t u v
     is_t.line.0 is_v.line.0 low high (not_over_if_not r s t first) (not_over_if_not r s v last))
 
 -- Slopes do not fall along sorted targets.

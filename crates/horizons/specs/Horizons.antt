@@ -27,7 +27,7 @@ pub record AreTargets (targets : List Target) : Type 0 where
 
 -- The ramp's value at a target's slope, times the target's `line` and the ramp's `lines`.
 abbrev pub value_at : Ramp → Target → ℤ
-value_at r t = (r.gain *ℤ t.offset) +ℤ (r.level *ℤ pos t.line)
+value_at r t = (r.gain *ℤ t.offset) +ℤ (r.intercept *ℤ pos t.line)
 
 -- A ramp hides a target of this rise: its value at the target's slope is above `rise / line`.
 abbrev pub ramp_hides : Ramp → Target → ℤ → Bool
@@ -48,9 +48,9 @@ ramp_at [] i = None
 ramp_at (p ∷ ps) i = if nat_lt i p.end then Some p.ramp else ramp_at ps i
 
 -- How many targets the pieces cover: the greatest `end` of a piece, 0 without pieces.
-unfoldable pub extent : List Piece → ℕ
-extent [] = 0
-extent (p ∷ ps) = max p.end (extent ps)
+unfoldable pub target_count : List Piece → ℕ
+target_count [] = 0
+target_count (p ∷ ps) = max p.end (target_count ps)
 
 -- A horizon hides the target of this index and rise.
 abbrev pub hides : List Piece → ℕ → Target → ℤ → Bool
@@ -58,16 +58,16 @@ hides ps i t rise = option_map_or (λ r. ramp_hides r t rise) (ramp_at ps i) fal
 
 -- The horizon covers all targets, with a ramp within the bounds of `IsRampAt` at each.
 pub record IsOver (targets : List Target) (ps : List Piece) : Type 0 where
-  pub whole : extent ps ≡ length targets
+  pub whole : target_count ps ≡ length targets
   pub each : (i : ℕ) (t : Target) (r : Ramp) → slice_get targets i ≡ Some t →
       ramp_at ps i ≡ Some r → IsRampAt r t
 
--- The horizon was extended up to `end` by this ramp, unless its extent was at least `end`. The
--- ramps of targets that it reached before are the same.
+-- The horizon was extended up to `end` by this ramp, unless it covered `end` targets. The ramps of
+-- targets that it reached before are the same.
 pub record IsPushed (old : List Piece) (end : ℕ) (ramp : Ramp) (new : List Piece) : Type 0 where
-  pub reach : extent new ≡ max (extent old) end
-  pub kept : (i : ℕ) → i < extent old → ramp_at new i ≡ ramp_at old i
-  pub added : (i : ℕ) → extent old ≤ i → i < end → ramp_at new i ≡ Some ramp
+  pub reach : target_count new ≡ max (target_count old) end
+  pub kept : (i : ℕ) → i < target_count old → ramp_at new i ≡ ramp_at old i
+  pub added : (i : ℕ) → target_count old ≤ i → i < end → ramp_at new i ≡ Some ramp
 
 -- No piece before piece k has an `end` above `index`, a target's index.
 abbrev pub AreUpTo : List Piece → ℕ → ℕ → Type 0

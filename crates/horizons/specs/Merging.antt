@@ -1,8 +1,8 @@
--- A horizon extended by the greater of two ramps at each target from its extent up to an `end`. A
+-- A horizon extended by the greater of two ramps at each target that it gains, up to an `end`. A
 -- ramp is a straight line over targets' slopes: cells aside per row or column outward.
 -- Public.
 use Rattle.std.specs.Prelude.{◌≡◌, ℕ, ◌<◌, ◌≤◌, Bool, if◌then◌else◌, List, Some, slice_get}
-use Rattle.horizons.specs.Horizons.{is_above, ramp_at, extent, IsRampAt}
+use Rattle.horizons.specs.Horizons.{is_above, ramp_at, target_count, IsRampAt}
 use Rattle.horizons.specs.declared.target.Target.{Target}
 use Rattle.horizons.specs.declared.ramp.Ramp.{Ramp}
 use Rattle.horizons.specs.declared.horizon.Piece.{Piece}
@@ -22,11 +22,10 @@ IsAboveOn targets r s b from end = (i : ℕ) (t : Target) → from ≤ i → i <
 abbrev pub greater_at : Ramp → Ramp → Target → Ramp
 greater_at r s t = if is_above r s t then r else s
 
--- The horizon was extended up to `end`, by the greater of two ramps at each target from its old
--- extent on.
+-- The horizon was extended up to `end`, by the greater of two ramps at each target that it gained.
 pub record IsGreaterPushed (targets : List Target) (r s : Ramp) (old : List Piece) (end : ℕ)
     (new : List Piece) : Type 0 where
-  pub reach : extent new ≡ end
-  pub kept : (i : ℕ) → i < extent old → ramp_at new i ≡ ramp_at old i
-  pub added : (i : ℕ) (t : Target) → extent old ≤ i → i < end → slice_get targets i ≡ Some t →
+  pub reach : target_count new ≡ end
+  pub kept : (i : ℕ) → i < target_count old → ramp_at new i ≡ ramp_at old i
+  pub added : (i : ℕ) (t : Target) → target_count old ≤ i → i < end → slice_get targets i ≡ Some t →
       ramp_at new i ≡ Some (greater_at r s t)

@@ -5,7 +5,7 @@
 ghost use Rattle.std.specs.Prelude.{◌≡◌, ℕ, ◌+◌, ◌<◌, ◌≤◌, List, [], length, Some, OnOk, OnErr, slice_get};
 ghost use Rattle.horizons.specs.declared.horizon.Piece.{Piece};
 ghost use Rattle.horizons.specs.declared.ramp.Ramp.{Ramp};
-ghost use Rattle.horizons.specs.Horizons.{IsTarget, IsRampAt, IsPushed, IsUpTo, AreUpTo, ramp_at, extent, hides};
+ghost use Rattle.horizons.specs.Horizons.{IsTarget, IsRampAt, IsPushed, IsUpTo, AreUpTo, ramp_at, target_count, hides};
 
 use crate::ramp::{Ramp, Value};
 use crate::target::Target;
@@ -20,7 +20,7 @@ pub struct Piece {
     pub ramp: Ramp,
 }
 
-/// A ramp for each target of index below the extent, in pieces of one ramp each.
+/// A ramp for each target of index below the target count, in pieces of one ramp each.
 #[derive(Drop)]
 pub struct Horizon {
     pieces: Vec<Piece>,
@@ -30,13 +30,13 @@ pub struct Horizon {
 impl Model for Horizon {
     ghost use Rattle.std.specs.Prelude.{◌≡◌, List};
     ghost use Rattle.horizons.specs.declared.horizon.Piece.{Piece};
-    ghost use Rattle.horizons.specs.Horizons.{extent};
+    ghost use Rattle.horizons.specs.Horizons.{target_count};
 
     ghost Value = { List Piece };
 
     ghost view = { λ h. h.pieces.items };
 
-    ghost invariant = { λ h. h.end ≡ extent h.pieces.items };
+    ghost invariant = { λ h. h.end ≡ target_count h.pieces.items };
 }
 
 /// The index of the piece at which the next lookup in a horizon begins.
@@ -50,7 +50,7 @@ pub struct Cursor {
 /// Pushes a piece, or extends the last piece if that has an equal ramp.
 #[inline(always)]
 fn push_or_extend(pieces: &mut Vec<Piece>, piece: Piece) -> Result<(), AllocError>
-    requires { extent pieces.old.items < piece.end }
+    requires { target_count pieces.old.items < piece.end }
     ensures pushed { OnOk result (IsPushed pieces.old.items piece.end piece.ramp pieces.new.items) }
     ensures kept { OnErr result (pieces.new.items ≡ pieces.old.items) }
 {
@@ -67,7 +67,7 @@ fn push_or_extend(pieces: &mut Vec<Piece>, piece: Piece) -> Result<(), AllocErro
 /// The search begins at piece `first`; no piece before that may have such an `end`.
 #[inline(always)]
 fn first_above(pieces: &[Piece], first: usize, index: usize) -> usize
-    requires index { index < extent pieces.now }
+    requires index { index < target_count pieces.now }
     requires before { AreUpTo pieces.now first index }
     ensures before { AreUpTo pieces.now result index }
     ensures inside { result < length pieces.now }
@@ -110,13 +110,13 @@ impl Horizon {
 
     /// The number of targets that the horizon covers.
     #[inline(always)]
-    pub fn extent(&self) -> usize
-        ensures { result ≡ extent self.now }
+    pub fn target_count(&self) -> usize
+        ensures { result ≡ target_count self.now }
     {
         self.end
     }
 
-    /// Extends the horizon by a ramp up to `end`, unless its extent is at least `end`.
+    /// Extends the horizon by a ramp up to `end`, unless it covers `end` targets.
     ///
     /// # Errors
     ///
@@ -138,10 +138,10 @@ impl Horizon {
     /// and the horizon must not have been cleared.
     #[inline(always)]
     pub fn piece(&self, cursor: &mut Cursor, index: usize) -> Piece
-        requires index { index < extent self.now }
+        requires index { index < target_count self.now }
         requires cursor { IsUpTo self.now cursor.old index }
         ensures cursor { IsUpTo self.now cursor.new index }
-        ensures range { (index < result.end) × (result.end ≤ extent self.now) }
+        ensures range { (index < result.end) × (result.end ≤ target_count self.now) }
         ensures ramp { (i : ℕ) → index ≤ i → i < result.end →
             ramp_at self.now i ≡ Some result.ramp }
     {
@@ -155,7 +155,7 @@ impl Horizon {
     /// and the horizon must not have been cleared.
     #[inline(always)]
     pub fn hides(&self, cursor: &mut Cursor, index: usize, target: Target, rise: Value) -> bool
-        requires index { index < extent self.now }
+        requires index { index < target_count self.now }
         requires cursor { IsUpTo self.now cursor.old index }
         requires target { IsTarget target }
         requires at { (r : Ramp) → ramp_at self.now index ≡ Some r → IsRampAt r target }

@@ -6,7 +6,7 @@
 ghost use Rattle.std.specs.Prelude.{◌≡◌, ◌+◌, ◌<◌, ◌≤◌, not, Bool, false, length, Some, OnOk, slice_get};
 ghost use Rattle.std.specs.Bool.{OnTrue};
 ghost use Rattle.horizons.specs.declared.target.Target.{Target};
-ghost use Rattle.horizons.specs.Horizons.{AreTargets, is_above, extent};
+ghost use Rattle.horizons.specs.Horizons.{AreTargets, is_above, target_count};
 ghost use Rattle.horizons.specs.Merging.{IsRampOn, IsAboveOn, IsGreaterPushed};
 
 use crate::horizon::Horizon;
@@ -87,7 +87,7 @@ fn first_change(
 /// # Examples
 ///
 /// ```ignore
-/// // `raised` gets the greater of `ground` and `before` at each target from its extent up to `end`
+/// // `raised` gets the greater of `ground` and `before` at each target that it gains, up to `end`
 /// push_greater(targets, ground, before, end, &mut raised)?;
 /// ```
 #[inline(always)]
@@ -99,12 +99,12 @@ pub fn push_greater(
     into: &mut Horizon,
 ) -> Result<(), AllocError>
     requires targets { AreTargets targets.now }
-    requires range { (extent into.old < end) × (end ≤ length targets.now) }
-    requires one { IsRampOn targets.now one (extent into.old) end }
-    requires other { IsRampOn targets.now other (extent into.old) end }
+    requires range { (target_count into.old < end) × (end ≤ length targets.now) }
+    requires one { IsRampOn targets.now one (target_count into.old) end }
+    requires other { IsRampOn targets.now other (target_count into.old) end }
     ensures { OnOk result (IsGreaterPushed targets.now one other into.old end into.new) }
 {
-    let from = into.extent();
+    let from = into.target_count();
     let first = is_above_at(targets, one, other, from);
     let first_change = first_change(targets, one, other, first, from, end);
     if first {

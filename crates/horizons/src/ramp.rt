@@ -5,19 +5,19 @@ ghost use Rattle.horizons.specs.Horizons.{IsTarget, IsRampAt, value_at, ramp_hid
 
 use crate::target::Target;
 
-/// The integer type of rises, and of a ramp's `gain`, `level` and values.
+/// The integer type of rises, and of a ramp's `gain`, `intercept` and values.
 pub type Value = i64;
 
 /// The integer type of products with a [`Value`].
 type Product = i128;
 
-/// A straight line over the slope `s`: `(gain * s + level) / lines`.
+/// A straight line over the slope `s`: `(gain * s + intercept) / lines`.
 /// The slope is a target's direction seen from above: cells aside per row or column outward. The
 /// value is the ground's rise above the eye, in units per row or column outward.
 #[derive(Clone, Copy, PartialEq)]
 pub struct Ramp {
     pub gain: Value,
-    pub level: Value,
+    pub intercept: Value,
     pub lines: u32,
 }
 
@@ -31,7 +31,7 @@ impl Ramp {
     {
         Ramp {
             gain: 0,
-            level: -(1 << 51),
+            intercept: -(1 << 51),
             lines: 1,
         }
     }
@@ -44,7 +44,7 @@ impl Ramp {
         ensures { result ≡ value_at self target }
     {
         let gained = Product::from(self.gain) * Product::from(target.offset);
-        let based = Product::from(self.level) * Product::from(target.line);
+        let based = Product::from(self.intercept) * Product::from(target.line);
         (gained + based) as Value
     }
 

@@ -9,7 +9,7 @@ use Rattle.std.proofs.lemmas.Nat.{mul-le}
 use Rattle.horizons.specs.declared.target.Target.{Target}
 use Rattle.horizons.specs.declared.ramp.Ramp.{Ramp}
 use Rattle.horizons.specs.declared.horizon.Piece.{Piece}
-use Rattle.horizons.specs.Horizons.{AreTargets, IsTarget, IsSlopeUpTo, IsPushed, IsOver, IsRampAt, extent, ramp_at, ramp_hides}
+use Rattle.horizons.specs.Horizons.{AreTargets, IsTarget, IsSlopeUpTo, IsPushed, IsOver, IsRampAt, target_count, ramp_at, ramp_hides}
 use Rattle.horizons.specs.Merging.{IsGreaterPushed, greater_at}
 use Rattle.horizons.proofs.Hiding.{greater_hides, greater_is_ramp, either_hides}
 use Rattle.horizons.proofs.Straight.{slope_up}
@@ -61,16 +61,17 @@ passes_before k offset last t up passes = record {
 }
 
 pub none_raised : (cells : List (Option ℤ)) (f : Family) (targets : List Target) (k : ℕ)
-    (highest h : List Piece) → h ≡ [] → (extent h ≡ 0) × RaisesBelow cells f targets k highest 0 h
-unfolding extent
+    (highest h : List Piece) → h ≡ [] →
+    (target_count h ≡ 0) × RaisesBelow cells f targets k highest 0 h
+unfolding target_count
 none_raised cells f targets k highest h e = (rw e refl, λ i t below at. absurd (omega arith))
 
 pub more_raised : (cells : List (Option ℤ)) (f : Family) (targets : List Target) (k from end : ℕ)
-    (highest : List Piece) (ramp : Ramp) (old new : List Piece) → extent old ≡ from → from < end →
-    IsPushed old end ramp new
+    (highest : List Piece) (ramp : Ramp) (old new : List Piece) → target_count old ≡ from →
+    from < end → IsPushed old end ramp new
     → RaisesBelow cells f targets k highest from old → ((i : ℕ) (t : Target) → from ≤ i → i < end →
     slice_get targets i ≡ Some t → Raises cells f k highest i t ramp)
-    → (extent new ≡ end) × RaisesBelow cells f targets k highest end new
+    → (target_count new ≡ end) × RaisesBelow cells f targets k highest end new
 more_raised cells f targets k from end highest ramp old new reach more pushed raised here = (
   omega (arith, pushed.reach),
   λ i t below at. elim (cases_lt i from) [
@@ -104,13 +105,13 @@ raised_to cells f k i highest ground ramp t is is_ramp shows = record {
 }
 
 pub greater_raised : (cells : List (Option ℤ)) (f : Family) (targets : List Target) (k from end : ℕ)
-    (highest : List Piece) (ground ramp : Ramp) (old new : List Piece) → extent old ≡ from →
+    (highest : List Piece) (ground ramp : Ramp) (old new : List Piece) → target_count old ≡ from →
     from < end
     → IsOver targets highest → ((i : ℕ) → from ≤ i → i < end → ramp_at highest i ≡ Some ramp) →
     IsGreaterPushed targets ground ramp old end new
     → RaisesBelow cells f targets k highest from old → ((i : ℕ) (t : Target) → from ≤ i → i < end →
     slice_get targets i ≡ Some t → Shows cells f k t ground)
-    → (extent new ≡ end) × RaisesBelow cells f targets k highest end new
+    → (target_count new ≡ end) × RaisesBelow cells f targets k highest end new
 greater_raised cells f targets k from end highest ground ramp old new reach more over is pushed
     raised shows = (
       pushed.reach,
@@ -199,7 +200,7 @@ pub low_raised : (cells : List (Option ℤ)) (f : Family) (targets : List Target
     (highest : List Piece) (ramp : Ramp) (old new : List Piece) → old ≡ [] → IsFamily f →
     AreTargets targets → IsPushed old end ramp new
     → AreBefore targets k (pos f.side.first -ℤ pos f.side.at) end → ((t : Target) → IsTarget t →
-    IsRampAt ramp t) → (extent new ≡ end) × RaisesBelow cells f targets k highest end new
+    IsRampAt ramp t) → (target_count new ≡ end) × RaisesBelow cells f targets k highest end new
 low_raised cells f targets k end highest ramp old new e is are pushed before at =
     let none = none_raised cells f targets k highest old e in (
       omega (arith, pushed.reach, none.0),
@@ -219,10 +220,10 @@ low_raised cells f targets k end highest ramp old new e is are pushed before at 
 pub high_raised : (cells : List (Option ℤ)) (f : Family) (targets : List Target) (k from end : ℕ)
     (highest : List Piece) (offset : ℤ) (u : Target) (ramp : Ramp) (old new : List Piece) → 0 < k →
     IsFamily f → AreTargets targets → slice_get targets from ≡ Some u
-    → Passes k offset u → (pos f.side.cells -ℤ pos f.side.at) ≤ℤ offset → extent old ≡ from →
+    → Passes k offset u → (pos f.side.cells -ℤ pos f.side.at) ≤ℤ offset → target_count old ≡ from →
     from < end → ((t : Target) → IsTarget t → IsRampAt ramp t)
     → RaisesBelow cells f targets k highest from old → IsPushed old end ramp new →
-    (extent new ≡ end) × RaisesBelow cells f targets k highest end new
+    (target_count new ≡ end) × RaisesBelow cells f targets k highest end new
 high_raised cells f targets k from end highest offset u ramp old new some is are at_u passes past
     reach more at raised pushed =
     more_raised cells f targets k from end highest ramp old new reach more pushed raised

@@ -8,7 +8,7 @@ use Rattle.std.proofs.lemmas.Option.{same_Some, slice_get_within}
 use Rattle.horizons.specs.declared.target.Target.{Target}
 use Rattle.horizons.specs.declared.ramp.Ramp.{Ramp}
 use Rattle.horizons.specs.declared.horizon.Piece.{Piece}
-use Rattle.horizons.specs.Horizons.{IsTarget, AreTargets, IsPushed, IsOver, IsRampAt, extent, ramp_at, ramp_hides}
+use Rattle.horizons.specs.Horizons.{IsTarget, AreTargets, IsPushed, IsOver, IsRampAt, target_count, ramp_at, ramp_hides}
 use Rattle.sight.specs.Sweep.{RaisesBelow, HidesBefore, line_blocks, is_blocked_before}
 use Rattle.sight.specs.declared.family.Family.{Family}
 
@@ -31,7 +31,7 @@ any_next p a (suc n) =
     ∙ ap (λ i. (p a || list_any p (range_with_len (a + 1) n)) || p i) same)
 
 is_over : (cells : List (Option ℤ)) (f : Family)
-    (targets : List Target) (k : ℕ) (old new : List Piece) → extent new ≡ length targets →
+    (targets : List Target) (k : ℕ) (old new : List Piece) → target_count new ≡ length targets →
     RaisesBelow cells f targets k old (length targets) new → IsOver targets new
 is_over cells f targets k old new whole raises = record {
   whole = whole;
@@ -43,7 +43,7 @@ is_over cells f targets k old new whole raises = record {
 
 pub hides_next : (cells : List (Option ℤ)) (f : Family) (targets : List Target) (k : ℕ)
     (old new : List Piece) → 0 < k → HidesBefore cells f targets k old
-    → extent new ≡ length targets → RaisesBelow cells f targets k old (length targets) new →
+    → target_count new ≡ length targets → RaisesBelow cells f targets k old (length targets) new →
     HidesBefore cells f targets (k + 1) new
 hides_next cells f targets k old new some before whole raises = record {
   over = is_over cells f targets k old new whole raises;
@@ -66,7 +66,7 @@ pub none_hides : (targets : List Target) (ramp : Ramp) (h : List Piece) → AreT
     → ((t : Target) (rise : ℤ) → IsTarget t → unsigned_abs rise ≤ 2 ^ 51 →
     ramp_hides ramp t rise ≡ false) → ((t : Target) → IsTarget t → IsRampAt ramp t)
     → (cells : List (Option ℤ)) (f : Family) → HidesBefore cells f targets 1 h
-unfolding extent
+unfolding target_count
 none_hides targets ramp h are pushed below is cells f =
     let at : (i : ℕ) (t : Target) → slice_get targets i ≡ Some t → ramp_at h i ≡ Some ramp =
     λ i t at. pushed.added i (omega arith) (slice_get_within targets i t at) in

@@ -90,11 +90,11 @@ pub record IsAtCell (f : Family) (y : ℕ) (t : Target) : Type 0 where
 abbrev pub ramp_of : Family → ℕ → ℤ → ℤ → ℤ → Ramp
 ramp_of f k offset near far =
     let step = far -ℤ near in
-    record { gain = step *ℤ pos k; level = (near -ℤ f.eye) -ℤ (step *ℤ offset); lines = k }
+    record { gain = step *ℤ pos k; intercept = (near -ℤ f.eye) -ℤ (step *ℤ offset); lines = k }
 
 -- The ramp of ground of one height along line k.
 abbrev pub level_ramp : Family → ℕ → ℤ → Ramp
-level_ramp f k height = record { gain = pos 0; level = height -ℤ f.eye; lines = k }
+level_ramp f k height = record { gain = pos 0; intercept = height -ℤ f.eye; lines = k }
 
 -- The rise of a target above the eye is within its limit.
 abbrev pub IsRise : ℤ → Type 0

@@ -89,7 +89,7 @@ pub(crate) fn passed_ramp() -> Ramp
 {
     Ramp {
         gain: 0,
-        level: 1 << 51,
+        intercept: 1 << 51,
         lines: 1,
     }
 }
@@ -141,7 +141,7 @@ impl Family {
         let step = far - near;
         Ramp {
             gain: step * line as i64,
-            level: near - self.eye - step * offset as i64,
+            intercept: near - self.eye - step * offset as i64,
             lines: line,
         }
     }
@@ -175,7 +175,7 @@ impl Family {
     {
         Ramp {
             gain: 0,
-            level: height - self.eye,
+            intercept: height - self.eye,
             lines: line,
         }
     }

@@ -5,7 +5,7 @@
 ghost use Rattle.std.specs.Prelude.{◌≡◌, ℕ, ◌+◌, ◌^◌, ◌<◌, ◌≤◌, IsTrue, true, ◌↔◌, pos, ◌-ℤ◌, ◌≤ℤ◌, length, Some, OnOk, slice_get, unsigned_abs};
 ghost use Rattle.std.specs.Bool.{OnTrue};
 ghost use Rattle.horizons.specs.declared.target.Target.{Target};
-ghost use Rattle.horizons.specs.Horizons.{IsTarget, AreTargets, IsOver, extent, ramp_at};
+ghost use Rattle.horizons.specs.Horizons.{IsTarget, AreTargets, IsOver, target_count, ramp_at};
 ghost use Rattle.horizons.specs.Merging.{IsRampOn};
 ghost use Rattle.sightlines.specs.Walk.{AreHeights};
 ghost use Rattle.sight.specs.Sweep.{IsBefore, AreBefore, IsFamily, IsLine, Passes, PassesAmong, IsHiddenOn, RaisesBelow};
@@ -172,15 +172,15 @@ fn raise_piece(
     requires line { IsLine family line }
     requires targets { AreTargets targets.now }
     requires highest { IsOver targets.now highest.now }
-    requires range { (extent raised.old < piece.end) × (piece.end ≤ length targets.now) }
-    requires piece { (i : ℕ) → extent raised.old ≤ i → i < piece.end →
+    requires range { (target_count raised.old < piece.end) × (piece.end ≤ length targets.now) }
+    requires piece { (i : ℕ) → target_count raised.old ≤ i → i < piece.end →
         ramp_at highest.now i ≡ Some piece.ramp }
-    requires before { RaisesBelow cells.now family targets.now line highest.now (extent raised.old)
-        raised.old }
-    ensures { OnOk result ((extent raised.new ≡ piece.end)
+    requires before { RaisesBelow cells.now family targets.now line highest.now
+        (target_count raised.old) raised.old }
+    ensures { OnOk result ((target_count raised.new ≡ piece.end)
         × RaisesBelow cells.now family targets.now line highest.now piece.end raised.new) }
 {
-    let mut from = raised.extent();
+    let mut from = raised.target_count();
     while from < piece.end {
         let span = family.span(cells, line, targets[from]);
         // rays from this slope on cross past the side, so the sweep has passed their targets
@@ -208,7 +208,7 @@ pub(crate) fn raise(
     requires line { IsLine family line }
     requires targets { AreTargets targets.now }
     requires highest { IsOver targets.now highest.now }
-    ensures { OnOk result ((extent raised.new ≡ length targets.now)
+    ensures { OnOk result ((target_count raised.new ≡ length targets.now)
         × RaisesBelow cells.now family targets.now line highest.now (length targets.now)
         raised.new) }
 {

@@ -2,7 +2,7 @@
 ghost use Rattle.std.specs.Prelude.{◌≡◌, ◌<◌, ◌≤◌, ℤ, List, Option, Some, IfOk, OnOk};
 ghost use Rattle.horizons.specs.declared.horizon.Piece.{Piece};
 ghost use Rattle.horizons.specs.declared.ramp.Ramp.{Ramp};
-ghost use Rattle.horizons.specs.Horizons.{AreTargets, IsTarget, IsRampAt, IsUpTo, extent, hides, ramp_at};
+ghost use Rattle.horizons.specs.Horizons.{AreTargets, IsTarget, IsRampAt, IsUpTo, target_count, hides, ramp_at};
 ghost use Rattle.sightlines.specs.Walk.{AreHeights};
 ghost use Rattle.sight.specs.Sweep.{IsFamily, IsLine};
 ghost use Rattle.sight.specs.Looking.{LooksFrom};
@@ -79,7 +79,7 @@ impl SweepLookup {
     /// `target` is on that line or beyond, has rank `rank` by slope, and is `rise` above the eye.
     #[inline(always)]
     pub(crate) fn hides(&mut self, rank: usize, target: Target, rise: i64) -> bool
-        requires rank { rank < extent self.old.sweep.highest }
+        requires rank { rank < target_count self.old.sweep.highest }
         requires cursor { IsUpTo self.old.sweep.highest self.old.cursor self.old.last }
         requires target { IsTarget target }
         requires at { (r : Ramp) → ramp_at self.old.sweep.highest rank ≡ Some r →

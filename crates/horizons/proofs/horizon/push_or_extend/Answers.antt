@@ -1,7 +1,7 @@
 use Rattle.std.proofs.Common.{arith, rules, ◌≡◌, ◌-◌, Some, length, refl}
 use Rattle.std.specs.Prelude.{slice_get}
 use Rattle.std.proofs.lemmas.Option.{slice_get_read}
-use Rattle.horizons.proofs.Pieces.{pushed, lengthened, within_extent}
+use Rattle.horizons.proofs.Pieces.{pushed, lengthened, within_count}
 use Rattle.horizons.proofs.horizon.push_or_extend.Goals as goal
 
 pub returns-then-eq-clause-pushed : goal.returns-then-eq-clause-pushed
@@ -12,7 +12,7 @@ returns-then-eq-clause-pushed c =
     (length pieces) last c.index.result.now refl (omega arith) c.index.ensures in
     let same : c.index.result.now.ramp ≡ c.args.piece.ramp = search rules in
     lengthened pieces last c.args.piece c.index.result.now (omega arith) at
-    (omega (arith, within_extent pieces last c.index.result.now at)) same
+    (omega (arith, within_count pieces last c.index.result.now at)) same
 
 pub returns-clause-pushed : goal.returns-clause-pushed
 returns-clause-pushed c =

@@ -13,7 +13,7 @@ loop-from-init c =
     c.count_before_side-from.ensures.before c.passed_ramp.ensures in
     record {
       within = c.count_before_side-from.ensures.range;
-      extent = raised.0;
+      target_count = raised.0;
       cursor = c.start-cursor.ensures c.args.highest.now c.count_before_side-from.result;
       raises = raised.1;
     }
@@ -26,14 +26,14 @@ loop-from-preserved-in_ok-push-2 c =
     let hidden = OnTrue_at c.if-is_ground_below_piece.true c.is_ground_below_piece.ensures in
     let raised = more_raised c.args.cells.now c.args.family c.args.targets.now c.args.line
     l.from piece.end highest piece.ramp l.raised c.push-then-is_ground_below_piece.new.self
-    l.invariant.extent
+    l.invariant.target_count
     c.piece-piece.ensures.range.0 c.in_ok-push-2.ensures l.invariant.raises
     (λ i t low high at. hidden_raised c.args.cells.now c.args.family
     c.args.targets.now c.args.line i l.from piece.end highest piece.ramp t c.requires.highest
     (c.piece-piece.ensures.ramp i low high) hidden low high at) in
     record {
       within = omega (arith, c.piece-piece.ensures.range, c.requires.highest.whole);
-      extent = raised.0;
+      target_count = raised.0;
       cursor =
           later highest c.piece-piece.new.cursor.piece l.from piece.end c.piece-piece.ensures.cursor
           (omega (arith, c.piece-piece.ensures.range));

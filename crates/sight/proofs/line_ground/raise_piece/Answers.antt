@@ -32,7 +32,7 @@ returns-then-span-end_offset c =
     (high_raised c.args.cells.now f targets c.args.line from c.args.piece.end c.args.highest.now
     span.offset u c.passed_ramp.result c.loop-from.raised c.push.new.self c.requires.line.0
     c.requires.family c.requires.targets at_u c.span-span.ensures.passes past
-    c.loop-from.invariant.extent c.loop-from-test.true c.passed_ramp.ensures
+    c.loop-from.invariant.target_count c.loop-from-test.true c.passed_ramp.ensures
     c.loop-from.invariant.raises)
     c.push.ensures
 
@@ -51,13 +51,14 @@ push_greater-requires-clause-one c i t low high at =
     shown_over c.args.cells.now c.args.family c.args.targets.now c.args.line c.loop-from.from
     c.end_of-end.result c.span-span.result _ c.requires.targets at_u c.span-span.ensures.shows
     (λ i t low high. c.end_of-end.ensures.over i _ t low high at_u)
-    i t (omega (arith, c.loop-from.invariant.extent)) high at in
+    i t (omega (arith, c.loop-from.invariant.target_count)) high at in
     shows.at
 
 pub push_greater-requires-clause-other : goal.push_greater-requires-clause-other
 push_greater-requires-clause-other c i t low high at =
     c.requires.highest.each i t c.args.piece.ramp at
-    (c.requires.piece i (omega (arith, c.loop-from.invariant.within, c.loop-from.invariant.extent))
+    (c.requires.piece i
+    (omega (arith, c.loop-from.invariant.within, c.loop-from.invariant.target_count))
     (omega (arith, c.end_of-end.ensures.range)))
 
 pub loop-from-preserved : goal.loop-from-preserved
@@ -71,11 +72,11 @@ loop-from-preserved c =
     (λ i t low high. c.end_of-end.ensures.over i _ t low high at_u) in
     let raised = greater_raised c.args.cells.now c.args.family c.args.targets.now c.args.line
     l.from c.end_of-end.result c.args.highest.now c.span-span.result.ramp c.args.piece.ramp l.raised
-    c.push_greater.new.into l.invariant.extent range.0
+    c.push_greater.new.into l.invariant.target_count range.0
     c.requires.highest (λ i low high. c.requires.piece i (omega (arith, l.invariant.within))
     (omega (arith, range))) c.in_ok-push_greater.ensures l.invariant.raises shows in
     record {
       within = (omega (arith, l.invariant.within, range), range.1);
-      extent = raised.0;
+      target_count = raised.0;
       raises = raised.1;
     }

@@ -2,7 +2,7 @@ use Rattle.std.proofs.Common.{◌≡◌, ◌<◌, Some, length, refl}
 use Rattle.std.specs.Prelude.{slice_get}
 use Rattle.std.proofs.lemmas.Option.{slice_get_read}
 use Rattle.horizons.specs.Horizons.{AreUpTo}
-use Rattle.horizons.proofs.Pieces.{ramp_of_piece, within_extent, later}
+use Rattle.horizons.proofs.Pieces.{ramp_of_piece, within_count, later}
 use Rattle.horizons.proofs.horizon.Horizon.piece.Goals as goal
 
 found : (c : goal.After-result-1) →
@@ -19,7 +19,7 @@ returns-clause-range c =
     rw c.deref.ensures.value at (c.first_above-cursor.ensures.above c.index.result.now) in
     rw (← c.self.view_is) (
       above (found c),
-      within_extent c.self.inside.pieces.items c.first_above-cursor.result c.index.result.now
+      within_count c.self.inside.pieces.items c.first_above-cursor.result c.index.result.now
           (found c),
     )
 

@@ -8,12 +8,13 @@ use Rattle.horizons.proofs.Sizes.{back, back_short, back_long, long_product, pro
 use Rattle.horizons.proofs.ramp.Ramp.value_at.Goals as goal
 
 -- The sum that the code computes in 128 bits is `value_at` of the target.
-value_is : (r : Ramp) (t : Target) → FitsSigned w64 r.gain → FitsSigned w64 r.level → IsTarget t →
+value_is : (r : Ramp) (t : Target) → FitsSigned w64 r.gain → FitsSigned w64 r.intercept →
+    IsTarget t →
     to_z w128 (of_z w128 (long_product r.gain (to_z w32 (of_z w32 t.offset))))
-    +ℤ to_z w128 (of_z w128 (long_product r.level (pos t.line))) ≡ value_at r t
-value_is r t gain level is_t =
+    +ℤ to_z w128 (of_z w128 (long_product r.intercept (pos t.line))) ≡ value_at r t
+value_is r t gain intercept is_t =
     let short = back_short t.offset (omega (arith, is_t.offset)) in
-    let line = product_is r.level (pos t.line) level (omega (arith, is_t.line)) in
+    let line = product_is r.intercept (pos t.line) intercept (omega (arith, is_t.line)) in
     rw (short, (product_is r.gain t.offset gain is_t.offset).1, line.1) refl
 
 pub overflow_add-result : goal.overflow_add-result

@@ -28,17 +28,18 @@ returns-clause-inside c =
     omega (arith, ints, cell.1, cell.2, c.requires.family))
 
 ramp_is : (a b c d : ℤ) (m n : ℕ) → a ≡ b → c ≡ d → m ≡ n → (let r : Ramp =
-    record { gain = a; level = c; lines = m } in r) ≡ record { gain = b; level = d; lines = n }
+    record { gain = a; intercept = c; lines = m } in r)
+    ≡ record { gain = b; intercept = d; lines = n }
 ramp_is a b c d m n p q r = rw (p, q, r) refl
 
 same_ramp : (r s : Ramp) →
-    (int_eq r.gain s.gain && (int_eq r.level s.level && eqb r.lines s.lines)) ≡ true → r ≡ s
+    (int_eq r.gain s.gain && (int_eq r.intercept s.intercept && eqb r.lines s.lines)) ≡ true → r ≡ s
 same_ramp r s e =
     let first =
-    and_parts (int_eq r.gain s.gain) (int_eq r.level s.level && eqb r.lines s.lines) e in
-    let rest = and_parts (int_eq r.level s.level) (eqb r.lines s.lines) first.1 in
-    ramp_is r.gain s.gain r.level s.level r.lines s.lines (int_same r.gain s.gain first.0)
-    (int_same r.level s.level rest.0) (eqb-true r.lines s.lines rest.1)
+    and_parts (int_eq r.gain s.gain) (int_eq r.intercept s.intercept && eqb r.lines s.lines) e in
+    let rest = and_parts (int_eq r.intercept s.intercept) (eqb r.lines s.lines) first.1 in
+    ramp_is r.gain s.gain r.intercept s.intercept r.lines s.lines (int_same r.gain s.gain first.0)
+    (int_same r.intercept s.intercept rest.0) (eqb-true r.lines s.lines rest.1)
   where
     int_same : (x y : ℤ) → int_eq x y ≡ true → x ≡ y
     int_same x y e = grind (arith, ints)

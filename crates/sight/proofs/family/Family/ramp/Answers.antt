@@ -72,9 +72,21 @@ returns c =
     back (near -ℤ eye) (omega (arith, base_small near eye heights.0 c.requires.family.eye)) in
     let gain = back ((far -ℤ near) *ℤ pos line)
     (gain_small near far line heights.0 heights.1 c.requires.line.1) in
-    let level = back ((near -ℤ eye) -ℤ ((far -ℤ near) *ℤ offset))
+    let intercept = back ((near -ℤ eye) -ℤ ((far -ℤ near) *ℤ offset))
     (level_small near far eye offset heights.0 heights.1 c.requires.family.eye c.requires.offset) in
-    rw (near_is, far_is, step, offset_short, offset_is, eye_is, line_is, base, tilt, gain, level)
+    rw (
+      near_is,
+      far_is,
+      step,
+      offset_short,
+      offset_is,
+      eye_is,
+      line_is,
+      base,
+      tilt,
+      gain,
+      intercept,
+    )
     (record {
       ramp = refl;
       at = λ t is_t passes. ramp_is c.args.self line offset near far t c.requires.family
