@@ -37,8 +37,8 @@ none_between : (cells : List (Option ℤ)) (l : Sightline) → steps_of l ≤ 1 
     walk_blocks cells l ≡ false
 none_between cells l few =
     let none : steps_of l - 1 ≡ 0 = omega arith in
-    ap (λ m. list_any (λ k. step_blocks cells l.lead l.side l.from_level l.to_level (steps_of l) k)
-    (range_with_len 1 m)) none
+    ap (λ m. list_any (λ k. step_blocks cells l.lead l.side l.from_elevation l.to_elevation
+    (steps_of l) k) (range_with_len 1 m)) none
 
 unchanged : (m b : Bool) → b ≡ false → m ≡ (m && not b)
 unchanged true b e = rw e refl

@@ -55,8 +55,8 @@ module _ (t : Terrain) (p : Place) (b : Bounds) (e : ℤ)
       let line : Option ℤ → Sightline = λ h. record {
         lead = columns_of p q;
         side = rows_of t p q;
-        from_level = e;
-        to_level = unwrap_or h (pos 0) +ℤ pos target;
+        from_elevation = e;
+        to_elevation = unwrap_or h (pos 0) +ℤ pos target;
       } in
       ap (λ h. walk_blocks t.cells (line h)) (sym height)
       ∙ sym (column_blocks-walk t p q e (height_of t q +ℤ pos target) observer inside)
@@ -70,8 +70,8 @@ module _ (t : Terrain) (p : Place) (b : Bounds) (e : ℤ)
       let line : Option ℤ → Sightline = λ h. record {
         lead = rows_of t p q;
         side = columns_of p q;
-        from_level = e;
-        to_level = unwrap_or h (pos 0) +ℤ pos target;
+        from_elevation = e;
+        to_elevation = unwrap_or h (pos 0) +ℤ pos target;
       } in
       ap (λ h. walk_blocks t.cells (line h)) (sym height)
       ∙ sym (row_blocks-walk t p q e (height_of t q +ℤ pos target) observer inside)

@@ -11,11 +11,11 @@ use Rattle.terrain.specs.Raster.{IsHeight}
 use Rattle.horizons.specs.declared.target.Target.{Target}
 use Rattle.horizons.specs.Horizons.{IsTarget, IsRampAt, ramp_hides, value_at}
 use Rattle.sightlines.specs.Sight.{sight}
-use Rattle.sightlines.specs.Walk.{is_above, whole_at, IsLevel}
+use Rattle.sightlines.specs.Walk.{is_above, whole_at, IsElevation}
 use Rattle.sight.specs.Sweep.{lead_of, lead_axis, line_blocks, ramp_of, IsFamily, IsLine, Passes, IsAtCell}
 use Rattle.sight.specs.declared.family.Family.{Family}
 use Rattle.sight.proofs.Products.{sum_times, rest_times}
-use Rattle.sightlines.proofs.Levels.{times_small, between_small}
+use Rattle.sightlines.proofs.Elevations.{times_small, between_small}
 use Rattle.sightlines.proofs.Toward.{lead_up_is, lead_down_is}
 use Rattle.sight.proofs.Rays.{ramp_gains, shown_between, not_shown_near, not_shown_far, cell_is, stays_inside}
 
@@ -122,7 +122,7 @@ pub step_small : (near far : ℤ) → IsHeight near → IsHeight far →
     unsigned_abs (far -ℤ near) ≤ 2 * 10 ^ 15
 step_small near far a b = omega (arith, ints, a, b)
 
-pub base_small : (near e : ℤ) → IsHeight near → IsLevel e →
+pub base_small : (near e : ℤ) → IsHeight near → IsElevation e →
     unsigned_abs (near -ℤ e) ≤ 10 ^ 15 + 2 ^ 50
 base_small near e a b = omega (arith, ints, a, b)
 
@@ -144,7 +144,7 @@ rest_small : (a b : ℤ) → unsigned_abs a ≤ 10 ^ 15 + 2 ^ 50 → unsigned_ab
     unsigned_abs (a -ℤ b) < 2 ^ 63
 rest_small a b p q = omega (arith, ints)
 
-pub level_small : (near far e offset : ℤ) → IsHeight near → IsHeight far → IsLevel e →
+pub level_small : (near far e offset : ℤ) → IsHeight near → IsHeight far → IsElevation e →
     unsigned_abs offset ≤ 4096 → unsigned_abs ((near -ℤ e) -ℤ ((far -ℤ near) *ℤ offset)) < 2 ^ 63
 level_small near far e offset a b is few = rest_small (near -ℤ e) ((far -ℤ near) *ℤ offset)
     (base_small near e a is) (tilt_within near far offset a b few)

@@ -48,9 +48,9 @@ abbrev pub sightline_to : List (Option ℤ) → Family → ℕ → ℕ → ℕ �
 sightline_to cells f height x y = record {
   lead = record { from = f.lines.at; to = x; stride = f.lines.stride };
   side = side_axis f y;
-  from_level = f.eye;
-  to_level = unwrap_or (slice_index_or cells (x * f.lines.stride + y * f.side.stride) None) (pos 0)
-      +ℤ pos height;
+  from_elevation = f.eye;
+  to_elevation = unwrap_or (slice_index_or cells (x * f.lines.stride + y * f.side.stride) None)
+      (pos 0) +ℤ pos height;
 }
 
 -- A mark is kept exactly if no crossing with the lines, on either side of the observer, blocks its

@@ -8,7 +8,7 @@ use Rattle.horizons.specs.declared.target.Target.{Target}
 use Rattle.horizons.specs.declared.ramp.Ramp.{Ramp}
 use Rattle.horizons.specs.declared.horizon.Piece.{Piece}
 use Rattle.horizons.specs.Horizons.{IsRampAt, IsOver, ramp_hides, hides, ramp_at}
-use Rattle.sightlines.specs.Walk.{IsLevel, step_blocks}
+use Rattle.sightlines.specs.Walk.{IsElevation, step_blocks}
 use Rattle.sightlines.specs.declared.walk.Axis.{Axis}
 use Rattle.sight.specs.declared.family.Family.{Family}
 
@@ -39,14 +39,14 @@ is_blocked_before cells f n y rise k =
     list_any (line_blocks cells f n y rise) (range_with_len 1 (k - 1))
 
 -- The observer's coordinates are below 4096, and strides are at most 4096. The side has the
--- observer's cell and ends by 4096. The eye's level is within its limit.
+-- observer's cell and ends by 4096. The eye's elevation is within its limit.
 pub record IsFamily (f : Family) : Type 0 where
   pub lines : f.lines.at < 4096
   pub first : f.side.first ≤ f.side.at
   pub side : f.side.at < f.side.cells
   pub cells : f.side.cells ≤ 4096
   pub strides : (f.lines.stride ≤ 4096) × (f.side.stride ≤ 4096)
-  pub eye : IsLevel f.eye
+  pub eye : IsElevation f.eye
 
 -- k is from 1 to 4096. If lines count toward coordinate 0, line k is not past it.
 abbrev pub IsLine : Family → ℕ → Type 0

@@ -39,7 +39,7 @@ pub struct Side {
 }
 
 /// The crossings with the columns, or the rows, on one side of an observer.
-/// `eye` is the eye's level, in units.
+/// `eye` is the eye's elevation, in units.
 #[derive(Clone, Copy)]
 pub struct Family {
     pub lines: Lines,

@@ -8,7 +8,7 @@ ghost use Rattle.terrain.specs.Neighbours.{IsInside};
 ghost use Rattle.terrain.specs.declared.place.Place.{Place};
 ghost use Rattle.tiles.specs.Cutting.{AreBounds, IsCutting};
 ghost use Rattle.sightlines.specs.Sight.{highest_eye, is_open, place_of};
-ghost use Rattle.sightlines.specs.Walk.{AreHeights, IsLevel};
+ghost use Rattle.sightlines.specs.Walk.{AreHeights, IsElevation};
 ghost use Rattle.sight.specs.Hiding.{IsApart};
 ghost use Rattle.sight.specs.Sides.{AreOpen, IsTileAxis, facing, family_of, window_of};
 ghost use Rattle.sight.specs.Marks.{AreLeft};
@@ -18,7 +18,7 @@ use crate::heights::height_at;
 use crate::hiding::hide;
 use crate::tile::ViewshedInput;
 use crate::window::{CellRun, Window};
-use sightlines::level;
+use sightlines::elevation;
 use std::alloc::{AllocError, Global};
 use terrain::{Cell, Observer, Place};
 use tiles::Bounds;
@@ -65,7 +65,7 @@ fn hide_on_both_sides(
     requires heights { AreHeights cells.now }
     requires lines { IsTileAxis lines }
     requires side { IsTileAxis side }
-    requires eye { IsLevel eye }
+    requires eye { IsElevation eye }
     requires inside { (x y : ℕ) → x < lines.tile.cells → y < side.tile.cells
         → x * lines.tile.stride + y * side.tile.stride < length marks.old }
     requires apart { IsApart (window_of lines side) }
@@ -122,7 +122,7 @@ impl<'a> ViewshedInput<'a> {
         };
         // no contract here asks for an observer on data: on NODATA the specs' `height_of` is 0 too
         let ground = height_at(cells, stands.index_in(cols));
-        let eye = level(ground.unwrap_or(0), observer.eye);
+        let eye = elevation(ground.unwrap_or(0), observer.eye);
         let columns = TileAxis {
             at: observer.col,
             stride: 1,

@@ -126,8 +126,8 @@ abbrev pub reversed : Sightline → Sightline
 reversed l = record {
   lead = back l.lead;
   side = back l.side;
-  from_level = l.to_level;
-  to_level = l.from_level;
+  from_elevation = l.to_elevation;
+  to_elevation = l.from_elevation;
 }
 
 pub walk_back : (cells : List (Option ℤ)) (l : Sightline) →
@@ -136,6 +136,6 @@ walk_back cells l =
     let n = steps_of l in
     let same : steps_of (reversed l) ≡ n = omega arith in
     ap (λ n. list_any (λ k. step_blocks cells (back l.lead)
-    (back l.side) l.to_level l.from_level n k) (range_with_len 1 (n - 1))) same
+    (back l.side) l.to_elevation l.from_elevation n k) (range_with_len 1 (n - 1))) same
     ∙ any_back _ _ n (λ k low high.
-    step_back cells l.lead l.side l.from_level l.to_level n k (omega arith))
+    step_back cells l.lead l.side l.from_elevation l.to_elevation n k (omega arith))

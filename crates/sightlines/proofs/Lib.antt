@@ -5,7 +5,7 @@ pub mod Ground
 pub mod Toward
 mod OnTheLine
 pub mod Heights
-pub mod Levels
+pub mod Elevations
 mod Steps
 mod Ranges
 -- the crossings of a line, from either end

@@ -181,8 +181,9 @@ not_blocked : (cells : List (Option ℤ)) (line : Sightline) (k : ℕ) → 0 < s
     → k < steps_of line → (let n = steps_of line in let b = whole_at line.side n k in
     (cell : ℕ) → b ≤ cell → cell ≤ b + 1 → cell ≤ max line.side.from line.side.to → (h : ℤ)
     → get_or cells (whole_at line.lead n k * line.lead.stride + cell * line.side.stride) None
-    ≡ Some h → (pos n *ℤ h) ≤ℤ sight line.from_level line.to_level n k)
-    → step_blocks cells line.lead line.side line.from_level line.to_level (steps_of line) k ≡ false
+    ≡ Some h → (pos n *ℤ h) ≤ℤ sight line.from_elevation line.to_elevation n k)
+    → step_blocks cells line.lead line.side line.from_elevation line.to_elevation (steps_of line) k
+    ≡ false
 not_blocked cells line k some inside low_at =
     let n = steps_of line in
     let b = whole_at line.side n k in
@@ -194,7 +195,7 @@ not_blocked cells line k some inside low_at =
     let beside : next ≡ index + line.side.stride = omega arith in
     let b_in = whole_le line.side n k some (omega arith) in
     low_not_above (get_or cells index None) (get_or cells (index + line.side.stride) None) (n - m) m
-    (sight line.from_level line.to_level n k) (omega (arith, part_below))
+    (sight line.from_elevation line.to_elevation n k) (omega (arith, part_below))
     (λ h is. rw all (low_at b (omega arith) (omega arith) b_in h is))
     (λ part h is. rw all (low_at (b + 1) (omega arith) (omega arith)
     (whole_lt line.side n k some (omega arith) part) h (ap (λ x. get_or cells x None) beside ∙ is)))
@@ -206,7 +207,8 @@ pub step_passed : (size : ℕ) (cells tops : List (Option ℤ)) (line : Sightlin
     AreTopsAlong size cells tops line s
     → whole_at line.lead (steps_of line) k / size ≡ block →
     AreLowBetween size tops s line block start end
-    → step_blocks cells line.lead line.side line.from_level line.to_level (steps_of line) k ≡ false
+    → step_blocks cells line.lead line.side line.from_elevation line.to_elevation (steps_of line) k
+    ≡ false
 step_passed size cells tops line s i j k block start end some low high few at_start at_end is_top
     in_block is_low =
     let n = steps_of line in
@@ -220,20 +222,22 @@ step_passed size cells tops line s i j k block start end some low high few at_st
     (omega (arith, between, at_start.whole, at_end.whole)) inside in
     let one = rw at_start.sight at (low_height top n start.sight h is_under lows.0) in
     let two = rw at_end.sight at (low_height top n end.sight h is_under lows.1) in
-    sight_between line.from_level line.to_level (pos n *ℤ h) n i j k low (omega arith) few one two)
+    sight_between line.from_elevation line.to_elevation (pos n *ℤ h) n i j k low (omega arith)
+    few one two)
 
 -- a line at or above the peak at a step and at its end is not blocked from that step on
 pub step_above : (size : ℕ) (cells tops : List (Option ℤ)) (line : Sightline) (s : BlockStrides)
     (peak : ℤ) (i k : ℕ) (start : Step)
     → 0 < steps_of line → i ≤ k →
     k < steps_of line → IsAt line i start → AreTopsAlong size cells tops line s → IsPeak tops peak →
-    (pos (steps_of line) *ℤ peak) ≤ℤ start.sight → peak ≤ℤ line.to_level
-    → step_blocks cells line.lead line.side line.from_level line.to_level (steps_of line) k ≡ false
+    (pos (steps_of line) *ℤ peak) ≤ℤ start.sight → peak ≤ℤ line.to_elevation
+    → step_blocks cells line.lead line.side line.from_elevation line.to_elevation (steps_of line) k
+    ≡ false
 step_above size cells tops line s peak i k start some low high at_start is_top is_peak above ends =
     let n = steps_of line in
     let a = whole_at line.lead n k in
-    let e = line.from_level in
-    let f = line.to_level in
+    let e = line.from_elevation in
+    let f = line.to_elevation in
     let none_left : n - n ≡ 0 = omega arith in
     let end : (pos n *ℤ peak) ≤ℤ sight e f n n = rw none_left (at_end e f peak n ends) in
     let a_in = whole_le line.lead n k some (omega arith) in

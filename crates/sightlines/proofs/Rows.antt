@@ -18,7 +18,8 @@ abbrev pub hidden : Terrain
 hidden = land 4 3 (up 0 ∷ Some (negsuc 8) ∷ up 0 ∷ up 0 ∷ up 0 ∷ up 4 ∷ up 1 ∷ up 0 ∷ up 0 ∷ up 0
     ∷ Some (negsuc 8) ∷ up 0 ∷ [])
 
--- (2,3) is hidden from (0,0) by the row crossing alone: twice the ground is 5, twice the level 0
+-- (2,3) is hidden from (0,0) by the row crossing alone: twice the ground is 5, twice the line's
+-- elevation 0
 hidden-columns : column_blocks hidden (at 0 0) (at 2 3) (pos 0) (pos 0) ≡ mathlib.Core.Bool.false
 hidden-columns = refl
 

@@ -5,7 +5,7 @@ use Rattle.terrain.specs.Raster.{Terrain, IsTerrain}
 use Rattle.terrain.specs.Neighbours.{IsInside, height_at}
 use Rattle.terrain.specs.declared.place.Place.{Place}
 use Rattle.sightlines.specs.Sight.{is_near, is_open, is_seen, place_of}
-use Rattle.sightlines.specs.Walk.{walk_blocks, over_columns, over_rows, IsLevel, IsSightline, AreSightlines}
+use Rattle.sightlines.specs.Walk.{walk_blocks, over_columns, over_rows, IsElevation, IsSightline, AreSightlines}
 use Rattle.terrain.specs.declared.observer.Observer.{Observer}
 use Rattle.sightlines.proofs.Crossings.{column_blocks-walk, row_blocks-walk, columns_in_list, rows_in_list, walk_back}
 
@@ -43,8 +43,9 @@ reached_is : (t : Terrain) (o : Observer) (q : Place) (target radius : ℕ) (fro
 reached_is t o q target radius from to from_is to_is near = rw (from_is, to_is, near) refl
 
 small : (t : Terrain) (p q : Place) (e f : ℤ) → IsTerrain t → IsInside t p → IsInside t q →
-    IsLevel e → IsLevel f → IsSightline (over_columns t q p f e) × IsSightline (over_rows t q p f e)
-small t p q e f is a b e_level f_level = (
+    IsElevation e → IsElevation f → IsSightline (over_columns t q p f e)
+    × IsSightline (over_rows t q p f e)
+small t p q e f is a b e_elevation f_elevation = (
   record {
     ends = (
       omega (arith, is.few_cols),
@@ -53,8 +54,8 @@ small t p q e f is a b e_level f_level = (
       omega (arith, is.few_rows),
     );
     strides = (omega arith, is.few_cols);
-    from_level = f_level;
-    to_level = e_level;
+    from_elevation = f_elevation;
+    to_elevation = e_elevation;
   },
   record {
     ends = (
@@ -64,23 +65,24 @@ small t p q e f is a b e_level f_level = (
       omega (arith, is.few_cols),
     );
     strides = (is.few_cols, omega arith);
-    from_level = f_level;
-    to_level = e_level;
+    from_elevation = f_elevation;
+    to_elevation = e_elevation;
   },
 )
 
 pub lines_are : (t : Terrain) (o : Observer) (q : Place) (target radius : ℕ) (from to : ℤ) →
     IsTerrain t → IsInside t (place_of o) → IsInside t q
     → height_at t (place_of o) ≡ Some from → height_at t q ≡ Some to →
-    is_near (place_of o) q radius ≡ true → IsLevel (from +ℤ pos o.eye) → IsLevel (to +ℤ pos target)
+    is_near (place_of o) q radius ≡ true →
+    IsElevation (from +ℤ pos o.eye) → IsElevation (to +ℤ pos target)
     → let p = place_of o in let e = from +ℤ pos o.eye in let f = to +ℤ pos target in
     AreSightlines t o q target radius
     (record { columns = over_columns t q p f e; rows = over_rows t q p f e })
-lines_are t o q target radius from to is a b from_is to_is near e_level f_level =
+lines_are t o q target radius from to is a b from_is to_is near e_elevation f_elevation =
     let p = place_of o in
     let e = from +ℤ pos o.eye in
     let f = to +ℤ pos target in
-    let are_small = small t p q e f is a b e_level f_level in
+    let are_small = small t p q e f is a b e_elevation f_elevation in
     record {
       columns = rw (from_is, to_is) refl;
       rows = rw (from_is, to_is) refl;

@@ -1,5 +1,5 @@
--- How far a line of sight moves on a coordinate in m steps, and how its level rises. How the index
--- of the cell at or before the line, its near cell, changes in one step.
+-- How far a line of sight moves on a coordinate in m steps, and how its elevation rises. How the
+-- index of the cell at or before the line, its near cell, changes in one step.
 -- Private.
 use Rattle.std.specs.Prelude.{◌≡◌, ℕ, ◌+◌, ◌*◌, ◌<◌, ◌≤◌, pos, ◌-ℤ◌, ◌*ℤ◌}
 use Rattle.sightlines.specs.declared.walk.Axis.{Axis}
@@ -18,7 +18,7 @@ pub record Gains (a : Axis) (n m ahead behind part : ℕ) : Type 0 where
 -- The leap is the move of a line on its side coordinate in m steps, and the change of its sight.
 pub record IsLeap (l : Sightline) (m : ℕ) (leap : Leap) : Type 0 where
   pub gains : Gains l.side (steps_of l) m leap.ahead leap.behind leap.part
-  pub rise : leap.rise ≡ (l.to_level *ℤ pos m) -ℤ (l.from_level *ℤ pos m)
+  pub rise : leap.rise ≡ (l.to_elevation *ℤ pos m) -ℤ (l.from_elevation *ℤ pos m)
 
 -- The pace is the change, in one step, of the near cell's index and of the part past the near cell.
 pub record IsPace (lead side : Axis) (n : ℕ) (pace : Pace) : Type 0 where

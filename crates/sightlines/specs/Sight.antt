@@ -79,7 +79,7 @@ abbrev pub ground : Terrain → Crossing → Option ℤ
 ground t c = option_and_then (λ x. option_map (λ y. x +ℤ y) (weigh t c.far c.far_weight))
     (weigh t c.near c.near_weight)
 
--- n times the level, at step k of n, of the line from level e to level f.
+-- n times the elevation, at step k of n, of the line from elevation e to elevation f.
 abbrev pub sight : ℤ → ℤ → ℕ → ℕ → ℤ
 sight e f n k = (e *ℤ pos (n - k)) +ℤ (f *ℤ pos k)
 

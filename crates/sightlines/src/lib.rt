@@ -23,6 +23,6 @@ mod reach;
 mod tops;
 mod walk;
 
-pub use line::{WalkCache, level, may_see, sees, sees_past_blocks};
+pub use line::{WalkCache, elevation, may_see, sees, sees_past_blocks};
 pub use reach::is_in_reach;
 pub use tops::{FAR_BLOCK, MaxHeights, NEAR_BLOCK, blocks_in};

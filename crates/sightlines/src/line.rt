@@ -6,7 +6,7 @@ ghost use Rattle.std.specs.Prelude.{◌≡◌, ◌<◌, ◌≤◌, pos, ◌+ℤ�
 ghost use Rattle.terrain.specs.Raster.{IsHeight};
 ghost use Rattle.terrain.specs.Neighbours.{IsInside};
 ghost use Rattle.sightlines.specs.Sight.{highest_eye, longest_radius, is_open, is_seen, place_of};
-ghost use Rattle.sightlines.specs.Walk.{AreHeights, IsLevel, IsSightline, IsOver, AreSightlines, walk_blocks};
+ghost use Rattle.sightlines.specs.Walk.{AreHeights, IsElevation, IsSightline, IsOver, AreSightlines, walk_blocks};
 ghost use Rattle.sightlines.specs.Blocks.{IsTops, IsPeak, AreTopsAlong, blocks_in};
 
 use crate::passing::{BlockStrides, blocking_step_past_blocks};
@@ -15,13 +15,13 @@ use crate::tops::{FAR_BLOCK, MaxHeights, NEAR_BLOCK, blocks_in};
 use crate::walk::{Axis, Pace, Sightline, blocking_step, is_blocked};
 use terrain::{Cell, Grid, Height, Observer, Place};
 
-/// Returns the level of an eye or a target: ground of `height` plus `above` units.
+/// Returns the elevation of an eye or a target: ground of `height` plus `above` units.
 #[inline(always)]
-pub fn level(height: Height, above: u32) -> i64
+pub fn elevation(height: Height, above: u32) -> i64
     requires height { IsHeight height }
     requires above { above ≤ highest_eye }
     ensures value { result ≡ height +ℤ pos above }
-    ensures small { IsLevel result }
+    ensures small { IsElevation result }
 {
     height + above as i64
 }
@@ -63,8 +63,8 @@ fn lines_of_sight(
     }
     let eye_ground = grid.at(eye)?;
     let target_ground = grid.at(target)?;
-    let eye_level = level(eye_ground, observer.eye);
-    let target_level = level(target_ground, target_height);
+    let eye_elevation = elevation(eye_ground, observer.eye);
+    let target_elevation = elevation(target_ground, target_height);
     let rows = Axis {
         from: target.row,
         to: eye.row,
@@ -79,14 +79,14 @@ fn lines_of_sight(
         columns: Sightline {
             lead: columns,
             side: rows,
-            from_level: target_level,
-            to_level: eye_level,
+            from_elevation: target_elevation,
+            to_elevation: eye_elevation,
         },
         rows: Sightline {
             lead: rows,
             side: columns,
-            from_level: target_level,
-            to_level: eye_level,
+            from_elevation: target_elevation,
+            to_elevation: eye_elevation,
         },
     })
 }

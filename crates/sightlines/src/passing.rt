@@ -152,9 +152,9 @@ fn is_clear(peak: Height, line: Sightline, here: Step) -> bool
     requires line { IsSightline line }
     requires peak { IsHeight peak }
     ensures { OnTrue result
-        ((peak ≤ℤ line.to_level) × ((pos (steps_of line) *ℤ peak) ≤ℤ here.sight)) }
+        ((peak ≤ℤ line.to_elevation) × ((pos (steps_of line) *ℤ peak) ≤ℤ here.sight)) }
 {
-    peak <= line.to_level && weigh(peak, line.steps()) <= here.sight
+    peak <= line.to_elevation && weigh(peak, line.steps()) <= here.sight
 }
 
 /// Returns a step between a line's two ends with ground above the line, if any.

@@ -17,20 +17,20 @@ pub struct Axis {
     pub stride: usize,
 }
 
-/// A line of sight from one level to another, along two coordinates.
+/// A line of sight from one elevation to another, along two coordinates.
 /// Between its ends the line is tested at each cell of `lead`, its leading coordinate. `side` is
 /// the other coordinate.
 #[derive(Clone, Copy)]
 pub struct Sightline {
     pub lead: Axis,
     pub side: Axis,
-    pub from_level: i64,
-    pub to_level: i64,
+    pub from_elevation: i64,
+    pub to_elevation: i64,
 }
 
-/// Where a line is on its side coordinate, and its level, at one of its steps.
+/// Where a line is on its side coordinate, and its elevation, at one of its steps.
 /// The line is `part` parts past cell `whole`. A cell has as many parts as the line has steps.
-/// `sight` is the line's level times the number of steps.
+/// `sight` is the line's elevation times the number of steps.
 #[derive(Clone, Copy)]
 pub struct Step {
     pub whole: u32,
@@ -62,7 +62,7 @@ impl Sightline {
         }
     }
 
-    /// Returns where the line is on `side`, and its level, at a step.
+    /// Returns where the line is on `side`, and its elevation, at a step.
     #[inline(always)]
     pub(crate) fn at(self, step: u32) -> Step
         requires line { IsSightline self }
@@ -76,7 +76,7 @@ impl Sightline {
         Step {
             whole: parts / steps,
             part: parts % steps,
-            sight: self.from_level * left as i64 + self.to_level * step as i64,
+            sight: self.from_elevation * left as i64 + self.to_elevation * step as i64,
         }
     }
 }
@@ -167,7 +167,7 @@ impl Leap {
             ahead: aside.ahead,
             behind: aside.behind,
             part: aside.part,
-            rise: line.to_level * NEAR_BLOCK as i64 - line.from_level * NEAR_BLOCK as i64,
+            rise: line.to_elevation * NEAR_BLOCK as i64 - line.from_elevation * NEAR_BLOCK as i64,
         }
     }
 
@@ -326,7 +326,7 @@ pub(crate) fn blocking_step(
     ensures answer { is_some result ≡ step_range_blocks cells.now line first (end - first) }
     ensures range { IfSome result (λ k. (first ≤ k) × (k < end)) }
 {
-    let rise = line.to_level - line.from_level;
+    let rise = line.to_elevation - line.from_elevation;
     let mut index = line.lead_at(first) as usize * line.lead.stride
         + start.whole as usize * line.side.stride;
     let mut part = start.part;

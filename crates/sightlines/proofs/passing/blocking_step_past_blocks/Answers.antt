@@ -17,12 +17,12 @@ use Rattle.sightlines.proofs.passing.blocking_step_past_blocks.Goals as goal
 none_above : (cells tops : List (Option ℤ)) (line : Sightline) (s : BlockStrides) (peak : ℤ)
     (k : ℕ) (here : Step) → 0 < steps_of line → k ≤ steps_of line → IsAt line k here →
     AreTopsAlong 128 cells tops line s → IsPeak tops peak
-    → (peak ≤ℤ line.to_level) × ((pos (steps_of line) *ℤ peak) ≤ℤ here.sight) →
+    → (peak ≤ℤ line.to_elevation) × ((pos (steps_of line) *ℤ peak) ≤ℤ here.sight) →
     step_range_blocks cells line k (steps_of line - k) ≡ false
 none_above cells tops line s peak k here some within at are is_peak clear =
-    none_from (step_blocks cells line.lead line.side line.from_level line.to_level (steps_of line))
-    k (steps_of line - k) (λ j low high. step_above 128 cells tops line s peak k j here some low
-    (omega arith) at are is_peak clear.1 clear.0)
+    none_from (step_blocks cells line.lead line.side line.from_elevation line.to_elevation
+    (steps_of line)) k (steps_of line - k) (λ j low high. step_above 128 cells tops line s peak k j
+    here some low (omega arith) at are is_peak clear.1 clear.0)
 
 pub returns-then-is_clear-clause-answer : goal.returns-then-is_clear-clause-answer
 returns-then-is_clear-clause-answer c =
@@ -37,7 +37,7 @@ pub returns-in-Some-clause-answer : goal.returns-in-Some-clause-answer
 returns-in-Some-clause-answer c =
     let line = c.args.line in
     let first = c.block_end-first.result in
-    let p = step_blocks c.args.cells.now line.lead line.side line.from_level line.to_level
+    let p = step_blocks c.args.cells.now line.lead line.side line.from_elevation line.to_elevation
     (steps_of line) in
     sym (any_within p 1 (steps_of line - 1) 1 (first - 1) (omega arith) (omega arith)
     (sym c.blocking_step.ensures.answer ∙ ap is_some c.in-Some.is))
@@ -48,7 +48,8 @@ returns-then-is_clear-2-clause-answer c =
     let n = steps_of line in
     let first = c.loop-first.first in
     let tops = c.args.tops.now in
-    let p = step_blocks c.args.cells.now line.lead line.side line.from_level line.to_level n in
+    let p =
+    step_blocks c.args.cells.now line.lead line.side line.from_elevation line.to_elevation n in
     let all : n - 1 ≡ (first - 1) + (n - first) = omega arith in
     let peak_is = to_z-of_z w64 tops.peak (height_fits tops.peak c.requires.peak.0) in
     let none =
@@ -94,7 +95,7 @@ returns-in-Some-blocking_step_past_near_blocks-clause-answer c =
     let line = c.args.line in
     let first = c.loop-first.first in
     let end = c.block_end-end.result in
-    let p = step_blocks c.args.cells.now line.lead line.side line.from_level line.to_level
+    let p = step_blocks c.args.cells.now line.lead line.side line.from_elevation line.to_elevation
     (steps_of line) in
     sym (any_within p 1 (steps_of line - 1) first (end - first) (omega arith) (omega arith)
     (sym c.blocking_step_past_near_blocks.ensures.answer
@@ -106,7 +107,7 @@ loop-first-preserved-in_default-blocking_step_past_near_blocks c =
     let line = c.args.line in
     let first = c.loop-first.first in
     let end = c.block_end-end.result in
-    let p = step_blocks c.args.cells.now line.lead line.side line.from_level line.to_level
+    let p = step_blocks c.args.cells.now line.lead line.side line.from_elevation line.to_elevation
     (steps_of line) in
     let all : end - 1 ≡ (first - 1) + (end - first) = omega arith in
     record {
@@ -125,7 +126,7 @@ loop-first-preserved c =
     let first = c.loop-first.first in
     let end = c.block_end-end.result in
     let block = c.lead_at-block.result / 128 in
-    let p = step_blocks c.args.cells.now line.lead line.side line.from_level line.to_level
+    let p = step_blocks c.args.cells.now line.lead line.side line.from_elevation line.to_elevation
     (steps_of line) in
     let all : end - 1 ≡ (first - 1) + (end - first) = omega arith in
     let here : whole_at line.lead (steps_of line) first / 128 ≡ block =

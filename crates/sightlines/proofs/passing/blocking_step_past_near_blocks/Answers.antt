@@ -38,7 +38,7 @@ returns-in-Some-clause-answer c =
     let line = c.args.line in
     let step = c.loop-step.step in
     let past = c.block_end-past.result in
-    let p = step_blocks c.args.cells.now line.lead line.side line.from_level line.to_level
+    let p = step_blocks c.args.cells.now line.lead line.side line.from_elevation line.to_elevation
     (steps_of line) in
     sym (any_within p c.args.first (c.args.end - c.args.first) step (past - step) (omega arith)
     (omega arith) (sym c.blocking_step.ensures.answer ∙ ap is_some c.in-Some.is))
@@ -49,7 +49,7 @@ loop-step-preserved-in_default c =
     let first = c.args.first in
     let step = c.loop-step.step in
     let past = c.block_end-past.result in
-    let p = step_blocks c.args.cells.now line.lead line.side line.from_level line.to_level
+    let p = step_blocks c.args.cells.now line.lead line.side line.from_elevation line.to_elevation
     (steps_of line) in
     let all : past - first ≡ (step - first) + (past - step) = omega arith in
     record {
@@ -68,7 +68,7 @@ loop-step-preserved c =
     let step = c.loop-step.step in
     let past = c.block_end-past.result in
     let block = c.lead_at-block.result / 16 in
-    let p = step_blocks c.args.cells.now line.lead line.side line.from_level line.to_level
+    let p = step_blocks c.args.cells.now line.lead line.side line.from_elevation line.to_elevation
     (steps_of line) in
     let all : past - first ≡ (step - first) + (past - step) = omega arith in
     let here : whole_at line.lead (steps_of line) step / 16 ≡ block =

@@ -3,7 +3,7 @@ use Rattle.std.proofs.lemmas.Nat.{mul-le}
 use Rattle.std.proofs.lemmas.Int.{to_z-of_z}
 use Rattle.sightlines.specs.Walk.{step_blocks, steps_of}
 use Rattle.sightlines.proofs.Steps.{index_stays, index_passes, near_inside, far_inside, room, next_is, whole_le}
-use Rattle.sightlines.proofs.Levels.{next_level, level_fits, rise_fits}
+use Rattle.sightlines.proofs.Elevations.{next_elevation, elevation_fits, rise_fits}
 use Rattle.sightlines.proofs.Ranges.{any_more, any_at}
 use Rattle.sightlines.proofs.walk.blocking_step.Goals as goal
 
@@ -38,7 +38,7 @@ returns-then-is_higher-clause-answer c =
     let n = steps_of line in
     let k = c.loop-step.step in
     let reported : c.is_higher.result
-    ≡ step_blocks c.args.cells.now line.lead line.side line.from_level line.to_level n k =
+    ≡ step_blocks c.args.cells.now line.lead line.side line.from_elevation line.to_elevation n k =
     rw (
       c.loop-step.invariant.index,
       c.loop-step.invariant.part,
@@ -46,7 +46,8 @@ returns-then-is_higher-clause-answer c =
       c.requires.pace.steps,
     ) at c.is_higher.ensures in
     let at : c.args.first + (k - c.args.first) ≡ k = omega arith in
-    let p = step_blocks c.args.cells.now line.lead line.side line.from_level line.to_level n in
+    let p =
+    step_blocks c.args.cells.now line.lead line.side line.from_elevation line.to_elevation n in
     sym (any_at p c.args.first (c.args.end - c.args.first) (k - c.args.first) (omega arith) (ap p at
     ∙ sym reported ∙ c.if-is_higher.true))
 
@@ -76,9 +77,9 @@ next-requires-clause-passes c passed =
 pub overflow_add-sight : goal.overflow_add-sight
 overflow_add-sight c =
     let line = c.args.line in
-    (next_level line.from_level line.to_level (steps_of line)
-    c.loop-step.step c.loop-step.sight-bits c.requires.line.from_level c.requires.line.to_level
-    (omega arith) (omega arith) c.loop-step.invariant.sight).0
+    (next_elevation line.from_elevation line.to_elevation (steps_of line)
+    c.loop-step.step c.loop-step.sight-bits c.requires.line.from_elevation
+    c.requires.line.to_elevation (omega arith) (omega arith) c.loop-step.invariant.sight).0
 
 pub loop-step-preserved : goal.loop-step-preserved
 loop-step-preserved c =
@@ -90,10 +91,12 @@ loop-step-preserved c =
     (omega arith) c.requires.pace
     (rw (c.loop-step.invariant.index, c.loop-step.invariant.part) at c.next.ensures.stays)
     (rw (c.loop-step.invariant.index, c.loop-step.invariant.part) at c.next.ensures.passes) in
-    let level =
-    next_level line.from_level line.to_level n k c.loop-step.sight-bits c.requires.line.from_level
-    c.requires.line.to_level (omega arith) (omega arith) c.loop-step.invariant.sight in
-    let p = step_blocks c.args.cells.now line.lead line.side line.from_level line.to_level n in
+    let elevation =
+    next_elevation line.from_elevation line.to_elevation n k c.loop-step.sight-bits
+    c.requires.line.from_elevation c.requires.line.to_elevation (omega arith) (omega arith)
+    c.loop-step.invariant.sight in
+    let p =
+    step_blocks c.args.cells.now line.lead line.side line.from_elevation line.to_elevation n in
     let reported : c.is_higher.result ≡ p k =
     rw (
       c.loop-step.invariant.index,
@@ -106,7 +109,7 @@ loop-step-preserved c =
     record {
       index = next.0;
       part = next.1;
-      sight = level.1;
+      sight = elevation.1;
       clear = rw more (any_more p first (k - first) c.loop-step.invariant.clear (ap p at
           ∙ sym reported ∙ c.if-is_higher.false));
     }
@@ -125,10 +128,13 @@ pub overflow_sub-rise : goal.overflow_sub-rise
 overflow_sub-rise c =
     let line = c.args.line in
     let from =
-    to_z-of_z w64 line.from_level (level_fits line.from_level c.requires.line.from_level) in
-    let to = to_z-of_z w64 line.to_level (level_fits line.to_level c.requires.line.to_level) in
+    to_z-of_z w64 line.from_elevation (elevation_fits line.from_elevation
+    c.requires.line.from_elevation) in
+    let to = to_z-of_z w64 line.to_elevation (elevation_fits line.to_elevation
+    c.requires.line.to_elevation) in
     rw (from, to)
-    (rise_fits line.from_level line.to_level c.requires.line.from_level c.requires.line.to_level)
+    (rise_fits line.from_elevation line.to_elevation c.requires.line.from_elevation
+    c.requires.line.to_elevation)
 
 pub overflow_sub-pace : goal.overflow_sub-pace
 overflow_sub-pace c = omega (arith, c.loop-step.invariant.part, c.requires.pace.steps)

@@ -9,6 +9,6 @@ invariant-loop-step l =
     record {
       index : l.index ≡ index_at line.lead line.side (steps_of line) l.step;
       part : l.part ≡ part_at line.side (steps_of line) l.step;
-      sight : l.sight ≡ sight line.from_level line.to_level (steps_of line) l.step;
+      sight : l.sight ≡ sight line.from_elevation line.to_elevation (steps_of line) l.step;
       clear : step_range_blocks l.cells line l.fn.first (l.step - l.fn.first) ≡ false;
     }

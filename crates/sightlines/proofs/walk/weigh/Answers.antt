@@ -1,7 +1,7 @@
 use Rattle.std.proofs.Common.{arith, pos, ◌^◌}
 use Rattle.std.proofs.lemmas.Int.{ints}
 use Rattle.sightlines.proofs.Heights.{weighed_is}
-use Rattle.sightlines.proofs.Levels.{times_small}
+use Rattle.sightlines.proofs.Elevations.{times_small}
 use Rattle.sightlines.proofs.walk.weigh.Goals as goal
 
 pub overflow_mul-result : goal.overflow_mul-result

@@ -1,7 +1,7 @@
 use Rattle.std.proofs.Common.{arith, pos, ◌-ℤ◌, ◌^◌, ◌+◌, w64}
 use Rattle.std.proofs.lemmas.Int.{ints, to_z-of_z}
 use Rattle.horizons.proofs.Sizes.{back}
-use Rattle.sightlines.proofs.Levels.{times_small}
+use Rattle.sightlines.proofs.Elevations.{times_small}
 use Rattle.sight.proofs.Spans.{base_small}
 use Rattle.sight.proofs.family.Family.level_ramp.Goals as goal
 

@@ -12,8 +12,8 @@ use Rattle.sightlines.proofs.Crossings.{height_is}
 use Rattle.sight.proofs.PlacesLeft.{columns_at, rows_at, column_marks, row_marks, columns_left, rows_left, left_both}
 use Rattle.sight.proofs.tile.ViewshedInput.hide_blocked.Goals as goal
 
-pub level-eye-requires-clause-height : goal.level-eye-requires-clause-height
-level-eye-requires-clause-height c =
+pub elevation-eye-requires-clause-height : goal.elevation-eye-requires-clause-height
+elevation-eye-requires-clause-height c =
     let t = c.args.self.now.grid.now.terrain in
     let ground = c.unwrap_or.result in
     let are : AreHeights c.cells-cells.result.now =
@@ -50,11 +50,11 @@ returns c =
     let at : get_or c.cells-cells.result.now c.index_in.result None ≡ height_at t p =
     rw c.cells-cells.ensures.value (sym (height_is t p.row p.col c.index_in.result
     c.requires.observer.0 c.requires.observer.1 index)) in
-    let level = rw (to_z-of_z w64 ground (search rules)) at c.level-eye.ensures.value in
-    let eye : c.level-eye.result ≡ height_of t p +ℤ pos o.eye = level ∙ ap (λ z.
+    let elevation = rw (to_z-of_z w64 ground (search rules)) at c.elevation-eye.ensures.value in
+    let eye : c.elevation-eye.result ≡ height_of t p +ℤ pos o.eye = elevation ∙ ap (λ z.
     z +ℤ pos o.eye) (c.unwrap_or.ensures ∙ ap (λ h. unwrap_or h (pos 0)) c.height_at-ground.ensures
     ∙ ap (λ h. unwrap_or h (pos 0)) at) in
-    let back = to_z-of_z w64 c.level-eye.result (search rules) in
+    let back = to_z-of_z w64 c.elevation-eye.result (search rules) in
     let e = height_of t p +ℤ pos o.eye in
     let in_rows : b.top + b.rows ≤ t.rows =
     omega (arith, c.requires.inside.rows_inside, self.cut) in

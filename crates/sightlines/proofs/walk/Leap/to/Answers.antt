@@ -1,6 +1,6 @@
 use Rattle.std.proofs.Common.{arith, ◌≡◌, ◌+◌}
 use Rattle.sightlines.specs.Walk.{steps_of}
-use Rattle.sightlines.proofs.Levels.{leapt_level}
+use Rattle.sightlines.proofs.Elevations.{leapt_elevation}
 use Rattle.sightlines.proofs.Steps.{whole_le}
 use Rattle.sightlines.proofs.Toward.{step_stays, step_passes}
 use Rattle.sightlines.proofs.walk.Leap.to.Goals as goal
@@ -18,9 +18,9 @@ overflow_add-whole c =
 pub overflow_add-sight : goal.overflow_add-sight
 overflow_add-sight c =
     let line = c.args.line in
-    (leapt_level line.from_level line.to_level c.args.start.sight c.args.self.rise
+    (leapt_elevation line.from_elevation line.to_elevation c.args.start.sight c.args.self.rise
     (steps_of line) c.args.first 16
-    c.requires.line.from_level c.requires.line.to_level (omega arith)
+    c.requires.line.from_elevation c.requires.line.to_elevation (omega arith)
     (omega arith) c.requires.start.sight c.requires.leap.rise).0
 
 pub overflow_sub-result : goal.overflow_sub-result
@@ -38,14 +38,14 @@ returns-then-part-steps c =
     let is = rw end at (step_stays line.side.from line.side.to (steps_of line) c.args.first 16
     c.args.self.ahead c.args.self.behind c.args.self.part (omega arith) c.requires.leap.gains.sum
     (omega (arith, c.requires.start.part))) in
-    let level = rw end at (leapt_level line.from_level line.to_level c.args.start.sight
-    c.args.self.rise (steps_of line) c.args.first 16
-    c.requires.line.from_level c.requires.line.to_level (omega arith)
+    let elevation = rw end at (leapt_elevation line.from_elevation line.to_elevation
+    c.args.start.sight c.args.self.rise (steps_of line) c.args.first 16
+    c.requires.line.from_elevation c.requires.line.to_elevation (omega arith)
     (omega arith) c.requires.start.sight c.requires.leap.rise) in
     record {
       whole = omega (arith, is.0, c.requires.start.whole);
       part = omega (arith, is.1, c.requires.start.part);
-      sight = level.1;
+      sight = elevation.1;
     }
 
 pub overflow_add-result : goal.overflow_add-result
@@ -77,12 +77,12 @@ returns c =
     (steps_of line) c.args.first 16 c.args.self.ahead c.args.self.behind c.args.self.part
     (omega arith) (omega arith) gains.sum gains.below
     (omega (arith, c.requires.start.part))) in
-    let level = rw end at (leapt_level line.from_level line.to_level c.args.start.sight
-    c.args.self.rise (steps_of line) c.args.first 16
-    c.requires.line.from_level c.requires.line.to_level (omega arith)
+    let elevation = rw end at (leapt_elevation line.from_elevation line.to_elevation
+    c.args.start.sight c.args.self.rise (steps_of line) c.args.first 16
+    c.requires.line.from_elevation c.requires.line.to_elevation (omega arith)
     (omega arith) c.requires.start.sight c.requires.leap.rise) in
     record {
       whole = omega (arith, is.0, c.requires.start.whole);
       part = omega (arith, is.1, c.requires.start.part);
-      sight = level.1;
+      sight = elevation.1;
     }
