@@ -14,7 +14,7 @@ use Rattle.horizons.specs.Horizons.{AreTargets, IsSlopeUpTo, ramp_hides, value_a
 use Rattle.horizons.proofs.Straight.{slope_up}
 use Rattle.sightlines.specs.Blocks.{IsTopOf}
 use Rattle.sight.specs.Hiding.{height_at}
-use Rattle.sight.specs.Sweep.{offset_of, level_ramp, line_blocks, ramp_of, IsFamily, Passes, PassesAmong, Shows, IsAtCell}
+use Rattle.sight.specs.Sweep.{offset_of, constant_ramp, line_blocks, ramp_of, IsFamily, Passes, PassesAmong, Shows, IsAtCell}
 use Rattle.sight.specs.declared.family.Family.{Family}
 use Rattle.sight.proofs.Laid.{grows}
 use Rattle.sight.proofs.Rays.{low_onward, next_inside}
@@ -160,10 +160,11 @@ blocker cells f k y offset rise t is stands later passes blocks =
     ] refl
 
 -- if the ground between two cells hides a target, so does ground of a height that neither exceeds
-level_hides : (f : Family) (k : ℕ) (offset near far top rise : ℤ) (t : Target) → Passes k offset t →
-    near ≤ℤ top → far ≤ℤ top → ramp_hides (ramp_of f k offset near far) t rise ≡ true →
-    ramp_hides (level_ramp f k top) t rise ≡ true
-level_hides f k offset near far top rise t passes a b hides =
+constant_hides : (f : Family) (k : ℕ) (offset near far top rise : ℤ) (t : Target) →
+    Passes k offset t → near ≤ℤ top → far ≤ℤ top →
+    ramp_hides (ramp_of f k offset near far) t rise ≡ true →
+    ramp_hides (constant_ramp f k top) t rise ≡ true
+constant_hides f k offset near far top rise t passes a b hides =
     let m = past k offset t passes in
     let value = ramp_between f k m.0 offset near far t m.1 m.2 in
     let few : ((near -ℤ f.eye) *ℤ pos (t.line - m.0)) ≤ℤ ((top -ℤ f.eye) *ℤ pos (t.line - m.0)) =
@@ -171,10 +172,10 @@ level_hides f k offset near far top rise t passes a b hides =
     let rest : ((far -ℤ f.eye) *ℤ pos m.0) ≤ℤ ((top -ℤ f.eye) *ℤ pos m.0) =
     grows (far -ℤ f.eye) (top -ℤ f.eye) m.0 (omega (arith, ints, b)) in
     let n_is : (t.line - m.0) + m.0 ≡ t.line = omega (arith, m.1) in
-    let whole : value_at (level_ramp f k top) t ≡ ((top -ℤ f.eye) *ℤ pos (t.line - m.0))
+    let whole : value_at (constant_ramp f k top) t ≡ ((top -ℤ f.eye) *ℤ pos (t.line - m.0))
     +ℤ ((top -ℤ f.eye) *ℤ pos m.0) = sym (joined (top -ℤ f.eye) t.offset (t.line - m.0) m.0
     ∙ ap (λ n. (pos 0 *ℤ t.offset) +ℤ ((top -ℤ f.eye) *ℤ pos n)) n_is) in
-    sym (true_is_lt (rise *ℤ pos k) (value_at (level_ramp f k top) t)
+    sym (true_is_lt (rise *ℤ pos k) (value_at (constant_ramp f k top) t)
     (omega (arith, ints, hides, value, few, rest, whole)))
   where
     joined : (e j : ℤ) (r m : ℕ) → (e *ℤ pos r) +ℤ (e *ℤ pos m) ≡ (pos 0 *ℤ j) +ℤ (e *ℤ pos (r + m))
@@ -199,7 +200,7 @@ pub top_blocks :
     (cells : List (Option ℤ)) (f : Family) (k y : ℕ) (low high offset rise top : ℤ) (t : Target) →
     IsFamily f → IsAtCell f y t → k < t.line → Passes k offset t → low ≤ℤ offset → offset ≤ℤ high
     → IsTopNear cells f k low high (Some top) → line_blocks cells f t.line y rise k ≡ true →
-    ramp_hides (level_ramp f k top) t rise ≡ true
+    ramp_hides (constant_ramp f k top) t rise ≡ true
 top_blocks cells f k y low high offset rise top t is stands later passes a b near blocks =
     let by = blocker cells f k y offset rise t is stands later passes blocks in
     let next : (pos by.next ≡ pos by.cell) ⊎ (pos by.next ≡ pos by.cell +ℤ pos 1) =
@@ -214,7 +215,7 @@ top_blocks cells f k y low high offset rise top t is stands later passes a b nea
           omega (arith, ints, same, by.at, b)
       | inr more ↦ omega (arith, ints, more, by.at, b)
     ] in
-    level_hides f k offset by.near by.far top rise t passes
+    constant_hides f k offset by.near by.far top rise t passes
     (near by.cell by.near by.inside.0 (omega (arith, ints, by.at, a))
     (omega (arith, ints, by.at, b)) by.here)
     (near by.next by.far by.inside.1 above below by.there) by.hides

@@ -1,5 +1,5 @@
 -- A family's lines are the columns, or the rows, on one side of an observer. Two opposite families
--- remove exactly the marks of cells whose line of sight a crossing with their lines blocks.
+-- clear exactly the flags of cells whose line of sight a crossing with their lines blocks.
 use Rattle.std.proofs.Common.{arith, refl, sym, ap, ◌∙◌, ◌≡◌, ◌+◌, ◌-◌, ◌*◌, ◌<◌, ◌≤◌, ℕ, ℤ, pos, ◌+ℤ◌, ◌-ℤ◌, Bool, true, false, not, ◌&&◌, List, Option, None, get_or, unwrap_or, inl, inr}
 use Rattle.std.specs.Int.{abs_diff}
 use Rattle.std.specs.List.{list_any, range_with_len}
@@ -7,12 +7,12 @@ use Rattle.std.proofs.lemmas.Bool.{cases_lt}
 use Rattle.std.proofs.lemmas.Int.{ints}
 use Rattle.sight.specs.Sweep.{lead_of, is_blocked_before}
 use Rattle.sightlines.specs.Walk.{step_blocks, steps_of, walk_blocks}
-use Rattle.sight.specs.Hiding.{mark_in_window, rise_at, AreHidden, Crosses}
+use Rattle.sight.specs.Hiding.{flag_in_extent, rise_at, AreHidden, Crosses}
 use Rattle.sight.specs.Sides.{facing, sightline_to, AreOpen}
 use Rattle.sight.specs.declared.family.Family.{Family}
 use Rattle.sightlines.specs.declared.walk.Axis.{Axis}
 use Rattle.sightlines.specs.declared.walk.Sightline.{Sightline}
-use Rattle.sight.specs.declared.window.Window.{Window}
+use Rattle.sight.specs.declared.extent.Extent.{Extent}
 use Rattle.sight.proofs.Families.{walk_is_blocked}
 
 rises : (e g h : ℤ) → g +ℤ h ≡ e +ℤ ((g +ℤ h) -ℤ e)
@@ -24,11 +24,11 @@ lines_block : (cells : List (Option ℤ)) (f : Family) (height n x y : ℕ) → 
     → walk_blocks cells (sightline_to cells f height x y)
     ≡ is_blocked_before cells f n y (rise_at cells f height n y) n
 lines_block cells f height n x y at away =
-    let level : ℕ → ℤ =
+    let ground : ℕ → ℤ =
     λ to. unwrap_or (get_or cells (to * f.lines.stride + y * f.side.stride) None) (pos 0) in
     let axis : ℕ → Axis = λ to. record { from = f.lines.at; to = to; stride = f.lines.stride } in
-    let high = ap (λ to. level to +ℤ pos height) (sym at)
-    ∙ rises f.eye (level (lead_of f n)) (pos height) in
+    let high = ap (λ to. ground to +ℤ pos height) (sym at)
+    ∙ rises f.eye (ground (lead_of f n)) (pos height) in
     walk_is_blocked cells f n y (rise_at cells f height n y) (sightline_to cells f height x y)
     (ap axis (sym at)) refl refl high away
 
@@ -44,7 +44,7 @@ unchanged : (m b : Bool) → b ≡ false → m ≡ (m && not b)
 unchanged true b e = rw e refl
 unchanged false b e = refl
 
-pub both_sides : (cells : List (Option ℤ)) (f : Family) (w : Window) (height : ℕ)
+pub both_sides : (cells : List (Option ℤ)) (f : Family) (w : Extent) (height : ℕ)
     (old mid new : List Bool) → f.lines.at < 4096 → w.lines.first + w.lines.cells ≤ 4096
     → AreHidden cells (facing f false) w height old mid →
     AreHidden cells (facing f true) w height mid new → AreOpen cells f w height old new
@@ -61,10 +61,10 @@ both_sides cells f w height old mid new few inside one two = record {
               within = (omega arith, omega arith);
             } in
             two.kept x y in_lines in_side (λ m c e. omega (arith, e, c.later))
-            ∙ ap (λ z. mark_in_window w z y mid) (sym at) ∙ one.crossed n y crosses in_side
-            ∙ ap (λ b. mark_in_window w (f.lines.at + n) y old
+            ∙ ap (λ z. flag_in_extent w z y mid) (sym at) ∙ one.crossed n y crosses in_side
+            ∙ ap (λ b. flag_in_extent w (f.lines.at + n) y old
             && not b) (sym (lines_block cells (facing f false) height n x y at (omega arith)))
-            ∙ ap (λ z. mark_in_window w z y old
+            ∙ ap (λ z. flag_in_extent w z y old
             && not (walk_blocks cells (sightline_to cells f height x y))) at
         | inr not_ahead ↦ elim (cases_lt (x + 1) f.lines.at) [
           | inl behind ↦
@@ -75,18 +75,18 @@ both_sides cells f w height old mid new few inside one two = record {
                 line = (omega arith, omega arith, λ e. omega arith);
                 within = (omega arith, omega arith);
               } in
-              let before : mark_in_window w x y mid ≡ mark_in_window w x y old =
+              let before : flag_in_extent w x y mid ≡ flag_in_extent w x y old =
               one.kept x y in_lines in_side (λ m c e. omega (arith, e, c.later)) in
-              ap (λ z. mark_in_window w z y new) (sym at) ∙ two.crossed n y crosses in_side
-              ∙ ap (λ b. mark_in_window w (f.lines.at - n) y mid
+              ap (λ z. flag_in_extent w z y new) (sym at) ∙ two.crossed n y crosses in_side
+              ∙ ap (λ b. flag_in_extent w (f.lines.at - n) y mid
               && not b) (sym (lines_block cells (facing f true) height n x y at (omega arith)))
-              ∙ ap (λ z. mark_in_window w z y mid
+              ∙ ap (λ z. flag_in_extent w z y mid
               && not (walk_blocks cells (sightline_to cells f height x y))) at
               ∙ ap (λ m. m && not (walk_blocks cells (sightline_to cells f height x y))) before
           | inr beside ↦
               two.kept x y in_lines in_side (λ m c e. omega (arith, e, c.later, c.line.2 refl))
               ∙ one.kept x y in_lines in_side (λ m c e. omega (arith, e, c.later))
-              ∙ unchanged (mark_in_window w x y old) (walk_blocks cells (sightline_to cells f height
+              ∙ unchanged (flag_in_extent w x y old) (walk_blocks cells (sightline_to cells f height
               x y)) (none_between cells (sightline_to cells f height x y) (omega arith))
         ]
       ];

@@ -15,7 +15,7 @@ use Rattle.tile_maps.specs.Maps.{IsMadeUpTo}
 use Rattle.sightlines.specs.Sight.{is_seen}
 use Rattle.sight.specs.Viewshed.{viewshed_value}
 use Rattle.sight.specs.Viewed.{value_at, HasValue, counted, AreAtMost}
-use Rattle.sight.specs.Marks.{AreMarked, MarksSeen}
+use Rattle.sight.specs.Flags.{AreFlagged, FlagsSeen}
 use Rattle.terrain.specs.declared.observer.Observer.{Observer}
 
 counted_yes : (h : Option ℤ) (n m : ℕ) → m ≡ n + 1 →
@@ -41,11 +41,11 @@ pub seen_counted : (t : Terrain) (os : List Observer) (target radius i : ℕ) (d
     (b : Bounds)
     (old new : List (Option ℕ)) (seen : List Bool) → i < length os
     → IsMadeUpTo b (HasValue t (take i os) target radius) (b.rows * b.cols) old →
-    AreMarked b (MarksSeen t (get_or os i d) target radius) seen
+    AreFlagged b (FlagsSeen t (get_or os i d) target radius) seen
     → length new ≡ length old →
     ((k : ℕ) → get_or new k None ≡ counted (get_or old k None) (get_or seen k false))
     → IsMadeUpTo b (HasValue t (take (i + 1) os) target radius) (b.rows * b.cols) new
-seen_counted t os target radius i d b old new seen less before marks size each = record {
+seen_counted t os target radius i d b old new seen less before flags size each = record {
   size = size ∙ before.size;
   each = λ p inside below entry is.
       let k = index_in b p in
@@ -53,7 +53,7 @@ seen_counted t os target radius i d b old new seen less before marks size each =
       (slice_get-get_or old k None (omega (arith, below, before.size))) in
       sym (get_or_from_slice_get new k entry None is)
       ∙ each k ∙ ap (λ v. counted v (get_or seen k false)) had
-      ∙ ap (λ s. counted (value_at t (take i os) target radius p) s) (marks.each p inside below)
+      ∙ ap (λ s. counted (value_at t (take i os) target radius p) s) (flags.each p inside below)
       ∙ value_counted t os target radius i d p
       (is_seen t (get_or os i d) p target radius) less refl;
 }

@@ -1,6 +1,6 @@
 -- A family's lines are the columns, or the rows, on one side of an observer, counted outward from
 -- 1. A ray leads from the observer to a target, seen from above. Line by line and cell by cell, a
--- list gets the rays to all marked cells from line 2 on.
+-- list gets the rays to all flagged cells from line 2 on.
 use Rattle.std.proofs.Common.{arith, refl, sym, ap, subst, ◌∙◌, ◌≡◌, ℕ, ◌+◌, ◌*◌, ◌<◌, ◌≤◌, ◌++◌, ◌⊎◌, Bool, false, List, [], ◌∷◌, length, Some, inl, inr}
 use Rattle.std.specs.Prelude.{slice_get}
 use Rattle.std.proofs.lemmas.Bool.{cases_lt}
@@ -8,39 +8,39 @@ use Rattle.std.proofs.lemmas.List.{length-append}
 use Rattle.std.proofs.lemmas.Option.{same_Some, slice_get_within}
 use Rattle.horizons.specs.declared.target.Target.{Target}
 use Rattle.sight.specs.Sweep.{lead_of, IsAtCell, IsFamily}
-use Rattle.sight.specs.Hiding.{target_at, mark_in_window, AreRays, Crosses, IsInRun, IsRay, IsWindow}
+use Rattle.sight.specs.Hiding.{target_at, flag_in_extent, AreRays, Crosses, IsInRun, IsRay, IsExtent}
 use Rattle.sight.specs.declared.family.Family.{Family}
-use Rattle.sight.specs.declared.window.Window.{Window}
+use Rattle.sight.specs.declared.extent.Extent.{Extent}
 use Rattle.sight.proofs.Ranking.{slice_get-front, slice_get-last}
 
--- let `rays` lead to each marked cell of lines before n, and of line n before cell c. If the window
--- has no other cell before line k, `rays` lead to each marked cell before line k.
-lines_passed : (f : Family) (w : Window) (marks : List Bool) (n c k : ℕ) (rays : List Target)
+-- let `rays` lead to each flagged cell of lines before n, and of line n before cell c. If the
+-- extent has no other cell before line k, `rays` lead to each flagged cell before line k.
+lines_passed : (f : Family) (w : Extent) (flags : List Bool) (n c k : ℕ) (rays : List Target)
     → n < k → length rays ≤ k * 4096 → ((m y : ℕ) → m < k → Crosses f w m → IsInRun w.side y →
-    (m < n) ⊎ ((m ≡ n) × (y < c))) → AreRays f w marks n c rays → AreRays f w marks k 0 rays
-lines_passed f w marks n c k rays less few none_between are = record {
+    (m < n) ⊎ ((m ≡ n) × (y < c))) → AreRays f w flags n c rays → AreRays f w flags k 0 rays
+lines_passed f w flags n c k rays less few none_between are = record {
   few = omega (arith, few);
   each = λ u t at. let is = are.each u t at in (is.0, omega (arith, is.1));
   sorted = are.sorted;
-  whole = λ m y before crosses in_run marked. elim before [
-    | inl h ↦ are.whole m y (none_between m y h crosses in_run) crosses in_run marked
+  whole = λ m y before crosses in_run flagged. elim before [
+    | inl h ↦ are.whole m y (none_between m y h crosses in_run) crosses in_run flagged
     | inr h ↦ absurd (omega (arith, h.1))
   ];
 }
 
-pub line_ended : (f : Family) (w : Window) (marks : List Bool) (n c : ℕ) (rays : List Target) →
-    w.side.first + w.side.cells ≤ c → c ≤ 4096 → AreRays f w marks n c rays →
-    AreRays f w marks (n + 1) 0 rays
-line_ended f w marks n c rays all few are =
-    lines_passed f w marks n c (n + 1) rays (omega arith) (omega (arith, are.few))
+pub line_ended : (f : Family) (w : Extent) (flags : List Bool) (n c : ℕ) (rays : List Target) →
+    w.side.first + w.side.cells ≤ c → c ≤ 4096 → AreRays f w flags n c rays →
+    AreRays f w flags (n + 1) 0 rays
+line_ended f w flags n c rays all few are =
+    lines_passed f w flags n c (n + 1) rays (omega arith) (omega (arith, are.few))
     (λ m y h crosses in_run. elim (cases_lt m n) [
       | inl less ↦ inl less
       | inr not ↦ inr (omega arith, omega arith)
     ]) are
 
-pub line_passed : (f : Family) (w : Window) (marks : List Bool) (n : ℕ) (rays : List Target) →
-    (Crosses f w n → ⊥) → AreRays f w marks n 0 rays → AreRays f w marks (n + 1) 0 rays
-line_passed f w marks n rays not_there are = lines_passed f w marks n 0 (n + 1) rays (omega arith)
+pub line_passed : (f : Family) (w : Extent) (flags : List Bool) (n : ℕ) (rays : List Target) →
+    (Crosses f w n → ⊥) → AreRays f w flags n 0 rays → AreRays f w flags (n + 1) 0 rays
+line_passed f w flags n rays not_there are = lines_passed f w flags n 0 (n + 1) rays (omega arith)
     (omega (arith, are.few)) (λ m y h crosses in_run. elim (cases_lt m n) [
       | inl less ↦ inl less
       | inr not ↦
@@ -48,31 +48,31 @@ line_passed f w marks n rays not_there are = lines_passed f w marks n 0 (n + 1) 
           absurd (not_there (subst (λ (k : ℕ). Crosses f w k) m_is crosses))
     ]) are
 
-pub cell_passed : (f : Family) (w : Window) (marks : List Bool) (n c : ℕ) (rays : List Target) →
-    mark_in_window w (lead_of f n) c marks ≡ false → AreRays f w marks n c rays →
-    AreRays f w marks n (c + 1) rays
-cell_passed f w marks n c rays unmarked are = record {
+pub cell_passed : (f : Family) (w : Extent) (flags : List Bool) (n c : ℕ) (rays : List Target) →
+    flag_in_extent w (lead_of f n) c flags ≡ false → AreRays f w flags n c rays →
+    AreRays f w flags n (c + 1) rays
+cell_passed f w flags n c rays unflagged are = record {
   few = omega (arith, are.few);
   each = are.each;
   sorted = are.sorted;
-  whole = λ m y before crosses in_run marked. elim before [
-    | inl h ↦ are.whole m y (inl h) crosses in_run marked
+  whole = λ m y before crosses in_run flagged. elim before [
+    | inl h ↦ are.whole m y (inl h) crosses in_run flagged
     | inr h ↦ elim (cases_lt y c) [
-      | inl less ↦ are.whole m y (inr (h.0, less)) crosses in_run marked
+      | inl less ↦ are.whole m y (inr (h.0, less)) crosses in_run flagged
       | inr not ↦
           let y_is : y ≡ c = omega (arith, h.1) in
-          let here : mark_in_window w (lead_of f m) y marks ≡ mark_in_window w
-          (lead_of f n) c marks = ap (λ k. mark_in_window w (lead_of f k) y marks) h.0
-          ∙ ap (λ k. mark_in_window w (lead_of f n) k marks) y_is in
+          let here : flag_in_extent w (lead_of f m) y flags ≡ flag_in_extent w
+          (lead_of f n) c flags = ap (λ k. flag_in_extent w (lead_of f k) y flags) h.0
+          ∙ ap (λ k. flag_in_extent w (lead_of f n) k flags) y_is in
           absurd (cc)
     ]
   ];
 }
 
-pub cell_taken : (f : Family) (w : Window) (marks : List Bool) (n c : ℕ) (rays : List Target) →
-    IsFamily f → IsWindow f w marks → Crosses f w n → IsInRun w.side c →
-    AreRays f w marks n c rays → AreRays f w marks n (c + 1) (rays ++ target_at f n c ∷ [])
-cell_taken f w marks n c rays is_f is_w crosses in_run are =
+pub cell_taken : (f : Family) (w : Extent) (flags : List Bool) (n c : ℕ) (rays : List Target) →
+    IsFamily f → IsExtent f w flags → Crosses f w n → IsInRun w.side c →
+    AreRays f w flags n c rays → AreRays f w flags n (c + 1) (rays ++ target_at f n c ∷ [])
+cell_taken f w flags n c rays is_f is_w crosses in_run are =
     let t = target_at f n c in
     let stands : IsAtCell f c t = record {
       offset = refl;
@@ -108,7 +108,7 @@ cell_taken f w marks n c rays is_f is_w crosses in_run are =
                   omega (arith, ap (λ q. q.line) last, ap (λ q. q.line) first)
             ]
       ];
-      whole = λ m y before crossed in_y marked.
+      whole = λ m y before crossed in_y flagged.
           let kept : (u : ℕ) × (slice_get rays u ≡ Some (target_at f m y)) →
           (u : ℕ) × (slice_get (rays ++ t ∷ []) u ≡ Some (target_at f m y)) = λ was. (
             was.0,
@@ -116,9 +116,9 @@ cell_taken f w marks n c rays is_f is_w crosses in_run are =
                 ∙ was.1,
           ) in
           elim before [
-            | inl h ↦ kept (are.whole m y (inl h) crossed in_y marked)
+            | inl h ↦ kept (are.whole m y (inl h) crossed in_y flagged)
             | inr h ↦ elim (cases_lt y c) [
-              | inl less ↦ kept (are.whole m y (inr (h.0, less)) crossed in_y marked)
+              | inl less ↦ kept (are.whole m y (inr (h.0, less)) crossed in_y flagged)
               | inr not ↦
                   let y_is : c ≡ y = omega (arith, h.1) in
                   let here : t ≡ target_at f m y = ap (λ k. target_at f k c) (sym h.0)
@@ -128,8 +128,8 @@ cell_taken f w marks n c rays is_f is_w crosses in_run are =
           ];
     }
 
-pub all_gathered : (f : Family) (w : Window) (marks : List Bool) (n : ℕ) (rays : List Target) →
-    n ≤ 4096 → ((m : ℕ) → Crosses f w m → m < n) → AreRays f w marks n 0 rays →
-    AreRays f w marks 4097 0 rays
-all_gathered f w marks n rays few end are = lines_passed f w marks n 0 4097 rays (omega arith)
+pub all_gathered : (f : Family) (w : Extent) (flags : List Bool) (n : ℕ) (rays : List Target) →
+    n ≤ 4096 → ((m : ℕ) → Crosses f w m → m < n) → AreRays f w flags n 0 rays →
+    AreRays f w flags 4097 0 rays
+all_gathered f w flags n rays few end are = lines_passed f w flags n 0 4097 rays (omega arith)
     (omega (arith, are.few)) (λ m y h crosses in_run. inl (end m crosses)) are

@@ -13,18 +13,18 @@ pub mod Passed
 -- rays in the order of their slopes, and of their lines
 pub mod Ranking
 pub mod Gathered
--- the marks that a family of crossings removes
-pub mod Unmarking
+-- the flags that a family of crossings clears
+pub mod ClearedFlags
 -- a family's lines block exactly what a walk finds blocked
 pub mod Families
--- the marks that a tile keeps on all sides of an observer
+-- the flags that a tile keeps on all sides of an observer
 pub mod BothSides
 pub mod PlacesLeft
 -- faults of observers, and refusals
 pub mod Refused
 -- the values of a tile, observer by observer
 pub mod Far
-pub mod Marked
+pub mod Flagged
 pub mod Counting
 -- the viewshed
 pub mod Uniqueness

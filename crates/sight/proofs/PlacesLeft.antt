@@ -1,5 +1,5 @@
--- Sweeps over columns keep a place's mark exactly if no crossing with a column blocks its line of
--- sight. Sweeps over rows keep it exactly if no crossing with a row does.
+-- Sweeps over columns clear a place's flag exactly if a crossing with a column blocks its line of
+-- sight. Sweeps over rows clear it exactly if a crossing with a row does.
 use Rattle.std.proofs.Common.{arith, sym, ap, ◌∙◌, ◌≡◌, ◌+◌, ◌-◌, ◌*◌, ◌<◌, ◌≤◌, ℕ, ℤ, pos, ◌+ℤ◌, Bool, true, false, not, ◌&&◌, List, Option, get_or, unwrap_or}
 use Rattle.std.proofs.lemmas.Nat.{mul-add-lt}
 use Rattle.terrain.specs.Raster.{Terrain}
@@ -9,8 +9,8 @@ use Rattle.tiles.specs.declared.bounds.Bounds.{Bounds}
 use Rattle.tiles.specs.Cutting.{index_in}
 use Rattle.sightlines.specs.Sight.{column_blocks, row_blocks}
 use Rattle.sightlines.specs.Walk.{columns_of, rows_of, walk_blocks}
-use Rattle.sight.specs.Marks.{mark_at, AreLeft}
-use Rattle.sight.specs.Sides.{sightline_to, AreOpen, family_of, window_of}
+use Rattle.sight.specs.Flags.{flag_at, AreLeft}
+use Rattle.sight.specs.Sides.{sightline_to, AreOpen, family_of, extent_of}
 use Rattle.sight.specs.declared.sides.TileAxis.{TileAxis}
 use Rattle.sightlines.specs.declared.walk.Sightline.{Sightline}
 use Rattle.sightlines.proofs.Crossings.{height_is, column_blocks-walk, row_blocks-walk}
@@ -26,15 +26,15 @@ rows_at t b p = record {
   tile = record { first = b.top; cells = b.rows; stride = b.cols };
 }
 
-pub column_marks : (b : Bounds) (x y n : ℕ) → n ≡ b.rows * b.cols → x < b.cols → y < b.rows →
+pub column_flags : (b : Bounds) (x y n : ℕ) → n ≡ b.rows * b.cols → x < b.cols → y < b.rows →
     x * 1 + y * b.cols < n
-column_marks b x y n size in_x in_y = omega (arith, size, mul-add-lt y b.cols x b.rows in_y in_x)
+column_flags b x y n size in_x in_y = omega (arith, size, mul-add-lt y b.cols x b.rows in_y in_x)
 
-pub row_marks : (b : Bounds) (x y n : ℕ) → n ≡ b.rows * b.cols → x < b.rows → y < b.cols →
+pub row_flags : (b : Bounds) (x y n : ℕ) → n ≡ b.rows * b.cols → x < b.rows → y < b.cols →
     x * b.cols + y * 1 < n
-row_marks b x y n size in_x in_y = omega (arith, size, mul-add-lt x b.cols y b.rows in_x in_y)
+row_flags b x y n size in_x in_y = omega (arith, size, mul-add-lt x b.cols y b.rows in_x in_y)
 
--- the equation of a new mark stays true, if index i is replaced by an equal j, and `walked` by an
+-- the equation of a new flag stays true, if index i is replaced by an equal j, and `walked` by an
 -- equal `blocked`
 reported : (new old : List Bool) (i j : ℕ) (walked blocked : Bool) →
     i ≡ j → walked ≡ blocked → get_or new i false ≡ (get_or old i false && not walked) →
@@ -77,7 +77,7 @@ module _ (t : Terrain) (p : Place) (b : Bounds) (e : ℤ)
       ∙ sym (row_blocks-walk t p q e (height_of t q +ℤ pos target) observer inside)
 
   pub columns_left : AreOpen t.cells (family_of (columns_at b p) (rows_at t b p) e)
-      (window_of (columns_at b p) (rows_at t b p)) target old new →
+      (extent_of (columns_at b p) (rows_at t b p)) target old new →
       AreLeft b (λ (q : Place). not (column_blocks t p q e (height_of t q +ℤ pos target))) old new
   columns_left are = record {
     size = are.size;
@@ -92,7 +92,7 @@ module _ (t : Terrain) (p : Place) (b : Bounds) (e : ℤ)
   }
 
   pub rows_left : AreOpen t.cells (family_of (rows_at t b p) (columns_at b p) e)
-      (window_of (rows_at t b p) (columns_at b p)) target old new →
+      (extent_of (rows_at t b p) (columns_at b p)) target old new →
       AreLeft b (λ (q : Place). not (row_blocks t p q e (height_of t q +ℤ pos target))) old new
   rows_left are = record {
     size = are.size;
@@ -110,6 +110,6 @@ pub left_both : (b : Bounds) (one two : Place → Bool) (old mid new : List Bool
     AreLeft b one old mid → AreLeft b two mid new → AreLeft b (λ p. one p && two p) old new
 left_both b one two old mid new first second = record {
   size = second.size ∙ first.size;
-  each = λ p inside. and_both (mark_at b old p) (mark_at b mid p) (mark_at b new p) (one p) (two p)
+  each = λ p inside. and_both (flag_at b old p) (flag_at b mid p) (flag_at b new p) (one p) (two p)
       (first.each p inside) (second.each p inside);
 }

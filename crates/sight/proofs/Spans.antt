@@ -144,9 +144,9 @@ rest_small : (a b : ℤ) → unsigned_abs a ≤ 10 ^ 15 + 2 ^ 50 → unsigned_ab
     unsigned_abs (a -ℤ b) < 2 ^ 63
 rest_small a b p q = omega (arith, ints)
 
-pub level_small : (near far e offset : ℤ) → IsHeight near → IsHeight far → IsElevation e →
+pub intercept_small : (near far e offset : ℤ) → IsHeight near → IsHeight far → IsElevation e →
     unsigned_abs offset ≤ 4096 → unsigned_abs ((near -ℤ e) -ℤ ((far -ℤ near) *ℤ offset)) < 2 ^ 63
-level_small near far e offset a b is few = rest_small (near -ℤ e) ((far -ℤ near) *ℤ offset)
+intercept_small near far e offset a b is few = rest_small (near -ℤ e) ((far -ℤ near) *ℤ offset)
     (base_small near e a is) (tilt_within near far offset a b few)
 
 -- two forms of a ramp's value; the second is a weighted sum of two cells' heights above the eye

@@ -7,4 +7,4 @@ pub mod Sides
 pub mod Looking
 pub mod Refusals
 pub mod Viewed
-pub mod Marks
+pub mod Flags

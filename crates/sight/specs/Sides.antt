@@ -1,14 +1,14 @@
--- A window is a part of the grid whose cells have marks, here a tile. A cell keeps its mark exactly
--- if no crossing with the lines (all columns, or all rows) blocks its line of sight.
+-- An extent is a part of the grid whose cells have flags, here a tile. A cell's flag is cleared
+-- exactly if a crossing with the lines (all columns, or all rows) blocks its line of sight.
 -- Private.
 use Rattle.std.specs.Prelude.{◌≡◌, ℕ, ◌+◌, ◌*◌, ◌<◌, ◌≤◌, Bool, false, not, ◌&&◌, ℤ, pos, ◌+ℤ◌, List, length, Option, None, unwrap_or, slice_index_or, min, max}
-use Rattle.sight.specs.Hiding.{IsInRun, mark_in_window}
+use Rattle.sight.specs.Hiding.{IsInRun, flag_in_extent}
 use Rattle.sight.specs.Sweep.{side_axis}
 use Rattle.sightlines.specs.Walk.{walk_blocks}
 use Rattle.sight.specs.declared.family.Family.{Family}
 use Rattle.sight.specs.declared.sides.TileAxis.{TileAxis}
 use Rattle.sightlines.specs.declared.walk.Sightline.{Sightline}
-use Rattle.sight.specs.declared.window.Window.{Window}
+use Rattle.sight.specs.declared.extent.Extent.{Extent}
 
 -- The observer's coordinate is below 4096, the tile ends by 4096, and strides are at most 4096.
 pub record IsTileAxis (c : TileAxis) : Type 0 where
@@ -30,9 +30,9 @@ family_of lines side eye = record {
   eye = eye;
 }
 
--- The tile as a window: the tile's run across the lines, and its run along the lines.
-abbrev pub window_of : TileAxis → TileAxis → Window
-window_of lines side = record { lines = lines.tile; side = side.tile }
+-- The tile as an extent: the tile's run across the lines, and its run along the lines.
+abbrev pub extent_of : TileAxis → TileAxis → Extent
+extent_of lines side = record { lines = lines.tile; side = side.tile }
 
 -- The family with its lines counted toward coordinate 0 if `back`, else away from it.
 abbrev pub facing : Family → Bool → Family
@@ -53,11 +53,11 @@ sightline_to cells f height x y = record {
       (pos 0) +ℤ pos height;
 }
 
--- A mark is kept exactly if no crossing with the lines, on either side of the observer, blocks its
--- cell's line of sight.
-pub record AreOpen (cells : List (Option ℤ)) (f : Family) (w : Window) (height : ℕ)
+-- A flag is cleared exactly if a crossing with the lines, on either side of the observer, blocks
+-- its cell's line of sight.
+pub record AreOpen (cells : List (Option ℤ)) (f : Family) (w : Extent) (height : ℕ)
     (old new : List Bool) : Type 0 where
   pub size : length new ≡ length old
   pub each : (x y : ℕ) → IsInRun w.lines x → IsInRun w.side y
-      → mark_in_window w x y new
-      ≡ (mark_in_window w x y old && not (walk_blocks cells (sightline_to cells f height x y)))
+      → flag_in_extent w x y new
+      ≡ (flag_in_extent w x y old && not (walk_blocks cells (sightline_to cells f height x y)))

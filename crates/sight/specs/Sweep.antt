@@ -93,8 +93,8 @@ ramp_of f k offset near far =
     record { gain = step *ℤ pos k; intercept = (near -ℤ f.eye) -ℤ (step *ℤ offset); lines = k }
 
 -- The ramp of ground of one height along line k.
-abbrev pub level_ramp : Family → ℕ → ℤ → Ramp
-level_ramp f k height = record { gain = pos 0; intercept = height -ℤ f.eye; lines = k }
+abbrev pub constant_ramp : Family → ℕ → ℤ → Ramp
+constant_ramp f k height = record { gain = pos 0; intercept = height -ℤ f.eye; lines = k }
 
 -- The rise of a target above the eye is within its limit.
 abbrev pub IsRise : ℤ → Type 0

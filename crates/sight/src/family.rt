@@ -11,7 +11,7 @@ ghost use Rattle.terrain.specs.Raster.{IsHeight};
 ghost use Rattle.sightlines.specs.Walk.{AreHeights};
 ghost use Rattle.sightlines.specs.Blocks.{IsTopOf};
 ghost use Rattle.sight.specs.Hiding.{height_at};
-ghost use Rattle.sight.specs.Sweep.{lead_of, offset_of, ramp_of, level_ramp, IsFamily, IsLine, IsCell, Passes, PassesAmong, Shows};
+ghost use Rattle.sight.specs.Sweep.{lead_of, offset_of, ramp_of, constant_ramp, IsFamily, IsLine, IsCell, Passes, PassesAmong, Shows};
 
 use crate::heights::{greater_height, height_at};
 use horizons::{Ramp, Target};
@@ -166,11 +166,11 @@ impl Family {
 
     /// Returns the ramp of a line whose ground has one height.
     #[inline(always)]
-    pub(crate) fn level_ramp(self, line: u32, height: Height) -> Ramp
+    pub(crate) fn constant_ramp(self, line: u32, height: Height) -> Ramp
         requires family { IsFamily self }
         requires line { IsLine self line }
         requires height { IsHeight height }
-        ensures ramp { result ≡ level_ramp self line height }
+        ensures ramp { result ≡ constant_ramp self line height }
         ensures at { (t : Target) → IsTarget t → IsRampAt result t }
     {
         Ramp {

@@ -1,7 +1,7 @@
 //! Viewsheds: how many observers see each cell of a terrain grid.
 //!
 //! Begin with [`viewshed`]; [`sees`] tests one line of sight. Walks along lines of sight, or one
-//! sweep over the tile, mark the cells of a tile that one observer sees. Depends on `terrain`,
+//! sweep over the tile, flag the cells of a tile that one observer sees. Depends on `terrain`,
 //! `tiles`, `tile_jobs`, `tile_maps`, `horizons` and `sightlines`.
 //!
 //! Modules, callers first:
@@ -12,25 +12,27 @@
 //! - `tops`: the greatest heights of blocks of cells
 //! - `tile`: the viewshed values of one tile
 //! - `reach`: whether a tile has a cell within the radius
-//! - `marking`: marks the cells that one observer sees, by walks or by a sweep
+//! - `flagging`: flags the cells that one observer sees, by walks or by a sweep
 //! - `sides`: sweeps a tile on all four sides of the observer
-//! - `hiding`: removes the marks of cells that one family of crossings hides
+//! - `hiding`: clears the flags of cells that one family of crossings hides
 //! - `looking`: looks up which targets on a line are hidden by nearer lines
 //! - `sweep`: a horizon, raised line by line
 //! - `line_ground`: raises a horizon to the ground of one line
-//! - `gathering`: collects the rays of marked cells, line by line
+//! - `gathering`: collects the rays of flagged cells, line by line
 //! - `ranks`: sorts rays by slope
 //! - `rising`: how far a target rises above the eye
 //! - `family`: the lines on one side of the observer, and the ground that rays meet there
-//! - `window`: parts of the grid whose cells have marks
+//! - `extent`: parts of the grid whose cells have flags
 //! - `heights`: heights of cells in a list
 //! - `by_place`: builds lists with one entry for each place of a tile
 //! - `laws`: a theorem: a viewshed is unique
 #![tactic(auto)]
 
 mod by_place;
+mod extent;
 mod family;
 mod fault;
+mod flagging;
 mod gathering;
 mod heights;
 mod hiding;
@@ -38,7 +40,6 @@ mod judging;
 pub mod laws;
 mod line_ground;
 mod looking;
-mod marking;
 mod ranks;
 mod reach;
 mod rising;
@@ -47,7 +48,6 @@ mod sweep;
 mod tile;
 mod tops;
 mod viewing;
-mod window;
 
 pub use fault::SightFault;
 pub use sightlines::sees;

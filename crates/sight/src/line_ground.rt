@@ -150,7 +150,7 @@ fn is_ground_below_piece(
     };
     is_never_above(
         targets,
-        family.level_ramp(line, top),
+        family.constant_ramp(line, top),
         piece.ramp,
         from,
         piece.end,

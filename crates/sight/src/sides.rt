@@ -1,4 +1,4 @@
-//! Sweeps a tile: removes the marks of cells whose line of sight a crossing blocks.
+//! Sweeps a tile: clears the flags of cells whose line of sight a crossing blocks.
 //!
 //! Crossings come in four families: those with the columns east or west of the observer, and with
 //! the rows south or north. These columns or rows are a family's lines. The sweep takes one family
@@ -10,14 +10,14 @@ ghost use Rattle.tiles.specs.Cutting.{AreBounds, IsCutting};
 ghost use Rattle.sightlines.specs.Sight.{highest_eye, is_open, place_of};
 ghost use Rattle.sightlines.specs.Walk.{AreHeights, IsElevation};
 ghost use Rattle.sight.specs.Hiding.{IsApart};
-ghost use Rattle.sight.specs.Sides.{AreOpen, IsTileAxis, facing, family_of, window_of};
-ghost use Rattle.sight.specs.Marks.{AreLeft};
+ghost use Rattle.sight.specs.Sides.{AreOpen, IsTileAxis, facing, family_of, extent_of};
+ghost use Rattle.sight.specs.Flags.{AreLeft};
 
+use crate::extent::{CellRun, Extent};
 use crate::family::{Family, Lines, Side};
 use crate::heights::height_at;
 use crate::hiding::hide;
 use crate::tile::ViewshedInput;
-use crate::window::{CellRun, Window};
 use sightlines::elevation;
 use std::alloc::{AllocError, Global};
 use terrain::{Cell, Observer, Place};
@@ -51,7 +51,7 @@ pub struct TileAxis {
     pub tile: CellRun,
 }
 
-/// Removes the marks of cells that lines on either side of the observer hide.
+/// Clears the flags of cells that lines on either side of the observer hide.
 /// The lines of both families are counted along the axis `lines`, and run along the axis `side`.
 fn hide_on_both_sides(
     alloc: Global,
@@ -60,19 +60,19 @@ fn hide_on_both_sides(
     side: TileAxis,
     eye: i64,
     height: u32,
-    marks: &mut [bool],
+    flags: &mut [bool],
 ) -> Result<(), AllocError>
     requires heights { AreHeights cells.now }
     requires lines { IsTileAxis lines }
     requires side { IsTileAxis side }
     requires eye { IsElevation eye }
     requires inside { (x y : ℕ) → x < lines.tile.cells → y < side.tile.cells
-        → x * lines.tile.stride + y * side.tile.stride < length marks.old }
-    requires apart { IsApart (window_of lines side) }
+        → x * lines.tile.stride + y * side.tile.stride < length flags.old }
+    requires apart { IsApart (extent_of lines side) }
     requires height { height ≤ highest_eye }
     ensures { OnOk result
-        (AreOpen cells.now (family_of lines side eye) (window_of lines side) height marks.old
-        marks.new) }
+        (AreOpen cells.now (family_of lines side eye) (extent_of lines side) height flags.old
+        flags.new) }
 {
     let family = Family {
         lines: Lines {
@@ -88,31 +88,31 @@ fn hide_on_both_sides(
         },
         eye,
     };
-    let window = Window {
+    let extent = Extent {
         lines: lines.tile,
         side: side.tile,
     };
-    hide(alloc, cells, family, window, height, marks)?;
-    hide(alloc, cells, family.reverse(), window, height, marks)
+    hide(alloc, cells, family, extent, height, flags)?;
+    hide(alloc, cells, family.reverse(), extent, height, flags)
 }
 
 impl<'a> ViewshedInput<'a> {
-    /// Removes the marks of places whose line of sight a crossing blocks.
+    /// Clears the flags of places whose line of sight a crossing blocks.
     pub(crate) fn hide_blocked(
         &self,
         alloc: Global,
         observer: &Observer,
         bounds: Bounds,
-        marks: &mut [bool],
+        flags: &mut [bool],
     ) -> Result<(), AllocError>
         requires lawful { IsCutting self.now.tiling.now }
         requires inside { AreBounds self.now.tiling.now bounds }
         requires observer { IsInside self.now.grid.now.terrain (place_of observer.now) }
         requires eye { observer.now.eye ≤ highest_eye }
-        requires size { length marks.old ≡ bounds.rows * bounds.cols }
+        requires size { length flags.old ≡ bounds.rows * bounds.cols }
         ensures { OnOk result (AreLeft bounds
             (λ (p : Place). is_open self.now.grid.now.terrain observer.now p self.now.target_height)
-            marks.old marks.new) }
+            flags.old flags.new) }
     {
         let cells = self.grid.cells();
         let cols = self.grid.cols();
@@ -142,7 +142,7 @@ impl<'a> ViewshedInput<'a> {
             },
         };
         let height = self.target_height;
-        hide_on_both_sides(alloc, cells, columns, rows, eye, height, marks)?;
-        hide_on_both_sides(alloc, cells, rows, columns, eye, height, marks)
+        hide_on_both_sides(alloc, cells, columns, rows, eye, height, flags)?;
+        hide_on_both_sides(alloc, cells, rows, columns, eye, height, flags)
     }
 }

@@ -45,15 +45,15 @@ fn one_more(value: Count) -> Count
     }
 }
 
-/// Adds 1 to the value of each marked cell; no data stays no data.
+/// Adds 1 to the value of each flagged cell; no data stays no data.
 fn count_seen(seen: &[bool], values: &mut [Count])
     requires size { length seen.now ≡ length values.old }
     requires few { AreAtMost 1023 values.old }
     ensures { (k : ℕ) → slice_index_or values.new k None
         ≡ counted (slice_index_or values.old k None) (slice_index_or seen.now k false) }
 {
-    for (index, mark) in seen.iter().enumerate() {
-        if *mark {
+    for (index, flag) in seen.iter().enumerate() {
+        if *flag {
             values[index] = one_more(values[index]);
         }
     }
@@ -99,7 +99,7 @@ impl<'a> ViewshedInput<'a> {
     {
         for observer in self.observers {
             if self.reaches(observer, bounds) {
-                self.mark_seen(alloc, observer, bounds, seen)?;
+                self.flag_seen(alloc, observer, bounds, seen)?;
                 count_seen(seen, values);
             }
             gate.finish_part(self.observers.len());

@@ -6,14 +6,14 @@ use Rattle.horizons.specs.declared.target.Target.{Target}
 use Rattle.sight.specs.Sweep.{is_blocked_before}
 use Rattle.sight.specs.Looking.{LooksFrom}
 use Rattle.sight.specs.Hiding.{rise_at, AreRays}
-use Rattle.sight.proofs.Unmarking.{AreHiddenBelow, ray_at, rank_at, ray_is_target, window_kept, looked_on, none_tested, blocked_tested, open_tested, all_tested}
+use Rattle.sight.proofs.ClearedFlags.{AreHiddenBelow, ray_at, rank_at, ray_is_target, extent_kept, looked_on, none_tested, blocked_tested, open_tested, all_tested}
 use Rattle.sight.proofs.hiding.hide.Goals as goal
 use Rattle.sight.proofs.hiding.hide.Goals.{then-hides, else-hides}
 
 pub rank-requires-clause-each : goal.rank-requires-clause-each
 rank-requires-clause-each c i t at =
     let here = ap (λ (xs : List Target). slice_get xs i) (sym c.deref.ensures.value) ∙ at in
-    ray_is_target c.args.family c.args.window c.args.marks.now t c.requires.family c.requires.window
+    ray_is_target c.args.family c.args.extent c.args.flags.now t c.requires.family c.requires.extent
     (c.in_ok-rays.ensures.rays.each i t here).0
 
 pub loop-number-init : goal.loop-number-init
@@ -29,13 +29,13 @@ loop-number-init c =
           ∙ at in
           let ray = (c.in_ok-rays.ensures.rays.each u t here).0 in
           omega (arith, first.line, ray.crosses.later);
-      marks = none_tested c.args.cells.now c.args.family c.args.window c.args.height
-          c.deref-ray-items.result.now c.args.marks.now;
+      flags = none_tested c.args.cells.now c.args.family c.args.extent c.args.height
+          c.deref-ray-items.result.now c.args.flags.now;
     }
 
 pub go_to-requires-clause-line : goal.go_to-requires-clause-line
 go_to-requires-clause-line c =
-    (ray_at c.args.family c.args.window c.args.marks.now c.in_ok-rays.rays.items
+    (ray_at c.args.family c.args.extent c.args.flags.now c.in_ok-rays.rays.items
     c.deref-ray-items.result.now c.loop-number.number c.deref-ray-items.ensures.value
     c.loop-number-test.true c.in_ok-rays.ensures.rays).crosses.line
 
@@ -53,16 +53,16 @@ go_to-requires-clause-before c =
 
 pub rise-rise-requires-clause-line : goal.rise-rise-requires-clause-line
 rise-rise-requires-clause-line c =
-    (ray_at c.args.family c.args.window c.args.marks.now c.in_ok-rays.rays.items
+    (ray_at c.args.family c.args.extent c.args.flags.now c.in_ok-rays.rays.items
     c.deref-ray-items.result.now c.loop-number.number c.deref-ray-items.ensures.value
     c.loop-number-test.true c.in_ok-rays.ensures.rays).crosses.line
 
 pub rise-rise-requires-clause-target : goal.rise-rise-requires-clause-target
 rise-rise-requires-clause-target c =
-    let ray = ray_at c.args.family c.args.window c.args.marks.now c.in_ok-rays.rays.items
+    let ray = ray_at c.args.family c.args.extent c.args.flags.now c.in_ok-rays.rays.items
     c.deref-ray-items.result.now c.loop-number.number c.deref-ray-items.ensures.value
     c.loop-number-test.true c.in_ok-rays.ensures.rays in
-    ray_is_target c.args.family c.args.window c.args.marks.now _ c.requires.family c.requires.window
+    ray_is_target c.args.family c.args.extent c.args.flags.now _ c.requires.family c.requires.extent
     ray
 
 pub hides-requires : goal.hides-requires
@@ -73,24 +73,24 @@ hides-requires c =
     let at = rank_at c.deref-ray-items.result.now c.in_ok-ranked.ranked.targets.items
     c.in_ok-ranked.ranked.ranks.items c.loop-number.number c.index.result.now
     c.loop-number-test.true ranked c.index.ensures in
-    let ray = ray_at c.args.family c.args.window c.args.marks.now c.in_ok-rays.rays.items
+    let ray = ray_at c.args.family c.args.extent c.args.flags.now c.in_ok-rays.rays.items
     c.deref-ray-items.result.now c.loop-number.number c.deref-ray-items.ensures.value
     c.loop-number-test.true c.in_ok-rays.ensures.rays in
     record {
       rank = omega (arith, lookup.hides.over.whole, slice_get_within _ c.index.result.now _ at);
       cursor = lookup.cursor;
-      target = ray_is_target c.args.family c.args.window c.args.marks.now _ c.requires.family
-          c.requires.window ray;
+      target = ray_is_target c.args.family c.args.extent c.args.flags.now _ c.requires.family
+          c.requires.extent ray;
       at = λ r at_r. lookup.hides.over.each c.index.result.now _ r at at_r;
     }
 
-pub unmark-requires-clause-window : goal.unmark-requires-clause-window
-unmark-requires-clause-window c = window_kept c.args.family c.args.window c.args.marks.now
-    c.loop-number.marks c.loop-number.invariant.marks.size c.requires.window
+pub clear_flag-requires-clause-extent : goal.clear_flag-requires-clause-extent
+clear_flag-requires-clause-extent c = extent_kept c.args.family c.args.extent c.args.flags.now
+    c.loop-number.flags c.loop-number.invariant.flags.size c.requires.extent
 
-pub unmark-requires-clause-ray : goal.unmark-requires-clause-ray
-unmark-requires-clause-ray c =
-    ray_at c.args.family c.args.window c.args.marks.now c.in_ok-rays.rays.items
+pub clear_flag-requires-clause-ray : goal.clear_flag-requires-clause-ray
+clear_flag-requires-clause-ray c =
+    ray_at c.args.family c.args.extent c.args.flags.now c.in_ok-rays.rays.items
     c.deref-ray-items.result.now c.loop-number.number c.deref-ray-items.ensures.value
     c.loop-number-test.true c.in_ok-rays.ensures.rays
 
@@ -98,13 +98,13 @@ pub loop-number-preserved : goal.loop-number-preserved
 loop-number-preserved c =
     let cells = c.args.cells.now in
     let f = c.args.family in
-    let w = c.args.window in
+    let w = c.args.extent in
     let height = c.args.height in
-    let old = c.args.marks.now in
+    let old = c.args.flags.now in
     let rays = c.deref-ray-items.result.now in
     let n = c.loop-number.number in
     let targets = c.in_ok-ranked.ranked.targets.items in
-    let marks = c.loop-number.marks in
+    let flags = c.loop-number.flags in
     let t = get_or rays n (record { offset = pos 0; line = 0 }) in
     let at_t : slice_get rays n ≡ Some t =
     slice_get-get_or rays n (record { offset = pos 0; line = 0 }) c.loop-number-test.true in
@@ -131,27 +131,27 @@ loop-number-preserved c =
           c.hides.ensures.line c.hides.ensures.highest c.hides.ensures.cursor;
       some = omega (arith, line, ray.crosses.later);
       line = λ u s after at_s. omega (arith, line, are.sorted n u t s (omega arith) at_t at_s);
-      marks = elim c.if-hides.branch [
+      flags = elim c.if-hides.branch [
         | then-hides w' ↦
             subst (λ (ms : List Bool). AreHiddenBelow cells f w height rays (n + 1) old ms)
-            (sym (w'.marks-is ∙ w'.unmark.ensures ray.cell ray.stands))
-            (blocked_tested cells f w height rays n old marks t ray.cell c.requires.apart
-            (window_kept f w old marks c.loop-number.invariant.marks.size c.requires.window)
+            (sym (w'.flags-is ∙ w'.clear_flag.ensures ray.cell ray.stands))
+            (blocked_tested cells f w height rays n old flags t ray.cell c.requires.apart
+            (extent_kept f w old flags c.loop-number.invariant.flags.size c.requires.extent)
             at_t ray.stands ray.within ray.crosses (sym reported
-            ∙ w'.if-hides.true) c.loop-number.invariant.marks)
+            ∙ w'.if-hides.true) c.loop-number.invariant.flags)
         | else-hides w' ↦
             subst (λ (ms : List Bool). AreHiddenBelow cells f w height rays (n + 1) old ms)
-            (sym w'.marks-is)
-            (open_tested cells f w height rays n old marks t ray.cell at_t ray.stands (sym reported
-            ∙ w'.if-hides.false) c.loop-number.invariant.marks)
+            (sym w'.flags-is)
+            (open_tested cells f w height rays n old flags t ray.cell at_t ray.stands (sym reported
+            ∙ w'.if-hides.false) c.loop-number.invariant.flags)
       ];
     }
 
 pub returns : goal.returns
 returns c =
     let rays = c.deref-ray-items.result.now in
-    let are : AreRays c.args.family c.args.window c.args.marks.now 4097 0 rays =
+    let are : AreRays c.args.family c.args.extent c.args.flags.now 4097 0 rays =
     rw c.deref-ray-items.ensures.value c.in_ok-rays.ensures.rays in
     let end : c.loop-number.number ≡ length rays = omega arith in
-    all_tested c.args.cells.now c.args.family c.args.window c.args.height rays c.args.marks.now
-    c.loop-number.marks are (rw end at c.loop-number.invariant.marks)
+    all_tested c.args.cells.now c.args.family c.args.extent c.args.height rays c.args.flags.now
+    c.loop-number.flags are (rw end at c.loop-number.invariant.flags)

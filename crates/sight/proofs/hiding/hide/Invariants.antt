@@ -2,7 +2,7 @@ use Rattle.std.proofs.Common.{◌≡◌, ℕ, ◌<◌, ◌≤◌, Some}
 use Rattle.std.specs.Prelude.{slice_get}
 use Rattle.horizons.specs.declared.target.Target.{Target}
 use Rattle.sight.specs.Looking.{LooksFrom}
-use Rattle.sight.proofs.Unmarking.{AreHiddenBelow}
+use Rattle.sight.proofs.ClearedFlags.{AreHiddenBelow}
 use Rattle.sight.proofs.hiding.hide.Given as goal
 
 abbrev pub invariant-loop-number : goal.invariant-loop-number
@@ -11,5 +11,5 @@ invariant-loop-number l = record {
   some : 0 < l.lookup.line;
   line : (u : ℕ) (t : Target) → l.number ≤ u → slice_get l.ray-items u ≡ Some t →
       l.lookup.line ≤ t.line;
-  marks : AreHiddenBelow l.cells l.family l.window l.height l.ray-items l.number l.fn.marks l.marks;
+  flags : AreHiddenBelow l.cells l.family l.extent l.height l.ray-items l.number l.fn.flags l.flags;
 }

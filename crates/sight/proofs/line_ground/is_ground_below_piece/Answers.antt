@@ -5,7 +5,7 @@ use Rattle.std.proofs.lemmas.Option.{slice_get-get_or}
 use Rattle.horizons.specs.Horizons.{ramp_hides}
 use Rattle.horizons.proofs.Hiding.{hides_if_not_above}
 use Rattle.horizons.proofs.Sizes.{back_short}
-use Rattle.sight.specs.Sweep.{IsHiddenOn, level_ramp}
+use Rattle.sight.specs.Sweep.{IsHiddenOn, constant_ramp}
 use Rattle.sight.proofs.Below.{passes_between, none_blocks, top_blocks, IsTopNear}
 use Rattle.sightlines.proofs.Heights.{kept, height_fits}
 use Rattle.sight.proofs.line_ground.is_ground_below_piece.Goals as goal
@@ -36,13 +36,13 @@ returns-in_default c i t low high at y rise stands later blocks =
     c.offset_at-high.result ray.0 rise t c.requires.family stands later ray.1 ray.2 ray.3 none
     blocks)
 
-pub level_ramp-requires-clause-height : goal.level_ramp-requires-clause-height
-level_ramp-requires-clause-height c =
+pub constant_ramp-requires-clause-height : goal.constant_ramp-requires-clause-height
+constant_ramp-requires-clause-height c =
     kept c.in-Some.top (c.in-Some.ensures.height c.in-Some.top refl)
 
 pub is_never_above-requires-clause-one : goal.is_never_above-requires-clause-one
 is_never_above-requires-clause-one c i t low high at =
-    c.level_ramp.ensures.at t (c.requires.targets.each i t at)
+    c.constant_ramp.ensures.at t (c.requires.targets.each i t at)
 
 pub returns : goal.returns
 returns c =
@@ -58,17 +58,19 @@ returns c =
     let near : IsTopNear c.args.cells.now f k c.offset_at-low.result c.offset_at-high.result
     (Some top) = rw (low_back, high_back) at c.in-Some.ensures.top in
     let top_back = to_z-of_z w64 top (height_fits top (c.in-Some.ensures.height top refl)) in
-    let level : c.level_ramp.result ≡ level_ramp f k top =
-    rw top_back at c.level_ramp.ensures.ramp in
+    let constant : c.constant_ramp.result ≡ constant_ramp f k top =
+    rw top_back at c.constant_ramp.ensures.ramp in
     OnTrue_from c.is_never_above.result (IsHiddenOn c.args.cells.now f targets k ramp c.args.from
     c.args.piece.end) (λ yes i t low high at y rise stands later blocks.
     let ray =
     passes_between c.args.targets.now (record { offset = pos 0; line = 0 }) c.args.line c.args.from
     c.args.piece.end i c.offset_at-low.result c.offset_at-high.result t c.requires.targets
     c.requires.range.1 c.offset_at-low.ensures.passes c.offset_at-high.ensures.passes low high at in
-    let hides : ramp_hides c.level_ramp.result t rise ≡ true = ap (λ r. ramp_hides r t rise) level
+    let hides : ramp_hides c.constant_ramp.result t rise ≡ true =
+    ap (λ r. ramp_hides r t rise) constant
     ∙ top_blocks c.args.cells.now f k y c.offset_at-low.result c.offset_at-high.result ray.0 rise
     top t c.requires.family stands later ray.1 ray.2 ray.3 near blocks in
-    hides_if_not_above c.level_ramp.result ramp t rise
-    (c.level_ramp.ensures.at t (c.requires.targets.each i t at)) (c.requires.ramp i t low high at)
+    hides_if_not_above c.constant_ramp.result ramp t rise
+    (c.constant_ramp.ensures.at t (c.requires.targets.each i t at))
+    (c.requires.ramp i t low high at)
     (OnTrue_at yes c.is_never_above.ensures i t low high at) hides)

@@ -3,7 +3,7 @@ use Rattle.std.specs.Int.{w64}
 use Rattle.std.proofs.lemmas.Int.{to_z-of_z}
 use Rattle.std.proofs.lemmas.Result.{on_ok_weaker}
 use Rattle.sight.specs.Hiding.{AreHidden}
-use Rattle.sight.specs.Sides.{facing, family_of, window_of}
+use Rattle.sight.specs.Sides.{facing, family_of, extent_of}
 use Rattle.sight.proofs.BothSides.{both_sides}
 use Rattle.sight.proofs.sides.hide_on_both_sides.Goals as goal
 
@@ -11,13 +11,13 @@ pub returns : goal.returns
 returns c =
     let cells = c.args.cells.now in
     let f = family_of c.args.lines c.args.side c.args.eye in
-    let w = window_of c.args.lines c.args.side in
+    let w = extent_of c.args.lines c.args.side in
     let back = to_z-of_z w64 c.args.eye (search rules) in
-    let one : AreHidden cells f w c.args.height c.args.marks.now c.hide.new.marks =
+    let one : AreHidden cells f w c.args.height c.args.flags.now c.hide.new.flags =
     rw (back, c.min.ensures, c.max.ensures) at c.in_ok-hide.ensures in
     on_ok_weaker c.hide-2.result
-    (λ (hidden : AreHidden cells (facing f true) w c.args.height c.hide.new.marks
-    c.hide-2.new.marks).
-    both_sides cells f w c.args.height c.args.marks.now c.hide.new.marks c.hide-2.new.marks
+    (λ (hidden : AreHidden cells (facing f true) w c.args.height c.hide.new.flags
+    c.hide-2.new.flags).
+    both_sides cells f w c.args.height c.args.flags.now c.hide.new.flags c.hide-2.new.flags
     c.requires.lines.at c.requires.lines.tile one hidden)
     (rw (c.reverse.ensures, back, c.min.ensures, c.max.ensures) at c.hide-2.ensures)

@@ -1,7 +1,7 @@
 use Rattle.std.proofs.Common.{arith, refl, pos, ◌-ℤ◌, ◌*ℤ◌, w32, w64}
 use Rattle.std.proofs.lemmas.Int.{to_z-of_z, to_z_pos, fits_signed_from_abs}
 use Rattle.horizons.proofs.Sizes.{back}
-use Rattle.sight.proofs.Spans.{base_small, step_small, gain_small, tilt_small, level_small, ramp_is}
+use Rattle.sight.proofs.Spans.{base_small, step_small, gain_small, tilt_small, intercept_small, ramp_is}
 use Rattle.sight.proofs.family.Family.ramp.Goals as goal
 
 pub overflow_mul-result : goal.overflow_mul-result
@@ -49,7 +49,8 @@ overflow_sub-result-2 c =
     back (near -ℤ eye) (omega (arith, base_small near eye heights.0 c.requires.family.eye)) in
     rw (near_is, far_is, step, offset_short, offset_is, eye_is, base, tilt)
     (fits_signed_from_abs w64 ((near -ℤ eye) -ℤ ((far -ℤ near) *ℤ offset))
-    (level_small near far eye offset heights.0 heights.1 c.requires.family.eye c.requires.offset))
+    (intercept_small near far eye offset heights.0 heights.1 c.requires.family.eye
+    c.requires.offset))
 
 pub returns : goal.returns
 returns c =
@@ -73,7 +74,8 @@ returns c =
     let gain = back ((far -ℤ near) *ℤ pos line)
     (gain_small near far line heights.0 heights.1 c.requires.line.1) in
     let intercept = back ((near -ℤ eye) -ℤ ((far -ℤ near) *ℤ offset))
-    (level_small near far eye offset heights.0 heights.1 c.requires.family.eye c.requires.offset) in
+    (intercept_small near far eye offset heights.0 heights.1 c.requires.family.eye
+    c.requires.offset) in
     rw (
       near_is,
       far_is,

@@ -7,7 +7,7 @@ use Rattle.terrain.specs.declared.observer.Observer.{Observer}
 use Rattle.sight.proofs.Refused.{lawful_from}
 use Rattle.sight.proofs.Counting.{seen_counted, unseen_counted, few}
 use Rattle.sight.proofs.tile.ViewshedInput.count_observers.Goals as goal
-use Rattle.sight.proofs.tile.ViewshedInput.count_observers.Goals.{then-reaches+in_ok-mark_seen, else-reaches}
+use Rattle.sight.proofs.tile.ViewshedInput.count_observers.Goals.{then-reaches+in_ok-flag_seen, else-reaches}
 
 pub reaches-requires-clause-observer : goal.reaches-requires-clause-observer
 reaches-requires-clause-observer g c =
@@ -15,14 +15,14 @@ reaches-requires-clause-observer g c =
     (lawful_from self.grid.now.terrain self.observers.now self.target_height self.radius
     self.faultless).inside c.loop-observer.observer-index _ c.loop-observer-test.true
 
-pub mark_seen-requires-clause-observer : goal.mark_seen-requires-clause-observer
-mark_seen-requires-clause-observer g c =
+pub flag_seen-requires-clause-observer : goal.flag_seen-requires-clause-observer
+flag_seen-requires-clause-observer g c =
     let self = c.args.self.now in
     (lawful_from self.grid.now.terrain self.observers.now self.target_height self.radius
     self.faultless).inside c.loop-observer.observer-index _ c.loop-observer-test.true
 
-pub mark_seen-requires-clause-eye : goal.mark_seen-requires-clause-eye
-mark_seen-requires-clause-eye g c =
+pub flag_seen-requires-clause-eye : goal.flag_seen-requires-clause-eye
+flag_seen-requires-clause-eye g c =
     let self = c.args.self.now in
     (lawful_from self.grid.now.terrain self.observers.now self.target_height self.radius
     self.faultless).eyes_low c.loop-observer.observer-index _ c.loop-observer-test.true
@@ -47,10 +47,10 @@ loop-observer-preserved g c =
     Type 0 = λ values. IsMadeUpTo c.args.bounds (HasValue t (take (i + 1) self.observers.now)
     self.target_height self.radius) (c.args.bounds.rows * c.args.bounds.cols) values in
     elim c.if-reaches.branch [
-      | then-reaches+in_ok-mark_seen w ↦ subst Made (sym w.values-is)
+      | then-reaches+in_ok-flag_seen w ↦ subst Made (sym w.values-is)
           (seen_counted t self.observers.now self.target_height self.radius i nobody c.args.bounds
-          c.loop-observer.values w.count_seen.new.values w.mark_seen.new.seen
-          c.loop-observer-test.true c.loop-observer.invariant w.in_ok-mark_seen.ensures
+          c.loop-observer.values w.count_seen.new.values w.flag_seen.new.seen
+          c.loop-observer-test.true c.loop-observer.invariant w.in_ok-flag_seen.ensures
           w.count_seen.auto.values w.count_seen.ensures)
       | else-reaches w ↦ subst Made (sym w.values-is)
           (unseen_counted t self.observers.now self.target_height self.radius i nobody c.args.bounds

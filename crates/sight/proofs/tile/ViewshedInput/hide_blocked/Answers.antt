@@ -6,10 +6,10 @@ use Rattle.terrain.specs.Neighbours.{height_at, height_of}
 use Rattle.terrain.specs.declared.place.Place.{Place}
 use Rattle.sightlines.specs.Sight.{column_blocks, row_blocks, place_of}
 use Rattle.sightlines.specs.Walk.{AreHeights}
-use Rattle.sight.specs.Sides.{AreOpen, family_of, window_of}
+use Rattle.sight.specs.Sides.{AreOpen, family_of, extent_of}
 use Rattle.sightlines.proofs.Heights.{are_heights, ground_is_height, kept}
 use Rattle.sightlines.proofs.Crossings.{height_is}
-use Rattle.sight.proofs.PlacesLeft.{columns_at, rows_at, column_marks, row_marks, columns_left, rows_left, left_both}
+use Rattle.sight.proofs.PlacesLeft.{columns_at, rows_at, column_flags, row_flags, columns_left, rows_left, left_both}
 use Rattle.sight.proofs.tile.ViewshedInput.hide_blocked.Goals as goal
 
 pub elevation-eye-requires-clause-height : goal.elevation-eye-requires-clause-height
@@ -31,11 +31,11 @@ hide_on_both_sides-requires-2-clause-heights c = rw c.cells-cells.ensures.value
 
 pub hide_on_both_sides-requires-clause-inside : goal.hide_on_both_sides-requires-clause-inside
 hide_on_both_sides-requires-clause-inside c x y in_x in_y =
-    column_marks c.args.bounds x y _ c.requires.size in_x in_y
+    column_flags c.args.bounds x y _ c.requires.size in_x in_y
 
 pub hide_on_both_sides-requires-2-clause-inside : goal.hide_on_both_sides-requires-2-clause-inside
 hide_on_both_sides-requires-2-clause-inside c x y in_x in_y =
-    row_marks c.args.bounds x y _ (omega (arith, c.requires.size)) in_x in_y
+    row_flags c.args.bounds x y _ (omega (arith, c.requires.size)) in_x in_y
 
 pub returns : goal.returns
 returns c =
@@ -60,22 +60,22 @@ returns c =
     omega (arith, c.requires.inside.rows_inside, self.cut) in
     let in_cols : b.left + b.cols ≤ t.cols =
     omega (arith, c.requires.inside.cols_inside, self.cut) in
-    let mid = c.hide_on_both_sides.new.marks in
-    let new = c.hide_on_both_sides-2.new.marks in
+    let mid = c.hide_on_both_sides.new.flags in
+    let new = c.hide_on_both_sides-2.new.flags in
     let open_columns : AreOpen t.cells (family_of (columns_at b p) (rows_at t b p) e)
-    (window_of (columns_at b p) (rows_at t b p)) self.target_height c.args.marks.now mid =
+    (extent_of (columns_at b p) (rows_at t b p)) self.target_height c.args.flags.now mid =
     rw (c.cells-cells.ensures.value, c.cols-cols.ensures.value, back, eye)
     at c.in_ok-hide_on_both_sides.ensures in
     let open_rows = rw (c.cells-cells.ensures.value, c.cols-cols.ensures.value, back, eye)
     at c.hide_on_both_sides-2.ensures in
-    let columns = columns_left t p b e self.target_height c.args.marks.now mid c.requires.observer
+    let columns = columns_left t p b e self.target_height c.args.flags.now mid c.requires.observer
     in_rows in_cols open_columns in
     on_ok_weaker c.hide_on_both_sides-2.result
     (λ (are : AreOpen t.cells (family_of (rows_at t b p) (columns_at b p) e)
-    (window_of (rows_at t b p) (columns_at b p)) self.target_height mid new).
+    (extent_of (rows_at t b p) (columns_at b p)) self.target_height mid new).
     left_both b (λ (q : Place).
     not (column_blocks t p q e (height_of t q +ℤ pos self.target_height))) (λ (q : Place).
     not (row_blocks t p q e (height_of t q +ℤ pos self.target_height)))
-    c.args.marks.now mid new columns
+    c.args.flags.now mid new columns
     (rows_left t p b e self.target_height mid new c.requires.observer in_rows in_cols are))
     open_rows

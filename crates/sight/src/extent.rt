@@ -1,9 +1,9 @@
-//! A window is a part of the grid whose cells have marks; a mark tells whether a cell may be seen.
+//! An extent is a part of the grid whose cells have flags; a flag tells whether a cell may be seen.
 ghost use Rattle.std.specs.Prelude.{◌↔◌, ◌+◌, ◌<◌, ◌^◌, IsTrue};
 ghost use Rattle.sight.specs.Hiding.{IsInRun};
 
 /// A run of `cells` cells along a coordinate, from cell `first` on.
-/// The marks of neighbouring cells are `stride` apart in the list of marks.
+/// The flags of neighbouring cells are `stride` apart in the list of flags.
 #[derive(Clone, Copy)]
 pub struct CellRun {
     pub first: u32,
@@ -11,12 +11,12 @@ pub struct CellRun {
     pub stride: usize,
 }
 
-/// A part of the grid whose cells have marks.
+/// A part of the grid whose cells have flags.
 /// A `Family` has as lines the columns, or the rows, on one side of an observer.
-/// `lines` is the run of all columns, or all rows, of the window, those on the other side included.
+/// `lines` is the run of all columns, or all rows, of the extent, those on the other side included.
 /// `side` is the run of cells along each.
 #[derive(Clone, Copy)]
-pub struct Window {
+pub struct Extent {
     pub lines: CellRun,
     pub side: CellRun,
 }

@@ -1,15 +1,15 @@
 use Rattle.std.proofs.Common.{arith, refl, ◌-◌}
 use Rattle.sight.specs.Sweep.{lead_of}
-use Rattle.sight.proofs.Unmarking.{cell_back}
-use Rattle.sight.proofs.family.Family.unmark.Goals as goal
+use Rattle.sight.proofs.ClearedFlags.{cell_back}
+use Rattle.sight.proofs.family.Family.clear_flag.Goals as goal
 
-pub bounds-marks-row : goal.bounds-marks-row
-bounds-marks-row c =
-    let w = c.args.window in
+pub bounds-flags-row : goal.bounds-flags-row
+bounds-flags-row c =
+    let w = c.args.extent in
     let ray = c.requires.ray in
     let cell = cell_back c.args.self ray.cell c.args.ray c.requires.family ray.stands in
     rw (cell, c.lead_of.ensures)
-    (c.requires.window.inside (lead_of c.args.self c.args.ray.line - w.lines.first)
+    (c.requires.extent.inside (lead_of c.args.self c.args.ray.line - w.lines.first)
     (ray.cell - w.side.first) (omega (arith, ray.crosses.within)) (omega (arith, ray.within)))
 
 pub returns : goal.returns

@@ -1,4 +1,4 @@
--- Ray by ray, the marks of cells that a family's lines hide are removed. A ray leads from the
+-- Ray by ray, the flags of cells that a family's lines hide are cleared. A ray leads from the
 -- observer to a target, seen from above. A family's lines are the columns, or the rows, on one side
 -- of the observer.
 use Rattle.std.proofs.Common.{arith, refl, sym, ap, subst, ◌∙◌, ◌≡◌, ◌≢◌, ◌⊎◌, ℕ, ◌+◌, ◌-◌, ◌*◌, ◌<◌, ◌≤◌, Bool, true, false, not, ◌&&◌, ℤ, pos, ◌+ℤ◌, unsigned_abs, to_z, of_z, w32, List, length, get_or, set, Option, Some, inl, inr}
@@ -14,9 +14,9 @@ use Rattle.horizons.specs.Horizons.{IsTarget, IsUpTo}
 use Rattle.sight.specs.Sweep.{lead_of, is_blocked_before, HidesBefore, IsFamily, IsAtCell}
 use Rattle.sight.specs.Ranks.{IsRanked}
 use Rattle.sight.specs.Looking.{LooksFrom}
-use Rattle.sight.specs.Hiding.{mark_in_window, mark_index, mark_left, rise_at, target_at, AreHidden, AreRays, Crosses, IsApart, IsInRun, IsRay, IsWindow}
+use Rattle.sight.specs.Hiding.{flag_in_extent, flag_index, flag_left, rise_at, target_at, AreHidden, AreRays, Crosses, IsApart, IsInRun, IsRay, IsExtent}
 use Rattle.sight.specs.declared.family.Family.{Family}
-use Rattle.sight.specs.declared.window.Window.{Window}
+use Rattle.sight.specs.declared.extent.Extent.{Extent}
 use Rattle.sight.specs.declared.sweep.Sweep.{Sweep}
 use Rattle.sight.specs.declared.looking.SweepLookup.{SweepLookup}
 
@@ -33,8 +33,8 @@ parts_of x y a b s small_y small_b e = elim (cases_lt x a) [
   ]
 ]
 
-same_cell : (w : Window) (x y a b : ℕ) → IsApart w → IsInRun w.lines x → IsInRun w.side y →
-    IsInRun w.lines a → IsInRun w.side b → mark_index w x y ≡ mark_index w a b → (x ≡ a) × (y ≡ b)
+same_cell : (w : Extent) (x y a b : ℕ) → IsApart w → IsInRun w.lines x → IsInRun w.side y →
+    IsInRun w.lines a → IsInRun w.side b → flag_index w x y ≡ flag_index w a b → (x ≡ a) × (y ≡ b)
 same_cell w x y a b is in_x in_y in_a in_b e =
     let r = x - w.lines.first in
     let c = y - w.side.first in
@@ -71,9 +71,9 @@ near_line true at n few a is =
     omega arith
 near_line false at n few a is = omega arith
 
-pub ray_is_target : (f : Family) (w : Window) (marks : List Bool) (t : Target) → IsFamily f →
-    IsWindow f w marks → IsRay f w t → IsTarget t
-ray_is_target f w marks t is_f is_w ray = record {
+pub ray_is_target : (f : Family) (w : Extent) (flags : List Bool) (t : Target) → IsFamily f →
+    IsExtent f w flags → IsRay f w t → IsTarget t
+ray_is_target f w flags t is_f is_w ray = record {
   line = (
     omega (arith, ray.crosses.later),
     near_line f.lines.back f.lines.at t.line is_f.lines ray.crosses.line.2
@@ -82,10 +82,10 @@ ray_is_target f w marks t is_f is_w ray = record {
   offset = omega (arith, ints, ray.stands.offset, ray.stands.side, is_f.side, is_f.cells);
 }
 
-pub ray_at : (f : Family) (w : Window) (marks : List Bool) (rays same : List Target) (n : ℕ) →
-    same ≡ rays → n < length same → AreRays f w marks 4097 0 rays →
+pub ray_at : (f : Family) (w : Extent) (flags : List Bool) (rays same : List Target) (n : ℕ) →
+    same ≡ rays → n < length same → AreRays f w flags 4097 0 rays →
     IsRay f w (get_or same n (record { offset = pos 0; line = 0 }))
-ray_at f w marks rays same n e within are =
+ray_at f w flags rays same n e within are =
     let at = slice_get-get_or same n (record { offset = pos 0; line = 0 }) within in
     (are.each n (get_or same n (record { offset = pos 0; line = 0 }))
     (ap (λ xs. slice_get xs n) (sym e) ∙ at)).0
@@ -113,9 +113,9 @@ looked_on cells f targets k old new were line sweep cursor = record {
   cursor = cursor;
 }
 
-pub window_kept : (f : Family) (w : Window) (old new : List Bool) → length new ≡ length old →
-    IsWindow f w old → IsWindow f w new
-window_kept f w old new size is = record {
+pub extent_kept : (f : Family) (w : Extent) (old new : List Bool) → length new ≡ length old →
+    IsExtent f w old → IsExtent f w new
+extent_kept f w old new size is = record {
   lines = is.lines;
   first = is.first;
   side = is.side;
@@ -127,17 +127,17 @@ and_true : (a b : Bool) → b ≡ true → (a && b) ≡ a
 and_true true b h = h
 and_true false b h = refl
 
-left_blocked : (cells : List (Option ℤ)) (f : Family) (w : Window) (height : ℕ) (old : List Bool)
+left_blocked : (cells : List (Option ℤ)) (f : Family) (w : Extent) (height : ℕ) (old : List Bool)
     (n y : ℕ) → is_blocked_before cells f n y (rise_at cells f height n y) n ≡ true →
-    mark_left cells f w height old n y ≡ false
+    flag_left cells f w height old n y ≡ false
 left_blocked cells f w height old n y is =
-    and_right (mark_in_window w (lead_of f n) y old) _ (ap not is)
+    and_right (flag_in_extent w (lead_of f n) y old) _ (ap not is)
 
-left_open : (cells : List (Option ℤ)) (f : Family) (w : Window) (height : ℕ) (old : List Bool)
+left_open : (cells : List (Option ℤ)) (f : Family) (w : Extent) (height : ℕ) (old : List Bool)
     (n y : ℕ) → is_blocked_before cells f n y (rise_at cells f height n y) n ≡ false
-    → mark_left cells f w height old n y ≡ mark_in_window w (lead_of f n) y old
+    → flag_left cells f w height old n y ≡ flag_in_extent w (lead_of f n) y old
 left_open cells f w height old n y is =
-    and_true (mark_in_window w (lead_of f n) y old) _ (ap not is)
+    and_true (flag_in_extent w (lead_of f n) y old) _ (ap not is)
 
 -- a target is at only one cell of one line
 same_target : (f : Family) (t : Target) (m z y : ℕ) → IsAtCell f y t → t ≡ target_at f m z →
@@ -145,61 +145,61 @@ same_target : (f : Family) (t : Target) (m z y : ℕ) → IsAtCell f y t → t �
 same_target f t m z y stands e =
     (ap (λ q. q.line) (sym e), omega (arith, ints, stands.offset, ap (λ q. q.offset) e))
 
--- the new mark of a cell on line 2 or beyond is the old mark or `mark_left`. It is `mark_left` if a
--- ray of index below `end` leads to the cell. Cells on no such line keep their marks.
-pub record AreHiddenBelow (cells : List (Option ℤ)) (f : Family) (w : Window) (height : ℕ)
+-- the new flag of a cell on line 2 or beyond is the old flag or `flag_left`. It is `flag_left` if a
+-- ray of index below `end` leads to the cell. Cells on no such line keep their flags.
+pub record AreHiddenBelow (cells : List (Option ℤ)) (f : Family) (w : Extent) (height : ℕ)
     (rays : List Target) (end : ℕ) (old new : List Bool) : Type 0 where
   pub size : length new ≡ length old
   pub tested : (u n y : ℕ) → u < end → slice_get rays u ≡ Some (target_at f n y) → Crosses f w n →
       IsInRun w.side y
-      → mark_in_window w (lead_of f n) y new ≡ mark_left cells f w height old n y
+      → flag_in_extent w (lead_of f n) y new ≡ flag_left cells f w height old n y
   pub crossed : (n y : ℕ) → Crosses f w n → IsInRun w.side y
-      → (mark_in_window w (lead_of f n) y new ≡ mark_in_window w (lead_of f n) y old)
-      ⊎ (mark_in_window w (lead_of f n) y new ≡ mark_left cells f w height old n y)
+      → (flag_in_extent w (lead_of f n) y new ≡ flag_in_extent w (lead_of f n) y old)
+      ⊎ (flag_in_extent w (lead_of f n) y new ≡ flag_left cells f w height old n y)
   pub kept : (x y : ℕ) → IsInRun w.lines x → IsInRun w.side y → ((n : ℕ) → Crosses f w n →
-      lead_of f n ≡ x → ⊥) → mark_in_window w x y new ≡ mark_in_window w x y old
+      lead_of f n ≡ x → ⊥) → flag_in_extent w x y new ≡ flag_in_extent w x y old
 
-pub none_tested : (cells : List (Option ℤ)) (f : Family) (w : Window) (height : ℕ)
-    (rays : List Target) (marks : List Bool) → AreHiddenBelow cells f w height rays 0 marks marks
-none_tested cells f w height rays marks = record {
+pub none_tested : (cells : List (Option ℤ)) (f : Family) (w : Extent) (height : ℕ)
+    (rays : List Target) (flags : List Bool) → AreHiddenBelow cells f w height rays 0 flags flags
+none_tested cells f w height rays flags = record {
   size = refl;
   tested = λ u n y below at crosses in_y. absurd (omega arith);
   crossed = λ n y crosses in_y. inl refl;
   kept = λ x y in_x in_y not_crossed. refl;
 }
 
-pub blocked_tested : (cells : List (Option ℤ)) (f : Family) (w : Window) (height : ℕ)
-    (rays : List Target) (n : ℕ) (old marks : List Bool) (t : Target) (y : ℕ) → IsApart w →
-    IsWindow f w marks
+pub blocked_tested : (cells : List (Option ℤ)) (f : Family) (w : Extent) (height : ℕ)
+    (rays : List Target) (n : ℕ) (old flags : List Bool) (t : Target) (y : ℕ) → IsApart w →
+    IsExtent f w flags
     → slice_get rays n ≡ Some t → IsAtCell f y t → IsInRun w.side y → Crosses f w t.line →
     is_blocked_before cells f t.line y (rise_at cells f height t.line y) t.line ≡ true
-    → AreHiddenBelow cells f w height rays n old marks → AreHiddenBelow cells f w height rays (n
-    + 1) old (set marks (mark_index w (lead_of f t.line) y) false)
-blocked_tested cells f w height rays n old marks t y apart is_w at_t stands in_y crosses blocked
+    → AreHiddenBelow cells f w height rays n old flags → AreHiddenBelow cells f w height rays (n
+    + 1) old (set flags (flag_index w (lead_of f t.line) y) false)
+blocked_tested cells f w height rays n old flags t y apart is_w at_t stands in_y crosses blocked
     were =
-    let i = mark_index w (lead_of f t.line) y in
-    let new = set marks i false in
-    let within : i < length marks = is_w.inside (lead_of f t.line - w.lines.first)
+    let i = flag_index w (lead_of f t.line) y in
+    let new = set flags i false in
+    let within : i < length flags = is_w.inside (lead_of f t.line - w.lines.first)
     (y - w.side.first) (omega (arith, crosses.within)) (omega (arith, in_y)) in
     let here : (m z : ℕ) → m ≡ t.line → z ≡ y →
-    mark_in_window w (lead_of f m) z new ≡ mark_left cells f w height old m z = λ m z m_is z_is.
-    let index : mark_index w (lead_of f m) z ≡ i = ap (λ k. mark_index w (lead_of f k) z) m_is
-    ∙ ap (λ k. mark_index w (lead_of f t.line) k) z_is in
-    let left : mark_left cells f w height old m z ≡ false = ap (λ k.
-    mark_left cells f w height old k z) m_is ∙ ap (λ k. mark_left cells f w height old t.line k)
+    flag_in_extent w (lead_of f m) z new ≡ flag_left cells f w height old m z = λ m z m_is z_is.
+    let index : flag_index w (lead_of f m) z ≡ i = ap (λ k. flag_index w (lead_of f k) z) m_is
+    ∙ ap (λ k. flag_index w (lead_of f t.line) k) z_is in
+    let left : flag_left cells f w height old m z ≡ false = ap (λ k.
+    flag_left cells f w height old k z) m_is ∙ ap (λ k. flag_left cells f w height old t.line k)
     z_is ∙ left_blocked cells f w height old t.line y blocked in
-    ap (λ k. get_or new k false) index ∙ get_or-set_same marks i false false within ∙ sym left in
+    ap (λ k. get_or new k false) index ∙ get_or-set_same flags i false false within ∙ sym left in
     let there : (x z : ℕ) →
-    mark_index w x z ≢ i → mark_in_window w x z new ≡ mark_in_window w x z marks =
-    λ x z other. get_or-set_other marks i (mark_index w x z) false false other in
-    let met : (m z : ℕ) → Crosses f w m → IsInRun w.side z → mark_index w (lead_of f m) z ≡ i →
+    flag_index w x z ≢ i → flag_in_extent w x z new ≡ flag_in_extent w x z flags =
+    λ x z other. get_or-set_other flags i (flag_index w x z) false false other in
+    let met : (m z : ℕ) → Crosses f w m → IsInRun w.side z → flag_index w (lead_of f m) z ≡ i →
     (m ≡ t.line) × (z ≡ y) = λ m z crossed in_z same.
     let cell = same_cell w (lead_of f m) z
     (lead_of f t.line) y apart crossed.within in_z crosses.within in_y same in
     (line_from f.lines.back f.lines.at m t.line crossed.line.2 crosses.line.2 cell.0, cell.1) in
     record {
-      size = length-set marks i false ∙ were.size;
-      tested = λ u m z below at crossed in_z. elim (cases_eq (mark_index w (lead_of f m) z) i) [
+      size = length-set flags i false ∙ were.size;
+      tested = λ u m z below at crossed in_z. elim (cases_eq (flag_index w (lead_of f m) z) i) [
         | inl same ↦ let is = met m z crossed in_z same in here m z is.0 is.1
         | inr other ↦ elim (cases_lt u n) [
           | inl before ↦ there (lead_of f m) z other ∙ were.tested u m z before at crossed in_z
@@ -210,7 +210,7 @@ blocked_tested cells f w height rays n old marks t y apart is_w at_t stands in_y
               here m z is.0 is.1
         ]
       ];
-      crossed = λ m z crossed in_z. elim (cases_eq (mark_index w (lead_of f m) z) i) [
+      crossed = λ m z crossed in_z. elim (cases_eq (flag_index w (lead_of f m) z) i) [
         | inl same ↦ let is = met m z crossed in_z same in inr (here m z is.0 is.1)
         | inr other ↦ elim (were.crossed m z crossed in_z) [
           | inl e ↦ inl (there (lead_of f m) z other ∙ e)
@@ -222,15 +222,15 @@ blocked_tested cells f w height rays n old marks t y apart is_w at_t stands in_y
           ∙ were.kept x z in_x in_z not_crossed;
     }
 
-pub open_tested : (cells : List (Option ℤ)) (f : Family) (w : Window)
-    (height : ℕ) (rays : List Target) (n : ℕ) (old marks : List Bool) (t : Target) (y : ℕ) →
+pub open_tested : (cells : List (Option ℤ)) (f : Family) (w : Extent)
+    (height : ℕ) (rays : List Target) (n : ℕ) (old flags : List Bool) (t : Target) (y : ℕ) →
     slice_get rays n ≡ Some t → IsAtCell f y t
     → is_blocked_before cells f t.line y (rise_at cells f height t.line y) t.line ≡ false →
-    AreHiddenBelow cells f w height rays n old marks →
-    AreHiddenBelow cells f w height rays (n + 1) old marks
-open_tested cells f w height rays n old marks t y at_t stands not_blocked were =
+    AreHiddenBelow cells f w height rays n old flags →
+    AreHiddenBelow cells f w height rays (n + 1) old flags
+open_tested cells f w height rays n old flags t y at_t stands not_blocked were =
     let here : (m z : ℕ) → m ≡ t.line → z ≡ y →
-    mark_left cells f w height old m z ≡ mark_in_window w (lead_of f m) z old = λ m z m_is z_is.
+    flag_left cells f w height old m z ≡ flag_in_extent w (lead_of f m) z old = λ m z m_is z_is.
     left_open cells f w height old m z (ap (λ k. is_blocked_before cells f k z
     (rise_at cells f height k z) k) m_is ∙ ap (λ k. is_blocked_before cells f t.line k
     (rise_at cells f height t.line k) t.line) z_is ∙ not_blocked) in
@@ -251,19 +251,19 @@ open_tested cells f w height rays n old marks t y at_t stands not_blocked were =
       kept = were.kept;
     }
 
-pub all_tested : (cells : List (Option ℤ)) (f : Family) (w : Window)
+pub all_tested : (cells : List (Option ℤ)) (f : Family) (w : Extent)
     (height : ℕ) (rays : List Target) (old new : List Bool) → AreRays f w old 4097 0 rays →
     AreHiddenBelow cells f w height rays (length rays) old new
     → AreHidden cells f w height old new
 all_tested cells f w height rays old new are tested = record {
   size = tested.size;
-  crossed = λ n y crosses in_y. elim (cases_Bool (mark_in_window w (lead_of f n) y old)) [
-    | inl marked ↦
-        let ray = are.whole n y (inl (omega (arith, crosses.line.1))) crosses in_y marked in
+  crossed = λ n y crosses in_y. elim (cases_Bool (flag_in_extent w (lead_of f n) y old)) [
+    | inl flagged ↦
+        let ray = are.whole n y (inl (omega (arith, crosses.line.1))) crosses in_y flagged in
         tested.tested ray.0 n y
         (slice_get_within rays ray.0 (target_at f n y) ray.1) ray.1 crosses in_y
-    | inr unmarked ↦ elim (tested.crossed n y crosses in_y) [
-      | inl e ↦ e ∙ unmarked ∙ sym (and_left (mark_in_window w (lead_of f n) y old) _ unmarked)
+    | inr unflagged ↦ elim (tested.crossed n y crosses in_y) [
+      | inl e ↦ e ∙ unflagged ∙ sym (and_left (flag_in_extent w (lead_of f n) y old) _ unflagged)
       | inr e ↦ e
     ]
   ];

@@ -2,12 +2,12 @@ use Rattle.std.proofs.Common.{◌≡◌, ◌+◌, ◌-◌, ◌*◌, ℕ, set, ap
 use Rattle.terrain.proofs.Places.{make_place}
 use Rattle.tiles.specs.Cutting.{index_in}
 use Rattle.tiles.proofs.TileOrder.{index_in_below}
-use Rattle.sight.specs.Marks.{AreMarkedBelow, IsMarkOf}
-use Rattle.sight.proofs.Marked.{marked_more}
-use Rattle.sight.proofs.tile.ViewshedInput.mark_row.Goals as goal
+use Rattle.sight.specs.Flags.{AreFlaggedBelow, IsFlagOf}
+use Rattle.sight.proofs.Flagged.{flagged_more}
+use Rattle.sight.proofs.tile.ViewshedInput.set_row_flags.Goals as goal
 
-pub bounds-marks-first : goal.bounds-marks-first
-bounds-marks-first c =
+pub bounds-flags-first : goal.bounds-flags-first
+bounds-flags-first c =
     let b = c.args.bounds in
     let below = index_in_below b (make_place c.args.row c.loop-col.col)
     (omega (arith, c.requires.row), omega (arith, c.requires.row), omega arith, omega arith) in
@@ -17,19 +17,19 @@ pub loop-col-preserved : goal.loop-col-preserved
 loop-col-preserved c =
     let self = c.args.self.now in
     let b = c.args.bounds in
-    let Holds = IsMarkOf c.args.check self.grid.now.terrain c.args.observer.now self.target_height
+    let Holds = IsFlagOf c.args.check self.grid.now.terrain c.args.observer.now self.target_height
     self.radius in
     let p = make_place c.args.row c.loop-col.col in
     let at : (c.args.row - b.top) * b.cols + (c.loop-col.col - b.left) ≡ index_in b p =
     omega arith in
     let next : (c.args.row - b.top) * b.cols + (c.loop-col.col - b.left)
     + 1 ≡ (c.args.row - b.top) * b.cols + (c.loop-col.col + 1 - b.left) = omega arith in
-    let more = marked_more b Holds p c.loop-col.marks ((c.args.row - b.top) * b.cols
-    + (c.loop-col.col - b.left)) c.mark_of.result
+    let more = flagged_more b Holds p c.loop-col.flags ((c.args.row - b.top) * b.cols
+    + (c.loop-col.col - b.left)) c.flag_of.result
     (omega (arith, c.requires.row), omega (arith, c.requires.row), omega arith, omega arith)
-    at c.loop-col.invariant c.mark_of.ensures in
-    subst (λ (n : ℕ). AreMarkedBelow b Holds n (set c.loop-col.marks
-    ((c.args.row - b.top) * b.cols + (c.loop-col.col - b.left)) c.mark_of.result)) next more
+    at c.loop-col.invariant c.flag_of.ensures in
+    subst (λ (n : ℕ). AreFlaggedBelow b Holds n (set c.loop-col.flags
+    ((c.args.row - b.top) * b.cols + (c.loop-col.col - b.left)) c.flag_of.result)) next more
 
 pub returns : goal.returns
 returns c =
@@ -39,5 +39,5 @@ returns c =
     let wide : c.loop-col.col - b.left ≡ b.cols = omega arith in
     let all : (c.args.row - b.top) * b.cols + (c.loop-col.col - b.left)
     ≡ (c.args.row + 1 - b.top) * b.cols = omega (arith, wide, ap (λ (n : ℕ). n * b.cols) up) in
-    subst (λ (n : ℕ). AreMarkedBelow b (IsMarkOf c.args.check self.grid.now.terrain
-    c.args.observer.now self.target_height self.radius) n c.loop-col.marks) all c.loop-col.invariant
+    subst (λ (n : ℕ). AreFlaggedBelow b (IsFlagOf c.args.check self.grid.now.terrain
+    c.args.observer.now self.target_height self.radius) n c.loop-col.flags) all c.loop-col.invariant

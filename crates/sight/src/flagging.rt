@@ -1,4 +1,4 @@
-//! Marks the cells of a tile that one observer sees (`mark_seen`).
+//! Flags the cells of a tile that one observer sees (`flag_seen`).
 //!
 //! A walk tests one cell's line of sight; a sweep tests those of all cells together. A sample of
 //! walks decides whether to walk to all cells or to sweep the tile. A sweep costs about the same on
@@ -7,7 +7,7 @@ ghost use Rattle.std.specs.Prelude.{◌≡◌, ◌+◌, ◌-◌, ◌*◌, ◌<�
 ghost use Rattle.terrain.specs.Neighbours.{IsInside};
 ghost use Rattle.tiles.specs.Cutting.{AreBounds, IsCutting};
 ghost use Rattle.sightlines.specs.Sight.{highest_eye, place_of};
-ghost use Rattle.sight.specs.Marks.{AreMarkedBelow, AreMarked, MarksSeen, IsMarkOf};
+ghost use Rattle.sight.specs.Flags.{AreFlaggedBelow, AreFlagged, FlagsSeen, IsFlagOf};
 
 use crate::tile::ViewshedInput;
 use sightlines::{WalkCache, may_see, sees_past_blocks};
@@ -35,8 +35,8 @@ pub enum Check {
 }
 
 impl<'a> ViewshedInput<'a> {
-    /// Marks the cells of a tile that an observer sees, and no others.
-    pub(crate) fn mark_seen(
+    /// Flags the cells of a tile that an observer sees, and no others.
+    pub(crate) fn flag_seen(
         &self,
         alloc: Global,
         observer: &Observer,
@@ -48,15 +48,15 @@ impl<'a> ViewshedInput<'a> {
         requires observer { IsInside self.now.grid.now.terrain (place_of observer.now) }
         requires eye { observer.now.eye ≤ highest_eye }
         requires size { length seen.old ≡ bounds.rows * bounds.cols }
-        ensures { OnOk result (AreMarked bounds
-            (MarksSeen self.now.grid.now.terrain observer.now self.now.target_height
+        ensures { OnOk result (AreFlagged bounds
+            (FlagsSeen self.now.grid.now.terrain observer.now self.now.target_height
             self.now.radius) seen.new) }
     {
         if !self.is_sweep_cheaper(observer, bounds) {
-            self.mark(Check::Whole, observer, bounds, seen);
+            self.set_flags(Check::Whole, observer, bounds, seen);
             return Ok(());
         }
-        self.mark(Check::FirstCrossings, observer, bounds, seen);
+        self.set_flags(Check::FirstCrossings, observer, bounds, seen);
         self.hide_blocked(alloc, observer, bounds, seen)
     }
 
@@ -75,55 +75,55 @@ impl<'a> ViewshedInput<'a> {
                 row: bounds.top + step * 37 % bounds.rows,
                 col: bounds.left + step * 61 % bounds.cols,
             };
-            self.mark_of(Check::Whole, observer, place, &mut walked);
+            self.flag_of(Check::Whole, observer, place, &mut walked);
         }
         let side = bounds.rows.min(bounds.cols).max(SWEPT_SIDE);
         walked.crossings_tested / SAMPLES >= SWEPT_CROSSINGS * USUAL_SIDE / side
     }
 
-    /// Sets the mark of each cell of a tile by a check of its line of sight.
-    fn mark(&self, check: Check, observer: &Observer, bounds: Bounds, marks: &mut [bool])
+    /// Sets the flag of each cell of a tile by a check of its line of sight.
+    fn set_flags(&self, check: Check, observer: &Observer, bounds: Bounds, flags: &mut [bool])
         requires lawful { IsCutting self.now.tiling.now }
         requires inside { AreBounds self.now.tiling.now bounds }
         requires observer { IsInside self.now.grid.now.terrain (place_of observer.now) }
         requires eye { observer.now.eye ≤ highest_eye }
-        requires size { length marks.old ≡ bounds.rows * bounds.cols }
-        ensures { AreMarked bounds
-            (IsMarkOf check self.now.grid.now.terrain observer.now self.now.target_height
-            self.now.radius) marks.new }
+        requires size { length flags.old ≡ bounds.rows * bounds.cols }
+        ensures { AreFlagged bounds
+            (IsFlagOf check self.now.grid.now.terrain observer.now self.now.target_height
+            self.now.radius) flags.new }
     {
         let mut walked = WalkCache::none();
         for row in bounds.top..bounds.top + bounds.rows {
-            self.mark_row(check, observer, bounds, row, &mut walked, marks);
+            self.set_row_flags(check, observer, bounds, row, &mut walked, flags);
         }
     }
 
-    fn mark_row(
+    fn set_row_flags(
         &self,
         check: Check,
         observer: &Observer,
         bounds: Bounds,
         row: u32,
         walked: &mut WalkCache,
-        marks: &mut [bool],
+        flags: &mut [bool],
     )
         requires lawful { IsCutting self.now.tiling.now }
         requires inside { AreBounds self.now.tiling.now bounds }
         requires observer { IsInside self.now.grid.now.terrain (place_of observer.now) }
         requires eye { observer.now.eye ≤ highest_eye }
         requires row { (bounds.top ≤ row) × (row < bounds.top + bounds.rows) }
-        requires marks { AreMarkedBelow bounds
-            (IsMarkOf check self.now.grid.now.terrain observer.now self.now.target_height
+        requires flags { AreFlaggedBelow bounds
+            (IsFlagOf check self.now.grid.now.terrain observer.now self.now.target_height
             self.now.radius)
-            ((row - bounds.top) * bounds.cols) marks.old }
-        ensures { AreMarkedBelow bounds
-            (IsMarkOf check self.now.grid.now.terrain observer.now self.now.target_height
+            ((row - bounds.top) * bounds.cols) flags.old }
+        ensures { AreFlaggedBelow bounds
+            (IsFlagOf check self.now.grid.now.terrain observer.now self.now.target_height
             self.now.radius)
-            ((row + 1 - bounds.top) * bounds.cols) marks.new }
+            ((row + 1 - bounds.top) * bounds.cols) flags.new }
     {
         let first = (row - bounds.top) as usize * bounds.cols as usize;
         for col in bounds.left..bounds.left + bounds.cols {
-            marks[first + (col - bounds.left) as usize] = self.mark_of(
+            flags[first + (col - bounds.left) as usize] = self.flag_of(
                 check,
                 observer,
                 Place { row, col },
@@ -133,7 +133,7 @@ impl<'a> ViewshedInput<'a> {
     }
 
     #[inline(always)]
-    fn mark_of(
+    fn flag_of(
         &self,
         check: Check,
         observer: &Observer,
@@ -143,7 +143,7 @@ impl<'a> ViewshedInput<'a> {
         requires observer { IsInside self.now.grid.now.terrain (place_of observer.now) }
         requires eye { observer.now.eye ≤ highest_eye }
         requires place { IsInside self.now.grid.now.terrain place }
-        ensures { IsMarkOf check self.now.grid.now.terrain observer.now self.now.target_height
+        ensures { IsFlagOf check self.now.grid.now.terrain observer.now self.now.target_height
             self.now.radius place result }
     {
         match check {

@@ -3,7 +3,7 @@ use Rattle.std.proofs.lemmas.Int.{ints, to_z-of_z}
 use Rattle.horizons.proofs.Sizes.{back}
 use Rattle.sightlines.proofs.Elevations.{times_small}
 use Rattle.sight.proofs.Spans.{base_small}
-use Rattle.sight.proofs.family.Family.level_ramp.Goals as goal
+use Rattle.sight.proofs.family.Family.constant_ramp.Goals as goal
 
 pub returns-clause-at : goal.returns-clause-at
 returns-clause-at c t is =
