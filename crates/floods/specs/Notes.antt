@@ -1,4 +1,4 @@
--- How optional labels are stored as a list of numbers, and optional heights as one with marks.
+-- How optional labels are stored as a list of numbers, and optional heights as one with flags.
 -- Public.
 use Rattle.std.specs.Prelude.{ℕ, ℤ, pos, Bool, ◌==◌, List, [], ◌∷◌, map, Option, None, Some, if◌then◌else◌, unwrap_or}
 use Rattle.std.specs.Ordering.{int_eq}
@@ -7,16 +7,17 @@ use Rattle.std.specs.Ordering.{int_eq}
 abbrev pub lack : ℤ
 lack = pos 9223372036854775807
 
--- The height that the number `height` stores, or none: `lack` stores a height only if `marked`.
+-- The height that the number `height` stores, or none: `lack` stores a height only if `flagged`.
 abbrev pub noted : Bool → ℤ → Option ℤ
-noted marked height =
-    if marked then Some height else (if int_eq height lack then None else Some height)
+noted flagged height =
+    if flagged then Some height else (if int_eq height lack then None else Some height)
 
--- The optional heights stored as these numbers; a mark says whether `lack` is a height there.
+-- The optional heights stored as these numbers; a flag says whether `lack` is a height there.
 abbrev pub heights_where : List Bool → List ℤ → List (Option ℤ)
 heights_where [] heights = []
-heights_where (marked ∷ rest) [] = []
-heights_where (marked ∷ rest) (height ∷ heights) = noted marked height ∷ heights_where rest heights
+heights_where (flagged ∷ rest) [] = []
+heights_where (flagged ∷ rest) (height ∷ heights) =
+    noted flagged height ∷ heights_where rest heights
 
 -- The number that stores an optional height: `lack` for `None`.
 abbrev pub height_or_lack : Option ℤ → ℤ

@@ -4,7 +4,7 @@ use Rattle.std.proofs.lemmas.Int.{to_z-of_z}
 use Rattle.std.proofs.lemmas.List.{get_or_read}
 use Rattle.terrain.proofs.Heights.{height_width}
 use Rattle.floods.specs.Notes.{lack}
-use Rattle.floods.proofs.HeightLists.{length-where, noted_marked, noted_other, marked_there, no_higher, no_higher_is, is_low, low_is}
+use Rattle.floods.proofs.HeightLists.{length-where, noted_flagged, noted_other, flagged_there, no_higher, no_higher_is, is_low, low_is}
 use Rattle.floods.proofs.heights.HeightList.is_no_higher.Goals as goal
 
 pub index-noted-requires : goal.index-noted-requires
@@ -43,13 +43,13 @@ returns-else-not-is_lack c =
     c.index-noted.ensures lack in
     let height = to_z-of_z height_width c.args.height (search rules) in
     let here = to_z-of_z height_width c.index-noted.result.now (search rules) in
-    let marked = get_or_read c.self.inside.greatest.items c.args.index c.index.result.now
+    let flagged = get_or_read c.self.inside.greatest.items c.args.index c.index.result.now
     (omega (arith, inside, c.self.inside.size)) c.index.ensures false in
     let low = is_low _ _ (rw (here, height, value) at c.if-noted-height.true) in
     let lacks = c.is_lack.ensures ∙ ap (λ z. int_eq z lack) (here ∙ value) in (
       λ is. no_higher _ _ _ c.args.index c.args.height c.self.inside.size c.self.view_is
-          (noted_marked _ _ (sym marked ∙ is)) low,
-      λ s. marked ∙ marked_there _ _ (sym lacks ∙ c.if-not-is_lack.false)
+          (noted_flagged _ _ (sym flagged ∙ is)) low,
+      λ s. flagged ∙ flagged_there _ _ (sym lacks ∙ c.if-not-is_lack.false)
           (no_higher_is _ _ _ c.args.index c.args.height c.self.inside.size c.self.view_is s).0,
     )
 

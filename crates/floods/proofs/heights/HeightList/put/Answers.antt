@@ -3,7 +3,7 @@ use Rattle.std.specs.Ordering.{int_eq}
 use Rattle.std.proofs.lemmas.Int.{to_z-of_z}
 use Rattle.terrain.proofs.Heights.{height_width}
 use Rattle.floods.specs.Notes.{lack}
-use Rattle.floods.proofs.HeightLists.{length-where, where-set, where-marked}
+use Rattle.floods.proofs.HeightLists.{length-where, where-set, where-flagged}
 use Rattle.floods.proofs.heights.HeightList.put.Goals as goal
 
 pub index_mut-requires : goal.index_mut-requires
@@ -22,7 +22,7 @@ index_mut-requires-then-is_lack c = omega (
 pub returns-then-is_lack : goal.returns-then-is_lack
 returns-then-is_lack c =
     rw (to_z-of_z height_width c.args.height (search rules), ← c.self.view_is)
-    (where-marked _ _ c.args.index c.args.height c.self.inside.size)
+    (where-flagged _ _ c.args.index c.args.height c.self.inside.size)
 
 pub returns-else-is_lack : goal.returns-else-is_lack
 returns-else-is_lack c =
