@@ -15,16 +15,16 @@ use Rattle.terrain.specs.Ways.{before, place_if_both, place_on, ways_from}
 use Rattle.terrain.specs.declared.place.Place.{Place}
 use Rattle.terrain.proofs.EightWays.{Touches-from_ways}
 use Rattle.terrain.proofs.Places.{same_place}
-use Rattle.fill.specs.Gathering.{Marks, are_both_sources, LeftOutJoins, IsLeftOut, Meets, IsPairFrom, IsBetween, IsLowBetween, IsPairOn, joins_of, Adds, AddsCovered, Covered, IsAfter}
-use Rattle.fill.specs.declared.spills.Join.{Join}
-use Rattle.fill.specs.declared.marks.CellMark.{CellMark}
+use Rattle.fill.specs.Gathering.{CellLabelling, are_both_sources, LeftOutJoins, IsLeftOut, Meets, IsPairFrom, IsBetween, IsLowBetween, IsPairOn, joins_of, Adds, AddsCovered, Covered, IsAfter}
+use Rattle.fill.specs.declared.spill_graph.Join.{Join}
+use Rattle.fill.specs.declared.cell_labels.CellLabel.{CellLabel}
 use Rattle.floods.proofs.Heaps.{cons_head, cons_cases, one_held}
 
-abbrev join_between : CellMark → CellMark → Join
+abbrev join_between : CellLabel → CellLabel → Join
 join_between from to =
     record { from = from.node; to = to.node; height = int_max from.level to.level }
 
-pub joins_of_apart : (sources : List (Option ℤ)) (from to : CellMark) →
+pub joins_of_apart : (sources : List (Option ℤ)) (from to : CellLabel) →
     from.node ≢ to.node → are_both_sources sources from.node to.node ≡ false →
     joins_of sources from (Some to) ≡ join_between from to ∷ []
 joins_of_apart sources from to differ apart = elim (cases_Bool (from.node == to.node)) [
@@ -32,7 +32,7 @@ joins_of_apart sources from to differ apart = elim (cases_Bool (from.node == to.
   | inr other ↦ cond-false _ _ _ other ∙ cond-false _ _ _ apart
 ]
 
-pub joins_of_two_sources : (sources : List (Option ℤ)) (from to : CellMark) → from.node ≢ to.node →
+pub joins_of_two_sources : (sources : List (Option ℤ)) (from to : CellLabel) → from.node ≢ to.node →
     are_both_sources sources from.node to.node ≡ true → joins_of sources from (Some to) ≡ []
 joins_of_two_sources sources from to differ settled = elim (cases_Bool (from.node == to.node)) [
   | inl same ↦ absurd (differ (eqb-true _ _ same))
@@ -42,8 +42,8 @@ joins_of_two_sources sources from to differ settled = elim (cases_Bool (from.nod
 pub no_join : (j : Join) → Contains [] j → ⊥
 no_join j h = omega (arith, h.1)
 
-pub joins_of_is : (sources : List (Option ℤ)) (from : CellMark) (o : Option CellMark) (j : Join) →
-    Contains (joins_of sources from o) j → (to : CellMark) × (o ≡ Some to) × (from.node ≢ to.node)
+pub joins_of_is : (sources : List (Option ℤ)) (from : CellLabel) (o : Option CellLabel) (j : Join) →
+    Contains (joins_of sources from o) j → (to : CellLabel) × (o ≡ Some to) × (from.node ≢ to.node)
     × (are_both_sources sources from.node to.node ≡ false) × (join_between from to ≡ j)
 joins_of_is sources from None j h = absurd (no_join j h)
 joins_of_is sources from (Some to) j h = elim (cases_eq from.node to.node) [
@@ -112,22 +112,24 @@ adds_lower old at met j inside is from to low = record {
   there : Contains (set old at j) j
   there = (at, omega (arith, inside, length-set old at j), get_or-set_same old at j j inside)
 
-left_out_still : (marks : Marks) (out : LeftOutJoins) (p q : Place) (now new : List Join) →
-    ((j : Join) → Contains now j → Covered new j) → (j : Join) → IsLeftOut marks out p q
-    ⊎ Covered now j → IsLeftOut marks out p q ⊎ Covered new j
-left_out_still marks out p q now new kept j (inl spared) = inl spared
-left_out_still marks out p q now new kept j (inr covered) =
+left_out_still : (cell_labels : CellLabelling) (out : LeftOutJoins) (p q : Place)
+    (now new : List Join) →
+    ((j : Join) → Contains now j → Covered new j) → (j : Join) → IsLeftOut cell_labels out p q
+    ⊎ Covered now j → IsLeftOut cell_labels out p q ⊎ Covered new j
+left_out_still cell_labels out p q now new kept j (inl spared) = inl spared
+left_out_still cell_labels out p q now new kept j (inr covered) =
     inr (covered_still now new kept j covered)
 
 -- Let cell q be in the row after that of p, in another column. If `out` leaves out bypassed joins,
 -- the join of p and q is left out if a cell between them is low. Low means: its level is at most
 -- the greater of the levels of p and q (`IsLowBetween`).
-pub left_out_corner : (marks : Marks) (out : LeftOutJoins) (p q middle : Place) (from : CellMark)
-    (between to : Option CellMark)
-    → IsBetween p q middle → marks p ≡ Some from → between ≡ marks middle → to ≡ marks q
-    → q.row ≡ p.row + 1 → p.col ≢ q.col
-    → IsLowBetween out from between to → IsLeftOut marks out p q
-left_out_corner marks out p q middle from between to is_middle from_is between_is to_is next_row
+pub left_out_corner : (cell_labels : CellLabelling) (out : LeftOutJoins) (p q middle : Place)
+    (from : CellLabel) (between to : Option CellLabel)
+    → IsBetween p q middle → cell_labels p ≡ Some from → between ≡ cell_labels middle →
+    to ≡ cell_labels q → q.row ≡ p.row + 1 → p.col ≢ q.col
+    → IsLowBetween out from between to → IsLeftOut cell_labels out p q
+left_out_corner
+    cell_labels out p q middle from between to is_middle from_is between_is to_is next_row
     aside by = (
       by.0,
       record {
@@ -197,11 +199,12 @@ same_col p q (suc (suc (suc zero))) few on same = absurd (west_col (p.row + 1) p
 same_col p q (suc (suc (suc (suc way)))) few on same = absurd (omega (arith, few))
 
 -- If the join of cell p with cell q has been added, or they have none, `Adds` holds of that pair.
-pub adds_on_way : (marks : Marks) (out : LeftOutJoins) (p q : Place) (way : ℕ) (wanted : Place →
-    Bool) (from : CellMark) (o : Option CellMark) (old new : List Join) → marks p ≡ Some from →
-    marks q ≡ o → way < 8 → place_on way p ≡ Some q → wanted q ≡ true → AddsCovered old
-    (joins_of out.sources from o) new → Adds marks out (IsPairOn way p wanted) old new
-adds_on_way marks out p q way wanted from o old new here there few on want s = record {
+pub adds_on_way : (cell_labels : CellLabelling) (out : LeftOutJoins) (p q : Place) (way : ℕ)
+    (wanted : Place → Bool) (from : CellLabel) (o : Option CellLabel) (old new : List Join) →
+    cell_labels p ≡ Some from →
+    cell_labels q ≡ o → way < 8 → place_on way p ≡ Some q → wanted q ≡ true → AddsCovered old
+    (joins_of out.sources from o) new → Adds cell_labels out (IsPairOn way p wanted) old new
+adds_on_way cell_labels out p q way wanted from o old new here there few on want s = record {
   kept = s.kept;
   only = λ j h. elim (s.only j h) [
     | inl was ↦ inl was
@@ -211,7 +214,7 @@ adds_on_way marks out p q way wanted from o old new here there few on want s = r
           p,
           q,
           (refl, on, want),
-          subst (λ (z : Join). Meets marks out p q z) m.4 (record {
+          subst (λ (z : Join). Meets cell_labels out p q z) m.4 (record {
             touches = (Touches-from_ways p q
                 (way, few, sym (get_or_default (ways_from p) way None (Some q) few) ∙ on)).0;
             from_level = from.level;
@@ -225,57 +228,63 @@ adds_on_way marks out p q way wanted from o old new here there few on want s = r
         )
   ];
   every = λ x r j at after met.
-      let m = subst (λ (z : Place). Meets marks out z r j) at.0 met in
+      let m = subst (λ (z : Place). Meets cell_labels out z r j) at.0 met in
       let r_is : q ≡ r = same_Some q r (sym on ∙ at.1) in
-      let to : CellMark = record { level = m.to_level; node = j.to } in
-      let mark_is : o ≡ Some to = sym there ∙ ap marks r_is ∙ m.to_is in
+      let to : CellLabel = record { level = m.to_level; node = j.to } in
+      let cell_label_is : o ≡ Some to = sym there ∙ ap cell_labels r_is ∙ m.to_is in
       let from_same =
       same_Some from (record { level = m.from_level; node = j.from }) (sym here ∙ m.from_is) in
       inr (s.every j
-      (subst (λ (f : CellMark). Contains (joins_of out.sources f o) j)
-      (sym from_same) (subst (λ (z : Option CellMark). Contains
-      (joins_of out.sources (record { level = m.from_level; node = j.from }) z) j) (sym mark_is)
-      (subst (λ (z : List Join). Contains z j) (sym (joins_of_apart out.sources
+      (subst (λ (f : CellLabel). Contains (joins_of out.sources f o) j)
+      (sym from_same) (subst (λ (z : Option CellLabel). Contains
+      (joins_of out.sources (record { level = m.from_level; node = j.from }) z) j)
+      (sym cell_label_is) (subst (λ (z : List Join). Contains z j) (sym (joins_of_apart out.sources
       (record { level = m.from_level; node = j.from }) to m.different m.apart))
       (subst (λ (h : ℤ). Contains (record { from = j.from; to = j.to; height = h } ∷ []) j)
       (sym m.greater) (cons_head j []))))));
 }
 
 -- If the join of cell p with cell q is left out, `Adds` holds of that pair and an unchanged list.
-pub adds_left_out : (marks : Marks) (out : LeftOutJoins) (p q : Place) (way : ℕ)
-    (wanted : Place → Bool) (old : List Join) → place_on way p ≡ Some q → IsLeftOut marks out p q →
-    Adds marks out (IsPairOn way p wanted) old old
-adds_left_out marks out p q way wanted old on spared = record {
+pub adds_left_out : (cell_labels : CellLabelling) (out : LeftOutJoins) (p q : Place) (way : ℕ)
+    (wanted : Place → Bool) (old : List Join) → place_on way p ≡ Some q →
+    IsLeftOut cell_labels out p q → Adds cell_labels out (IsPairOn way p wanted) old old
+adds_left_out cell_labels out p q way wanted old on spared = record {
   kept = λ j h. covered_itself old j h;
   only = λ j h. inl h;
   every = λ x r j at after m.
-      inl (subst (λ (z : Place). IsLeftOut marks out z r) (sym at.0)
-      (subst (IsLeftOut marks out p) (same_Some q r (sym on ∙ at.1)) spared));
+      inl (subst (λ (z : Place). IsLeftOut cell_labels out z r) (sym at.0)
+      (subst (IsLeftOut cell_labels out p) (same_Some q r (sym on ∙ at.1)) spared));
 }
 
-pub adds_none : (marks : Marks) (out : LeftOutJoins) (pairs : Place → Place → Type 0) (old new :
-    List Join) → new ≡ old → ((p q : Place) → pairs p q → ⊥) → Adds marks out pairs old new
-adds_none marks out pairs old new same none = subst (Adds marks out pairs old) (sym same) (record {
-  kept = λ j h. covered_itself old j h;
-  only = λ j h. inl h;
-  every = λ p q j at. absurd (none p q at);
-})
+pub adds_none : (cell_labels : CellLabelling) (out : LeftOutJoins) (pairs : Place → Place → Type 0)
+    (old new : List Join) → new ≡ old → ((p q : Place) → pairs p q → ⊥) →
+    Adds cell_labels out pairs old new
+adds_none cell_labels out pairs old new same none =
+    subst (Adds cell_labels out pairs old) (sym same) (record {
+      kept = λ j h. covered_itself old j h;
+      only = λ j h. inl h;
+      every = λ p q j at. absurd (none p q at);
+    })
 
--- A cell without a mark has no joins, so `Adds` holds of its pairs and an unchanged list.
-pub no_mark_adds : (marks : Marks) (out : LeftOutJoins) (p : Place) (wanted : Place → Bool)
-    (old : List Join) → marks p ≡ None → Adds marks out (IsPairFrom p wanted) old old
-no_mark_adds marks out p wanted old none = record {
+-- A cell without a cell label has no joins, so `Adds` holds of its pairs and an unchanged list.
+pub no_cell_label_adds : (cell_labels : CellLabelling) (out : LeftOutJoins) (p : Place)
+    (wanted : Place → Bool)
+    (old : List Join) → cell_labels p ≡ None → Adds cell_labels out (IsPairFrom p wanted) old old
+no_cell_label_adds cell_labels out p wanted old none = record {
   kept = λ j h. covered_itself old j h;
   only = λ j h. inl h;
   every = λ x q j at after m.
-      none_some _ (record { level = m.from_level; node = j.from }) (ap marks at.0 ∙ none) m.from_is;
+      none_some _ (record { level = m.from_level; node = j.from }) (ap cell_labels at.0 ∙ none)
+      m.from_is;
 }
 
 -- Adding the joins of some pairs and then of others adds those of all.
-pub adds_then : (marks : Marks) (out : LeftOutJoins) (first later both : Place → Place → Type 0)
+pub adds_then : (cell_labels : CellLabelling) (out : LeftOutJoins)
+    (first later both : Place → Place → Type 0)
     (old now new : List Join) → ((p q : Place) → both p q ↔ (first p q ⊎ later p q)) →
-    Adds marks out first old now → Adds marks out later now new → Adds marks out both old new
-adds_then marks out first later both old now new split a b = record {
+    Adds cell_labels out first old now → Adds cell_labels out later now new →
+    Adds cell_labels out both old new
+adds_then cell_labels out first later both old now new split a b = record {
   kept = λ j h. covered_still now new b.kept j (a.kept j h);
   only = λ j h. elim (b.only j h) [
     | inr late ↦ inr (late.0, late.1, (split late.0 late.1).1 (inr late.2), late.3)
@@ -286,19 +295,21 @@ adds_then marks out first later both old now new split a b = record {
     ]
   ];
   every = λ p q j at after m. elim ((split p q).0 at) [
-    | inl early ↦ left_out_still marks out p q now
+    | inl early ↦ left_out_still cell_labels out p q now
         new b.kept j (a.every p q j early after m)
     | inr late ↦ b.every p q j late after m
   ];
 }
 
 -- `Adds` of `first` gives `Adds` of `both`, if `both` has all pairs of `first` and each other pair
--- of `both` lacks a mark, does not touch or is not in row order.
-pub adds_as : (marks : Marks) (out : LeftOutJoins) (first both : Place → Place → Type 0)
+-- of `both` lacks a cell label, does not touch or is not in row order.
+pub adds_as : (cell_labels : CellLabelling) (out : LeftOutJoins)
+    (first both : Place → Place → Type 0)
     (old new : List Join) → ((p q : Place) → first p q → both p q) → ((p q : Place) → Touches p q →
-    IsAfter p q → (m : CellMark) → marks p ≡ Some m → (n : CellMark) → marks q ≡ Some n →
-    both p q → first p q) → Adds marks out first old new → Adds marks out both old new
-adds_as marks out first both old new wider narrower a = record {
+    IsAfter p q → (m : CellLabel) → cell_labels p ≡ Some m → (n : CellLabel) →
+    cell_labels q ≡ Some n →
+    both p q → first p q) → Adds cell_labels out first old new → Adds cell_labels out both old new
+adds_as cell_labels out first both old new wider narrower a = record {
   kept = a.kept;
   only = λ j h. elim (a.only j h) [
     | inl was ↦ inl was
@@ -311,16 +322,16 @@ adds_as marks out first both old new wider narrower a = record {
 
 -- If a cell's wanted joins to the E, SE, S and SW are added, so are all its wanted joins with later
 -- cells.
-pub adds_four : (marks : Marks) (out : LeftOutJoins) (p : Place) (wanted : Place → Bool)
-    (old first second third new : List Join)
-    → Adds marks out (IsPairOn 0 p wanted) old first →
-    Adds marks out (IsPairOn 1 p wanted) first second
-    → Adds marks out (IsPairOn 2 p wanted) second third →
-    Adds marks out (IsPairOn 3 p wanted) third new
-    → Adds marks out (IsPairFrom p wanted) old new
-adds_four marks out p wanted old first second third new east south_east south south_west =
-    adds_as marks out (Any (Any (on 0) (on 1)) (Any (on 2) (on 3))) (IsPairFrom p wanted) old new
-    (λ q r at. elim at [
+pub adds_four : (cell_labels : CellLabelling) (out : LeftOutJoins) (p : Place)
+    (wanted : Place → Bool) (old first second third new : List Join)
+    → Adds cell_labels out (IsPairOn 0 p wanted) old first →
+    Adds cell_labels out (IsPairOn 1 p wanted) first second
+    → Adds cell_labels out (IsPairOn 2 p wanted) second third →
+    Adds cell_labels out (IsPairOn 3 p wanted) third new
+    → Adds cell_labels out (IsPairFrom p wanted) old new
+adds_four cell_labels out p wanted old first second third new east south_east south south_west =
+    adds_as cell_labels out (Any (Any (on 0) (on 1)) (Any (on 2) (on 3))) (IsPairFrom p wanted)
+    old new (λ q r at. elim at [
       | inl early ↦ elim early [ inl here ↦ (here.0, here.2) | inr here ↦ (here.0, here.2) ]
       | inr late ↦ elim late [ inl here ↦ (here.0, here.2) | inr here ↦ (here.0, here.2) ]
     ])
@@ -345,7 +356,9 @@ adds_four marks out p wanted old first second third new east south_east south so
       Any : (Place → Place → Type 0) → (Place → Place → Type 0) → Place → Place → Type 0
       Any early late q r = early q r ⊎ late q r
 
-      any : (early late : Place → Place → Type 0) (a b c : List Join) → Adds marks out early a b →
-          Adds marks out late b c → Adds marks out (Any early late) a c
+      any : (early late : Place → Place → Type 0) (a b c : List Join) →
+          Adds cell_labels out early a b →
+          Adds cell_labels out late b c → Adds cell_labels out (Any early late) a c
       any early late a b c x y =
-          adds_then marks out early late (Any early late) a b c (λ q r. (λ at. at, λ at. at)) x y
+          adds_then cell_labels out early late (Any early late) a b c
+          (λ q r. (λ at. at, λ at. at)) x y

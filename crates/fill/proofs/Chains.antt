@@ -11,7 +11,7 @@ use Rattle.floods.specs.declared.net.Spill.{Spill}
 use Rattle.fill.specs.Gathering.{turned, arc_of}
 use Rattle.fill.specs.LabelNet.{AddsArcs, IsJoinOf}
 use Rattle.fill.specs.Arcs.{link_from, link_at, chain, arcs_by, AreLinked, has_arcs, is_some_arc}
-use Rattle.fill.specs.declared.spills.Join.{Join}
+use Rattle.fill.specs.declared.spill_graph.Join.{Join}
 use Rattle.fill.specs.declared.arcs.PreviousJoins.{PreviousJoins}
 use Rattle.fill.specs.declared.arcs.Link.{Link}
 use Rattle.fill.proofs.Adding.{no_join}

@@ -17,9 +17,9 @@ use Rattle.cell_floods.specs.TileFlood.{Flood, IsFlood, AreEndHeights, label_in}
 use Rattle.cell_floods.proofs.TileWindows.{data_within}
 use Rattle.cell_floods.proofs.Windows.{data_is}
 use Rattle.fill.specs.Ends.{IsEndAt, PutsEnds, put_end}
-use Rattle.fill.specs.Spills.{AreFloods, AreSpillSources, AreSourcesOf}
+use Rattle.fill.specs.SpillGraph.{AreFloods, AreGraphSources, AreSourcesOf}
 use Rattle.fill.proofs.LabelNets.{has_tile_level, end_label, list_there, among_is}
-use Rattle.fill.proofs.CellMarks.{label_entry}
+use Rattle.fill.proofs.CellLabels.{label_entry}
 
 -- `new` is `old` with heights written at the nodes of labels that are end cells. At least those of
 -- the first `count` entries of the table are written.
@@ -181,7 +181,7 @@ pub all_tiles :
     → AreSourcesOf t c floods heights
 all_tiles t c floods count heights are all s = record {
   size = s.size;
-  right = λ g is. subst (λ (z : List (Option ℤ)). AreSpillSources t c floods
+  right = λ g is. subst (λ (z : List (Option ℤ)). AreGraphSources t c floods
       (record { nodes = g.nodes; joins = g.joins; sources = z })) (sym is) (record {
         each = λ p h carries end height.
             let l = has_tile_level t c floods are.lawful are p (ap is_some height) in

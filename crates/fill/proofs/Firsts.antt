@@ -17,7 +17,7 @@ use Rattle.tiles.proofs.Cut.{bounds_inside}
 use Rattle.tiles.proofs.Quotients.{piece_begins, pieces_some}
 use Rattle.cell_floods.specs.TileFlood.{Flood, IsFlood}
 use Rattle.fill.specs.Numbers.{AreFirsts, first_of, places_of}
-use Rattle.fill.specs.Spills.{AreFloods}
+use Rattle.fill.specs.SpillGraph.{AreFloods}
 
 pub flat_more : {X : Type 0} (g : Flood → List X) (floods : List Flood) (i : ℕ) (f : Flood) →
     i < length floods → f ≡ get_or floods i f →

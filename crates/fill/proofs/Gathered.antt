@@ -20,18 +20,18 @@ use Rattle.cell_floods.proofs.Where.{labels_inside}
 use Rattle.floods.proofs.Heaps.{all_by_contains}
 use Rattle.floods.specs.declared.net.Spill.{Spill}
 use Rattle.drainage.proofs.Uniqueness.{between}
-use Rattle.fill.specs.Gathering.{Fit, LabelsInside, LeftOutJoins, IsBypassed, mark_among, Meets, Covered, IsAfter, IsBefore, AreRising, AreLowest, AreGathered, are_both_sources, turned}
+use Rattle.fill.specs.Gathering.{Fit, LabelsInside, LeftOutJoins, IsBypassed, cell_label_among, Meets, Covered, IsAfter, IsBefore, AreRising, AreLowest, AreGathered, are_both_sources, turned}
 use Rattle.fill.specs.LabelNet.{HasArcsOf, IsJoinOf, IsNumberPass, IsNumberGraph}
 use Rattle.fill.specs.Numbers.{places_of, ends_of, nodes_of, node_of_label}
 use Rattle.fill.specs.Parts.{IsGraph, graph_with}
 use Rattle.fill.specs.Placing.{AddsPlaced, join_at}
-use Rattle.fill.specs.Spills.{AreFloods, level_among, Carries, IsPass, AreSourcesOf, IsGraphOf}
-use Rattle.fill.specs.declared.spills.Join.{Join}
-use Rattle.fill.specs.declared.marks.CellMark.{CellMark}
+use Rattle.fill.specs.SpillGraph.{AreFloods, level_among, Carries, IsPass, AreSourcesOf, IsGraphOf}
+use Rattle.fill.specs.declared.spill_graph.Join.{Join}
+use Rattle.fill.specs.declared.cell_labels.CellLabel.{CellLabel}
 use Rattle.fill.proofs.Adding.{no_join}
-use Rattle.fill.proofs.CellMarks.{label_entry, marked_within}
+use Rattle.fill.proofs.CellLabels.{label_entry, labelled_within}
 use Rattle.fill.proofs.LabelGraphs.{leads_back}
-use Rattle.fill.proofs.Numbered.{AreLawful, IsNumbered, numbered, number_below, number_label, has_mark, ends_length, fit_of}
+use Rattle.fill.proofs.Numbered.{AreLawful, IsNumbered, numbered, number_below, number_label, has_cell_label, ends_length, fit_of}
 use Rattle.fill.proofs.LabelNets.{neighbour_back, level_has_data, list_there, among_is}
 
 and_turned : (a b : Bool) → (a && b) ≡ (b && a)
@@ -65,7 +65,8 @@ one_join joins rise j k a b e f = elim (cases_order a.0 b.0) [
       ap (λ (z : Join). z.to) q in omega (arith, a.1, h, s, t)
 
 meets_turned : (c : Cutting) (floods : List Flood) (out : LeftOutJoins) (p q : Place) (j : Join) →
-    Meets (mark_among c floods) out p q j → Meets (mark_among c floods) out q p (turned j)
+    Meets (cell_label_among c floods) out p q j →
+    Meets (cell_label_among c floods) out q p (turned j)
 meets_turned c floods out p q j m = record {
   touches = record {
     row_down = m.touches.row_up;
@@ -94,12 +95,12 @@ after_cases p q differ = elim (cases_order p.row q.row) [
 ]
 
 meets_differ : (c : Cutting) (floods : List Flood) (out : LeftOutJoins) (p q : Place) (j : Join) →
-    Meets (mark_among c floods) out p q j → p ≢ q
+    Meets (cell_label_among c floods) out p q j → p ≢ q
 meets_differ c floods out p q j m e =
     let same = same_Some (record { level = m.from_level; node = j.from })
-    (record { level = m.to_level; node = j.to }) (sym m.from_is ∙ ap (mark_among c floods) e
+    (record { level = m.to_level; node = j.to }) (sym m.from_is ∙ ap (cell_label_among c floods) e
     ∙ m.to_is) in
-    m.different (ap (λ (z : CellMark). z.node) same)
+    m.different (ap (λ (z : CellLabel). z.node) same)
 
 -- The labels of a tile's flood lie in the tile.
 fit_labels : (t : Terrain) (c : Cutting) (tile : ℕ) (f : Flood) → IsCutting c →
@@ -135,13 +136,13 @@ module _ (t : Terrain) (c : Cutting) (floods : List Flood) (are : AreFloods t c 
   fit : Fit c floods
   fit = fit_of t c floods are
 
-  mark_data : (p : Place) (m : CellMark) (x : IsNumbered c floods p m) →
-      mark_among c floods p ≡ Some m → IsDataCell t p
-  mark_data p m x e = level_has_data t c floods are.lawful are p m.level
-      (marked_within c floods p m are.lawful fit e) x.level_is
+  cell_label_data : (p : Place) (m : CellLabel) (x : IsNumbered c floods p m) →
+      cell_label_among c floods p ≡ Some m → IsDataCell t p
+  cell_label_data p m x e = level_has_data t c floods are.lawful are p m.level
+      (labelled_within c floods p m are.lawful fit e) x.level_is
 
   meets_number : (out : LeftOutJoins) (p q : Place) (j : Join) →
-      Meets (mark_among c floods) out p q j → IsNumberPass t c floods j.from j.to j.height
+      Meets (cell_label_among c floods) out p q j → IsNumberPass t c floods j.from j.to j.height
   meets_number out p q j m =
       let x = numbered c floods p _ lawful m.from_is in
       let y = numbered c floods q _ lawful m.to_is in
@@ -153,8 +154,8 @@ module _ (t : Terrain) (c : Cutting) (floods : List Flood) (are : AreFloods t c 
         neighbours = record {
           different = meets_differ c floods out p q j m;
           touches = m.touches;
-          from_data = mark_data p _ x m.from_is;
-          to_data = mark_data q _ y m.to_is;
+          from_data = cell_label_data p _ x m.from_is;
+          to_data = cell_label_data q _ y m.to_is;
         };
         from_is = m.from_is;
         to_is = m.to_is;
@@ -163,7 +164,7 @@ module _ (t : Terrain) (c : Cutting) (floods : List Flood) (are : AreFloods t c 
 
   number_meets : (out : LeftOutJoins) (a b : ℕ) (h : ℤ) →
       a ≢ b → are_both_sources out.sources a b ≡ false → (x : IsNumberPass t c floods a b h) →
-      Meets (mark_among c floods) out x.from x.to (record { from = a; to = b; height = h })
+      Meets (cell_label_among c floods) out x.from x.to (record { from = a; to = b; height = h })
   number_meets out a b h differ apart x = record {
     touches = x.neighbours.touches;
     from_level = x.from_level;
@@ -180,13 +181,13 @@ module _ (t : Terrain) (c : Cutting) (floods : List Flood) (are : AreFloods t c 
   number_cover : (out : LeftOutJoins) (joins : List Join) → AreGathered c floods out joins →
       (a b : ℕ) (h : ℤ) → a ≢ b → are_both_sources out.sources a b ≡ false →
       (x : IsNumberPass t c floods a b h) → ((out.bypassed ≡ true) × (IsBypassed
-      (mark_among c floods) x.from x.to ⊎ IsBypassed (mark_among c floods) x.to x.from))
+      (cell_label_among c floods) x.from x.to ⊎ IsBypassed (cell_label_among c floods) x.to x.from))
       ⊎ ((low : ℤ) × IsJoinOf joins a b low × (low ≤ℤ h))
   number_cover out joins s a b h differ apart x =
       let m = number_meets out a b h differ apart x in
       elim (after_cases x.from x.to x.neighbours.different) [
         | inl after ↦ elim (s.every x.from x.to _
-            (marked_within c floods x.from _ are.lawful fit x.from_is) after m) [
+            (labelled_within c floods x.from _ are.lawful fit x.from_is) after m) [
               | inl spared ↦ inl (spared.0, inl spared.1)
               | inr k ↦
                   inr (
@@ -195,7 +196,7 @@ module _ (t : Terrain) (c : Cutting) (floods : List Flood) (are : AreFloods t c 
                     k.4,
                   )
             ]
-        | inr before ↦ elim (s.every x.to x.from _ (marked_within c floods x.to _ are.lawful fit
+        | inr before ↦ elim (s.every x.to x.from _ (labelled_within c floods x.to _ are.lawful fit
             x.to_is) before (meets_turned c floods out x.from x.to _ m)) [
               | inl spared ↦ inl (spared.0, inr spared.1)
               | inr k ↦
@@ -265,11 +266,11 @@ module _ (t : Terrain) (c : Cutting) (floods : List Flood) (are : AreFloods t c 
   }
 
   -- The entry of `nodes_of` at the number of a cell's label is the node of that label.
-  node_is : (p : Place) (m : CellMark) (x : IsNumbered c floods p m) →
+  node_is : (p : Place) (m : CellLabel) (x : IsNumbered c floods p m) →
       get_or (nodes_of c.cols floods) m.node 0 ≡ index_of c.cols x.label
   node_is p m x = get_or-map (node_of_label c.cols) (places_of floods) m.node None 0
       (number_below_of p m x) ∙ ap (node_of_label c.cols) (number_label c floods p m x) where
-        number_below_of : (p : Place) (m : CellMark) → IsNumbered c floods p m →
+        number_below_of : (p : Place) (m : CellLabel) → IsNumbered c floods p m →
             m.node < length (places_of floods)
         number_below_of p m x = elim (cases_lt m.node (length (places_of floods))) [
           | inl low ↦ low
@@ -278,7 +279,7 @@ module _ (t : Terrain) (c : Cutting) (floods : List Flood) (are : AreFloods t c 
               (cc (number_label c floods p m x, get_or_past (places_of floods) m.node None past))
         ]
 
-  label_node_below : (p : Place) (m : CellMark) (x : IsNumbered c floods p m) →
+  label_node_below : (p : Place) (m : CellLabel) (x : IsNumbered c floods p m) →
       index_of c.cols x.label < c.cols * c.rows
   label_node_below p m x =
       let y = label_entry x.flood p x.label (sym
@@ -328,14 +329,15 @@ module _ (t : Terrain) (c : Cutting) (floods : List Flood) (are : AreFloods t c 
     greater = max_comm x.to_level x.from_level ∙ x.greater;
   }
 
-  -- A cell with a level and the label at node `a` has a mark, and `a` is the node of its number.
+  -- A cell with a level and the label at node `a` has a cell label, and `a` is the node of its
+  -- number.
   carried : (p : Place) (a : ℕ) (level : ℤ) → Carries c floods p a →
-      level_among c floods p ≡ Some level → IsWithin c p → (n : ℕ) × (mark_among c floods p
+      level_among c floods p ≡ Some level → IsWithin c p → (n : ℕ) × (cell_label_among c floods p
       ≡ Some (record { level = level; node = n })) × (get_or (nodes_of c.cols floods) n 0 ≡ a)
   carried p a level carries level_is within =
       let f = list_there floods (tile_of_place c p)
       (omega (arith, are.count, tile_of_place_below c p are.lawful within)) in
-      let m = has_mark c floods p level carries.0 f.0 f.1 level_is carries.1 in
+      let m = has_cell_label c floods p level carries.0 f.0 f.1 level_is carries.1 in
       let x = numbered c floods p _ lawful m.1 in (
         m.0,
         m.1,

@@ -6,11 +6,11 @@ use Rattle.std.specs.List.{Contains}
 use Rattle.std.proofs.lemmas.Bool.{cases_eq, cases_lt}
 use Rattle.std.proofs.lemmas.List.{get_or-map, length-map, get_or-drop, get_or-take, length-take-le, get_or_default}
 use Rattle.fill.specs.Parts.{IsGraph}
-use Rattle.fill.specs.declared.spills.Join.{Join}
+use Rattle.fill.specs.declared.spill_graph.Join.{Join}
 use Rattle.std.proofs.lemmas.List.Elements.{All-contains, Contains-get_or}
 use Rattle.floods.specs.declared.net.Spill.{Spill}
 use Rattle.floods.specs.Walk.{HasJust}
-use Rattle.fill.specs.Spills.{Graph, HasJoin}
+use Rattle.fill.specs.SpillGraph.{Graph, HasJoin}
 use Rattle.fill.specs.Gathering.{AreRising, IsBefore, arc_of}
 use Rattle.floods.proofs.Heaps.{all_by_contains}
 

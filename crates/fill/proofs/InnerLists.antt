@@ -11,9 +11,9 @@ use Rattle.terrain.specs.Raster.{Terrain}
 use Rattle.tiles.specs.Cutting.{Cutting, IsCutting, Cuts, tile_count}
 use Rattle.cell_floods.specs.TileFlood.{Flood, IsTileFlood}
 use Rattle.fill.specs.Gathering.{AreInner, IsInnerOf}
-use Rattle.fill.specs.Spills.{AreFloods}
+use Rattle.fill.specs.SpillGraph.{AreFloods}
 use Rattle.fill.specs.declared.filling.FloodWithJoins.{FloodWithJoins}
-use Rattle.fill.specs.declared.spills.Join.{Join}
+use Rattle.fill.specs.declared.spill_graph.Join.{Join}
 
 -- `map` makes the item at an index from the item at that index.
 image_at : {X Y : Type 0} (g : X → Y) (xs : List X) (ys : List Y) (i : ℕ) (y : Y) → ys ≡ map g xs →

@@ -15,7 +15,7 @@ use Rattle.floods.specs.Walk.{IsWalk, crest, IsLevel, HasNoWalk, IsFlooded, HasJ
 use Rattle.floods.proofs.Heaps.{all_by_contains}
 use Rattle.fill.specs.LabelNet.{HasArc, IsJoinOf, NumberNet, IsNumberNet, AddsArcs, HasArcsOf, source_number, joined_source, AreNumberLevels, levels_or}
 use Rattle.fill.specs.Arcs.{has_arcs, is_some_arc}
-use Rattle.fill.specs.declared.spills.Join.{Join}
+use Rattle.fill.specs.declared.spill_graph.Join.{Join}
 use Rattle.fill.proofs.Adding.{no_join}
 
 no_arc : (w : Spill) → Contains [] w → ⊥

@@ -20,7 +20,7 @@ use Rattle.floods.specs.declared.net.Spill.{Spill}
 use Rattle.floods.specs.Walk.{Joins, Sources, IsWalk, crest as walk_crest, IsFlooded}
 use Rattle.cell_floods.specs.TileFlood.{IsTileSource, IsTilePath, IsTileLevel, Flood, level_in, label_in}
 use Rattle.cell_floods.specs.Cells.{last_of}
-use Rattle.fill.specs.Spills.{AreFloods, level_among, label_among}
+use Rattle.fill.specs.SpillGraph.{AreFloods, level_among, label_among}
 use Rattle.terrain.proofs.Options.{cases_option, none_some}
 use Rattle.terrain.proofs.Heights.{height_is}
 use Rattle.cell_floods.proofs.Windows.{data_is, path_in_window}

@@ -1,5 +1,5 @@
--- The marks of cells, and the tiles around a tile.
-mod CellMarks
+-- The cell labels of cells, and the tiles around a tile.
+mod CellLabels
 mod NearTiles
 -- Raising by the least crests of any net of labels.
 mod LabelNets

@@ -18,17 +18,17 @@ use Rattle.tiles.proofs.Cut.{in_bounds_from, tile_of_place_below}
 use Rattle.cell_floods.specs.Labels.{labels_by}
 use Rattle.cell_floods.specs.TileFlood.{Flood, IsFlood, level_in, label_in}
 use Rattle.cell_floods.proofs.TileWindows.{data_within}
-use Rattle.fill.specs.Gathering.{Fit, IsBypassed, mark_among}
+use Rattle.fill.specs.Gathering.{Fit, IsBypassed, cell_label_among}
 use Rattle.std.specs.Int.{int_max}
 use Rattle.tiles.specs.declared.bounds.Bounds.{Bounds}
 use Rattle.terrain.proofs.Orders.{max_comm}
 use Rattle.fill.specs.LabelNet.{source_number, IsNumberGraph}
 use Rattle.fill.specs.LabelNet.{HasArc}
 use Rattle.fill.specs.Numbers.{places_of, ends_of, first_of}
-use Rattle.fill.specs.Spills.{AreFloods, level_among, label_among}
-use Rattle.fill.specs.declared.marks.CellMark.{CellMark}
+use Rattle.fill.specs.SpillGraph.{AreFloods, level_among, label_among}
+use Rattle.fill.specs.declared.cell_labels.CellLabel.{CellLabel}
 use Rattle.floods.specs.declared.net.Spill.{Spill}
-use Rattle.fill.proofs.CellMarks.{some_below, marked, marked_within, mark_from_tile, mark_some}
+use Rattle.fill.proofs.CellLabels.{some_below, labelled, labelled_within, cell_label_from_tile, cell_label_some}
 use Rattle.fill.proofs.LabelNets.{IsLabelNet, LeadsRound, neighbour_back, level_has_data, has_tile_level, among_is, list_there}
 
 -- If `g` and `h` give lists of equal lengths for each item, so do the `flat_map`s of the first `i`.
@@ -106,9 +106,9 @@ fit_of t c floods are = record {
 abbrev pub AreLawful : List Flood → Type 0
 AreLawful floods = (tile : ℕ) (f : Flood) → slice_get floods tile ≡ Some f → IsFlood f
 
--- Mark m has the level of cell p and the number of its label. In the table of the cell's tile, the
--- label is entry `entry`.
-pub record IsNumbered (c : Cutting) (floods : List Flood) (p : Place) (m : CellMark) : Type 0 where
+-- Cell label m has the level of cell p and the number of its label. In the table of the cell's
+-- tile, the label is entry `entry`.
+pub record IsNumbered (c : Cutting) (floods : List Flood) (p : Place) (m : CellLabel) : Type 0 where
   pub flood : Flood
   pub entry : ℕ
   pub label : Place
@@ -119,10 +119,10 @@ pub record IsNumbered (c : Cutting) (floods : List Flood) (p : Place) (m : CellM
   pub inside : entry < length flood.table.places
   pub node : first_of floods (tile_of_place c p) + entry ≡ m.node
 
-pub numbered : (c : Cutting) (floods : List Flood) (p : Place) (m : CellMark) → AreLawful floods →
-    mark_among c floods p ≡ Some m → IsNumbered c floods p m
+pub numbered : (c : Cutting) (floods : List Flood) (p : Place) (m : CellLabel) → AreLawful floods →
+    cell_label_among c floods p ≡ Some m → IsNumbered c floods p m
 numbered c floods p m lawful e =
-    let x = marked c floods p m e in
+    let x = labelled c floods p m e in
     let f = x.flood in
     let i = index_in f.bounds p in
     let entry = get_or f.table.indexes i 0 in
@@ -151,22 +151,22 @@ numbered c floods p m lawful e =
     }
 
 -- In `places_of`, the place at the number of a cell's label is that label.
-pub number_label : (c : Cutting) (floods : List Flood) (p : Place) (m : CellMark)
+pub number_label : (c : Cutting) (floods : List Flood) (p : Place) (m : CellLabel)
     (x : IsNumbered c floods p m) → get_or (places_of floods) m.node None ≡ Some x.label
 number_label c floods p m x =
     ap (λ n. get_or (places_of floods) n None) (sym x.node)
     ∙ place_at floods (tile_of_place c p) x.entry x.flood x.there x.inside ∙ x.listed
 
-pub number_below : (c : Cutting) (floods : List Flood) (p : Place) (m : CellMark) →
-    AreLawful floods → mark_among c floods p ≡ Some m → m.node < length (places_of floods)
+pub number_below : (c : Cutting) (floods : List Flood) (p : Place) (m : CellLabel) →
+    AreLawful floods → cell_label_among c floods p ≡ Some m → m.node < length (places_of floods)
 number_below c floods p m lawful e = let x = numbered c floods p m lawful e in
     some_below (places_of floods) m.node x.label (number_label c floods p m x)
 
-pub has_mark : (c : Cutting) (floods : List Flood) (p : Place)
+pub has_cell_label : (c : Cutting) (floods : List Flood) (p : Place)
     (level : ℤ) (label : Place) (f : Flood) → slice_get floods (tile_of_place c p) ≡ Some f →
     level_among c floods p ≡ Some level → label_among c floods p ≡ Some label
-    → (node : ℕ) × (mark_among c floods p ≡ Some (record { level = level; node = node }))
-has_mark c floods p level label f there level_is label_is =
+    → (node : ℕ) × (cell_label_among c floods p ≡ Some (record { level = level; node = node }))
+has_cell_label c floods p level label f there level_is label_is =
     let first = first_of floods (tile_of_place c p) in
     let level_here : level_in f p ≡ Some level =
     sym (among_is (λ g. level_in g p) floods (tile_of_place c p) f there) ∙ level_is in
@@ -174,26 +174,26 @@ has_mark c floods p level label f there level_is label_is =
     sym (among_is (λ g. label_in g p) floods (tile_of_place c p) f there) ∙ label_is in
     let inside = bounds_from_entry f.bounds f.levels p level level_here in (
       first + get_or f.table.indexes (index_in f.bounds p) 0,
-      sym (mark_from_tile c floods (tile_of_place c p) f p there refl)
+      sym (cell_label_from_tile c floods (tile_of_place c p) f p there refl)
           ∙ cond-true _ _ _ (in_bounds_from f.bounds p inside)
-          ∙ mark_some _ _ _ level label (sym (entry_in-inside f.bounds f.levels p inside)
+          ∙ cell_label_some _ _ _ level label (sym (entry_in-inside f.bounds f.levels p inside)
           ∙ level_here) (sym (entry_in-inside f.bounds f.labels p inside) ∙ label_here),
     )
 
 abbrev pub number_among : Cutting → List Flood → Place → Option ℕ
-number_among c floods p = option_map (λ (m : CellMark). m.node) (mark_among c floods p)
+number_among c floods p = option_map (λ (m : CellLabel). m.node) (cell_label_among c floods p)
 
-number_mark : (o : Option CellMark) (a : ℕ) → option_map (λ (m : CellMark). m.node) o ≡ Some a →
-    (level : ℤ) × (o ≡ Some (record { level = level; node = a }))
-number_mark None a e = absurd (cc)
-number_mark (Some m) a e =
+number_cell_label : (o : Option CellLabel) (a : ℕ) → option_map (λ (m : CellLabel). m.node) o
+    ≡ Some a → (level : ℤ) × (o ≡ Some (record { level = level; node = a }))
+number_cell_label None a e = absurd (cc)
+number_cell_label (Some m) a e =
     (m.level, ap (λ n. Some (record { level = m.level; node = n })) (same_Some m.node a e))
 
 -- The spill graph by numbers is a net whose nodes are labels (`IsLabelNet`).
 module _ (t : Terrain) (c : Cutting) (floods : List Flood) (are : AreFloods t c floods)
     (lawful : AreLawful floods) (arcs : List (List Spill)) (sources : List (Option ℤ))
     (graph : IsNumberGraph t c floods arcs sources) where
-  source_is : (p : Place) (m : CellMark) (x : IsNumbered c floods p m) →
+  source_is : (p : Place) (m : CellLabel) (x : IsNumbered c floods p m) →
       source_number sources m.node ≡ get_or x.flood.ends x.entry None
   source_is p m x =
       ap (λ (z : List (Option ℤ)). get_or z m.node None) graph.ends
@@ -208,11 +208,11 @@ module _ (t : Terrain) (c : Cutting) (floods : List Flood) (are : AreFloods t c 
         let within = data_within t c p are.cuts has in
         let f = list_there floods (tile_of_place c p)
         (omega (arith, are.count, tile_of_place_below c p are.lawful within)) in
-        let m = has_mark c floods p l.level l.label f.0 f.1 l.level_is l.label_is in
-        (m.0, ap (option_map (λ (x : CellMark). x.node)) m.1);
+        let m = has_cell_label c floods p l.level l.label f.0 f.1 l.level_is l.label_is in
+        (m.0, ap (option_map (λ (x : CellLabel). x.node)) m.1);
     one = λ p q a p_is q_is.
-        let m = number_mark (mark_among c floods p) a p_is in
-        let n = number_mark (mark_among c floods q) a q_is in
+        let m = number_cell_label (cell_label_among c floods p) a p_is in
+        let n = number_cell_label (cell_label_among c floods q) a q_is in
         let x = numbered c floods p (record { level = m.0; node = a }) lawful m.1 in
         let y = numbered c floods q (record { level = n.0; node = a }) lawful n.1 in
         x.label_is ∙ sym (number_label c floods p (record { level = m.0; node = a }) x)
@@ -223,8 +223,8 @@ module _ (t : Terrain) (c : Cutting) (floods : List Flood) (are : AreFloods t c 
       from_level = meet.from_level;
       to_level = meet.to_level;
       neighbours = meet.neighbours;
-      from_is = mark_is meet.from a meet.from_level meet.from_number meet.from_is;
-      to_is = mark_is meet.to b meet.to_level meet.to_number meet.to_is;
+      from_is = cell_label_is meet.from a meet.from_level meet.from_number meet.from_is;
+      to_is = cell_label_is meet.to b meet.to_level meet.to_number meet.to_is;
       greater = meet.greater;
     })) [
       | inl joined ↦ inl joined
@@ -257,8 +257,8 @@ module _ (t : Terrain) (c : Cutting) (floods : List Flood) (are : AreFloods t c 
           from_level = pass.from_level;
           to_level = pass.to_level;
           neighbours = pass.neighbours;
-          from_number = ap (option_map (λ (x : CellMark). x.node)) pass.from_is;
-          to_number = ap (option_map (λ (x : CellMark). x.node)) pass.to_is;
+          from_number = ap (option_map (λ (x : CellLabel). x.node)) pass.from_is;
+          to_number = ap (option_map (λ (x : CellLabel). x.node)) pass.to_is;
           from_is = (numbered c floods pass.from
               (record { level = pass.from_level; node = a }) lawful pass.from_is).level_is;
           to_is = (numbered c floods pass.to
@@ -266,21 +266,21 @@ module _ (t : Terrain) (c : Cutting) (floods : List Flood) (are : AreFloods t c 
           greater = pass.greater;
         };
     end_source = λ p a z end own is height.
-        let m = number_mark (mark_among c floods p) a is in
-        let mark : CellMark = record { level = m.0; node = a } in
-        let x = numbered c floods p mark lawful m.1 in
+        let m = number_cell_label (cell_label_among c floods p) a is in
+        let cell_label : CellLabel = record { level = m.0; node = a } in
+        let x = numbered c floods p cell_label lawful m.1 in
         let same : x.label ≡ p = same_Some x.label p (sym x.label_is ∙ own) in
         let ends = (are.each _ x.flood x.there).ends.each x.entry p (x.listed ∙ ap Some same) in
-        source_is p mark x ∙ elim (cases_option (get_or x.flood.ends x.entry None)) [
+        source_is p cell_label x ∙ elim (cases_option (get_or x.flood.ends x.entry None)) [
           | inl none ↦ absurd (MatchOption-at_none _ _ none ends end)
           | inr found ↦ let at = MatchOption-at_some _ _ found.0 found.1 ends in found.1 ∙ sym at.1
               ∙ height
         ];
     source_end = λ p a z has is source.
-        let m = number_mark (mark_among c floods p) a is in
-        let mark : CellMark = record { level = m.0; node = a } in
-        let x = numbered c floods p mark lawful m.1 in
-        let at = MatchOption-at_some _ _ z (sym (source_is p mark x)
+        let m = number_cell_label (cell_label_among c floods p) a is in
+        let cell_label : CellLabel = record { level = m.0; node = a } in
+        let x = numbered c floods p cell_label lawful m.1 in
+        let at = MatchOption-at_some _ _ z (sym (source_is p cell_label x)
         ∙ source) ((are.each _ x.flood x.there).ends.each x.entry x.label x.listed) in
         (x.label, x.label_is, at.0, at.1);
   } where
@@ -290,15 +290,15 @@ module _ (t : Terrain) (c : Cutting) (floods : List Flood) (are : AreFloods t c 
     turn_straight p q (inr col) = inr (sym col)
 
     round : (p q : Place) (x y z : ℤ) → IsNeighbour t p q → level_among c floods p ≡ Some x →
-        level_among c floods q ≡ Some y → int_max x y ≡ z → IsBypassed (mark_among c floods) p q →
-        LeadsRound t c floods p q z
+        level_among c floods q ≡ Some y → int_max x y ≡ z →
+        IsBypassed (cell_label_among c floods) p q → LeadsRound t c floods p q z
     round p q x y z next p_is q_is greater by =
         let a = numbered c floods p by.from lawful by.from_is in
         let m = numbered c floods by.middle by.between lawful by.between_is in
         let b = numbered c floods q by.to lawful by.to_is in
         let x_is : by.from.level ≡ x = same_Some by.from.level x (sym a.level_is ∙ p_is) in
         let y_is : by.to.level ≡ y = same_Some by.to.level y (sym b.level_is ∙ q_is) in
-        let within = marked_within c floods by.middle by.between are.lawful
+        let within = labelled_within c floods by.middle by.between are.lawful
         (fit_of t c floods are) by.between_is in
         let has =
         level_has_data t c floods are.lawful are by.middle by.between.level within m.level_is in
@@ -352,11 +352,11 @@ module _ (t : Terrain) (c : Cutting) (floods : List Flood) (are : AreFloods t c 
             col_left = omega (arith, near);
           }
 
-    mark_is : (p : Place) (a : ℕ) (level : ℤ) →
+    cell_label_is : (p : Place) (a : ℕ) (level : ℤ) →
         number_among c floods p ≡ Some a → level_among c floods p ≡ Some level →
-        mark_among c floods p ≡ Some (record { level = level; node = a })
-    mark_is p a level is level_is =
-        let m = number_mark (mark_among c floods p) a is in
+        cell_label_among c floods p ≡ Some (record { level = level; node = a })
+    cell_label_is p a level is level_is =
+        let m = number_cell_label (cell_label_among c floods p) a is in
         let x = numbered c floods p (record { level = m.0; node = a }) lawful m.1 in
         m.1 ∙ ap (λ z. Some (record { level = z; node = a }))
         (same_Some m.0 level (sym x.level_is ∙ level_is))

@@ -8,7 +8,7 @@ use Rattle.std.proofs.lemmas.Bool.{cases_eq, cond-true, cond-false, eq-eqb, ne_e
 use Rattle.std.proofs.lemmas.List.Elements.{Contains-append_left, Contains-append_right, Contains-append_cases}
 use Rattle.fill.specs.Gathering.{turned}
 use Rattle.fill.specs.Placing.{AddsPlaced, IsPlacedOf, join_at, placed_joins_of}
-use Rattle.fill.specs.declared.spills.Join.{Join}
+use Rattle.fill.specs.declared.spill_graph.Join.{Join}
 use Rattle.floods.proofs.Heaps.{cons_head, cons_cases}
 use Rattle.fill.proofs.Adding.{no_join}
 

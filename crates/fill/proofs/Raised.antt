@@ -23,16 +23,16 @@ use Rattle.tiles.specs.Cutting.{Cutting, IsCutting, IsInBounds, IsInTile, IsWith
 use Rattle.tiles.proofs.Cut.{in_bounds, tile_of_place_below}
 use Rattle.tiles.proofs.TileOrder.{tile_entry-in, entry_in-inside, index_in_below}
 use Rattle.cell_floods.specs.TileFlood.{Flood, level_in, label_in, IsTileFlood, levels_where}
-use Rattle.fill.specs.Spills.{AreEntries, AreFloods, level_among, label_among, AreSpillLevels, spill_of, greater_of, raised_by, AreGreater, IsRaised, IsFilledTile, IsGraphOf, IsPass, Graph, HasJoin, source_in}
-use Rattle.fill.specs.RaisedTiles.{IsRaisedTile, AreRaisedCells, raised_among, spill_with, spill_at}
+use Rattle.fill.specs.SpillGraph.{AreEntries, AreFloods, level_among, label_among, AreLeastCrests, crest_of, greater_of, raised_by, AreGreater, IsRaised, IsFilledTile, IsGraphOf, IsPass, Graph, HasJoin, source_in}
+use Rattle.fill.specs.RaisedTiles.{IsRaisedTile, AreRaisedCells, raised_among, crest_with, crest_at}
 use Rattle.fill.specs.LabelNet.{HasArc, source_number, IsNumberGraph, AreNumberLevels}
 use Rattle.fill.specs.Numbers.{first_of}
-use Rattle.fill.specs.declared.marks.CellMark.{CellMark}
+use Rattle.fill.specs.declared.cell_labels.CellLabel.{CellLabel}
 use Rattle.floods.specs.declared.net.Spill.{Spill}
-use Rattle.fill.proofs.CellMarks.{entry_mark, label_entry}
-use Rattle.fill.proofs.Numbered.{AreLawful, fit_of, has_mark, number_below, number_among, number_net}
+use Rattle.fill.proofs.CellLabels.{entry_cell_label, label_entry}
+use Rattle.fill.proofs.Numbered.{AreLawful, fit_of, has_cell_label, number_below, number_among, number_net}
 use Rattle.fill.specs.declared.raised_tiles.RaisedTile.{RaisedTile}
-use Rattle.fill.specs.Gathering.{Fit, mark_among, mark_of, mark_with}
+use Rattle.fill.specs.Gathering.{Fit, cell_label_among, cell_label_of, cell_label_with}
 use Rattle.cell_floods.specs.Labels.{labels_by, IsTable}
 use Rattle.cell_floods.proofs.Where.{levels_where-length, levels_where-at}
 use Rattle.fill.proofs.Gathered.{labels_within}
@@ -73,45 +73,45 @@ all_entries entry i count list below past s =
 
 -- The raised height does not change, if the level is made None where there is no label.
 raised_where : (c : Cutting) (levels : List (Option ℤ)) (height : ℤ) (label : Option Place) →
-    greater_of (Some height) (spill_of c levels label)
+    greater_of (Some height) (crest_of c levels label)
     ≡ raised_by c levels (option_map (λ _. height) label) label
 raised_where c levels height None = refl
 raised_where c levels height (Some p) = refl
 
--- `heights`, `labels` and `spills` give each cell the raised height that `f` and `levels` give.
+-- `heights`, `labels` and `crests` give each cell the raised height that `f` and `levels` give.
 pub record IsRaisedBy (c : Cutting) (f : Flood) (levels : List (Option ℤ)) (heights : List ℤ)
-    (labels : List ℕ) (spills : List (Option ℤ)) : Type 0 where
+    (labels : List ℕ) (crests : List (Option ℤ)) : Type 0 where
   pub heights_size : length heights ≡ length f.labels
   pub labels_size : length labels ≡ length f.labels
-  pub inside : All (λ k. k < length spills) labels
+  pub inside : All (λ k. k < length crests) labels
   pub each : (i : ℕ) → i < length f.labels →
-      greater_of (Some (get_or heights i (pos 0))) (get_or spills (get_or labels i 0) None)
+      greater_of (Some (get_or heights i (pos 0))) (get_or crests (get_or labels i 0) None)
       ≡ raised_by c levels (get_or f.levels i None) (get_or f.labels i None)
 
--- `IsRaisedBy` holds where `spills` has the least crest of each label of the tile's table.
+-- `IsRaisedBy` holds where `crests` has the least crest of each label of the tile's table.
 by_table : (c : Cutting) (f : Flood) (places : List (Option Place)) (cells : List ℕ)
-    (heights : List ℤ) (levels spills : List (Option ℤ)) → f.labels ≡ labels_by places cells →
+    (heights : List ℤ) (levels crests : List (Option ℤ)) → f.labels ≡ labels_by places cells →
     IsTable places cells
     → f.levels ≡ levels_where f.labels heights → length cells ≡ length heights →
-    spills ≡ map (spill_of c levels) places → IsRaisedBy c f levels heights cells spills
-by_table c f places cells heights levels spills are table where_is long is = record {
+    crests ≡ map (crest_of c levels) places → IsRaisedBy c f levels heights cells crests
+by_table c f places cells heights levels crests are table where_is long is = record {
   heights_size = sym fit;
   labels_size = long ∙ sym fit;
   inside = λ i d low.
-      omega (arith, table.inside i d low, ap length is, length-map places (spill_of c levels));
+      omega (arith, table.inside i d low, ap length is, length-map places (crest_of c levels));
   each = λ i low.
       let inside : i < length cells = omega (arith, low, long, fit) in
-      let spill : get_or spills (get_or cells i 0) None
-      ≡ spill_of c levels (get_or f.labels i None) =
+      let crest : get_or crests (get_or cells i 0) None
+      ≡ crest_of c levels (get_or f.labels i None) =
       ap (λ (z : List (Option ℤ)). get_or z (get_or cells i 0) None) is
-      ∙ get_or-map (spill_of c levels) places (get_or cells i 0) None None (table.inside i 0 inside)
-      ∙ ap (spill_of c levels) (sym (get_or-map (λ k. get_or places k None) cells i 0 None inside)
+      ∙ get_or-map (crest_of c levels) places (get_or cells i 0) None None (table.inside i 0 inside)
+      ∙ ap (crest_of c levels) (sym (get_or-map (λ k. get_or places k None) cells i 0 None inside)
       ∙ ap (λ (z : List (Option Place)). get_or z i None) (sym are)) in
       let level : get_or f.levels i None
       ≡ option_map (λ _. get_or heights i (pos 0)) (get_or f.labels i None) =
       ap (λ (z : List (Option ℤ)). get_or z i None) where_is
       ∙ levels_where-at f.labels heights i fit in
-      ap (greater_of (Some (get_or heights i (pos 0)))) spill
+      ap (greater_of (Some (get_or heights i (pos 0)))) crest
       ∙ raised_where c levels (get_or heights i (pos 0)) (get_or f.labels i None)
       ∙ ap (λ z. raised_by c levels z (get_or f.labels i None)) (sym level);
 }
@@ -120,12 +120,12 @@ by_table c f places cells heights levels spills are table where_is long is = rec
     fit = ap length are ∙ length-map cells (λ k. get_or places k None) ∙ long
 
 pub raised_by_table : (c : Cutting) (f : Flood) (places : List (Option Place))
-    (cells : List ℕ) (heights : List ℤ) (levels spills raised : List (Option ℤ)) →
+    (cells : List ℕ) (heights : List ℤ) (levels crests raised : List (Option ℤ)) →
     f.labels ≡ labels_by places cells → IsTable places cells
-    → f.levels ≡ levels_where f.labels heights → length cells ≡ length heights → spills ≡ map
-    (spill_of c levels) places → AreGreater heights cells spills raised → IsRaised c f levels raised
-raised_by_table c f places cells heights levels spills raised are table where_is long is s =
-    let by = by_table c f places cells heights levels spills are table where_is long is in
+    → f.levels ≡ levels_where f.labels heights → length cells ≡ length heights → crests ≡ map
+    (crest_of c levels) places → AreGreater heights cells crests raised → IsRaised c f levels raised
+raised_by_table c f places cells heights levels crests raised are table where_is long is s =
+    let by = by_table c f places cells heights levels crests are table where_is long is in
     let same : length f.levels ≡ length f.labels = ap length where_is
     ∙ levels_where-length f.labels heights (sym by.heights_size) in
     record {
@@ -135,8 +135,8 @@ raised_by_table c f places cells heights levels spills raised are table where_is
     }
 
 -- If h is at most NODATA's number, storing the least crest first changes no stored raised height.
-greater_stored : (h : ℤ) (spill : Option ℤ) → h ≤ℤ no_data →
-    cell_of (greater_of (Some h) (cell_of spill)) ≡ cell_of (greater_of (Some h) spill)
+greater_stored : (h : ℤ) (crest : Option ℤ) → h ≤ℤ no_data →
+    cell_of (greater_of (Some h) (cell_of crest)) ≡ cell_of (greater_of (Some h) crest)
 greater_stored h None low = refl
 greater_stored h (Some z) low = elim (cases_Bool (int_eq z no_data)) [
   | inl lacks ↦
@@ -152,8 +152,8 @@ greater_stored h (Some z) low = elim (cases_Bool (int_eq z no_data)) [
 pub raised_stored : (first : ℕ) (f : Flood) (levels : List (Option ℤ)) (x : RaisedTile) (i : ℕ) →
     IsRaisedTile first f levels x → i < length f.labels → get_or x.heights.now i (pos 0) ≤ℤ no_data
     → cell_of (greater_of
-    (Some (get_or x.heights.now i (pos 0))) (get_or x.spills.items (get_or x.labels.now i 0) None))
-    ≡ cell_of (greater_of (get_or f.levels i None) (spill_with levels (mark_with first f i)))
+    (Some (get_or x.heights.now i (pos 0))) (get_or x.crests.items (get_or x.labels.now i 0) None))
+    ≡ cell_of (greater_of (get_or f.levels i None) (crest_with levels (cell_label_with first f i)))
 raised_stored first f levels x i tile below low =
     let h = get_or x.heights.now i (pos 0) in
     let k = get_or f.table.indexes i 0 in
@@ -162,37 +162,37 @@ raised_stored first f levels x i tile below low =
     let listed : get_or f.labels i None ≡ get_or f.table.places k None =
     ap (λ (z : List (Option Place)). get_or z i None) tile.lawful.labels
     ∙ get_or-map (λ n. get_or f.table.places n None) f.table.indexes i 0 None inside in
-    let stored : get_or x.spills.items k None ≡ cell_of (spill_at levels first f.table.places k) =
-    tile.spills.each k (tile.lawful.table.inside i 0 inside) in
+    let stored : get_or x.crests.items k None ≡ cell_of (crest_at levels first f.table.places k) =
+    tile.crests.each k (tile.lawful.table.inside i 0 inside) in
     let level : get_or f.levels i None ≡ option_map (λ _. h) (get_or f.labels i None) =
     ap (λ (z : List (Option ℤ)). get_or z i None) tile.heights
     ∙ levels_where-at f.labels x.heights.now i (sym tile.size) in
-    ap (λ n. cell_of (greater_of (Some h) (get_or x.spills.items n None))) entry
+    ap (λ n. cell_of (greater_of (Some h) (get_or x.crests.items n None))) entry
     ∙ ap (λ o. cell_of (greater_of (Some h) o)) stored
-    ∙ greater_stored h (spill_at levels first f.table.places k) low
+    ∙ greater_stored h (crest_at levels first f.table.places k) low
     ∙ ap (λ o.
-    cell_of o) (spill_by (get_or f.labels i None) (get_or f.levels i None) h k listed level)
+    cell_of o) (crest_by (get_or f.labels i None) (get_or f.levels i None) h k listed level)
   where
     table_size : length f.labels ≡ length f.table.indexes
     table_size = ap length tile.lawful.labels
         ∙ length-map f.table.indexes (λ n. get_or f.table.places n None)
 
-    spill_by : (label : Option Place) (level : Option ℤ) (h : ℤ) (k : ℕ) →
+    crest_by : (label : Option Place) (level : Option ℤ) (h : ℤ) (k : ℕ) →
         label ≡ get_or f.table.places k None → level ≡ option_map (λ _. h) label
-        → greater_of (Some h) (spill_at levels first f.table.places k)
-        ≡ greater_of level (spill_with levels (mark_of (first + k) level label))
-    spill_by None level h k listed is = rw (← listed, is) refl
-    spill_by (Some p) level h k listed is = rw (← listed, is) refl
+        → greater_of (Some h) (crest_at levels first f.table.places k)
+        ≡ greater_of level (crest_with levels (cell_label_of (first + k) level label))
+    crest_by None level h k listed is = rw (← listed, is) refl
+    crest_by (Some p) level h k listed is = rw (← listed, is) refl
 
 pub stored_inside : (first : ℕ) (f : Flood) (levels : List (Option ℤ)) (x : RaisedTile) →
-    IsRaisedTile first f levels x → All (λ k. k < length x.spills.items) x.labels.now
+    IsRaisedTile first f levels x → All (λ k. k < length x.crests.items) x.labels.now
 stored_inside first f levels x tile i d below =
     let at : i < length f.table.indexes = omega (arith, below, ap length tile.labels) in
     omega (
       arith,
       tile.lawful.table.inside i d at,
       ap (λ (z : List ℕ). get_or z i d) tile.labels,
-      tile.spills.size,
+      tile.crests.size,
     )
 
 -- The raised height of a place; `levels` has the least crests of labels by place.
@@ -226,7 +226,8 @@ number_here : (c : Cutting) (floods : List Flood) (tile k : ℕ)
     (f : Flood) (levels : List (Option ℤ)) (p : Place) → IsCutting c → Fit c floods →
     slice_get floods tile ≡ Some f → IsInTile c tile p
     → k ≡ index_in (bounds_of c tile) p → greater_of (get_or f.levels k None)
-    (spill_with levels (mark_with (first_of floods tile) f k)) ≡ raised_among c floods levels p
+    (crest_with levels (cell_label_with (first_of floods tile) f k))
+    ≡ raised_among c floods levels p
 number_here c floods tile k f levels p h fit there i at =
     let bounds = fit.bounds tile f there in
     let inside = in_bounds c tile p h i in
@@ -237,9 +238,10 @@ number_here c floods tile k f levels p h fit there i at =
     omega (arith, fit.count, slice_get_within floods tile f there) in
     let level = among_is (λ g. level_in g p) floods (tile_of_place c p) f own
     ∙ entry_in-inside f.bounds f.levels p held ∙ ap (λ n. get_or f.levels n None) index in
-    let mark = entry_mark c floods tile f p k h below there bounds inside at in
-    sym (ap (λ z. greater_of z (spill_with levels (mark_with (first_of floods tile) f k))) level)
-    ∙ sym (ap (λ z. greater_of (level_among c floods p) (spill_with levels z)) mark)
+    let cell_label = entry_cell_label c floods tile f p k h below there bounds inside at in
+    sym (ap (λ z. greater_of z (crest_with levels (cell_label_with (first_of floods tile) f k)))
+    level)
+    ∙ sym (ap (λ z. greater_of (level_among c floods p) (crest_with levels z)) cell_label)
 
 pub raised_tile :
     (c : Cutting) (floods : List Flood) (tile : ℕ) (f : Flood) (levels raised : List (Option ℤ)) →
@@ -356,15 +358,15 @@ place_net t c floods g are graph = record {
       let x = from_option (label_among c floods p) a e in
       (x.0, x.1, x.2, label_inside t c floods p x.0 are x.1)
 
--- Let the greater of a data cell's level and `spill` be the cell's filled height. Then `greater_of`
+-- Let the greater of a data cell's level and `crest` be the cell's filled height. Then `greater_of`
 -- gives that height, and None for a place without data.
 raised_filled : (t : Terrain) (c : Cutting) (floods : List Flood) (p : Place) →
-    AreFloods t c floods → IsWithin c p → (spill : Option ℤ)
-    → ((l : HasTileLevel t c floods p) → IsDataCell t p → (n : ℤ) × (spill ≡ Some n)
+    AreFloods t c floods → IsWithin c p → (crest : Option ℤ)
+    → ((l : HasTileLevel t c floods p) → IsDataCell t p → (n : ℤ) × (crest ≡ Some n)
     × IsFilledHeight t p (int_max l.level n))
-    → MatchOption (height_at t p) (greater_of (level_among c floods p) spill ≡ None) (λ _. (level :
-    ℤ) × (greater_of (level_among c floods p) spill ≡ Some level) × IsFilledHeight t p level)
-raised_filled t c floods p are within spill has =
+    → MatchOption (height_at t p) (greater_of (level_among c floods p) crest ≡ None) (λ _. (level :
+    ℤ) × (greater_of (level_among c floods p) crest ≡ Some level) × IsFilledHeight t p level)
+raised_filled t c floods p are within crest has =
     let tile = tile_of_place c p in
     let f =
     list_there floods tile (omega (arith, are.count, tile_of_place_below c p are.lawful within)) in
@@ -375,35 +377,35 @@ raised_filled t c floods p are within spill has =
     let l = has_tile_level t c floods are.lawful are p (ap is_some some) in
     let filled = has l (ap is_some some) in
     (int_max l.level filled.0, both l.level filled.0 l.level_is filled.1, filled.2)) where
-      no_level : level_among c floods p ≡ None → greater_of (level_among c floods p) spill ≡ None
+      no_level : level_among c floods p ≡ None → greater_of (level_among c floods p) crest ≡ None
       no_level none = rw none refl
 
-      both : (x n : ℤ) → level_among c floods p ≡ Some x → spill ≡ Some n →
-          greater_of (level_among c floods p) spill ≡ Some (int_max x n)
+      both : (x n : ℤ) → level_among c floods p ≡ Some x → crest ≡ Some n →
+          greater_of (level_among c floods p) crest ≡ Some (int_max x n)
       both x n a b = rw (a, b) refl
 
 pub filled_tile : (t : Terrain) (c : Cutting) (floods : List Flood) (tile : ℕ) (f : Flood)
     (levels raised : List (Option ℤ)) → AreFloods t c floods → slice_get floods tile ≡ Some f →
-    AreSpillLevels t c floods levels → IsRaised c f levels raised → IsFilledTile t c tile raised
-filled_tile t c floods tile f levels raised are there spill is =
+    AreLeastCrests t c floods levels → IsRaised c f levels raised → IsFilledTile t c tile raised
+filled_tile t c floods tile f levels raised are there least is =
     let made =
     raised_tile c floods tile f levels raised are.lawful (fit_of t c floods are) there is in
-    let g = spill.0 in
+    let g = least.0 in
     record {
       size = made.0;
       each = λ p i.
           subst (λ (o : Option ℤ). MatchOption (height_at t p) (o ≡ None) (λ _. (level : ℤ)
           × (o ≡ Some level) × IsFilledHeight t p level)) (sym (made.1 p i))
-          (raised_filled t c floods p are i.0 (spill_of c levels (label_among c floods p))
+          (raised_filled t c floods p are i.0 (crest_of c levels (label_among c floods p))
           (λ l data_is.
           let within = label_inside t c floods p l.label are l.label_is in
           let below : index_of c.cols l.label < g.nodes =
-          omega (arith, spill.1.count, index_below c.cols c.rows l.label within.0 within.1) in
+          omega (arith, least.1.count, index_below c.cols c.rows l.label within.0 within.1) in
           let filled = filled_height_is t c floods are.lawful are (λ q. option_map (index_of c.cols)
-          (label_among c floods q)) (HasJoin g) (source_in g) (place_net t c floods g are spill.1)
-          g.nodes levels spill.2.0 spill.2.1 p (index_of c.cols l.label) l data_is
+          (label_among c floods q)) (HasJoin g) (source_in g) (place_net t c floods g are least.1)
+          g.nodes levels least.2.0 least.2.1 p (index_of c.cols l.label) l data_is
           (ap (option_map (index_of c.cols)) l.label_is) below in
-          (filled.0, ap (spill_of c levels) l.label_is ∙ filled.1, filled.2)));
+          (filled.0, ap (crest_of c levels) l.label_is ∙ filled.1, filled.2)));
     }
 
 -- A filled height is a height of the grid, so a cell can store it.
@@ -420,18 +422,19 @@ filled_cell : (t : Terrain) (c : Cutting) (floods : List Flood) (arcs : List (Li
     IsWithin c p →
     (entry : Option ℤ) → entry ≡ cell_of (raised_among c floods levels p) → MatchOption (height_at t
     p) (entry ≡ None) (λ _. (level : ℤ) × (entry ≡ Some level) × IsFilledHeight t p level)
-filled_cell t c floods arcs sources levels heights are lawful graph spill p within entry e =
+filled_cell t c floods arcs sources levels heights are lawful graph least p within entry e =
     let raised =
-    raised_filled t c floods p are within (spill_with levels (mark_among c floods p)) (λ l data_is.
+    raised_filled t c floods p are within (crest_with levels (cell_label_among c floods p))
+    (λ l data_is.
     let f = list_there floods (tile_of_place c p)
     (omega (arith, are.count, tile_of_place_below c p are.lawful within)) in
-    let m = has_mark c floods p l.level l.label f.0 f.1 l.level_is l.label_is in
+    let m = has_cell_label c floods p l.level l.label f.0 f.1 l.level_is l.label_is in
     let below = number_below c floods p _ lawful m.1 in
     let filled = filled_height_is t c floods are.lawful are (number_among c floods) (HasArc arcs)
     (source_number sources) (number_net t c floods are lawful arcs sources graph)
-    (length arcs) levels spill.0 spill.1 p m.0 l data_is
-    (ap (option_map (λ (x : CellMark). x.node)) m.1) (omega (arith, below, graph.count)) in
-    (filled.0, ap (spill_with levels) m.1 ∙ filled.1, filled.2)) in
+    (length arcs) levels least.0 least.1 p m.0 l data_is
+    (ap (option_map (λ (x : CellLabel). x.node)) m.1) (omega (arith, below, graph.count)) in
+    (filled.0, ap (crest_with levels) m.1 ∙ filled.1, filled.2)) in
     match_of (height_at t p) _ _
     (λ none. e ∙ ap cell_of (MatchOption-at_none _ _ none raised))
     (λ h some. let filled = MatchOption-at_some _ _ h some raised in
@@ -442,12 +445,12 @@ pub filled_map : (t : Terrain) (c : Cutting) (floods : List Flood) (arcs : List 
     (sources levels whole : List (Option ℤ)) → IsTerrain t → AreFloods t c floods →
     AreLawful floods → IsNumberGraph t c floods arcs sources → AreNumberLevels arcs sources levels →
     IsMadeMap c (λ p cell. cell ≡ cell_of (raised_among c floods levels p)) whole → IsFilled t whole
-filled_map t c floods arcs sources levels whole heights are lawful graph spill made =
+filled_map t c floods arcs sources levels whole heights are lawful graph least made =
     let all = map_of_size c t.cols t.rows (λ p cell.
     cell ≡ cell_of (raised_among c floods levels p)) whole are.cuts.0 are.cuts.1 made in
     record {
       size = all.0;
-      each = λ p inside. filled_cell t c floods arcs sources levels heights are lawful graph spill p
+      each = λ p inside. filled_cell t c floods arcs sources levels heights are lawful graph least p
           (omega (arith, inside, are.cuts), omega (arith, inside, are.cuts))
           (entry_at t.cols t.rows whole p) (all.1 p inside);
     }

@@ -12,18 +12,18 @@ use Rattle.std.specs.Prelude.{◌≤ℤ◌}
 use Rattle.std.specs.Int.{int_max}
 use Rattle.terrain.specs.Raster.{Terrain}
 use Rattle.tiles.specs.declared.bounds.Bounds.{Bounds}
-use Rattle.fill.specs.Spills.{AreFloods}
+use Rattle.fill.specs.SpillGraph.{AreFloods}
 use Rattle.fill.proofs.Numbered.{AreLawful, end_at, fit_of}
 use Rattle.terrain.specs.declared.place.Place.{Place}
 use Rattle.tiles.specs.Cutting.{Cutting, IsInBounds, IsInTile, bounds_of, tile_of_place}
 use Rattle.tiles.proofs.Cut.{in_bounds, in_tile}
 use Rattle.cell_floods.specs.TileFlood.{Flood}
 use Rattle.fill.specs.Numbers.{first_of}
-use Rattle.fill.specs.Gathering.{Adds, IsInnerOf, IsOutside, IsLeftOut, Meets, are_both_sources, mark_among, mark_in, shifted, left_out_in, left_out_of}
-use Rattle.fill.specs.declared.spills.Join.{Join}
-use Rattle.fill.specs.declared.marks.CellMark.{CellMark}
+use Rattle.fill.specs.Gathering.{Adds, IsInnerOf, IsOutside, IsLeftOut, Meets, are_both_sources, cell_label_among, cell_label_in, shifted, left_out_in, left_out_of}
+use Rattle.fill.specs.declared.spill_graph.Join.{Join}
+use Rattle.fill.specs.declared.cell_labels.CellLabel.{CellLabel}
 use Rattle.fill.proofs.Adding.{adds_as, adds_then, covered_itself, no_join}
-use Rattle.fill.proofs.CellMarks.{among_shift, index_inside, mark_inside, marked_within, shift, shift_back}
+use Rattle.fill.proofs.CellLabels.{among_shift, index_inside, cell_label_inside, labelled_within, shift, shift_back}
 use Rattle.floods.proofs.Heaps.{all_by_contains}
 
 contains_map : {X Y : Type 0} (g : X → Y) (xs : List X) (x : X) → Contains xs x →
@@ -58,18 +58,20 @@ module _ (t : Terrain) (c : Cutting) (floods : List Flood)
   of_bounds p inside =
       subst (λ (b : Bounds). IsInBounds b p) (sym bounds_is) (in_bounds c tile p are.lawful inside)
 
-  mark_there : (p : Place) → IsInTile c tile p →
-      mark_among c floods p ≡ option_map (shift first) (mark_in 0 f p)
-  mark_there p inside = among_shift c floods tile f p there inside.1
+  cell_label_there : (p : Place) → IsInTile c tile p →
+      cell_label_among c floods p ≡ option_map (shift first) (cell_label_in 0 f p)
+  cell_label_there p inside = among_shift c floods tile f p there inside.1
 
-  mark_known : (p : Place) (m : CellMark) → mark_in 0 f p ≡ Some m →
-      mark_among c floods p ≡ Some (shift first m)
-  mark_known p m is = mark_there p (of_tile p (mark_inside f p m is))
+  cell_label_known : (p : Place) (m : CellLabel) → cell_label_in 0 f p ≡ Some m →
+      cell_label_among c floods p ≡ Some (shift first m)
+  cell_label_known p m is = cell_label_there p (of_tile p (cell_label_inside f p m is))
       ∙ ap (option_map (shift first)) is
 
-  mark_from : (p : Place) (m : CellMark) → IsInTile c tile p → mark_among c floods p ≡ Some m →
-      (n : CellMark) × (mark_in 0 f p ≡ Some n) × (shift first n ≡ m)
-  mark_from p m inside is = shift_back first (mark_in 0 f p) m (sym (mark_there p inside) ∙ is)
+  cell_label_from : (p : Place) (m : CellLabel) → IsInTile c tile p →
+      cell_label_among c floods p ≡ Some m →
+      (n : CellLabel) × (cell_label_in 0 f p ≡ Some n) × (shift first n ≡ m)
+  cell_label_from p m inside is = shift_back first (cell_label_in 0 f p) m
+      (sym (cell_label_there p inside) ∙ is)
 
   settled_there : (a b : ℕ) → a < length f.table.places → b < length f.table.places →
       are_both_sources (left_out_of spare floods).sources (first + a) (first + b)
@@ -89,14 +91,14 @@ module _ (t : Terrain) (c : Cutting) (floods : List Flood)
         ∙ ap (λ (z : List (Option ℤ)). are_both_sources z a b) (sym (cond-false _ _ _ fails))
   ]
 
-  meets_there : (p q : Place) (j : Join) → Meets (mark_in 0 f) (left_out_in spare f) p q j →
-      Meets (mark_among c floods) (left_out_of spare floods) p q (shifted first j)
+  meets_there : (p q : Place) (j : Join) → Meets (cell_label_in 0 f) (left_out_in spare f) p q j →
+      Meets (cell_label_among c floods) (left_out_of spare floods) p q (shifted first j)
   meets_there p q j m = record {
     touches = m.touches;
     from_level = m.from_level;
     to_level = m.to_level;
-    from_is = mark_known p _ m.from_is;
-    to_is = mark_known q _ m.to_is;
+    from_is = cell_label_known p _ m.from_is;
+    to_is = cell_label_known q _ m.to_is;
     different = λ e. m.different (omega (arith, e));
     apart = settled_there j.from j.to (index_inside f p _ (lawful tile f there) m.from_is)
         (index_inside f q _ (lawful tile f there) m.to_is) ∙ m.apart;
@@ -104,15 +106,15 @@ module _ (t : Terrain) (c : Cutting) (floods : List Flood)
   }
 
   meets_from : (p q : Place) (j : Join) → IsInTile c tile p →
-      IsInTile c tile q → Meets (mark_among c floods) (left_out_of spare floods) p q j →
-      (k : Join) × Meets (mark_in 0 f) (left_out_in spare f) p q k × (shifted first k ≡ j)
+      IsInTile c tile q → Meets (cell_label_among c floods) (left_out_of spare floods) p q j →
+      (k : Join) × Meets (cell_label_in 0 f) (left_out_in spare f) p q k × (shifted first k ≡ j)
   meets_from p q j p_in q_in m =
-      let x = mark_from p _ p_in m.from_is in
-      let y = mark_from q _ q_in m.to_is in
-      let x_node : first + x.0.node ≡ j.from = ap (λ (z : CellMark). z.node) x.2 in
-      let y_node : first + y.0.node ≡ j.to = ap (λ (z : CellMark). z.node) y.2 in
-      let x_level : x.0.level ≡ m.from_level = ap (λ (z : CellMark). z.level) x.2 in
-      let y_level : y.0.level ≡ m.to_level = ap (λ (z : CellMark). z.level) y.2 in
+      let x = cell_label_from p _ p_in m.from_is in
+      let y = cell_label_from q _ q_in m.to_is in
+      let x_node : first + x.0.node ≡ j.from = ap (λ (z : CellLabel). z.node) x.2 in
+      let y_node : first + y.0.node ≡ j.to = ap (λ (z : CellLabel). z.node) y.2 in
+      let x_level : x.0.level ≡ m.from_level = ap (λ (z : CellLabel). z.level) x.2 in
+      let y_level : y.0.level ≡ m.to_level = ap (λ (z : CellLabel). z.level) y.2 in
       let settled = settled_there x.0.node y.0.node (index_inside f p x.0 (lawful tile f there) x.1)
       (index_inside f q y.0 (lawful tile f there) y.1) in (
         record { from = x.0.node; to = y.0.node; height = j.height },
@@ -133,8 +135,8 @@ module _ (t : Terrain) (c : Cutting) (floods : List Flood)
             ∙ ap (λ n. record { from = j.from; to = n; height = j.height }) y_node,
       )
 
-  left_out_there : (p q : Place) → IsLeftOut (mark_in 0 f) (left_out_in spare f) p q →
-      IsLeftOut (mark_among c floods) (left_out_of spare floods) p q
+  left_out_there : (p q : Place) → IsLeftOut (cell_label_in 0 f) (left_out_in spare f) p q →
+      IsLeftOut (cell_label_among c floods) (left_out_of spare floods) p q
   left_out_there p q s = (
     s.0,
     record {
@@ -143,9 +145,9 @@ module _ (t : Terrain) (c : Cutting) (floods : List Flood)
       between = shift first s.1.between;
       to = shift first s.1.to;
       is_middle = s.1.is_middle;
-      from_is = mark_known p _ s.1.from_is;
-      between_is = mark_known s.1.middle _ s.1.between_is;
-      to_is = mark_known q _ s.1.to_is;
+      from_is = cell_label_known p _ s.1.from_is;
+      between_is = cell_label_known s.1.middle _ s.1.between_is;
+      to_is = cell_label_known q _ s.1.to_is;
       next_row = s.1.next_row;
       aside = s.1.aside;
       low = s.1.low;
@@ -169,9 +171,10 @@ module _ (t : Terrain) (c : Cutting) (floods : List Flood)
   -- Appending the shifted joins inside the tile adds the joins of its pairs of cells, except joins
   -- left out (`Adds`).
   pub shift_adds : (inner old new : List Join) → IsInnerOf spare f inner →
-      new ≡ old ++ map (shifted first) inner → Adds (mark_among c floods) (left_out_of spare floods)
+      new ≡ old ++ map (shifted first) inner →
+      Adds (cell_label_among c floods) (left_out_of spare floods)
       (λ p q. IsInTile c tile p × IsInTile c tile q) old new
-  shift_adds inner old new s is = subst (Adds (mark_among c floods) (left_out_of spare floods)
+  shift_adds inner old new s is = subst (Adds (cell_label_among c floods) (left_out_of spare floods)
       (λ p q. IsInTile c tile p × IsInTile c tile q) old) (sym is) (record {
         kept = λ j h. covered_itself _ j (Contains-append_left old (map (shifted first) inner) j h);
         only = λ j h. elim (Contains-append_cases old (map (shifted first) inner) j h) [
@@ -184,10 +187,10 @@ module _ (t : Terrain) (c : Cutting) (floods : List Flood)
                   m.0,
                   m.1,
                   (
-                    of_tile m.0 (mark_inside f m.0 _ m.3.from_is),
-                    of_tile m.1 (mark_inside f m.1 _ m.3.to_is),
+                    of_tile m.0 (cell_label_inside f m.0 _ m.3.from_is),
+                    of_tile m.1 (cell_label_inside f m.1 _ m.3.to_is),
                   ),
-                  subst (Meets (mark_among c floods) (left_out_of spare floods) m.0 m.1) k.2
+                  subst (Meets (cell_label_among c floods) (left_out_of spare floods) m.0 m.1) k.2
                       (meets_there m.0 m.1 k.0 m.3),
                 )
               ]
@@ -209,22 +212,24 @@ module _ (t : Terrain) (c : Cutting) (floods : List Flood)
 
   -- Adding the joins inside the tile, then those over its rim, adds the joins of its cells with all
   -- cells after them, except joins left out (`Adds`).
-  pub tile_adds : (old now new : List Join) → Adds (mark_among c floods) (left_out_of spare floods)
-      (λ p q. IsInTile c tile p × IsInTile c tile q) old now → Adds (mark_among c floods)
+  pub tile_adds : (old now new : List Join) →
+      Adds (cell_label_among c floods) (left_out_of spare floods)
+      (λ p q. IsInTile c tile p × IsInTile c tile q) old now → Adds (cell_label_among c floods)
       (left_out_of spare floods) (λ p q. IsInTile c tile p × IsOutside c tile q) now new →
-      Adds (mark_among c floods) (left_out_of spare floods) (λ p q. IsInTile c tile p) old new
+      Adds (cell_label_among c floods) (left_out_of spare floods) (λ p q. IsInTile c tile p) old new
   tile_adds old now new inside outside =
-      adds_as (mark_among c floods) (left_out_of spare floods) (λ p q. (IsInTile c tile p × IsInTile
+      adds_as (cell_label_among c floods) (left_out_of spare floods)
+      (λ p q. (IsInTile c tile p × IsInTile
       c tile q) ⊎ (IsInTile c tile p × IsOutside c tile q)) (λ p q. IsInTile c tile p) old new
       (λ p q at. elim at [ inl both ↦ both.0 | inr over ↦ over.0 ])
       (λ p q touch after m m_is n n_is at.
-      let within = marked_within c floods q n are.lawful (fit_of t c floods are) n_is in
+      let within = labelled_within c floods q n are.lawful (fit_of t c floods are) n_is in
       elim (cases_eq (tile_of_place c q) tile) [
         | inl same ↦ inl (at, (within, same))
         | inr other ↦
             inr (at, λ i. other i.1)
       ])
-      (adds_then (mark_among c floods) (left_out_of spare floods)
+      (adds_then (cell_label_among c floods) (left_out_of spare floods)
       (λ p q. IsInTile c tile p × IsInTile c tile q) (λ p q. IsInTile c tile p × IsOutside c tile q)
       (λ p q. (IsInTile c tile p × IsInTile c tile q) ⊎ (IsInTile c tile p × IsOutside c tile q))
       old now new (λ p q. (λ at. at, λ at. at)) inside outside)

@@ -12,8 +12,8 @@ use Rattle.tiles.specs.declared.bounds.Bounds.{Bounds}
 use Rattle.tiles.specs.Cutting.{Cutting, IsInBounds, IsInTile, IsWithin, across, tile_count, tile_of_place, bounds_of, is_in_bounds, index_in}
 use Rattle.cell_floods.specs.TileFlood.{Flood}
 use Rattle.fill.specs.Numbers.{ends_of, first_of}
-use Rattle.fill.specs.declared.spills.Join.{Join}
-use Rattle.fill.specs.declared.marks.CellMark.{CellMark}
+use Rattle.fill.specs.declared.spill_graph.Join.{Join}
+use Rattle.fill.specs.declared.cell_labels.CellLabel.{CellLabel}
 use Rattle.floods.specs.declared.net.Spill.{Spill}
 
 -- The labels of the flood are places of the grid.
@@ -31,33 +31,34 @@ pub record Fit (c : Cutting) (floods : List Flood) : Type 0 where
   pub levels : (tile : ℕ) (f : Flood) → slice_get floods tile ≡ Some f →
       length f.levels ≡ f.bounds.rows * f.bounds.cols
 
--- The mark of a cell with this level and label, where `node` is the label's number or index. None
--- if level or label is None.
-abbrev pub mark_of : ℕ → Option ℤ → Option Place → Option CellMark
-mark_of node (Some level) (Some label) = Some (record { level = level; node = node })
-mark_of node (Some level) None = None
-mark_of node None label = None
+-- The cell label of a cell with this level and label, where `node` is the label's number or index.
+-- None if level or label is None.
+abbrev pub cell_label_of : ℕ → Option ℤ → Option Place → Option CellLabel
+cell_label_of node (Some level) (Some label) = Some (record { level = level; node = node })
+cell_label_of node (Some level) None = None
+cell_label_of node None label = None
 
--- The mark of the cell at `index` in a tile's row order. The first entry of the tile's table of
--- labels has number `first`.
-abbrev pub mark_with : ℕ → Flood → ℕ → Option CellMark
-mark_with first f index = mark_of (first + slice_index_or f.table.indexes index 0)
+-- The cell label of the cell at `index` in a tile's row order. The first entry of the tile's table
+-- of labels has number `first`.
+abbrev pub cell_label_with : ℕ → Flood → ℕ → Option CellLabel
+cell_label_with first f index = cell_label_of (first + slice_index_or f.table.indexes index 0)
     (slice_index_or f.levels index None) (slice_index_or f.labels index None)
 
--- The mark of a place; None outside the tile, or where level or label is missing.
-abbrev pub mark_in : ℕ → Flood → Place → Option CellMark
-mark_in first f p =
-    if is_in_bounds f.bounds p then mark_with first f (index_in f.bounds p) else None
+-- The cell label of a place; None outside the tile, or where level or label is missing.
+abbrev pub cell_label_in : ℕ → Flood → Place → Option CellLabel
+cell_label_in first f p =
+    if is_in_bounds f.bounds p then cell_label_with first f (index_in f.bounds p) else None
 
--- The mark of place `p`, from the flood of its tile. It gives the label by its number over all
--- tiles.
-abbrev pub mark_among : Cutting → List Flood → Place → Option CellMark
-mark_among c floods p = option_and_then (λ f. mark_in (first_of floods (tile_of_place c p)) f p)
+-- The cell label of place `p`, from the flood of its tile. It gives the label by its number over
+-- all tiles.
+abbrev pub cell_label_among : Cutting → List Flood → Place → Option CellLabel
+cell_label_among c floods p =
+    option_and_then (λ f. cell_label_in (first_of floods (tile_of_place c p)) f p)
     (slice_get floods (tile_of_place c p))
 
--- A function that gives each place its mark, or None if the place has no mark.
-abbrev pub Marks : Type 0
-Marks = Place → Option CellMark
+-- A function that gives each place its cell label, or None if the place has no cell label.
+abbrev pub CellLabelling : Type 0
+CellLabelling = Place → Option CellLabel
 
 -- The joins to leave out: those of two labels with heights in `sources` and, if `bypassed`, those
 -- of two cells that a third cell bypasses.
@@ -72,15 +73,15 @@ IsBetween p q r = ((r.row ≡ q.row) × (r.col ≡ p.col)) ⊎ ((r.row ≡ p.row
 -- Cell `q` is in the row after that of `p`, in another column. The level of a cell between the two
 -- is at most the greater of their levels. So the joins of `p` and of `q` with that cell are no
 -- higher than the join of `p` and `q`.
-pub record IsBypassed (marks : Marks) (p q : Place) : Type 0 where
+pub record IsBypassed (cell_labels : CellLabelling) (p q : Place) : Type 0 where
   pub middle : Place
-  pub from : CellMark
-  pub between : CellMark
-  pub to : CellMark
+  pub from : CellLabel
+  pub between : CellLabel
+  pub to : CellLabel
   pub is_middle : IsBetween p q middle
-  pub from_is : marks p ≡ Some from
-  pub between_is : marks middle ≡ Some between
-  pub to_is : marks q ≡ Some to
+  pub from_is : cell_labels p ≡ Some from
+  pub between_is : cell_labels middle ≡ Some between
+  pub to_is : cell_labels q ≡ Some to
   pub next_row : q.row ≡ p.row + 1
   pub aside : p.col ≢ q.col
   pub low : between.level ≤ℤ int_max from.level to.level
@@ -92,27 +93,28 @@ are_both_sources sources a b =
 
 -- Cells `p` and `q`, which touch, have the labels of join `j`. The labels differ, and do not both
 -- have heights in `out.sources`. The height of `j` is the greater of the levels of the cells.
-pub record Meets (marks : Marks) (out : LeftOutJoins) (p q : Place) (j : Join) : Type 0 where
+pub record Meets (cell_labels : CellLabelling) (out : LeftOutJoins) (p q : Place)
+    (j : Join) : Type 0 where
   pub touches : Touches p q
   pub from_level : ℤ
   pub to_level : ℤ
-  pub from_is : marks p ≡ Some (record { level = from_level; node = j.from })
-  pub to_is : marks q ≡ Some (record { level = to_level; node = j.to })
+  pub from_is : cell_labels p ≡ Some (record { level = from_level; node = j.from })
+  pub to_is : cell_labels q ≡ Some (record { level = to_level; node = j.to })
   pub different : j.from ≢ j.to
   pub apart : are_both_sources out.sources j.from j.to ≡ false
   pub greater : int_max from_level to_level ≡ j.height
 
 -- `j` is the join (`Meets`) of two cells p and q, and `pairs` holds of their places.
-abbrev pub IsMeetingAt : Marks → LeftOutJoins → (Place → Place → Type 0) → Join → Type 0
-IsMeetingAt marks out pairs j = (p q : Place) × pairs p q × Meets marks out p q j
+abbrev pub IsMeetingAt : CellLabelling → LeftOutJoins → (Place → Place → Type 0) → Join → Type 0
+IsMeetingAt cell_labels out pairs j = (p q : Place) × pairs p q × Meets cell_labels out p q j
 
 -- `out` leaves out bypassed joins, and a third cell bypasses the join of cells `p` and `q`.
-abbrev pub IsLeftOut : Marks → LeftOutJoins → Place → Place → Type 0
-IsLeftOut marks out p q = (out.bypassed ≡ true) × IsBypassed marks p q
+abbrev pub IsLeftOut : CellLabelling → LeftOutJoins → Place → Place → Type 0
+IsLeftOut cell_labels out p q = (out.bypassed ≡ true) × IsBypassed cell_labels p q
 
--- The join of two cells, by their marks `from` and `to`. There is no join if `to` is None, the
--- labels are equal, or both labels have heights in `sources`.
-abbrev pub joins_of : List (Option ℤ) → CellMark → Option CellMark → List Join
+-- The join of two cells, by their cell labels `from` and `to`. There is no join if `to` is None,
+-- the labels are equal, or both labels have heights in `sources`.
+abbrev pub joins_of : List (Option ℤ) → CellLabel → Option CellLabel → List Join
 joins_of sources from None = []
 joins_of sources from (Some to) =
     if from.node == to.node then [] else
@@ -151,30 +153,30 @@ abbrev pub AreEqualAfter : List ℕ → ℕ → ℕ → Type 0
 AreEqualAfter xs i width =
     All (λ k. slice_index_or xs k 0 ≡ slice_index_or xs i 0) (cells_after width i)
 
--- Bypassed joins are left out, and the level of mark `between` is at most the greater of the levels
--- of marks `from` and `to`.
-abbrev pub IsLowBetween : LeftOutJoins → CellMark → Option CellMark → Option CellMark → Type 0
+-- Bypassed joins are left out, and the level of cell label `between` is at most the greater of the
+-- levels of cell labels `from` and `to`.
+abbrev pub IsLowBetween : LeftOutJoins → CellLabel → Option CellLabel → Option CellLabel → Type 0
 IsLowBetween out from between to =
-    (out.bypassed ≡ true) × (third end : CellMark) × (between ≡ Some third) × (to ≡ Some end)
+    (out.bypassed ≡ true) × (third end : CellLabel) × (between ≡ Some third) × (to ≡ Some end)
     × (third.level ≤ℤ int_max from.level end.level)
 
--- The join of the cell of mark `from` with the cell at index `near` has been added, if any.
-abbrev pub AddsNear : Flood → LeftOutJoins → CellMark → ℕ → List Join → List Join → Type 0
+-- The join of the cell of `from` with the cell at index `near` has been added, if any.
+abbrev pub AddsNear : Flood → LeftOutJoins → CellLabel → ℕ → List Join → List Join → Type 0
 AddsNear f out from near old new =
-    AddsCovered old (joins_of out.sources from (mark_with 0 f near)) new
+    AddsCovered old (joins_of out.sources from (cell_label_with 0 f near)) new
 
 -- The join of two cells that touch at a corner has been added, if any (`AddsNear`). Or none has
 -- been added, bypassed joins are left out, and the cell at index `below` or `beside` bypasses it.
-abbrev pub AddsCorner : Flood → LeftOutJoins → CellMark → ℕ → ℕ → ℕ → List Join → List Join →
+abbrev pub AddsCorner : Flood → LeftOutJoins → CellLabel → ℕ → ℕ → ℕ → List Join → List Join →
     Type 0
 AddsCorner f out from below beside near old new =
-    ((IsLowBetween out from (mark_with 0 f below) (mark_with 0 f near)
-    ⊎ IsLowBetween out from (mark_with 0 f beside) (mark_with 0 f near)) × (new ≡ old))
+    ((IsLowBetween out from (cell_label_with 0 f below) (cell_label_with 0 f near)
+    ⊎ IsLowBetween out from (cell_label_with 0 f beside) (cell_label_with 0 f near)) × (new ≡ old))
     ⊎ AddsNear f out from near old new
 
 -- The joins of a cell with its neighbours E, SE, S and SW have been added. Joins that `out` leaves
--- out may be missing. The cell has index `i` and mark `from`; a row has `width` cells.
-pub record AddsAfter (f : Flood) (out : LeftOutJoins) (from : CellMark) (i width : ℕ)
+-- out may be missing. The cell has index `i` and cell label `from`; a row has `width` cells.
+pub record AddsAfter (f : Flood) (out : LeftOutJoins) (from : CellLabel) (i width : ℕ)
     (old new : List Join) : Type 0 where
   pub after_first : List Join
   pub after_second : List Join
@@ -214,12 +216,12 @@ IsTileWithRow c tile row other = other ≡ row / c.side * across c + tile % acro
 -- added. Joins that `out` leaves out may be missing, and joins of the same labels may have been
 -- merged into the lowest. Each join added is that of one of `pairs`, whichever of the two places
 -- comes first in row order.
-pub record Adds (marks : Marks) (out : LeftOutJoins) (pairs : Place → Place → Type 0)
+pub record Adds (cell_labels : CellLabelling) (out : LeftOutJoins) (pairs : Place → Place → Type 0)
     (old new : List Join) : Type 0 where
   pub kept : (j : Join) → Contains old j → Covered new j
-  pub only : (j : Join) → Contains new j → Contains old j ⊎ IsMeetingAt marks out pairs j
-  pub every : (p q : Place) (j : Join) → pairs p q → IsAfter p q → Meets marks out p q j →
-      IsLeftOut marks out p q ⊎ Covered new j
+  pub only : (j : Join) → Contains new j → Contains old j ⊎ IsMeetingAt cell_labels out pairs j
+  pub every : (p q : Place) (j : Join) → pairs p q → IsAfter p q → Meets cell_labels out p q j →
+      IsLeftOut cell_labels out p q ⊎ Covered new j
 
 -- The join with its labels exchanged.
 abbrev pub turned : Join → Join
@@ -246,10 +248,10 @@ pub record AreLowest (joins lowest : List Join) : Type 0 where
 pub record AreGathered (c : Cutting) (floods : List Flood) (out : LeftOutJoins)
     (joins : List Join) : Type 0 where
   pub only : (j : Join) → Contains joins j →
-      IsMeetingAt (mark_among c floods) out (λ p q. IsWithin c p) j
+      IsMeetingAt (cell_label_among c floods) out (λ p q. IsWithin c p) j
   pub every : (p q : Place) (j : Join) → IsWithin c p → IsAfter p q →
-      Meets (mark_among c floods) out p q j →
-      IsLeftOut (mark_among c floods) out p q ⊎ Covered joins j
+      Meets (cell_label_among c floods) out p q j →
+      IsLeftOut (cell_label_among c floods) out p q ⊎ Covered joins j
 
 -- The joins left out over all tiles: if `spare`, joins of two labels that are end cells, and
 -- bypassed joins: they lower no filled height. Else none.
@@ -266,7 +268,7 @@ left_out_in spare f = record { sources = if spare then f.ends else []; bypassed 
 -- missing. They give labels by index in the tile's table.
 abbrev pub IsInnerOf : Bool → Flood → List Join → Type 0
 IsInnerOf spare f joins =
-    Adds (mark_in 0 f) (left_out_in spare f) (λ p q. IsInBounds f.bounds p) [] joins
+    Adds (cell_label_in 0 f) (left_out_in spare f) (λ p q. IsInBounds f.bounds p) [] joins
 
 -- `inner` has, for each tile, the joins inside it (`IsInnerOf`).
 pub record AreInner (floods : List Flood) (spare : Bool)

@@ -13,10 +13,10 @@ use Rattle.tiles.specs.Cutting.{Cutting}
 use Rattle.floods.specs.declared.net.Spill.{Spill}
 use Rattle.floods.specs.Walk.{IsFlooded}
 use Rattle.cell_floods.specs.TileFlood.{Flood}
-use Rattle.fill.specs.Gathering.{IsBypassed, mark_among}
+use Rattle.fill.specs.Gathering.{IsBypassed, cell_label_among}
 use Rattle.fill.specs.Numbers.{places_of, ends_of}
 use Rattle.fill.specs.Arcs.{has_arcs}
-use Rattle.fill.specs.declared.spills.Join.{Join}
+use Rattle.fill.specs.declared.spill_graph.Join.{Join}
 
 -- An arc of this height leads from label `a` to label `b`, and one leads back.
 pub record HasArc (arcs : List (List Spill)) (a b : ℕ) (height : ℤ) : Type 0 where
@@ -82,8 +82,8 @@ pub record IsNumberPass (t : Terrain) (c : Cutting) (floods : List Flood) (a b :
   pub from_level : ℤ
   pub to_level : ℤ
   pub neighbours : IsNeighbour t from to
-  pub from_is : mark_among c floods from ≡ Some (record { level = from_level; node = a })
-  pub to_is : mark_among c floods to ≡ Some (record { level = to_level; node = b })
+  pub from_is : cell_label_among c floods from ≡ Some (record { level = from_level; node = a })
+  pub to_is : cell_label_among c floods to ≡ Some (record { level = to_level; node = b })
   pub greater : int_max from_level to_level ≡ height
 
 -- The spill graph of these floods. It may have higher arcs beside the lowest of two labels. It may
@@ -95,8 +95,8 @@ pub record IsNumberGraph (t : Terrain) (c : Cutting) (floods : List Flood)
   pub joined : (a b : ℕ) (h : ℤ) → a ≢ b → (x : IsNumberPass t c floods a b h)
       → ((IsSome (source_number sources a) × IsSome (source_number sources b))
       ⊎ ((low : ℤ) × HasArc arcs a b low × (low ≤ℤ h)))
-      ⊎ (IsBypassed (mark_among c floods) x.from x.to
-      ⊎ IsBypassed (mark_among c floods) x.to x.from)
+      ⊎ (IsBypassed (cell_label_among c floods) x.from x.to
+      ⊎ IsBypassed (cell_label_among c floods) x.to x.from)
   pub joined_only : (a b : ℕ) (h : ℤ) → HasArc arcs a b h → IsNumberPass t c floods a b h
 
 -- The list has the least crest of each label in a spill graph of these floods.

@@ -1,4 +1,4 @@
-pub mod Spills
+pub mod SpillGraph
 pub mod Numbers
 pub mod Gathering
 pub mod Ends

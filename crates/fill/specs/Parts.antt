@@ -5,8 +5,8 @@ use Rattle.std.specs.Prelude.{◌≡◌, ℕ, ◌*◌, ◌<◌, ◌≤◌, ℤ, 
 use Rattle.std.specs.List.{Contains, All}
 use Rattle.tiles.specs.Cutting.{Cutting}
 use Rattle.fill.specs.Gathering.{AreRising, turned}
-use Rattle.fill.specs.Spills.{Graph}
-use Rattle.fill.specs.declared.spills.Join.{Join}
+use Rattle.fill.specs.SpillGraph.{Graph}
+use Rattle.fill.specs.declared.spill_graph.Join.{Join}
 
 -- The joins from nodes before `node` are those before index `start`.
 pub record BeginAt (joins : List Join) (node start : ℕ) : Type 0 where

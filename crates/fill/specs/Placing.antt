@@ -4,7 +4,7 @@
 use Rattle.std.specs.Prelude.{◌≡◌, ◌≢◌, ℕ, ◌==◌, if◌then◌else◌, ◌⊎◌, List, [], ◌∷◌, slice_index_or}
 use Rattle.std.specs.List.{Contains}
 use Rattle.fill.specs.Gathering.{turned}
-use Rattle.fill.specs.declared.spills.Join.{Join}
+use Rattle.fill.specs.declared.spill_graph.Join.{Join}
 
 -- Join `j` with nodes for the numbers of its labels.
 abbrev pub join_at : List ℕ → Join → Join

@@ -6,31 +6,31 @@ use Rattle.terrain.specs.StoredCells.{cell_of}
 use Rattle.terrain.specs.declared.place.Place.{Place}
 use Rattle.tiles.specs.Cutting.{Cutting}
 use Rattle.cell_floods.specs.TileFlood.{Flood, IsFlood, levels_where}
-use Rattle.fill.specs.Gathering.{mark_among, mark_with}
-use Rattle.fill.specs.Spills.{AreEntries, greater_of, level_among}
-use Rattle.fill.specs.declared.marks.CellMark.{CellMark}
+use Rattle.fill.specs.Gathering.{cell_label_among, cell_label_with}
+use Rattle.fill.specs.SpillGraph.{AreEntries, greater_of, level_among}
+use Rattle.fill.specs.declared.cell_labels.CellLabel.{CellLabel}
 use Rattle.fill.specs.declared.raised_tiles.RaisedTile.{RaisedTile}
 
--- The least crest of the label in a mark, which is a cell's level and the number of its label.
--- `levels` has the least crest of each label, by number.
-abbrev pub spill_with : List (Option ℤ) → Option CellMark → Option ℤ
-spill_with levels mark = option_and_then (λ m. slice_index_or levels m.node None) mark
+-- The least crest of the label in a cell label, which is a cell's level and the number of its
+-- label. `levels` has the least crest of each label, by number.
+abbrev pub crest_with : List (Option ℤ) → Option CellLabel → Option ℤ
+crest_with levels cell_label = option_and_then (λ m. slice_index_or levels m.node None) cell_label
 
 -- The raised height of a place, by the flood of its tile and the least crests of labels.
 abbrev pub raised_among : Cutting → List Flood → List (Option ℤ) → Place → Option ℤ
 raised_among c floods levels p =
-    greater_of (level_among c floods p) (spill_with levels (mark_among c floods p))
+    greater_of (level_among c floods p) (crest_with levels (cell_label_among c floods p))
 
 -- The least crest of the label at index k of a tile's table. Labels are numbered through the tables
 -- of all tiles; this table begins at number `first`.
-abbrev pub spill_at : List (Option ℤ) → ℕ → List (Option Place) → ℕ → Option ℤ
-spill_at levels first places k =
+abbrev pub crest_at : List (Option ℤ) → ℕ → List (Option Place) → ℕ → Option ℤ
+crest_at levels first places k =
     option_and_then (λ _. slice_index_or levels (first + k) None) (slice_index_or places k None)
 
 -- The list has the least crest of each label of the table, in the stored form of a cell.
-abbrev pub AreSpillCells : List (Option ℤ) → ℕ → List (Option Place) → List (Option ℤ) → Type 0
-AreSpillCells levels first places cells =
-    AreEntries (λ k. cell_of (spill_at levels first places k)) (length places) cells
+abbrev pub AreCrestCells : List (Option ℤ) → ℕ → List (Option Place) → List (Option ℤ) → Type 0
+AreCrestCells levels first places cells =
+    AreEntries (λ k. cell_of (crest_at levels first places k)) (length places) cells
 
 -- The tile has the levels and label indexes of this flood, and the least crests of its labels.
 pub record IsRaisedTile (first : ℕ) (f : Flood) (levels : List (Option ℤ))
@@ -39,12 +39,12 @@ pub record IsRaisedTile (first : ℕ) (f : Flood) (levels : List (Option ℤ))
   pub heights : f.levels ≡ levels_where f.labels x.heights.now
   pub size : length x.heights.now ≡ length f.labels
   pub labels : x.labels.now ≡ f.table.indexes
-  pub spills : AreSpillCells levels first f.table.places x.spills.items
+  pub crests : AreCrestCells levels first f.table.places x.crests.items
 
 -- The raised height of the cell at index k in the tile's row order.
 abbrev pub raised_at : ℕ → Flood → List (Option ℤ) → ℕ → Option ℤ
 raised_at first f levels k =
-    greater_of (slice_index_or f.levels k None) (spill_with levels (mark_with first f k))
+    greater_of (slice_index_or f.levels k None) (crest_with levels (cell_label_with first f k))
 
 -- The list has the raised heights of a tile's cells, in the stored form of a cell.
 abbrev pub AreRaisedCells : ℕ → Flood → List (Option ℤ) → List (Option ℤ) → Type 0

@@ -7,7 +7,7 @@ ghost use Rattle.floods.specs.Flood.{candidates_in, InOrder, AreNoted, Relaxes};
 ghost use Rattle.fill.specs.LabelNet.{AddsArcs};
 ghost use Rattle.fill.specs.Arcs.{has_arcs, link_at};
 
-use crate::spills::Join;
+use crate::spill_graph::Join;
 use floods::{Candidate, HeightList, NodeLabels, Queue, Spill, queue_neighbour};
 use smallvec::SmallVec;
 use std::alloc::{AllocError, Global};

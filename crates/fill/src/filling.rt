@@ -8,20 +8,20 @@ ghost use Rattle.std.specs.Prelude.{◌≡◌, ◌<◌, ◌≤◌, true, length,
 ghost use Rattle.terrain.specs.Raster.{Terrain, IsTerrain};
 ghost use Rattle.drainage.specs.Filled.{IsFilled, IsFilledGrid};
 ghost use Rattle.tiles.specs.Cutting.{Cuts, IsCutting};
-ghost use Rattle.fill.specs.Spills.{AreFloods};
+ghost use Rattle.fill.specs.SpillGraph.{AreFloods};
 ghost use Rattle.fill.specs.LabelNet.{AreLabelLevels, IsNumberGraph};
 ghost use Rattle.fill.specs.Numbers.{places_of};
 ghost use Rattle.fill.specs.Gathering.{AreInner};
 ghost use Rattle.tile_jobs.specs.Fault.{RefusesWorkers};
 
+use crate::cell_labels::NumberedFloods;
 use crate::gathering::graph_joins;
 use crate::inner_joins::inner_joins;
 use crate::label_graph::{LabelGraph, LabelLevels};
 use crate::left_out::LeftOut;
-use crate::marks::NumberedFloods;
 use crate::numbers::{first_numbers, label_ends};
 use crate::raised_tiles::RaisedTiles;
-use crate::spills::Join;
+use crate::spill_graph::Join;
 use cell_floods::{TileFlood, tile_flood};
 use drainage::Filled;
 use std::alloc::{AllocError, Global};

@@ -4,13 +4,13 @@
 ghost use Rattle.std.specs.Prelude.{◌≡◌, Bool, ◌+◌, ◌<◌, ◌≤◌, ◌++◌, IfOk, OnOk, length, map};
 ghost use Rattle.std.specs.List.{All};
 ghost use Rattle.terrain.specs.Raster.{Terrain};
-ghost use Rattle.fill.specs.Spills.{AreFloods};
+ghost use Rattle.fill.specs.SpillGraph.{AreFloods};
 ghost use Rattle.fill.specs.Gathering.{AreGathered, AreInner, shifted, left_out_of};
 
+use crate::cell_labels::NumberedFloods;
 use crate::left_out::LeftOut;
-use crate::marks::NumberedFloods;
 use crate::rim_joins::push_rim_joins;
-use crate::spills::Join;
+use crate::spill_graph::Join;
 use std::alloc::{AllocError, Global};
 
 /// Adds the joins `inner` of one tile, with numbers for the indexes of labels.

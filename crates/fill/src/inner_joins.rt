@@ -6,29 +6,29 @@
 ghost use Rattle.std.specs.Prelude.{◌≡◌, ◌+◌, ◌<◌, ◌≤◌, [], Some, slice_index_or, MatchOption, IfOk, OnOk, length};
 ghost use Rattle.std.specs.Bool.{OnTrue};
 ghost use Rattle.tiles.specs.Cutting.{IsInBounds};
-ghost use Rattle.fill.specs.Gathering.{IsInner, AreEqualAfter, Adds, AddsAfter, AddsCorner, AddsNear, mark_in, mark_with};
+ghost use Rattle.fill.specs.Gathering.{IsInner, AreEqualAfter, Adds, AddsAfter, AddsCorner, AddsNear, cell_label_in, cell_label_with};
 
+use crate::cell_labels::{CellLabel, cell_label_at, cell_label_in};
 use crate::join_table::JoinTable;
 use crate::left_out::{LeftOut, is_bypassed, join_of};
-use crate::marks::{CellMark, mark_in, mark_of_entry};
-use crate::rim_cells::{JoinList, MarkedCells, push_join, push_outer_cells};
-use crate::spills::Join;
+use crate::rim_cells::{JoinList, LabelledCells, push_join, push_outer_cells};
+use crate::spill_graph::Join;
 use cell_floods::TileFlood;
 use std::alloc::{AllocError, Global};
 use terrain::Place;
 use tiles::Bounds;
 
-impl MarkedCells for TileFlood {
+impl LabelledCells for TileFlood {
     ghost use Rattle.std.specs.Prelude.{true};
-    ghost use Rattle.fill.specs.Gathering.{mark_in};
+    ghost use Rattle.fill.specs.Gathering.{cell_label_in};
 
-    ghost marks = { mark_in 0 };
+    ghost cell_labels = { cell_label_in 0 };
 
     ghost wanted = { λ f q. true };
 
     #[inline(always)]
-    fn mark(&self, place: Place) -> Option<CellMark> {
-        mark_in(self, place)
+    fn cell_label(&self, place: Place) -> Option<CellLabel> {
+        cell_label_in(self, place)
     }
 
     #[inline(always)]
@@ -50,39 +50,39 @@ fn has_same_label(flood: &TileFlood, first: usize, second: usize) -> bool
 }
 
 /// Adds the join of the cells at indexes `index` and `near`, if [`join_of`] returns one.
-/// `from` is the mark (level and label) of the cell at `index`. Labels are compared first, since
-/// that is cheaper than reading a level.
+/// `from` is the cell label (level and label) of the cell at `index`. Labels are compared first,
+/// since that is cheaper than reading a level.
 #[inline(always)]
 fn push_near(
     table: &mut JoinTable,
     flood: &TileFlood,
     left_out: &LeftOut<'_>,
     index: usize,
-    from: CellMark,
+    from: CellLabel,
     near: usize,
 ) -> Result<(), AllocError>
     requires index { index < length flood.now.labels }
     requires near { near < length flood.now.labels }
-    requires from { mark_with 0 flood.now index ≡ Some from }
+    requires from { cell_label_with 0 flood.now index ≡ Some from }
     ensures { OnOk result (AddsNear flood.now left_out.now from near table.old table.new) }
 {
     if has_same_label(flood, index, near) {
         return Ok(());
     }
-    push_join(table, left_out.sources, from, mark_of_entry(flood, near))
+    push_join(table, left_out.sources, from, cell_label_at(flood, near))
 }
 
 /// Adds the join, if any, of the cells at `index` and `near`, which touch at a corner.
-/// `from` is the mark of the cell at `index`. `below` and `beside` are the indexes of the two cells
-/// beside both. With `left_out.bypassed`, no join is added if the detour by one of these two cells
-/// is no higher than the join.
+/// `from` is the cell label of the cell at `index`. `below` and `beside` are the indexes of the two
+/// cells beside both. With `left_out.bypassed`, no join is added if the detour by one of these two
+/// cells is no higher than the join.
 #[inline(always)]
 fn push_corner(
     table: &mut JoinTable,
     flood: &TileFlood,
     left_out: &LeftOut<'_>,
     index: usize,
-    from: CellMark,
+    from: CellLabel,
     below: usize,
     beside: usize,
     near: usize,
@@ -91,41 +91,42 @@ fn push_corner(
     requires below { below < length flood.now.labels }
     requires beside { beside < length flood.now.labels }
     requires near { near < length flood.now.labels }
-    requires from { mark_with 0 flood.now index ≡ Some from }
+    requires from { cell_label_with 0 flood.now index ≡ Some from }
     ensures { OnOk result
         (AddsCorner flood.now left_out.now from below beside near table.old table.new) }
 {
     if has_same_label(flood, index, near) {
         return Ok(());
     }
-    let to = mark_of_entry(flood, near);
+    let to = cell_label_at(flood, near);
     let Some(join) = join_of(left_out.sources, from, to) else {
         return Ok(());
     };
-    if is_bypassed(left_out, from, mark_of_entry(flood, below), to) {
+    if is_bypassed(left_out, from, cell_label_at(flood, below), to) {
         return Ok(());
     }
-    if is_bypassed(left_out, from, mark_of_entry(flood, beside), to) {
+    if is_bypassed(left_out, from, cell_label_at(flood, beside), to) {
         return Ok(());
     }
     table.add(join)
 }
 
 /// Adds the joins of a cell with its neighbours after it in row order.
-/// Leaves out the joins that `left_out` describes. The cell has index `index` and mark `from`, and
-/// the four places after it all lie in the tile. `width` is the number of the tile's columns.
+/// Leaves out the joins that `left_out` describes. The cell has index `index` and cell label
+/// `from`, and the four places after it all lie in the tile. `width` is the number of the tile's
+/// columns.
 fn push_after(
     table: &mut JoinTable,
     flood: &TileFlood,
     left_out: &LeftOut<'_>,
     index: usize,
-    from: CellMark,
+    from: CellLabel,
     width: usize,
 ) -> Result<(), AllocError>
     requires some { 0 < index }
     requires after { index + width + 1 < length flood.now.labels }
     requires few { length flood.now.labels ≤ 16777216 }
-    requires from { mark_with 0 flood.now index ≡ Some from }
+    requires from { cell_label_with 0 flood.now index ≡ Some from }
     ensures { OnOk result (AddsAfter flood.now left_out.now from index width
         table.old table.new) }
 {
@@ -167,7 +168,7 @@ fn push_inner_cell(
 ) -> Result<(), AllocError>
     requires some { 0 < index }
     requires after { index + flood.now.bounds.cols + 1 < length flood.now.labels }
-    ensures { OnOk result (MatchOption (mark_with 0 flood.now index)
+    ensures { OnOk result (MatchOption (cell_label_with 0 flood.now index)
         (table.new ≡ table.old)
         (λ from. AddsAfter flood.now left_out.now from index flood.now.bounds.cols
         table.old table.new)) }
@@ -176,7 +177,7 @@ fn push_inner_cell(
     if are_equal_after(flood.labels().indexes(), index, width) {
         return Ok(());
     }
-    let Some(from) = mark_of_entry(flood, index) else {
+    let Some(from) = cell_label_at(flood, index) else {
         return Ok(());
     };
     push_after(table, flood, left_out, index, from, width)
@@ -193,7 +194,7 @@ fn push_inner_cells(
     requires some { 1 ≤ flood.now.bounds.cols }
     requires top { flood.now.bounds.top ≤ row }
     requires row { row + 1 < flood.now.bounds.top + flood.now.bounds.rows }
-    ensures { OnOk result (Adds (mark_in 0 flood.now) left_out.now
+    ensures { OnOk result (Adds (cell_label_in 0 flood.now) left_out.now
         (λ p q. IsInner flood.now.bounds p × (p.row ≡ row)) table.old table.new) }
 {
     let Bounds { top, cols, .. } = flood.bounds();
@@ -216,7 +217,7 @@ fn push_row(
     requires some { 1 ≤ flood.now.bounds.cols }
     requires top { flood.now.bounds.top ≤ row }
     requires row { row < flood.now.bounds.top + flood.now.bounds.rows }
-    ensures { OnOk result (Adds (mark_in 0 flood.now) left_out.now
+    ensures { OnOk result (Adds (cell_label_in 0 flood.now) left_out.now
         (λ p q. IsInBounds flood.now.bounds p × (p.row ≡ row)) table.old table.new) }
 {
     let bounds = flood.bounds();
@@ -235,7 +236,7 @@ pub(crate) fn inner_joins(
     left_out: &LeftOut<'_>,
 ) -> Result<Vec<Join>, AllocError>
     requires { 1 ≤ flood.now.bounds.cols }
-    ensures { IfOk result (λ v. Adds (mark_in 0 flood.now) left_out.now
+    ensures { IfOk result (λ v. Adds (cell_label_in 0 flood.now) left_out.now
         (λ p q. IsInBounds flood.now.bounds p) [] v.items) }
 {
     let bounds = flood.bounds();

@@ -7,7 +7,7 @@ ghost use Rattle.std.specs.Bool.{OnTrue, OnFalse};
 ghost use Rattle.fill.specs.Gathering.{AddsCovered};
 
 use crate::rim_cells::JoinList;
-use crate::spills::Join;
+use crate::spill_graph::Join;
 use std::alloc::{AllocError, Global};
 use std::marker::Model;
 
@@ -38,7 +38,7 @@ pub(crate) struct JoinTable {
 
 impl Model for JoinTable {
     ghost use Rattle.std.specs.Prelude.{List};
-    ghost use Rattle.fill.specs.declared.spills.Join.{Join};
+    ghost use Rattle.fill.specs.declared.spill_graph.Join.{Join};
 
     ghost Value = { List Join };
 

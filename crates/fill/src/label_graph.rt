@@ -7,7 +7,7 @@ ghost use Rattle.std.specs.List.{All};
 ghost use Rattle.fill.specs.LabelNet.{AreNumberLevels, HasArcsOf};
 
 use crate::arcs::ArcLists;
-use crate::spills::Join;
+use crate::spill_graph::Join;
 use floods::{Candidate, FloodedNet, HeightList, Net, NodeLabels, Queue, Spill, flood_net};
 use smallvec::SmallVec;
 use std::alloc::{AllocError, Global};

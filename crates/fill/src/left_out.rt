@@ -4,8 +4,8 @@ ghost use Rattle.std.specs.Bool.{OnTrue};
 ghost use Rattle.std.specs.Option.{option_to_list};
 ghost use Rattle.fill.specs.Gathering.{IsLowBetween, are_both_sources, joins_of};
 
-use crate::marks::CellMark;
-use crate::spills::Join;
+use crate::cell_labels::CellLabel;
+use crate::spill_graph::Join;
 use std::marker::Model;
 use terrain::Cell;
 
@@ -59,10 +59,10 @@ fn are_both_sources(sources: &[Cell], from: u32, to: u32) -> bool
     is_source(sources, from) && is_source(sources, to)
 }
 
-/// Returns the join of two cells, by their marks, if their labels differ.
+/// Returns the join of two cells, by their cell labels, if their labels differ.
 /// Returns `None` if `to` is `None`, or if both labels have heights in `sources`.
 #[inline(always)]
-pub(crate) fn join_of(sources: &[Cell], from: CellMark, to: Option<CellMark>) -> Option<Join>
+pub(crate) fn join_of(sources: &[Cell], from: CellLabel, to: Option<CellLabel>) -> Option<Join>
     ensures { joins_of sources.now from to ≡ option_to_list result }
 {
     let to = to?;
@@ -80,15 +80,15 @@ pub(crate) fn join_of(sources: &[Cell], from: CellMark, to: Option<CellMark>) ->
 }
 
 /// Returns whether the join of two cells over a corner is left out as bypassed.
-/// `from` and `to` are their marks, and `between` is that of a cell beside both. If
+/// `from` and `to` are their cell labels, and `between` is that of a cell beside both. If
 /// `left_out.bypassed`, a join is bypassed where the level of `between` is at most the greater of
 /// the other two. Then the detour is no higher. [`join_of`] leaves out joins of two sources.
 #[inline(always)]
 pub(crate) fn is_bypassed(
     left_out: &LeftOut<'_>,
-    from: CellMark,
-    between: Option<CellMark>,
-    to: Option<CellMark>,
+    from: CellLabel,
+    between: Option<CellLabel>,
+    to: Option<CellLabel>,
 ) -> bool
     ensures { OnTrue result (IsLowBetween left_out.now from between to) }
 {

@@ -12,7 +12,7 @@
 //!
 //! - `filling`: `filled`, which runs all stages
 //! - `numbers`: the numbers of labels, and the heights of end cells by number
-//! - `marks`: the level and the label of a cell
+//! - `cell_labels`: the level and the label of a cell
 //! - `left_out`: which joins are left out, since they lower no filled height
 //! - `rim_cells`: the joins of cells in a tile's last row, first column and last column
 //! - `join_table`: the joins of one tile, by their labels
@@ -24,18 +24,18 @@
 //! - `raised_tiles`: the filled heights of all tiles, by the graph of `label_graph`
 //! - `placing`: joins by the places of their labels
 //! - `sources`: the heights of end cells by place
-//! - `spills`: the spill graph by places of labels
-//! - `raising`: the filled heights of one tile, by the graph of `spills`
+//! - `spill_graph`: the spill graph by places of labels
+//! - `raising`: the filled heights of one tile, by the graph of `spill_graph`
 #![tactic(auto)]
 
 mod arcs;
+mod cell_labels;
 mod filling;
 mod gathering;
 mod inner_joins;
 mod join_table;
 mod label_graph;
 mod left_out;
-mod marks;
 mod numbers;
 mod placing;
 mod raised_tiles;
@@ -43,11 +43,11 @@ mod raising;
 mod rim_cells;
 mod rim_joins;
 mod sources;
-mod spills;
+mod spill_graph;
 
 pub use cell_floods::{CellNet, TileFlood, filled_heights, tile_flood};
 pub use drainage::Filled;
 pub use filling::filled;
 pub use floods::{Flooded, Net, Spill, flood};
 pub use raising::raise;
-pub use spills::{Join, SpillGraph};
+pub use spill_graph::{Join, SpillGraph};

@@ -6,7 +6,7 @@ ghost use Rattle.std.specs.Prelude.{◌≡◌, ◌+◌, ◌<◌, ◌≤◌, IfOk
 ghost use Rattle.std.specs.List.{flat_map};
 ghost use Rattle.terrain.specs.Raster.{Terrain};
 ghost use Rattle.fill.specs.Numbers.{AreFirsts, ends_of};
-ghost use Rattle.fill.specs.Spills.{AreFloods};
+ghost use Rattle.fill.specs.SpillGraph.{AreFloods};
 
 use cell_floods::TileFlood;
 use std::alloc::{AllocError, Global};

@@ -10,10 +10,10 @@ ghost use Rattle.tiles.specs.Cutting.{IsWithin};
 ghost use Rattle.fill.specs.Numbers.{node_of_label, nodes_of};
 ghost use Rattle.fill.specs.Gathering.{AreLowest, IsRepeat};
 ghost use Rattle.fill.specs.Placing.{AddsPlaced, placed_joins_of};
-ghost use Rattle.fill.specs.Spills.{AreFloods};
+ghost use Rattle.fill.specs.SpillGraph.{AreFloods};
 
-use crate::marks::node_of;
-use crate::spills::Join;
+use crate::cell_labels::node_of;
+use crate::spill_graph::Join;
 use cell_floods::TileFlood;
 use std::alloc::{AllocError, Global};
 use terrain::Place;

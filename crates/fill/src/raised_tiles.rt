@@ -8,8 +8,8 @@ ghost use Rattle.tiles.specs.Cutting.{IsCutting};
 ghost use Rattle.cell_floods.specs.TileFlood.{Flood};
 ghost use Rattle.fill.specs.Gathering.{Fit};
 ghost use Rattle.fill.specs.Numbers.{AreFirsts, places_of};
-ghost use Rattle.fill.specs.Spills.{greater_of};
-ghost use Rattle.fill.specs.RaisedTiles.{AreRaisedCells, AreSpillCells, IsRaisedTile, raised_among};
+ghost use Rattle.fill.specs.SpillGraph.{greater_of};
+ghost use Rattle.fill.specs.RaisedTiles.{AreRaisedCells, AreCrestCells, IsRaisedTile, raised_among};
 
 use crate::label_graph::LabelLevels;
 use cell_floods::TileFlood;
@@ -25,7 +25,7 @@ struct RaisedTile<'a> {
     labels: &'a [u32],
     /// The least crest of each of the tile's labels in the spill graph, as a cell.
     /// No data for the table's first entry, `None`, and for a label without a least crest.
-    spills: Vec<Cell>,
+    crests: Vec<Cell>,
 }
 
 #[inline(always)]
@@ -41,7 +41,7 @@ fn cell(height: Option<Height>) -> Cell
 /// Returns as a cell the least crest of `label`, which has number `number`.
 /// Returns no data if `label` is `None` or has no least crest.
 #[inline(always)]
-fn spill_cell(levels: &LabelLevels, number: usize, label: Option<Place>) -> Cell
+fn crest_cell(levels: &LabelLevels, number: usize, label: Option<Place>) -> Cell
     requires { number < length levels.now }
     ensures { result
         ≡ cell_of (option_and_then (λ _. slice_index_or levels.now number None) label) }
@@ -54,19 +54,19 @@ fn spill_cell(levels: &LabelLevels, number: usize, label: Option<Place>) -> Cell
 
 /// Returns the least crest of each label in `places`, as a cell.
 /// No data stands for `None` and for a label without a least crest. `places[0]` has number `first`.
-fn spill_cells(
+fn crest_cells(
     alloc: Global,
     levels: &LabelLevels,
     first: u32,
     places: &[Option<Place>],
 ) -> Result<Vec<Cell>, AllocError>
     requires { first + length places.now ≤ length levels.now }
-    ensures { IfOk result (λ v. AreSpillCells levels.now first places.now v.items) }
+    ensures { IfOk result (λ v. AreCrestCells levels.now first places.now v.items) }
 {
     let mut cells = Vec::with_capacity(alloc, places.len())?;
     for index in 0..places.len() {
         let number = first as usize + index;
-        cells.push(spill_cell(levels, number, places[index]))?;
+        cells.push(crest_cell(levels, number, places[index]))?;
     }
     Ok(cells)
 }
@@ -87,7 +87,7 @@ impl<'a> RaisedTile<'a> {
         Ok(RaisedTile {
             heights: flood.heights(),
             labels: labels.indexes(),
-            spills: spill_cells(alloc, levels, first, labels.places())?,
+            crests: crest_cells(alloc, levels, first, labels.places())?,
         })
     }
 
@@ -96,22 +96,22 @@ impl<'a> RaisedTile<'a> {
     fn at(&self, index: usize) -> Cell
         requires height { index < length self.now.heights.now }
         requires label { index < length self.now.labels.now }
-        requires inside { All (λ k. k < length self.now.spills.items) self.now.labels.now }
+        requires inside { All (λ k. k < length self.now.crests.items) self.now.labels.now }
         ensures low { slice_index_or self.now.heights.now index (pos 0) ≤ℤ no_data }
         ensures value { result ≡ cell_of (greater_of
             (Some (slice_index_or self.now.heights.now index (pos 0)))
-            (slice_index_or self.now.spills.items (slice_index_or self.now.labels.now index 0)
+            (slice_index_or self.now.crests.items (slice_index_or self.now.labels.now index 0)
             None)) }
     {
         // The number of NODATA is above all heights, so the maximum stays NODATA.
-        let spill = self.spills[self.labels[index] as usize];
-        Cell::of(self.heights[index].max(spill.number()))
+        let crest = self.crests[self.labels[index] as usize];
+        Cell::of(self.heights[index].max(crest.number()))
     }
 
     /// Returns the filled heights of the tile, in its row order.
     fn cells(&self, alloc: Global) -> Result<Vec<Cell>, AllocError>
         requires size { length self.now.labels.now ≡ length self.now.heights.now }
-        requires inside { All (λ k. k < length self.now.spills.items) self.now.labels.now }
+        requires inside { All (λ k. k < length self.now.crests.items) self.now.labels.now }
         ensures { IfOk result (λ v. (first : ℕ) (f : Flood) (levels : List (Option ℤ))
             → IsRaisedTile first f levels self.now → AreRaisedCells first f levels v.items) }
     {

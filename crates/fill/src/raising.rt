@@ -7,9 +7,9 @@ ghost use Rattle.terrain.specs.Raster.{Terrain};
 ghost use Rattle.tiles.specs.Cutting.{IsWithin};
 ghost use Rattle.cell_floods.specs.TileFlood.{Flood};
 ghost use Rattle.fill.specs.Gathering.{LabelsInside};
-ghost use Rattle.fill.specs.Spills.{AreFloods, AreSpillLevels, IsRaised, IsFilledTile, AreGreater, greater_of, spill_of};
+ghost use Rattle.fill.specs.SpillGraph.{AreFloods, AreLeastCrests, IsRaised, IsFilledTile, AreGreater, greater_of, crest_of};
 
-use crate::marks::node_of;
+use crate::cell_labels::node_of;
 use cell_floods::TileFlood;
 use std::alloc::{AllocError, Global};
 use terrain::{Height, NoMemory, Place};
@@ -18,16 +18,16 @@ use tiles::Tiling;
 /// Returns the least crest of `label` in the spill graph; `None` for no label.
 /// `levels` has the least crests, in row order of the grid; `None` for a node without one.
 #[inline(always)]
-fn spill(tiling: &Tiling, levels: &[Option<Height>], label: Option<Place>) -> Option<Height>
+fn crest(tiling: &Tiling, levels: &[Option<Height>], label: Option<Place>) -> Option<Height>
     requires size { length levels.now ≡ tiling.now.cols * tiling.now.rows }
     requires label { IfSome label (IsWithin tiling.now) }
-    ensures { result ≡ spill_of tiling.now levels.now label }
+    ensures { result ≡ crest_of tiling.now levels.now label }
 {
     let label = label?;
     levels[node_of(tiling, label) as usize]
 }
 
-fn spills_of(
+fn crests_of(
     alloc: Global,
     tiling: &Tiling,
     labels: &[Option<Place>],
@@ -35,44 +35,44 @@ fn spills_of(
 ) -> Result<Vec<Option<Height>>, AllocError>
     requires size { length levels.now ≡ tiling.now.cols * tiling.now.rows }
     requires labels { All (λ label. IfSome label (IsWithin tiling.now)) labels.now }
-    ensures { IfOk result (λ v. v.items ≡ map (spill_of tiling.now levels.now) labels.now) }
+    ensures { IfOk result (λ v. v.items ≡ map (crest_of tiling.now levels.now) labels.now) }
 {
-    let mut spills = Vec::with_capacity(alloc, labels.len())?;
+    let mut crests = Vec::with_capacity(alloc, labels.len())?;
     for label in labels {
-        spills.push(spill(tiling, levels, *label))?;
+        crests.push(crest(tiling, levels, *label))?;
     }
-    Ok(spills)
+    Ok(crests)
 }
 
-/// Returns the greater of the level `height` and the least crest `spill`.
-/// Returns `None` if `spill` is `None`.
+/// Returns the greater of the level `height` and the least crest `crest`.
+/// Returns `None` if `crest` is `None`.
 #[inline(always)]
-fn greater(height: Height, spill: Option<Height>) -> Option<Height>
-    ensures { result ≡ greater_of (Some height) spill }
+fn greater(height: Height, crest: Option<Height>) -> Option<Height>
+    ensures { result ≡ greater_of (Some height) crest }
 {
-    match spill {
-        Some(spill) => Some(height.max(spill)),
+    match crest {
+        Some(crest) => Some(height.max(crest)),
         None => None,
     }
 }
 
 /// Returns the greater of each cell's level and its label's least crest.
 /// Returns `None` where that crest is `None`. `heights` has the level of each cell with a label;
-/// `labels` has the index in `spills` of the least crest of each cell's label.
+/// `labels` has the index in `crests` of the least crest of each cell's label.
 fn greater_levels(
     alloc: Global,
     heights: &[Height],
     labels: &[u32],
-    spills: &[Option<Height>],
+    crests: &[Option<Height>],
 ) -> Result<Vec<Option<Height>>, AllocError>
     requires size { length labels.now ≡ length heights.now }
-    requires labels { All (λ k. k < length spills.now) labels.now }
-    ensures { IfOk result (λ v. AreGreater heights.now labels.now spills.now v.items) }
+    requires labels { All (λ k. k < length crests.now) labels.now }
+    ensures { IfOk result (λ v. AreGreater heights.now labels.now crests.now v.items) }
 {
     let mut raised = Vec::with_capacity(alloc, heights.len())?;
     for index in 0..heights.len() {
-        let spill = spills[labels[index] as usize];
-        raised.push(greater(heights[index], spill))?;
+        let crest = crests[labels[index] as usize];
+        raised.push(greater(heights[index], crest))?;
     }
     Ok(raised)
 }
@@ -90,8 +90,8 @@ fn raised_by(
     ensures { IfOk result (λ v. IsRaised tiling.now flood.now levels.now v.items) }
 {
     let labels = flood.labels();
-    let spills = spills_of(alloc, tiling, labels.places(), levels)?;
-    Ok(greater_levels(alloc, flood.heights(), labels.indexes(), &spills)?)
+    let crests = crests_of(alloc, tiling, labels.places(), levels)?;
+    Ok(greater_levels(alloc, flood.heights(), labels.indexes(), &crests)?)
 }
 
 /// Returns the filled heights of a tile, in its row order; `None` without data.
@@ -123,7 +123,7 @@ pub fn raise(
     // The least crests of the spill graph raise a tile to its filled heights.
     ensures filled { IfOk result (λ v. (t : Terrain) (floods : List Flood) (tile : ℕ) →
         AreFloods t tiling.now floods → slice_get floods tile ≡ Some flood.now →
-        AreSpillLevels t tiling.now floods levels.now → IsFilledTile t tiling.now tile v.items) }
+        AreLeastCrests t tiling.now floods levels.now → IsFilledTile t tiling.now tile v.items) }
 {
     raised_by(alloc, tiling, flood, levels)
 }

@@ -6,12 +6,12 @@ ghost use Rattle.std.proofs.Props.{props};
 ghost use Rattle.std.specs.Bool.{OnTrue};
 ghost use Rattle.std.specs.Prelude.{◌≡◌, ◌+◌, ◌<◌, ◌≤◌, OnOk};
 ghost use Rattle.tiles.specs.Cutting.{AreBounds, IsCutting, IsInTile, IsWithin, IsWithinLimits, bounds_of, tile_count, tile_of_place};
-ghost use Rattle.fill.specs.Gathering.{Adds, IsOutside, IsTileBelow, IsTileWithRow, mark_among};
+ghost use Rattle.fill.specs.Gathering.{Adds, IsOutside, IsTileBelow, IsTileWithRow, cell_label_among};
 
+use crate::cell_labels::{CellLabel, NumberedFloods};
 use crate::left_out::LeftOut;
-use crate::marks::{CellMark, NumberedFloods};
-use crate::rim_cells::{JoinList, MarkedCells, push_outer_cells};
-use crate::spills::Join;
+use crate::rim_cells::{JoinList, LabelledCells, push_outer_cells};
+use crate::spill_graph::Join;
 use std::alloc::AllocError;
 use terrain::Place;
 use tiles::Bounds;
@@ -118,22 +118,23 @@ impl<'a> CellsAround<'a> {
     }
 }
 
-impl<'a> MarkedCells for CellsAround<'a> {
+impl<'a> LabelledCells for CellsAround<'a> {
     ghost use Rattle.std.specs.Prelude.{not};
     ghost use Rattle.tiles.specs.Cutting.{is_in_bounds};
-    ghost use Rattle.fill.specs.Gathering.{mark_among};
+    ghost use Rattle.fill.specs.Gathering.{cell_label_among};
 
-    ghost marks = { λ cells. mark_among cells.tiles.now.tiling.now cells.tiles.now.floods.now };
+    ghost cell_labels = { λ cells.
+        cell_label_among cells.tiles.now.tiling.now cells.tiles.now.floods.now };
 
     ghost wanted = { λ cells q. not (is_in_bounds cells.bounds q) };
 
     #[inline(always)]
-    fn mark(&self, place: Place) -> Option<CellMark> {
+    fn cell_label(&self, place: Place) -> Option<CellLabel> {
         let tiling = self.tiles.tiling;
         if place.row >= tiling.rows() || place.col >= tiling.cols() {
             return None;
         }
-        self.tiles.mark_of_tile(self.tile_of(place), place)
+        self.tiles.cell_label_of_tile(self.tile_of(place), place)
     }
 
     #[inline(always)]
@@ -164,7 +165,8 @@ pub(crate) fn push_rim_joins(
 ) -> Result<(), AllocError>
     requires tile { tile < tile_count tiles.now.tiling.now }
     requires lawful { IsCutting tiles.now.tiling.now }
-    ensures { OnOk result (Adds (mark_among tiles.now.tiling.now tiles.now.floods.now) left_out.now
+    ensures { OnOk result (Adds
+        (cell_label_among tiles.now.tiling.now tiles.now.floods.now) left_out.now
         (λ p q. IsInTile tiles.now.tiling.now tile p × IsOutside tiles.now.tiling.now tile q)
         joins.old.items joins.new.items) }
 {

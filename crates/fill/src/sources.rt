@@ -8,9 +8,9 @@ ghost use Rattle.terrain.specs.Raster.{Terrain};
 ghost use Rattle.cell_floods.specs.TileFlood.{IsFlood};
 ghost use Rattle.fill.specs.Ends.{PutsEnds, put_end};
 ghost use Rattle.fill.specs.Gathering.{LabelsInside};
-ghost use Rattle.fill.specs.Spills.{AreFloods, AreSourcesOf};
+ghost use Rattle.fill.specs.SpillGraph.{AreFloods, AreSourcesOf};
 
-use crate::marks::node_of;
+use crate::cell_labels::node_of;
 use cell_floods::TileFlood;
 use std::alloc::{AllocError, Global};
 use terrain::{Cell, Height, Place};

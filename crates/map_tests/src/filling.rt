@@ -3,7 +3,7 @@
 //! Under `rt try --fail-alloc` a call may be refused memory.
 ghost use Rattle.std.specs.Prelude.{IfOk};
 ghost use Rattle.terrain.specs.Raster.{Terrain};
-ghost use Rattle.fill.specs.Spills.{AreFloods};
+ghost use Rattle.fill.specs.SpillGraph.{AreFloods};
 ghost use Rattle.tiles.specs.Cutting.{Cuts};
 
 use crate::ground::{cut, expect_cells, expect_heights, land};

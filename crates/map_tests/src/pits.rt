@@ -1,7 +1,7 @@
 //! Makes calls that allocate, on a grid with a pit.
 //! `again!` repeats a call that was refused memory.
 ghost use Rattle.std.specs.Prelude.{◌≡◌, ◌<◌, ◌*◌, length};
-ghost use Rattle.fill.specs.Spills.{AreFloods};
+ghost use Rattle.fill.specs.SpillGraph.{AreFloods};
 
 use crate::filling::{floods_of, label_levels};
 use crate::flows::{expect_links, flow_of, flows_of};

@@ -4,7 +4,7 @@ use Rattle.std.proofs.lemmas.Bool.{cases_lt}
 use Rattle.std.proofs.lemmas.Option.{slice_get_read}
 use Rattle.tiles.specs.Cutting.{IsInTile, IsWithin, tile_of_place}
 use Rattle.tiles.proofs.Cut.{tile_of_place_below}
-use Rattle.fill.specs.Gathering.{Adds, IsOutside, LeftOutJoins, mark_among}
+use Rattle.fill.specs.Gathering.{Adds, IsOutside, LeftOutJoins, cell_label_among}
 use Rattle.fill.proofs.Adding.{adds_none, adds_then, no_join}
 use Rattle.fill.proofs.LabelNets.{list_there}
 use Rattle.fill.proofs.Shifting.{inner_few, shift_adds, tile_adds}
@@ -33,7 +33,7 @@ push_shifted-requires c =
 pub loop-tile-init : goal.loop-tile-init
 loop-tile-init c =
     adds_none
-    (mark_among c.args.tiles.now.tiling.now c.args.tiles.now.floods.now) c.args.left_out.now
+    (cell_label_among c.args.tiles.now.tiling.now c.args.tiles.now.floods.now) c.args.left_out.now
     (λ p q. IsWithin c.args.tiles.now.tiling.now p
     × (tile_of_place c.args.tiles.now.tiling.now p < 0)) _ _ c.new-joins.ensures.items
     (λ p q at. omega (arith, at.1))
@@ -47,7 +47,7 @@ loop-tile-preserved c =
     let are = c.requires.floods.1 in
     let spare = c.requires.inner.0 in
     let out = c.requires.inner.1 in
-    let marks = mark_among k floods in
+    let cell_labels = cell_label_among k floods in
     let tile = c.loop-tile.tile in
     let low : tile < length floods =
     omega (arith, c.loop-tile-test.true, c.tiles-tile-end.ensures.value, are.count) in
@@ -60,11 +60,11 @@ loop-tile-preserved c =
     shift_adds t k floods are numbers.lawful spare tile f.0 f.1 list.items _ _
     (c.requires.inner.2.each tile f.0 list f.1 listed)
     (rw (c.deref.ensures.value, numbers.each tile low) at c.in_ok-push_shifted.ensures) in
-    let over = subst (λ (o : LeftOutJoins). Adds marks o (λ p q. IsInTile k tile p
+    let over = subst (λ (o : LeftOutJoins). Adds cell_labels o (λ p q. IsInTile k tile p
     × IsOutside k tile q) c.push_shifted.new.joins.items c.push_rim_joins.new.joins.items)
     out c.in_ok-push_rim_joins.ensures in
     let both = tile_adds t k floods are numbers.lawful spare tile f.0 f.1 _ _ _ inside over in
-    adds_then marks c.args.left_out.now
+    adds_then cell_labels c.args.left_out.now
     (λ p q. IsWithin k p × (tile_of_place k p < tile)) (λ p q. IsInTile k tile p) (λ p q.
     IsWithin k p × (tile_of_place k p < tile + 1)) _ _ _
     (λ p q. (
@@ -79,7 +79,7 @@ loop-tile-preserved c =
       ],
     ))
     c.loop-tile.invariant
-    (subst (λ (o : LeftOutJoins). Adds marks o (λ p q. IsInTile k tile p)
+    (subst (λ (o : LeftOutJoins). Adds cell_labels o (λ p q. IsInTile k tile p)
     c.loop-tile.joins.items c.push_rim_joins.new.joins.items) (sym out) both)
 
 pub returns : goal.returns

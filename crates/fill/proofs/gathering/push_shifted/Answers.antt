@@ -4,7 +4,7 @@ use Rattle.std.proofs.lemmas.Int.{to_z-of_z}
 use Rattle.terrain.proofs.Heights.{height_width}
 use Rattle.std.proofs.lemmas.List.{append_assoc, map-append, take_all, take_more}
 use Rattle.fill.specs.Gathering.{shifted}
-use Rattle.fill.specs.declared.spills.Join.{Join}
+use Rattle.fill.specs.declared.spill_graph.Join.{Join}
 use Rattle.fill.proofs.gathering.push_shifted.Goals as goal
 
 pub loop-join-preserved : goal.loop-join-preserved

@@ -2,13 +2,13 @@ use Rattle.std.proofs.Common.{◌≡◌, ◌+◌, ◌<◌, ap, arith, inl, inr}
 use Rattle.std.proofs.lemmas.Bool.{cases_lt}
 use Rattle.tiles.specs.declared.bounds.Bounds.{Bounds}
 use Rattle.tiles.specs.Cutting.{IsInBounds}
-use Rattle.fill.specs.Gathering.{mark_in}
+use Rattle.fill.specs.Gathering.{cell_label_in}
 use Rattle.fill.proofs.Adding.{adds_none, adds_then, adds_as}
 use Rattle.fill.proofs.inner_joins.inner_joins.Goals as goal
 
 pub loop-row-init : goal.loop-row-init
 loop-row-init c =
-    adds_none (mark_in 0 c.args.flood.now) c.args.left_out.now
+    adds_none (cell_label_in 0 c.args.flood.now) c.args.left_out.now
     (λ p q. IsInBounds c.args.flood.now.bounds p
     × (p.row < c.bounds-bounds.result.top)) _ _ c.in_ok-table.ensures
     (λ p q at. omega (arith, at.0, at.1, ap (λ (z : Bounds). z.top) c.bounds-bounds.ensures.value))
@@ -17,7 +17,7 @@ pub loop-row-preserved : goal.loop-row-preserved
 loop-row-preserved c =
     let inside = IsInBounds c.args.flood.now.bounds in
     let row = c.loop-row.row in
-    adds_then (mark_in 0 c.args.flood.now) c.args.left_out.now
+    adds_then (cell_label_in 0 c.args.flood.now) c.args.left_out.now
     (λ p q. inside p × (p.row < row)) (λ p q. inside p × (p.row ≡ row)) (λ p q. inside p
     × (p.row < row + 1)) _ _ _
     (λ p q. (
@@ -37,7 +37,7 @@ pub returns : goal.returns
 returns c =
     let inside = IsInBounds c.args.flood.now.bounds in
     rw c.into_joins.ensures
-    (adds_as (mark_in 0 c.args.flood.now) c.args.left_out.now
+    (adds_as (cell_label_in 0 c.args.flood.now) c.args.left_out.now
     (λ p q. inside p × (p.row < c.loop-row.row)) (λ p q. inside p) _ _
     (λ p q at. at.0)
     (λ p q touch after m m_is n n_is at. (

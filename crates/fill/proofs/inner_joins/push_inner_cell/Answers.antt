@@ -3,7 +3,7 @@ use Rattle.std.proofs.lemmas.Bool.{OnTrue_at}
 use Rattle.std.proofs.lemmas.Nat.{mul-le}
 use Rattle.tiles.specs.declared.bounds.Bounds.{Bounds}
 use Rattle.fill.specs.Gathering.{AreEqualAfter}
-use Rattle.fill.proofs.CellMarks.{equal_after_adds, cells_size}
+use Rattle.fill.proofs.CellLabels.{equal_after_adds, cells_size}
 use Rattle.fill.proofs.inner_joins.push_inner_cell.Goals as goal
 
 pub push_after-requires-clause-few : goal.push_after-requires-clause-few

@@ -1,9 +1,9 @@
 use Rattle.std.proofs.Common.{◌≡◌, ◌+◌, ◌-◌, ◌*◌, ◌<◌, ℕ, arith, ap}
 use Rattle.terrain.specs.declared.place.Place.{Place}
 use Rattle.tiles.specs.declared.bounds.Bounds.{Bounds}
-use Rattle.fill.specs.Gathering.{IsInner, mark_in}
+use Rattle.fill.specs.Gathering.{IsInner, cell_label_in}
 use Rattle.fill.proofs.Adding.{adds_then, adds_as}
-use Rattle.fill.proofs.CellMarks.{inner_cell_adds, inner_row_index, inner_so_far}
+use Rattle.fill.proofs.CellLabels.{inner_cell_adds, inner_row_index, inner_so_far}
 use Rattle.fill.proofs.inner_joins.push_inner_cells.Goals as goal
 
 pub overflow_sub-index-end : goal.overflow_sub-index-end
@@ -35,7 +35,7 @@ loop-index-preserved c =
     let place : Place = record { row = c.args.row; col = b.left + (index - start) } in
     let inner : IsInner b place =
     (c.requires.top, c.requires.row, omega (arith, first), omega (arith, first, last)) in
-    adds_then (mark_in 0 f) c.args.left_out.now
+    adds_then (cell_label_in 0 f) c.args.left_out.now
     (λ p q. IsInner b p × (p.row ≡ c.args.row) × (p.col + start < b.left + index))
     (λ p q. p ≡ place)
     (λ p q. IsInner b p × (p.row ≡ c.args.row) × (p.col + start < b.left + (index + 1))) _ _ _
@@ -49,7 +49,7 @@ returns c =
     let b = c.args.flood.now.bounds in
     let start : ℕ = (c.args.row - c.bounds-top.result.top) * c.bounds-top.result.cols in
     let cols = ap (λ (z : Bounds). z.cols) c.bounds-top.ensures.value in
-    adds_as (mark_in 0 c.args.flood.now) c.args.left_out.now
+    adds_as (cell_label_in 0 c.args.flood.now) c.args.left_out.now
     (λ p q. IsInner b p × (p.row ≡ c.args.row) × (p.col + start < b.left + c.loop-index.index))
     (λ p q. IsInner b p × (p.row ≡ c.args.row)) _ _
     (λ p q at. (at.0, at.1))

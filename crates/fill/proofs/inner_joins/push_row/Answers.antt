@@ -3,7 +3,7 @@ use Rattle.std.proofs.lemmas.Bool.{cases_eq}
 use Rattle.terrain.specs.declared.place.Place.{Place}
 use Rattle.tiles.specs.declared.bounds.Bounds.{Bounds}
 use Rattle.tiles.specs.Cutting.{IsInBounds}
-use Rattle.fill.specs.Gathering.{IsInner, IsOuterOfRow, mark_in}
+use Rattle.fill.specs.Gathering.{IsInner, IsOuterOfRow, cell_label_in}
 use Rattle.fill.proofs.Adding.{adds_as, adds_then}
 use Rattle.fill.proofs.inner_joins.push_row.Goals as goal
 
@@ -52,7 +52,7 @@ returns-in_ok-push_inner_cells c =
     let same = c.bounds-bounds.ensures.value in
     let below : row + 1 < b.top + b.rows =
     omega (arith, ap (λ (z : Bounds). z.top + z.rows) same, c.if-row-bounds.true) in
-    adds_then (mark_in 0 c.args.flood.now) c.args.left_out.now
+    adds_then (cell_label_in 0 c.args.flood.now) c.args.left_out.now
     (λ p q. IsOuterOfRow b row p × (true ≡ true)) (λ p q. IsInner b p
     × (p.row ≡ row)) (λ p q. IsInBounds b p × (p.row ≡ row)) _ _ _
     (λ p q. (
@@ -70,7 +70,7 @@ pub returns-else-row-bounds : goal.returns-else-row-bounds
 returns-else-row-bounds c =
     let b = c.args.flood.now.bounds in
     let same = c.bounds-bounds.ensures.value in
-    adds_as (mark_in 0 c.args.flood.now) c.args.left_out.now
+    adds_as (cell_label_in 0 c.args.flood.now) c.args.left_out.now
     (λ p q. IsOuterOfRow b c.args.row p × (true ≡ true)) (λ p q. IsInBounds b p
     × (p.row ≡ c.args.row)) _ _
     (λ p q at. (at.0.0, at.0.1))

@@ -1,6 +1,6 @@
 use Rattle.std.proofs.Common.{length, refl}
 use Rattle.std.proofs.lemmas.Option.{slice_get_read}
-use Rattle.fill.proofs.CellMarks.{all_within}
+use Rattle.fill.proofs.CellLabels.{all_within}
 use Rattle.fill.proofs.Gathered.{labels_within}
 use Rattle.fill.proofs.placing.label_nodes.Goals as goal
 

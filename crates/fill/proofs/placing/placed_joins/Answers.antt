@@ -1,6 +1,6 @@
 use Rattle.std.proofs.Common.{get_or, pos}
 use Rattle.std.proofs.lemmas.List.{take_all, take_more}
-use Rattle.fill.specs.declared.spills.Join.{Join}
+use Rattle.fill.specs.declared.spill_graph.Join.{Join}
 use Rattle.fill.proofs.Placed.{placed_then, one_placed, not_placed}
 use Rattle.fill.proofs.placing.placed_joins.Goals as goal
 use Rattle.fill.proofs.placing.placed_joins.Goals.{in-Some+in_ok-push+in_ok-push-2, in_default}

@@ -48,9 +48,9 @@ ends b row below p at = elim (cases_eq p.col b.left) [
 pub returns-then-row-top : goal.returns-then-row-top
 returns-then-row-top g c =
     let b = c.args.bounds in
-    let wanted = g.C.MarkedCells.wanted c.args.cells.now in
-    on_ok_weaker _ (λ added. adds_as (g.C.MarkedCells.marks c.args.cells.now) c.args.left_out.now
-    (λ p q. (IsInBounds b p × (p.row ≡ c.args.row)) × (wanted q ≡ true))
+    let wanted = g.C.LabelledCells.wanted c.args.cells.now in
+    on_ok_weaker _ (λ added. adds_as (g.C.LabelledCells.cell_labels c.args.cells.now)
+    c.args.left_out.now (λ p q. (IsInBounds b p × (p.row ≡ c.args.row)) × (wanted q ≡ true))
     (λ p q. IsOuterOfRow b c.args.row p × (wanted q ≡ true)) _ _
     (λ p q at. ((at.0.0, at.0.1, λ inner. omega (arith, inner.1, at.0.1, c.if-row-top.true)), at.1))
     (λ p q touch after m m_is n n_is at. ((at.0.0, at.0.1), at.1))
@@ -60,11 +60,11 @@ pub returns-in_ok-push_cell-2 : goal.returns-in_ok-push_cell-2
 returns-in_ok-push_cell-2 g c =
     let b = c.args.bounds in
     let row = c.args.row in
-    let marks = g.C.MarkedCells.marks c.args.cells.now in
-    let wanted = g.C.MarkedCells.wanted c.args.cells.now in
+    let cell_labels = g.C.LabelledCells.cell_labels c.args.cells.now in
+    let wanted = g.C.LabelledCells.wanted c.args.cells.now in
     let first : Place = record { row = row; col = b.left } in
     let last : Place = record { row = row; col = b.left + b.cols - 1 } in
-    adds_as marks c.args.left_out.now
+    adds_as cell_labels c.args.left_out.now
     (λ p q. IsPairFrom first wanted p q ⊎ IsPairFrom last wanted p q)
     (λ p q. IsOuterOfRow b row p × (wanted q ≡ true)) _ _
     (λ p q at. elim at [
@@ -78,7 +78,7 @@ returns-in_ok-push_cell-2 g c =
       | inl here ↦ inl (here, at.1)
       | inr here ↦ inr (here, at.1)
     ])
-    (adds_then marks c.args.left_out.now (IsPairFrom first wanted) (IsPairFrom last wanted)
+    (adds_then cell_labels c.args.left_out.now (IsPairFrom first wanted) (IsPairFrom last wanted)
     (λ p q. IsPairFrom first wanted p q ⊎ IsPairFrom last wanted p q) _ _ _ (λ p q.
     (λ at. at, λ at. at))
     c.in_ok-push_cell.ensures c.in_ok-push_cell-2.ensures)
@@ -87,9 +87,9 @@ pub returns-else-cols-gt1 : goal.returns-else-cols-gt1
 returns-else-cols-gt1 g c =
     let b = c.args.bounds in
     let row = c.args.row in
-    let wanted = g.C.MarkedCells.wanted c.args.cells.now in
+    let wanted = g.C.LabelledCells.wanted c.args.cells.now in
     let first : Place = record { row = row; col = b.left } in
-    adds_as (g.C.MarkedCells.marks c.args.cells.now) c.args.left_out.now
+    adds_as (g.C.LabelledCells.cell_labels c.args.cells.now) c.args.left_out.now
     (IsPairFrom first wanted) (λ p q. IsOuterOfRow b row p × (wanted q ≡ true)) _ _
     (λ p q at. (first_in b row c.requires.row.0 c.requires.row.1 c.requires.some p at.0, at.1))
     (λ p q touch after m m_is n n_is at.

@@ -3,14 +3,14 @@ use Rattle.terrain.specs.declared.place.Place.{Place}
 use Rattle.tiles.specs.Cutting.{IsInBounds}
 use Rattle.fill.specs.Gathering.{IsPairFrom}
 use Rattle.fill.proofs.Adding.{adds_as, adds_none, adds_then}
-use Rattle.fill.proofs.CellMarks.{row_so_far}
+use Rattle.fill.proofs.CellLabels.{row_so_far}
 use Rattle.fill.proofs.rim_cells.push_row.Goals as goal
 
 pub loop-col-init : goal.loop-col-init
 loop-col-init g c =
-    adds_none (g.C.MarkedCells.marks c.args.cells.now) c.args.left_out.now
+    adds_none (g.C.LabelledCells.cell_labels c.args.cells.now) c.args.left_out.now
     (λ p q. (IsInBounds c.args.bounds p × (p.row ≡ c.args.row) × (p.col < c.args.bounds.left))
-    × (g.C.MarkedCells.wanted c.args.cells.now q ≡ true)) _ _ refl
+    × (g.C.LabelledCells.wanted c.args.cells.now q ≡ true)) _ _ refl
     (λ p q at. omega (arith, at.0.0, at.0.2))
 
 pub loop-col-preserved : goal.loop-col-preserved
@@ -19,7 +19,7 @@ loop-col-preserved g c =
     let row = c.args.row in
     let col = c.loop-col.col in
     let place : Place = record { row = row; col = col } in
-    let wanted = g.C.MarkedCells.wanted c.args.cells.now in
+    let wanted = g.C.LabelledCells.wanted c.args.cells.now in
     let inside : IsInBounds b place = (
       omega (arith, c.requires.row),
       omega (arith, c.requires.row),
@@ -27,7 +27,7 @@ loop-col-preserved g c =
       c.loop-col-test.true,
     ) in
     let so_far = row_so_far (IsInBounds b) row col inside in
-    adds_then (g.C.MarkedCells.marks c.args.cells.now) c.args.left_out.now
+    adds_then (g.C.LabelledCells.cell_labels c.args.cells.now) c.args.left_out.now
     (λ p q. (IsInBounds b p × (p.row ≡ row) × (p.col < col)) × (wanted q ≡ true))
     (IsPairFrom place wanted)
     (λ p q. (IsInBounds b p × (p.row ≡ row) × (p.col < col + 1)) × (wanted q ≡ true)) _ _ _
@@ -45,8 +45,8 @@ loop-col-preserved g c =
 pub returns : goal.returns
 returns g c =
     let b = c.args.bounds in
-    let wanted = g.C.MarkedCells.wanted c.args.cells.now in
-    adds_as (g.C.MarkedCells.marks c.args.cells.now) c.args.left_out.now
+    let wanted = g.C.LabelledCells.wanted c.args.cells.now in
+    adds_as (g.C.LabelledCells.cell_labels c.args.cells.now) c.args.left_out.now
     (λ p q. (IsInBounds b p × (p.row ≡ c.args.row) × (p.col < c.loop-col.col)) × (wanted q ≡ true))
     (λ p q. (IsInBounds b p × (p.row ≡ c.args.row)) × (wanted q ≡ true)) _ _
     (λ p q at. ((at.0.0, at.0.1), at.1))

@@ -5,7 +5,7 @@ use Rattle.terrain.specs.Neighbours.{Touches}
 use Rattle.tiles.specs.declared.bounds.Bounds.{Bounds}
 use Rattle.tiles.specs.Cutting.{IsInBounds, IsInTile, is_in_bounds}
 use Rattle.tiles.proofs.Cut.{in_bounds_from, in_bounds_parts}
-use Rattle.fill.specs.Gathering.{IsAfter, IsInner, IsOuterOfRow, IsOutside, mark_among}
+use Rattle.fill.specs.Gathering.{IsAfter, IsInner, IsOuterOfRow, IsOutside, cell_label_among}
 use Rattle.fill.proofs.Adding.{adds_none, adds_then, adds_as}
 use Rattle.fill.proofs.rim_joins.push_rim_joins.Goals as goal
 
@@ -31,7 +31,7 @@ after_inner b p q inner touch (inr beside) = (
 pub loop-row-init : goal.loop-row-init
 loop-row-init c =
     let t = c.args.tiles.now.tiling.now in
-    adds_none (mark_among t c.args.tiles.now.floods.now) c.args.left_out.now
+    adds_none (cell_label_among t c.args.tiles.now.floods.now) c.args.left_out.now
     (λ p q. (IsInTile t c.args.tile p × (p.row < c.bounds-bounds.result.top))
     × IsOutside t c.args.tile q) _ _ refl
     (λ p q at. let inside = (c.bounds-bounds.ensures.places p).0 at.0.0 in
@@ -45,10 +45,10 @@ loop-row-preserved c =
     let inside = IsInTile t c.args.tile in
     let outside = IsOutside t c.args.tile in
     let row = c.loop-row.row in
-    let marks = mark_among t c.args.tiles.now.floods.now in
+    let cell_labels = cell_label_among t c.args.tiles.now.floods.now in
     let out = c.args.left_out.now in
     let beyond = λ (q : Place). not (is_in_bounds b q) ≡ true in
-    adds_then marks out
+    adds_then cell_labels out
     (λ p q. (inside p × (p.row < row)) × outside q)
     (λ p q. (inside p × (p.row ≡ row)) × outside q)
     (λ p q. (inside p × (p.row < row + 1)) × outside q) _ _ _
@@ -64,8 +64,8 @@ loop-row-preserved c =
       ],
     ))
     c.loop-row.invariant
-    (adds_as marks out (λ p q. IsOuterOfRow b row p × beyond q) (λ p q. (inside p × (p.row ≡ row))
-    × outside q) _ _
+    (adds_as cell_labels out (λ p q. IsOuterOfRow b row p × beyond q)
+    (λ p q. (inside p × (p.row ≡ row)) × outside q) _ _
     (λ p q at. (
       ((places p).1 at.0.0, at.0.1),
       λ i. not_both (is_in_bounds b q) at.1 (in_bounds_from b q ((places q).0 i)),
@@ -89,7 +89,7 @@ returns c =
     let t = c.args.tiles.now.tiling.now in
     let inside = IsInTile t c.args.tile in
     let outside = IsOutside t c.args.tile in
-    adds_as (mark_among t c.args.tiles.now.floods.now) c.args.left_out.now
+    adds_as (cell_label_among t c.args.tiles.now.floods.now) c.args.left_out.now
     (λ p q. (inside p × (p.row < c.loop-row.row)) × outside q)
     (λ p q. inside p × outside q) _ _
     (λ p q at. (at.0.0, at.1))

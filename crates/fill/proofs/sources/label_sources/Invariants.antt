@@ -1,6 +1,6 @@
 use Rattle.std.proofs.Common.{◌≡◌, ◌*◌, length}
 use Rattle.terrain.specs.Raster.{Terrain}
-use Rattle.fill.specs.Spills.{AreFloods}
+use Rattle.fill.specs.SpillGraph.{AreFloods}
 use Rattle.fill.proofs.EndSources.{HaveEnds}
 use Rattle.fill.proofs.sources.label_sources.Given as goal
 

@@ -2,7 +2,7 @@ use Rattle.std.proofs.Common.{◌≡◌, ℤ, List, get_or, Option, None, length
 use Rattle.std.proofs.lemmas.List.{get_or_default}
 use Rattle.terrain.specs.declared.place.Place.{Place}
 use Rattle.cell_floods.specs.Labels.{LabelTable}
-use Rattle.fill.proofs.CellMarks.{all_within}
+use Rattle.fill.proofs.CellLabels.{all_within}
 use Rattle.fill.proofs.EndSources.{one_put, all_put}
 use Rattle.fill.proofs.sources.put_ends.Goals as goal
 

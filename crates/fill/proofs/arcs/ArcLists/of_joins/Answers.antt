@@ -1,7 +1,7 @@
 use Rattle.std.proofs.Common.{◌≡◌, ◌+◌, ◌<◌, ◌∷◌, ◌++◌, [], ℕ, List, pos, length, get_or, ap, sym, subst, ◌∙◌, arith}
 use Rattle.std.specs.List.{All}
 use Rattle.std.proofs.lemmas.List.{get_or_default, length-replicate, length_push, length-set, take_all, take_more}
-use Rattle.fill.specs.declared.spills.Join.{Join}
+use Rattle.fill.specs.declared.spill_graph.Join.{Join}
 use Rattle.fill.proofs.Chains.{after, both, join_added, no_arcs, none_linked, still_linked}
 use Rattle.fill.proofs.LabelGraphs.{no_arcs_added, arcs_then}
 use Rattle.fill.proofs.arcs.ArcLists.of_joins.Goals as goal

@@ -1,7 +1,7 @@
 use Rattle.std.proofs.Common.{ℕ, ℤ, List, Option}
 use Rattle.terrain.specs.StoredCells.{cell_of}
 use Rattle.cell_floods.specs.TileFlood.{Flood}
-use Rattle.fill.specs.Spills.{AreEntries}
+use Rattle.fill.specs.SpillGraph.{AreEntries}
 use Rattle.fill.specs.RaisedTiles.{IsRaisedTile, raised_at}
 use Rattle.fill.proofs.raised_tiles.RaisedTile.cells.Given as goal
 
