@@ -5,7 +5,7 @@ use Rattle.std.proofs.lemmas.List.{get_or-set_same, get_or-set_other}
 use Rattle.std.proofs.Math.ListN.{length-set}
 use Rattle.drainage.proofs.Pigeonhole.{pigeonhole}
 use Rattle.flow.specs.Streams.{AreStreams, onward, node_after, end_of, sum_below}
-use Rattle.flow.specs.Finding.{AreKnownEnds, IsKnown, unknown_mark}
+use Rattle.flow.specs.Finding.{AreKnownEnds, IsKnown, unknown_entry}
 use Rattle.flow.proofs.Sums.{bit_le, sum_below-same}
 
 -- A sequence whose next value depends on the last alone stays where it stops.
@@ -144,18 +144,19 @@ moves_fall links s i h on =
 
 -- The moves left, plus 1 while the node's end is unknown. The sum falls as ends are noted along a
 -- path.
-abbrev pub marks_left : List ℕ → List ℕ → ℕ → ℕ
-marks_left links ends i = moves_left links i + cond {A = ℕ} (eqb (get_or ends i 0) unknown_mark) 1 0
+abbrev pub writes_left : List ℕ → List ℕ → ℕ → ℕ
+writes_left links ends i =
+    moves_left links i + cond {A = ℕ} (eqb (get_or ends i 0) unknown_entry) 1 0
 
-pub marks_fall : (links ends : List ℕ) (i last : ℕ) → AreStreams links → AreKnownEnds links ends →
-    i < length links → get_or ends i 0 ≡ unknown_mark → last ≢ unknown_mark →
-    marks_left links (set ends i last) (onward links i) < marks_left links ends i
-marks_fall links ends i last s f h unknown known =
-    let was : cond {A = ℕ} (eqb (get_or ends i 0) unknown_mark) 1 0 ≡ 1 =
+pub writes_fall : (links ends : List ℕ) (i last : ℕ) → AreStreams links → AreKnownEnds links ends →
+    i < length links → get_or ends i 0 ≡ unknown_entry → last ≢ unknown_entry →
+    writes_left links (set ends i last) (onward links i) < writes_left links ends i
+writes_fall links ends i last s f h unknown known =
+    let was : cond {A = ℕ} (eqb (get_or ends i 0) unknown_entry) 1 0 ≡ 1 =
     cond-true {A = ℕ} _ 1 0 (eq-eqb _ _ unknown) in
     elim (cases_eq (onward links i) i) [
       | inl e ↦ (let now :
-          cond {A = ℕ} (eqb (get_or (set ends i last) (onward links i) 0) unknown_mark) 1 0 ≡ 0 =
+          cond {A = ℕ} (eqb (get_or (set ends i last) (onward links i) 0) unknown_entry) 1 0 ≡ 0 =
           cond-false {A = ℕ} _ 1 0 (ne_eqb _ _ (λ u. known (sym (ap (λ n. get_or (set ends i last)
           n 0) e ∙ get_or-set_same ends i last 0 (omega (arith, f.size, h))) ∙ u))) in
           omega (arith, was, now, ap (moves_left links) e))
@@ -163,7 +164,7 @@ marks_fall links ends i last s f h unknown known =
         arith,
         was,
         moves_fall links s i h on,
-        bit_le (eqb (get_or (set ends i last) (onward links i) 0) unknown_mark),
+        bit_le (eqb (get_or (set ends i last) (onward links i) 0) unknown_entry),
       )
     ]
 
@@ -180,11 +181,11 @@ known_more links ends node end f h e = record {
   ];
 }
 
-pub known_same : (ends : List ℕ) (node end : ℕ) → node < length ends → end ≢ unknown_mark →
+pub known_same : (ends : List ℕ) (node end : ℕ) → node < length ends → end ≢ unknown_entry →
     IsKnown (set ends node end) node
 known_same ends node end h ne e = ne (sym (get_or-set_same ends node end 0 h) ∙ e)
 
-pub known_still : (ends : List ℕ) (node end : ℕ) → node < length ends → end ≢ unknown_mark →
+pub known_still : (ends : List ℕ) (node end : ℕ) → node < length ends → end ≢ unknown_entry →
     (i : ℕ) → IsKnown ends i → IsKnown (set ends node end) i
 known_still ends node end h ne i known = elim (cases_eq i node) [
   | inl s ↦

@@ -1,12 +1,12 @@
 -- As nodes send sums downstream, each node's sum stays the amount that its donors, the other nodes
 -- linked to it, have sent. Its entry in `waits` counts the donors that have not sent, and becomes
--- `sent_mark` when the node itself sends. If no entry is 0, all are `sent_mark`.
+-- `sent_entry` when the node itself sends. If no entry is 0, all are `sent_entry`.
 use Rattle.std.proofs.Common.{◌≡◌, ◌≢◌, ℕ, ◌+◌, ◌<◌, Bool, true, false, not, ◌&&◌, cond, eqb, inl, inr, List, length, get_or, set, sym, ap, refl, ◌∙◌, arith, ◌^◌, ◌≤◌, ◌-◌}
 use Rattle.std.proofs.lemmas.Bool.{cases_eq, cases_Bool, eq-eqb, ne_eqb, eqb-true, cond-true, cond-false, and_left, and_right, and_parts, not-true, not_from_true, not_from_false, true_from_ne_false, false≢true, false_from_ne_true}
 use Rattle.std.proofs.lemmas.List.{get_or-set_same, get_or-set_other}
 use Rattle.std.proofs.Math.ListN.{length-set}
 use Rattle.flow.specs.Streams.{onward, leads_to, AreStreams, AreUpstream, sum_below, total}
-use Rattle.flow.specs.Sending.{donor, sent_mark, has_sent, waiting, sent_on, IsSending, AreZeros, AreDonorCounts}
+use Rattle.flow.specs.Sending.{donor, sent_entry, has_sent, waiting, sent_on, IsSending, AreZeros, AreDonorCounts}
 use Rattle.flow.proofs.Totals.{leads_from, each_downstream, totals_le, totals_are, total_is, leads_self, leads_end}
 use Rattle.flow.proofs.Sums.{bit_le, sum_below-none, sum_below-few, sum_below-same, sum_below-le, sum_below-except, some_term, term-le-sum_below}
 
@@ -40,7 +40,7 @@ awaited_from links waits i j h = elim (cases_Bool (leads_to links j i && not (ha
   | inr n ↦ absurd (omega (arith, cond-false {A = ℕ} _ 1 0 n))
 ]
 
-pub open_from_count : (waits : List ℕ) (i : ℕ) → get_or waits i 0 < sent_mark →
+pub open_from_count : (waits : List ℕ) (i : ℕ) → get_or waits i 0 < sent_entry →
     has_sent waits i ≡ false
 open_from_count waits i l = ne_eqb _ _ (λ e. omega (arith, e))
 
@@ -166,13 +166,13 @@ donors_begin links weights waits upstream few d none =
 
 -- One node sends its sum and its weight.
 
--- How `waits` and `upstream` change as `node` sends. If `node` is an end, it is marked as having
--- sent, and nothing else changes.
+-- How `waits` and `upstream` change as `node` sends. If `node` is an end, it gets the entry of
+-- a node that has sent, and nothing else changes.
 pub record MovesOn (links weights waits upstream new_waits new_upstream : List ℕ) (node : ℕ) :
     Type 0 where
   pub waits_size : length new_waits ≡ length waits
   pub upstream_size : length new_upstream ≡ length upstream
-  pub marked : get_or new_waits node 0 ≡ sent_mark
+  pub sent : get_or new_waits node 0 ≡ sent_entry
   pub fewer : (i : ℕ) → i ≢ node → get_or new_waits i 0 + donor links i node ≡ get_or waits i 0
   pub more : (i : ℕ) → get_or new_upstream i 0 ≡ get_or upstream i 0
       + cond {A = ℕ} (leads_to links node i) (get_or upstream node 0 + get_or weights node 0) 0
@@ -222,14 +222,14 @@ module _ (links weights waits upstream : List ℕ) (few : length links ≤ 2 ^ 3
   module _ (new_waits new_upstream : List ℕ)
       (m : MovesOn links weights waits upstream new_waits new_upstream node) where
     pub sent_now : has_sent new_waits node ≡ true
-    sent_now = eq-eqb _ _ m.marked
+    sent_now = eq-eqb _ _ m.sent
 
     pub other_sent : (j : ℕ) → j < length links → j ≢ node → has_sent new_waits j ≡ has_sent waits j
     other_sent j h ne = elim (cases_Bool (leads_to links node j)) [
       | inl on ↦ open_from_count new_waits j (omega (arith, m.fewer j ne, next_few j h on))
           ∙ sym (next_open j h on)
       | inr off ↦ (let same : get_or new_waits j 0 ≡ get_or waits j 0 = omega
-          (arith, m.fewer j ne, cond-false {A = ℕ} _ 1 0 off) in ap (λ n. eqb n sent_mark) same)
+          (arith, m.fewer j ne, cond-false {A = ℕ} _ 1 0 off) in ap (λ n. eqb n sent_entry) same)
     ]
 
     apart : (i : ℕ) → has_sent new_waits i ≡ false → i ≢ node
@@ -306,7 +306,7 @@ module _ (links weights waits upstream : List ℕ) (few : length links ≤ 2 ^ 3
 
 abbrev pub next_waits_list : List ℕ → ℕ → ℕ → List ℕ
 next_waits_list waits node next =
-    set (set waits node sent_mark) next (get_or (set waits node sent_mark) next 0 - 1)
+    set (set waits node sent_entry) next (get_or (set waits node sent_entry) next 0 - 1)
 
 abbrev pub next_upstream_list : List ℕ → List ℕ → ℕ → ℕ → List ℕ
 next_upstream_list weights upstream node next =
@@ -315,11 +315,11 @@ next_upstream_list weights upstream node next =
 module _ (links weights waits upstream : List ℕ) (streams : AreStreams links)
     (few : length links ≤ 2 ^ 30) (s : IsSending links weights waits upstream) (node : ℕ)
     (inside : node < length links) (ready : get_or waits node 0 ≡ 0) where
-  marked : get_or (set waits node sent_mark) node 0 ≡ sent_mark
-  marked = get_or-set_same waits node sent_mark 0 (omega (arith, s.waits_size))
+  sent : get_or (set waits node sent_entry) node 0 ≡ sent_entry
+  sent = get_or-set_same waits node sent_entry 0 (omega (arith, s.waits_size))
 
-  others : (j : ℕ) → j ≢ node → get_or (set waits node sent_mark) j 0 ≡ get_or waits j 0
-  others j ne = get_or-set_other waits node j sent_mark 0 ne
+  others : (j : ℕ) → j ≢ node → get_or (set waits node sent_entry) j 0 ≡ get_or waits j 0
+  others j ne = get_or-set_other waits node j sent_entry 0 ne
 
   module _ (on : get_or links node 0 ≡ node → ⊥) where
     pub step_waits : 1 ≤ get_or waits (get_or links node 0) 0
@@ -333,10 +333,10 @@ module _ (links weights waits upstream : List ℕ) (streams : AreStreams links)
       | inl e ↦ omega (
         arith,
         ap (λ n. get_or (next_waits_list waits node (get_or links node 0)) n 0) e,
-        get_or-set_same (set waits node sent_mark) (get_or links node 0)
-            (get_or (set waits node sent_mark) (get_or links node 0) 0 - 1) 0
+        get_or-set_same (set waits node sent_entry) (get_or links node 0)
+            (get_or (set waits node sent_entry) (get_or links node 0) 0 - 1) 0
             (omega
-            (arith, length-set waits node sent_mark, s.waits_size, streams.inside node inside)),
+            (arith, length-set waits node sent_entry, s.waits_size, streams.inside node inside)),
         others (get_or links node 0) on,
         ap (λ n. get_or waits n 0) e,
         step_waits,
@@ -345,8 +345,8 @@ module _ (links weights waits upstream : List ℕ) (streams : AreStreams links)
       )
       | inr other ↦ omega (
         arith,
-        get_or-set_other (set waits node sent_mark) (get_or links node 0) i
-            (get_or (set waits node sent_mark) (get_or links node 0) 0 - 1) 0 (λ e. other (sym e)),
+        get_or-set_other (set waits node sent_entry) (get_or links node 0) i
+            (get_or (set waits node sent_entry) (get_or links node 0) 0 - 1) 0 (λ e. other (sym e)),
         others i ne,
         ap (λ b. cond {A = ℕ} b 1 0) (leads_test links node i on),
         cond-false {A = ℕ} _ 1 0 (ne_eqb (get_or links node 0) i other),
@@ -356,12 +356,13 @@ module _ (links weights waits upstream : List ℕ) (streams : AreStreams links)
     moves : MovesOn links weights waits upstream (next_waits_list waits node (get_or links node 0))
         (next_upstream_list weights upstream node (get_or links node 0)) node
     moves = record {
-      waits_size = length-set (set waits node sent_mark) (get_or links node 0) (get_or
-          (set waits node sent_mark) (get_or links node 0) 0 - 1) ∙ length-set waits node sent_mark;
+      waits_size = length-set (set waits node sent_entry) (get_or links node 0) (get_or
+          (set waits node sent_entry) (get_or links node 0) 0 - 1)
+          ∙ length-set waits node sent_entry;
       upstream_size = length-set upstream (get_or links node 0) (get_or upstream
           (get_or links node 0) 0 + (get_or upstream node 0 + get_or weights node 0));
-      marked = get_or-set_other (set waits node sent_mark) (get_or links node 0) node (get_or
-          (set waits node sent_mark) (get_or links node 0) 0 - 1) 0 (λ e. on (sym e)) ∙ marked;
+      sent = get_or-set_other (set waits node sent_entry) (get_or links node 0) node (get_or
+          (set waits node sent_entry) (get_or links node 0) 0 - 1) 0 (λ e. on (sym e)) ∙ sent;
       fewer = fewer;
       more = λ i. added_at upstream (get_or links node 0) (get_or upstream node 0
           + get_or weights node 0) i (omega (arith, s.upstream_size, streams.inside node inside))
@@ -399,18 +400,18 @@ module _ (links weights waits upstream : List ℕ) (streams : AreStreams links)
         arith,
         z,
         ap (λ n. get_or (next_waits_list waits node (get_or links node 0)) n 0) e,
-        moves.marked,
+        moves.sent,
       ))
-      | inr other ↦ (λ z. early i h other (sym (get_or-set_other (set waits node sent_mark)
+      | inr other ↦ (λ z. early i h other (sym (get_or-set_other (set waits node sent_entry)
           (get_or links node 0) i _ 0 ne ∙ others i other) ∙ z))
     ]
 
   module _ (end : get_or links node 0 ≡ node) where
-    ended : MovesOn links weights waits upstream (set waits node sent_mark) upstream node
+    ended : MovesOn links weights waits upstream (set waits node sent_entry) upstream node
     ended = record {
-      waits_size = length-set waits node sent_mark;
+      waits_size = length-set waits node sent_entry;
       upstream_size = refl;
-      marked = marked;
+      sent = sent;
       fewer =
           λ i ne. omega (arith, others i ne, cond-false {A = ℕ} _ 1 0 (leads_end links node i end));
       more = λ i. omega (
@@ -420,12 +421,12 @@ module _ (links weights waits upstream : List ℕ) (streams : AreStreams links)
       );
     }
 
-    pub end_sending : IsSending links weights (set waits node sent_mark) upstream
+    pub end_sending : IsSending links weights (set waits node sent_entry) upstream
     end_sending = sending_on links weights waits upstream few s node inside ready _ _ ended
 
     pub end_early : (from : ℕ) → ((i : ℕ) → i < from → i ≢ node → get_or waits i 0 ≢ 0) →
-        (i : ℕ) → i < from → get_or (set waits node sent_mark) i 0 ≢ 0
+        (i : ℕ) → i < from → get_or (set waits node sent_entry) i 0 ≢ 0
     end_early from early i h = elim (cases_eq i node) [
-      | inl e ↦ (λ z. omega (arith, z, ap (λ n. get_or (set waits node sent_mark) n 0) e, marked))
+      | inl e ↦ (λ z. omega (arith, z, ap (λ n. get_or (set waits node sent_entry) n 0) e, sent))
       | inr other ↦ (λ z. early i h other (sym (others i other) ∙ z))
     ]

@@ -5,11 +5,11 @@ use Rattle.std.specs.Prelude.{◌≡◌, ◌≢◌, ℕ, ◌<◌, List, length, 
 use Rattle.flow.specs.Streams.{end_of}
 
 -- The entry of a node whose end is unknown.
-abbrev pub unknown_mark : ℕ
-unknown_mark = 4294967295
+abbrev pub unknown_entry : ℕ
+unknown_entry = 4294967295
 
 abbrev pub IsKnown : List ℕ → ℕ → Type 0
-IsKnown ends i = slice_index ends i ≢ unknown_mark
+IsKnown ends i = slice_index ends i ≢ unknown_entry
 
 -- Each known entry is the end of its node's path.
 pub record AreKnownEnds (links ends : List ℕ) : Type 0 where

@@ -6,11 +6,11 @@ use Rattle.flow.specs.Streams.{leads_to, sum_below}
 
 -- The entry in `waits` of a node that has sent. A node linked to itself, an end, sends nothing, and
 -- gets it when the sending comes to it and all its donors have sent.
-abbrev pub sent_mark : ℕ
-sent_mark = 4294967295
+abbrev pub sent_entry : ℕ
+sent_entry = 4294967295
 
 abbrev pub has_sent : List ℕ → ℕ → Bool
-has_sent waits i = slice_index waits i == sent_mark
+has_sent waits i = slice_index waits i == sent_entry
 
 -- 1 if node j is a donor of node i, that is another node linked to i; 0 otherwise.
 abbrev pub donor : List ℕ → ℕ → ℕ → ℕ

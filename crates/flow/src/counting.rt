@@ -92,7 +92,7 @@ pub fn accumulation<R: Threads + Wait + Sync, G: Gate + Sync>(
     };
     let flows = flow_tiles(&runner, d.codes(), tiling, true)?;
     let rim_graph = RimGraph::of(alloc, tiling, &flows)?;
-    let inflows = Inflows::join(alloc, tiling, &flows, &rim_graph)?;
+    let inflows = Inflows::of_flows(alloc, tiling, &flows, &rim_graph)?;
     drop(rim_graph);
     runner.map_tiles(Counting {
         tiling,

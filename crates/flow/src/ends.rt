@@ -52,10 +52,10 @@ pub(crate) fn find_end(links: &[u32], ends: &mut [u32], node: usize) -> u32
     ensures value { result ≡ end_of links.now node }
     ensures found { AreKnownEnds links.now ends.new }
     ensures kept { (i : ℕ) → IsKnown ends.old i → IsKnown ends.new i }
-    ensures marked { IsKnown ends.new node }
+    ensures known { IsKnown ends.new node }
 {
     let last = end_from(links, ends, node);
-    mark_path(links, ends, node, last);
+    write_end(links, ends, node, last);
     last
 }
 
@@ -96,7 +96,7 @@ fn end_from(links: &[u32], ends: &[u32], from: usize) -> u32
 
 /// Writes `last` as the end of nodes on the path of `from`.
 /// Stops at the first node whose end is known.
-fn mark_path(links: &[u32], ends: &mut [u32], from: usize, last: u32)
+fn write_end(links: &[u32], ends: &mut [u32], from: usize, last: u32)
     requires streams { AreStreams links.now }
     requires few { length links.now ≤ 2 ^ 30 }
     requires found { AreKnownEnds links.now ends.old }
@@ -104,7 +104,7 @@ fn mark_path(links: &[u32], ends: &mut [u32], from: usize, last: u32)
     requires last { last ≡ end_of links.now from }
     ensures found { AreKnownEnds links.now ends.new }
     ensures kept { (i : ℕ) → IsKnown ends.old i → IsKnown ends.new i }
-    ensures marked { IsKnown ends.new from }
+    ensures known { IsKnown ends.new from }
 {
     let mut node = from;
     'path: while ends[node] == UNKNOWN {

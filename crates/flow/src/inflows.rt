@@ -45,7 +45,7 @@ impl Model for Inflows {
 
 impl Inflows {
     /// Sums the inflows, following each exit's water from tile to tile.
-    pub(crate) fn join(
+    pub(crate) fn of_flows(
         alloc: Global,
         tiling: &Tiling,
         flows: &[TileFlow],

@@ -69,8 +69,8 @@ impl<'a> RimLinks<'a> {
         // The call brings the prover `IsCutting` of the tiling, which `cols` ensures.
         prove!(tiling.cols() > 0);
         let rim_graph = RimGraph::of(alloc, tiling, flows)?;
-        let inflows = Inflows::join(alloc, tiling, flows, &rim_graph)?;
-        let outlets = Outlets::join(alloc, tiling, flows, &rim_graph)?;
+        let inflows = Inflows::of_flows(alloc, tiling, flows, &rim_graph)?;
+        let outlets = Outlets::of_flows(alloc, tiling, flows, &rim_graph)?;
         Ok(RimLinks {
             flows,
             inflows,

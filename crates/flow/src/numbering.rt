@@ -139,7 +139,7 @@ pub(crate) fn number_cells<R: Threads + Wait + Sync, G: Gate + Sync, N: EndNumbe
 {
     let flows = flow_tiles(runner, codes, tiling, false)?;
     let rim_graph = RimGraph::of(runner.alloc, tiling, &flows)?;
-    let outlets = Outlets::join(runner.alloc, tiling, &flows, &rim_graph)?;
+    let outlets = Outlets::of_flows(runner.alloc, tiling, &flows, &rim_graph)?;
     drop(rim_graph);
     runner.map_tiles(Numbering {
         tiling,

@@ -38,7 +38,7 @@ impl Model for Outlets {
 
 impl Outlets {
     /// Finds the outlets, following each exit's water from tile to tile.
-    pub(crate) fn join(
+    pub(crate) fn of_flows(
         alloc: Global,
         tiling: &Tiling,
         flows: &[TileFlow],
@@ -60,7 +60,7 @@ impl Outlets {
     }
 
     /// Returns the outlet of an exit's flow path; `None` if the place is no exit.
-    /// `flows` must be those given to [`Outlets::join`].
+    /// `flows` must be those given to [`Outlets::of_flows`].
     pub(crate) fn outlet(&self, flows: &[TileFlow], exit: Place) -> Option<Place>
         requires count { length flows.now ≡ tile_count self.now.cutting }
         requires within { IsWithin self.now.cutting exit }

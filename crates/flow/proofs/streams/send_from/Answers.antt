@@ -1,6 +1,6 @@
 use Rattle.std.proofs.Common.{◌+◌, ◌^◌, ◌<◌, get_or, arith, rules}
 use Rattle.std.proofs.lemmas.List.{get_or-set_other}
-use Rattle.flow.specs.Sending.{sent_mark}
+use Rattle.flow.specs.Sending.{sent_entry}
 use Rattle.flow.proofs.Sending.{upstream_le, step_waits, step_sending, step_fits, step_falls, step_early, end_sending, end_early}
 use Rattle.flow.proofs.streams.send_from.Goals as goal
 
@@ -39,7 +39,7 @@ overflow_sub-waits c =
           c.downstream.node c.downstream.invariant.inside c.downstream-test.true
           c.if-next-node.false,
       get_or-set_other c.downstream.waits c.downstream.node
-          (get_or c.args.links.now c.downstream.node 0) sent_mark 0 c.if-next-node.false,
+          (get_or c.args.links.now c.downstream.node 0) sent_entry 0 c.if-next-node.false,
     )
 
 pub returns-then-next-node-clause-sending : goal.returns-then-next-node-clause-sending

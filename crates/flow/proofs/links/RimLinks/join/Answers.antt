@@ -8,16 +8,16 @@ of-requires c = (
       c.requires.2,
 )
 
-pub join-requires-clause-flows : goal.join-requires-clause-flows
-join-requires-clause-flows c = (
+pub of_flows-requires-clause-flows : goal.of_flows-requires-clause-flows
+of_flows-requires-clause-flows c = (
   c.requires.0,
   flows_from c.requires.0 c.args.tiling.now c.args.flows.now c.cols.ensures.lawful c.requires.1
       c.requires.2,
   counts_from c.requires.0 c.args.tiling.now c.args.flows.now c.requires.2,
 )
 
-pub join-requires-2-clause-flows : goal.join-requires-2-clause-flows
-join-requires-2-clause-flows c = (
+pub of_flows-requires-2-clause-flows : goal.of_flows-requires-2-clause-flows
+of_flows-requires-2-clause-flows c = (
   c.requires.0,
   flows_from c.requires.0 c.args.tiling.now c.args.flows.now c.cols.ensures.lawful c.requires.1
       c.requires.2,

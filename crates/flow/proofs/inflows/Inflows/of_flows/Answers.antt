@@ -10,7 +10,7 @@ use Rattle.tiles.proofs.RimNumbered.{few_numbers}
 use Rattle.flow.proofs.RimFlows.{links_size, rim_streams, target_listed, targets_size, targets_within}
 use Rattle.flow.proofs.RimTotals.{weights_size, total_few}
 use Rattle.flow.proofs.RimInflows.{entering_few, inflows_are}
-use Rattle.flow.proofs.inflows.Inflows.join.Goals as goal
+use Rattle.flow.proofs.inflows.Inflows.of_flows.Goals as goal
 
 pub send_all-requires-clause-targets : goal.send_all-requires-clause-targets
 send_all-requires-clause-targets c =

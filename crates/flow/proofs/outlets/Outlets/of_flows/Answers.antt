@@ -5,7 +5,7 @@ use Rattle.flow.specs.RimGraph.{rim_outlet, rim_outlets_by}
 use Rattle.flow.proofs.Ending.{end-inside}
 use Rattle.tiles.proofs.RimNumbered.{few_numbers}
 use Rattle.flow.proofs.RimFlows.{links_size, rim_streams, outlets_are}
-use Rattle.flow.proofs.outlets.Outlets.join.Goals as goal
+use Rattle.flow.proofs.outlets.Outlets.of_flows.Goals as goal
 
 pub rim_outlets-requires-clause-targets : goal.rim_outlets-requires-clause-targets
 rim_outlets-requires-clause-targets c = c.deref-2.ensures.value ∙ c.requires.targets

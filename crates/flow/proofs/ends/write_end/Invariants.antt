@@ -1,8 +1,8 @@
 use Rattle.std.proofs.Common.{◌≡◌, ℕ, ◌<◌, ◌⊎◌, length}
 use Rattle.flow.specs.Streams.{end_of}
 use Rattle.flow.specs.Finding.{AreKnownEnds, IsKnown}
-use Rattle.flow.proofs.Ending.{marks_left}
-use Rattle.flow.proofs.ends.mark_path.Given as goal
+use Rattle.flow.proofs.Ending.{writes_left}
+use Rattle.flow.proofs.ends.write_end.Given as goal
 
 abbrev pub invariant-path : goal.invariant-path
 invariant-path l = record {
@@ -10,8 +10,8 @@ invariant-path l = record {
   inside : l.node < length l.links;
   last : l.last ≡ end_of l.links l.node;
   kept : (i : ℕ) → IsKnown l.initial.ends i → IsKnown l.ends i;
-  marked : (l.node ≡ l.from) ⊎ IsKnown l.ends l.from;
+  known : (l.node ≡ l.from) ⊎ IsKnown l.ends l.from;
 }
 
 abbrev pub decreases-path : goal.decreases-path
-decreases-path l = marks_left l.links l.ends l.node
+decreases-path l = writes_left l.links l.ends l.node
