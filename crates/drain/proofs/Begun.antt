@@ -8,7 +8,7 @@ use Rattle.std.specs.List.{range_with_len}
 use Rattle.std.proofs.lemmas.Option.{none-some, same_Some}
 use Rattle.terrain.proofs.Places.{make_place, same_place, index_injective, entry-inside, index_below, inside_from_entry}
 use Rattle.terrain.specs.Raster.{Terrain}
-use Rattle.terrain.specs.Neighbours.{IsDataCell, entry_at, index_of}
+use Rattle.terrain.specs.Neighbours.{entry_or, IsDataCell, entry_at, index_of}
 use Rattle.terrain.specs.declared.place.Place.{Place}
 use Rattle.tiles.specs.declared.bounds.Bounds.{Bounds}
 use Rattle.tiles.specs.Cutting.{Cutting, IsCutting, Cuts, View, bounds_of}
@@ -21,13 +21,14 @@ use Rattle.drain.specs.Entering.{sinkless_terrain}
 use Rattle.drain.specs.Lowering.{place_at}
 use Rattle.drain.specs.Rounds.{AreWalked, HasCountZero, IsRound}
 use Rattle.drain.specs.Steps.{DrainsAtOnce}
-use Rattle.drain.specs.Window.{AreCounts, AreWindowCounts, AreShown, IsCopied, IsSearched, IsSpot, Shows, area_of, count_on, known_counts, spot_index}
+use Rattle.tiles.specs.Windows.{AreShown, IsSpot, Shows, area_of, spot_index}
+use Rattle.drain.specs.Search.{AreCounts, AreWindowCounts, IsCopied, IsSearched, count_on, known_counts}
 use Rattle.drain.proofs.DrainedLemmas.{same_terrain}
 use Rattle.drain.proofs.Few.{drains_data}
 use Rattle.drain.proofs.Nearby.{drains_at_once}
 use Rattle.drain.proofs.Quiet.{begun_counting}
-use Rattle.drain.proofs.Spots.{shows_same, shows_none}
-use Rattle.drain.proofs.Spreading.{spot_below}
+use Rattle.tiles.proofs.Spots.{shows_same, shows_none}
+use Rattle.tiles.proofs.Spots.{spot_below}
 use Rattle.drain.proofs.TileRound.{round_from}
 use Rattle.drain.proofs.Unique.{at_place, place_at-index_of}
 
@@ -255,7 +256,7 @@ some_begun t =
 pub begun_round : (t : Terrain) (v : View (Option ℤ)) (c : Cutting) (tile : ℕ) (b : Bounds)
     (levels : List (Option ℤ)) (old new : List ℕ) (list begun : List (Option ℕ)) →
     v ≡ record { cutting = c; tile = tile; cells = t.cells } → Cuts c t → IsCutting v.cutting →
-    b ≡ bounds_of v.cutting v.tile → AreShown v.cutting.cols v.cutting.rows v.cells None b levels →
+    b ≡ bounds_of v.cutting v.tile → AreShown (entry_or v.cutting.cols v.cutting.rows v.cells None) None b levels →
     AreBegunSpots (DrainsAtOnce t) b old → AreInitialCounts t begun → IsSearched b levels old new →
     IsMadeUpTo b (IsCopied b new) (b.rows * b.cols) list →
     IsRound (HasCountZero (sinkless_terrain c t.cells) begun)
@@ -265,7 +266,7 @@ begun_round t v c tile b levels old new list begun e cuts lawful bounds shown ar
     let w : View (Option ℤ) = record { cutting = c; tile = tile; cells = t.cells } in
     let here =
     subst (λ (z : View (Option ℤ)). IsCutting z.cutting × (b ≡ bounds_of z.cutting z.tile)
-    × AreShown z.cutting.cols z.cutting.rows z.cells None b levels) e (lawful, bounds, shown) in
+    × AreShown (entry_or z.cutting.cols z.cutting.rows z.cells None) None b levels) e (lawful, bounds, shown) in
     let input =
     subst (λ (n : ℕ). AreWindowCounts n c.rows begun b old) (sym cuts.0) (subst (λ (n : ℕ).
     AreWindowCounts t.cols n begun b old) (sym cuts.1) (begun_window t b old begun are first)) in

@@ -5,7 +5,7 @@ use Rattle.std.proofs.lemmas.Bool.{cases_eq}
 use Rattle.terrain.proofs.Places.{make_place, same_place}
 use Rattle.terrain.specs.declared.place.Place.{Place}
 use Rattle.tiles.specs.declared.bounds.Bounds.{Bounds}
-use Rattle.drain.specs.Window.{level_on, count_on, IsLeastAlong}
+use Rattle.drain.specs.Search.{level_on, count_on, IsLeastAlong}
 
 pub least_of_none : (b : Bounds) (levels : List (Option ℤ)) (counts : List ℕ) (from : Place)
     (level : Option ℤ) (bound : ℕ) → IsLeastAlong b levels counts from from.col level bound bound

@@ -12,7 +12,6 @@ pub mod TileLists
 pub mod Spreading
 pub mod Noted
 pub mod Least
-pub mod Spots
 pub mod Begun
 pub mod TileRound
 -- later rounds: the search in a tile, entries and runs, and the state between rounds

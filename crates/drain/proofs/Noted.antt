@@ -12,8 +12,10 @@ use Rattle.terrain.proofs.Places.{cases_place, index_injective}
 use Rattle.terrain.specs.Neighbours.{Touches}
 use Rattle.terrain.specs.declared.place.Place.{Place}
 use Rattle.tiles.specs.declared.bounds.Bounds.{Bounds}
-use Rattle.drain.specs.Window.{spot_index, area_of, IsSpot, IsInner, level_on, count_on, IsSpread, IsNear, AreNoted, IsReached, IsRelaxedBut, IsRelaxed, moved}
-use Rattle.drain.proofs.Spreading.{touches_back, spot_below, spot_from_inner, spread_none, spread_not_above, spread_on, sum-set}
+use Rattle.tiles.specs.Windows.{spot_index, area_of, IsSpot, IsInner}
+use Rattle.drain.specs.Search.{level_on, count_on, IsSpread, IsNear, AreNoted, IsReached, IsRelaxedBut, IsRelaxed, moved}
+use Rattle.tiles.proofs.Spots.{spot_below}
+use Rattle.drain.proofs.Spreading.{touches_back, spot_from_inner, spread_none, spread_not_above, spread_on, sum-set}
 
 pub noted_none : (b : Bounds) (counts : List ℕ) (xs : List Place) → AreNoted b counts counts xs xs
 noted_none b counts xs =

@@ -9,10 +9,8 @@ use Rattle.std.proofs.lemmas.List.Sums.{sum_by-set}
 use Rattle.terrain.specs.Neighbours.{Touches}
 use Rattle.terrain.specs.declared.place.Place.{Place}
 use Rattle.tiles.specs.declared.bounds.Bounds.{Bounds}
-use Rattle.drain.specs.Window.{AreCounts, area_of, spot_index, IsSpot, IsInner, level_on, count_on, IsSpread, IsNotAbove, IsNear, same, moved}
-
-pub spot_below : (b : Bounds) (s : Place) → IsSpot b s → spot_index b s < area_of b
-spot_below b s spot = mul-add-lt s.row (b.cols + 2) s.col (b.rows + 2) spot.0 spot.1
+use Rattle.tiles.specs.Windows.{area_of, spot_index, IsSpot, IsInner}
+use Rattle.drain.specs.Search.{AreCounts, level_on, count_on, IsSpread, IsNotAbove, IsNear, same, moved}
 
 pub not_above_itself : (xs : List ℕ) → IsNotAbove xs xs
 not_above_itself xs = record { each = λ k. omega arith }

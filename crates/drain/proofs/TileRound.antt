@@ -6,7 +6,7 @@ use Rattle.std.proofs.lemmas.List.{get_or-map, get_or-set_same, get_or-set_other
 use Rattle.std.proofs.lemmas.Option.{MatchOption-at_some, none-some, same_Some}
 use Rattle.terrain.proofs.Places.{make_place, same_place, index_injective, cases_place}
 use Rattle.terrain.specs.Raster.{Terrain}
-use Rattle.terrain.specs.Neighbours.{height_at, entry_at, Touches, IsNeighbour, height_of}
+use Rattle.terrain.specs.Neighbours.{entry_or, height_at, entry_at, Touches, IsNeighbour, height_of}
 use Rattle.terrain.specs.declared.place.Place.{Place}
 use Rattle.tiles.specs.declared.bounds.Bounds.{Bounds}
 use Rattle.tiles.specs.Cutting.{Cutting, IsCutting, IsInBounds, IsInTile, bounds_of, tile_entry, View, terrain_of}
@@ -16,16 +16,18 @@ use Rattle.tile_maps.specs.Maps.{IsMadeUpTo, IsMadeTile}
 use Rattle.tile_maps.proofs.TileLists.{made_tile, entry_of_tile}
 use Rattle.drainage.specs.StepCounts.{known, no_count}
 use Rattle.drainage.proofs.StoredCounts.{known-some, known-none}
-use Rattle.drain.specs.Window.{AreCounts, spot_index, area_of, IsSpot, IsInner, Shows, IsShown, AreShown, level_on, count_on, IsSpread, same, moved, IsSearched, known_counts, IsCopied, AreWindowCounts}
-use Rattle.drain.proofs.Spreading.{spot_below, spread_not_above, spread_counts, spread-length, spot_from_inner}
+use Rattle.tiles.specs.Windows.{spot_index, area_of, IsSpot, IsInner, Shows, IsShown, AreShown}
+use Rattle.drain.specs.Search.{AreCounts, level_on, count_on, IsSpread, same, moved, IsSearched, known_counts, IsCopied, AreWindowCounts}
+use Rattle.tiles.proofs.Spots.{spot_below}
+use Rattle.drain.proofs.Spreading.{spread_not_above, spread_counts, spread-length, spot_from_inner}
 use Rattle.drain.proofs.Counted.{height_is}
-use Rattle.drain.proofs.Spots.{shows_same}
+use Rattle.tiles.proofs.Spots.{shows_same}
 use Rattle.drain.proofs.Unique.{at_place}
 use Rattle.drain.proofs.Few.{data_on_level_walk}
 
 -- a spot with a value shows a place that has this value in the list
 is_on : {X : Type 0} (cols rows : ℕ) (entries : List (Option X)) (b : Bounds) (s : Place)
-    (o : Option X) (x : X) → IsShown cols rows entries None b s o → o ≡ Some x →
+    (o : Option X) (x : X) → IsShown (entry_or cols rows entries None) None b s o → o ≡ Some x →
     (p : Place) × Shows b s p × (entry_at cols rows entries p ≡ Some x)
 is_on {X = X} cols rows entries b s o x shown is =
     elim (cases_eq (b.top + s.row) 0) [
@@ -59,7 +61,7 @@ some_of_known None n e less = absurd (omega arith)
 some_of_known (Some m) n e less = ap Some (sym e)
 
 sound_begin : (t : Terrain) (b : Bounds) (steps shown : List (Option ℕ)) →
-    length shown ≡ area_of b → AreShown t.cols t.rows steps None b shown →
+    length shown ≡ area_of b → AreShown (entry_or t.cols t.rows steps None) None b shown →
     AreWalked (HasCountZero t steps) t steps → IsSound t steps b (known_counts shown)
 unfolding IsSound
 sound_begin t b steps shown size on walked = λ s spot less.
@@ -93,7 +95,7 @@ walked_on t steps p q m n next level walk is less =
     (less, p ∷ walk.1, (next, level, walk.2), omega (arith, walk.3, is))
 
 sound_moved : (t : Terrain) (steps : List (Option ℕ)) (b : Bounds) (levels : List (Option ℤ))
-    (some : List ℕ) (s r : Place) (n : ℕ) → AreShown t.cols t.rows t.cells None b levels →
+    (some : List ℕ) (s r : Place) (n : ℕ) → AreShown (entry_or t.cols t.rows t.cells None) None b levels →
     IsSound t steps b some →
     IsSpot b s → IsSpot b r → Touches s r → s ≢ r → level_on b levels s ≡ level_on b levels r →
     n ≡ count_on b some s + 1 → n < no_count → (q : Place) × Shows b r q
@@ -144,7 +146,7 @@ sound_set t steps b counts r n size spot sound moved_to = λ s inside less. elim
 ]
 
 sound_after : (t : Terrain) (steps : List (Option ℕ)) (b : Bounds) (levels : List (Option ℤ))
-    (old new : List ℕ) → AreShown t.cols t.rows t.cells None b levels → length old ≡ area_of b →
+    (old new : List ℕ) → AreShown (entry_or t.cols t.rows t.cells None) None b levels → length old ≡ area_of b →
     AreCounts old → IsSound t steps b old → IsSpread b levels old new → IsSound t steps b new
 sound_after t steps b levels old new on size small sound same = sound
 sound_after t steps b levels old new on size small sound
@@ -208,7 +210,7 @@ known-if n P h = elim (cases_lt n no_count) [
 ]
 
 count_small : (t : Terrain) (b : Bounds) (s : Place) (steps : List (Option ℕ)) (o : Option ℕ) →
-    IsShown t.cols t.rows steps None b s o → AreWalked (HasCountZero t steps) t steps →
+    IsShown (entry_or t.cols t.rows steps None) None b s o → AreWalked (HasCountZero t steps) t steps →
     unwrap_or o no_count ≤ no_count
 count_small t b s steps None on walks = omega arith
 count_small t b s steps (Some n) on walks =
@@ -216,7 +218,7 @@ count_small t b s steps (Some n) on walks =
     let real = MatchOption-at_some _ _ n place.2 (walks place.0) in omega (arith, real.0)
 
 pub counts_small : (t : Terrain) (b : Bounds) (steps shown : List (Option ℕ)) →
-    length shown ≡ area_of b → AreShown t.cols t.rows steps None b shown →
+    length shown ≡ area_of b → AreShown (entry_or t.cols t.rows steps None) None b shown →
     AreWalked (HasCountZero t steps) t steps → AreCounts (known_counts shown)
 counts_small t b steps shown size seen walks k = elim (cases_lt k (area_of b)) [
   | inl less ↦ at_place (λ i. get_or (known_counts shown) i 0 ≤ no_count) (b.cols + 2) (b.rows + 2)
@@ -235,8 +237,8 @@ counts_small t b steps shown size seen walks k = elim (cases_lt k (area_of b)) [
 module _ (t : Terrain) (c : Cutting) (tile : ℕ) (b : Bounds) (steps shown : List (Option ℕ))
     (levels : List (Option ℤ)) (new : List ℕ) (list : List (Option ℕ))
     (cutting : IsCutting c) (bounds : b ≡ bounds_of c tile)
-    (on : AreShown t.cols t.rows t.cells None b levels) (size : length shown ≡ area_of b)
-    (seen : AreShown t.cols t.rows steps None b shown) (walks :
+    (on : AreShown (entry_or t.cols t.rows t.cells None) None b levels) (size : length shown ≡ area_of b)
+    (seen : AreShown (entry_or t.cols t.rows steps None) None b shown) (walks :
     AreWalked (HasCountZero t steps) t steps) (finished : IsSearched b levels
     (known_counts shown) new)
     (out : IsMadeUpTo b (IsCopied b new) (b.rows * b.cols) list) where
@@ -360,7 +362,7 @@ input_small t b steps old input walks = subst (λ (xs : List ℕ). AreCounts xs)
 pub round_from : (v : View (Option ℤ)) (w : View (Option ℕ)) (b : Bounds) (levels : List (Option ℤ))
     (old new : List ℕ) (list : List (Option ℕ)) →
     IsCutting v.cutting →
-    b ≡ bounds_of v.cutting v.tile → AreShown v.cutting.cols v.cutting.rows v.cells None b levels →
+    b ≡ bounds_of v.cutting v.tile → AreShown (entry_or v.cutting.cols v.cutting.rows v.cells None) None b levels →
     AreWindowCounts v.cutting.cols v.cutting.rows w.cells b old →
     AreWalked (HasCountZero (terrain_of v) w.cells) (terrain_of v) w.cells →
     IsSearched b levels old new → IsMadeUpTo b (IsCopied b new) (b.rows * b.cols) list →

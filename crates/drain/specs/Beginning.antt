@@ -9,7 +9,7 @@ use Rattle.tiles.specs.declared.bounds.Bounds.{Bounds}
 use Rattle.tiles.specs.Cutting.{Cutting, IsInTile, longest_axis, tile_count, tile_entry}
 use Rattle.drain.specs.Steps.{HasLower, DrainsAtOnce}
 use Rattle.drain.specs.Rounds.{IsRound}
-use Rattle.drain.specs.Window.{AreMadeSpots, IsOff, Shows, area_of}
+use Rattle.tiles.specs.Windows.{AreMadeSpots, IsOff, Shows, area_of}
 use Rattle.drainage.specs.StepCounts.{known, no_count}
 
 -- The cell has no data or lies below height `level`.

@@ -5,7 +5,7 @@ pub mod Rounds
 pub mod Lowering
 pub mod Entering
 pub mod Rounding
-pub mod Window
+pub mod Search
 pub mod Stages
 pub mod Beginning
 pub mod Fitting

@@ -8,15 +8,13 @@ ghost use Rattle.terrain.specs.Neighbours.{IsInside, height_at};
 ghost use Rattle.drainage.specs.StepCounts.{known, no_count};
 ghost use Rattle.drain.specs.Beginning.{IsEdgeOrHasLower, IsGapOrLower, IsOutermost, IsInitialCount, IsBegunSpot, AreBegunSpots, IsPartOf};
 ghost use Rattle.drain.specs.Steps.{DrainsAtOnce};
-ghost use Rattle.drain.specs.Window.{AreMadeSpots, IsSpot};
+ghost use Rattle.tiles.specs.Windows.{AreMadeSpots, IsSpot};
 
 use crate::interior::cells_around;
-use crate::loading::{place_shown, spot_of};
-use crate::window::Window;
 use drainage::NO_COUNT;
 use std::alloc::{AllocError, Global};
 use terrain::{Cell, Grid, Height, Place};
-use tiles::Bounds;
+use tiles::{Bounds, Window, place_shown, spot_of};
 
 /// Returns whether a cell has no data or lies below `level`.
 #[inline(always)]
@@ -121,7 +119,7 @@ fn begin_along(
 }
 
 /// Sets the count of each named sink with data in the window to 0.
-fn begin_at_sinks(grid: &Grid, window: &Window, counts: &mut [u32])
+fn begin_at_sinks(grid: &Grid, window: &Window<Cell>, counts: &mut [u32])
     requires inside { IsPartOf grid.now.terrain window.now.bounds }
     requires counts { AreBegunSpots (IsEdgeOrHasLower grid.now.terrain) window.now.bounds
         counts.old }
@@ -141,7 +139,7 @@ fn begin_at_sinks(grid: &Grid, window: &Window, counts: &mut [u32])
 pub(crate) fn begun_counts(
     alloc: Global,
     grid: &Grid,
-    window: &Window,
+    window: &Window<Cell>,
 ) -> Result<Vec<u32>, AllocError>
     requires inside { IsPartOf grid.now.terrain window.now.bounds }
     ensures { IfOk result (λ counts.

@@ -7,7 +7,8 @@ ghost use Rattle.tiles.specs.Cutting.{Cuts, terrain_of};
 ghost use Rattle.tile_jobs.specs.Fault.{RefusesWorkers};
 ghost use Rattle.drain.specs.Beginning.{HasZeros};
 ghost use Rattle.drain.specs.Rounds.{AreWalked, IsRound};
-ghost use Rattle.drain.specs.Window.{AreCounts, area_of, IsRoundOf};
+ghost use Rattle.tiles.specs.Windows.{area_of};
+ghost use Rattle.drain.specs.Search.{AreCounts, IsRoundOf};
 ghost use Rattle.drain.specs.Steps.{AreSteps, DrainsAtOnce};
 ghost use Rattle.drain.specs.Directions.{AreDirections};
 ghost use Rattle.drainage.specs.Drained.{AllFlowEnds, directed_of};
@@ -15,8 +16,7 @@ ghost use Rattle.drainage.specs.Drained.{AllFlowEnds, directed_of};
 use crate::first::first_round;
 use crate::rounds::run_rounds;
 use crate::stages::Codes;
-use crate::window::Window;
-use crate::{loading, window};
+use crate::{loading, search};
 use drainage::{Directions, Filled, StepCount};
 use std::alloc::{AllocError, Global};
 use std::snapshot::Snapshot;
@@ -25,21 +25,21 @@ use std::thread::Threads;
 use terrain::{Cell, Grid, NoMemory};
 use tile_jobs::{Gate, JobFault};
 use tile_maps::Runner;
-use tiles::{TileView, Tiling};
+use tiles::{TileView, Tiling, Window};
 
 /// Returns a tile's counts after one round, in row order.
 /// `window` has the tile and the places around it; `old` has a count for each of these.
 pub(crate) fn round(
     alloc: Global,
-    window: &Window,
+    window: &Window<Cell>,
     old: &[u32],
 ) -> Result<Vec<StepCount>, AllocError>
     requires size { length old.now ≡ area_of window.now.bounds }
     requires counts { AreCounts old.now }
     ensures { IfOk result
-        (λ v. IsRoundOf window.now.bounds window.now.levels.items old.now v.items) }
+        (λ v. IsRoundOf window.now.bounds window.now.values.items old.now v.items) }
 {
-    let counts = window::searched_counts(alloc, window, old)?;
+    let counts = search::searched_counts(alloc, window, old)?;
     let list = loading::copy_counts(alloc, window, &counts)?;
     Ok(list)
 }
@@ -68,7 +68,7 @@ pub fn flat_steps(
     ensures { IfOk result (λ v. IsRound (DrainsAtOnce terrain) terrain levels.now.cutting
         levels.now.tile steps.now.cells v.items) }
 {
-    let window = loading::window(alloc, levels)?;
+    let window = Window::of_view(alloc, levels, Cell::no_data())?;
     let old = loading::counts(alloc, steps)?;
     let counts = round(alloc, &window, &old)?;
     Ok(loading::step_numbers(alloc, &counts)?)

@@ -1,7 +1,7 @@
 //! The first round: a job for each tile counts steps inside that tile.
 //!
 //! Module `beginning` finds the cells that drain at once, in the tile and around it.
-//! `draining::round` searches from them, by module `window`.
+//! `draining::round` searches from them, by module `search`.
 ghost use Rattle.std.specs.Prelude.{ℕ, List, Option, IfOk};
 ghost use Rattle.tile_jobs.specs.Fault.{RefusesWorkers};
 ghost use Rattle.tiles.specs.Cutting.{Cuts, IsCutting};
@@ -12,15 +12,14 @@ ghost use Rattle.drain.specs.Entering.{sinkless_terrain};
 
 use crate::beginning::begun_counts;
 use crate::draining::round;
-use crate::loading;
 use drainage::StepCount;
 use std::alloc::Global;
 use std::sync::Wait;
 use std::thread::Threads;
-use terrain::Grid;
+use terrain::{Cell, Grid};
 use tile_jobs::{Gate, JobFault, Work};
 use tile_maps::Runner;
-use tiles::Tiling;
+use tiles::{Tiling, Window};
 
 /// Input of the first round's jobs: a filled grid and its tiling.
 #[derive(Drop)]
@@ -47,7 +46,7 @@ impl<'a> Work for FirstRound<'a> {
 
     fn run(&self, alloc: Global, job: u32) -> Result<Vec<StepCount>, JobFault> {
         let levels = self.tiling.view(self.grid.cells(), job);
-        let window = loading::window(alloc, &levels)?;
+        let window = Window::of_view(alloc, &levels, Cell::no_data())?;
         let begun = begun_counts(alloc, self.grid, &window)?;
         let list = round(alloc, &window, &begun)?;
         Ok(list)

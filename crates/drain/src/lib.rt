@@ -11,8 +11,8 @@
 //! - `draining`: `directions`, which runs all stages, and `flat_steps`
 //! - `first`: the first round
 //! - `beginning`: finds the cells that drain at once
-//! - `window`: searches one tile for steps
-//! - `loading`: copies a tile and the places around it to a window, and counts back
+//! - `search`: searches the window of a tile for steps
+//! - `loading`: copies the counts of a tile's window, and the tile's counts back
 //! - `rounds`: later rounds
 //! - `entering`: finds entries, lower counts that follow from cells of adjacent tiles
 //! - `lowering`: the search of a later round
@@ -38,10 +38,10 @@ mod loading;
 mod lowering;
 mod rounds;
 mod runs;
+mod search;
 mod stages;
 mod steepness;
 mod surroundings;
-mod window;
 
 pub use around::Around;
 pub use drainage::{Code, Directions};

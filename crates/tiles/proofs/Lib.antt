@@ -12,3 +12,5 @@ pub mod SliceGet
 pub mod Shown
 pub mod TileRows
 pub mod PutBack
+-- windows of tiles
+pub mod Spots

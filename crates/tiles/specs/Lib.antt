@@ -1,4 +1,5 @@
 pub mod Cutting
+pub mod Windows
 pub mod RimLeft
 pub mod RimNumbers
 pub mod PuttingBack

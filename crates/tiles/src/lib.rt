@@ -6,6 +6,7 @@
 //! Modules, callers first; `tiling` and `view` use each other:
 //!
 //! - `rim_numbers`: numbers for the rim cells of all tiles
+//! - `window`: a copy of a tile and of the places around it
 //! - `tiling`: a grid cut into tiles, and the tiles' lists merged
 //! - `view`: a borrowed view of a tile and the cells next to it
 //! - `rim`: a tile's outermost cells
@@ -19,8 +20,10 @@ mod rim_numbers;
 mod slices;
 mod tiling;
 mod view;
+mod window;
 
 pub use bounds::Bounds;
 pub use rim::Rim;
 pub use tiling::{Tiling, TilingFault};
 pub use view::TileView;
+pub use window::{Window, place_shown, spot_of};

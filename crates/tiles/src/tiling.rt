@@ -107,6 +107,23 @@ impl Tiling {
         })
     }
 
+    /// Returns the tiling of a grid of `cols` by `rows` cells into one tile.
+    pub fn of_one_tile(cols: u32, rows: u32) -> Self
+        requires cols { (1 ≤ cols) × (cols ≤ longest_axis) }
+        requires rows { (1 ≤ rows) × (rows ≤ longest_axis) }
+        ensures value { result ≡ record { cols = cols; rows = rows; side = longest_side } }
+        ensures tile { 0 < tile_count result }
+        ensures bounds { bounds_of result 0
+            ≡ record { top = 0; left = 0; rows = rows; cols = cols } }
+    {
+        Tiling {
+            cols,
+            rows,
+            side: LONGEST_SIDE,
+            across: 1,
+        }
+    }
+
     /// Returns the number of columns of the grid.
     #[inline(always)]
     pub fn cols(&self) -> u32

@@ -54,6 +54,25 @@ impl<'a, T> TileView<'a, T> {
         self.bounds
     }
 
+    /// Returns the bounds of the whole grid.
+    #[inline(always)]
+    pub(crate) fn grid_bounds(&self) -> Bounds
+        ensures value { result ≡ record {
+            top = 0;
+            left = 0;
+            rows = self.now.cutting.rows;
+            cols = self.now.cutting.cols;
+        } }
+        ensures lawful { IsView self.now }
+    {
+        Bounds {
+            top: 0,
+            left: 0,
+            rows: self.tiling.rows(),
+            cols: self.tiling.cols(),
+        }
+    }
+
     /// Returns row `index` of the tile, counted from 0, with one cell for each column.
     #[inline(always)]
     pub fn row(&self, index: u32) -> &'a [T]

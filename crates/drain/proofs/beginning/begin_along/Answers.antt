@@ -1,8 +1,8 @@
 use Rattle.std.proofs.Common.{◌≡◌, ◌+◌, ◌*◌, ℕ, List, sym, subst, arith}
 use Rattle.terrain.proofs.Places.{make_place}
 use Rattle.drain.specs.Beginning.{IsEdgeOrHasLower, IsBegunSpot}
-use Rattle.drain.specs.Window.{AreMadeSpots, spot_index}
-use Rattle.drain.proofs.Spots.{made_push}
+use Rattle.tiles.specs.Windows.{AreMadeSpots, spot_index}
+use Rattle.tiles.proofs.Spots.{made_push}
 use Rattle.drain.proofs.beginning.begin_along.Goals as goal
 
 pub loop-col-preserved : goal.loop-col-preserved

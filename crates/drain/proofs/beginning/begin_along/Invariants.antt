@@ -1,6 +1,6 @@
 use Rattle.std.proofs.Common.{◌+◌, ◌*◌}
 use Rattle.drain.specs.Beginning.{IsEdgeOrHasLower, IsBegunSpot}
-use Rattle.drain.specs.Window.{AreMadeSpots}
+use Rattle.tiles.specs.Windows.{AreMadeSpots}
 use Rattle.drain.proofs.beginning.begin_along.Given as goal
 
 abbrev pub invariant-loop-col : goal.invariant-loop-col

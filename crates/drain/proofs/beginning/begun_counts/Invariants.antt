@@ -1,6 +1,6 @@
 use Rattle.std.proofs.Common.{◌+◌, ◌*◌}
 use Rattle.drain.specs.Beginning.{IsEdgeOrHasLower, IsBegunSpot}
-use Rattle.drain.specs.Window.{AreMadeSpots}
+use Rattle.tiles.specs.Windows.{AreMadeSpots}
 use Rattle.drain.proofs.beginning.begun_counts.Given as goal
 
 abbrev pub invariant-loop-row : goal.invariant-loop-row

@@ -7,7 +7,7 @@ use Rattle.tiles.specs.Cutting.{View, terrain_of}
 use Rattle.drain.specs.Rounds.{HasCountZero, AreWalked, IsRound}
 use Rattle.drain.specs.Steps.{DrainsAtOnce}
 use Rattle.drain.specs.Beginning.{HasZeros}
-use Rattle.drain.specs.Window.{AreCounts, IsSearched}
+use Rattle.drain.specs.Search.{AreCounts, IsSearched}
 use Rattle.drain.proofs.Few.{drains_data}
 use Rattle.drain.proofs.Quiet.{ended, are_walked_to, round_to}
 use Rattle.drain.proofs.TileRound.{input_to, input_small, round_from}
@@ -54,9 +54,9 @@ returns g c =
     c.in_ok-old.ensures in
     let round = c.in_ok-counts.ensures in
     let finished = subst (λ (xs : List ℕ).
-    IsSearched b window.levels.items xs round.0) c.deref.ensures.value round.1 in
-    let made = round_from v w b window.levels.items old round.0 list c.in_ok-window.ensures.lawful
-    c.in_ok-window.ensures.bounds c.in_ok-window.ensures.shown input
+    IsSearched b window.values.items xs round.0) c.deref.ensures.value round.1 in
+    let made = round_from v w b window.values.items old round.0 list c.in_ok-window.ensures.lawful
+    c.in_ok-window.ensures.bounds (rw c.no_data.ensures at c.in_ok-window.ensures.shown) input
     (walks t v w.cells c.requires.0 c.requires.1.1.1.0 c.requires.1.1.1.1) finished round.2 in
     subst (λ (xs : List (Option ℕ)). IsRound (DrainsAtOnce t) t v.cutting v.tile w.cells xs)
     (sym (c.in_ok-step_numbers.ensures ∙ each_is c.deref-2.result.now ∙ c.deref-2.ensures.value))

@@ -1,6 +1,6 @@
 use Rattle.std.proofs.Common.{◌*◌}
 use Rattle.tile_maps.specs.Maps.{IsMadeUpTo}
-use Rattle.drain.specs.Window.{IsCopied}
+use Rattle.drain.specs.Search.{IsCopied}
 use Rattle.drain.proofs.loading.copy_counts.Given as goal
 
 abbrev pub invariant-loop-row : goal.invariant-loop-row

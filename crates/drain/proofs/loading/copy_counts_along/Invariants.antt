@@ -1,6 +1,6 @@
 use Rattle.std.proofs.Common.{◌+◌, ◌*◌}
 use Rattle.tile_maps.specs.Maps.{IsMadeUpTo}
-use Rattle.drain.specs.Window.{IsCopied}
+use Rattle.drain.specs.Search.{IsCopied}
 use Rattle.drain.proofs.loading.copy_counts_along.Given as goal
 
 abbrev pub invariant-loop-col : goal.invariant-loop-col

@@ -1,7 +1,7 @@
 use Rattle.std.proofs.Common.{[], ℕ, ℤ, List, Option, sym, ap, subst, ◌∙◌}
 use Rattle.tiles.specs.Cutting.{View, IsCutting, bounds_of}
 use Rattle.tiles.proofs.Cut.{inside_from_value}
-use Rattle.drain.specs.Window.{AreCounts, IsSearched}
+use Rattle.drain.specs.Search.{AreCounts, IsSearched}
 use Rattle.drain.proofs.Begun.{begun_round, begun_small}
 use Rattle.drain.proofs.TileLists.{part_of}
 use Rattle.drain.proofs.first.FirstRoundWork.run.Goals as goal
@@ -32,10 +32,11 @@ returns-clause-given c = λ begun first.
     let window = c.in_ok-window.window in
     let round = c.in_ok-list.ensures in
     let finished = subst (λ (xs : List ℕ).
-    IsSearched window.bounds window.levels.items xs round.0) c.deref.ensures.value round.1 in
-    begun_round t c.view-levels.result cut c.args.job window.bounds window.levels.items
+    IsSearched window.bounds window.values.items xs round.0) c.deref.ensures.value round.1 in
+    begun_round t c.view-levels.result cut c.args.job window.bounds window.values.items
     c.in_ok-begun.begun.items round.0 c.in_ok-list.list.items begun
     (c.view-levels.ensures ∙ ap (λ (xs : List (Option ℤ)).
     record { cutting = cut; tile = c.args.job; cells = xs }) c.cells.ensures.value)
     c.args.self.now.cuts c.in_ok-window.ensures.lawful c.in_ok-window.ensures.bounds
-    c.in_ok-window.ensures.shown c.in_ok-begun.ensures first finished round.2
+    (rw c.no_data.ensures at c.in_ok-window.ensures.shown) c.in_ok-begun.ensures first finished
+    round.2

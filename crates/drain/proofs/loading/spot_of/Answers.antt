@@ -1,5 +1,0 @@
-use Rattle.std.proofs.Common.{arith}
-use Rattle.drain.proofs.loading.spot_of.Goals as goal
-
-pub returns : goal.returns
-returns c = ((omega arith, omega arith), (omega arith, omega arith))

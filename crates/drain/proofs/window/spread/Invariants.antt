@@ -1,8 +1,0 @@
-use Rattle.std.proofs.Common.{◌<◌}
-use Rattle.terrain.specs.Neighbours.{Touches}
-use Rattle.drain.specs.Window.{IsReached}
-use Rattle.drain.proofs.window.spread.Given as goal
-
-abbrev pub invariant-loop-row : goal.invariant-loop-row
-invariant-loop-row l = IsReached l.window.bounds l.window.levels.items l.spot (λ r. Touches l.spot r
-    × (r.row < l.row)) l.initial.counts l.counts l.initial.reached.items l.reached.items

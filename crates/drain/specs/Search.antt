@@ -1,0 +1,119 @@
+-- Counts in the window of a tile, and how a search lowers them. A spot is a place in the window. A
+-- count is the fewest moves found so far from a cell to one that drains at once, or unknown.
+-- Private.
+use Rattle.std.specs.Prelude.{◌≡◌, ◌≢◌, ℕ, ◌+◌, ◌*◌, ◌<◌, ◌≤◌, ◌⊎◌, ℤ, List, All, map, sum, length, Option, None, Some, slice_get, slice_index_or, slice_set, unwrap_or}
+use Rattle.terrain.specs.Neighbours.{entry_or, Touches}
+use Rattle.terrain.specs.declared.place.Place.{Place}
+use Rattle.tiles.specs.declared.bounds.Bounds.{Bounds}
+use Rattle.tiles.specs.Windows.{area_of, spot_index, IsSpot, IsInner, Shows, AreShown}
+use Rattle.tile_maps.specs.Maps.{IsMadeUpTo}
+use Rattle.drainage.specs.StepCounts.{known, no_count}
+
+-- The height at a spot.
+abbrev pub level_on : Bounds → List (Option ℤ) → Place → Option ℤ
+level_on b levels s = slice_index_or levels (spot_index b s) None
+
+-- The count at a spot.
+abbrev pub count_on : Bounds → List ℕ → Place → ℕ
+count_on b counts s = slice_index_or counts (spot_index b s) 0
+
+-- No count is above `no_count`, which stands for an unknown count.
+abbrev pub AreCounts : List ℕ → Type 0
+AreCounts counts = (k : ℕ) → slice_index_or counts k 0 ≤ no_count
+
+-- The counts come from the old ones by relaxations. A relaxation lowers a spot's count to one more
+-- than the count that an adjacent spot of its height has after some relaxations.
+pub data IsSpread (b : Bounds) (levels : List (Option ℤ)) (old : List ℕ) : List ℕ → Type 0 where
+  same : IsSpread b levels old old
+  moved : (counts : List ℕ) (some : List ℕ) (s r : Place) (n : ℕ) → IsSpread b levels old counts →
+      IsSpread b levels old some
+      → IsSpot b s → IsSpot b r → Touches s r → s ≢ r → level_on b levels s ≡ level_on b levels r →
+      n ≡ count_on b some s + 1
+      → n < count_on b counts r → IsSpread b levels old (slice_set counts (spot_index b r) n)
+
+-- `least` is 1 plus the least count at height `level` in row `from.row` and columns
+-- `from.col..end`, but at most `bound`.
+pub record IsLeastAlong (b : Bounds) (levels : List (Option ℤ)) (counts : List ℕ) (from : Place)
+    (end : ℕ) (level : Option ℤ) (bound least : ℕ) : Type 0 where
+  pub low : least ≤ bound
+  pub each : (r : Place) → r.row ≡ from.row → from.col ≤ r.col → r.col < end →
+      level_on b levels r ≡ level → least ≤ count_on b counts r + 1
+  pub one : (least ≡ bound) ⊎ ((r : Place) × (r.row ≡ from.row) × (from.col ≤ r.col) × (r.col < end)
+      × (level_on b levels r ≡ level) × (least ≡ count_on b counts r + 1) × (least < bound))
+
+-- No number of the new list is above the number at the same index of the old list.
+pub record IsNotAbove (new old : List ℕ) : Type 0 where
+  pub each : (k : ℕ) → slice_index_or new k 0 ≤ slice_index_or old k 0
+
+-- The spot's new count is at most one above the old counts of adjacent spots of its height.
+pub record IsNear (b : Bounds) (levels : List (Option ℤ)) (old new : List ℕ)
+    (s : Place) : Type 0 where
+  pub each : (r : Place) → Touches s r → level_on b levels r ≡ level_on b levels s →
+      count_on b new s ≤ count_on b old r + 1
+
+-- The list `after` begins with `before`. Each spot of the tile whose count changed is in the rest
+-- of `after`.
+pub record AreNoted (b : Bounds) (old new : List ℕ) (before after : List Place) : Type 0 where
+  pub longer : length before ≤ length after
+  pub kept : (k : ℕ) → k < length before → slice_get after k ≡ slice_get before k
+  pub each : (s : Place) → IsInner b s → (count_on b new s ≡ count_on b old s)
+      ⊎ ((k : ℕ) × (length before ≤ k) × (slice_get after k ≡ Some s))
+
+-- A search has spread from `spot` to the spots in `Done`. Those as high as `spot` now have at most
+-- its count plus 1. The count of `spot` itself is unchanged.
+pub record IsReached (b : Bounds) (levels : List (Option ℤ)) (spot : Place) (Done : Place → Type 0)
+    (old new : List ℕ) (before after : List Place) : Type 0 where
+  pub spread : IsSpread b levels old new
+  pub near : (r : Place) → Done r → level_on b levels spot ≡ level_on b levels r →
+      count_on b new r ≤ count_on b old spot + 1
+  pub own : count_on b new spot ≡ count_on b old spot
+  pub noted : AreNoted b old new before after
+  pub inner : All (IsInner b) before → All (IsInner b) after
+  -- for each added spot, the sum of the counts fell by at least 1
+  pub left : length after + sum new ≤ length before + sum old
+
+-- Each spot of the tile has a count at most one above that of each adjacent spot of the tile of
+-- equal height. Adjacent spots in the list `waiting`, at index `from` or above, are excepted.
+pub record IsRelaxedBut (b : Bounds) (levels : List (Option ℤ)) (counts : List ℕ)
+    (waiting : List Place) (from : ℕ) : Type 0 where
+  pub each : (s r : Place) → IsInner b s → IsInner b r → Touches s r →
+      level_on b levels r ≡ level_on b levels s →
+      (count_on b counts r ≤ count_on b counts s + 1)
+      ⊎ ((k : ℕ) × (from ≤ k) × (slice_get waiting k ≡ Some s))
+
+-- Each spot of the tile has a count at most one above that of each adjacent spot of the tile of
+-- equal height.
+pub record IsRelaxed (b : Bounds) (levels : List (Option ℤ)) (counts : List ℕ) : Type 0 where
+  pub each : (s r : Place) → IsInner b s → IsInner b r → Touches s r →
+      level_on b levels r ≡ level_on b levels s →
+      count_on b counts r ≤ count_on b counts s + 1
+
+-- The counts as numbers, `no_count` for an unknown one.
+abbrev pub known_counts : List (Option ℕ) → List ℕ
+known_counts shown = map (λ o. unwrap_or o no_count) shown
+
+-- x is the count of the spot that shows p, or `None` if that count is not known.
+abbrev pub IsCopied : Bounds → List ℕ → Place → Option ℕ → Type 0
+IsCopied b counts p x = (s : Place) → Shows b s p → x ≡ known (count_on b counts s)
+
+-- A search has ended: relaxations lead from the old counts to the new. In the tile each new count
+-- is at most one above the old counts of adjacent spots of equal height (`IsNear`). No relaxation
+-- is left inside the tile.
+pub record IsSearched (b : Bounds) (levels : List (Option ℤ)) (old new : List ℕ) : Type 0 where
+  pub spread : IsSpread b levels old new
+  pub near : (s : Place) → IsInner b s → IsNear b levels old new s
+  pub even : IsRelaxed b levels new
+
+-- `list` has the counts of a tile after a round from the counts `old` of its window.
+abbrev pub IsRoundOf : Bounds → List (Option ℤ) → List ℕ → List (Option ℕ) → Type 0
+IsRoundOf b levels old list = (new : List ℕ) × IsSearched b levels old new
+    × IsMadeUpTo b (IsCopied b new) (b.rows * b.cols) list
+
+-- The counts of the window are the values of `entries` at the places that its spots show, as
+-- numbers.
+pub record AreWindowCounts (cols rows : ℕ) (entries : List (Option ℕ)) (b : Bounds)
+    (counts : List ℕ) : Type 0 where
+  pub shown : List (Option ℕ)
+  pub size : length shown ≡ area_of b
+  pub seen : AreShown (entry_or cols rows entries None) None b shown
+  pub value : counts ≡ known_counts shown

@@ -1,0 +1,320 @@
+//! The search of a tile: counts in the tile and around it lower the tile's counts of steps.
+ghost use Rattle.std.specs.Prelude.{◌≡◌, ◌+◌, ◌<◌, ◌≤◌, ◌⊎◌, ◌↔◌, IsTrue, [], All, length, OnOk, IfOk};
+ghost use Rattle.terrain.specs.Neighbours.{Touches};
+ghost use Rattle.terrain.specs.declared.place.Place.{Place};
+ghost use Rattle.tiles.specs.Windows.{area_of, spot_index, IsSpot, IsInner};
+ghost use Rattle.drain.specs.Search.{AreCounts, level_on, count_on, IsLeastAlong, IsSpread, IsNotAbove, IsNear, AreNoted, IsReached, IsRelaxedBut, IsRelaxed, IsSearched};
+
+use std::alloc::{AllocError, Global};
+use terrain::{Cell, Place};
+use tiles::Window;
+
+/// Returns whether two spots have one filled height, or both have no data.
+#[inline(always)]
+fn is_level(window: &Window<Cell>, spot: Place, other: Place) -> bool
+    requires spot { IsSpot window.now.bounds spot }
+    requires other { IsSpot window.now.bounds other }
+    ensures { IsTrue result ↔ (level_on window.now.bounds window.now.values.items spot
+        ≡ level_on window.now.bounds window.now.values.items other) }
+{
+    window.values[window.index(spot)].is_level_with(window.values[window.index(other)])
+}
+
+/// Returns a spot's count plus 1, at most `bound`, if the spot has height `level`.
+/// Returns `bound` for a spot of another height.
+#[inline(always)]
+fn lesser(window: &Window<Cell>, counts: &[u32], spot: Place, level: Cell, bound: u32) -> u32
+    requires size { length counts.now ≡ area_of window.now.bounds }
+    requires counts { AreCounts counts.now }
+    requires spot { IsSpot window.now.bounds spot }
+    ensures bound { result ≤ bound }
+    ensures each { level_on window.now.bounds window.now.values.items spot ≡ level →
+        result ≤ count_on window.now.bounds counts.now spot + 1 }
+    ensures one { (result ≡ bound)
+        ⊎ ((level_on window.now.bounds window.now.values.items spot ≡ level)
+        × (result ≡ count_on window.now.bounds counts.now spot + 1) × (result < bound)) }
+{
+    let index = window.index(spot);
+    let next = counts[index] + 1;
+    if next >= bound {
+        return bound;
+    }
+    if window.values[index].is_level_with(level) {
+        next
+    } else {
+        bound
+    }
+}
+
+/// Returns 1 plus the least count among spots of height `level`, at most `bound`.
+/// The spots looked at are `from` and the next two of the row of `from`.
+#[inline(always)]
+#[tactic(auto, using(crate::proofs::Least::least_of_none))]
+fn least_of_three(window: &Window<Cell>, counts: &[u32], from: Place, level: Cell, bound: u32) -> u32
+    requires size { length counts.now ≡ area_of window.now.bounds }
+    requires counts { AreCounts counts.now }
+    requires from { (from.row < window.now.bounds.rows + 2)
+        × (from.col + 2 < window.now.bounds.cols + 2) }
+    ensures { IsLeastAlong window.now.bounds window.now.values.items counts.now from (from.col + 3)
+        level bound result }
+{
+    let mut least = bound;
+    for col in from.col..from.col + 3 {
+        least = lesser(window, counts, Place { row: from.row, col }, level, least);
+    }
+    least
+}
+
+/// Returns 1 plus the least count at and around `spot`, at most `bound`.
+/// Spots of another height than `spot` are left out.
+#[inline(always)]
+fn least_around(window: &Window<Cell>, counts: &[u32], spot: Place, bound: u32) -> u32
+    requires size { length counts.now ≡ area_of window.now.bounds }
+    requires counts { AreCounts counts.now }
+    requires spot { IsInner window.now.bounds spot }
+    ensures bound { result ≤ bound }
+    ensures each { (r : Place) → Touches spot r →
+        level_on window.now.bounds window.now.values.items r
+        ≡ level_on window.now.bounds window.now.values.items spot →
+        result ≤ count_on window.now.bounds counts.now r + 1 }
+    ensures one { (result ≡ bound) ⊎ ((r : Place) × IsSpot window.now.bounds r × Touches r spot
+        × (level_on window.now.bounds window.now.values.items r
+        ≡ level_on window.now.bounds window.now.values.items spot)
+        × (result ≡ count_on window.now.bounds counts.now r + 1) × (result < bound)) }
+{
+    let level = window.values[window.index(spot)];
+    let row = spot.row;
+    let col = spot.col - 1;
+    let north = least_of_three(window, counts, Place { row: row - 1, col }, level, bound);
+    let here = least_of_three(window, counts, Place { row, col }, level, north);
+    least_of_three(window, counts, Place { row: row + 1, col }, level, here)
+}
+
+/// Lowers the count of `to` to at most that of `from` plus 1, if equally high.
+/// Appends `to` to `reached`, if `to` lies in the tile and its count falls.
+#[inline(always)]
+fn reach(
+    window: &Window<Cell>,
+    counts: &mut [u32],
+    reached: &mut Vec<Place>,
+    from: Place,
+    to: Place,
+) -> Result<(), AllocError>
+    requires size { length counts.old ≡ area_of window.now.bounds }
+    requires counts { AreCounts counts.old }
+    requires from { IsSpot window.now.bounds from }
+    requires to { IsSpot window.now.bounds to × Touches from to }
+    ensures { OnOk result (IsReached window.now.bounds window.now.values.items from (λ r. r ≡ to)
+        counts.old counts.new reached.old.items reached.new.items) }
+{
+    let next = counts[window.index(from)] + 1;
+    let index = window.index(to);
+    if next < counts[index] && is_level(window, from, to) {
+        if window.is_inner(to) {
+            reached.push(to)?;
+        }
+        counts[index] = next;
+    }
+    Ok(())
+}
+
+/// Lowers counts in `row` around `spot` to at most that of `spot` plus 1.
+/// Spots of another height than `spot` are left out.
+/// Queues the spots of the tile whose counts fall.
+#[inline(always)]
+#[tactic(auto, using(crate::proofs::Spreading::spread_counts))]
+fn spread_along(
+    window: &Window<Cell>,
+    counts: &mut [u32],
+    reached: &mut Vec<Place>,
+    spot: Place,
+    row: u32,
+) -> Result<(), AllocError>
+    requires size { length counts.old ≡ area_of window.now.bounds }
+    requires counts { AreCounts counts.old }
+    requires spot { IsInner window.now.bounds spot }
+    requires row { (row ≤ spot.row + 1) × (spot.row ≤ row + 1) }
+    ensures { OnOk result (IsReached window.now.bounds window.now.values.items spot
+        (λ r. Touches spot r × (r.row ≡ row)) counts.old counts.new reached.old.items
+        reached.new.items) }
+{
+    for col in spot.col - 1..spot.col + 2 {
+        reach(window, counts, reached, spot, Place { row, col })?;
+    }
+    Ok(())
+}
+
+/// Lowers counts around `spot` to at most that of `spot` plus 1.
+/// Spots of another height than `spot` are left out.
+/// Queues the spots of the tile whose counts fall.
+#[tactic(auto, using(crate::proofs::Spreading::spread_counts))]
+fn spread(
+    window: &Window<Cell>,
+    counts: &mut [u32],
+    reached: &mut Vec<Place>,
+    spot: Place,
+) -> Result<(), AllocError>
+    requires size { length counts.old ≡ area_of window.now.bounds }
+    requires counts { AreCounts counts.old }
+    requires spot { IsInner window.now.bounds spot }
+    ensures { OnOk result (IsReached window.now.bounds window.now.values.items spot (Touches spot)
+        counts.old counts.new reached.old.items reached.new.items) }
+{
+    for row in spot.row - 1..spot.row + 2 {
+        spread_along(window, counts, reached, spot, row)?;
+    }
+    Ok(())
+}
+
+/// Spreads from each queued spot in order, also from spots queued meanwhile.
+#[tactic(auto, using(crate::proofs::Spreading::spread_none, crate::proofs::Spreading::spread_on, crate::proofs::Spreading::spread_counts, crate::proofs::Spreading::sum_spread, crate::proofs::Noted::even_end))]
+fn search(window: &Window<Cell>, counts: &mut [u32], mut reached: Vec<Place>) -> Result<(), AllocError>
+    requires size { length counts.old ≡ area_of window.now.bounds }
+    requires counts { AreCounts counts.old }
+    requires inner { All (IsInner window.now.bounds) reached.items }
+    requires even { IsRelaxedBut window.now.bounds window.now.values.items counts.old
+        reached.items 0 }
+    ensures spread { OnOk result
+        (IsSpread window.now.bounds window.now.values.items counts.old counts.new) }
+    ensures even { OnOk result (IsRelaxed window.now.bounds window.now.values.items counts.new) }
+{
+    let mut done = 0;
+    while done < reached.len() {
+        let spot = reached[done];
+        done += 1;
+        spread(window, counts, &mut reached, spot)?;
+    }
+    Ok(())
+}
+
+/// Lowers the count of `spot` to at most 1 plus each old count around it.
+/// Spots of another height than `spot` are left out.
+/// Appends `spot` to `reached`, if its count falls.
+#[inline(always)]
+#[tactic(auto, using(crate::proofs::Spreading::pulled, crate::proofs::Spreading::spot_from_inner))]
+fn pull_at(
+    window: &Window<Cell>,
+    old: &[u32],
+    counts: &mut [u32],
+    reached: &mut Vec<Place>,
+    spot: Place,
+) -> Result<(), AllocError>
+    requires size { (length old.now ≡ area_of window.now.bounds)
+        × (length counts.old ≡ area_of window.now.bounds) }
+    requires counts { AreCounts old.now }
+    requires spot { IsInner window.now.bounds spot }
+    requires spread { IsSpread window.now.bounds window.now.values.items old.now counts.old }
+    requires inner { All (IsInner window.now.bounds) reached.old.items }
+    ensures spread { OnOk result
+        (IsSpread window.now.bounds window.now.values.items old.now counts.new) }
+    ensures kept { OnOk result (IsNotAbove counts.new counts.old) }
+    ensures near { OnOk result
+        (IsNear window.now.bounds window.now.values.items old.now counts.new spot) }
+    ensures noted { OnOk result
+        (AreNoted window.now.bounds counts.old counts.new reached.old.items reached.new.items) }
+    ensures inner { OnOk result (All (IsInner window.now.bounds) reached.new.items) }
+{
+    let index = window.index(spot);
+    let own = counts[index];
+    if own == 0 {
+        return Ok(());
+    }
+    let least = least_around(window, old, spot, own);
+    if least < own {
+        reached.push(spot)?;
+        counts[index] = least;
+    }
+    Ok(())
+}
+
+/// Applies [`pull_at`] to each spot of one row of the tile.
+#[tactic(auto, using(crate::proofs::Spreading::not_above_itself, crate::proofs::Noted::noted_none))]
+fn pull_along(
+    window: &Window<Cell>,
+    old: &[u32],
+    counts: &mut [u32],
+    reached: &mut Vec<Place>,
+    row: u32,
+) -> Result<(), AllocError>
+    requires size { (length old.now ≡ area_of window.now.bounds)
+        × (length counts.old ≡ area_of window.now.bounds) }
+    requires counts { AreCounts old.now }
+    requires row { (1 ≤ row) × (row ≤ window.now.bounds.rows) }
+    requires spread { IsSpread window.now.bounds window.now.values.items old.now counts.old }
+    requires inner { All (IsInner window.now.bounds) reached.old.items }
+    ensures spread { OnOk result
+        (IsSpread window.now.bounds window.now.values.items old.now counts.new) }
+    ensures kept { OnOk result (IsNotAbove counts.new counts.old) }
+    ensures near { OnOk result ((s : Place) → IsInner window.now.bounds s → s.row ≡ row →
+        IsNear window.now.bounds window.now.values.items old.now counts.new s) }
+    ensures noted { OnOk result
+        (AreNoted window.now.bounds counts.old counts.new reached.old.items reached.new.items) }
+    ensures inner { OnOk result (All (IsInner window.now.bounds) reached.new.items) }
+{
+    for col in 1..window.bounds.cols + 1 {
+        pull_at(window, old, counts, reached, Place { row, col })?;
+    }
+    Ok(())
+}
+
+/// Applies [`pull_at`] to each spot of the tile; returns those whose counts fell.
+#[tactic(auto, using(crate::proofs::Spreading::spread_none, crate::proofs::Spreading::near_after, crate::proofs::Noted::noted_none, crate::proofs::Noted::noted_then))]
+fn pull(
+    alloc: Global,
+    window: &Window<Cell>,
+    old: &[u32],
+    counts: &mut [u32],
+) -> Result<Vec<Place>, AllocError>
+    requires size { length old.now ≡ area_of window.now.bounds }
+    requires counts { AreCounts old.now }
+    requires same { counts.old ≡ old.now }
+    ensures spread { OnOk result
+        (IsSpread window.now.bounds window.now.values.items old.now counts.new) }
+    ensures near { OnOk result ((s : Place) → IsInner window.now.bounds s →
+        IsNear window.now.bounds window.now.values.items old.now counts.new s) }
+    ensures noted { IfOk result
+        (λ reached. AreNoted window.now.bounds old.now counts.new [] reached.items) }
+    ensures inner { IfOk result (λ reached. All (IsInner window.now.bounds) reached.items) }
+{
+    let mut reached = Vec::new(alloc);
+    for row in 1..window.bounds.rows + 1 {
+        pull_along(window, old, counts, &mut reached, row)?;
+    }
+    Ok(reached)
+}
+
+/// Searches from all known counts until no count in the tile falls.
+#[tactic(auto, using(crate::proofs::Spreading::spread_counts))]
+fn search_window(
+    alloc: Global,
+    window: &Window<Cell>,
+    old: &[u32],
+    counts: &mut [u32],
+) -> Result<(), AllocError>
+    requires size { length old.now ≡ area_of window.now.bounds }
+    requires counts { AreCounts old.now }
+    requires same { counts.old ≡ old.now }
+    ensures { OnOk result
+        (IsSearched window.now.bounds window.now.values.items old.now counts.new) }
+{
+    let reached = pull(alloc, window, old, counts)?;
+    search(window, counts, reached)?;
+    Ok(())
+}
+
+/// Returns the counts of a window after a search from the counts `old`.
+pub(crate) fn searched_counts(
+    alloc: Global,
+    window: &Window<Cell>,
+    old: &[u32],
+) -> Result<Vec<u32>, AllocError>
+    requires size { length old.now ≡ area_of window.now.bounds }
+    requires counts { AreCounts old.now }
+    ensures finished { IfOk result
+        (λ new. IsSearched window.now.bounds window.now.values.items old.now new.items) }
+    ensures size { IfOk result (λ new. length new.items ≡ length old.now) }
+{
+    let mut counts = Vec::from_slice(alloc, old)?;
+    search_window(alloc, window, old, &mut counts)?;
+    Ok(counts)
+}
