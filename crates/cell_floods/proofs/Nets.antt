@@ -17,12 +17,9 @@ use Rattle.terrain.proofs.Places.{gap_at_end, none_outside, entry-inside}
 use Rattle.drainage.proofs.Reach.{data_inside}
 use Rattle.tiles.specs.Cutting.{IsInBounds, View, IsView, bounds_of, row_shown, terrain_of}
 use Rattle.floods.specs.Walk.{IsFlooded}
-use Rattle.cell_floods.specs.Cells.{Cells, node_at, IsNetOf, HasSinks, IsCellJoin, source_of, whole, inner_rows, bordered_rows}
+use Rattle.cell_floods.specs.Cells.{Cells, node_at, IsNetOf, HasSinks, IsCellJoin, source_of, whole, inner_rows}
 use Rattle.cell_floods.proofs.Windows.{IsOnRim, IsWindowSource, IsWindowPath, IsWindowLevel, end_is_source, window_level, window_none}
 use Rattle.tiles.specs.declared.bounds.Bounds.{Bounds}
-use Rattle.tiles.proofs.Cut.{bounds_inside}
-use Rattle.tiles.proofs.Shown.{row_end, get_or-row_shown}
-use Rattle.cell_floods.proofs.Borders.{AreRows, ShowRows, net_of_rows}
 
 -- A row inside the border lies in the list, which has at most 4098 by 4098 entries.
 pub inner_row_ends : (rows cols row len : ℕ) → len ≡ (rows + 2) * (cols + 2) → cols ≤ 4096 →
@@ -158,33 +155,3 @@ whole_filled t n levels labels net flooded =
           ∙ ap (λ n. (r - 0 + 1) * s + (n + 1)) (minus c) where
             minus : (n : ℕ) → n ≡ n - 0
             minus n = omega arith
-
-row_shown_length : (v : View (Option ℤ)) → IsView v →
-    AreRows (row_shown v) (bounds_of v.cutting v.tile).cols (bounds_of v.cutting v.tile).rows
-row_shown_length v is r below =
-    let b = bounds_of v.cutting v.tile in
-    let end = row_end v.cutting b r (bounds_inside v.cutting v.tile is.cutting is.tile) below in
-    let from = (b.top + r) * v.cutting.cols + b.left in
-    ap length (between_is v.cells from (from + b.cols))
-    ∙ length-drop from (take (from + b.cols) v.cells)
-    ∙ ap (λ n. n - from) (length-take-le (from + b.cols) v.cells (omega (arith, end, is.size)))
-    ∙ omega arith
-
-row_shown_cells : (v : View (Option ℤ)) → IsView v →
-    ShowRows (terrain_of v) (bounds_of v.cutting v.tile) (row_shown v)
-row_shown_cells v is r c below inside =
-    let b = bounds_of v.cutting v.tile in
-    let all = bounds_inside v.cutting v.tile is.cutting is.tile in
-    get_or-row_shown v r c None inside
-    ∙ sym (entry-inside v.cutting.cols v.cutting.rows v.cells
-    (record { row = b.top + r; col = b.left + c }) (omega (arith, below, all.rows_inside))
-    (omega (arith, inside, all.cols_inside)))
-
-pub net_of_view : (v : View (Option ℤ)) (b : Bounds) (items : List (Option ℤ)) (places : List Place)
-    (sinks : List Bool) → IsView v → b ≡ bounds_of v.cutting v.tile → items ≡ bordered_rows
-    (row_shown v) ((bounds_of v.cutting v.tile).cols + 2) (bounds_of v.cutting v.tile).rows →
-    HasSinks b places sinks → IsNetOf (with_sinks (terrain_of v) places)
-    (bounds_of v.cutting v.tile) (record { stride = b.cols + 2; cells = items; sinks = sinks })
-net_of_view v b items places sinks is same are has = rw (same, are) (net_of_rows (with_sinks
-    (terrain_of v) places) (bounds_of v.cutting v.tile) (row_shown v) (row_shown_length v is)
-    (row_shown_cells v is) sinks (subst (λ w. HasSinks w places sinks) same has))

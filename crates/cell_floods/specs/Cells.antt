@@ -1,6 +1,6 @@
 -- A window, a rectangle of a terrain's cells, as a net: neighbouring data cells are joined.
 -- Public.
-use Rattle.std.specs.Prelude.{◌≡◌, ◌≢◌, ◌≤ℤ◌, ℕ, zero, suc, ◌+◌, ◌-◌, ◌*◌, ◌/◌, ◌%◌, ◌<◌, ◌≤◌, ◌⊎◌, ◌↔◌, ◌||◌, ℤ, Bool, true, false, List, [], ◌∷◌, ◌++◌, length, replicate, Option, None, Some, IsSome, is_none, if◌then◌else◌, slice_index_or, slice_range}
+use Rattle.std.specs.Prelude.{◌≡◌, ◌≢◌, ◌≤ℤ◌, ℕ, zero, suc, ◌+◌, ◌-◌, ◌*◌, ◌/◌, ◌%◌, ◌<◌, ◌≤◌, ◌⊎◌, ◌↔◌, ◌||◌, ℤ, Bool, true, false, List, [], ◌∷◌, ◌++◌, length, Option, None, Some, IsSome, is_none, if◌then◌else◌, slice_index_or, slice_range}
 use Rattle.std.specs.List.{list_any, Contains}
 use Rattle.std.specs.Int.{int_max}
 use Rattle.terrain.specs.Raster.{Terrain}
@@ -96,19 +96,6 @@ pub record IsNetOf (t : Terrain) (w : Bounds) (n : Cells) : Type 0 where
 -- The window that is the whole terrain.
 abbrev pub whole : Terrain → Bounds
 whole t = record { top = 0; left = 0; rows = t.rows; cols = t.cols }
-
--- The first `count` rows, each between two cells without data, below a row of cells without data.
-abbrev pub first_rows : (ℕ → List (Option ℤ)) → ℕ → ℕ → List (Option ℤ)
-first_rows row stride zero = replicate stride None
-first_rows row stride (suc count) = first_rows row stride count ++ (None ∷ row count ++ None ∷ [])
-
--- The first `count` rows within a border of cells without data.
-abbrev pub bordered_rows : (ℕ → List (Option ℤ)) → ℕ → ℕ → List (Option ℤ)
-bordered_rows row stride count = first_rows row stride count ++ replicate stride None
-
--- Row `row` of a list of cells in row order.
-abbrev pub row_of : ℕ → List (Option ℤ) → ℕ → List (Option ℤ)
-row_of cols cells row = slice_range cells (row * cols) (row * cols + cols)
 
 -- The first `count` rows, of `cols` entries each, inside the border of a list.
 abbrev pub inner_rows : {X : Type 0} → List X → ℕ → ℕ → List X

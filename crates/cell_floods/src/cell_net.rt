@@ -3,14 +3,14 @@
 //! A border of cells without data gives each cell of the rectangle eight cells around it. A data
 //! cell beside a cell without data is a source: paths end there. So the border makes all data cells
 //! on the rim sources.
-ghost use Rattle.std.specs.Prelude.{◌≡◌, None, ◌+◌, ◌-◌, ◌*◌, ◌^◌, ◌<◌, ◌≤◌, ◌∷◌, ◌++◌, ◌↔◌, [], EachIndex, IsSome, IsTrue, length, All, IfOk, OnOk, is_none, slice_index_or, replicate};
+ghost use Rattle.std.specs.Prelude.{◌≡◌, None, ◌+◌, ◌-◌, ◌*◌, ◌^◌, ◌<◌, ◌≤◌, ◌∷◌, ◌↔◌, [], EachIndex, IsSome, IsTrue, length, All, IfOk, OnOk, is_none, slice_index_or};
 ghost use Rattle.std.specs.List.{list_any, filter_map, cons_option};
 ghost use Rattle.std.specs.Bool.{OnTrue};
 ghost use Rattle.floods.specs.Walk.{HasNoSource};
 ghost use Rattle.floods.specs.Flood.{candidates_in, InOrder, Relaxes, AreNoted};
 ghost use Rattle.terrain.specs.Sinks.{with_sinks};
-ghost use Rattle.cell_floods.specs.Cells.{Cells, cells_around, arc_to, whole, IsNetOf, IsCellJoin, IsPassed, source_of, HaveData, bordered_rows, inner_rows, row_of};
-ghost use Rattle.tiles.specs.Cutting.{bounds_of, row_shown, terrain_of};
+ghost use Rattle.cell_floods.specs.Cells.{Cells, cells_around, arc_to, whole, IsNetOf, IsCellJoin, IsPassed, source_of, HaveData, inner_rows};
+ghost use Rattle.tiles.specs.Cutting.{bounds_of, terrain_of};
 
 use crate::sinks::{is_sink, window_sinks};
 use floods::{Candidate, HeightList, Net, NodeLabels, Queue, Spill, queue_neighbour};
@@ -19,7 +19,7 @@ use std::alloc::{AllocError, Global};
 use std::cmp::Reverse;
 use std::marker::Model;
 use terrain::{Cell, Grid, Height, NO_DATA, NoMemory, Place};
-use tiles::{Bounds, TileView};
+use tiles::{TileView, Tiling, Window};
 
 /// A rectangle of cells as a net, with a border of cells without data.
 /// Neighbouring data cells are joined at the greater of their heights. A data cell beside a cell
@@ -354,65 +354,6 @@ impl Net for CellNet {
     }
 }
 
-fn push_gaps(list: &mut Vec<Cell>, count: usize) -> Result<(), AllocError>
-    ensures { OnOk result (list.new.items ≡ list.old.items ++ replicate count None) }
-{
-    for _ in 0..count {
-        list.push(Cell::no_data())?;
-    }
-    Ok(())
-}
-
-#[inline]
-fn push_row(list: &mut Vec<Cell>, row: &[Cell]) -> Result<(), AllocError>
-    ensures { OnOk result (list.new.items ≡ list.old.items ++ (None ∷ row.now ++ None ∷ [])) }
-{
-    list.push(Cell::no_data())?;
-    list.extend_from_slice(row)?;
-    list.push(Cell::no_data())?;
-    Ok(())
-}
-
-/// Returns the rows of `cells`, within a border of cells without data.
-fn bordered_list(
-    alloc: Global,
-    cells: &[Cell],
-    cols: u32,
-    rows: u32,
-) -> Result<Vec<Cell>, AllocError>
-    requires size { length cells.now ≡ cols * rows }
-    requires few_cols { cols ≤ 4096 }
-    requires few_rows { rows ≤ 4096 }
-    ensures { IfOk result (λ v. v.items ≡ bordered_rows (row_of cols cells.now) (cols + 2) rows) }
-{
-    let width = cols as usize;
-    let stride = width + 2;
-    let mut list = Vec::with_capacity(alloc, (rows as usize + 2) * stride)?;
-    push_gaps(&mut list, stride)?;
-    for row in 0..rows {
-        let start = row as usize * width;
-        push_row(&mut list, &cells[start..start + width])?;
-    }
-    push_gaps(&mut list, stride)?;
-    Ok(list)
-}
-
-/// Returns the rows of a tile, within a border of cells without data.
-fn bordered_tile(alloc: Global, view: &TileView<'_, Cell>) -> Result<Vec<Cell>, AllocError>
-    ensures { let b = bounds_of view.now.cutting view.now.tile in
-        IfOk result (λ v. v.items ≡ bordered_rows (row_shown view.now) (b.cols + 2) b.rows) }
-{
-    let Bounds { rows, cols, .. } = view.bounds();
-    let stride = cols as usize + 2;
-    let mut list = Vec::with_capacity(alloc, (rows as usize + 2) * stride)?;
-    push_gaps(&mut list, stride)?;
-    for row in 0..rows {
-        push_row(&mut list, view.row(row))?;
-    }
-    push_gaps(&mut list, stride)?;
-    Ok(list)
-}
-
 impl CellNet {
     /// Makes the net of a whole grid, with the grid's sinks.
     ///
@@ -429,19 +370,8 @@ impl CellNet {
     pub fn of_grid(alloc: Global, grid: &Grid) -> Result<CellNet, NoMemory>
         ensures { IfOk result (IsNetOf grid.now.terrain (whole grid.now.terrain)) }
     {
-        let bounds = Bounds {
-            top: 0,
-            left: 0,
-            rows: grid.rows(),
-            cols: grid.cols(),
-        };
-        let cells = bordered_list(alloc, grid.cells(), bounds.cols, bounds.rows)?;
-        let sinks = window_sinks(alloc, bounds, grid.sinks())?;
-        Ok(CellNet {
-            stride: bounds.cols + 2,
-            cells,
-            sinks,
-        })
+        let tiling = Tiling::of_one_tile(grid.cols(), grid.rows());
+        CellNet::of_view(alloc, &tiling.view(grid.cells(), 0), grid.sinks())
     }
 
     /// Makes the net of a tile, with those of `sinks` that lie in the tile.
@@ -457,12 +387,11 @@ impl CellNet {
         ensures { IfOk result (IsNetOf (with_sinks (terrain_of view.now) sinks.now)
             (bounds_of view.now.cutting view.now.tile)) }
     {
-        let bounds = view.bounds();
-        let cells = bordered_tile(alloc, view)?;
+        let Window { bounds, values } = Window::of_tile(alloc, view, Cell::no_data())?;
         let sinks = window_sinks(alloc, bounds, sinks)?;
         Ok(CellNet {
             stride: bounds.cols + 2,
-            cells,
+            cells: values,
             sinks,
         })
     }

@@ -4,7 +4,7 @@
 ghost use Rattle.std.specs.Prelude.{◌≡◌, ◌+◌, ◌*◌, ◌<◌, ◌≤◌, ◌↔◌, IsTrue, length, MatchOption, OnOk, IfOk};
 ghost use Rattle.terrain.specs.Neighbours.{entry_or};
 ghost use Rattle.terrain.specs.declared.place.Place.{Place};
-ghost use Rattle.tiles.specs.Cutting.{IsCutting, IsWithinLimits, AreBounds, bounds_of};
+ghost use Rattle.tiles.specs.Cutting.{IsCutting, IsView, IsWithinLimits, AreBounds, bounds_of};
 ghost use Rattle.tiles.specs.Windows.{area_of, spot_index, IsSpot, IsInner, IsOff, Shows, AreShown, IsSeen, AreSeenBelow, IsHeld, entry_inside};
 
 use crate::bounds::Bounds;
@@ -57,7 +57,7 @@ impl<T: Copy + Drop> Window<T> {
         view: &TileView<'_, T>,
         none: T,
     ) -> Result<Window<T>, AllocError>
-        ensures lawful { IfOk result (λ _. IsCutting view.now.cutting) }
+        ensures lawful { IfOk result (λ _. IsView view.now) }
         ensures bounds { IfOk result
             (λ w. w.bounds ≡ bounds_of view.now.cutting view.now.tile) }
         ensures shown { IfOk result (λ w. AreShown
@@ -77,7 +77,7 @@ impl<T: Copy + Drop> Window<T> {
         view: &TileView<'_, T>,
         none: T,
     ) -> Result<Window<T>, AllocError>
-        ensures lawful { IfOk result (λ _. IsCutting view.now.cutting) }
+        ensures lawful { IfOk result (λ _. IsView view.now) }
         ensures bounds { IfOk result
             (λ w. w.bounds ≡ bounds_of view.now.cutting view.now.tile) }
         ensures shown { IfOk result (λ w. AreShown
@@ -216,7 +216,7 @@ fn load<T: Copy + Drop>(
     seen: Bounds,
 ) -> Result<Window<T>, AllocError>
     requires { IsHeld view.now.cutting (bounds_of view.now.cutting view.now.tile) seen }
-    ensures lawful { IfOk result (λ _. IsCutting view.now.cutting) }
+    ensures lawful { IfOk result (λ _. IsView view.now) }
     ensures bounds { IfOk result (λ w. w.bounds ≡ bounds_of view.now.cutting view.now.tile) }
     ensures shown { IfOk result (λ w. AreShown
         (entry_inside seen view.now.cutting.cols view.now.cells none) none w.bounds

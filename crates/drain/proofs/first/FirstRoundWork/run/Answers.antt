@@ -11,7 +11,7 @@ begun_counts-requires c =
     let cut = c.args.self.now.tiling.now in
     let b = c.in_ok-window.window.bounds in
     let lawful = subst (λ (z : View (Option ℤ)).
-    IsCutting z.cutting) c.view-levels.ensures c.in_ok-window.ensures.lawful in
+    IsCutting z.cutting) c.view-levels.ensures c.in_ok-window.ensures.lawful.cutting in
     let bounds = c.in_ok-window.ensures.bounds
     ∙ ap (λ (z : View (Option ℤ)). bounds_of z.cutting z.tile) c.view-levels.ensures in
     record {
@@ -37,6 +37,6 @@ returns-clause-given c = λ begun first.
     c.in_ok-begun.begun.items round.0 c.in_ok-list.list.items begun
     (c.view-levels.ensures ∙ ap (λ (xs : List (Option ℤ)).
     record { cutting = cut; tile = c.args.job; cells = xs }) c.cells.ensures.value)
-    c.args.self.now.cuts c.in_ok-window.ensures.lawful c.in_ok-window.ensures.bounds
+    c.args.self.now.cuts c.in_ok-window.ensures.lawful.cutting c.in_ok-window.ensures.bounds
     (rw c.no_data.ensures at c.in_ok-window.ensures.shown) c.in_ok-begun.ensures first finished
     round.2
