@@ -1,6 +1,6 @@
 -- The window of a tile that has the tile's cells alone, as one list, has each cell at its node. So
 -- the window's values are the cells of the tile's net.
-use Rattle.std.proofs.Common.{◌≡◌, ℕ, ◌+◌, ◌-◌, ◌*◌, ◌/◌, ◌%◌, ◌<◌, ◌≤◌, inl, inr, ℤ, Bool, List, length, get_or, Option, None, Some, IsSome, ◌∙◌, sym, ap, refl, subst, arith}
+use Rattle.std.proofs.Common.{◌≡◌, ℕ, ◌+◌, ◌-◌, ◌*◌, ◌/◌, ◌%◌, ◌<◌, ◌≤◌, inl, inr, ℤ, Bool, List, length, get_or, Option, None, IsSome, ◌∙◌, sym, ap, refl, subst, arith}
 use Rattle.std.proofs.lemmas.Bool.{cases_lt, cases_eq, cases_Bool, cond-true, cond-false}
 use Rattle.std.proofs.lemmas.List.{get_or_past}
 use Rattle.std.proofs.lemmas.Nat.{mul-add-lt, mul-le, div_below, mod_below, div-add-mod'}
@@ -65,9 +65,12 @@ only_inside b cols cells items size shown a some =
               | inl inside ↦
                   let held = in_bounds_parts b p inside in
                   let r : p.row - b.top + 1 ≡ a / width = omega (arith, held.0) in
-                  let c : p.col - b.left + 1 ≡ a % width = omega (arith, held.2) in
-                  (p, held, ap (λ n. n * width + (p.col - b.left + 1)) r
-                  ∙ ap (λ n. a / width * width + n) c ∙ at)
+                  let c : p.col - b.left + 1 ≡ a % width = omega (arith, held.2) in (
+                    p,
+                    held,
+                    ap (λ n. n * width + (p.col - b.left + 1)) r
+                        ∙ ap (λ n. a / width * width + n) c ∙ at,
+                  )
             ]
       ]
     ]
@@ -84,8 +87,10 @@ net_of_window v b items places sinks is same size shown has =
       stride = refl;
       inside = λ p h.
           let s = make_place (p.row - b.top + 1) (p.col - b.left + 1) in
-          let rows : b.rows ≡ (bounds_of v.cutting v.tile).rows = ap (λ (z : Bounds). z.rows) same in
-          let cols : b.cols ≡ (bounds_of v.cutting v.tile).cols = ap (λ (z : Bounds). z.cols) same in
+          let rows : b.rows ≡ (bounds_of v.cutting v.tile).rows =
+          ap (λ (z : Bounds). z.rows) same in
+          let cols : b.cols ≡ (bounds_of v.cutting v.tile).cols =
+          ap (λ (z : Bounds). z.cols) same in
           let top : b.top ≡ (bounds_of v.cutting v.tile).top = ap (λ (z : Bounds). z.top) same in
           let left : b.left ≡ (bounds_of v.cutting v.tile).left =
           ap (λ (z : Bounds). z.left) same in

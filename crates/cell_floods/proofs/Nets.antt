@@ -1,6 +1,6 @@
 -- Rows inside the border of a list lie in the list. The levels that a flood finds for a whole grid
 -- are its filled heights. The bordered rows of a tile are the cells of its net.
-use Rattle.std.proofs.Common.{◌⊎◌, ◌≡◌, ℕ, zero, suc, ◌+◌, ◌-◌, ◌*◌, ◌<◌, ◌≤◌, inl, inr, ℤ, Bool, List, [], ◌∷◌, length, map, ◌++◌, refl, get_or, take, drop, Option, None, is_some, ◌∙◌, sym, ap, arith, length-append, length-drop, length-take-le, subst}
+use Rattle.std.proofs.Common.{◌⊎◌, ◌≡◌, ℕ, zero, suc, ◌+◌, ◌-◌, ◌*◌, ◌<◌, ◌≤◌, inl, inr, ℤ, List, [], ◌∷◌, length, map, ◌++◌, refl, get_or, take, drop, Option, None, is_some, ◌∙◌, sym, ap, arith, length-append, length-drop, length-take-le}
 use Rattle.std.proofs.Math.Nat.{add-sub_cancel_left}
 use Rattle.std.proofs.lemmas.Bool.{cases_eq}
 use Rattle.std.proofs.lemmas.Nat.{mul-add-lt, mul-le}
@@ -9,17 +9,15 @@ use Rattle.std.proofs.lemmas.Slice.{between_is}
 use Rattle.std.specs.Prelude.{slice_range}
 use Rattle.terrain.proofs.Options.{match_of}
 use Rattle.terrain.specs.Raster.{Terrain}
-use Rattle.terrain.specs.Sinks.{with_sinks}
 use Rattle.terrain.specs.Neighbours.{height_at, entry_at, IsDataCell, IsEnd}
 use Rattle.drainage.specs.Filled.{IsPath, IsFilledHeight, IsFilled}
 use Rattle.terrain.specs.declared.place.Place.{Place}
 use Rattle.terrain.proofs.Places.{gap_at_end, none_outside, entry-inside}
 use Rattle.drainage.proofs.Reach.{data_inside}
-use Rattle.tiles.specs.Cutting.{IsInBounds, View, IsView, bounds_of, row_shown, terrain_of}
+use Rattle.tiles.specs.Cutting.{IsInBounds}
 use Rattle.floods.specs.Walk.{IsFlooded}
-use Rattle.cell_floods.specs.Cells.{Cells, node_at, IsNetOf, HasSinks, IsCellJoin, source_of, whole, inner_rows}
+use Rattle.cell_floods.specs.Cells.{Cells, node_at, IsNetOf, IsCellJoin, source_of, whole, inner_rows}
 use Rattle.cell_floods.proofs.Windows.{IsOnRim, IsWindowSource, IsWindowPath, IsWindowLevel, end_is_source, window_level, window_none}
-use Rattle.tiles.specs.declared.bounds.Bounds.{Bounds}
 
 -- A row inside the border lies in the list, which has at most 4098 by 4098 entries.
 pub inner_row_ends : (rows cols row len : ℕ) → len ≡ (rows + 2) * (cols + 2) → cols ≤ 4096 →

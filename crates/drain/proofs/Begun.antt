@@ -256,7 +256,8 @@ some_begun t =
 pub begun_round : (t : Terrain) (v : View (Option ℤ)) (c : Cutting) (tile : ℕ) (b : Bounds)
     (levels : List (Option ℤ)) (old new : List ℕ) (list begun : List (Option ℕ)) →
     v ≡ record { cutting = c; tile = tile; cells = t.cells } → Cuts c t → IsCutting v.cutting →
-    b ≡ bounds_of v.cutting v.tile → AreShown (entry_or v.cutting.cols v.cutting.rows v.cells None) None b levels →
+    b ≡ bounds_of v.cutting v.tile →
+    AreShown (entry_or v.cutting.cols v.cutting.rows v.cells None) None b levels →
     AreBegunSpots (DrainsAtOnce t) b old → AreInitialCounts t begun → IsSearched b levels old new →
     IsMadeUpTo b (IsCopied b new) (b.rows * b.cols) list →
     IsRound (HasCountZero (sinkless_terrain c t.cells) begun)
@@ -266,7 +267,8 @@ begun_round t v c tile b levels old new list begun e cuts lawful bounds shown ar
     let w : View (Option ℤ) = record { cutting = c; tile = tile; cells = t.cells } in
     let here =
     subst (λ (z : View (Option ℤ)). IsCutting z.cutting × (b ≡ bounds_of z.cutting z.tile)
-    × AreShown (entry_or z.cutting.cols z.cutting.rows z.cells None) None b levels) e (lawful, bounds, shown) in
+    × AreShown (entry_or z.cutting.cols z.cutting.rows z.cells None) None b levels) e
+    (lawful, bounds, shown) in
     let input =
     subst (λ (n : ℕ). AreWindowCounts n c.rows begun b old) (sym cuts.0) (subst (λ (n : ℕ).
     AreWindowCounts t.cols n begun b old) (sym cuts.1) (begun_window t b old begun are first)) in

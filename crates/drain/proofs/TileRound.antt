@@ -95,8 +95,8 @@ walked_on t steps p q m n next level walk is less =
     (less, p ∷ walk.1, (next, level, walk.2), omega (arith, walk.3, is))
 
 sound_moved : (t : Terrain) (steps : List (Option ℕ)) (b : Bounds) (levels : List (Option ℤ))
-    (some : List ℕ) (s r : Place) (n : ℕ) → AreShown (entry_or t.cols t.rows t.cells None) None b levels →
-    IsSound t steps b some →
+    (some : List ℕ) (s r : Place) (n : ℕ) →
+    AreShown (entry_or t.cols t.rows t.cells None) None b levels → IsSound t steps b some →
     IsSpot b s → IsSpot b r → Touches s r → s ≢ r → level_on b levels s ≡ level_on b levels r →
     n ≡ count_on b some s + 1 → n < no_count → (q : Place) × Shows b r q
     × IsWalked (HasCountZero t steps) t q n
@@ -146,7 +146,8 @@ sound_set t steps b counts r n size spot sound moved_to = λ s inside less. elim
 ]
 
 sound_after : (t : Terrain) (steps : List (Option ℕ)) (b : Bounds) (levels : List (Option ℤ))
-    (old new : List ℕ) → AreShown (entry_or t.cols t.rows t.cells None) None b levels → length old ≡ area_of b →
+    (old new : List ℕ) →
+    AreShown (entry_or t.cols t.rows t.cells None) None b levels → length old ≡ area_of b →
     AreCounts old → IsSound t steps b old → IsSpread b levels old new → IsSound t steps b new
 sound_after t steps b levels old new on size small sound same = sound
 sound_after t steps b levels old new on size small sound
@@ -210,8 +211,8 @@ known-if n P h = elim (cases_lt n no_count) [
 ]
 
 count_small : (t : Terrain) (b : Bounds) (s : Place) (steps : List (Option ℕ)) (o : Option ℕ) →
-    IsShown (entry_or t.cols t.rows steps None) None b s o → AreWalked (HasCountZero t steps) t steps →
-    unwrap_or o no_count ≤ no_count
+    IsShown (entry_or t.cols t.rows steps None) None b s o →
+    AreWalked (HasCountZero t steps) t steps → unwrap_or o no_count ≤ no_count
 count_small t b s steps None on walks = omega arith
 count_small t b s steps (Some n) on walks =
     let place = is_on t.cols t.rows steps b s (Some n) n on refl in
@@ -237,7 +238,8 @@ counts_small t b steps shown size seen walks k = elim (cases_lt k (area_of b)) [
 module _ (t : Terrain) (c : Cutting) (tile : ℕ) (b : Bounds) (steps shown : List (Option ℕ))
     (levels : List (Option ℤ)) (new : List ℕ) (list : List (Option ℕ))
     (cutting : IsCutting c) (bounds : b ≡ bounds_of c tile)
-    (on : AreShown (entry_or t.cols t.rows t.cells None) None b levels) (size : length shown ≡ area_of b)
+    (on : AreShown (entry_or t.cols t.rows t.cells None) None b levels)
+    (size : length shown ≡ area_of b)
     (seen : AreShown (entry_or t.cols t.rows steps None) None b shown) (walks :
     AreWalked (HasCountZero t steps) t steps) (finished : IsSearched b levels
     (known_counts shown) new)
@@ -362,7 +364,8 @@ input_small t b steps old input walks = subst (λ (xs : List ℕ). AreCounts xs)
 pub round_from : (v : View (Option ℤ)) (w : View (Option ℕ)) (b : Bounds) (levels : List (Option ℤ))
     (old new : List ℕ) (list : List (Option ℕ)) →
     IsCutting v.cutting →
-    b ≡ bounds_of v.cutting v.tile → AreShown (entry_or v.cutting.cols v.cutting.rows v.cells None) None b levels →
+    b ≡ bounds_of v.cutting v.tile →
+    AreShown (entry_or v.cutting.cols v.cutting.rows v.cells None) None b levels →
     AreWindowCounts v.cutting.cols v.cutting.rows w.cells b old →
     AreWalked (HasCountZero (terrain_of v) w.cells) (terrain_of v) w.cells →
     IsSearched b levels old new → IsMadeUpTo b (IsCopied b new) (b.rows * b.cols) list →

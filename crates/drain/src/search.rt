@@ -50,7 +50,13 @@ fn lesser(window: &Window<Cell>, counts: &[u32], spot: Place, level: Cell, bound
 /// The spots looked at are `from` and the next two of the row of `from`.
 #[inline(always)]
 #[tactic(auto, using(crate::proofs::Least::least_of_none))]
-fn least_of_three(window: &Window<Cell>, counts: &[u32], from: Place, level: Cell, bound: u32) -> u32
+fn least_of_three(
+    window: &Window<Cell>,
+    counts: &[u32],
+    from: Place,
+    level: Cell,
+    bound: u32,
+) -> u32
     requires size { length counts.now ≡ area_of window.now.bounds }
     requires counts { AreCounts counts.now }
     requires from { (from.row < window.now.bounds.rows + 2)
@@ -168,7 +174,11 @@ fn spread(
 
 /// Spreads from each queued spot in order, also from spots queued meanwhile.
 #[tactic(auto, using(crate::proofs::Spreading::spread_none, crate::proofs::Spreading::spread_on, crate::proofs::Spreading::spread_counts, crate::proofs::Spreading::sum_spread, crate::proofs::Noted::even_end))]
-fn search(window: &Window<Cell>, counts: &mut [u32], mut reached: Vec<Place>) -> Result<(), AllocError>
+fn search(
+    window: &Window<Cell>,
+    counts: &mut [u32],
+    mut reached: Vec<Place>,
+) -> Result<(), AllocError>
     requires size { length counts.old ≡ area_of window.now.bounds }
     requires counts { AreCounts counts.old }
     requires inner { All (IsInner window.now.bounds) reached.items }

@@ -1,14 +1,12 @@
 -- A view of a tile shows the tile's cells and the cells next to the tile. All of these have indices
 -- within the grid's list of cells.
-use Rattle.std.proofs.Common.{◌≡◌, ℕ, ◌+◌, ◌*◌, ◌<◌, ◌≤◌, ◌-◌, true, length, get_or, drop, ap, ◌∙◌, arith}
+use Rattle.std.proofs.Common.{◌≡◌, ℕ, ◌+◌, ◌*◌, ◌<◌, ◌≤◌, true, length, arith}
 use Rattle.std.proofs.lemmas.Bool.{and_parts, ltb-true}
-use Rattle.std.proofs.lemmas.List.{get_or-take, get_or-drop}
 use Rattle.std.proofs.lemmas.Nat.{row_fits, mul-add-lt}
 use Rattle.terrain.specs.declared.place.Place.{Place}
 use Rattle.terrain.specs.Neighbours.{index_of}
-use Rattle.terrain.proofs.Places.{make_place}
 use Rattle.tiles.specs.declared.bounds.Bounds.{Bounds}
-use Rattle.tiles.specs.Cutting.{Cutting, IsWithin, View, IsView, AreBounds, bounds_of, is_shown, row_shown}
+use Rattle.tiles.specs.Cutting.{Cutting, IsWithin, View, IsView, AreBounds, is_shown}
 
 -- each row of a tile ends within the grid's list of cells
 pub row_end : (t : Cutting) (b : Bounds) (i : ℕ) → AreBounds t b → i < b.rows →
@@ -33,15 +31,3 @@ shown_index v p h e =
     let w = shown_within v.cutting v.tile p e in
     let l = mul-add-lt p.row v.cutting.cols p.col v.cutting.rows w.0 w.1 in let s = h.size in
     omega (arith, l, s)
-
--- entry j of row i of a view is the grid's cell in row i and column j of the tile
-pub get_or-row_shown : {X : Type 0} (v : View X) (i j : ℕ) (d : X) →
-    j < (bounds_of v.cutting v.tile).cols →
-    get_or (row_shown v i) j d ≡ get_or v.cells (index_of v.cutting.cols
-    (make_place ((bounds_of v.cutting v.tile).top + i) ((bounds_of v.cutting v.tile).left + j))) d
-get_or-row_shown v i j d h =
-    let b = bounds_of v.cutting v.tile in
-    let from = (b.top + i) * v.cutting.cols + b.left in
-    let at : from + j ≡ (b.top + i) * v.cutting.cols + (b.left + j) = omega arith in
-    get_or-take (from + b.cols - from) (drop from v.cells) j d (omega (arith, h))
-    ∙ get_or-drop from v.cells j d ∙ ap (λ n. get_or v.cells n d) at

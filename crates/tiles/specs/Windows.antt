@@ -34,12 +34,13 @@ Shows b s p = (b.top + s.row ≡ p.row + 1) × (b.left + s.col ≡ p.col + 1)
 abbrev pub IsOff : Bounds → Place → Type 0
 IsOff b s = (b.top + s.row ≡ 0) ⊎ (b.left + s.col ≡ 0)
 
--- x is the value at spot s: `at p` for the place p that s shows, or `none` off the grid.
+-- x is the value at spot s: `at p` for the place p that s shows, `none` for a spot north or west of
+-- the grid.
 abbrev pub IsShown : {X : Type 0} → (Place → X) → X → Bounds → Place → X → Type 0
 IsShown at none b s x = ((p : Place) → Shows b s p → x ≡ at p) × (IsOff b s → x ≡ none)
 
 -- The list `shown` has for each spot, in row order, the value `at p` for the place p that it shows,
--- or `none` off the grid.
+-- `none` for a spot north or west of the grid.
 abbrev pub AreShown : {X : Type 0} → (Place → X) → X → Bounds → List X → Type 0
 AreShown at none b shown =
     (s : Place) → IsSpot b s → IsShown at none b s (slice_index_or shown (spot_index b s) none)

@@ -58,10 +58,10 @@ impl<'a, T> TileView<'a, T> {
     #[inline(always)]
     pub(crate) fn grid_bounds(&self) -> Bounds
         ensures value { result ≡ record {
-            top = 0;
-            left = 0;
-            rows = self.now.cutting.rows;
-            cols = self.now.cutting.cols;
+          top = 0;
+          left = 0;
+          rows = self.now.cutting.rows;
+          cols = self.now.cutting.cols;
         } }
         ensures lawful { IsView self.now }
     {

@@ -52,11 +52,7 @@ impl<T: Copy + Drop> Window<T> {
     /// # Errors
     ///
     /// [`AllocError`] if an allocation fails.
-    pub fn of_view(
-        alloc: Global,
-        view: &TileView<'_, T>,
-        none: T,
-    ) -> Result<Window<T>, AllocError>
+    pub fn of_view(alloc: Global, view: &TileView<'_, T>, none: T) -> Result<Window<T>, AllocError>
         ensures lawful { IfOk result (λ _. IsView view.now) }
         ensures bounds { IfOk result
             (λ w. w.bounds ≡ bounds_of view.now.cutting view.now.tile) }
@@ -72,11 +68,7 @@ impl<T: Copy + Drop> Window<T> {
     /// # Errors
     ///
     /// [`AllocError`] if an allocation fails.
-    pub fn of_tile(
-        alloc: Global,
-        view: &TileView<'_, T>,
-        none: T,
-    ) -> Result<Window<T>, AllocError>
+    pub fn of_tile(alloc: Global, view: &TileView<'_, T>, none: T) -> Result<Window<T>, AllocError>
         ensures lawful { IfOk result (λ _. IsView view.now) }
         ensures bounds { IfOk result
             (λ w. w.bounds ≡ bounds_of view.now.cutting view.now.tile) }
@@ -169,8 +161,7 @@ fn load_row_beside<T: Copy + Drop>(
     requires lawful { IsCutting view.now.cutting }
     requires seen { IsHeld view.now.cutting bounds seen }
     requires row { row < bounds.rows + 2 }
-    requires list {
-        AreSeenBelow view.now seen none bounds (row * (bounds.cols + 2)) list.old.items }
+    requires old { AreSeenBelow view.now seen none bounds (row * (bounds.cols + 2)) list.old.items }
     ensures { OnOk result
         (AreSeenBelow view.now seen none bounds ((row + 1) * (bounds.cols + 2)) list.new.items) }
 {
@@ -194,8 +185,7 @@ fn load_row_across<T: Copy + Drop>(
     requires lawful { IsCutting view.now.cutting }
     requires seen { IsHeld view.now.cutting bounds seen }
     requires row { (1 ≤ row) × (row ≤ bounds.rows) }
-    requires list {
-        AreSeenBelow view.now seen none bounds (row * (bounds.cols + 2)) list.old.items }
+    requires old { AreSeenBelow view.now seen none bounds (row * (bounds.cols + 2)) list.old.items }
     ensures { OnOk result
         (AreSeenBelow view.now seen none bounds ((row + 1) * (bounds.cols + 2)) list.new.items) }
 {

@@ -55,8 +55,9 @@ returns g c =
     let round = c.in_ok-counts.ensures in
     let finished = subst (λ (xs : List ℕ).
     IsSearched b window.values.items xs round.0) c.deref.ensures.value round.1 in
-    let made = round_from v w b window.values.items old round.0 list c.in_ok-window.ensures.lawful.cutting
-    c.in_ok-window.ensures.bounds (rw c.no_data.ensures at c.in_ok-window.ensures.shown) input
+    let made = round_from v w b window.values.items old round.0 list
+    c.in_ok-window.ensures.lawful.cutting c.in_ok-window.ensures.bounds
+    (rw c.no_data.ensures at c.in_ok-window.ensures.shown) input
     (walks t v w.cells c.requires.0 c.requires.1.1.1.0 c.requires.1.1.1.1) finished round.2 in
     subst (λ (xs : List (Option ℕ)). IsRound (DrainsAtOnce t) t v.cutting v.tile w.cells xs)
     (sym (c.in_ok-step_numbers.ensures ∙ each_is c.deref-2.result.now ∙ c.deref-2.ensures.value))

@@ -2,8 +2,8 @@ use Rattle.std.proofs.Common.{◌≡◌, ◌+◌, ◌*◌, arith}
 use Rattle.tiles.proofs.Spots.{seen_whole}
 use Rattle.tiles.proofs.window.load.Goals as goal
 
-pub load_row_beside-requires-2-clause-list : goal.load_row_beside-requires-2-clause-list
-load_row_beside-requires-2-clause-list g c =
+pub load_row_beside-requires-2-clause-old : goal.load_row_beside-requires-2-clause-old
+load_row_beside-requires-2-clause-old g c =
     let end : c.loop-row.row ≡ c.bounds-bounds.result.rows + 1 = omega arith in
     rw end at c.loop-row.invariant
 

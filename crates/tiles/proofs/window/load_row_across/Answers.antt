@@ -18,7 +18,7 @@ returns g c =
     let entries = c.row.result.now in
     let start : spot_index b first ≡ row * (b.cols + 2) = omega arith in
     let before = subst (λ (n : ℕ). AreSeenBelow {X = g.row.T.Denot} v seen none b n old)
-    (sym start) c.requires.list in
+    (sym start) c.requires.old in
     let one = seen_push v seen none b first old c.spot_value-first.result
     (omega (arith, c.requires.row), omega arith) before c.spot_value-first.ensures in
     let next : spot_index b first + 1 ≡ row * (b.cols + 2) + 1 = omega arith in

@@ -22,7 +22,7 @@ pub loop-col-init : goal.loop-col-init
 loop-col-init g c =
     let width = c.args.bounds.cols + 2 in
     let start : c.args.row * width ≡ c.args.row * width + 0 = omega arith in
-    rw start at c.requires.list
+    rw start at c.requires.old
 
 pub returns : goal.returns
 returns g c =

@@ -11,4 +11,5 @@ returns-in-Some g c =
     (λ p. Shows c.args.bounds c.args.spot p)) c.in-Some.is c.place_shown.ensures in
     seen_at c.args.view.now c.args.none c.args.seen c.args.bounds c.args.spot c.in-Some.place
     c.copied.result c.unwrap_or.result c.requires.bounds c.requires.seen c.requires.spot shows
-    (sym c.contains.ensures ∙ c.if-contains.true) (c.copied.ensures ∙ c.at.ensures) c.unwrap_or.ensures
+    (sym c.contains.ensures ∙ c.if-contains.true) (c.copied.ensures ∙ c.at.ensures)
+    c.unwrap_or.ensures

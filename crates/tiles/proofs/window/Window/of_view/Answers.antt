@@ -1,4 +1,4 @@
-use Rattle.tiles.proofs.Spots.{held_by_grid, seen_grid}
+use Rattle.tiles.proofs.Spots.{held_by_grid}
 use Rattle.tiles.proofs.window.Window.of_view.Goals as goal
 
 pub load-requires : goal.load-requires
