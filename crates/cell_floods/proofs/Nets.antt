@@ -17,7 +17,7 @@ use Rattle.drainage.proofs.Reach.{data_inside}
 use Rattle.tiles.specs.Cutting.{IsInBounds}
 use Rattle.floods.specs.Walk.{IsFlooded}
 use Rattle.cell_floods.specs.Cells.{Cells, node_at, IsNetOf, IsCellJoin, source_of, whole, inner_rows}
-use Rattle.cell_floods.proofs.Windows.{IsOnRim, IsWindowSource, IsWindowPath, IsWindowLevel, end_is_source, window_level, window_none}
+use Rattle.cell_floods.proofs.Rectangles.{IsOnRim, IsRectangleSource, IsRectanglePath, IsRectangleLevel, end_is_source, rectangle_level, rectangle_none}
 
 -- A row inside the border lies in the list, which has at most 4098 by 4098 entries.
 pub inner_row_ends : (rows cols row len : ℕ) → len ≡ (rows + 2) * (cols + 2) → cols ≤ 4096 →
@@ -82,8 +82,8 @@ inner_rows_at list cols (suc count) h r c below inside =
       move : (k c s : ℕ) → (k + 1) * s + 1 + c ≡ (k + 1) * s + (c + 1)
       move k c s = omega arith
 
-source_is_end : (t : Terrain) (p : Place) → IsInBounds (whole t) p → IsWindowSource t (whole t) p →
-    IsEnd t p
+source_is_end : (t : Terrain) (p : Place) → IsInBounds (whole t) p →
+    IsRectangleSource t (whole t) p → IsEnd t p
 source_is_end t p inside (inr sink) = inr sink
 source_is_end t p inside (inl source) = inl (
   source.0,
@@ -95,23 +95,23 @@ source_is_end t p inside (inl source) = inl (
   at (inr (inr (inl e))) = inr (inr (inl e))
   at (inr (inr (inr e))) = inr (inr (inr (omega arith)))
 
-data_in_window : (t : Terrain) (p : Place) → IsDataCell t p → IsInBounds (whole t) p
-data_in_window t p some = let inside = data_inside t p some in
+data_in_rectangle : (t : Terrain) (p : Place) → IsDataCell t p → IsInBounds (whole t) p
+data_in_rectangle t p some = let inside = data_inside t p some in
     (omega arith, omega (arith, inside), omega arith, omega (arith, inside))
 
 whole_path : (t : Terrain) (p : Place) (rest : List Place) → IsPath t p rest →
-    IsWindowPath t (whole t) p rest
+    IsRectanglePath t (whole t) p rest
 whole_path t p [] path = end_is_source t (whole t) p path
 whole_path t p (q ∷ rest) path =
-    (path.0, data_in_window t q path.0.to_data, whole_path t q rest path.1)
+    (path.0, data_in_rectangle t q path.0.to_data, whole_path t q rest path.1)
 
 back_path : (t : Terrain) (p : Place) (rest : List Place) → IsInBounds (whole t) p →
-    IsWindowPath t (whole t) p rest → IsPath t p rest
+    IsRectanglePath t (whole t) p rest → IsPath t p rest
 back_path t p [] inside path = source_is_end t p inside path
 back_path t p (q ∷ rest) inside path = (path.0, back_path t q rest path.1 path.2)
 
 whole_level : (t : Terrain) (p label : Place) (level : ℤ) → IsInBounds (whole t) p →
-    IsWindowLevel t (whole t) p level label → IsFilledHeight t p level
+    IsRectangleLevel t (whole t) p level label → IsFilledHeight t p level
 whole_level t p label level inside l = record {
   reached = (l.reached.0, back_path t p l.reached.0 inside l.reached.1, l.reached.2);
   least = λ rest path. l.least rest (whole_path t p rest path);
@@ -127,7 +127,7 @@ whole_filled t n levels labels net flooded =
     record {
       size = length-inner_rows levels t.cols t.rows long ∙ omega arith;
       each = λ p inside.
-          let in_window : IsInBounds (whole t) p =
+          let in_rectangle : IsInBounds (whole t) p =
           (omega arith, omega (arith, inside), omega arith, omega (arith, inside)) in
           let entry : entry_at t.cols t.rows (inner_rows levels t.cols t.rows) p
           ≡ get_or levels (node_at (whole t) p) None =
@@ -136,7 +136,7 @@ whole_filled t n levels labels net flooded =
           ∙ ap (λ k. get_or levels k None) (shift p.row p.col (t.cols + 2)) in
           match_of (height_at t p) _ _
           (λ none. entry
-          ∙ (window_none t (whole t) n levels labels net flooded p in_window none (omega (
+          ∙ (rectangle_none t (whole t) n levels labels net flooded p in_rectangle none (omega (
             arith,
             net.size,
             mul-add-lt (p.row + 1) (t.cols + 2) (p.col + 1) (t.rows + 2) (omega (arith, inside))
@@ -145,8 +145,9 @@ whole_filled t n levels labels net flooded =
           ))).0)
           (λ z some.
           let l =
-          window_level t (whole t) n levels labels net flooded p in_window (ap is_some some) in
-          (l.level, entry ∙ l.level_is, whole_level t p l.label l.level in_window l.right));
+          rectangle_level t (whole t) n levels labels net flooded p in_rectangle
+          (ap is_some some) in
+          (l.level, entry ∙ l.level_is, whole_level t p l.label l.level in_rectangle l.right));
     } where
       shift : (r c s : ℕ) → (r + 1) * s + (c + 1) ≡ (r - 0 + 1) * s + (c - 0 + 1)
       shift r c s = ap (λ n. (n + 1) * s + (c + 1)) (minus r)

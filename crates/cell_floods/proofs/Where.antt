@@ -14,7 +14,7 @@ use Rattle.terrain.proofs.Options.{cases_option, none_some}
 use Rattle.cell_floods.proofs.Nets.{length-inner_rows}
 use Rattle.cell_floods.specs.Labels.{IsTable, LabelTable, labels_by, label_of_node}
 use Rattle.cell_floods.specs.TileFlood.{Flood, IsTileLevel, IsTilePath, flood_of, levels_where}
-use Rattle.cell_floods.proofs.TileWindows.{AreTileLevels, data_within}
+use Rattle.cell_floods.proofs.TileRectangles.{AreTileLevels, data_within}
 use Rattle.drainage.proofs.Heights.{first_is_data}
 use Rattle.std.specs.List.{All}
 use Rattle.std.specs.Prelude.{IfSome}

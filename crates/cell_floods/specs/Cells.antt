@@ -1,4 +1,4 @@
--- A window, a rectangle of a terrain's cells, as a net: neighbouring data cells are joined.
+-- A rectangle of a terrain's cells as a net: neighbouring data cells are joined.
 -- Public.
 use Rattle.std.specs.Prelude.{◌≡◌, ◌≢◌, ◌≤ℤ◌, ℕ, zero, suc, ◌+◌, ◌-◌, ◌*◌, ◌/◌, ◌%◌, ◌<◌, ◌≤◌, ◌⊎◌, ◌↔◌, ◌||◌, ℤ, Bool, true, false, List, [], ◌∷◌, ◌++◌, length, Option, None, Some, IsSome, is_none, if◌then◌else◌, slice_index_or, slice_range}
 use Rattle.std.specs.List.{list_any, Contains}
@@ -76,16 +76,16 @@ arc_to cells height b = elim (slice_index_or cells b None) [
   | Some other ↦ Some (record { to = b; height = int_max other height })
 ]
 
--- The node of a place of the window.
+-- The node of a place of the rectangle.
 abbrev pub node_at : Bounds → Place → ℕ
 node_at w p = (p.row - w.top + 1) * (w.cols + 2) + (p.col - w.left + 1)
 
--- By the list `sinks`, a node of the window is a sink exactly if its place is one of `places`.
+-- By the list `sinks`, a place's node is a sink exactly if the place is one of `places`.
 abbrev pub HasSinks : Bounds → List Place → List Bool → Type 0
 HasSinks w places sinks =
     (p : Place) → IsInBounds w p → (is_sink sinks (node_at w p) ≡ true) ↔ Contains places p
 
--- The net has the cells and the sinks of this window of the terrain.
+-- The net has the cells and the sinks of this rectangle of the terrain.
 pub record IsNetOf (t : Terrain) (w : Bounds) (n : Cells) : Type 0 where
   pub stride : n.stride ≡ w.cols + 2
   pub inside : (p : Place) → IsInBounds w p → cell_at n (node_at w p) ≡ height_at t p
@@ -93,7 +93,7 @@ pub record IsNetOf (t : Terrain) (w : Bounds) (n : Cells) : Type 0 where
   pub size : length n.cells ≡ (w.rows + 2) * (w.cols + 2)
   pub sinks : HasSinks w t.sinks n.sinks
 
--- The window that is the whole terrain.
+-- The rectangle that is the whole terrain.
 abbrev pub whole : Terrain → Bounds
 whole t = record { top = 0; left = 0; rows = t.rows; cols = t.cols }
 
@@ -104,7 +104,7 @@ inner_rows list cols (suc count) =
     inner_rows list cols count
     ++ slice_range list ((count + 1) * (cols + 2) + 1) ((count + 1) * (cols + 2) + 1 + cols)
 
--- The place of a node of a window with this first row, first column and width.
+-- The place of a node of a rectangle with this first row, first column and width.
 abbrev pub place_of_node : ℕ → ℕ → ℕ → ℕ → Place
 place_of_node top left cols node =
     record { row = top + node / (cols + 2) - 1; col = left + node % (cols + 2) - 1 }

@@ -12,7 +12,7 @@ ghost use Rattle.terrain.specs.Sinks.{with_sinks};
 ghost use Rattle.cell_floods.specs.Cells.{Cells, cells_around, arc_to, whole, IsNetOf, IsCellJoin, IsPassed, source_of, HaveData, inner_rows};
 ghost use Rattle.tiles.specs.Cutting.{bounds_of, terrain_of};
 
-use crate::sinks::{is_sink, window_sinks};
+use crate::sinks::{is_sink, rectangle_sinks};
 use floods::{Candidate, HeightList, Net, NodeLabels, Queue, Spill, queue_neighbour};
 use smallvec::SmallVec;
 use std::alloc::{AllocError, Global};
@@ -388,7 +388,7 @@ impl CellNet {
             (bounds_of view.now.cutting view.now.tile)) }
     {
         let Window { bounds, values } = Window::of_tile(alloc, view, Cell::no_data())?;
-        let sinks = window_sinks(alloc, bounds, sinks)?;
+        let sinks = rectangle_sinks(alloc, bounds, sinks)?;
         Ok(CellNet {
             stride: bounds.cols + 2,
             cells: values,

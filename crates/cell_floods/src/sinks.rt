@@ -1,4 +1,4 @@
-//! Lists, for each node of a rectangle's net, whether it is a sink: [`window_sinks`].
+//! Lists, for each node of a rectangle's net, whether it is a sink: [`rectangle_sinks`].
 //!
 //! The nodes are the rectangle's cells and a border of cells around them.
 ghost use Rattle.std.specs.Prelude.{◌≡◌, ◌<◌, ◌+◌, ◌*◌, false, IfOk};
@@ -10,7 +10,7 @@ use std::alloc::{AllocError, Global};
 use terrain::Place;
 use tiles::Bounds;
 
-/// Returns whether a node is a sink, by the list of [`window_sinks`].
+/// Returns whether a node is a sink, by the list of [`rectangle_sinks`].
 #[inline(always)]
 pub(crate) fn is_sink(sinks: &[bool], node: u32) -> bool
     ensures { result ≡ is_sink sinks.now node }
@@ -39,7 +39,7 @@ pub(crate) fn node_in(bounds: Bounds, place: Place) -> usize
 
 /// Returns for each node whether its place is in `bounds` and one of `places`.
 /// The nodes are the cells of the bounds and their border. The list is empty if none is a sink.
-pub(crate) fn window_sinks(
+pub(crate) fn rectangle_sinks(
     alloc: Global,
     bounds: Bounds,
     places: &[Place],

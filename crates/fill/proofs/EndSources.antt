@@ -14,8 +14,8 @@ use Rattle.tiles.specs.Cutting.{Cutting, IsWithin, tile_of_place}
 use Rattle.tiles.proofs.Cut.{tile_of_place_below}
 use Rattle.cell_floods.specs.Labels.{labels_by}
 use Rattle.cell_floods.specs.TileFlood.{Flood, IsFlood, AreEndHeights, label_in}
-use Rattle.cell_floods.proofs.TileWindows.{data_within}
-use Rattle.cell_floods.proofs.Windows.{data_is}
+use Rattle.cell_floods.proofs.TileRectangles.{data_within}
+use Rattle.cell_floods.proofs.Rectangles.{data_is}
 use Rattle.fill.specs.Ends.{IsEndAt, PutsEnds, put_end}
 use Rattle.fill.specs.SpillGraph.{AreFloods, AreGraphSources, AreSourcesOf}
 use Rattle.fill.proofs.LabelNets.{has_tile_level, end_label, list_there, among_is}

@@ -15,7 +15,7 @@ use Rattle.tiles.proofs.Cut.{tile_of_place_below, bounds_inside}
 use Rattle.tiles.specs.declared.bounds.Bounds.{Bounds}
 use Rattle.cell_floods.specs.TileFlood.{Flood, IsTileFlood, label_in}
 use Rattle.terrain.proofs.Orders.{max_comm, trans}
-use Rattle.cell_floods.proofs.TileWindows.{bounds_limits, data_within}
+use Rattle.cell_floods.proofs.TileRectangles.{bounds_limits, data_within}
 use Rattle.cell_floods.proofs.Where.{labels_inside}
 use Rattle.floods.proofs.Heaps.{all_by_contains}
 use Rattle.floods.specs.declared.net.Spill.{Spill}

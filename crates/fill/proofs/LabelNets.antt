@@ -23,8 +23,8 @@ use Rattle.cell_floods.specs.Cells.{last_of}
 use Rattle.fill.specs.SpillGraph.{AreFloods, level_among, label_among}
 use Rattle.terrain.proofs.Options.{cases_option, none_some}
 use Rattle.terrain.proofs.Heights.{height_is}
-use Rattle.cell_floods.proofs.Windows.{data_is, path_in_window}
-use Rattle.cell_floods.proofs.TileWindows.{data_within, tile_path}
+use Rattle.cell_floods.proofs.Rectangles.{data_is, path_in_rectangle}
+use Rattle.cell_floods.proofs.TileRectangles.{data_within, tile_path}
 
 -- The level and the label of a cell in the flood of its tile.
 pub record HasTileLevel (t : Terrain) (c : Cutting) (floods : List Flood) (p : Place) : Type 0 where
@@ -141,7 +141,7 @@ level_low t c floods h are p l rest path =
     let within = data_within t c p are.cuts (first_is_data t p rest path) in
     let tile = tile_of_place c p in
     let inner =
-    path_in_window t (bounds_of c tile) p rest (in_bounds c tile p h (within, refl)) path in
+    path_in_rectangle t (bounds_of c tile) p rest (in_bounds c tile p h (within, refl)) path in
     trans _ _ _ (l.right.least inner.0 (tile_path t c tile h
     (tile_of_place_below c p h within) p inner.0 (within, refl) inner.1)) inner.2
 

@@ -17,7 +17,7 @@ use Rattle.tiles.proofs.TileOrder.{entry_in-inside, bounds_from_entry}
 use Rattle.tiles.proofs.Cut.{in_bounds_from, tile_of_place_below}
 use Rattle.cell_floods.specs.Labels.{labels_by}
 use Rattle.cell_floods.specs.TileFlood.{Flood, IsFlood, level_in, label_in}
-use Rattle.cell_floods.proofs.TileWindows.{data_within}
+use Rattle.cell_floods.proofs.TileRectangles.{data_within}
 use Rattle.fill.specs.Gathering.{Fit, IsBypassed, cell_label_among}
 use Rattle.std.specs.Int.{int_max}
 use Rattle.tiles.specs.declared.bounds.Bounds.{Bounds}

@@ -36,7 +36,7 @@ use Rattle.fill.specs.Gathering.{Fit, cell_label_among, cell_label_of, cell_labe
 use Rattle.cell_floods.specs.Labels.{labels_by, IsTable}
 use Rattle.cell_floods.proofs.Where.{levels_where-length, levels_where-at}
 use Rattle.fill.proofs.Gathered.{labels_within}
-use Rattle.cell_floods.proofs.TileWindows.{data_within}
+use Rattle.cell_floods.proofs.TileRectangles.{data_within}
 use Rattle.terrain.proofs.Options.{cases_option, match_of, none_some}
 use Rattle.fill.proofs.LabelNets.{HasTileLevel, IsLabelNet, has_tile_level, among_is, filled_height_is, list_there}
 use Rattle.std.specs.List.{Contains, All}

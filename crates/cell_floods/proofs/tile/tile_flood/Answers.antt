@@ -8,7 +8,7 @@ use Rattle.cell_floods.specs.Labels.{labels_by}
 use Rattle.cell_floods.specs.TileFlood.{levels_where}
 use Rattle.floods.specs.Notes.{label_of, height_or_lack, numbered_labels}
 use Rattle.cell_floods.proofs.Where.{levels_where_are, heights_whole, labels_inside, table_inside, all_inside}
-use Rattle.cell_floods.proofs.TileWindows.{AreTileLevels, tile_flood_is, inner_labels, inner_lists, bounds_limits}
+use Rattle.cell_floods.proofs.TileRectangles.{AreTileLevels, tile_flood_is, inner_labels, inner_lists, bounds_limits}
 use Rattle.std.proofs.lemmas.List.{length-map}
 use Rattle.cell_floods.proofs.tile.tile_flood.Goals as goal
 use Rattle.cell_floods.proofs.tile.tile_flood.Goals.{After-heights, After-deref, After-places}

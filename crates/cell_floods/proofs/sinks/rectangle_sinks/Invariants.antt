@@ -1,5 +1,5 @@
-use Rattle.cell_floods.proofs.Windows.{HasFirstSinks}
-use Rattle.cell_floods.proofs.sinks.window_sinks.Given as goal
+use Rattle.cell_floods.proofs.Rectangles.{HasFirstSinks}
+use Rattle.cell_floods.proofs.sinks.rectangle_sinks.Given as goal
 
 abbrev pub invariant-loop-place : goal.invariant-loop-place
 invariant-loop-place l = HasFirstSinks l.bounds l.places l.place-index l.sinks.items

@@ -16,7 +16,7 @@ use Rattle.cell_floods.specs.Cells.{Cells, node_at, IsNetOf, IsCellJoin, source_
 use Rattle.terrain.proofs.Options.{cases_option, match_of, none_some}
 use Rattle.cell_floods.proofs.Nets.{length-inner_rows, inner_rows-map, inner_rows_at}
 use Rattle.floods.specs.Notes.{height_or_lack, label_of, numbered_labels}
-use Rattle.cell_floods.proofs.Windows.{IsOnRim, IsWindowSource, IsWindowPath, IsWindowLevel, end_is_source, window_level, window_none}
+use Rattle.cell_floods.proofs.Rectangles.{IsOnRim, IsRectangleSource, IsRectanglePath, IsRectangleLevel, end_is_source, rectangle_level, rectangle_none}
 use Rattle.std.proofs.lemmas.Option.{MatchOption-at_some, MatchOption-at_none, same_Some}
 use Rattle.tiles.specs.declared.bounds.Bounds.{Bounds}
 use Rattle.tiles.proofs.Cut.{in_bounds, in_tile, bounds_inside}
@@ -39,23 +39,24 @@ rim_of_tile c tile p i rim =
       at (inr (inr (inl e))) = or_left _ _ (or_right _ _ (eq-eqb _ _ e))
       at (inr (inr (inr e))) = or_right _ _ (eq-eqb _ _ e)
 
-pub rim_of_window : (c : Cutting) (tile : ℕ) (p : Place) → IsInTile c tile p →
+pub rim_of_rectangle : (c : Cutting) (tile : ℕ) (p : Place) → IsInTile c tile p →
     is_on_rim c p ≡ true → IsOnRim (bounds_of c tile) p
-rim_of_window c tile p i e = at (subst (λ n. is_first_or_last (bounds_of c n) p ≡ true) i.1 e) where
-  at : is_first_or_last (bounds_of c tile) p ≡ true → IsOnRim (bounds_of c tile) p
-  at e = elim (or_cases _ _ e) [
-    | inr last ↦ inr (inr (inr (eqb-true _ _ last)))
-    | inl three ↦ elim (or_cases _ _ three) [
-      | inr left ↦ inr (inr (inl (eqb-true _ _ left)))
-      | inl two ↦ elim (or_cases _ _ two) [
-        | inr bottom ↦ inr (inl (eqb-true _ _ bottom))
-        | inl top ↦ inl (eqb-true _ _ top)
+rim_of_rectangle c tile p i e =
+    at (subst (λ n. is_first_or_last (bounds_of c n) p ≡ true) i.1 e) where
+      at : is_first_or_last (bounds_of c tile) p ≡ true → IsOnRim (bounds_of c tile) p
+      at e = elim (or_cases _ _ e) [
+        | inr last ↦ inr (inr (inr (eqb-true _ _ last)))
+        | inl three ↦ elim (or_cases _ _ three) [
+          | inr left ↦ inr (inr (inl (eqb-true _ _ left)))
+          | inl two ↦ elim (or_cases _ _ two) [
+            | inr bottom ↦ inr (inl (eqb-true _ _ bottom))
+            | inl top ↦ inl (eqb-true _ _ top)
+          ]
+        ]
       ]
-    ]
-  ]
 
 tile_source : (t : Terrain) (c : Cutting) (tile : ℕ) (p : Place) → IsInTile c tile p →
-    IsWindowSource t (bounds_of c tile) p → IsTileSource t c p
+    IsRectangleSource t (bounds_of c tile) p → IsTileSource t c p
 tile_source t c tile p i (inl source) = elim source.1 [
   | inl rim ↦
       inl (source.0, rim_of_tile c tile p i rim)
@@ -63,10 +64,10 @@ tile_source t c tile p i (inl source) = elim source.1 [
 ]
 tile_source t c tile p i (inr sink) = inr (inr sink)
 
-window_source : (t : Terrain) (c : Cutting) (tile : ℕ) (p : Place) → IsInTile c tile p →
-    IsTileSource t c p → IsWindowSource t (bounds_of c tile) p
-window_source t c tile p i (inl rim) = inl (rim.0, inl (rim_of_window c tile p i rim.1))
-window_source t c tile p i (inr end) = end_is_source t (bounds_of c tile) p end
+rectangle_source : (t : Terrain) (c : Cutting) (tile : ℕ) (p : Place) → IsInTile c tile p →
+    IsTileSource t c p → IsRectangleSource t (bounds_of c tile) p
+rectangle_source t c tile p i (inl rim) = inl (rim.0, inl (rim_of_rectangle c tile p i rim.1))
+rectangle_source t c tile p i (inr end) = end_is_source t (bounds_of c tile) p end
 
 pub data_within : (t : Terrain) (c : Cutting) (p : Place) → (c.cols ≡ t.cols) × (c.rows ≡ t.rows) →
     IsDataCell t p → IsWithin c p
@@ -75,29 +76,29 @@ data_within t c p cuts some =
     (omega (arith, inside, cuts), omega (arith, inside, cuts))
 
 pub tile_path : (t : Terrain) (c : Cutting) (tile : ℕ) → IsCutting c → tile < tile_count c →
-    (p : Place) (rest : List Place) → IsInTile c tile p → IsWindowPath t (bounds_of c tile) p rest →
-    IsTilePath t c p rest
+    (p : Place) (rest : List Place) → IsInTile c tile p →
+    IsRectanglePath t (bounds_of c tile) p rest → IsTilePath t c p rest
 tile_path t c tile h l p [] i path = tile_source t c tile p i path
 tile_path t c tile h l p (q ∷ rest) i path =
     let j = in_tile c tile q h l path.1 in
     (path.0, j.1 ∙ sym i.1, tile_path t c tile h l q rest j path.2)
 
-window_path : (t : Terrain) (c : Cutting) (tile : ℕ) → IsCutting c →
+rectangle_path : (t : Terrain) (c : Cutting) (tile : ℕ) → IsCutting c →
     (c.cols ≡ t.cols) × (c.rows ≡ t.rows) → (p : Place) (rest : List Place) → IsInTile c tile p →
-    IsTilePath t c p rest → IsWindowPath t (bounds_of c tile) p rest
-window_path t c tile h cuts p [] i path = window_source t c tile p i path
-window_path t c tile h cuts p (q ∷ rest) i path =
+    IsTilePath t c p rest → IsRectanglePath t (bounds_of c tile) p rest
+rectangle_path t c tile h cuts p [] i path = rectangle_source t c tile p i path
+rectangle_path t c tile h cuts p (q ∷ rest) i path =
     let j : IsInTile c tile q = (data_within t c q cuts path.0.to_data, path.1 ∙ i.1) in
-    (path.0, in_bounds c tile q h j, window_path t c tile h cuts q rest j path.2)
+    (path.0, in_bounds c tile q h j, rectangle_path t c tile h cuts q rest j path.2)
 
 tile_level : (t : Terrain) (c : Cutting) (tile : ℕ) → IsCutting c → tile < tile_count c →
     (c.cols ≡ t.cols) × (c.rows ≡ t.rows) → (p label : Place) (level : ℤ) → IsInTile c tile p →
-    IsWindowLevel t (bounds_of c tile) p level label → IsTileLevel t c p level label
+    IsRectangleLevel t (bounds_of c tile) p level label → IsTileLevel t c p level label
 tile_level t c tile h l cuts p label level i w = record {
   reached =
       (w.reached.0, tile_path t c tile h l p w.reached.0 i w.reached.1, w.reached.2, w.reached.3);
-  least = λ rest path. w.least rest (window_path t c tile h cuts p rest i path);
-  own = λ source height. w.own (window_source t c tile p i source) height;
+  least = λ rest path. w.least rest (rectangle_path t c tile h cuts p rest i path);
+  own = λ source height. w.own (rectangle_source t c tile p i source) height;
 }
 
 place_back : (b : Bounds) (p : Place) → IsInBounds b p →
@@ -167,7 +168,7 @@ tile_flooded t c tile n levels labels h l cuts net flooded =
           b.cols b.rows (omega (arith, labels_long))) inside ∙ ap (label_of_node b) node in
           match_of (height_at t p) _ _
           (λ none.
-          let both = window_none t b n levels labels net flooded p inside none
+          let both = rectangle_none t b n levels labels net flooded p inside none
           (omega (
             arith,
             net.size,
@@ -176,7 +177,7 @@ tile_flooded t c tile n levels labels h l cuts net flooded =
           )) in
           (level ∙ both.0, label ∙ ap (label_of_node b) both.1))
           (λ z some.
-          let here = window_level t b n levels labels net flooded p inside (ap is_some some) in
+          let here = rectangle_level t b n levels labels net flooded p inside (ap is_some some) in
           let label_is = label ∙ ap (label_of_node b) here.label_is
           ∙ ap Some (place_back b here.label here.inside) in (
             here.level,

@@ -1,6 +1,6 @@
--- A window is a rectangle of a terrain's cells. The paths in a window are the walks of its net. So
--- a flood of the net finds the levels and the labels of the window's cells. `HasFirstSinks` is for
--- the list of sinks, which is made place by place.
+-- The paths in a rectangle of a terrain's cells are the walks of its net. So a flood of the net
+-- finds the levels and the labels of the rectangle's cells. `HasFirstSinks` is for the list of
+-- sinks, which is made place by place.
 use Rattle.std.proofs.lemmas.Option.{MatchOption-at_some, MatchOption-at_none}
 use Rattle.std.proofs.Common.{◌≡◌, ◌≢◌, ℕ, zero, suc, ◌+◌, ◌-◌, ◌*◌, ◌<◌, ◌≤◌, ◌⊎◌, inl, inr, ℤ, pos, ◌≤ℤ◌, true, ◌||◌, List, [], ◌∷◌, length, get_or, Option, None, Some, IsSome, is_some, is_none, unwrap_or, ◌∙◌, sym, ap, subst, refl, arith, Bool, false, set}
 use Rattle.std.specs.Int.{int_max}
@@ -39,17 +39,17 @@ IsOnRim w p = (p.row ≡ w.top) ⊎ (p.row + 1 ≡ w.top + w.rows) ⊎ (p.col �
 abbrev pub IsGapSource : Terrain → Bounds → Place → Type 0
 IsGapSource t w p = IsDataCell t p × (IsOnRim w p ⊎ HasGapAround t p)
 
-abbrev pub IsWindowSource : Terrain → Bounds → Place → Type 0
-IsWindowSource t w p = IsGapSource t w p ⊎ IsSink t p
+abbrev pub IsRectangleSource : Terrain → Bounds → Place → Type 0
+IsRectangleSource t w p = IsGapSource t w p ⊎ IsSink t p
 
-pub end_is_source : (t : Terrain) (w : Bounds) (p : Place) → IsEnd t p → IsWindowSource t w p
+pub end_is_source : (t : Terrain) (w : Bounds) (p : Place) → IsEnd t p → IsRectangleSource t w p
 end_is_source t w p (inl edge) = inl (edge.0, inr edge.1)
 end_is_source t w p (inr sink) = inr sink
 
--- A path whose cells after p lie in the window, and which ends at a source of the window.
-abbrev pub IsWindowPath : Terrain → Bounds → Place → List Place → Type 0
-IsWindowPath t w p [] = IsWindowSource t w p
-IsWindowPath t w p (q ∷ rest) = IsNeighbour t p q × IsInBounds w q × IsWindowPath t w q rest
+-- A path whose cells after p lie in the rectangle, and which ends at a source of the rectangle.
+abbrev pub IsRectanglePath : Terrain → Bounds → Place → List Place → Type 0
+IsRectanglePath t w p [] = IsRectangleSource t w p
+IsRectanglePath t w p (q ∷ rest) = IsNeighbour t p q × IsInBounds w q × IsRectanglePath t w q rest
 
 next_row : (s r c d : ℕ) → d ≤ c + 1 → c ≤ d + 1 → IsAfter s (r * s + c) ((r + 1) * s + d)
 next_row s r c d up down = elim (cases_order c d) [
@@ -114,7 +114,7 @@ near_rows s (suc r) c b one low (inr (inr (inr (inl e)))) =
 near_rows s (suc r) c b one low (inr (inr (inr (inr e)))) =
     (r, c - 1, omega arith, omega arith, omega arith, omega arith, omega arith)
 
--- The row of a place of the window, counted with the border; `col_in` is the place's column.
+-- The row of a place of the rectangle, counted with the border; `col_in` is the place's column.
 abbrev row_in : Bounds → Place → ℕ
 row_in w p = p.row - w.top + 1
 
@@ -183,7 +183,8 @@ pub data_is : {X : Type 0} (o : Option X) → IsSome o → (x : X) × (o ≡ Som
 data_is None e = absurd (cc)
 data_is (Some x) e = (x, refl)
 
--- A place of the window is on its rim, or the window has rows and columns on all four sides of it.
+-- A place of the rectangle is on its rim, or the rectangle has rows and columns on all four sides
+-- of it.
 pub cases_rim : (w : Bounds) (p : Place) → IsInBounds w p → IsOnRim w p ⊎ ((w.top + 1 ≤ p.row)
     × (p.row + 2 ≤ w.top + w.rows) × (w.left + 1 ≤ p.col) × (p.col + 2 ≤ w.left + w.cols))
 cases_rim w p a = elim (cases_eq p.row w.top) [
@@ -200,7 +201,7 @@ cases_rim w p a = elim (cases_eq p.row w.top) [
   ]
 ]
 
--- A place of the window is on its rim, or all places that touch it lie in the window.
+-- A place of the rectangle is on its rim, or all places that touch it lie in the rectangle.
 pub beyond : (w : Bounds) (p q : Place) → IsInBounds w p → Touches p q →
     IsOnRim w p ⊎ IsInBounds w q
 beyond w p q a t = elim (cases_rim w p a) [
@@ -238,8 +239,8 @@ border_none t w n net r c narrow outside = elim (cases_option (cell_at n (r * (w
       (omega (arith, p.1, both.1)) (omega (arith, p.1, both.1)))
 ]
 
--- A data cell of the window beside a node without data is on the window's rim or has a gap around
--- it (`IsGapSource`).
+-- A data cell of the rectangle beside a node without data is on the rectangle's rim or has a gap
+-- around it (`IsGapSource`).
 pub gap_is_source : (t : Terrain) (w : Bounds) (n : Cells) → IsNetOf t w n → (p : Place) →
     IsInBounds w p → IsDataCell t p → (b : ℕ) → IsBeside (w.cols + 2) (node_at w p) b →
     cell_at n b ≡ None → IsGapSource t w p
@@ -251,7 +252,7 @@ gap_is_source t w n net p a some b beside none = (
         let near =
         near_rows (w.cols + 2) (row_in w p) (col_in w p) b (omega arith) (omega arith) beside in
         let q = place_in w near.0 near.1 in
-        let in_window : IsInBounds w q = (
+        let in_rectangle : IsInBounds w q = (
           omega (arith, near, inner, a),
           omega (arith, near, inner, a),
           omega (arith, near, inner, a),
@@ -269,12 +270,12 @@ gap_is_source t w n net p a some b beside none = (
         inr (inr (inr (
           q,
           touches,
-          ap is_some (sym (net.inside q in_window) ∙ ap (cell_at n) here ∙ none),
+          ap is_some (sym (net.inside q in_rectangle) ∙ ap (cell_at n) here ∙ none),
         )))
   ],
 )
 
--- A place on the rim of the window is beside a node without data.
+-- A place on the rim of the rectangle is beside a node without data.
 rim_gap : (t : Terrain) (w : Bounds) (n : Cells) → IsNetOf t w n → (p : Place) → IsInBounds w p →
     IsOnRim w p → (b : ℕ) × IsBeside (w.cols + 2) (node_at w p) b × (cell_at n b ≡ None)
 rim_gap t w n net p a (inl e) =
@@ -318,17 +319,17 @@ source_gap t w n net p a source = elim source.1 [
       (b : ℕ) × IsBeside (w.cols + 2) (node_at w p) b × (cell_at n b ≡ None)
   at q touches none = elim (beyond w p q a touches) [
     | inl rim ↦ rim_gap t w n net p a rim
-    | inr in_window ↦ (
+    | inr in_rectangle ↦ (
       node_at w q,
-      touch_beside w p q a in_window touches (λ e.
+      touch_beside w p q a in_rectangle touches (λ e.
           none_done (height_at t q) none (subst (IsDataCell t) e source.0)),
-      net.inside q in_window ∙ none,
+      net.inside q in_rectangle ∙ none,
     )
   ]
 
--- A source of the window is a source of the net, at its own height.
+-- A source of the rectangle is a source of the net, at its own height.
 pub source_there : (t : Terrain) (w : Bounds) (n : Cells) → IsNetOf t w n → (p : Place) →
-    IsInBounds w p → IsWindowSource t w p → source_of n (node_at w p) ≡ height_at t p
+    IsInBounds w p → IsRectangleSource t w p → source_of n (node_at w p) ≡ height_at t p
 source_there t w n net p a (inr sink) = cond-true _ _ _
     (or_right (has_gap_around n (node_at w p)) _ ((net.sinks p a).1 sink.1)) ∙ net.inside p a
 source_there t w n net p a (inl source) =
@@ -342,7 +343,7 @@ source_there t w n net p a (inl source) =
     cond-true _ _ _ (or_left _ (is_sink n.sinks (node_at w p)) found) ∙ net.inside p a
 
 pub source_back : (t : Terrain) (w : Bounds) (n : Cells) → IsNetOf t w n → (p : Place) →
-    IsInBounds w p → (h : ℤ) → source_of n (node_at w p) ≡ Some h → IsWindowSource t w p
+    IsInBounds w p → (h : ℤ) → source_of n (node_at w p) ≡ Some h → IsRectangleSource t w p
     × (height_at t p ≡ Some h)
 source_back t w n net p a h e =
     elim (cases_Bool (has_gap_around n (node_at w p) || is_sink n.sinks (node_at w p))) [
@@ -368,24 +369,25 @@ source_back t w n net p a h e =
     ]
 
 pub path_data : (t : Terrain) (w : Bounds) (p : Place) (rest : List Place) →
-    IsWindowPath t w p rest → IsDataCell t p
+    IsRectanglePath t w p rest → IsDataCell t p
 path_data t w p [] (inl source) = source.0
 path_data t w p [] (inr sink) = sink.0
 path_data t w p (q ∷ rest) path = path.0.from_data
 
 pub path_end : (t : Terrain) (w : Bounds) (p : Place) (rest : List Place) → IsInBounds w p →
-    IsWindowPath t w p rest → IsInBounds w (last_of p rest)
+    IsRectanglePath t w p rest → IsInBounds w (last_of p rest)
 path_end t w p [] inside path = inside
 path_end t w p (q ∷ rest) inside path = path_end t w q rest path.1 path.2
 
 joined_crest : (h k c : ℤ) → k ≤ℤ c → int_max (int_max k h) c ≡ int_max h c
 joined_crest h k c low = omega (arith, ints, clamps)
 
--- A path in the window is a walk of its net, of equal crest and to the same end.
+-- A path in the rectangle is a walk of its net, of equal crest and to the same end.
 pub walk_of : (t : Terrain) (w : Bounds) (n : Cells) → IsNetOf t w n →
-    (p : Place) (rest : List Place) → IsInBounds w p → IsWindowPath t w p rest → (walk : List Spill)
-    × IsWalk (IsCellJoin n) (source_of n) (node_at w p) walk × (walk_crest (source_of n)
-    (node_at w p) walk ≡ crest t p rest) × (end_of (node_at w p) walk ≡ node_at w (last_of p rest))
+    (p : Place) (rest : List Place) → IsInBounds w p → IsRectanglePath t w p rest →
+    (walk : List Spill) × IsWalk (IsCellJoin n) (source_of n) (node_at w p) walk
+    × (walk_crest (source_of n) (node_at w p) walk ≡ crest t p rest)
+    × (end_of (node_at w p) walk ≡ node_at w (last_of p rest))
 walk_of t w n net p [] inside path =
     let there = source_there t w n net p inside path in (
       [],
@@ -416,10 +418,10 @@ walk_of t w n net p (q ∷ rest) inside path =
       further.3,
     )
 
--- A walk of the net is a path in the window, of equal crest and to the same end.
+-- A walk of the net is a path in the rectangle, of equal crest and to the same end.
 pub path_of : (t : Terrain) (w : Bounds) (n : Cells) → IsNetOf t w n → (walk : List Spill)
     (p : Place) → IsInBounds w p → IsWalk (IsCellJoin n) (source_of n) (node_at w p) walk →
-    (rest : List Place) × IsWindowPath t w p rest × (crest t p rest ≡ walk_crest (source_of n)
+    (rest : List Place) × IsRectanglePath t w p rest × (crest t p rest ≡ walk_crest (source_of n)
     (node_at w p) walk) × (end_of (node_at w p) walk ≡ node_at w (last_of p rest))
 path_of t w n net [] p inside walk =
     let h = data_is (source_of n (node_at w p)) walk in
@@ -458,15 +460,15 @@ path_of t w n net (step ∷ steps) p inside walk =
       ap (λ a. end_of a steps) (sym q.2) ∙ further.3,
     )
 
--- A path from a place of the window gives a path in the window, at no greater crest.
-pub path_in_window : (t : Terrain) (w : Bounds) (p : Place) (rest : List Place) →
-    IsInBounds w p → IsPath t p rest → (inner : List Place) × IsWindowPath t w p inner
+-- A path from a place of the rectangle gives a path in the rectangle, at no greater crest.
+pub path_in_rectangle : (t : Terrain) (w : Bounds) (p : Place) (rest : List Place) →
+    IsInBounds w p → IsPath t p rest → (inner : List Place) × IsRectanglePath t w p inner
     × (crest t p inner ≤ℤ crest t p rest)
-path_in_window t w p [] inside path = ([], end_is_source t w p path, ≤ℤ_refl _)
-path_in_window t w p (q ∷ rest) inside path = elim (beyond w p q inside path.0.touches) [
+path_in_rectangle t w p [] inside path = ([], end_is_source t w p path, ≤ℤ_refl _)
+path_in_rectangle t w p (q ∷ rest) inside path = elim (beyond w p q inside path.0.touches) [
   | inl rim ↦ ([], inl (path.0.from_data, inl rim), max_left (height_of t p) (crest t q rest))
   | inr there ↦
-      let further = path_in_window t w q rest there path.1 in (
+      let further = path_in_rectangle t w q rest there path.1 in (
         q ∷ further.0,
         (path.0, there, further.1),
         max_least _ _ _ (max_left (height_of t p) (crest t q rest))
@@ -474,37 +476,37 @@ path_in_window t w p (q ∷ rest) inside path = elim (beyond w p q inside path.0
       )
 ]
 
--- The level is the least crest of the paths in the window, and a path of that crest ends at the
+-- The level is the least crest of the paths in the rectangle, and a path of that crest ends at the
 -- label. A source whose level is its own height is its own label.
-pub record IsWindowLevel (t : Terrain) (w : Bounds) (p : Place) (level : ℤ) (label : Place) :
+pub record IsRectangleLevel (t : Terrain) (w : Bounds) (p : Place) (level : ℤ) (label : Place) :
     Type 0 where
-  pub reached : (rest : List Place) × IsWindowPath t w p rest × (crest t p rest ≡ level)
+  pub reached : (rest : List Place) × IsRectanglePath t w p rest × (crest t p rest ≡ level)
       × (last_of p rest ≡ label)
-  pub least : (rest : List Place) → IsWindowPath t w p rest → level ≤ℤ crest t p rest
-  pub own : IsWindowSource t w p → height_at t p ≡ Some level → label ≡ p
+  pub least : (rest : List Place) → IsRectanglePath t w p rest → level ≤ℤ crest t p rest
+  pub own : IsRectangleSource t w p → height_at t p ≡ Some level → label ≡ p
 
--- A data cell of the window has its level and label in the flood of the net.
-pub record HasWindowLevel (t : Terrain) (w : Bounds) (levels : List (Option ℤ))
+-- A data cell of the rectangle has its level and label in the flood of the net.
+pub record HasRectangleLevel (t : Terrain) (w : Bounds) (levels : List (Option ℤ))
     (labels : List (Option ℕ)) (p : Place) : Type 0 where
   pub level : ℤ
   pub label : Place
   pub level_is : get_or levels (node_at w p) None ≡ Some level
   pub label_is : get_or labels (node_at w p) None ≡ Some (node_at w label)
   pub inside : IsInBounds w label
-  pub right : IsWindowLevel t w p level label
+  pub right : IsRectangleLevel t w p level label
 
-pub window_level :
+pub rectangle_level :
     (t : Terrain) (w : Bounds) (n : Cells) (levels : List (Option ℤ)) (labels : List (Option ℕ)) →
     IsNetOf t w n → IsFlooded (IsCellJoin n) (source_of n) (length n.cells) levels labels →
-    (p : Place) → IsInBounds w p → IsDataCell t p → HasWindowLevel t w levels labels p
-window_level t w n levels labels net flooded p inside some =
+    (p : Place) → IsInBounds w p → IsDataCell t p → HasRectangleLevel t w levels labels p
+rectangle_level t w n levels labels net flooded p inside some =
     let a = node_at w p in
     let below = some_inside n.cells a (data_is (height_at t p) some).0 (net.inside p inside
     ∙ (data_is (height_at t p) some).1) in
     elim (cases_option (get_or levels a None)) [
       | inl none ↦
           let edge = (filled_height t p some).1.reached in
-          let path = path_in_window t w p edge.0 inside edge.1 in
+          let path = path_in_rectangle t w p edge.0 inside edge.1 in
           let walk = walk_of t w n net p path.0 inside path.1 in
           absurd ((MatchOption-at_none _ _ none (flooded.each a below)).0 walk.0 walk.1)
       | inr found ↦
@@ -531,12 +533,12 @@ window_level t w n levels labels net flooded p inside some =
     ]
 
 -- A cell without data has no level and no label.
-pub window_none :
+pub rectangle_none :
     (t : Terrain) (w : Bounds) (n : Cells) (levels : List (Option ℤ)) (labels : List (Option ℕ)) →
     IsNetOf t w n → IsFlooded (IsCellJoin n) (source_of n) (length n.cells) levels labels →
     (p : Place) → IsInBounds w p → height_at t p ≡ None → node_at w p < length n.cells →
     (get_or levels (node_at w p) None ≡ None) × (get_or labels (node_at w p) None ≡ None)
-window_none t w n levels labels net flooded p inside none below =
+rectangle_none t w n levels labels net flooded p inside none below =
     elim (cases_option (get_or levels (node_at w p) None)) [
       | inl no_level ↦
           (no_level, (MatchOption-at_none _ _ no_level (flooded.each (node_at w p) below)).1)
@@ -546,8 +548,9 @@ window_none t w n levels labels net flooded p inside none below =
           none_done (height_at t p) none (path_data t w p path.0 path.1)
     ]
 
--- `sinks` has a mark for each node of the window and its border. Each place of the window marked as
--- a sink is one of `places`. Of the first `count` of `places`, each in the window is marked so.
+-- `sinks` has a flag for each node of the rectangle and its border. Each place of the rectangle
+-- whose flag is set is one of `places`. Of the first `count` of `places`, each in the rectangle has
+-- its flag set.
 pub record HasFirstSinks (w : Bounds) (places : List Place) (count : ℕ) (sinks : List Bool) :
     Type 0 where
   pub size : length sinks ≡ (w.rows + 2) * (w.cols + 2)
