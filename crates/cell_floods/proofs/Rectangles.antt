@@ -23,7 +23,7 @@ use Rattle.tiles.specs.declared.bounds.Bounds.{Bounds}
 use Rattle.tiles.specs.Cutting.{IsInBounds, is_in_bounds}
 use Rattle.floods.specs.declared.net.Spill.{Spill}
 use Rattle.floods.specs.Walk.{IsWalk, crest as walk_crest, end_of, IsFlooded}
-use Rattle.cell_floods.specs.Cells.{Cells, cell_at, node_at, IsNetOf, IsAfter, IsBeside, IsCellJoin, cells_around, has_gap_around, is_sink, source_of, last_of}
+use Rattle.cell_floods.specs.Cells.{Cells, cell_at, node_at, IsNetOf, IsAfter, IsBeside, IsCellJoin, cells_around, has_gap_around, is_sink, source_of, last_cell}
 use Rattle.terrain.proofs.Options.{some_inside}
 use Rattle.terrain.proofs.Options.{cases_option, none_some, none_done, none_from_is_some}
 use Rattle.cell_floods.proofs.CellArcs.{all_beside, beside_around}
@@ -375,7 +375,7 @@ path_data t w p [] (inr sink) = sink.0
 path_data t w p (q ∷ rest) path = path.0.from_data
 
 pub path_end : (t : Terrain) (w : Bounds) (p : Place) (rest : List Place) → IsInBounds w p →
-    IsRectanglePath t w p rest → IsInBounds w (last_of p rest)
+    IsRectanglePath t w p rest → IsInBounds w (last_cell p rest)
 path_end t w p [] inside path = inside
 path_end t w p (q ∷ rest) inside path = path_end t w q rest path.1 path.2
 
@@ -387,7 +387,7 @@ pub walk_of : (t : Terrain) (w : Bounds) (n : Cells) → IsNetOf t w n →
     (p : Place) (rest : List Place) → IsInBounds w p → IsRectanglePath t w p rest →
     (walk : List Spill) × IsWalk (IsCellJoin n) (source_of n) (node_at w p) walk
     × (walk_crest (source_of n) (node_at w p) walk ≡ crest t p rest)
-    × (end_of (node_at w p) walk ≡ node_at w (last_of p rest))
+    × (end_of (node_at w p) walk ≡ node_at w (last_cell p rest))
 walk_of t w n net p [] inside path =
     let there = source_there t w n net p inside path in (
       [],
@@ -422,7 +422,7 @@ walk_of t w n net p (q ∷ rest) inside path =
 pub path_of : (t : Terrain) (w : Bounds) (n : Cells) → IsNetOf t w n → (walk : List Spill)
     (p : Place) → IsInBounds w p → IsWalk (IsCellJoin n) (source_of n) (node_at w p) walk →
     (rest : List Place) × IsRectanglePath t w p rest × (crest t p rest ≡ walk_crest (source_of n)
-    (node_at w p) walk) × (end_of (node_at w p) walk ≡ node_at w (last_of p rest))
+    (node_at w p) walk) × (end_of (node_at w p) walk ≡ node_at w (last_cell p rest))
 path_of t w n net [] p inside walk =
     let h = data_is (source_of n (node_at w p)) walk in
     let back = source_back t w n net p inside h.0 h.1 in (
@@ -481,7 +481,7 @@ path_in_rectangle t w p (q ∷ rest) inside path = elim (beyond w p q inside pat
 pub record IsRectangleLevel (t : Terrain) (w : Bounds) (p : Place) (level : ℤ) (label : Place) :
     Type 0 where
   pub reached : (rest : List Place) × IsRectanglePath t w p rest × (crest t p rest ≡ level)
-      × (last_of p rest ≡ label)
+      × (last_cell p rest ≡ label)
   pub least : (rest : List Place) → IsRectanglePath t w p rest → level ≤ℤ crest t p rest
   pub own : IsRectangleSource t w p → height_at t p ≡ Some level → label ≡ p
 
@@ -513,7 +513,7 @@ rectangle_level t w n levels labels net flooded p inside some =
           let here = MatchOption-at_some _ _ found.0 found.1 (flooded.each a below) in
           let is_level = here.2 in
           let path = path_of t w n net is_level.reached.0 p inside is_level.reached.1 in
-          let label = last_of p path.0 in
+          let label = last_cell p path.0 in
           let label_node : here.0 ≡ node_at w label = sym is_level.reached.3 ∙ path.3 in
           let label_inside = path_end t w p path.0 inside path.1 in
           record {

@@ -9,7 +9,7 @@ use Rattle.terrain.specs.declared.place.Place.{Place}
 use Rattle.tiles.specs.declared.bounds.Bounds.{Bounds}
 use Rattle.tiles.specs.Cutting.{Cutting, IsCutting, Cuts, IsInBounds, IsInTile, tile_count, tile_of_place, entry_in, place_in}
 use Rattle.tiles.proofs.Cut.{in_tile}
-use Rattle.cell_floods.specs.Cells.{inner_rows, last_of}
+use Rattle.cell_floods.specs.Cells.{inner_rows, last_cell}
 use Rattle.terrain.proofs.Options.{cases_option, none_some}
 use Rattle.cell_floods.proofs.Nets.{length-inner_rows}
 use Rattle.cell_floods.specs.Labels.{IsTable, LabelTable, labels_by, label_of_node}
@@ -104,7 +104,7 @@ levels_where_are t c tile b levels labels heights h l are is =
     ∙ sym is.levels_size) (both_or_neither t c tile b levels labels h l is))) is
 
 label_data : (t : Terrain) (c : Cutting) (p : Place) (rest : List Place) → IsTilePath t c p rest →
-    IsDataCell t (last_of p rest)
+    IsDataCell t (last_cell p rest)
 label_data t c p [] path = elim path [ inl rim ↦ rim.0 | inr end ↦ first_is_data t p [] end ]
 label_data t c p (q ∷ rest) path = label_data t c q rest path.2
 
@@ -114,7 +114,7 @@ label_has_data t c p label level l =
     subst (IsDataCell t) l.reached.3 (label_data t c p l.reached.0 l.reached.1)
 
 last_in_tile : (t : Terrain) (c : Cutting) (p : Place) (rest : List Place) → IsTilePath t c p rest →
-    tile_of_place c (last_of p rest) ≡ tile_of_place c p
+    tile_of_place c (last_cell p rest) ≡ tile_of_place c p
 last_in_tile t c p [] path = refl
 last_in_tile t c p (q ∷ rest) path = last_in_tile t c q rest path.2 ∙ path.1
 

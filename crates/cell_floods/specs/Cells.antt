@@ -110,9 +110,9 @@ place_of_node top left cols node =
     record { row = top + node / (cols + 2) - 1; col = left + node % (cols + 2) - 1 }
 
 -- The cell at which the path from p through these cells ends.
-abbrev pub last_of : Place → List Place → Place
-last_of p [] = p
-last_of p (q ∷ rest) = last_of q rest
+abbrev pub last_cell : Place → List Place → Place
+last_cell p [] = p
+last_cell p (q ∷ rest) = last_cell q rest
 
 -- The cell has no data, or a crest is noted for it, at most the greater of its height and `top`.
 abbrev pub IsPassed : Option ℤ → ℤ → ℤ → Type 0

@@ -7,7 +7,7 @@ use Rattle.terrain.specs.Neighbours.{height_at, IsDataCell, IsNeighbour, IsEnd}
 use Rattle.drainage.specs.Filled.{crest}
 use Rattle.terrain.specs.declared.place.Place.{Place}
 use Rattle.tiles.specs.declared.bounds.Bounds.{Bounds}
-use Rattle.cell_floods.specs.Cells.{last_of}
+use Rattle.cell_floods.specs.Cells.{last_cell}
 use Rattle.cell_floods.specs.Labels.{LabelTable, IsTable, labels_by}
 use Rattle.tiles.specs.Cutting.{Cutting, IsWithinLimits, tile_of_place, bounds_of, is_on_rim, entry_in, IsInTile, cell_count}
 
@@ -26,7 +26,7 @@ IsTilePath t c p (q ∷ rest) =
 pub record IsTileLevel (t : Terrain) (c : Cutting) (p : Place) (level : ℤ)
     (label : Place) : Type 0 where
   pub reached : (rest : List Place) × IsTilePath t c p rest × (crest t p rest ≡ level)
-      × (last_of p rest ≡ label)
+      × (last_cell p rest ≡ label)
   pub least : (rest : List Place) → IsTilePath t c p rest → level ≤ℤ crest t p rest
   pub own : IsTileSource t c p → height_at t p ≡ Some level → label ≡ p
 

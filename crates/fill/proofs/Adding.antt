@@ -15,7 +15,7 @@ use Rattle.terrain.specs.Ways.{before, place_if_both, place_on, ways_from}
 use Rattle.terrain.specs.declared.place.Place.{Place}
 use Rattle.terrain.proofs.EightWays.{Touches-from_ways}
 use Rattle.terrain.proofs.Places.{same_place}
-use Rattle.fill.specs.Gathering.{CellLabelling, are_both_sources, LeftOutJoins, IsLeftOut, Meets, IsPairFrom, IsBetween, IsLowBetween, IsPairOn, joins_of, Adds, AddsCovered, Covered, IsAfter}
+use Rattle.fill.specs.Gathering.{CellLabelling, are_both_sources, LeftOutJoins, IsLeftOut, Meets, IsPairFrom, IsBetween, IsLowBetween, IsPairOn, joins_of, Adds, AddsCovered, Covered, IsLater}
 use Rattle.fill.specs.declared.spill_graph.Join.{Join}
 use Rattle.fill.specs.declared.cell_labels.CellLabel.{CellLabel}
 use Rattle.floods.proofs.Heaps.{cons_head, cons_cases, one_held}
@@ -154,7 +154,7 @@ west_of row (suc n) q at next =
     ap Some (same_place (record { row = row; col = n }) q at (omega (arith, next)))
 
 -- A place that touches a cell and comes after it lies E, SE, S or SW of it.
-after_way : (p q : Place) → Touches p q → IsAfter p q → ((place_on 0 p ≡ Some q)
+after_way : (p q : Place) → Touches p q → IsLater p q → ((place_on 0 p ≡ Some q)
     ⊎ (place_on 1 p ≡ Some q)) ⊎ ((place_on 2 p ≡ Some q) ⊎ (place_on 3 p ≡ Some q))
 after_way p q t (inr beside) = inl (inl (ap Some (same_place
     (record { row = p.row; col = p.col + 1 }) q beside.0 (omega (arith, t.col_right, beside.1)))))
@@ -306,7 +306,7 @@ adds_then cell_labels out first later both old now new split a b = record {
 pub adds_as : (cell_labels : CellLabelling) (out : LeftOutJoins)
     (first both : Place → Place → Type 0)
     (old new : List Join) → ((p q : Place) → first p q → both p q) → ((p q : Place) → Touches p q →
-    IsAfter p q → (m : CellLabel) → cell_labels p ≡ Some m → (n : CellLabel) →
+    IsLater p q → (m : CellLabel) → cell_labels p ≡ Some m → (n : CellLabel) →
     cell_labels q ≡ Some n →
     both p q → first p q) → Adds cell_labels out first old new → Adds cell_labels out both old new
 adds_as cell_labels out first both old new wider narrower a = record {
@@ -336,7 +336,7 @@ adds_four cell_labels out p wanted old first second third new east south_east so
       | inr late ↦ elim late [ inl here ↦ (here.0, here.2) | inr here ↦ (here.0, here.2) ]
     ])
     (λ q r touch after m m_is n n_is at. elim (after_way p r (subst
-    (λ (z : Place). Touches z r) at.0 touch) (subst (λ (z : Place). IsAfter z r) at.0 after)) [
+    (λ (z : Place). Touches z r) at.0 touch) (subst (λ (z : Place). IsLater z r) at.0 after)) [
       | inl early ↦ elim early [
         | inl here ↦ inl (inl (at.0, here, at.1))
         | inr here ↦

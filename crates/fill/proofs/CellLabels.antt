@@ -17,7 +17,7 @@ use Rattle.tiles.proofs.Cut.{in_tile, in_bounds_parts, in_bounds_from}
 use Rattle.cell_floods.specs.TileFlood.{Flood, IsFlood, label_in}
 use Rattle.cell_floods.specs.Labels.{labels_by, IsTable}
 use Rattle.fill.specs.Numbers.{first_of}
-use Rattle.fill.specs.Gathering.{Fit, LabelsInside, CellLabelling, IsInner, IsPairFrom, IsPairOn, cells_after, AreEqualAfter, cell_label_of, cell_label_in, cell_label_among, Adds, cell_label_with, joins_of, LeftOutJoins, IsBetween, IsLowBetween, IsLeftOut, AddsAfter, AddsCorner, AddsCovered}
+use Rattle.fill.specs.Gathering.{Fit, LabelsInside, CellLabelling, HasFourAfter, IsPairFrom, IsPairOn, cells_after, AreEqualAfter, cell_label_of, cell_label_in, cell_label_among, Adds, cell_label_with, joins_of, LeftOutJoins, IsBetween, IsLowBetween, IsLeftOut, AddsAfter, AddsCorner, AddsCovered}
 use Rattle.fill.specs.declared.spill_graph.Join.{Join}
 use Rattle.fill.specs.declared.cell_labels.CellLabel.{CellLabel}
 use Rattle.std.proofs.lemmas.Nat.{mul-le}
@@ -206,8 +206,9 @@ adds_anywhere cell_labels out p old new s = adds_as cell_labels out (IsPairFrom 
 
 -- If an inner cell's joins with the places E, SE, S and SW are added (`AddsAfter`), `Adds` holds of
 -- all pairs from the cell.
-pub inner_adds : (f : Flood) (out : LeftOutJoins) (p : Place) (i : ℕ) (from : CellLabel) (old new :
-    List Join) → IsInner f.bounds p → i ≡ index_in f.bounds p → cell_label_with 0 f i ≡ Some from →
+pub inner_adds : (f : Flood) (out : LeftOutJoins) (p : Place) (i : ℕ) (from : CellLabel)
+    (old new : List Join) → HasFourAfter f.bounds p → i ≡ index_in f.bounds p →
+    cell_label_with 0 f i ≡ Some from →
     AddsAfter f out from i f.bounds.cols old new →
     Adds (cell_label_in 0 f) out (λ q r. q ≡ p) old new
 inner_adds f out p i from old new inner at is s =
@@ -309,7 +310,7 @@ inner_adds f out p i from old new inner at is s =
           ]
 
 pub inner_cell_adds : (f : Flood) (out : LeftOutJoins) (p : Place) (i : ℕ) (old new : List Join) →
-    IsInner f.bounds p → i ≡ index_in f.bounds p → MatchOption (cell_label_with 0 f i) (new
+    HasFourAfter f.bounds p → i ≡ index_in f.bounds p → MatchOption (cell_label_with 0 f i) (new
     ≡ old) (λ from. AddsAfter f out from i f.bounds.cols old new) →
     Adds (cell_label_in 0 f) out (λ q r. q ≡ p) old new
 inner_cell_adds f out p i old new inner at s = elim (cases_option (cell_label_with 0 f i)) [
@@ -339,8 +340,8 @@ inner_row_index b row index above below last =
 -- are in the tile's row order; the row begins at `start`.
 pub inner_so_far : (b : Bounds) (row start index : ℕ) → b.top ≤ row → row + 1 < b.top + b.rows →
     start < index → index + 1 < start + b.cols → (p : Place) →
-    (IsInner b p × (p.row ≡ row) × (p.col + start < b.left + (index + 1)))
-    ↔ ((IsInner b p × (p.row ≡ row) × (p.col + start < b.left + index))
+    (HasFourAfter b p × (p.row ≡ row) × (p.col + start < b.left + (index + 1)))
+    ↔ ((HasFourAfter b p × (p.row ≡ row) × (p.col + start < b.left + index))
     ⊎ (p ≡ record { row = row; col = b.left + (index - start) }))
 inner_so_far b row start index above below first last p = (
   λ at. elim (cases_lt (p.col + start) (b.left + index)) [
@@ -351,7 +352,7 @@ inner_so_far b row start index above below first last p = (
   λ at. elim at [
     | inl early ↦ (early.0, early.1, omega (arith, early.2))
     | inr same ↦
-        subst (λ (q : Place). IsInner b q × (q.row ≡ row)
+        subst (λ (q : Place). HasFourAfter b q × (q.row ≡ row)
         × (q.col + start < b.left + (index + 1))) (sym same) (
           (
             omega (arith, above),

@@ -20,7 +20,7 @@ use Rattle.cell_floods.proofs.Where.{labels_inside}
 use Rattle.floods.proofs.Heaps.{all_by_contains}
 use Rattle.floods.specs.declared.net.Spill.{Spill}
 use Rattle.drainage.proofs.Uniqueness.{between}
-use Rattle.fill.specs.Gathering.{Fit, LabelsInside, LeftOutJoins, IsBypassed, cell_label_among, Meets, Covered, IsAfter, IsBefore, AreRising, AreLowest, AreGathered, are_both_sources, turned}
+use Rattle.fill.specs.Gathering.{Fit, LabelsInside, LeftOutJoins, IsBypassed, cell_label_among, Meets, Covered, IsLater, IsBefore, AreRising, AreLowest, AreGathered, are_both_sources, turned}
 use Rattle.fill.specs.LabelNet.{HasArcsOf, IsJoinOf, IsNumberPass, IsNumberGraph}
 use Rattle.fill.specs.Numbers.{places_of, ends_of, nodes_of, node_of_label}
 use Rattle.fill.specs.Parts.{IsGraph, graph_with}
@@ -84,7 +84,7 @@ meets_turned c floods out p q j m = record {
   greater = max_comm m.to_level m.from_level ∙ m.greater;
 }
 
-after_cases : (p q : Place) → p ≢ q → IsAfter p q ⊎ IsAfter q p
+after_cases : (p q : Place) → p ≢ q → IsLater p q ⊎ IsLater q p
 after_cases p q differ = elim (cases_order p.row q.row) [
   | inr other ↦ elim other [ inl less ↦ inl (inl less) | inr more ↦ inr (inl more) ]
   | inl row ↦ elim (cases_order p.col q.col) [

@@ -19,7 +19,7 @@ use Rattle.tiles.proofs.Cut.{in_bounds, tile_of_place_below}
 use Rattle.floods.specs.declared.net.Spill.{Spill}
 use Rattle.floods.specs.Walk.{Joins, Sources, IsWalk, crest as walk_crest, IsFlooded}
 use Rattle.cell_floods.specs.TileFlood.{IsTileSource, IsTilePath, IsTileLevel, Flood, level_in, label_in}
-use Rattle.cell_floods.specs.Cells.{last_of}
+use Rattle.cell_floods.specs.Cells.{last_cell}
 use Rattle.fill.specs.SpillGraph.{AreFloods, level_among, label_among}
 use Rattle.terrain.proofs.Options.{cases_option, none_some}
 use Rattle.terrain.proofs.Heights.{height_is}
@@ -99,7 +99,8 @@ neighbour_back t p q n = record {
 
 -- If the first cell of a tile path of low crest has a low path, so has the last.
 low_at_last : (t : Terrain) (c : Cutting) (m : ℤ) (p : Place) (rest : List Place) →
-    IsTilePath t c p rest → crest t p rest ≤ℤ m → HasLowPath t m p → HasLowPath t m (last_of p rest)
+    IsTilePath t c p rest → crest t p rest ≤ℤ m → HasLowPath t m p →
+    HasLowPath t m (last_cell p rest)
 low_at_last t c m p [] path low way = way
 low_at_last t c m p (q ∷ rest) path low way =
     let later : crest t q rest ≤ℤ m =
@@ -108,7 +109,8 @@ low_at_last t c m p (q ∷ rest) path low way =
     (trans _ _ _ (height_below_crest t q rest) later) way)
 
 low_at_first : (t : Terrain) (c : Cutting) (m : ℤ) (p : Place) (rest : List Place) →
-    IsTilePath t c p rest → crest t p rest ≤ℤ m → HasLowPath t m (last_of p rest) → HasLowPath t m p
+    IsTilePath t c p rest → crest t p rest ≤ℤ m → HasLowPath t m (last_cell p rest) →
+    HasLowPath t m p
 low_at_first t c m p [] path low way = way
 low_at_first t c m p (q ∷ rest) path low way =
     low_step t m p q path.0 (trans _ _ _ (max_left (height_of t p) (crest t q rest)) low)
@@ -158,7 +160,7 @@ end_label t c p label level l end =
     ∙ sym (source_level t c p label level l (inr end))))
 
 last_low : (t : Terrain) (p : Place) (rest : List Place) →
-    height_of t (last_of p rest) ≤ℤ crest t p rest
+    height_of t (last_cell p rest) ≤ℤ crest t p rest
 last_low t p [] = ≤ℤ_refl (height_of t p)
 last_low t p (q ∷ rest) =
     trans _ _ _ (last_low t q rest) (max_right (height_of t p) (crest t q rest))

@@ -134,14 +134,14 @@ pub record AddsCovered (old added new : List Join) : Type 0 where
   pub every : (j : Join) → Contains added j → Covered new j
 
 -- The place and the four places after it (E, SE, S and SW of it) lie in these bounds.
-abbrev pub IsInner : Bounds → Place → Type 0
-IsInner b p = (b.top ≤ p.row) × (p.row + 1 < b.top + b.rows) × (b.left < p.col)
+abbrev pub HasFourAfter : Bounds → Place → Type 0
+HasFourAfter b p = (b.top ≤ p.row) × (p.row + 1 < b.top + b.rows) × (b.left < p.col)
     × (p.col + 1 < b.left + b.cols)
 
 -- The place lies in the bounds, in row `row` of the grid. The places E, SE, S and SW of it do not
 -- all lie in the bounds.
 abbrev pub IsOuterOfRow : Bounds → ℕ → Place → Type 0
-IsOuterOfRow b row p = IsInBounds b p × (p.row ≡ row) × (IsInner b p → ⊥)
+IsOuterOfRow b row p = IsInBounds b p × (p.row ≡ row) × (HasFourAfter b p → ⊥)
 
 -- The indexes of the places E, SE, S and SW of the place at index `i`, in rows of `width` places.
 abbrev pub cells_after : ℕ → ℕ → List ℕ
@@ -188,8 +188,8 @@ pub record AddsAfter (f : Flood) (out : LeftOutJoins) (from : CellLabel) (i widt
   pub south_west : AddsCorner f out from (i + width) (i - 1) (i + width - 1) after_third new
 
 -- Place `q` comes after place `p` in row order.
-abbrev pub IsAfter : Place → Place → Type 0
-IsAfter p q = (p.row < q.row) ⊎ ((p.row ≡ q.row) × (p.col < q.col))
+abbrev pub IsLater : Place → Place → Type 0
+IsLater p q = (p.row < q.row) ⊎ ((p.row ≡ q.row) × (p.col < q.col))
 
 -- Place `q` is `p`, and place `r` is wanted and lies in direction `way` from `p`.
 abbrev pub IsPairOn : ℕ → Place → (Place → Bool) → Place → Place → Type 0
@@ -220,7 +220,7 @@ pub record Adds (cell_labels : CellLabelling) (out : LeftOutJoins) (pairs : Plac
     (old new : List Join) : Type 0 where
   pub kept : (j : Join) → Contains old j → Covered new j
   pub only : (j : Join) → Contains new j → Contains old j ⊎ IsMeetingAt cell_labels out pairs j
-  pub every : (p q : Place) (j : Join) → pairs p q → IsAfter p q → Meets cell_labels out p q j →
+  pub every : (p q : Place) (j : Join) → pairs p q → IsLater p q → Meets cell_labels out p q j →
       IsLeftOut cell_labels out p q ⊎ Covered new j
 
 -- The join with its labels exchanged.
@@ -249,7 +249,7 @@ pub record AreGathered (c : Cutting) (floods : List Flood) (out : LeftOutJoins)
     (joins : List Join) : Type 0 where
   pub only : (j : Join) → Contains joins j →
       IsMeetingAt (cell_label_among c floods) out (λ p q. IsWithin c p) j
-  pub every : (p q : Place) (j : Join) → IsWithin c p → IsAfter p q →
+  pub every : (p q : Place) (j : Join) → IsWithin c p → IsLater p q →
       Meets (cell_label_among c floods) out p q j →
       IsLeftOut (cell_label_among c floods) out p q ⊎ Covered joins j
 

@@ -6,7 +6,7 @@
 ghost use Rattle.std.specs.Prelude.{◌≡◌, ◌+◌, ◌<◌, ◌≤◌, [], Some, slice_index_or, MatchOption, IfOk, OnOk, length};
 ghost use Rattle.std.specs.Bool.{OnTrue};
 ghost use Rattle.tiles.specs.Cutting.{IsInBounds};
-ghost use Rattle.fill.specs.Gathering.{IsInner, AreEqualAfter, Adds, AddsAfter, AddsCorner, AddsNear, cell_label_in, cell_label_with};
+ghost use Rattle.fill.specs.Gathering.{HasFourAfter, AreEqualAfter, Adds, AddsAfter, AddsCorner, AddsNear, cell_label_in, cell_label_with};
 
 use crate::cell_labels::{CellLabel, cell_label_at, cell_label_in};
 use crate::join_table::JoinTable;
@@ -195,7 +195,7 @@ fn push_inner_cells(
     requires top { flood.now.bounds.top ≤ row }
     requires row { row + 1 < flood.now.bounds.top + flood.now.bounds.rows }
     ensures { OnOk result (Adds (cell_label_in 0 flood.now) left_out.now
-        (λ p q. IsInner flood.now.bounds p × (p.row ≡ row)) table.old table.new) }
+        (λ p q. HasFourAfter flood.now.bounds p × (p.row ≡ row)) table.old table.new) }
 {
     let Bounds { top, cols, .. } = flood.bounds();
     let width = cols as usize;

@@ -13,8 +13,8 @@ use Rattle.horizons.specs.declared.ramp.Ramp.{Ramp}
 use Rattle.horizons.specs.Horizons.{AreTargets, IsSlopeUpTo, ramp_hides, value_at}
 use Rattle.horizons.proofs.Straight.{slope_up}
 use Rattle.sightlines.specs.Blocks.{IsTopOf}
-use Rattle.sight.specs.Hiding.{height_at}
-use Rattle.sight.specs.Sweep.{offset_of, constant_ramp, line_blocks, ramp_of, IsFamily, Passes, PassesAmong, Shows, IsAtCell}
+use Rattle.sight.specs.Hiding.{line_height}
+use Rattle.sight.specs.Sweep.{offset_of, constant_ramp, line_blocks, ramp_of, IsFamily, Passes, PassesAmong, IsShadow, IsAtCell}
 use Rattle.sight.specs.declared.family.Family.{Family}
 use Rattle.sight.proofs.Laid.{grows}
 use Rattle.sight.proofs.Rays.{low_onward, next_inside}
@@ -35,10 +35,11 @@ pub passes_one : (k : ℕ) (offset : ℤ) (t : Target) → PassesAmong k offset 
     Passes k offset t
 passes_one k offset t among = record { low = among.low; high = among.high }
 
-pub among_shows : (cells : List (Option ℤ)) (f : Family) (k : ℕ) (first last : ℤ) (ramp : Ramp) (t :
-    Target) → 0 < t.line → PassesAmong k first last t → (Passes k first t → Shows cells f k t ramp)
-    → ((b : ℤ) → first <ℤ b → b ≤ℤ last → Passes k b t → Shows cells f k t ramp) →
-    Shows cells f k t ramp
+pub among_shows : (cells : List (Option ℤ)) (f : Family) (k : ℕ) (first last : ℤ) (ramp : Ramp)
+    (t : Target) → 0 < t.line → PassesAmong k first last t →
+    (Passes k first t → IsShadow cells f k t ramp) →
+    ((b : ℤ) → first <ℤ b → b ≤ℤ last → Passes k b t → IsShadow cells f k t ramp) →
+    IsShadow cells f k t ramp
 among_shows cells f k first last ramp t some among here onward =
     let x = t.offset *ℤ pos k in
     let b = int_div_euclid x (pos t.line) in
@@ -95,8 +96,8 @@ record Blocker (cells : List (Option ℤ)) (f : Family) (k : ℕ) (offset rise :
   pub at : pos cell ≡ pos f.side.at +ℤ offset
   pub beside : (next ≡ cell) ⊎ (next ≡ cell + 1)
   pub inside : (cell < f.side.cells) × (next < f.side.cells)
-  pub here : height_at cells f k cell ≡ Some near
-  pub there : height_at cells f k next ≡ Some far
+  pub here : line_height cells f k cell ≡ Some near
+  pub there : line_height cells f k next ≡ Some far
   pub hides : ramp_hides (ramp_of f k offset near far) t rise ≡ true
 
 blocker : (cells : List (Option ℤ)) (f : Family) (k y : ℕ) (offset rise : ℤ) (t : Target) →
@@ -185,7 +186,7 @@ constant_hides f k offset near far top rise t passes a b hides =
 -- `top` is None, none of these cells has data
 abbrev pub IsTopNear : List (Option ℤ) → Family → ℕ → ℤ → ℤ → Option ℤ → Type 0
 IsTopNear cells f k low high top = (c : ℕ) (h : ℤ) → c < f.side.cells → low ≤ℤ offset_of f c →
-    offset_of f c ≤ℤ (high +ℤ pos 1) → height_at cells f k c ≡ Some h → IsTopOf top h
+    offset_of f c ≤ℤ (high +ℤ pos 1) → line_height cells f k c ≡ Some h → IsTopOf top h
 
 pub none_blocks :
     (cells : List (Option ℤ)) (f : Family) (k y : ℕ) (low high offset rise : ℤ) (t : Target) →

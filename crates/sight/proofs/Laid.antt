@@ -13,7 +13,7 @@ use Rattle.horizons.specs.Horizons.{AreTargets, IsTarget, IsSlopeUpTo, IsPushed,
 use Rattle.horizons.specs.Merging.{IsGreaterPushed, greater_at}
 use Rattle.horizons.proofs.Hiding.{greater_hides, greater_is_ramp, either_hides}
 use Rattle.horizons.proofs.Straight.{slope_up}
-use Rattle.sight.specs.Sweep.{IsBefore, AreBefore, Passes, PassesAmong, Shows, IsHiddenOn, Raises, RaisesBelow, IsFamily, IsAtCell, line_blocks}
+use Rattle.sight.specs.Sweep.{IsBefore, AreBefore, Passes, PassesAmong, IsShadow, IsHiddenOn, Raises, RaisesBelow, IsFamily, IsAtCell, line_blocks}
 use Rattle.sight.specs.declared.family.Family.{Family}
 use Rattle.sight.specs.declared.family.Span.{Span}
 use Rattle.sight.proofs.Products.{rest_times}
@@ -85,19 +85,19 @@ more_raised cells f targets k from end highest ramp old new reach more pushed ra
 pub shown_over : (cells : List (Option ℤ)) (f : Family) (targets : List Target) (k from end : ℕ)
     (span : Span) (u : Target) → AreTargets targets → slice_get targets from ≡ Some u
     → ((t : Target) → IsTarget t → IsSlopeUpTo u t → PassesAmong k span.offset span.last t →
-    (span.alone ≡ true → t ≡ u) → Shows cells f k t span.ramp)
+    (span.alone ≡ true → t ≡ u) → IsShadow cells f k t span.ramp)
     → ((i : ℕ) (t : Target) → from ≤ i → i < end → slice_get targets i ≡ Some t →
     PassesAmong k span.offset span.last t × (span.alone ≡ true → t ≡ u))
     → (i : ℕ) (t : Target) → from ≤ i → i < end → slice_get targets i ≡ Some t →
-    Shows cells f k t span.ramp
+    IsShadow cells f k t span.ramp
 shown_over cells f targets k from end span u are at_u shows over i t low high at =
     let here = over i t low high at in
     shows t (are.each i t at) (slope_up targets from i u t are low at_u at) here.0 here.1
 
 -- the greater of the ground's ramp and the old horizon's ramp at target i raises the horizon there
-raised_to : (cells : List (Option ℤ)) (f : Family) (k i : ℕ) (highest : List Piece) (ground ramp :
-    Ramp) (t : Target) → ramp_at highest i ≡ Some ramp → IsRampAt ramp t → Shows cells f k t ground
-    → Raises cells f k highest i t (greater_at ground ramp t)
+raised_to : (cells : List (Option ℤ)) (f : Family) (k i : ℕ) (highest : List Piece)
+    (ground ramp : Ramp) (t : Target) → ramp_at highest i ≡ Some ramp → IsRampAt ramp t →
+    IsShadow cells f k t ground → Raises cells f k highest i t (greater_at ground ramp t)
 raised_to cells f k i highest ground ramp t is is_ramp shows = record {
   at = greater_is_ramp ramp ground t is_ramp shows.at;
   hides = λ y rise stands later small. greater_hides ramp ground t rise is_ramp shows.at
@@ -110,7 +110,7 @@ pub greater_raised : (cells : List (Option ℤ)) (f : Family) (targets : List Ta
     → IsOver targets highest → ((i : ℕ) → from ≤ i → i < end → ramp_at highest i ≡ Some ramp) →
     IsGreaterPushed targets ground ramp old end new
     → RaisesBelow cells f targets k highest from old → ((i : ℕ) (t : Target) → from ≤ i → i < end →
-    slice_get targets i ≡ Some t → Shows cells f k t ground)
+    slice_get targets i ≡ Some t → IsShadow cells f k t ground)
     → (target_count new ≡ end) × RaisesBelow cells f targets k highest end new
 greater_raised cells f targets k from end highest ground ramp old new reach more over is pushed
     raised shows = (

@@ -67,12 +67,13 @@ pub record AreRays (f : Family) (w : Extent) (flags : List Bool) (n c : ℕ)
       → (u : ℕ) × (slice_get rays u ≡ Some (target_at f m y))
 
 -- The height of cell y of line n, or None for NODATA or past the list's end.
-abbrev pub height_at : List (Option ℤ) → Family → ℕ → ℕ → Option ℤ
-height_at cells f n y = slice_index_or cells (lead_of f n * f.lines.stride + y * f.side.stride) None
+abbrev pub line_height : List (Option ℤ) → Family → ℕ → ℕ → Option ℤ
+line_height cells f n y =
+    slice_index_or cells (lead_of f n * f.lines.stride + y * f.side.stride) None
 
 -- The rise above the eye of a target at this height above cell y of line n; NODATA counts as 0.
 abbrev pub rise_at : List (Option ℤ) → Family → ℕ → ℕ → ℕ → ℤ
-rise_at cells f height n y = (unwrap_or (height_at cells f n y) (pos 0) +ℤ pos height) -ℤ f.eye
+rise_at cells f height n y = (unwrap_or (line_height cells f n y) (pos 0) +ℤ pos height) -ℤ f.eye
 
 -- The new flag of cell y of line n: the old one, unless a line before line n blocks the cell.
 abbrev pub flag_left : List (Option ℤ) → Family → Extent → ℕ → List Bool → ℕ → ℕ → Bool

@@ -102,7 +102,7 @@ IsRise rise = unsigned_abs rise ≤ 2 ^ 51
 
 -- Let target t be beyond line k. At each rise within the limit, the ramp hides t exactly if line k
 -- blocks t.
-pub record Shows (cells : List (Option ℤ)) (f : Family) (k : ℕ) (t : Target)
+pub record IsShadow (cells : List (Option ℤ)) (f : Family) (k : ℕ) (t : Target)
     (r : Ramp) : Type 0 where
   pub at : IsRampAt r t
   pub hides : (y : ℕ) (rise : ℤ) → IsAtCell f y t → k < t.line → IsRise rise →

@@ -10,8 +10,8 @@ ghost use Rattle.horizons.specs.Horizons.{IsTarget, IsRampAt, IsSlopeUpTo};
 ghost use Rattle.terrain.specs.Raster.{IsHeight};
 ghost use Rattle.sightlines.specs.Walk.{AreHeights};
 ghost use Rattle.sightlines.specs.Blocks.{IsTopOf};
-ghost use Rattle.sight.specs.Hiding.{height_at};
-ghost use Rattle.sight.specs.Sweep.{lead_of, offset_of, ramp_of, constant_ramp, IsFamily, IsLine, IsCell, Passes, PassesAmong, Shows};
+ghost use Rattle.sight.specs.Hiding.{line_height};
+ghost use Rattle.sight.specs.Sweep.{lead_of, offset_of, ramp_of, constant_ramp, IsFamily, IsLine, IsCell, Passes, PassesAmong, IsShadow};
 
 use crate::heights::{greater_height, height_at};
 use horizons::{Ramp, Target};
@@ -197,7 +197,7 @@ impl Family {
         requires high { unsigned_abs high ≤ 2 ^ 25 }
         ensures top { (c : ℕ) (h : ℤ) → c < self.side.cells → low ≤ℤ offset_of self c →
             offset_of self c ≤ℤ (high +ℤ pos 1)
-            → height_at cells.now self line c ≡ Some h → IsTopOf result h }
+            → line_height cells.now self line c ≡ Some h → IsTopOf result h }
         ensures height { (h : ℤ) → result ≡ Some h → IsHeight h }
     {
         let first = (self.side.at as i32 + low).max(0) as u32;
@@ -223,7 +223,7 @@ impl Family {
         requires offset { unsigned_abs offset ≤ 2 ^ 25 }
         ensures inside { OnTrue result (offset ≤ℤ pos 4096) }
         ensures shows { OnTrue result ((t : Target) → IsTarget t → Passes line offset t →
-            Shows cells.now self line t ramp) }
+            IsShadow cells.now self line t ramp) }
     {
         let Some(index) = self.index_at(line, offset) else {
             return false;
@@ -246,7 +246,7 @@ impl Family {
         requires first { unsigned_abs first ≤ 4096 }
         ensures range { (first ≤ℤ result) × (result ≤ℤ pos 4096) }
         ensures shows { (b : ℤ) (t : Target) → first <ℤ b → b ≤ℤ result → IsTarget t →
-            Passes line b t → Shows cells.now self line t ramp }
+            Passes line b t → IsShadow cells.now self line t ramp }
     {
         let mut last = first;
         while self.has_ramp(cells, line, last + 1, ramp) {
@@ -269,7 +269,7 @@ impl Family {
         ensures last { (result.offset ≤ℤ result.last) × (unsigned_abs result.last ≤ 2 ^ 25) }
         ensures shows { (t : Target) → IsTarget t → IsSlopeUpTo target t →
             PassesAmong line result.offset result.last t
-            → (result.alone ≡ true → t ≡ target) → Shows cells.now self line t result.ramp }
+            → (result.alone ≡ true → t ≡ target) → IsShadow cells.now self line t result.ramp }
     {
         let offset = offset_at(target, line);
         let nothing = Span {

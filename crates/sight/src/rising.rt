@@ -6,7 +6,7 @@ ghost use Rattle.terrain.specs.Raster.{IsHeight};
 ghost use Rattle.sightlines.specs.Sight.{highest_eye};
 ghost use Rattle.sightlines.specs.Walk.{AreHeights};
 ghost use Rattle.sight.specs.Sweep.{IsFamily, IsLine, IsRise, IsAtCell};
-ghost use Rattle.sight.specs.Hiding.{height_at, rise_at};
+ghost use Rattle.sight.specs.Hiding.{line_height, rise_at};
 
 use crate::family::Family;
 use crate::heights::height_at;
@@ -23,7 +23,7 @@ impl Family {
         requires line { IsLine self target.line }
         requires target { IsTarget target }
         ensures value { (y : ℕ) → IsAtCell self y target →
-            result ≡ height_at cells.now self target.line y }
+            result ≡ line_height cells.now self target.line y }
         ensures height { (h : ℤ) → result ≡ Some h → IsHeight h }
     {
         match self.index_at(target.line, target.offset) {

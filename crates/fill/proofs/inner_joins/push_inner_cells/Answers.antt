@@ -1,7 +1,7 @@
 use Rattle.std.proofs.Common.{◌≡◌, ◌+◌, ◌-◌, ◌*◌, ◌<◌, ℕ, arith, ap}
 use Rattle.terrain.specs.declared.place.Place.{Place}
 use Rattle.tiles.specs.declared.bounds.Bounds.{Bounds}
-use Rattle.fill.specs.Gathering.{IsInner, cell_label_in}
+use Rattle.fill.specs.Gathering.{HasFourAfter, cell_label_in}
 use Rattle.fill.proofs.Adding.{adds_then, adds_as}
 use Rattle.fill.proofs.CellLabels.{inner_cell_adds, inner_row_index, inner_so_far}
 use Rattle.fill.proofs.inner_joins.push_inner_cells.Goals as goal
@@ -33,12 +33,12 @@ loop-index-preserved c =
     let first : start < index = omega (arith, c.loop-index.auto.index) in
     let last : index + 1 < start + b.cols = omega (arith, cols, c.loop-index-test.true) in
     let place : Place = record { row = c.args.row; col = b.left + (index - start) } in
-    let inner : IsInner b place =
+    let inner : HasFourAfter b place =
     (c.requires.top, c.requires.row, omega (arith, first), omega (arith, first, last)) in
     adds_then (cell_label_in 0 f) c.args.left_out.now
-    (λ p q. IsInner b p × (p.row ≡ c.args.row) × (p.col + start < b.left + index))
+    (λ p q. HasFourAfter b p × (p.row ≡ c.args.row) × (p.col + start < b.left + index))
     (λ p q. p ≡ place)
-    (λ p q. IsInner b p × (p.row ≡ c.args.row) × (p.col + start < b.left + (index + 1))) _ _ _
+    (λ p q. HasFourAfter b p × (p.row ≡ c.args.row) × (p.col + start < b.left + (index + 1))) _ _ _
     (λ p q. inner_so_far b c.args.row start index c.requires.top c.requires.row first last p)
     c.loop-index.invariant
     (inner_cell_adds f c.args.left_out.now place index _ _ inner
@@ -50,8 +50,8 @@ returns c =
     let start : ℕ = (c.args.row - c.bounds-top.result.top) * c.bounds-top.result.cols in
     let cols = ap (λ (z : Bounds). z.cols) c.bounds-top.ensures.value in
     adds_as (cell_label_in 0 c.args.flood.now) c.args.left_out.now
-    (λ p q. IsInner b p × (p.row ≡ c.args.row) × (p.col + start < b.left + c.loop-index.index))
-    (λ p q. IsInner b p × (p.row ≡ c.args.row)) _ _
+    (λ p q. HasFourAfter b p × (p.row ≡ c.args.row) × (p.col + start < b.left + c.loop-index.index))
+    (λ p q. HasFourAfter b p × (p.row ≡ c.args.row)) _ _
     (λ p q at. (at.0, at.1))
     (λ p q touch after m m_is n n_is at.
     (at.0, at.1, omega (arith, at.0, cols, c.loop-index-test.false)))

@@ -3,14 +3,14 @@ use Rattle.std.proofs.lemmas.Bool.{cases_eq}
 use Rattle.terrain.specs.declared.place.Place.{Place}
 use Rattle.tiles.specs.declared.bounds.Bounds.{Bounds}
 use Rattle.tiles.specs.Cutting.{IsInBounds}
-use Rattle.fill.specs.Gathering.{IsInner, IsOuterOfRow, cell_label_in}
+use Rattle.fill.specs.Gathering.{HasFourAfter, IsOuterOfRow, cell_label_in}
 use Rattle.fill.proofs.Adding.{adds_as, adds_then}
 use Rattle.fill.proofs.inner_joins.push_row.Goals as goal
 
 -- A row above the last has two kinds of cells. The places E, SE, S and SW of an inner cell all lie
 -- in the tile; those of an `IsOuterOfRow` cell do not.
 row_parts : (b : Bounds) (row : ℕ) → b.top ≤ row → row + 1 < b.top + b.rows → (p : Place) →
-    (IsInBounds b p × (p.row ≡ row)) ↔ (IsOuterOfRow b row p ⊎ (IsInner b p × (p.row ≡ row)))
+    (IsInBounds b p × (p.row ≡ row)) ↔ (IsOuterOfRow b row p ⊎ (HasFourAfter b p × (p.row ≡ row)))
 row_parts b row above below p = (
   λ at. elim (cases_eq p.col b.left) [
     | inl first ↦ inl (at.0, at.1, λ inner. omega (arith, inner.2, first))
@@ -53,7 +53,7 @@ returns-in_ok-push_inner_cells c =
     let below : row + 1 < b.top + b.rows =
     omega (arith, ap (λ (z : Bounds). z.top + z.rows) same, c.if-row-bounds.true) in
     adds_then (cell_label_in 0 c.args.flood.now) c.args.left_out.now
-    (λ p q. IsOuterOfRow b row p × (true ≡ true)) (λ p q. IsInner b p
+    (λ p q. IsOuterOfRow b row p × (true ≡ true)) (λ p q. HasFourAfter b p
     × (p.row ≡ row)) (λ p q. IsInBounds b p × (p.row ≡ row)) _ _ _
     (λ p q. (
       λ at. elim ((row_parts b row c.requires.top below p).0 at) [

@@ -5,7 +5,7 @@ use Rattle.terrain.specs.Neighbours.{Touches}
 use Rattle.tiles.specs.declared.bounds.Bounds.{Bounds}
 use Rattle.tiles.specs.Cutting.{IsInBounds, IsInTile, is_in_bounds}
 use Rattle.tiles.proofs.Cut.{in_bounds_from, in_bounds_parts}
-use Rattle.fill.specs.Gathering.{IsAfter, IsInner, IsOuterOfRow, IsOutside, cell_label_among}
+use Rattle.fill.specs.Gathering.{IsLater, HasFourAfter, IsOuterOfRow, IsOutside, cell_label_among}
 use Rattle.fill.proofs.Adding.{adds_none, adds_then, adds_as}
 use Rattle.fill.proofs.rim_joins.push_rim_joins.Goals as goal
 
@@ -14,7 +14,8 @@ not_both true e f = absurd (cc)
 not_both false e f = absurd (cc)
 
 -- A neighbour of an inner cell that comes after it in row order lies in the bounds.
-after_inner : (b : Bounds) (p q : Place) → IsInner b p → Touches p q → IsAfter p q → IsInBounds b q
+after_inner : (b : Bounds) (p q : Place) → HasFourAfter b p → Touches p q → IsLater p q →
+    IsInBounds b q
 after_inner b p q inner touch (inl down) = (
   omega (arith, inner, down),
   omega (arith, touch.row_down, inner),

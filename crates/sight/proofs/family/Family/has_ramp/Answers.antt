@@ -5,7 +5,7 @@ use Rattle.horizons.specs.declared.target.Target.{Target}
 use Rattle.horizons.specs.declared.ramp.Ramp.{Ramp}
 use Rattle.horizons.specs.Horizons.{IsTarget, ramp_hides}
 use Rattle.horizons.proofs.Sizes.{back_short}
-use Rattle.sight.specs.Sweep.{IsCell, Passes, Shows, ramp_of}
+use Rattle.sight.specs.Sweep.{IsCell, Passes, IsShadow, ramp_of}
 use Rattle.sightlines.proofs.Heights.{kept}
 use Rattle.sight.proofs.Spans.{near_index, shows_ramp}
 use Rattle.sight.proofs.family.Family.has_ramp.Goals as goal
@@ -65,10 +65,10 @@ returns-clause-shows c =
     rw (back, near_back, far_back) at c.ramp.ensures.ramp in
     let at = rw back at c.ramp.ensures.at in
     OnTrue_from c.eq.result ((t : Target) → IsTarget t → Passes k offset t →
-    Shows cells f k t c.args.ramp) (λ yes.
+    IsShadow cells f k t c.args.ramp) (λ yes.
     let same = same_ramp c.ramp.result c.args.ramp (sym c.eq.ensures ∙ yes) in
     let P : Ramp → Type 0 = λ r. (t : Target) → IsTarget t → Passes k offset t →
-    Shows cells f k t r in
+    IsShadow cells f k t r in
     subst P same (λ t is_t passes. record {
       at = at t is_t passes;
       hides = λ y rise stands later is. ap (λ r. ramp_hides r t rise) ramp ∙ shows_ramp cells f k

@@ -2,7 +2,7 @@ use Rattle.std.proofs.Common.{arith, ap, ◌∙◌, ◌≡◌, pos}
 use Rattle.std.specs.Prelude.{unwrap_or}
 use Rattle.std.proofs.lemmas.Int.{ints}
 use Rattle.terrain.specs.Raster.{IsHeight}
-use Rattle.sight.specs.Hiding.{height_at}
+use Rattle.sight.specs.Hiding.{line_height}
 use Rattle.sightlines.proofs.Heights.{ground_is_height}
 use Rattle.sight.proofs.family.Family.rise.Goals as goal
 
@@ -29,7 +29,7 @@ returns-clause-value c y stands =
     let ground = c.unwrap_or-ground.result in
     let small : IsHeight ground = rw c.unwrap_or-ground.ensures
     (ground_is_height c.height_of.result c.height_of.ensures.height) in
-    let is : ground ≡ unwrap_or (height_at c.args.cells.now c.args.self c.args.target.line y)
+    let is : ground ≡ unwrap_or (line_height c.args.cells.now c.args.self c.args.target.line y)
     (pos 0) = c.unwrap_or-ground.ensures
     ∙ ap (λ h. unwrap_or h (pos 0)) (c.height_of.ensures.value y stands) in
     omega (arith, ints, is, small, c.requires.family.eye)

@@ -3,7 +3,7 @@ use Rattle.std.specs.Int.{int_max}
 use Rattle.horizons.proofs.Sizes.{back_short}
 use Rattle.std.proofs.lemmas.Bool.{cases_lt}
 use Rattle.std.proofs.lemmas.Int.{ints, int_max_is, to_z_pos}
-use Rattle.sight.specs.Hiding.{height_at}
+use Rattle.sight.specs.Hiding.{line_height}
 use Rattle.sight.proofs.family.Family.top_between.Goals as goal
 
 pub loop-cell-preserved : goal.loop-cell-preserved
@@ -12,7 +12,7 @@ loop-cell-preserved c =
     let cells = c.args.cells.now in
     let k = c.args.line in
     let cell = c.loop-cell.cell in
-    let here : c.height_at.result ≡ height_at cells f k cell = c.height_at.ensures
+    let here : c.height_at.result ≡ line_height cells f k cell = c.height_at.ensures
     ∙ ap (λ n. get_or cells (n * f.lines.stride + cell * f.side.stride) None) c.lead_of.ensures in
     record {
       tops = λ b h from below is. elim (cases_lt b cell) [
@@ -20,7 +20,7 @@ loop-cell-preserved c =
             c.greater_height-top.ensures.kept h (c.loop-cell.invariant.tops b h from before is)
         | inr last ↦
             let same : cell ≡ b = omega arith in
-            c.greater_height-top.ensures.raised h (here ∙ ap (height_at cells f k) same ∙ is)
+            c.greater_height-top.ensures.raised h (here ∙ ap (line_height cells f k) same ∙ is)
       ];
       height = λ h is. elim c.greater_height-top.ensures.one [
         | inl old ↦ c.loop-cell.invariant.height h (sym old ∙ is)
