@@ -77,8 +77,8 @@ struct Line {
     along: i64,
     across: i64,
     backward: bool,
-    eye_level: i64,
-    target_level: i64,
+    eye_elevation: i64,
+    target_elevation: i64,
 }
 
 impl Line {
@@ -93,7 +93,7 @@ impl Line {
     /// The height of the line at a crossing, times the number of steps.
     #[inline(always)]
     fn level(&self, step: i64) -> i64 {
-        self.eye_level * (self.steps - step) + self.target_level * step
+        self.eye_elevation * (self.steps - step) + self.target_elevation * step
     }
 
     /// The crossing nearest to the observer that lies in the same row of blocks as this one.
@@ -221,17 +221,17 @@ impl<'a> Ground<'a> {
     }
 
     /// Whether a target is seen, whose height counts from the same level as that of the eye.
-    fn sees(&self, observer: &Observer, row: i64, column: i64, target_level: i64) -> bool {
+    fn sees(&self, observer: &Observer, row: i64, column: i64, target_elevation: i64) -> bool {
         let (down, east) = (row - observer.row, column - observer.column);
-        let eye_level = self.height(observer.row, observer.column) + observer.eye;
+        let eye_elevation = self.height(observer.row, observer.column) + observer.eye;
         let line = |steps: i64, drift, along, across| Line {
             steps: steps.abs(),
             drift,
             along: along + 1,
             across: across + 1,
             backward: steps < 0,
-            eye_level,
-            target_level,
+            eye_elevation,
+            target_elevation,
         };
         let by_columns = || {
             self.columns
@@ -303,11 +303,11 @@ impl Sight<'_> {
         column: i64,
         height: Height,
     ) -> i32 {
-        let target_level = height + i64::from(self.target);
+        let target_elevation = height + i64::from(self.target);
         let reach = i64::from(self.radius) * i64::from(self.radius);
         let is_seen = |observer: &&Observer| {
             let (down, east) = (row - observer.row, column - observer.column);
-            down * down + east * east <= reach && ground.sees(observer, row, column, target_level)
+            down * down + east * east <= reach && ground.sees(observer, row, column, target_elevation)
         };
         observers.iter().filter(is_seen).count() as i32
     }

@@ -1,5 +1,5 @@
--- The window of a tile that has the tile's cells alone, as one list, has each cell at its node. So
--- the window's values are the cells of the tile's net.
+-- A window made from a tile alone (`Window::of_tile`) has each cell of the tile at the cell's node,
+-- and no data at other nodes. So its values are the cells of the tile's net.
 use Rattle.std.proofs.Common.{◌≡◌, ℕ, ◌+◌, ◌-◌, ◌*◌, ◌/◌, ◌%◌, ◌<◌, ◌≤◌, inl, inr, ℤ, Bool, List, length, get_or, Option, None, IsSome, ◌∙◌, sym, ap, refl, subst, arith}
 use Rattle.std.proofs.lemmas.Bool.{cases_lt, cases_eq, cases_Bool, cond-true, cond-false}
 use Rattle.std.proofs.lemmas.List.{get_or_past}

@@ -1,10 +1,10 @@
--- A rectangle of cells as a net.
+-- A rectangle of cells as a net, and the nets of a tile and of a whole grid.
 mod CellArcs
 mod Runs
 mod Borders
 pub mod Rectangles
--- The flood of a whole grid, and the net of a tile.
-mod Nets
+-- Lists without their border, and the flood of a whole grid.
+mod InnerRows
 -- The flood of a tile.
 mod LabelTables
 pub mod TileRectangles

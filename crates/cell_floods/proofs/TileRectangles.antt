@@ -14,7 +14,7 @@ use Rattle.tiles.specs.Cutting.{IsInBounds, IsWithinLimits, Cutting, IsCutting, 
 use Rattle.floods.specs.Walk.{IsFlooded, IsWalk, end_of}
 use Rattle.cell_floods.specs.Cells.{Cells, node_at, IsNetOf, IsCellJoin, source_of, inner_rows, place_of_node}
 use Rattle.terrain.proofs.Options.{cases_option, match_of, none_some}
-use Rattle.cell_floods.proofs.Nets.{length-inner_rows, inner_rows-map, inner_rows_at}
+use Rattle.cell_floods.proofs.InnerRows.{length-inner_rows, inner_rows-map, inner_rows_at}
 use Rattle.floods.specs.Notes.{height_or_lack, label_of, numbered_labels}
 use Rattle.cell_floods.proofs.Rectangles.{IsOnRim, IsRectangleSource, IsRectanglePath, IsRectangleLevel, end_is_source, rectangle_level, rectangle_none}
 use Rattle.std.proofs.lemmas.Option.{MatchOption-at_some, MatchOption-at_none, same_Some}

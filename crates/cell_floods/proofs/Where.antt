@@ -11,7 +11,7 @@ use Rattle.tiles.specs.Cutting.{Cutting, IsCutting, Cuts, IsInBounds, IsInTile, 
 use Rattle.tiles.proofs.Cut.{in_tile}
 use Rattle.cell_floods.specs.Cells.{inner_rows, last_cell}
 use Rattle.terrain.proofs.Options.{cases_option, none_some}
-use Rattle.cell_floods.proofs.Nets.{length-inner_rows}
+use Rattle.cell_floods.proofs.InnerRows.{length-inner_rows}
 use Rattle.cell_floods.specs.Labels.{IsTable, LabelTable, labels_by, label_of_node}
 use Rattle.cell_floods.specs.TileFlood.{Flood, IsTileLevel, IsTilePath, flood_of, levels_where}
 use Rattle.cell_floods.proofs.TileRectangles.{AreTileLevels, data_within}

@@ -6,9 +6,9 @@ pub mod Quiet
 pub mod Few
 pub mod Nearby
 pub mod Counted
--- from tiles' lists to the map of codes
+-- tiles' lists of counts and of codes, and the map of codes
 pub mod TileLists
--- the values and initial counts of a tile's window, and the search over it
+-- the initial counts of a tile's window, and the search over it
 pub mod Spreading
 pub mod Noted
 pub mod Least

@@ -12,7 +12,7 @@
 //! - `first`: the first round
 //! - `beginning`: finds the cells that drain at once
 //! - `search`: searches the window of a tile for steps
-//! - `loading`: copies the counts of a tile's window, and the tile's counts back
+//! - `loading`: copies the counts of a tile's window, and out of these the tile's counts
 //! - `rounds`: later rounds
 //! - `entering`: finds entries, lower counts that follow from cells of adjacent tiles
 //! - `lowering`: the search of a later round

@@ -1,4 +1,4 @@
-//! Copies the counts of a tile's window from the whole grid's list, and the tile's counts back.
+//! Copies the counts of a tile's window from the whole grid's list, and out of these the tile's.
 ghost use Rattle.std.specs.Prelude.{◌≡◌, ◌+◌, ◌*◌, ◌<◌, length, map, OnOk, IfOk};
 ghost use Rattle.tiles.specs.Cutting.{bounds_of};
 ghost use Rattle.tiles.specs.Windows.{area_of};

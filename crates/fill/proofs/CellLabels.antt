@@ -426,7 +426,7 @@ pub among_shift : (c : Cutting) (floods : List Flood) (tile : ℕ) (f : Flood) (
 among_shift c floods tile f p there here = sym (cell_label_from_tile c floods tile f p there here)
     ∙ in_shift (first_of floods tile) f p
 
--- In cell labels with first number 0, the number of a label is an index into the flood's table.
+-- With first number 0, a cell label gives its label by an index into the flood's table.
 pub index_inside : (f : Flood) (p : Place) (m : CellLabel) → IsFlood f →
     cell_label_in 0 f p ≡ Some m → m.node < length f.table.places
 index_inside f p m lawful is =

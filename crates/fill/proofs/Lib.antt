@@ -1,4 +1,4 @@
--- The cell labels of cells, and the tiles around a tile.
+-- The levels and labels of cells, and the tiles around a tile.
 mod CellLabels
 mod NearTiles
 -- Raising by the least crests of any net of labels.

@@ -19,7 +19,7 @@ use Rattle.flow.proofs.Coded.{IsCoded, cases_coded, coded_along, follow_more}
 use Rattle.flow.proofs.DrainedCells.{one_more, counted_on, drains_itself, other_test}
 use Rattle.flow.proofs.Reaching.{IsEnding, reached_early, drains_at, drains_from}
 use Rattle.flow.proofs.Sending.{and_on}
-use Rattle.flow.proofs.Windows.{any_in_range, sum_of_cells}
+use Rattle.flow.proofs.Ranges.{any_in_range, sum_of_cells}
 
 -- `at` is the index of the first entry of xs that passes p. `position_from`, which counts from i,
 -- gives i + at.

@@ -21,7 +21,7 @@ use Rattle.flow.specs.Whole.{make_directed}
 use Rattle.flow.proofs.Coded.{IsCoded, cases_coded, coded_along, coded_inside, outlet_stays, follow_stays}
 use Rattle.flow.proofs.Piece.{match_none, match_some}
 use Rattle.flow.proofs.Reaching.{IsEnding, reached_early}
-use Rattle.flow.proofs.Windows.{mapped_next}
+use Rattle.flow.proofs.Ranges.{mapped_next}
 
 -- Of f's values at the numbers below n, `f at` is the first that passes the test.
 pub record IsFirst {X : Type 0} (test : X → Bool) (f : ℕ → X) (n : ℕ) : Type 0 where

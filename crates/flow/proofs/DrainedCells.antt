@@ -16,7 +16,7 @@ use Rattle.flow.specs.Counts.{drains_through, accumulation}
 use Rattle.flow.specs.Streams.{sum_below}
 use Rattle.flow.specs.TileFlow.{stays, reaches_inside, through_of, inflow_of}
 use Rattle.flow.proofs.Sums.{bit_le, sum_below-except, sum_below-few}
-use Rattle.flow.proofs.Windows.{any_in_range, all_in_range, whole_bounds, sum_of_cells}
+use Rattle.flow.proofs.Ranges.{any_in_range, all_in_range, whole_bounds, sum_of_cells}
 use Rattle.flow.proofs.Coded.{IsCoded}
 use Rattle.flow.proofs.Sending.{and_on}
 use Rattle.flow.proofs.Reaching.{IsEnding, cell_below, cell_back, enters}

@@ -15,7 +15,7 @@ use Rattle.flow.specs.Streams.{AreStreams, onward, node_after, end_of}
 use Rattle.flow.specs.TileFlow.{stays, IsExitOf}
 use Rattle.flow.proofs.Ending.{IsStop, inside_along, streams_from, early_end, node_stays}
 use Rattle.flow.proofs.Coded.{IsCoded, cases_coded, none_stays, outlet_stays, coded_inside, coded_along, outlet_from_stays}
-use Rattle.flow.proofs.Windows.{all_in_range}
+use Rattle.flow.proofs.Ranges.{all_in_range}
 
 -- The index of the next cell downstream, or i if none is in the tile.
 abbrev pub link_in : Directed → Bounds → ℕ → ℕ

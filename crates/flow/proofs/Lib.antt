@@ -2,7 +2,7 @@
 mod Rows
 -- sums and ranges
 pub mod Sums
-pub mod Windows
+pub mod Ranges
 -- paths and sums along links
 pub mod Ending
 pub mod Totals

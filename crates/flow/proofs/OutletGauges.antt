@@ -23,7 +23,7 @@ use Rattle.flow.proofs.Coded.{IsCoded, outlet_stays, follow_stays}
 use Rattle.flow.proofs.DrainedCells.{cell}
 use Rattle.flow.proofs.Reaching.{IsEnding, cell_back, cell_below, reached_early}
 use Rattle.flow.proofs.Sums.{sum_more}
-use Rattle.flow.proofs.Windows.{whole_bounds}
+use Rattle.flow.proofs.Ranges.{whole_bounds}
 
 map_ranges : {X : Type 0} (f : ℕ → X) (a n m : ℕ) → map f (range_with_len a n)
     ++ map f (range_with_len (a + n) m) ≡ map f (range_with_len a (n + m))

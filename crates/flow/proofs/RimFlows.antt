@@ -20,7 +20,7 @@ use Rattle.flow.specs.TileFlow.{Flow, stays, exit_in, IsTileExits, IsExitOf, IsE
 use Rattle.flow.specs.Whole.{is_outlet_code}
 use Rattle.tiles.specs.RimNumbers.{stride, side_number, rim_number_count, rim_number, rim_place}
 use Rattle.flow.specs.RimGraph.{code_in, AreFlowsOf, exit_by, side_cell, next_in, target_in, target_by, targets_by, next_exit_in, next_exit_by, number_or, rim_link, rim_links_by, rim_outlet, rim_outlets_by, outlet_by, AreOutlets}
-use Rattle.flow.proofs.Windows.{every_in_range}
+use Rattle.flow.proofs.Ranges.{every_in_range}
 use Rattle.flow.proofs.Ending.{IsStop, streams_from, node_after-first, node_after-inside}
 use Rattle.terrain.proofs.Options.{cases_option}
 use Rattle.flow.proofs.Coded.{IsCoded, cases_coded, coded_along, coded_inside, coded_from_some, none_stays, outlet_stays, follow_stays, follow_more, follow_first, StopsAt, stops_sooner, cycle_stops}

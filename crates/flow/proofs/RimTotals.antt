@@ -18,7 +18,7 @@ use Rattle.tiles.specs.RimNumbers.{rim_number_count, rim_number, rim_place}
 use Rattle.flow.specs.RimGraph.{AreFlowsOf, target_by, next_exit_by, number_or, rim_links_by}
 use Rattle.flow.specs.Inflows.{rim_weight, rim_weights_by, weight_or, through_by}
 use Rattle.flow.proofs.Sums.{cond_same, sum_below-same, sum_below-add, sum_below-none, exchange, one_term, cond-sum}
-use Rattle.flow.proofs.Windows.{some_in_range, any_in_range, every_in_range}
+use Rattle.flow.proofs.Ranges.{some_in_range, any_in_range, every_in_range}
 use Rattle.flow.proofs.Totals.{each_downstream, totals_are, sums_same, leads_parts, leads_from}
 use Rattle.terrain.proofs.Options.{cases_option}
 use Rattle.flow.proofs.Coded.{IsCoded, coded_along, coded_from_some, outlet_stays, follow_stays, follow_more, follow_first}

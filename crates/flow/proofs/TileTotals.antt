@@ -14,7 +14,7 @@ use Rattle.flow.specs.Counts.{drains_through}
 use Rattle.flow.specs.Streams.{onward, leads_to, upstream_sum, sum_below}
 use Rattle.flow.specs.TileFlow.{stays, reaches_inside, inflow_of}
 use Rattle.flow.proofs.Sums.{cond_same, sum_below-same, sum_below-add, sum_below-none, exchange, one_term, cond-sum}
-use Rattle.flow.proofs.Windows.{whole_bounds, some_in_range, any_in_range}
+use Rattle.flow.proofs.Ranges.{whole_bounds, some_in_range, any_in_range}
 use Rattle.flow.proofs.Totals.{AreTotals, leads_parts, leads_from}
 use Rattle.flow.proofs.Sending.{and_on}
 use Rattle.flow.proofs.Coded.{IsCoded, coded_from_some, coded_along}

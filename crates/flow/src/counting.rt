@@ -139,7 +139,7 @@ fn weights_with_inflows(
 
 /// Returns each data cell's entry in `weights` plus that in `upstream`, less 1.
 /// NODATA has no count.
-#[tactic(auto, using(crate::proofs::Windows::mapped_next))]
+#[tactic(auto, using(crate::proofs::Ranges::mapped_next))]
 fn counts(
     alloc: Global,
     cells: &[Option<Code>],

@@ -166,7 +166,7 @@ fn weight_of(tiling: &Tiling, flows: &[TileFlow], targets: &[Option<Place>], num
 }
 
 /// Returns how many cells' flow paths first leave their own tile at each rim number.
-#[tactic(auto, using(crate::proofs::Windows::mapped_next))]
+#[tactic(auto, using(crate::proofs::Ranges::mapped_next))]
 fn rim_weights(
     alloc: Global,
     tiling: &Tiling,

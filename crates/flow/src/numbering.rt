@@ -63,7 +63,7 @@ impl<'a, N: EndNumbering> TileMap for Numbering<'a, N> {
 
 impl<'a, N: EndNumbering> Numbering<'a, N> {
     /// Lists the number of each exit's outlet at the exit's index, 0 elsewhere.
-    #[tactic(auto, using(crate::proofs::Windows::mapped_next))]
+    #[tactic(auto, using(crate::proofs::Ranges::mapped_next))]
     fn exit_numbers(
         &self,
         alloc: Global,
@@ -151,7 +151,7 @@ pub(crate) fn number_cells<R: Threads + Wait + Sync, G: Gate + Sync, N: EndNumbe
 
 /// Returns each cell's number, which `by_exit` has at the index of its exit.
 /// NODATA has [`Count::no_data`].
-#[tactic(auto, using(crate::proofs::Windows::mapped_next))]
+#[tactic(auto, using(crate::proofs::Ranges::mapped_next))]
 fn cell_numbers(
     alloc: Global,
     flow: &TileFlow,

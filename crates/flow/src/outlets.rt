@@ -113,7 +113,7 @@ fn outlet_of(
     exit_of(tiling, flows, entry)
 }
 
-#[tactic(auto, using(crate::proofs::Windows::mapped_next))]
+#[tactic(auto, using(crate::proofs::Ranges::mapped_next))]
 fn rim_outlets(
     alloc: Global,
     tiling: &Tiling,

@@ -52,7 +52,7 @@ pub(crate) fn rim_ends(alloc: Global, bounds: Bounds, links: &[u32]) -> Result<V
 
 /// Returns the index where each rim cell's path along links ends.
 /// Writes each end that it finds into `found`.
-#[tactic(auto, using(crate::proofs::Windows::mapped_next))]
+#[tactic(auto, using(crate::proofs::Ranges::mapped_next))]
 fn ends_of_sides(
     alloc: Global,
     bounds: Bounds,

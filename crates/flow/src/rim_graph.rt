@@ -138,7 +138,7 @@ fn link_of(tiling: &Tiling, flows: &[TileFlow], targets: &[Option<Place>], numbe
     }
 }
 
-#[tactic(auto, using(crate::proofs::Windows::mapped_next))]
+#[tactic(auto, using(crate::proofs::Ranges::mapped_next))]
 fn rim_links(
     alloc: Global,
     tiling: &Tiling,

@@ -62,8 +62,8 @@ pub record IsOver (targets : List Target) (ps : List Piece) : Type 0 where
   pub each : (i : ℕ) (t : Target) (r : Ramp) → slice_get targets i ≡ Some t →
       ramp_at ps i ≡ Some r → IsRampAt r t
 
--- The horizon was extended up to `end` by this ramp, unless it covered `end` targets. The ramps of
--- targets that it reached before are the same.
+-- The horizon was extended up to `end` by this ramp, unless it covered at least `end` targets. The
+-- ramps of targets that it reached before are the same.
 pub record IsPushed (old : List Piece) (end : ℕ) (ramp : Ramp) (new : List Piece) : Type 0 where
   pub reach : target_count new ≡ max (target_count old) end
   pub kept : (i : ℕ) → i < target_count old → ramp_at new i ≡ ramp_at old i

@@ -20,7 +20,7 @@ pub struct Piece {
     pub ramp: Ramp,
 }
 
-/// A ramp for each target of index below the target count, in pieces of one ramp each.
+/// A ramp for each of the first `target_count` targets, in pieces of one ramp each.
 #[derive(Drop)]
 pub struct Horizon {
     pieces: Vec<Piece>,
@@ -116,7 +116,7 @@ impl Horizon {
         self.end
     }
 
-    /// Extends the horizon by a ramp up to `end`, unless it covers `end` targets.
+    /// Extends the horizon by a ramp up to `end`, unless it covers at least `end` targets.
     ///
     /// # Errors
     ///

@@ -15,7 +15,7 @@ use Rattle.tile_maps.specs.Maps.{IsMadeUpTo}
 use Rattle.sightlines.specs.Sight.{is_seen}
 use Rattle.sight.specs.Viewshed.{viewshed_value}
 use Rattle.sight.specs.Viewed.{value_at, HasValue, counted, AreAtMost}
-use Rattle.sight.specs.Flags.{AreFlagged, FlagsSeen}
+use Rattle.sight.specs.Flags.{AreFlags, FlagsSeen}
 use Rattle.terrain.specs.declared.observer.Observer.{Observer}
 
 counted_yes : (h : Option ℤ) (n m : ℕ) → m ≡ n + 1 →
@@ -41,7 +41,7 @@ pub seen_counted : (t : Terrain) (os : List Observer) (target radius i : ℕ) (d
     (b : Bounds)
     (old new : List (Option ℕ)) (seen : List Bool) → i < length os
     → IsMadeUpTo b (HasValue t (take i os) target radius) (b.rows * b.cols) old →
-    AreFlagged b (FlagsSeen t (get_or os i d) target radius) seen
+    AreFlags b (FlagsSeen t (get_or os i d) target radius) seen
     → length new ≡ length old →
     ((k : ℕ) → get_or new k None ≡ counted (get_or old k None) (get_or seen k false))
     → IsMadeUpTo b (HasValue t (take (i + 1) os) target radius) (b.rows * b.cols) new

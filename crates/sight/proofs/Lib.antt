@@ -24,7 +24,7 @@ pub mod PlacesLeft
 pub mod Refused
 -- the values of a tile, observer by observer
 pub mod Far
-pub mod Flagged
+pub mod FlagLists
 pub mod Counting
 -- the viewshed
 pub mod Uniqueness

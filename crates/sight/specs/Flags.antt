@@ -17,14 +17,14 @@ flag_at b flags p = slice_index_or flags (index_in b p) false
 
 -- Each place of the bounds has a flag. If a place's index in row order is below `end`, `Holds` is
 -- true of the place and its flag.
-pub record AreFlaggedBelow (b : Bounds) (Holds : Place → Bool → Type 0) (end : ℕ)
+pub record AreFlagsBelow (b : Bounds) (Holds : Place → Bool → Type 0) (end : ℕ)
     (flags : List Bool) : Type 0 where
   pub size : length flags ≡ b.rows * b.cols
   pub each : (p : Place) → IsInBounds b p → index_in b p < end → Holds p (flag_at b flags p)
 
 -- There is a flag for each place of the bounds, and `Holds` is true of each place and flag.
-abbrev pub AreFlagged : Bounds → (Place → Bool → Type 0) → List Bool → Type 0
-AreFlagged b Holds flags = AreFlaggedBelow b Holds (b.rows * b.cols) flags
+abbrev pub AreFlags : Bounds → (Place → Bool → Type 0) → List Bool → Type 0
+AreFlags b Holds flags = AreFlagsBelow b Holds (b.rows * b.cols) flags
 
 -- The place is flagged exactly where the observer sees it.
 abbrev pub FlagsSeen : Terrain → Observer → ℕ → ℕ → Place → Bool → Type 0

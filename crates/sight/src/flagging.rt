@@ -7,7 +7,7 @@ ghost use Rattle.std.specs.Prelude.{◌≡◌, ◌+◌, ◌-◌, ◌*◌, ◌<�
 ghost use Rattle.terrain.specs.Neighbours.{IsInside};
 ghost use Rattle.tiles.specs.Cutting.{AreBounds, IsCutting};
 ghost use Rattle.sightlines.specs.Sight.{highest_eye, place_of};
-ghost use Rattle.sight.specs.Flags.{AreFlaggedBelow, AreFlagged, FlagsSeen, IsFlagOf};
+ghost use Rattle.sight.specs.Flags.{AreFlagsBelow, AreFlags, FlagsSeen, IsFlagOf};
 
 use crate::tile::ViewshedInput;
 use sightlines::{WalkCache, may_see, sees_past_blocks};
@@ -48,7 +48,7 @@ impl<'a> ViewshedInput<'a> {
         requires observer { IsInside self.now.grid.now.terrain (place_of observer.now) }
         requires eye { observer.now.eye ≤ highest_eye }
         requires size { length seen.old ≡ bounds.rows * bounds.cols }
-        ensures { OnOk result (AreFlagged bounds
+        ensures { OnOk result (AreFlags bounds
             (FlagsSeen self.now.grid.now.terrain observer.now self.now.target_height
             self.now.radius) seen.new) }
     {
@@ -88,7 +88,7 @@ impl<'a> ViewshedInput<'a> {
         requires observer { IsInside self.now.grid.now.terrain (place_of observer.now) }
         requires eye { observer.now.eye ≤ highest_eye }
         requires size { length flags.old ≡ bounds.rows * bounds.cols }
-        ensures { AreFlagged bounds
+        ensures { AreFlags bounds
             (IsFlagOf check self.now.grid.now.terrain observer.now self.now.target_height
             self.now.radius) flags.new }
     {
@@ -112,11 +112,11 @@ impl<'a> ViewshedInput<'a> {
         requires observer { IsInside self.now.grid.now.terrain (place_of observer.now) }
         requires eye { observer.now.eye ≤ highest_eye }
         requires row { (bounds.top ≤ row) × (row < bounds.top + bounds.rows) }
-        requires flags { AreFlaggedBelow bounds
+        requires flags { AreFlagsBelow bounds
             (IsFlagOf check self.now.grid.now.terrain observer.now self.now.target_height
             self.now.radius)
             ((row - bounds.top) * bounds.cols) flags.old }
-        ensures { AreFlaggedBelow bounds
+        ensures { AreFlagsBelow bounds
             (IsFlagOf check self.now.grid.now.terrain observer.now self.now.target_height
             self.now.radius)
             ((row + 1 - bounds.top) * bounds.cols) flags.new }

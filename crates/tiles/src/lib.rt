@@ -6,7 +6,7 @@
 //! Modules, callers first; `tiling` and `view` use each other:
 //!
 //! - `rim_numbers`: numbers for the rim cells of all tiles
-//! - `window`: a copy of a tile and of the places around it
+//! - `window`: a copy of a tile, with one more row and column on each side
 //! - `tiling`: a grid cut into tiles, and the tiles' lists merged
 //! - `view`: a borrowed view of a tile and the cells next to it
 //! - `rim`: a tile's outermost cells

@@ -1,4 +1,4 @@
-//! A copy of a tile's values and of those around it: [`Window`].
+//! A copy of a tile's values, with one more row and column on each side: [`Window`].
 //!
 //! A spot is a place of a tile's window: the tile with one more row and column on each side.
 ghost use Rattle.std.specs.Prelude.{◌≡◌, ◌+◌, ◌*◌, ◌<◌, ◌≤◌, ◌↔◌, IsTrue, length, MatchOption, OnOk, IfOk};
@@ -12,8 +12,9 @@ use crate::view::TileView;
 use std::alloc::{AllocError, Global};
 use terrain::Place;
 
-/// The values of a tile and of the places around it, in row order.
-/// The window has one row and one column more than the tile on each side. Its places are spots.
+/// A tile's values, with one row and one column more on each side, in row order.
+/// These have the values around the tile ([`Window::of_view`]) or `none` ([`Window::of_tile`]).
+/// The places of the window are spots.
 #[derive(Drop)]
 pub struct Window<T> {
     pub bounds: Bounds,

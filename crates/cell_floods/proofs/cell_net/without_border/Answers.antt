@@ -1,7 +1,7 @@
 use Rattle.std.proofs.Common.{ap, arith, ◌∙◌}
 use Rattle.std.proofs.Math.Nat.{le_antisymm}
 use Rattle.cell_floods.specs.Cells.{inner_rows}
-use Rattle.cell_floods.proofs.Nets.{inner_row_ends}
+use Rattle.cell_floods.proofs.InnerRows.{inner_row_ends}
 use Rattle.cell_floods.proofs.cell_net.without_border.Goals as goal
 
 pub overflow_mul-start : goal.overflow_mul-start

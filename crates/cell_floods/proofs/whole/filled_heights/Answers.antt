@@ -1,4 +1,4 @@
-use Rattle.cell_floods.proofs.Nets.{whole_filled}
+use Rattle.cell_floods.proofs.InnerRows.{whole_filled}
 use Rattle.cell_floods.proofs.whole.filled_heights.Goals as goal
 
 pub returns : goal.returns

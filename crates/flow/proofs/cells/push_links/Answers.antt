@@ -2,7 +2,7 @@ use Rattle.std.proofs.Common.{◌≡◌, ◌+◌, ◌*◌, ◌<◌, [], ◌∷�
 use Rattle.std.proofs.lemmas.List.{get_or_default}
 use Rattle.std.proofs.lemmas.Nat.{mul-add-lt}
 use Rattle.flow.specs.TileLinks.{link_by, first_links}
-use Rattle.flow.proofs.Windows.{mapped_next}
+use Rattle.flow.proofs.Ranges.{mapped_next}
 use Rattle.flow.proofs.cells.push_links.Goals as goal
 
 pub loop-col-preserved : goal.loop-col-preserved

@@ -3,7 +3,7 @@ use Rattle.std.specs.List.{sum_by}
 use Rattle.std.proofs.lemmas.List.{length-append}
 use Rattle.std.proofs.lemmas.List.Sums.{sum_by_more, sum_by_more_le}
 use Rattle.flow.specs.declared.outlet_runs.RunCounts.{RunCounts}
-use Rattle.flow.proofs.Windows.{each_pushed}
+use Rattle.flow.proofs.Ranges.{each_pushed}
 use Rattle.flow.proofs.outlet_numbers.sums_before.Goals as goal
 
 pub loop-run-preserved : goal.loop-run-preserved

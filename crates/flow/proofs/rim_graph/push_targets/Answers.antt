@@ -6,7 +6,7 @@ use Rattle.tiles.specs.declared.bounds.Bounds.{Bounds}
 use Rattle.tiles.proofs.Cut.{bounds_inside}
 use Rattle.flow.specs.RimGraph.{target_by, target_in}
 use Rattle.flow.proofs.RimFlows.{target_in_tile}
-use Rattle.flow.proofs.Windows.{mapped_pushed, mapped_all}
+use Rattle.flow.proofs.Ranges.{mapped_pushed, mapped_all}
 use Rattle.flow.proofs.rim_graph.push_targets.Goals as goal
 
 pub target_of-requires-clause-some_row : goal.target_of-requires-clause-some_row

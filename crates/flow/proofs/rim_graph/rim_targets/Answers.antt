@@ -2,7 +2,7 @@ use Rattle.std.proofs.Common.{◌*◌, ap, arith}
 use Rattle.tiles.specs.Cutting.{bounds_of}
 use Rattle.tiles.specs.RimNumbers.{stride}
 use Rattle.flow.specs.RimGraph.{target_by}
-use Rattle.flow.proofs.Windows.{mapped_all}
+use Rattle.flow.proofs.Ranges.{mapped_all}
 use Rattle.flow.proofs.rim_graph.rim_targets.Goals as goal
 
 pub returns : goal.returns

@@ -2,7 +2,7 @@ use Rattle.std.proofs.Common.{◌≡◌, [], ◌∷◌, ◌+◌, ◌*◌, min, l
 use Rattle.std.proofs.Math.Seq.{take-length}
 use Rattle.std.proofs.lemmas.List.{length-append}
 use Rattle.flow.specs.Whole.{is_outlet_code}
-use Rattle.flow.proofs.Windows.{each_pushed}
+use Rattle.flow.proofs.Ranges.{each_pushed}
 use Rattle.flow.proofs.outlet_runs.RunCounts.of_run.Goals as goal
 
 pub loop-group-preserved : goal.loop-group-preserved

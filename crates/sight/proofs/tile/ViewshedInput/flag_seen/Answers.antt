@@ -1,5 +1,5 @@
 use Rattle.std.proofs.lemmas.Result.{on_ok_weaker}
-use Rattle.sight.proofs.Flagged.{left_seen}
+use Rattle.sight.proofs.FlagLists.{left_seen}
 use Rattle.sight.proofs.tile.ViewshedInput.flag_seen.Goals as goal
 
 pub returns : goal.returns

@@ -1,5 +1,5 @@
 use Rattle.std.proofs.Common.{◌≡◌, ◌-◌, ◌*◌, ℕ, subst, arith}
-use Rattle.sight.specs.Flags.{AreFlaggedBelow, IsFlagOf}
+use Rattle.sight.specs.Flags.{AreFlagsBelow, IsFlagOf}
 use Rattle.sight.proofs.tile.ViewshedInput.set_flags.Goals as goal
 
 pub loop-row-init : goal.loop-row-init
@@ -12,6 +12,6 @@ returns c =
     let self = c.args.self.now in
     let b = c.args.bounds in
     let all : c.loop-row.row - b.top ≡ b.rows = omega arith in
-    subst (λ (n : ℕ). AreFlaggedBelow b
+    subst (λ (n : ℕ). AreFlagsBelow b
     (IsFlagOf c.args.check self.grid.now.terrain c.args.observer.now self.target_height self.radius)
     (n * b.cols) c.loop-row.flags) all c.loop-row.invariant

@@ -2,8 +2,8 @@ use Rattle.std.proofs.Common.{◌≡◌, ◌+◌, ◌-◌, ◌*◌, ℕ, set, ap
 use Rattle.terrain.proofs.Places.{make_place}
 use Rattle.tiles.specs.Cutting.{index_in}
 use Rattle.tiles.proofs.TileOrder.{index_in_below}
-use Rattle.sight.specs.Flags.{AreFlaggedBelow, IsFlagOf}
-use Rattle.sight.proofs.Flagged.{flagged_more}
+use Rattle.sight.specs.Flags.{AreFlagsBelow, IsFlagOf}
+use Rattle.sight.proofs.FlagLists.{flagged_more}
 use Rattle.sight.proofs.tile.ViewshedInput.set_row_flags.Goals as goal
 
 pub bounds-flags-first : goal.bounds-flags-first
@@ -28,7 +28,7 @@ loop-col-preserved c =
     + (c.loop-col.col - b.left)) c.flag_of.result
     (omega (arith, c.requires.row), omega (arith, c.requires.row), omega arith, omega arith)
     at c.loop-col.invariant c.flag_of.ensures in
-    subst (λ (n : ℕ). AreFlaggedBelow b Holds n (set c.loop-col.flags
+    subst (λ (n : ℕ). AreFlagsBelow b Holds n (set c.loop-col.flags
     ((c.args.row - b.top) * b.cols + (c.loop-col.col - b.left)) c.flag_of.result)) next more
 
 pub returns : goal.returns
@@ -39,5 +39,5 @@ returns c =
     let wide : c.loop-col.col - b.left ≡ b.cols = omega arith in
     let all : (c.args.row - b.top) * b.cols + (c.loop-col.col - b.left)
     ≡ (c.args.row + 1 - b.top) * b.cols = omega (arith, wide, ap (λ (n : ℕ). n * b.cols) up) in
-    subst (λ (n : ℕ). AreFlaggedBelow b (IsFlagOf c.args.check self.grid.now.terrain
+    subst (λ (n : ℕ). AreFlagsBelow b (IsFlagOf c.args.check self.grid.now.terrain
     c.args.observer.now self.target_height self.radius) n c.loop-col.flags) all c.loop-col.invariant

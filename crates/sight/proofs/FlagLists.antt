@@ -11,12 +11,12 @@ use Rattle.tiles.specs.Cutting.{IsInBounds, index_in}
 use Rattle.tiles.proofs.TileOrder.{index_in_below}
 use Rattle.tile_maps.proofs.TileLists.{within_injective}
 use Rattle.sightlines.specs.Sight.{is_open}
-use Rattle.sight.specs.Flags.{AreFlaggedBelow, AreFlagged, AreLeft, FlagsSeen, FlagsSeenIfOpen}
+use Rattle.sight.specs.Flags.{AreFlagsBelow, AreFlags, AreLeft, FlagsSeen, FlagsSeenIfOpen}
 use Rattle.terrain.specs.declared.observer.Observer.{Observer}
 
 pub flagged_more : (b : Bounds) (Holds : Place → Bool → Type 0) (p : Place) (flags : List Bool) (i :
-    ℕ) (x : Bool) → IsInBounds b p → i ≡ index_in b p → AreFlaggedBelow b Holds i flags → Holds p x
-    → AreFlaggedBelow b Holds (i + 1) (set flags i x)
+    ℕ) (x : Bool) → IsInBounds b p → i ≡ index_in b p → AreFlagsBelow b Holds i flags → Holds p x
+    → AreFlagsBelow b Holds (i + 1) (set flags i x)
 flagged_more b Holds p flags i x inside at before is = record {
   size = length-set flags i x ∙ before.size;
   each = λ q within below. elim (cases_eq (index_in b q) i) [
@@ -34,9 +34,9 @@ flagged_more b Holds p flags i x inside at before is = record {
 -- let a place be seen exactly if its old flag is set and no crossing blocks its line of sight. If
 -- its new flag is set exactly if both are true, the new flags are those of the seen places.
 pub left_seen : (b : Bounds) (t : Terrain) (o : Observer) (target radius : ℕ)
-    (old new : List Bool) → AreFlagged b (FlagsSeenIfOpen t o target radius) old →
+    (old new : List Bool) → AreFlags b (FlagsSeenIfOpen t o target radius) old →
     AreLeft b (λ (p : Place). is_open t o p target) old new
-    → AreFlagged b (FlagsSeen t o target radius) new
+    → AreFlags b (FlagsSeen t o target radius) new
 left_seen b t o target radius old new flagged left = record {
   size = left.size ∙ flagged.size;
   each = λ p inside below. left.each p inside ∙ flagged.each p inside below;

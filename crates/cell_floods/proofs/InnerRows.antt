@@ -1,5 +1,5 @@
 -- Rows inside the border of a list lie in the list. The levels that a flood finds for a whole grid
--- are its filled heights. The bordered rows of a tile are the cells of its net.
+-- are its filled heights.
 use Rattle.std.proofs.Common.{◌⊎◌, ◌≡◌, ℕ, zero, suc, ◌+◌, ◌-◌, ◌*◌, ◌<◌, ◌≤◌, inl, inr, ℤ, List, [], ◌∷◌, length, map, ◌++◌, refl, get_or, take, drop, Option, None, is_some, ◌∙◌, sym, ap, arith, length-append, length-drop, length-take-le}
 use Rattle.std.proofs.Math.Nat.{add-sub_cancel_left}
 use Rattle.std.proofs.lemmas.Bool.{cases_eq}
