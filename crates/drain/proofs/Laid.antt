@@ -295,9 +295,3 @@ pub code_is : (t : Terrain) (p : Place) (level : ℤ) (code : ℕ) → height_at
 code_is t p level code e is =
     subst (λ (o : Option ℤ). MatchOption o (Some code ≡ None) (λ _. (n : ℕ) × (Some code ≡ Some n)
     × IsDirection t p n)) (sym e) (code, refl, is)
-
-pub code_by_direction : (t : Terrain) (steps : List (Option ℕ)) (p : Place) (level : ℤ) (a : Around)
-    (code : ℕ) → height_at t p ≡ Some level → AreSteps t steps → IsAround t steps p a →
-    code ≡ direction_of a → IsCodeAt t p (Some code)
-code_by_direction t steps p level a code e are around is = code_is t p level code e
-    (subst (λ n. IsDirection t p n) (sym is) (direction_is t steps p a are around))

@@ -29,7 +29,7 @@ pub mod Greatest
 pub mod Weights
 pub mod Pointing
 pub mod Laid
-pub mod InteriorLemmas
+pub mod WindowCodes
 pub mod Unique
 pub mod Steepest
 -- the map of directions

@@ -11,10 +11,10 @@ use Rattle.std.specs.Bool.{then_some, MatchBool}
 use Rattle.std.specs.List.{position}
 use Rattle.terrain.specs.Raster.{IsHeight}
 use Rattle.terrain.proofs.Heights.{height_width}
-use Rattle.drain.specs.Interior.{HasHeights, drop_by, drop_on, height_on, IsGreatestFall, IsLowestBefore, IsSteepestWay}
+use Rattle.drain.specs.Surroundings.{HasHeights, drop_by, drop_on, height_on, IsGreatestFall, IsLowestBefore, IsSteepestWay}
 use Rattle.drain.specs.Steepness.{weight, weights, positive_part}
 use Rattle.drain.specs.declared.around.Around.{Around}
-use Rattle.drain.proofs.InteriorLemmas.{drop_is}
+use Rattle.drain.proofs.WindowCodes.{drop_is}
 use Rattle.drain.proofs.Greatest.{IsFirstGreatest, fold-max_least, is_fold, is_position}
 use Rattle.drain.proofs.Weights.{length-weights, get_or-weights, square-above_zero}
 

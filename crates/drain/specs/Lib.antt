@@ -6,7 +6,7 @@ pub mod Lowering
 pub mod Entering
 pub mod Rounding
 pub mod Search
-pub mod Stages
+pub mod Codes
 pub mod Beginning
 pub mod Fitting
-pub mod Interior
+pub mod Surroundings

@@ -4,17 +4,31 @@
 //! A spot is a place of a tile's window: the tile with one more row and column on each side.
 ghost use Rattle.std.specs.Prelude.{◌≡◌, ℕ, ◌+◌, ◌*◌, ◌<◌, ◌≤◌, ◌↔◌, Some, None, length, IsTrue, OnOk, IfOk, slice_index_or};
 ghost use Rattle.std.specs.Bool.{MatchBool};
-ghost use Rattle.terrain.specs.Neighbours.{IsInside, height_at};
+ghost use Rattle.terrain.specs.Neighbours.{IsInside, height_at, index_of};
+ghost use Rattle.terrain.specs.Ways.{around_index};
 ghost use Rattle.drainage.specs.StepCounts.{known, no_count};
 ghost use Rattle.drain.specs.Beginning.{IsEdgeOrHasLower, IsGapOrLower, IsOutermost, IsInitialCount, IsBegunSpot, AreBegunSpots, IsPartOf};
 ghost use Rattle.drain.specs.Steps.{DrainsAtOnce};
 ghost use Rattle.tiles.specs.Windows.{AreMadeSpots, IsSpot};
 
-use crate::interior::cells_around;
 use drainage::NO_COUNT;
 use std::alloc::{AllocError, Global};
-use terrain::{Cell, Grid, Height, Place};
+use terrain::{Cell, Grid, Height, Place, around_index};
 use tiles::{Bounds, Window, place_shown, spot_of};
+
+/// Returns the row-order indexes of the eight cells around `place`, in code order.
+#[inline(always)]
+fn cells_around(grid: &Grid, place: Place) -> [usize; 8]
+    requires inside { IsInside grid.now.terrain place }
+    requires interior { IsOutermost grid.now.terrain place → ⊥ }
+    ensures value { result
+        ≡ around_index grid.now.terrain.cols (index_of grid.now.terrain.cols place) }
+    ensures below { (way : ℕ) → way < 8 →
+        slice_index_or result way 0 < grid.now.terrain.cols * grid.now.terrain.rows }
+{
+    let cols = grid.cols();
+    around_index(cols as usize, place.index_in(cols))
+}
 
 /// Returns whether a cell has no data or lies below `level`.
 #[inline(always)]
@@ -48,7 +62,7 @@ fn any_gap_or_lower(cells: &[Cell], at: &[usize; 8], level: Height) -> bool
 
 /// Returns whether a place lies in the grid's first or last row or column.
 #[inline(always)]
-pub(crate) fn is_outermost(grid: &Grid, place: Place) -> bool
+fn is_outermost(grid: &Grid, place: Place) -> bool
     requires { IsInside grid.now.terrain place }
     ensures { IsTrue result ↔ IsOutermost grid.now.terrain place }
 {

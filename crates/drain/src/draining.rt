@@ -13,9 +13,9 @@ ghost use Rattle.drain.specs.Steps.{AreSteps, DrainsAtOnce};
 ghost use Rattle.drain.specs.Directions.{AreDirections};
 ghost use Rattle.drainage.specs.Drained.{AllFlowEnds, directed_of};
 
+use crate::codes::Codes;
 use crate::first::first_round;
 use crate::rounds::run_rounds;
-use crate::stages::Codes;
 use crate::{loading, search};
 use drainage::{Directions, Filled, StepCount};
 use std::alloc::{AllocError, Global};

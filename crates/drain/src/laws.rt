@@ -13,7 +13,7 @@ ghost use Rattle.drain.specs.Steps.{IsSteps, AreSteps};
 ghost use Rattle.drain.specs.Beginning.{HasZeros, KeepsCounts};
 ghost use Rattle.drain.specs.Directions.{IsDirection, AreDirections};
 ghost use Rattle.drain.specs.Steepness.{direction_of};
-ghost use Rattle.drain.specs.Fitting.{IsAround};
+ghost use Rattle.drain.specs.Fitting.{IsAround, IsFitting};
 ghost use Rattle.drain.specs.declared.around.Around.{Around};
 
 /// A cell has at most one number of steps.
@@ -40,6 +40,13 @@ pub fn steps_are_few()
 pub fn each_has_direction()
     ensures { (t : Terrain) (p : Place) → IsTerrain t → IsFilled t t.cells → IsDataCell t p →
         (code : ℕ) × IsDirection t p code × ((other : ℕ) → IsDirection t p other → other ≡ code) }
+{}
+
+/// The surroundings of a data cell are fitting, as [`direction`](crate::direction) requires.
+#[tactic(auto, using(crate::proofs::Laid::fitting))]
+pub fn surroundings_are_fitting()
+    ensures { (t : Terrain) (steps : List (Option ℕ)) (p : Place) (a : Around) → IsTerrain t →
+        AreSteps t steps → IsAround t steps p a → IsFitting a }
 {}
 
 /// The direction of a cell is `direction_of` its surroundings.

@@ -18,9 +18,7 @@
 //! - `lowering`: the search of a later round
 //! - `changes`: types of lower counts
 //! - `runs`: sorts entries by tile
-//! - `stages`: the map of codes, one job for each tile
-//! - `surroundings`: the codes of a tile
-//! - `interior`: codes of cells with eight places of the grid around them
+//! - `codes`: the map of codes, one job for each tile
 //! - `steepness`: the rule at one cell
 //! - `around`: the surroundings of one cell
 //! - `laws`: consequences of the definitions
@@ -29,19 +27,17 @@
 mod around;
 mod beginning;
 mod changes;
+mod codes;
 mod draining;
 mod entering;
 mod first;
-mod interior;
 pub mod laws;
 mod loading;
 mod lowering;
 mod rounds;
 mod runs;
 mod search;
-mod stages;
 mod steepness;
-mod surroundings;
 
 pub use around::Around;
 pub use drainage::{Code, Directions};

@@ -9,7 +9,7 @@ ghost use Rattle.std.specs.Bool.{MatchBool};
 ghost use Rattle.std.specs.List.{list_any};
 ghost use Rattle.terrain.specs.Raster.{IsHeight, greatest_drop};
 ghost use Rattle.drain.specs.Steepness.{direction_of, leads_on};
-ghost use Rattle.drain.specs.Interior.{HasHeights, IsGreatestFall, IsLowestBefore, IsSteepestWay, drop_by, height_on};
+ghost use Rattle.drain.specs.Surroundings.{HasHeights, IsGreatestFall, IsLowestBefore, IsSteepestWay, drop_by, height_on};
 ghost use Rattle.drain.specs.Fitting.{IsFitting};
 ghost use Rattle.drain.specs.declared.around.Around.{Around};
 

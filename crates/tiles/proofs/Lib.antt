@@ -14,3 +14,4 @@ pub mod TileRows
 pub mod PutBack
 -- windows of tiles
 pub mod Spots
+pub mod SpotWays

@@ -1,8 +1,9 @@
 //! A copy of a tile's values, with one more row and column on each side: [`Window`].
 //!
 //! A spot is a place of a tile's window: the tile with one more row and column on each side.
-ghost use Rattle.std.specs.Prelude.{◌≡◌, ◌+◌, ◌*◌, ◌<◌, ◌≤◌, ◌↔◌, IsTrue, length, MatchOption, OnOk, IfOk};
+ghost use Rattle.std.specs.Prelude.{◌≡◌, ℕ, ◌+◌, ◌*◌, ◌<◌, ◌≤◌, ◌↔◌, IsTrue, length, MatchOption, OnOk, IfOk, slice_index_or};
 ghost use Rattle.terrain.specs.Neighbours.{entry_or};
+ghost use Rattle.terrain.specs.Ways.{around_index};
 ghost use Rattle.terrain.specs.declared.place.Place.{Place};
 ghost use Rattle.tiles.specs.Cutting.{IsCutting, IsView, IsWithinLimits, AreBounds, bounds_of};
 ghost use Rattle.tiles.specs.Windows.{area_of, spot_index, IsSpot, IsInner, IsOff, Shows, AreShown, IsSeen, AreSeenBelow, IsHeld, entry_inside};
@@ -10,7 +11,7 @@ ghost use Rattle.tiles.specs.Windows.{area_of, spot_index, IsSpot, IsInner, IsOf
 use crate::bounds::Bounds;
 use crate::view::TileView;
 use std::alloc::{AllocError, Global};
-use terrain::Place;
+use terrain::{Place, around_index};
 
 /// A tile's values, with one row and one column more on each side, in row order.
 /// These have the values around the tile ([`Window::of_view`]) or `none` ([`Window::of_tile`]).
@@ -33,6 +34,19 @@ impl<T> Window<T> {
         ensures below { result < area_of self.now.bounds }
     {
         spot.index_in(self.bounds.cols + 2)
+    }
+
+    /// Returns the row-order indexes of the eight spots around one of the tile's, in code order.
+    #[inline(always)]
+    #[tactic(auto, using(crate::proofs::SpotWays::index_after_row))]
+    pub fn around(&self, spot: Place) -> [usize; 8]
+        requires { IsInner self.now.bounds spot }
+        ensures value { result
+            ≡ around_index (self.now.bounds.cols + 2) (spot_index self.now.bounds spot) }
+        ensures below { (way : ℕ) → way < 8 →
+            slice_index_or result way 0 < area_of self.now.bounds }
+    {
+        around_index(self.bounds.cols as usize + 2, self.index(spot))
     }
 
     /// Returns whether a spot lies in the tile itself.

@@ -3,7 +3,7 @@ use Rattle.std.proofs.lemmas.Int.{to_z-of_z, ints, clamps}
 use Rattle.std.specs.Int.{int_min}
 use Rattle.terrain.specs.Raster.{IsHeight}
 use Rattle.terrain.proofs.Heights.{height_width}
-use Rattle.drain.specs.Interior.{height_on, IsLowestBefore}
+use Rattle.drain.specs.Surroundings.{height_on, IsLowestBefore}
 use Rattle.drain.proofs.Steepest.{lowest_next, or_level}
 use Rattle.drain.proofs.steepness.lowest.Goals as goal
 

@@ -1,5 +1,5 @@
 use Rattle.terrain.specs.Raster.{IsHeight}
-use Rattle.drain.specs.Interior.{IsLowestBefore}
+use Rattle.drain.specs.Surroundings.{IsLowestBefore}
 use Rattle.drain.proofs.steepness.lowest.Given as goal
 
 abbrev pub invariant-loop-turn : goal.invariant-loop-turn

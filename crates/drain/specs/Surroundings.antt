@@ -1,11 +1,14 @@
--- The steepest way down by the eight heights around a cell, and an interior cell's surroundings by
--- indexes into lists. Surroundings are heights and steps of a cell and its neighbours. An interior
--- cell has eight places of the grid around it. Ways are the eight directions, from 0 to 7 in code
--- order.
+-- The steepest way down by the eight heights around a cell, and a cell's surroundings by indexes
+-- into lists. Surroundings are heights and steps of a cell and its neighbours. Ways are the eight
+-- directions, from 0 to 7 in code order.
 -- Private.
-use Rattle.std.specs.Prelude.{◌≡◌, ℕ, ◌+◌, ◌%◌, ◌<◌, ◌≤◌, ◌*◌, ◌⊎◌, ◌==◌, max, ℤ, ◌-ℤ◌, ◌≤ℤ◌, List, length, fold, Option, None, Some, option_map, unwrap_or, position, slice_index_or}
+use Rattle.std.specs.Prelude.{◌≡◌, ℕ, ◌+◌, ◌%◌, ◌<◌, ◌≤◌, ◌*◌, ◌⊎◌, ◌==◌, max, ℤ, ◌-ℤ◌, ◌≤ℤ◌, List, length, fold, Option, None, Some, option_map, unwrap_or, IfSome, position, slice_index_or}
 use Rattle.std.specs.Option.{option_zip}
+use Rattle.terrain.specs.Raster.{Terrain, IsHeight}
+use Rattle.terrain.specs.declared.place.Place.{Place}
+use Rattle.drain.specs.Fitting.{IsLaidAround}
 use Rattle.drain.specs.Steepness.{positive_part, weights}
+use Rattle.drain.specs.Steps.{AreSteps}
 use Rattle.drain.specs.declared.around.Around.{Around}
 
 -- The drop from height `level` to another height; 0 if there is no other height or it is not lower.
@@ -66,3 +69,15 @@ pub record HasCells (a : Around) (cells : List (Option ℤ)) (steps : List (Opti
       slice_index_or a.ways way None
       ≡ option_zip (slice_index_or cells (slice_index_or at way 0) None)
       (slice_index_or steps (slice_index_or at way 0) None)
+
+-- The surroundings are those of cell p of the terrain, and the lists have them at the indexes `at`.
+pub record AreSurroundings (t : Terrain) (p : Place) (cells : List (Option ℤ))
+    (steps : List (Option ℕ)) (at : List ℕ) (level : ℤ) (own : ℕ) (a : Around) : Type 0 where
+  pub laid : (all : List (Option ℕ)) × AreSteps t all × IsLaidAround t all p a
+  pub found : HasCells a cells steps at level own
+  pub fits : IsHeight level
+  pub fit : (way : ℕ) → way < 8 →
+      IfSome (slice_index_or cells (slice_index_or at way 0) None) IsHeight
+  pub heights : (way : ℕ) → way < 8 →
+      slice_index_or cells (slice_index_or at way 0) None
+      ≡ option_map (λ w. w.0) (slice_index_or a.ways way None)

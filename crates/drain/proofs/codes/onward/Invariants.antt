@@ -1,8 +1,8 @@
 use Rattle.std.proofs.Common.{◌≡◌, ◌<◌, ℕ, false, None, length, get_or}
-use Rattle.drain.specs.Interior.{HasCells}
+use Rattle.drain.specs.Surroundings.{HasCells}
 use Rattle.drain.specs.Steepness.{leads_on}
 use Rattle.drain.specs.declared.around.Around.{Around}
-use Rattle.drain.proofs.interior.onward.Given as goal
+use Rattle.drain.proofs.codes.onward.Given as goal
 
 abbrev pub invariant-loop-way : goal.invariant-loop-way
 invariant-loop-way l = record {

@@ -1,8 +1,8 @@
 use Rattle.std.proofs.Common.{◌∙◌, ◌*◌, ◌<◌, ℕ, List, get_or, sym, ap, subst, arith}
 use Rattle.terrain.specs.Neighbours.{index_of}
 use Rattle.terrain.specs.Ways.{around_index}
-use Rattle.drain.proofs.InteriorLemmas.{row_before, around_below}
-use Rattle.drain.proofs.interior.cells_around.Goals as goal
+use Rattle.drain.proofs.Block.{row_before, around_below}
+use Rattle.drain.proofs.beginning.cells_around.Goals as goal
 
 pub around_index-requires-clause-before : goal.around_index-requires-clause-before
 around_index-requires-clause-before c =

@@ -1,0 +1,5 @@
+use Rattle.drain.proofs.Laid.{fitting}
+use Rattle.drain.proofs.laws.surroundings_are_fitting.Goals as goal
+
+pub returns : goal.returns
+returns c = fitting
