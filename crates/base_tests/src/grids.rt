@@ -153,7 +153,7 @@ fn counts(rt: HostRuntime) {
     for number in [0, 1, 16_777_216] {
         assert_eq!(rt; Count::of(number).value(), Some(number));
     }
-    assert!(rt; Count::no_data().value().is_none());
+    assert!(rt; Count::none().value().is_none());
 }
 
 #[test]

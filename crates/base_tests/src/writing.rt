@@ -172,7 +172,7 @@ fn lenient_flow(rt: HostRuntime) {
     let grid = lenient_grid(&rt, rt.alloc());
     let mut taker = Taker::new(rt.alloc(), ALL, ALL);
     let mut out = Counted::new(&mut taker);
-    let codes = [Count::of(1), Count::of(0), Count::no_data(), Count::of(64)];
+    let codes = [Count::of(1), Count::of(0), Count::none(), Count::of(64)];
     assert_eq!(rt; write_counts(&grid, &codes, &mut out), Ok(()));
     assert_eq!(rt; out.failures(), 0);
     assert_eq!(rt; taker.taken.as_slice(), LENIENT_FLOW);
@@ -186,7 +186,7 @@ fn header_in_any_order(rt: HostRuntime) {
     assert!(rt; grid.rows() == 1);
     let mut taker = Taker::new(rt.alloc(), ALL, ALL);
     let mut out = Counted::new(&mut taker);
-    let counts = [Count::of(12), Count::no_data()];
+    let counts = [Count::of(12), Count::none()];
     assert_eq!(rt; write_counts(&grid, &counts, &mut out), Ok(()));
     assert_eq!(rt; out.failures(), 0);
     assert_eq!(rt; taker.taken.as_slice(), MIXED_COUNTS);

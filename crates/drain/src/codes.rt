@@ -17,7 +17,7 @@ ghost use Rattle.drain.specs.Surroundings.{AreSurroundings, HasCells};
 ghost use Rattle.drain.specs.declared.around.Around.{Around};
 
 use crate::steepness::steepest;
-use drainage::{Code, NO_COUNT, StepCount};
+use drainage::{Code, StepCount};
 use std::alloc::{AllocError, Global};
 use std::marker::Model;
 use std::snapshot::Snapshot;
@@ -70,7 +70,7 @@ fn onward(cells: &[Cell], steps: &[StepCount], at: &[usize; 8], level: Height, o
 {
     for way in 0..8 {
         let index = at[way];
-        if leads_on(level, own, cells[index].height(), steps[index].known()) {
+        if leads_on(level, own, cells[index].height(), steps[index].value()) {
             return way;
         }
     }
@@ -137,7 +137,7 @@ impl SteppedWindow {
         let at = self.levels.around(spot);
         let cells: &[Cell] = &self.levels.values;
         let steps: &[StepCount] = &self.steps.values;
-        match (cells[index].height(), steps[index].known()) {
+        match (cells[index].height(), steps[index].value()) {
             (Some(level), Some(own)) => Some(data_code(cells, steps, &at, level, own)),
             _ => None,
         }
@@ -210,7 +210,7 @@ impl<'a> Codes<'a> {
         let steps = self.tiling.view(&self.steps, tile);
         Ok(SteppedWindow {
             levels: Window::of_view(alloc, &levels, Cell::no_data())?,
-            steps: Window::of_view(alloc, &steps, StepCount::of(NO_COUNT))?,
+            steps: Window::of_view(alloc, &steps, StepCount::none())?,
             grid: Snapshot::of(self.grid),
         })
     }

@@ -77,5 +77,5 @@ pub(crate) fn step_numbers(
 ) -> Result<Vec<Option<u32>>, AllocError>
     ensures { IfOk result (λ v. v.items ≡ map (λ count. count) counts.now) }
 {
-    counts.iter().map(|count| count.known()).collect(alloc)
+    counts.iter().map(|count| count.value()).collect(alloc)
 }

@@ -2,7 +2,7 @@
 use Rattle.std.proofs.Common.{◌≡◌, ℕ, ◌≤◌, ◌<◌, None, Some, unwrap_or, ap}
 use Rattle.std.proofs.lemmas.Bool.{cond-true, cond-false, lt-ltb, le-ltb}
 use Rattle.drainage.specs.StepCounts.{known, no_count}
-use Rattle.drainage.proofs.step_count.StepCount.TheLaws.{the_inverse_ok}
+use Rattle.terrain.proofs.count.OptionalCount.TheLaws.{the_inverse_ok}
 
 pub known-some : (n : ℕ) → n < no_count → known n ≡ Some n
 known-some n less = cond-true _ _ _ (lt-ltb _ _ less)
@@ -11,4 +11,4 @@ pub known-none : (n : ℕ) → no_count ≤ n → known n ≡ None
 known-none n more = cond-false _ _ _ (le-ltb _ _ more)
 
 pub known_number : (n : ℕ) → n ≤ no_count → unwrap_or (known n) no_count ≡ n
-known_number n few = ap (λ c. c.number) (the_inverse_ok (record { number = n }) few)
+known_number n few = ap (λ c. c.number) (the_inverse_ok no_count (record { number = n }) few)

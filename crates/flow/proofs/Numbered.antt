@@ -187,8 +187,8 @@ module _ (d : Directed) (t : Cutting) (flows : List Flow) (o : Outlets) (n : End
               let h = has_exit p i is in
               match_some (code_at d p) _ _ is.code is.is (entry
               ∙ ap (cell_number f.bounds (exit_numbers_by o flows n f)) h.listed
-              ∙ ap stored_count (exit_number_is p is h)
-              ∙ stored_count_some (end_number d n p) (number_few p is))
+              ∙ ap (stored_count uncounted) (exit_number_is p is h)
+              ∙ stored_count_some uncounted (end_number d n p) (number_few p is))
         ]
 
   pub ready : AreReady t flows o n

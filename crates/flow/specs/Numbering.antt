@@ -88,7 +88,7 @@ exit_numbers_by outlets flows n f =
 -- without an exit.
 abbrev pub cell_number : Bounds → List ℕ → Option Place → Option ℕ
 cell_number b by_exit None = None
-cell_number b by_exit (Some e) = stored_count (slice_index by_exit (index_in b e))
+cell_number b by_exit (Some e) = stored_count uncounted (slice_index by_exit (index_in b e))
 
 abbrev pub cell_numbers_by : Bounds → List ℕ → List (Option Place) → List (Option ℕ)
 cell_numbers_by b by_exit exits =

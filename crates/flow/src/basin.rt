@@ -19,7 +19,7 @@ use tiles::Tiling;
 /// Returns each cell's basin: the number of the outlet that ends its flow path.
 ///
 /// Outlets are numbered from 1 in row order. Values are in row order; NODATA has
-/// [`Count::no_data`].
+/// [`Count::none`].
 ///
 /// Each of three stages has as many jobs as tiles. The stages count outlets in runs of codes (parts
 /// of the list of all codes), find each tile's exits, and number each tile's cells.

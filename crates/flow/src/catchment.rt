@@ -42,7 +42,7 @@ fn cut_codes(
 ///
 /// The flow path includes the cell itself. A path without a gauge gives 0. A gauge's number
 /// is its position in the list, from 1. Of entries that name one cell the first counts.
-/// Values are in row order; NODATA has [`Count::no_data`].
+/// Values are in row order; NODATA has [`Count::none`].
 ///
 /// Cells are numbered by the ends of flow paths in a copy of the codes, where gauges are outlets.
 /// Each tile has two jobs: one finds its exits, and a later one numbers its cells.

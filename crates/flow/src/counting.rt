@@ -58,7 +58,7 @@ impl<'a> TileMap for Counting<'a> {
 }
 
 /// Returns each cell's accumulation: how many other cells' flow paths contain it.
-/// Values are in row order; NODATA has [`Count::no_data`].
+/// Values are in row order; NODATA has [`Count::none`].
 /// Each tile has two jobs: one finds its flow, and a later one its accumulations.
 ///
 /// # Errors

@@ -150,7 +150,7 @@ pub(crate) fn number_cells<R: Threads + Wait + Sync, G: Gate + Sync, N: EndNumbe
 }
 
 /// Returns each cell's number, which `by_exit` has at the index of its exit.
-/// NODATA has [`Count::no_data`].
+/// NODATA has [`Count::none`].
 #[tactic(auto, using(crate::proofs::Ranges::mapped_next))]
 fn cell_numbers(
     alloc: Global,
@@ -180,6 +180,6 @@ fn cell_number(flow: &TileFlow, ends: &[u32], by_exit: &[u32], index: usize) -> 
 {
     match flow.exit_index(ends, index) {
         Some(exit) => Count::of(by_exit[exit as usize]),
-        None => Count::no_data(),
+        None => Count::none(),
     }
 }

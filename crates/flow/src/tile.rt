@@ -254,6 +254,6 @@ pub(crate) fn count_where_data(code: Option<Code>, number: u32) -> Count
 {
     match code {
         Some(_) => Count::of(number),
-        None => Count::no_data(),
+        None => Count::none(),
     }
 }

@@ -240,7 +240,7 @@ fn push_plain_row(
     for col in 0..land.cols() {
         let place = Place { row, col };
         let value = if land.at(place).is_none() {
-            Count::no_data()
+            Count::none()
         } else {
             Count::of(sees(land, observer, place, target_height, LONGEST_RADIUS) as u32)
         };

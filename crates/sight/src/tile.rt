@@ -40,7 +40,7 @@ fn one_more(value: Count) -> Count
     ensures { result ≡ option_map (λ n. n + 1) value }
 {
     match value.value() {
-        None => Count::no_data(),
+        None => Count::none(),
         Some(number) => Count::of(number + 1),
     }
 }
@@ -122,7 +122,7 @@ impl<'a> PlaceMap for ViewshedInput<'a> {
 
     fn entry(&self, place: Place) -> Count {
         if self.grid.at(place).is_none() {
-            return Count::no_data();
+            return Count::none();
         }
         Count::of(0)
     }

@@ -1,12 +1,12 @@
--- A height, or a count below `uncounted`, is read back from its stored number unchanged. Different
--- numbers store different cells.
+-- A height, or a count below the number that stores no count, is read back from its stored number
+-- unchanged. Different numbers store different cells.
 use Rattle.std.proofs.Common.{◌≡◌, ◌≤ℤ◌, ◌<◌, ℕ, ℤ, inl, inr, Option, Some, false, unwrap_or, ap, sym, ◌∙◌, arith}
 use Rattle.std.proofs.lemmas.Int.{ints}
 use Rattle.terrain.specs.Raster.{highest}
 use Rattle.std.specs.Ordering.{int_eq}
-use Rattle.std.proofs.lemmas.Bool.{cases_Bool, cond-false, ne_eqb}
+use Rattle.std.proofs.lemmas.Bool.{cases_Bool, cond-true, cond-false, lt-ltb}
 use Rattle.std.proofs.lemmas.Bool.Decides.{Decides-int_eq}
-use Rattle.terrain.specs.StoredCells.{stored_cell, no_data, stored_count, uncounted}
+use Rattle.terrain.specs.StoredCells.{stored_cell, no_data, stored_count}
 use Rattle.terrain.proofs.cell.Cell.TheLaws.{the_inverse_ok}
 
 pub stored_inverse : (z : ℤ) → unwrap_or (stored_cell z) no_data ≡ z
@@ -25,6 +25,5 @@ stored_some z low =
     ] in
     cond-false _ _ _ other
 
-pub stored_count_some : (n : ℕ) → n < uncounted → stored_count n ≡ Some n
-stored_count_some n less =
-    cond-false _ _ _ (ne_eqb n uncounted (λ same. absurd (omega (arith, same))))
+pub stored_count_some : (none n : ℕ) → n < none → stored_count none n ≡ Some n
+stored_count_some none n less = cond-true _ _ _ (lt-ltb _ _ less)

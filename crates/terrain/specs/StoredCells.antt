@@ -1,7 +1,7 @@
 -- Defines how a number stores a cell (a height or no data) or a map's entry (a count or no data).
 -- Source: this project.
 -- Public.
-use Rattle.std.specs.Prelude.{ℕ, ℤ, pos, ◌==◌, Option, None, Some, if◌then◌else◌, option_and_then}
+use Rattle.std.specs.Prelude.{ℕ, ℤ, pos, nat_lt, Option, None, Some, if◌then◌else◌, option_and_then}
 use Rattle.std.specs.Ordering.{int_eq}
 
 -- The number that stores a cell without data. It is above every height.
@@ -20,6 +20,6 @@ cell_of height = option_and_then stored_cell height
 abbrev pub uncounted : ℕ
 uncounted = 4294967295
 
--- The map's entry that a number stores.
-abbrev pub stored_count : ℕ → Option ℕ
-stored_count n = if n == uncounted then None else Some n
+-- The count that number n stores; `None` if n is `none`, the number that stores no count, or more.
+abbrev pub stored_count : ℕ → ℕ → Option ℕ
+stored_count none n = if nat_lt n none then Some n else None

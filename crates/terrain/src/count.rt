@@ -1,70 +1,87 @@
-//! An entry of a map of whole numbers: a number or no data, in 4 bytes.
+//! A count or none, in 4 bytes: an entry of a map of whole numbers, or a number of steps.
 //!
-//! Contracts see an entry as an option. [`Count::of`] makes an entry of a number, and
-//! [`Count::value`] returns the option.
-ghost use Rattle.std.specs.Prelude.{◌≡◌, ◌<◌, None, Some};
-ghost use Rattle.terrain.specs.StoredCells.{stored_count, uncounted};
+//! Contracts see an option. [`OptionalCount::of`] makes an entry of a number, and
+//! [`OptionalCount::value`] returns the option.
+ghost use Rattle.std.specs.Prelude.{◌≡◌, ◌<◌, ◌≤◌, None, Some, unwrap_or};
+ghost use Rattle.terrain.specs.StoredCells.{stored_count};
 
 use std::marker::Model;
 
 /// The stored number of an entry without data; above every count that a map has.
 const UNCOUNTED: u32 = u32::MAX;
 
-/// A map's whole number or no data, in 4 bytes; an `Option<u32>` takes 8.
+/// A map's whole number or no data, in 4 bytes.
+pub type Count = OptionalCount<UNCOUNTED>;
+
+/// A number below `NONE`, or none, stored as `NONE`. Takes 4 bytes; an `Option<u32>` takes 8.
 #[derive(Clone, Copy, Debug, PartialEq, Eq)]
-pub struct Count {
-    stored: u32,
+pub struct OptionalCount<const NONE: u32> {
+    number: u32,
 }
 
-impl Model for Count {
-    ghost use Rattle.std.specs.Prelude.{ℕ, Option, unwrap_or};
-    ghost use Rattle.terrain.specs.StoredCells.{stored_count, uncounted};
-    ghost use Rattle.std.proofs.Common.{inl, inr, ap, sym, ◌∙◌};
-    ghost use Rattle.std.proofs.lemmas.Bool.{cases_eq, cond-true, cond-false, eq-eqb, ne_eqb};
+impl<const NONE: u32> Model for OptionalCount<NONE> {
+    ghost use Rattle.std.specs.Prelude.{ℕ, Option, ◌≤◌, unwrap_or};
+    ghost use Rattle.std.proofs.Common.{inl, inr, ap, ◌∙◌};
+    ghost use Rattle.std.proofs.Math.Nat.{le_antisymm};
+    ghost use Rattle.std.proofs.lemmas.Bool.{cases_lt, cond-true, cond-false, lt-ltb, le-ltb};
+    ghost use Rattle.terrain.specs.StoredCells.{stored_count};
 
     ghost Value = { Option ℕ };
 
-    ghost view = { λ c. stored_count c.stored };
+    ghost view = { λ s. stored_count NONE s.number };
 
-    ghost inverse = { λ o. record { stored = unwrap_or o uncounted } };
+    ghost invariant = { λ s. s.number ≤ NONE };
 
-    ghost inverse_ok = { λ c _.
-        ap (λ n. record { stored = n }) (elim (cases_eq c.stored uncounted) [
-          | inl same ↦
-              ap (λ o. unwrap_or o uncounted) (cond-true _ _ _ (eq-eqb _ _ same)) ∙ sym same
-          | inr other ↦
-              ap (λ o. unwrap_or o uncounted) (cond-false _ _ _ (ne_eqb _ _ other))
+    ghost inverse = { λ o. record { number = unwrap_or o NONE } };
+
+    ghost inverse_ok = { λ s few.
+        ap (λ n. record { number = n }) (elim (cases_lt s.number NONE) [
+          | inl less ↦ ap (λ o. unwrap_or o NONE) (cond-true _ _ _ (lt-ltb _ _ less))
+          | inr more ↦
+              ap (λ o. unwrap_or o NONE) (cond-false _ _ _ (le-ltb _ _ more))
+              ∙ le_antisymm more few
         ]) };
 }
 
-impl Count {
-    /// Returns an entry of `number`, or without data if `number` is `u32::MAX`.
+impl<const NONE: u32> OptionalCount<NONE> {
+    /// Returns the entry of `number`, without a number if that is `NONE` or more.
     #[inline(always)]
     #[tactic(auto, using(crate::proofs::Stored::stored_count_some))]
-    pub fn of(number: u32) -> Count
-        ensures stored { result ≡ stored_count number }
-        ensures number { number < uncounted → result ≡ Some number }
+    pub fn of(number: u32) -> Self
+        ensures stored { result ≡ stored_count NONE number }
+        ensures number { number < NONE → result ≡ Some number }
     {
-        Count { stored: number }
+        OptionalCount {
+            number: number.min(NONE),
+        }
     }
 
-    /// Returns an entry without data.
+    /// Returns an entry without a number.
     #[inline(always)]
-    pub fn no_data() -> Count
+    pub fn none() -> Self
         ensures { result ≡ None }
     {
-        Count { stored: UNCOUNTED }
+        OptionalCount { number: NONE }
     }
 
-    /// Returns the number, or `None` if the entry has no data.
+    /// Returns the number, or `None` if there is none.
     #[inline(always)]
-    pub fn value(self) -> Option<u32>
-        ensures { result ≡ self }
+    pub fn value(&self) -> Option<u32>
+        ensures { result ≡ self.now }
     {
-        if self.stored == UNCOUNTED {
-            None
+        if self.number < NONE {
+            Some(self.number)
         } else {
-            Some(self.stored)
+            None
         }
+    }
+
+    /// Returns the number, or `NONE` if there is none.
+    #[inline(always)]
+    pub fn number(&self) -> u32
+        ensures value { result ≡ unwrap_or self.now NONE }
+        ensures few { result ≤ NONE }
+    {
+        self.number
     }
 }

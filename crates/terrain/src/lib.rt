@@ -24,7 +24,7 @@ mod ways;
 mod word;
 
 pub use cell::{Cell, NO_DATA};
-pub use count::Count;
+pub use count::{Count, OptionalCount};
 pub use grid::{Anchor, Frame, Grid, GridHeader, LONGEST_AXIS, NoMemory};
 pub use observer::Observer;
 pub use place::{HIGHEST, Height, LOWEST, Place};

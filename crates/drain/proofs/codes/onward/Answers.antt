@@ -12,7 +12,7 @@ returns-then-leads_on-clause-first c =
     let height = c.height.ensures
     ∙ c.index-cells-index.is ∙ get_or_default c.args.cells.now at c.index-cells-index.result None
     (c.requires.cells c.loop-way.way c.loop-way-test.true) in
-    let steps = c.known.ensures
+    let steps = c.value.ensures
     ∙ c.index-steps-index.is ∙ get_or_default c.args.steps.now at c.index-steps-index.result None
     (c.requires.steps c.loop-way.way c.loop-way-test.true) in
     let leads = rw (to_z-of_z c.ranges.level) at c.leads_on.ensures in

@@ -23,7 +23,7 @@ returns-then-change-number c =
     c.index-steps-index.result None (subst (λ (n : ℕ). n < length steps) (sym is) inside)) in
     let less : x.count < count_of steps at =
     omega (arith, c.if-change-number.true, c.number.ensures.value, own) in
-    let put = put_one cols x steps c.of.result (c.of.ensures
+    let put = put_one cols x steps c.of.result (c.of.ensures.stored
     ∙ known-some x.count (omega (arith, c.if-change-number.true, c.number.ensures.few))) inside
     (subst (λ (n : ℕ). x.count < count_of steps n) is less) in
     subst (λ (n : ℕ). ArePut cols steps (slice_set steps n c.of.result) (λ (y : Change). y ≡ x))

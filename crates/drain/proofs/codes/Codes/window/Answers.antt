@@ -13,13 +13,13 @@ invariant_of-result c =
       cuts.0,
       cuts.1,
     ) at of_levels.shown in
-    let counts = rw (c.view-steps.ensures, c.deref.ensures.value, c.of.ensures, cuts.0, cuts.1) at
+    let counts = rw (c.view-steps.ensures, c.deref.ensures.value, c.none.ensures, cuts.0, cuts.1) at
     of_steps.shown in
     let same : c.in_ok-of_view-2.field-0.bounds ≡ c.in_ok-of_view.field-0.bounds =
     of_steps.bounds
     ∙ rw (c.view-steps.ensures) (sym (rw (c.view-levels.ensures) at of_levels.bounds)) in (
       same,
-      rw (c.of-2.ensures) record {
+      rw (c.of.ensures) record {
         lawful = c.self.invariant.lawful;
         heights = heights;
         counts = (c.self.inside.steps.items, c.self.invariant.steps, rw same at counts);

@@ -30,7 +30,7 @@ data_code-requires-clause-some c =
     ∙ sym c.index-cells-index.is ∙ sym c.height.ensures ∙ c.in-Some-Some.is-0 in
     let count = ap (λ (n : ℕ). get_or steps n None) (sym c.index-index.ensures.value)
     ∙ sym (get_or_default steps c.index-index.result c.index-steps-index.result None at_steps)
-    ∙ sym c.index-steps-index.is ∙ sym c.known.ensures ∙ c.in-Some-Some.is-1 in
+    ∙ sym c.index-steps-index.is ∙ sym c.value.ensures ∙ c.in-Some-Some.is-1 in
     let fits : SFits height_width level = search rules in
     rw (to_z-of_z fits)
     (some_surroundings w c.args.spot cells steps c.around-at.result level c.in-Some-Some.own
@@ -58,7 +58,7 @@ returns-in-Some-Some c =
     ∙ sym c.index-cells-index.is ∙ sym c.height.ensures ∙ c.in-Some-Some.is-0 in
     let count = ap (λ (n : ℕ). get_or steps n None) (sym c.index-index.ensures.value)
     ∙ sym (get_or_default steps c.index-index.result c.index-steps-index.result None at_steps)
-    ∙ sym c.index-steps-index.is ∙ sym c.known.ensures ∙ c.in-Some-Some.is-1 in
+    ∙ sym c.index-steps-index.is ∙ sym c.value.ensures ∙ c.in-Some-Some.is-1 in
     let fits : SFits height_width level = search rules in
     let direction = rw (to_z-of_z fits) at c.data_code.ensures in
     subst (λ (v : SteppedSpots). (p : Place) → Shows v.bounds c.args.spot p →
