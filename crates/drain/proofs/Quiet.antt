@@ -12,7 +12,7 @@ use Rattle.terrain.specs.declared.place.Place.{Place}
 use Rattle.tiles.specs.Cutting.{Cutting, Cuts, IsCutting, tile_of_place, IsInTile, tile_entry}
 use Rattle.drain.specs.Beginning.{HasZeros, AreInitialCounts, KeepsCounts}
 use Rattle.drain.specs.Steps.{DrainsAtOnce, IsWalkAtOneHeight, IsFlatWalk, IsSteps, AreSteps}
-use Rattle.drain.specs.Rounds.{HasCountZero, IsWalked, AreWalked, IsAtMostOneAbove, IsRound, AreCounting, AreFinal}
+use Rattle.drain.specs.Rounds.{HasCountZero, IsWalked, AreWalked, IsAtMostOneAbove, IsRound, AreFinal}
 use Rattle.drain.proofs.Counted.{has_steps}
 use Rattle.drainage.proofs.Reach.{data_inside}
 use Rattle.terrain.proofs.Options.{cases_option}
@@ -123,24 +123,6 @@ begun_zeros t counts begun p drains = let is = drains_data t p drains in
 zeros_drain : (t : Terrain) (counts : List (Option ℕ)) → AreInitialCounts t counts → (p : Place) →
     HasCountZero t counts p → DrainsAtOnce t p
 zeros_drain t counts begun p input = ((begun.each p (data_inside t p input.0)).only 0 input.1).0
-
--- each known initial count is 0, the length of a walk without moves
-pub begun_walked : (Ends : Place → Type 0) (t : Terrain) (counts : List (Option ℕ)) →
-    AreInitialCounts t counts → ((p : Place) → DrainsAtOnce t p → Ends p) → AreWalked Ends t counts
-begun_walked Ends t counts begun to p =
-    if_some (entry_at t.cols t.rows counts p) (IsWalked Ends t p) (λ n e.
-    let at = (begun.each p (inside_from_entry t.cols t.rows counts p n e)).only n e in
-    (omega (arith, at.1), [], to p at.0, sym at.1))
-
--- each known initial count is the length of a walk at one height to a cell of count 0
--- (`AreCounting`), in the terrain with its sinks removed
-pub begun_counting : (t : Terrain) (counts : List (Option ℕ)) → AreInitialCounts t counts →
-    AreCounting (with_sinks t []) counts
-begun_counting t counts begun = record {
-  size = begun.size;
-  walked = are_walked_to (HasCountZero t counts) (HasCountZero t counts) t [] counts (λ p input.
-      input) (begun_walked (HasCountZero t counts) t counts begun (begun_zeros t counts begun));
-}
 
 -- counts of a round with walks to places of A are also those of a round with walks to places of B,
 -- if A implies B, with any sinks

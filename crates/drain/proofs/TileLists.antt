@@ -5,12 +5,11 @@ use Rattle.terrain.specs.Raster.{Terrain}
 use Rattle.terrain.specs.declared.place.Place.{Place}
 use Rattle.terrain.proofs.Places.{make_place, same_place}
 use Rattle.tiles.specs.declared.bounds.Bounds.{Bounds}
-use Rattle.tiles.specs.Cutting.{Cutting, IsCutting, Cuts, AreBounds}
+use Rattle.tiles.specs.Cutting.{Cutting, Cuts}
 use Rattle.tile_maps.specs.Maps.{IsMadeUpTo, IsMadeMap}
 use Rattle.tile_maps.proofs.TileLists.{made_next}
 use Rattle.tile_maps.proofs.Whole.{map_of_size}
 use Rattle.drainage.specs.StepCounts.{known}
-use Rattle.drain.specs.Beginning.{IsPartOf}
 use Rattle.drain.specs.Directions.{IsCodeAt, AreDirections}
 use Rattle.drain.specs.Search.{IsCopied, count_on}
 
@@ -19,15 +18,6 @@ pub coded_next : (t : Terrain) (b : Bounds) (row col : ℕ) (list : List (Option
     IsMadeUpTo b (IsCodeAt t) (row * b.cols + col) list → IsCodeAt t (make_place (b.top + row)
     (b.left + col)) x → IsMadeUpTo b (IsCodeAt t) (row * b.cols + (col + 1)) (list ++ x ∷ [])
 coded_next t b = made_next b (IsCodeAt t)
-
-pub part_of : (t : Terrain) (c : Cutting) (b : Bounds) → IsCutting c → Cuts c t → AreBounds c b →
-    IsPartOf t b
-part_of t c b lawful cuts fits = record {
-  few_rows = omega (arith, lawful.few_rows, cuts.1);
-  few_cols = omega (arith, lawful.few_cols, cuts.0);
-  rows = omega (arith, cuts.1, fits.rows_inside);
-  cols = omega (arith, cuts.0, fits.cols_inside);
-}
 
 pub coded_map : (t : Terrain) (c : Cutting) (codes : List (Option ℕ)) → Cuts c t →
     IsMadeMap c (IsCodeAt t) codes → AreDirections t codes

@@ -1,15 +1,17 @@
 -- Counts before the first round, and counts that a round over all tiles leaves as they are. A count
 -- is the fewest moves found so far from a cell to one that drains at once, or unknown.
 -- Public.
-use Rattle.std.specs.Prelude.{◌≡◌, ◌⊎◌, ◌≤◌, ◌<◌, ℕ, ◌+◌, ◌-◌, ◌*◌, ℤ, ◌<ℤ◌, List, length, Option, None, Some}
+use Rattle.std.specs.Prelude.{◌≡◌, ◌⊎◌, ◌≤◌, ◌<◌, ℕ, ◌+◌, ◌*◌, ℤ, ◌<ℤ◌, List, length, Option, None, Some, slice_index_or}
 use Rattle.terrain.specs.Neighbours.{IsInside, entry_at, IsEdge}
 use Rattle.terrain.specs.Raster.{Terrain}
+use Rattle.terrain.specs.Ways.{around_index}
 use Rattle.terrain.specs.declared.place.Place.{Place}
 use Rattle.tiles.specs.declared.bounds.Bounds.{Bounds}
-use Rattle.tiles.specs.Cutting.{Cutting, IsInTile, longest_axis, tile_count, tile_entry}
+use Rattle.tiles.specs.Cutting.{Cutting, IsInTile, tile_count, tile_entry}
 use Rattle.drain.specs.Steps.{HasLower, DrainsAtOnce}
 use Rattle.drain.specs.Rounds.{IsRound}
-use Rattle.tiles.specs.Windows.{AreMadeSpots, IsOff, Shows, area_of}
+use Rattle.drain.specs.Search.{level_on}
+use Rattle.tiles.specs.Windows.{AreMadeSpots, IsInner, Shows, area_of, spot_index}
 use Rattle.drainage.specs.StepCounts.{known, no_count}
 
 -- The cell has no data or lies below height `level`.
@@ -32,17 +34,24 @@ pub record AreInitialCounts (t : Terrain) (counts : List (Option ℕ)) : Type 0 
   pub each : (p : Place) → IsInside t p →
       IsInitialCount (DrainsAtOnce t) p (entry_at t.cols t.rows counts p)
 
--- `count` is the initial count at spot s: 0 if `Drains` holds for the place that s shows, else
--- unknown. North and west of the grid it is unknown too. Spots are the places of a tile's window:
--- the tile and one row or column on each side.
-abbrev pub IsBegunSpot : (Place → Type 0) → Bounds → Place → ℕ → Type 0
-IsBegunSpot Drains b s count = (count ≤ no_count)
-    × ((p : Place) → Shows b s p → IsInitialCount Drains p (known count))
-    × (IsOff b s → known count ≡ None)
+-- The spot lies in the tile and has data. A spot around it has no data or a lower height.
+abbrev pub HasGapOrLower : Bounds → List (Option ℤ) → Place → Type 0
+HasGapOrLower b levels s = IsInner b s × (level : ℤ) × (level_on b levels s ≡ Some level)
+    × (way : ℕ) × (way < 8) × IsGapOrLower level (slice_index_or levels
+    (slice_index_or (around_index (b.cols + 2) (spot_index b s)) way 0) None)
 
--- The initial counts of a tile and the places around it: 0 where `Drains` holds, else unknown.
+-- The spot lies in the tile and shows a cell for which `Drains` holds.
+abbrev pub ShowsDraining : (Place → Type 0) → Bounds → Place → Type 0
+ShowsDraining Drains b s = IsInner b s × (p : Place) × Shows b s p × Drains p
+
+-- `count` is the initial count at spot s: 0 if `Drains` holds for the spot, else unknown. Spots are
+-- the places of a tile's window: the tile and one row or column on each side.
+abbrev pub IsBegunSpot : (Place → Type 0) → Place → ℕ → Type 0
+IsBegunSpot Drains s count = (count ≤ no_count) × IsInitialCount Drains s (known count)
+
+-- The initial counts at the spots: 0 where `Drains` holds, else unknown.
 abbrev pub AreBegunSpots : (Place → Type 0) → Bounds → List ℕ → Type 0
-AreBegunSpots Drains b counts = AreMadeSpots (IsBegunSpot Drains b) b (area_of b) 0 counts
+AreBegunSpots Drains b counts = AreMadeSpots (IsBegunSpot Drains) b (area_of b) 0 counts
 
 -- Each cell that drains at once has the count 0.
 abbrev pub HasZeros : Terrain → List (Option ℕ) → Type 0
@@ -55,14 +64,3 @@ pub record KeepsCounts (t : Terrain) (c : Cutting) (steps : List (Option ℕ))
       IsRound (DrainsAtOnce t) t c tile steps (lists tile)
   pub same : (tile : ℕ) (p : Place) → IsInTile c tile p →
       tile_entry c tile (lists tile) p ≡ entry_at t.cols t.rows steps p
-
--- The place lies in the first or last row or column.
-abbrev pub IsOutermost : Terrain → Place → Type 0
-IsOutermost t p = (p.row ≡ 0) ⊎ (p.col ≡ 0) ⊎ (p.row ≡ t.rows - 1) ⊎ (p.col ≡ t.cols - 1)
-
--- The bounds lie in a terrain of at most 4,096 rows and columns.
-pub record IsPartOf (t : Terrain) (b : Bounds) : Type 0 where
-  pub few_rows : t.rows ≤ longest_axis
-  pub few_cols : t.cols ≤ longest_axis
-  pub rows : b.top + b.rows ≤ t.rows
-  pub cols : b.left + b.cols ≤ t.cols

@@ -1,18 +1,23 @@
 use Rattle.std.proofs.Common.{◌+◌, ◌∙◌, List, ℕ, is_some, slice_set, sym, ap, subst, arith}
 use Rattle.std.proofs.lemmas.Bool.{false≢true}
+use Rattle.terrain.proofs.Places.{same_place}
+use Rattle.terrain.specs.declared.place.Place.{Place}
+use Rattle.tiles.specs.Windows.{IsInner}
 use Rattle.drain.proofs.Begun.{AreBegunBefore, before_all, before_any, sink_passed, sink_put}
-use Rattle.drain.proofs.beginning.begin_at_sinks.Goals.{then-is_some, else-is_some}
+use Rattle.drain.proofs.Spreading.{spot_from_inner}
+use Rattle.drain.proofs.beginning.begin_at_sinks.Goals.{then-is_inner+then-is_some, else-is_inner, else-is_inner-via-then-is_inner+else-is_some, else-is_inner-via-else-is_inner}
 use Rattle.drain.proofs.beginning.begin_at_sinks.Goals as goal
 
 pub loop-sink-init : goal.loop-sink-init
 loop-sink-init c = before_any c.args.grid.now.terrain c.sinks-sink-items.result.now
-    c.args.window.now.bounds c.args.counts.now c.requires.counts
+    c.args.window.now.bounds c.args.counts.now c.requires
 
 pub loop-sink-preserved-in_default : goal.loop-sink-preserved-in_default
 loop-sink-preserved-in_default c =
+    let b = c.args.window.now.bounds in
     sink_passed c.args.grid.now.terrain c.sinks-sink-items.result.now c.loop-sink.sink-index
     c.args.window.now.bounds c.loop-sink.counts c.loop-sink-test.true c.loop-sink.invariant
-    (λ s spot shows here. c.in_default.ensures s spot shows)
+    (λ s inner shows here. c.in_default.ensures s (spot_from_inner b s inner) shows)
 
 pub loop-sink-preserved : goal.loop-sink-preserved
 loop-sink-preserved c =
@@ -21,17 +26,26 @@ loop-sink-preserved c =
     let i = c.loop-sink.sink-index in
     let b = c.args.window.now.bounds in
     let at = c.in-Some.ensures in
-    elim c.if-is_some.branch [
-      | then-is_some w ↦ subst (λ (xs : List ℕ). AreBegunBefore t sinks (i + 1) b xs) (sym
-          (w.counts-is ∙ ap (λ (n : ℕ). slice_set c.loop-sink.counts n 0) w.index.ensures.value))
+    let passed = sink_passed t sinks i b c.loop-sink.counts c.loop-sink-test.true
+    c.loop-sink.invariant in
+    elim c.if-is_inner.branch [
+      | then-is_inner+then-is_some w ↦ subst (λ (xs : List ℕ). AreBegunBefore t sinks (i + 1) b xs)
+          (sym (w.counts-is ∙ ap (λ (n : ℕ). slice_set c.loop-sink.counts n 0)
+          w.index.ensures.value))
           (sink_put t sinks i b c.loop-sink.counts c.loop-sink-test.true c.loop-sink.invariant
-          c.in-Some.spot at.0 at.1 (sym (ap is_some c.at.ensures) ∙ sym c.is_some.ensures
-          ∙ w.if-is_some.true))
-      | else-is_some w ↦
+          c.in-Some.spot (c.is_inner.ensures.0 w.if-is_inner.true) at.1
+          (sym (ap is_some w.at.ensures) ∙ sym w.is_some.ensures ∙ w.if-is_some.true))
+      | else-is_inner w ↦
           subst (λ (xs : List ℕ). AreBegunBefore t sinks (i + 1) b xs) (sym w.counts-is)
-          (sink_passed t sinks i b c.loop-sink.counts c.loop-sink-test.true c.loop-sink.invariant
-          (λ s spot shows here.
-          false≢true (sym w.if-is_some.false ∙ c.is_some.ensures ∙ ap is_some c.at.ensures ∙ here)))
+          (passed (λ s inner shows here. elim w.else-is_inner.branch [
+            | else-is_inner-via-then-is_inner+else-is_some v ↦
+                false≢true (sym v.if-is_some.false ∙ v.is_some.ensures ∙ ap is_some v.at.ensures
+                ∙ here)
+            | else-is_inner-via-else-is_inner v ↦
+                false≢true (sym v.if-is_inner.false ∙ c.is_inner.ensures.1
+                (subst (λ (r : Place). IsInner b r) (same_place s c.in-Some.spot
+                (omega (arith, shows.0, at.1.0)) (omega (arith, shows.1, at.1.1))) inner))
+          ]))
     ]
 
 pub returns : goal.returns

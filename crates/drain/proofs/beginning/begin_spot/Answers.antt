@@ -1,6 +1,32 @@
-use Rattle.drain.proofs.Begun.{begun_shown}
+use Rattle.std.proofs.Common.{rules, ◌+◌, ◌<◌, ◌∙◌, ℤ, None, length, get_or, sym, subst, arith, to_z-of_z}
+use Rattle.std.proofs.lemmas.Option.{none-some, same_Some}
+use mir.Val.{SFits}
+use Rattle.terrain.proofs.Heights.{height_width}
+use Rattle.terrain.specs.Ways.{around_index}
+use Rattle.tiles.specs.Windows.{spot_index}
+use Rattle.drain.specs.Beginning.{IsGapOrLower}
+use Rattle.drain.proofs.Block.{read_is}
 use Rattle.drain.proofs.beginning.begin_spot.Goals as goal
 
-pub returns-in-Some : goal.returns-in-Some
-returns-in-Some c = begun_shown c.args.grid.now.terrain c.args.bounds c.args.spot c.in-Some.place
-    c.begin_at.result c.in-Some.ensures c.begin_at.ensures.few c.begin_at.ensures.begun
+pub returns-else-any_gap_or_lower : goal.returns-else-any_gap_or_lower
+returns-else-any_gap_or_lower c =
+    let fits : SFits height_width c.in-Some.level = search rules in
+    let cells = c.deref-cells.result.now in
+    let none = rw (to_z-of_z fits, c.around.ensures.value) at c.if-any_gap_or_lower.ensures in
+    let below : c.index.result < length cells = search rules in
+    let here = read_is cells c.index.result (spot_index c.args.window.now.bounds c.args.spot)
+    c.index-cells-index.result c.in-Some.level c.index.ensures.value below c.index-cells-index.is
+    (sym c.height.ensures ∙ c.in-Some.is) in
+    let own = rw c.deref-cells.ensures.value at here in
+    let around = rw c.deref-cells.ensures.value at none in (
+      omega arith,
+      record {
+        zero = λ has.
+            let same = same_Some has.1 c.in-Some.level (sym has.2 ∙ own) in
+            absurd (around has.3 has.4 (subst (λ (z : ℤ). IsGapOrLower z (get_or
+            c.args.window.now.values.items (get_or (around_index
+            (c.args.window.now.bounds.cols + 2) (spot_index c.args.window.now.bounds c.args.spot))
+            has.3 0) None)) same has.5));
+        only = λ n e. absurd (none-some n e);
+      },
+    )

@@ -1,17 +1,20 @@
 use Rattle.std.proofs.Common.{◌≡◌, ◌+◌, ◌*◌, ℕ, length, ap, arith}
 use Rattle.std.proofs.lemmas.List.{take_at}
+use Rattle.drain.proofs.Begun.{begun_shown}
 use Rattle.drain.proofs.beginning.begun_counts.Goals as goal
 
-pub begin_at_sinks-requires-clause-counts : goal.begin_at_sinks-requires-clause-counts
-begin_at_sinks-requires-clause-counts c =
+pub begin_at_sinks-requires : goal.begin_at_sinks-requires
+begin_at_sinks-requires c =
     let b = c.args.window.now.bounds in
     let inv = c.loop-row.invariant in
     let last : c.loop-row.row ≡ b.rows + 2 = omega arith in
     let end = ap (λ (n : ℕ). n * (b.cols + 2)) last in
-    rw c.deref_mut.ensures.value record {
+    rw c.deref_mut.ensures.value
+    (begun_shown c.args.grid.now.terrain b c.args.window.now.values.items c.loop-row.counts.items
+    c.requires (record {
       size = omega (arith, inv.size, end);
       each = λ s spot below. inv.each s spot (omega (arith, below, end));
-    }
+    }))
 
 pub returns : goal.returns
 returns c =

@@ -1,11 +1,11 @@
-use Rattle.std.proofs.Common.{rules, ◌<◌, ◌∙◌, ℕ, None, Some, length, get_or, ap, subst, sym, to_z-of_z}
-use Rattle.std.proofs.lemmas.List.{get_or_default}
+use Rattle.std.proofs.Common.{rules, ◌<◌, ◌∙◌, Some, length, subst, sym, to_z-of_z}
 use mir.Val.{SFits}
 use Rattle.terrain.proofs.Heights.{height_width}
 use Rattle.terrain.specs.declared.place.Place.{Place}
-use Rattle.tiles.specs.Windows.{IsInner, Shows}
+use Rattle.tiles.specs.Windows.{IsInner, Shows, spot_index}
 use Rattle.drain.specs.Codes.{SteppedSpots}
 use Rattle.drain.specs.Directions.{IsCodeAt}
+use Rattle.drain.proofs.Block.{read_is}
 use Rattle.drain.proofs.WindowCodes.{some_surroundings, code_shown}
 use Rattle.drain.proofs.codes.SteppedWindow.code_at.Goals as goal
 
@@ -25,12 +25,12 @@ data_code-requires-clause-some c =
     let level = c.in-Some-Some.level in
     let at_level : c.index-index.result < length cells = search rules in
     let at_steps : c.index-index.result < length steps = search rules in
-    let high = ap (λ (n : ℕ). get_or cells n None) (sym c.index-index.ensures.value)
-    ∙ sym (get_or_default cells c.index-index.result c.index-cells-index.result None at_level)
-    ∙ sym c.index-cells-index.is ∙ sym c.height.ensures ∙ c.in-Some-Some.is-0 in
-    let count = ap (λ (n : ℕ). get_or steps n None) (sym c.index-index.ensures.value)
-    ∙ sym (get_or_default steps c.index-index.result c.index-steps-index.result None at_steps)
-    ∙ sym c.index-steps-index.is ∙ sym c.value.ensures ∙ c.in-Some-Some.is-1 in
+    let high = read_is cells c.index-index.result (spot_index w.bounds c.args.spot)
+    c.index-cells-index.result level c.index-index.ensures.value at_level c.index-cells-index.is
+    (sym c.height.ensures ∙ c.in-Some-Some.is-0) in
+    let count = read_is steps c.index-index.result (spot_index w.bounds c.args.spot)
+    c.index-steps-index.result c.in-Some-Some.own c.index-index.ensures.value at_steps
+    c.index-steps-index.is (sym c.value.ensures ∙ c.in-Some-Some.is-1) in
     let fits : SFits height_width level = search rules in
     rw (to_z-of_z fits)
     (some_surroundings w c.args.spot cells steps c.around-at.result level c.in-Some-Some.own
@@ -53,12 +53,12 @@ returns-in-Some-Some c =
     let level = c.in-Some-Some.level in
     let at_level : c.index-index.result < length cells = search rules in
     let at_steps : c.index-index.result < length steps = search rules in
-    let high = ap (λ (n : ℕ). get_or cells n None) (sym c.index-index.ensures.value)
-    ∙ sym (get_or_default cells c.index-index.result c.index-cells-index.result None at_level)
-    ∙ sym c.index-cells-index.is ∙ sym c.height.ensures ∙ c.in-Some-Some.is-0 in
-    let count = ap (λ (n : ℕ). get_or steps n None) (sym c.index-index.ensures.value)
-    ∙ sym (get_or_default steps c.index-index.result c.index-steps-index.result None at_steps)
-    ∙ sym c.index-steps-index.is ∙ sym c.value.ensures ∙ c.in-Some-Some.is-1 in
+    let high = read_is cells c.index-index.result (spot_index w.bounds c.args.spot)
+    c.index-cells-index.result level c.index-index.ensures.value at_level c.index-cells-index.is
+    (sym c.height.ensures ∙ c.in-Some-Some.is-0) in
+    let count = read_is steps c.index-index.result (spot_index w.bounds c.args.spot)
+    c.index-steps-index.result c.in-Some-Some.own c.index-index.ensures.value at_steps
+    c.index-steps-index.is (sym c.value.ensures ∙ c.in-Some-Some.is-1) in
     let fits : SFits height_width level = search rules in
     let direction = rw (to_z-of_z fits) at c.data_code.ensures in
     subst (λ (v : SteppedSpots). (p : Place) → Shows v.bounds c.args.spot p →

@@ -1,29 +1,23 @@
-use Rattle.std.proofs.Common.{[], ℕ, ℤ, List, Option, sym, ap, subst, ◌∙◌}
-use Rattle.tiles.specs.Cutting.{View, IsCutting, bounds_of}
-use Rattle.tiles.proofs.Cut.{inside_from_value}
+use Rattle.std.proofs.Common.{ℕ, ℤ, List, Option, sym, ap, subst, ◌∙◌}
 use Rattle.drain.specs.Search.{AreCounts, IsSearched}
 use Rattle.drain.proofs.Begun.{begun_round, begun_small}
-use Rattle.drain.proofs.TileLists.{part_of}
 use Rattle.drain.proofs.first.FirstRoundWork.run.Goals as goal
 
 pub begun_counts-requires : goal.begun_counts-requires
 begun_counts-requires c =
-    let cut = c.args.self.now.tiling.now in
-    let b = c.in_ok-window.window.bounds in
-    let lawful = subst (λ (z : View (Option ℤ)).
-    IsCutting z.cutting) c.view-levels.ensures c.in_ok-window.ensures.lawful.cutting in
-    let bounds = c.in_ok-window.ensures.bounds
-    ∙ ap (λ (z : View (Option ℤ)). bounds_of z.cutting z.tile) c.view-levels.ensures in
-    record {
-      inside = part_of c.args.self.now.grid.now.terrain cut b lawful c.args.self.now.cuts
-          (inside_from_value cut c.args.job b lawful c.requires bounds);
-    }
+    rw (
+      c.view-levels.ensures,
+      c.cells.ensures.value,
+      c.no_data.ensures,
+      c.args.self.now.cuts.0,
+      c.args.self.now.cuts.1,
+    ) at c.in_ok-window.ensures.shown
 
 pub round-requires-clause-counts : goal.round-requires-clause-counts
 round-requires-clause-counts c =
     subst (λ (xs : List ℕ). AreCounts xs) (sym c.deref.ensures.value)
     (begun_small c.args.self.now.grid.now.terrain c.in_ok-window.window.bounds
-    c.in_ok-begun.begun.items [] c.in_ok-begun.ensures)
+    c.in_ok-begun.begun.items c.in_ok-begun.ensures)
 
 pub returns-clause-given : goal.returns-clause-given
 returns-clause-given c = λ begun first.
