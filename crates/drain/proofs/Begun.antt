@@ -281,7 +281,8 @@ module _ (t : Terrain) (b : Bounds) (counts : List ℕ)
               ∙ (first.each p (data_inside t p (drains_data t p now))).zero now;
           only = λ m e.
               let at = known_here p m e in
-              let now = (first.each p (inside_from_entry t.cols t.rows begun p m at.1)).only m at.1 in
+              let inside = inside_from_entry t.cols t.rows begun p m at.1 in
+              let now = (first.each p inside).only m at.1 in
               ((inner at.0, p, shows, now.0), now.1);
         })
       where

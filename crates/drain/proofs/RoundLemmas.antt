@@ -315,8 +315,8 @@ module _ (c : Cutting) (levels : List (Option ℤ)) (old : List (Option ℕ))
     (given : (j : ℕ) (d : Vec (Option ℕ) Global) → j < tile_count c →
     IsFirstRound (HasCountZero (sinkless_terrain c levels) old) (sinkless_terrain c levels) c j old
     (get_or lists j d).items) where
-  round_at : (tile : ℕ) (list : Vec (Option ℕ) Global) → slice_get lists tile ≡ Some list → IsFirstRound
-      (HasCountZero (sinkless_terrain c levels) old)
+  round_at : (tile : ℕ) (list : Vec (Option ℕ) Global) → slice_get lists tile ≡ Some list →
+      IsFirstRound (HasCountZero (sinkless_terrain c levels) old)
       (sinkless_terrain c levels) c tile old list.items
   round_at tile list at =
       let below : tile < tile_count c =

@@ -10,9 +10,9 @@ loop-col-preserved c =
     let w = c.args.window.now in
     let b = w.bounds in
     let s = make_place c.args.row c.loop-col.col in
-    let more = made_push (IsBegunSpot (HasGapOrLower b w.values.items)) b s 0 c.loop-col.counts.items
-    c.begin_spot.result (c.requires.row, c.loop-col-test.true) c.loop-col.invariant
-    c.begin_spot.ensures in
+    let more = made_push (IsBegunSpot (HasGapOrLower b w.values.items)) b s 0
+    c.loop-col.counts.items c.begin_spot.result (c.requires.row, c.loop-col-test.true)
+    c.loop-col.invariant c.begin_spot.ensures in
     let next : spot_index b s + 1 ≡ c.args.row * (b.cols + 2) + (c.loop-col.col + 1) =
     omega arith in
     subst (λ (n : ℕ). AreMadeSpots (IsBegunSpot (HasGapOrLower b w.values.items)) b n 0
