@@ -75,7 +75,7 @@ some_onward a (Some w) h =
     let both = and_parts _ _ h in
     (w, refl, (Decides-int_eq w.0 a.level).0 both.0, eqb-true _ _ both.1)
 
-abbrev pub shown_on : Terrain → List (Option ℕ) → Place → ℕ → Option (ℤ × ℕ)
+abbrev shown_on : Terrain → List (Option ℕ) → Place → ℕ → Option (ℤ × ℕ)
 shown_on t steps p way =
     option_zip (entry_on t.cols t.rows t.cells way p) (entry_on t.cols t.rows steps way p)
 

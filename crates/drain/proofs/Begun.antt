@@ -1,5 +1,5 @@
--- The initial counts of steps in a tile's window: 0 where a cell drains at once, sinks included,
--- else unknown. A search from them gives the counts of the first round.
+-- The initial counts of steps at a window's spots: 0 where a cell of the tile drains at once, sinks
+-- included, else unknown. A search from them gives the counts of the first round.
 use Rattle.std.proofs.Common.{◌≡◌, ℕ, suc, cond, if◌then◌else◌, ◌+◌, ◌*◌, ◌<◌, ◌≤◌, ◌⊎◌, inl, inr, List, [], ◌∷◌, map, length, get_or, Option, None, Some, slice_set, unwrap_or, Contains, ℤ, sym, ap, subst, refl, ◌∙◌, arith}
 use Rattle.std.proofs.lemmas.Bool.{cases_Bool, cases_eq, cases_lt, cond-true, cond-false}
 use Rattle.std.proofs.lemmas.List.{get_or_default, get_or_past, get_or-map, get_or-set_same, get_or-set_other, length-map, length-set}
@@ -19,14 +19,14 @@ use Rattle.drainage.proofs.Reach.{data_inside}
 use Rattle.drain.specs.Beginning.{IsEdgeOrHasLower, HasGapOrLower, ShowsDraining, IsInitialCount, IsBegunSpot, AreInitialCounts, AreBegunSpots}
 use Rattle.drain.specs.Entering.{sinkless_terrain}
 use Rattle.drain.specs.Lowering.{place_at}
-use Rattle.drain.specs.Rounds.{AreWalked, IsWalked, HasCountZero, IsFirstRound}
+use Rattle.drain.specs.Rounds.{AreWalked, IsWalked, HasCountZero, IsRoundInside}
 use Rattle.drain.specs.Steps.{DrainsAtOnce}
 use Rattle.tiles.specs.Windows.{AreShown, IsSpot, IsInner, IsOff, Shows, area_of, spot_index}
 use Rattle.drain.specs.Search.{AreCounts, AreWindowCounts, IsCopied, IsSearched, count_on, known_counts}
 use Rattle.drain.proofs.DrainedLemmas.{same_terrain}
 use Rattle.drain.proofs.Few.{drains_data}
 use Rattle.drain.proofs.Nearby.{drains_at_once}
-use Rattle.drain.proofs.Block.{shown_drains, drains_shown}
+use Rattle.drain.proofs.GapOrLower.{shown_drains, drains_shown}
 use Rattle.drain.proofs.Quiet.{if_some, are_walked_to, round_to}
 use Rattle.drain.proofs.Spreading.{spot_from_inner}
 use Rattle.tiles.proofs.Cut.{in_bounds, in_bounds_parts, in_bounds_from}
@@ -210,18 +210,18 @@ known_again (n ∷ counts) few = ap (λ (m : ℕ). m ∷ counts) (sym (known_num
     (λ (xs : List ℕ). unwrap_or (known n) no_count ∷ xs) (known_again counts (λ k. few (suc k)))
 
 -- The counts of the list for the places of the tile, `None` elsewhere.
-abbrev inside_at : ℕ → Bounds → List (Option ℕ) → ℕ → Option ℕ
-inside_at cols b begun k = if is_in_bounds b (place_at cols k) then get_or begun k None else None
+abbrev in_tile_at : ℕ → Bounds → List (Option ℕ) → ℕ → Option ℕ
+in_tile_at cols b begun k = if is_in_bounds b (place_at cols k) then get_or begun k None else None
 
-abbrev inside_of : ℕ → ℕ → Bounds → List (Option ℕ) → List (Option ℕ)
-inside_of cols rows b begun = map (inside_at cols b begun) (range_with_len 0 (cols * rows))
+abbrev in_tile_of : ℕ → ℕ → Bounds → List (Option ℕ) → List (Option ℕ)
+in_tile_of cols rows b begun = map (in_tile_at cols b begun) (range_with_len 0 (cols * rows))
 
-inside_entry : (cols rows : ℕ) (b : Bounds) (begun : List (Option ℕ)) (p : Place) → p.row < rows →
-    p.col < cols → entry_at cols rows (inside_of cols rows b begun) p
+in_tile_entry : (cols rows : ℕ) (b : Bounds) (begun : List (Option ℕ)) (p : Place) → p.row < rows →
+    p.col < cols → entry_at cols rows (in_tile_of cols rows b begun) p
     ≡ (if is_in_bounds b p then entry_at cols rows begun p else None)
-inside_entry cols rows b begun p row col =
-    entry-inside cols rows (inside_of cols rows b begun) p row col
-    ∙ get_or-map-range_with_len (inside_at cols b begun) 0 (cols * rows) (index_of cols p)
+in_tile_entry cols rows b begun p row col =
+    entry-inside cols rows (in_tile_of cols rows b begun) p row col
+    ∙ get_or-map-range_with_len (in_tile_at cols b begun) 0 (cols * rows) (index_of cols p)
     (index_of cols p) None (index_below cols rows p row col) (omega arith)
     ∙ ap (λ (q : Place). cond (is_in_bounds b q) (get_or begun (index_of cols p) None) None)
     (place_at-index_of cols p col)
@@ -240,29 +240,29 @@ module _ (t : Terrain) (b : Bounds) (counts : List ℕ)
   ]
 
   module _ (begun : List (Option ℕ)) (first : AreInitialCounts t begun) where
-    abbrev here : List (Option ℕ)
-    here = inside_of t.cols t.rows b begun
+    abbrev tile_begun : List (Option ℕ)
+    tile_begun = in_tile_of t.cols t.rows b begun
 
     -- a place of the tile has the same entry in both lists
-    pub entry_here : (p : Place) → IsInBounds b p → entry_at t.cols t.rows here p
+    pub entry_here : (p : Place) → IsInBounds b p → entry_at t.cols t.rows tile_begun p
         ≡ entry_at t.cols t.rows begun p
     entry_here p within = elim (cases_lt p.row t.rows) [
       | inl row ↦ elim (cases_lt p.col t.cols) [
-        | inl col ↦ inside_entry t.cols t.rows b begun p row col
+        | inl col ↦ in_tile_entry t.cols t.rows b begun p row col
             ∙ cond-true _ _ _ (in_bounds_from b p within)
-        | inr beside ↦ entry-beside t.cols t.rows here p beside
+        | inr beside ↦ entry-beside t.cols t.rows tile_begun p beside
             ∙ sym (entry-beside t.cols t.rows begun p beside)
       ]
-      | inr past ↦ entry-below t.cols t.rows here p past
+      | inr past ↦ entry-below t.cols t.rows tile_begun p past
           ∙ sym (entry-below t.cols t.rows begun p past)
     ]
 
     -- each known entry is that of a place of the tile
-    pub known_here : (p : Place) (n : ℕ) → entry_at t.cols t.rows here p ≡ Some n →
+    pub known_here : (p : Place) (n : ℕ) → entry_at t.cols t.rows tile_begun p ≡ Some n →
         IsInBounds b p × (entry_at t.cols t.rows begun p ≡ Some n)
     known_here p n e =
-        let inside = inside_from_entry t.cols t.rows here p n e in
-        let is = sym (inside_entry t.cols t.rows b begun p inside.0 inside.1) ∙ e in
+        let inside = inside_from_entry t.cols t.rows tile_begun p n e in
+        let is = sym (in_tile_entry t.cols t.rows b begun p inside.0 inside.1) ∙ e in
         elim (cases_Bool (is_in_bounds b p)) [
           | inl within ↦ (in_bounds_parts b p within, sym (cond-true _ _ _ within) ∙ is)
           | inr out ↦ absurd (none-some n (sym (cond-false _ _ _ out) ∙ is))
@@ -270,9 +270,10 @@ module _ (t : Terrain) (b : Bounds) (counts : List ℕ)
 
     value : (s p : Place) (n : ℕ) → Shows b s p → IsSpot b s →
         IsInitialCount (ShowsDraining (DrainsAtOnce t) b) s (known n) →
-        known n ≡ entry_at t.cols t.rows here p
+        known n ≡ entry_at t.cols t.rows tile_begun p
     value s p n shows spot is =
-        one_begun (ShowsDraining (DrainsAtOnce t) b) s (known n) (entry_at t.cols t.rows here p) is
+        one_begun (ShowsDraining (DrainsAtOnce t) b) s (known n)
+        (entry_at t.cols t.rows tile_begun p) is
         (record {
           zero = λ drains.
               let same = shows_same b s drains.1 p drains.2 shows in
@@ -310,7 +311,7 @@ module _ (t : Terrain) (b : Bounds) (counts : List ℕ)
         at None e = e
         at (Some m) e = let d = (is.only m e).0 in absurd (shows_none b s d.1 d.2 out)
 
-    begun_window : AreWindowCounts t.cols t.rows here b counts
+    begun_window : AreWindowCounts t.cols t.rows tile_begun b counts
     begun_window = record {
       shown = map known counts;
       size = length-map counts known ∙ are.size;
@@ -325,8 +326,9 @@ module _ (t : Terrain) (b : Bounds) (counts : List ℕ)
       value = known_again counts begun_small;
     }
 
-    here_walked : AreWalked (HasCountZero t here) t here
-    here_walked p = if_some (entry_at t.cols t.rows here p) (IsWalked (HasCountZero t here) t p)
+    here_walked : AreWalked (HasCountZero t tile_begun) t tile_begun
+    here_walked p = if_some (entry_at t.cols t.rows tile_begun p)
+        (IsWalked (HasCountZero t tile_begun) t p)
         (λ n e.
         let at = known_here p n e in
         let now = (first.each p (inside_from_entry t.cols t.rows begun p n at.1)).only n at.1 in
@@ -369,7 +371,7 @@ pub begun_round : (t : Terrain) (v : View (Option ℤ)) (c : Cutting) (tile : �
     AreShown (entry_or v.cutting.cols v.cutting.rows v.cells None) None b levels →
     AreBegunSpots (ShowsDraining (DrainsAtOnce t) b) b old → AreInitialCounts t begun →
     IsSearched b levels old new → IsMadeUpTo b (IsCopied b new) (b.rows * b.cols) list →
-    IsFirstRound (HasCountZero (sinkless_terrain c t.cells) begun)
+    IsRoundInside (HasCountZero (sinkless_terrain c t.cells) begun)
     (sinkless_terrain c t.cells) c tile begun list
 begun_round t v c tile b levels old new list begun e cuts lawful bounds shown are first finished
     out =
@@ -380,8 +382,8 @@ begun_round t v c tile b levels old new list begun e cuts lawful bounds shown ar
     × AreShown (entry_or z.cutting.cols z.cutting.rows z.cells None) None b levels) e
     (lawful, bounds, shown) in
     let same = same_terrain t c.cols c.rows t.cells cuts.0 cuts.1 refl in
-    let inside = inside_of c.cols c.rows b begun in
-    let sized : inside_of t.cols t.rows b begun ≡ inside = rw (cuts.0, cuts.1) refl in
+    let inside = in_tile_of c.cols c.rows b begun in
+    let sized : in_tile_of t.cols t.rows b begun ≡ inside = rw (cuts.0, cuts.1) refl in
     let input = rw (← cuts.0, ← cuts.1) at (begun_window t b old are begun first) in
     let walks = subst (λ (x : Terrain). AreWalked (HasCountZero x inside) x inside) same
     (are_walked_to (HasCountZero t inside) (HasCountZero t inside) t [] inside (λ p i. i)
@@ -389,16 +391,16 @@ begun_round t v c tile b levels old new list begun e cuts lawful bounds shown ar
     (here_walked t b old are begun first))) in
     let round = round_from w (record { cutting = c; tile = tile; cells = inside })
     b levels old new list now.0 now.1 now.2 input walks finished out in
-    let known : (p : Place) (n : ℕ) → entry_at c.cols c.rows inside p ≡ Some n →
+    let known_begun : (p : Place) (n : ℕ) → entry_at c.cols c.rows inside p ≡ Some n →
     entry_at c.cols c.rows begun p ≡ Some n = λ p n is.
     ((rw (← cuts.0, ← cuts.1) at (known_here t b old are begun first)) p n is).1 in
     let to = round_to (HasCountZero u inside) (HasCountZero u begun) u [] c tile inside list
-    (λ p zero. (zero.0, known p 0 zero.1)) round in
+    (λ p zero. (zero.0, known_begun p 0 zero.1)) round in
     record {
-      size = to.size;
-      walked = to.walked;
-      within = to.within;
-      kept = λ p m i is. to.kept p m i (rw (← cuts.0, ← cuts.1) at
+      size = to.inside.size;
+      walked = to.inside.walked;
+      within = to.inside.within;
+      kept = λ p m i is. to.inside.kept p m i (rw (← cuts.0, ← cuts.1) at
           (entry_here t b old are begun first p (subst (λ (z : Bounds). IsInBounds z p) (sym now.1)
           (in_bounds c tile p now.0 i))) ∙ is);
     }

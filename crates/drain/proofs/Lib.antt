@@ -1,5 +1,7 @@
 -- worked examples
 mod Rows
+-- entries of lists
+pub mod Reading
 -- steps: one number for each data cell, below 2^24; counts that no round changes are the steps
 pub mod Local
 pub mod Quiet
@@ -23,7 +25,7 @@ pub mod Putting
 pub mod RoundLemmas
 pub mod Entered
 -- the direction of a cell, and which cells drain at once
-pub mod Block
+pub mod GapOrLower
 pub mod AroundLemmas
 pub mod Greatest
 pub mod Weights

@@ -124,19 +124,29 @@ zeros_drain : (t : Terrain) (counts : List (Option ℕ)) → AreInitialCounts t 
     HasCountZero t counts p → DrainsAtOnce t p
 zeros_drain t counts begun p input = ((begun.each p (data_inside t p input.0)).only 0 input.1).0
 
+-- each known initial count is 0, the length of a walk without moves
+pub begun_walked : (Ends : Place → Type 0) (t : Terrain) (counts : List (Option ℕ)) →
+    AreInitialCounts t counts → ((p : Place) → DrainsAtOnce t p → Ends p) → AreWalked Ends t counts
+begun_walked Ends t counts begun to p =
+    if_some (entry_at t.cols t.rows counts p) (IsWalked Ends t p) (λ n e.
+    let at = (begun.each p (inside_from_entry t.cols t.rows counts p n e)).only n e in
+    (omega (arith, at.1), [], to p at.0, sym at.1))
+
 -- counts of a round with walks to places of A are also those of a round with walks to places of B,
 -- if A implies B, with any sinks
 pub round_to : (A B : Place → Type 0) (t : Terrain) (sinks : List Place) (c : Cutting) (tile : ℕ)
     (old new : List (Option ℕ)) → ((p : Place) → A p → B p) →
     IsRound A t c tile old new → IsRound B (with_sinks t sinks) c tile old new
 round_to A B t sinks c tile old new to round = record {
-  size = round.size;
-  walked = λ p i. if_some (tile_entry c tile new p) (IsWalked B (with_sinks t sinks) p) (λ n e.
-      walked_to A B t sinks to p n (MatchOption-at_some _ _ n e (round.walked p i)));
+  inside = record {
+    size = round.inside.size;
+    walked = λ p i. if_some (tile_entry c tile new p) (IsWalked B (with_sinks t sinks) p) (λ n e.
+        walked_to A B t sinks to p n (MatchOption-at_some _ _ n e (round.inside.walked p i)));
+    within = λ p q here there next.
+        round.inside.within p q here there (next_with (with_sinks t sinks) t.sinks p q next);
+    kept = round.inside.kept;
+  };
   near = λ p q here next. round.near p q here (next_with (with_sinks t sinks) t.sinks p q next);
-  within = λ p q here there next.
-      round.within p q here there (next_with (with_sinks t sinks) t.sinks p q next);
-  kept = round.kept;
 }
 
 pub counts_are_steps : (t : Terrain) (c : Cutting) (steps : List (Option ℕ)) (lists : ℕ →
@@ -147,7 +157,8 @@ counts_are_steps t c steps lists cuts cutting zeros quiet lawful filled size =
     (λ p. if_some (entry_at t.cols t.rows steps p) (IsWalked (DrainsAtOnce t) t p) (λ n e.
     let here = in_own_tile t c p cuts (inside_from_entry t.cols t.rows steps p n e) in
     MatchOption-at_some _ _ n (quiet.same (tile_of_place c p) p here ∙ e)
-    ((quiet.rounds (tile_of_place c p) (tile_of_place_below c p cutting here.0)).walked p here)))
+    ((quiet.rounds (tile_of_place c p) (tile_of_place_below c p cutting here.0)).inside.walked p
+    here)))
     (λ p q next level m e less.
     let here = in_own_tile t c p cuts (data_inside t p next.from_data) in
     let near = (quiet.rounds (tile_of_place c p)

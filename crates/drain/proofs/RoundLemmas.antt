@@ -12,7 +12,7 @@ use Rattle.tiles.specs.Cutting.{Cutting, IsCutting, IsWithin, AreTileLists, IsPu
 use Rattle.tiles.proofs.Cut.{tile_of_place_below}
 use Rattle.tiles.proofs.PutBack.{entry_at-put_back}
 use Rattle.drainage.proofs.Reach.{data_inside}
-use Rattle.drain.specs.Rounds.{HasCountZero, HaveSameZeros, IsWalked, IsAtMostOneAbove, IsFirstRound, AreCounting, AreFinal}
+use Rattle.drain.specs.Rounds.{HasCountZero, HaveSameZeros, IsWalked, IsAtMostOneAbove, IsRoundInside, AreCounting, AreFinal}
 use Rattle.drain.specs.Lowering.{AreEquallyHigh, IsAmong, IsRelaxedInside, IsTileResult, count_of, total}
 use Rattle.drain.specs.Entering.{sinkless_terrain, AreEntered}
 use Rattle.drain.specs.Rounding.{Rounding, IsRounding, levels_of, AreRoundResults, IsRunResult, IsGiven, ArePut, IsNext}
@@ -313,15 +313,15 @@ few_none n k le less = omega arith
 module _ (c : Cutting) (levels : List (Option ℤ)) (old : List (Option ℕ))
     (lists : List (Vec (Option ℕ) Global)) (count : length lists ≡ tile_count c)
     (given : (j : ℕ) (d : Vec (Option ℕ) Global) → j < tile_count c →
-    IsFirstRound (HasCountZero (sinkless_terrain c levels) old) (sinkless_terrain c levels) c j old
+    IsRoundInside (HasCountZero (sinkless_terrain c levels) old) (sinkless_terrain c levels) c j old
     (get_or lists j d).items) where
   round_at : (tile : ℕ) (list : Vec (Option ℕ) Global) → slice_get lists tile ≡ Some list →
-      IsFirstRound (HasCountZero (sinkless_terrain c levels) old)
+      IsRoundInside (HasCountZero (sinkless_terrain c levels) old)
       (sinkless_terrain c levels) c tile old list.items
   round_at tile list at =
       let below : tile < tile_count c =
       subst (λ (k : ℕ). tile < k) count (slice_get_within lists tile list at) in
-      subst (λ (v : Vec (Option ℕ) Global). IsFirstRound
+      subst (λ (v : Vec (Option ℕ) Global). IsRoundInside
       (HasCountZero (sinkless_terrain c levels) old) (sinkless_terrain c levels) c tile old v.items)
       (get_or_from_slice_get lists tile list list at) (given tile list below)
 

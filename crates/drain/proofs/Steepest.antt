@@ -7,16 +7,29 @@ use Rattle.std.specs.Int.{int_min}
 use Rattle.std.proofs.lemmas.Int.{ints, clamps, by_lt_z}
 use Rattle.std.proofs.lemmas.Nat.{mul-le, mul-lt}
 use Rattle.std.proofs.lemmas.Option.{none-some, same_Some}
+use Rattle.std.specs.Prelude.{option_map}
 use Rattle.std.specs.Bool.{then_some, MatchBool}
 use Rattle.std.specs.List.{position}
 use Rattle.terrain.specs.Raster.{IsHeight}
 use Rattle.terrain.proofs.Heights.{height_width}
 use Rattle.drain.specs.Surroundings.{HasHeights, drop_by, drop_on, height_on, IsGreatestFall, IsLowestBefore, IsSteepestWay}
-use Rattle.drain.specs.Steepness.{weight, weights, positive_part}
+use Rattle.drain.specs.Steepness.{weight, weights, positive_part, drop_to}
 use Rattle.drain.specs.declared.around.Around.{Around}
-use Rattle.drain.proofs.WindowCodes.{drop_is}
 use Rattle.drain.proofs.Greatest.{IsFirstGreatest, fold-max_least, is_fold, is_position}
 use Rattle.drain.proofs.Weights.{length-weights, get_or-weights, square-above_zero}
+
+drop_is : (a : Around) (level : ℤ) (heights : List (Option ℤ)) (way : ℕ) →
+    HasHeights a level heights → way < 8 →
+    drop_on level heights way ≡ drop_to a.level (get_or a.ways way None)
+drop_is a level heights way has below =
+    ap (λ (o : Option ℤ). drop_by level o) (has.each way below)
+    ∙ without_steps level (get_or a.ways way None)
+    ∙ ap (λ (z : ℤ). drop_to z (get_or a.ways way None)) (sym has.own_level)
+  where
+    without_steps : (level : ℤ) (w : Option (ℤ × ℕ)) →
+        drop_by level (option_map (λ (v : ℤ × ℕ). v.0) w) ≡ drop_to level w
+    without_steps level None = refl
+    without_steps level (Some w) = refl
 
 part_of : (z : ℤ) → (pos (positive_part z) ≡ z) ⊎ ((positive_part z ≡ 0) × (z <ℤ pos 0))
 part_of (pos n) = inl refl

@@ -336,11 +336,13 @@ module _ (t : Terrain) (c : Cutting) (tile : ℕ) (b : Bounds) (steps shown : Li
 
   pub is_round : IsRound (HasCountZero t steps) t c tile steps list
   is_round = record {
-    size = handed.size;
-    walked = walked_here;
+    inside = record {
+      size = handed.size;
+      walked = walked_here;
+      within = within_here;
+      kept = kept_here;
+    };
     near = near_here;
-    within = within_here;
-    kept = kept_here;
   }
 
 -- window counts by w's cutting and tile are those by v's, if cuttings and tiles are equal

@@ -15,27 +15,14 @@ use Rattle.tiles.proofs.SpotWays.{value_on_way, inner_shows}
 use Rattle.drain.specs.Codes.{SteppedSpots, AreSteppedSpots}
 use Rattle.drain.specs.Directions.{IsDirection, IsCodeAt}
 use Rattle.drain.specs.Fitting.{IsLaidAround}
-use Rattle.drain.specs.Steepness.{weights, drop_to, leads_on}
+use Rattle.drain.specs.Steepness.{weights, leads_on}
 use Rattle.drain.specs.Steps.{DrainsAtOnce, AreSteps}
-use Rattle.drain.specs.Surroundings.{drop_by, drop_on, HasHeights, IsSteepestWay, HasCells, AreSurroundings}
+use Rattle.drain.specs.Surroundings.{HasHeights, IsSteepestWay, HasCells, AreSurroundings}
 use Rattle.drain.specs.declared.around.Around.{Around}
 use Rattle.drain.proofs.AroundLemmas.{around_with, laid_with, steps_at}
 use Rattle.drain.proofs.Laid.{with_steps, without_steps, leads as leads_by_steps, is_down, is_outlet, is_onward, code_is}
 use Rattle.drain.proofs.Quiet.{if_some}
 use Rattle.drain.proofs.Spreading.{spot_from_inner}
-
-pub drop_is : (a : Around) (level : ℤ) (heights : List (Option ℤ)) (way : ℕ) →
-    HasHeights a level heights → way < 8 →
-    drop_on level heights way ≡ drop_to a.level (get_or a.ways way None)
-drop_is a level heights way has below =
-    ap (λ (o : Option ℤ). drop_by level o) (has.each way below)
-    ∙ without_steps level (get_or a.ways way None)
-    ∙ ap (λ (z : ℤ). drop_to z (get_or a.ways way None)) (sym has.own_level)
-  where
-    without_steps : (level : ℤ) (w : Option (ℤ × ℕ)) →
-        drop_by level (option_map (λ (v : ℤ × ℕ). v.0) w) ≡ drop_to level w
-    without_steps level None = refl
-    without_steps level (Some w) = refl
 
 -- the height of `option_zip` is the cell's height, since each data cell has steps
 zip_height : (t : Terrain) (steps : List (Option ℕ)) (q : Place) → AreSteps t steps →
@@ -76,15 +63,15 @@ module _ (w : SteppedSpots) (s : Place) (cells : List (Option ℤ)) (steps : Lis
   t = w.terrain
 
   abbrev all : List (Option ℕ)
-  all = are.counts.0
+  all = are.steps.0
 
   heights_shown : AreShown (entry_or t.cols t.rows t.cells None) None w.bounds cells
   heights_shown = subst (λ (l : List (Option ℤ)).
-      AreShown (entry_or t.cols t.rows t.cells None) None w.bounds l) (sym cells_are) are.heights
+      AreShown (entry_or t.cols t.rows t.cells None) None w.bounds l) (sym cells_are) are.levels
 
   steps_shown : AreShown (entry_or t.cols t.rows all None) None w.bounds steps
   steps_shown = subst (λ (l : List (Option ℕ)).
-      AreShown (entry_or t.cols t.rows all None) None w.bounds l) (sym steps_are) are.counts.2
+      AreShown (entry_or t.cols t.rows all None) None w.bounds l) (sym steps_are) are.steps.2
 
   module _ (p : Place) (shows : Shows w.bounds s p) where
     height_is : height_at t p ≡ Some level
@@ -93,14 +80,14 @@ module _ (w : SteppedSpots) (s : Place) (cells : List (Option ℤ)) (steps : Lis
     own_steps : entry_at t.cols t.rows all p ≡ Some own
     own_steps = sym ((steps_shown s (spot_from_inner w.bounds s inner)).0 p shows) ∙ count
 
-    levels_on : (way : ℕ) → way < 8 →
+    way_levels : (way : ℕ) → way < 8 →
         get_or cells (get_or at way 0) None ≡ entry_on t.cols t.rows t.cells way p
-    levels_on =
+    way_levels =
         value_on_way w.bounds s p inner shows t.cols t.rows t.cells cells at heights_shown at_is
 
-    counts_on : (way : ℕ) → way < 8 →
+    way_steps : (way : ℕ) → way < 8 →
         get_or steps (get_or at way 0) None ≡ entry_on t.cols t.rows all way p
-    counts_on = value_on_way w.bounds s p inner shows t.cols t.rows all steps at steps_shown at_is
+    way_steps = value_on_way w.bounds s p inner shows t.cols t.rows all steps at steps_shown at_is
 
     abbrev around : Around
     around = around_with t all p level own false
@@ -108,27 +95,28 @@ module _ (w : SteppedSpots) (s : Place) (cells : List (Option ℤ)) (steps : Lis
     laid : IsLaidAround t all p around
     laid = laid_with t all p level own false height_is own_steps
 
-    found : HasCells around cells steps at level own
-    found = record {
+    in_lists : HasCells around cells steps at level own
+    in_lists = record {
       own_level = refl;
       own_steps = refl;
       count = refl;
       each = λ way below. laid.ways way below
           ∙ ap (λ (o : Option ℤ). option_zip o (entry_on t.cols t.rows all way p))
-          (sym (levels_on way below))
+          (sym (way_levels way below))
           ∙ ap (λ (o : Option ℕ). option_zip (get_or cells (get_or at way 0) None) o)
-          (sym (counts_on way below));
+          (sym (way_steps way below));
     }
 
     surroundings : AreSurroundings t p cells steps at level own around
     surroundings = record {
-      laid = (all, are.counts.1, laid);
-      found = found;
-      fits = height_in t p level are.lawful height_is;
-      fit = λ way below. subst (λ (o : Option ℤ). IfSome o IsHeight) (sym (levels_on way below))
+      of_cell = (all, are.steps.1, laid);
+      in_lists = in_lists;
+      own_height = height_in t p level are.lawful height_is;
+      way_heights = λ way below.
+          subst (λ (o : Option ℤ). IfSome o IsHeight) (sym (way_levels way below))
           (fits_on t (place_on way p) are.lawful);
-      heights = λ way below.
-          levels_on way below ∙ sym (zip_heights t all (place_on way p) are.counts.1)
+      same_heights = λ way below.
+          way_levels way below ∙ sym (zip_heights t all (place_on way p) are.steps.1)
           ∙ ap (λ (o : Option (ℤ × ℕ)). option_map (λ (v : ℤ × ℕ). v.0) o)
           (sym (laid.ways way below));
     }
@@ -152,34 +140,34 @@ module _ (t : Terrain) (p : Place) (cells : List (Option ℤ)) (steps : List (Op
   pub heights_are : (heights : List (Option ℤ)) → ((way : ℕ) → way < 8 →
       get_or heights way None ≡ get_or cells (get_or at way 0) None) → HasHeights a level heights
   heights_are heights given = record {
-    own_level = are.found.own_level;
-    count = are.found.count;
-    each = λ way below. given way below ∙ are.heights way below;
+    own_level = are.in_lists.own_level;
+    count = are.in_lists.count;
+    each = λ way below. given way below ∙ are.same_heights way below;
   }
 
   stays : 0 < own → DrainsAtOnce t p → ⊥
-  stays some = with_steps t are.laid.0 p a are.laid.1 are.laid.2
-      (omega (arith, some, are.found.own_steps))
+  stays some = with_steps t are.of_cell.0 p a are.of_cell.1 are.of_cell.2
+      (omega (arith, some, are.in_lists.own_steps))
 
   pub leads : 0 < own → list_any (leads_on a) a.ways ≡ true
-  leads some = leads_by_steps t are.laid.0 p a are.laid.1 are.laid.2 (stays some)
+  leads some = leads_by_steps t are.of_cell.0 p a are.of_cell.1 are.of_cell.2 (stays some)
 
   pub code_onward : (way code : ℕ) → 0 < own → position (leads_on a) a.ways ≡ Some way →
       code ≡ code_of (Some way) → IsDirection t p code
   code_onward way code some first is =
-      is_onward t are.laid.0 p a are.laid.1 are.laid.2 way code (stays some) first is
+      is_onward t are.of_cell.0 p a are.of_cell.1 are.of_cell.2 way code (stays some) first is
 
   pub code_down : (steep : Option ℕ) (way code : ℕ) → IsSteepestWay a steep → steep ≡ Some way →
       code ≡ code_of (Some way) → IsDirection t p code
   code_down steep way code steepest some is =
       let first = steepest.some way some in
-      is_down t are.laid.0 p a are.laid.1 are.laid.2 (fold max 0 (weights a)) way code refl
+      is_down t are.of_cell.0 p a are.of_cell.1 are.of_cell.2 (fold max 0 (weights a)) way code refl
       first.1 first.2 is
 
   pub code_outlet : (steep : Option ℕ) (code : ℕ) → own ≤ 0 → IsSteepestWay a steep →
       steep ≡ None → code ≡ 0 → IsDirection t p code
   code_outlet steep code few steepest none is =
-      is_outlet t are.laid.0 p a are.laid.1 are.laid.2 code
+      is_outlet t are.of_cell.0 p a are.of_cell.1 are.of_cell.2 code
       (omega (arith, steepest.none none))
-      (without_steps t are.laid.0 p a are.laid.1 are.laid.2
-      (omega (arith, few, are.found.own_steps))) is
+      (without_steps t are.of_cell.0 p a are.of_cell.1 are.of_cell.2
+      (omega (arith, few, are.in_lists.own_steps))) is

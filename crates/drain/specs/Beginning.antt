@@ -49,9 +49,13 @@ ShowsDraining Drains b s = IsInner b s × (p : Place) × Shows b s p × Drains p
 abbrev pub IsBegunSpot : (Place → Type 0) → Place → ℕ → Type 0
 IsBegunSpot Drains s count = (count ≤ no_count) × IsInitialCount Drains s (known count)
 
--- The initial counts at the spots: 0 where `Drains` holds, else unknown.
+-- The initial counts at the spots of index below `end`: 0 where `Drains` holds, else unknown.
+abbrev pub AreBegunUpTo : (Place → Type 0) → Bounds → ℕ → List ℕ → Type 0
+AreBegunUpTo Drains b end counts = AreMadeSpots (IsBegunSpot Drains) b end 0 counts
+
+-- The initial counts at all spots.
 abbrev pub AreBegunSpots : (Place → Type 0) → Bounds → List ℕ → Type 0
-AreBegunSpots Drains b counts = AreMadeSpots (IsBegunSpot Drains) b (area_of b) 0 counts
+AreBegunSpots Drains b counts = AreBegunUpTo Drains b (area_of b) counts
 
 -- Each cell that drains at once has the count 0.
 abbrev pub HasZeros : Terrain → List (Option ℕ) → Type 0

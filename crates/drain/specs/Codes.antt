@@ -1,5 +1,6 @@
 -- The input of the jobs that find the codes of directions: a terrain, its steps and a cutting
--- of its grid into tiles. A job has the heights and steps of a tile's window.
+-- of its grid into tiles. A job has the heights and steps at the spots of a tile's window: the tile
+-- and one row or column on each side.
 -- Private.
 use Rattle.std.specs.Prelude.{ℕ, ℤ, List, Option, None}
 use Rattle.terrain.specs.Raster.{Terrain, IsTerrain}
@@ -32,7 +33,7 @@ pub record SteppedSpots : Type 0 where
 -- At each spot these are the height and the steps of the terrain's cell there; `None` off the grid.
 pub record AreSteppedSpots (w : SteppedSpots) : Type 0 where
   pub lawful : IsTerrain w.terrain
-  pub heights : AreShown (entry_or w.terrain.cols w.terrain.rows w.terrain.cells None) None w.bounds
+  pub levels : AreShown (entry_or w.terrain.cols w.terrain.rows w.terrain.cells None) None w.bounds
       w.levels
-  pub counts : (all : List (Option ℕ)) × AreSteps w.terrain all
+  pub steps : (all : List (Option ℕ)) × AreSteps w.terrain all
       × AreShown (entry_or w.terrain.cols w.terrain.rows all None) None w.bounds w.steps

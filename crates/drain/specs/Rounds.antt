@@ -32,16 +32,13 @@ abbrev pub IsAtMostOneAbove : Option ℕ → Option ℕ → Type 0
 IsAtMostOneAbove count other =
     (m : ℕ) → other ≡ Some m → m < 2 ^ 24 - 1 → (n : ℕ) × (count ≡ Some n) × (n ≤ m + 1)
 
--- `new` has the counts of a tile, in row order, after one round from the counts `old` of the grid.
-pub record IsRound (Ends : Place → Type 0) (t : Terrain) (c : Cutting) (tile : ℕ)
+-- `new` has the counts of a tile, in row order, after one round from the counts `old` of the grid
+-- that may leave out the counts around the tile.
+pub record IsRoundInside (Ends : Place → Type 0) (t : Terrain) (c : Cutting) (tile : ℕ)
     (old new : List (Option ℕ)) : Type 0 where
   pub size : length new ≡ cell_count c tile
   pub walked : (p : Place) → IsInTile c tile p →
       IfSome (tile_entry c tile new p) (IsWalked Ends t p)
-  -- `IsAtMostOneAbove`: each new count is at most one above the known old counts of neighbours of
-  -- equal height
-  pub near : (p q : Place) → IsInTile c tile p → IsNeighbour t p q → height_at t q ≡ height_at t p →
-      IsAtMostOneAbove (tile_entry c tile new p) (entry_at t.cols t.rows old q)
   -- `IsAtMostOneAbove`: inside the tile each new count is at most one above the known new counts of
   -- neighbours of equal height
   pub within : (p q : Place) → IsInTile c tile p → IsInTile c tile q → IsNeighbour t p q →
@@ -51,20 +48,14 @@ pub record IsRound (Ends : Place → Type 0) (t : Terrain) (c : Cutting) (tile :
   pub kept : (p : Place) (m : ℕ) → IsInTile c tile p → entry_at t.cols t.rows old p ≡ Some m →
       (n : ℕ) × (tile_entry c tile new p ≡ Some n) × (n ≤ m)
 
--- `new` has the counts of a tile, in row order, after the first round from the initial counts
--- `begun` of the grid, which sees no counts around the tile.
-pub record IsFirstRound (Ends : Place → Type 0) (t : Terrain) (c : Cutting) (tile : ℕ)
-    (begun new : List (Option ℕ)) : Type 0 where
-  pub size : length new ≡ cell_count c tile
-  pub walked : (p : Place) → IsInTile c tile p →
-      IfSome (tile_entry c tile new p) (IsWalked Ends t p)
-  -- inside the tile each count is at most one above the known counts of neighbours of equal height
-  pub within : (p q : Place) → IsInTile c tile p → IsInTile c tile q → IsNeighbour t p q →
-      height_at t q ≡ height_at t p →
-      IsAtMostOneAbove (tile_entry c tile new p) (tile_entry c tile new q)
-  -- a known initial count stays known and does not rise
-  pub kept : (p : Place) (m : ℕ) → IsInTile c tile p → entry_at t.cols t.rows begun p ≡ Some m →
-      (n : ℕ) × (tile_entry c tile new p ≡ Some n) × (n ≤ m)
+-- `new` has the counts of a tile, in row order, after one round from the counts `old` of the grid.
+pub record IsRound (Ends : Place → Type 0) (t : Terrain) (c : Cutting) (tile : ℕ)
+    (old new : List (Option ℕ)) : Type 0 where
+  pub inside : IsRoundInside Ends t c tile old new
+  -- `IsAtMostOneAbove`: each new count is at most one above the known old counts of neighbours of
+  -- equal height
+  pub near : (p q : Place) → IsInTile c tile p → IsNeighbour t p q → height_at t q ≡ height_at t p →
+      IsAtMostOneAbove (tile_entry c tile new p) (entry_at t.cols t.rows old q)
 
 -- A round would change no count of the tile: each is at most one above the known counts of
 -- neighbours of equal height (`IsAtMostOneAbove`).

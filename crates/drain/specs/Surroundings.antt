@@ -71,13 +71,14 @@ pub record HasCells (a : Around) (cells : List (Option ℤ)) (steps : List (Opti
       (slice_index_or steps (slice_index_or at way 0) None)
 
 -- The surroundings are those of cell p of the terrain, and the lists have them at the indexes `at`.
+-- Heights are within limits.
 pub record AreSurroundings (t : Terrain) (p : Place) (cells : List (Option ℤ))
     (steps : List (Option ℕ)) (at : List ℕ) (level : ℤ) (own : ℕ) (a : Around) : Type 0 where
-  pub laid : (all : List (Option ℕ)) × AreSteps t all × IsLaidAround t all p a
-  pub found : HasCells a cells steps at level own
-  pub fits : IsHeight level
-  pub fit : (way : ℕ) → way < 8 →
+  pub of_cell : (all : List (Option ℕ)) × AreSteps t all × IsLaidAround t all p a
+  pub in_lists : HasCells a cells steps at level own
+  pub own_height : IsHeight level
+  pub way_heights : (way : ℕ) → way < 8 →
       IfSome (slice_index_or cells (slice_index_or at way 0) None) IsHeight
-  pub heights : (way : ℕ) → way < 8 →
+  pub same_heights : (way : ℕ) → way < 8 →
       slice_index_or cells (slice_index_or at way 0) None
       ≡ option_map (λ w. w.0) (slice_index_or a.ways way None)

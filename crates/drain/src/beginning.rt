@@ -2,12 +2,12 @@
 //!
 //! A data cell drains at once on the grid's border, beside NODATA or a lower cell, or as a sink.
 //! A spot is a place of a tile's window: the tile with one more row and column on each side.
-ghost use Rattle.std.specs.Prelude.{◌≡◌, ℕ, ◌+◌, ◌*◌, ◌<◌, ◌↔◌, None, length, IsTrue, OnOk, IfOk, slice_index_or};
+ghost use Rattle.std.specs.Prelude.{ℕ, ◌+◌, ◌*◌, ◌<◌, ◌↔◌, None, length, IsTrue, OnOk, IfOk, slice_index_or};
 ghost use Rattle.std.specs.Bool.{MatchBool};
 ghost use Rattle.terrain.specs.Neighbours.{entry_or};
-ghost use Rattle.drain.specs.Beginning.{IsEdgeOrHasLower, IsGapOrLower, HasGapOrLower, IsBegunSpot, AreBegunSpots, ShowsDraining};
+ghost use Rattle.drain.specs.Beginning.{IsEdgeOrHasLower, IsGapOrLower, HasGapOrLower, IsBegunSpot, AreBegunUpTo, AreBegunSpots, ShowsDraining};
 ghost use Rattle.drain.specs.Steps.{DrainsAtOnce};
-ghost use Rattle.tiles.specs.Windows.{AreMadeSpots, AreShown, IsSpot};
+ghost use Rattle.tiles.specs.Windows.{AreShown, IsSpot};
 
 use drainage::NO_COUNT;
 use std::alloc::{AllocError, Global};
@@ -46,7 +46,7 @@ fn any_gap_or_lower(cells: &[Cell], at: &[usize; 8], level: Height) -> bool
 
 /// Returns 0 for a cell of the tile that has a gap or a lower cell around it, else [`NO_COUNT`].
 #[inline(always)]
-fn begin_spot(window: &Window<Cell>, spot: Place) -> u32
+fn initial_count(window: &Window<Cell>, spot: Place) -> u32
     requires { IsSpot window.now.bounds spot }
     ensures { IsBegunSpot (HasGapOrLower window.now.bounds window.now.values.items) spot result }
 {
@@ -67,15 +67,13 @@ fn begin_spot(window: &Window<Cell>, spot: Place) -> u32
 /// Appends the initial counts of one window row, without regard to sinks.
 fn begin_along(window: &Window<Cell>, row: u32, counts: &mut Vec<u32>) -> Result<(), AllocError>
     requires row { row < window.now.bounds.rows + 2 }
-    requires counts { AreMadeSpots (IsBegunSpot (HasGapOrLower window.now.bounds
-        window.now.values.items)) window.now.bounds (row * (window.now.bounds.cols + 2)) 0
-        counts.old.items }
-    ensures { OnOk result (AreMadeSpots (IsBegunSpot (HasGapOrLower window.now.bounds
-        window.now.values.items)) window.now.bounds ((row + 1) * (window.now.bounds.cols + 2)) 0
-        counts.new.items) }
+    requires counts { AreBegunUpTo (HasGapOrLower window.now.bounds window.now.values.items)
+        window.now.bounds (row * (window.now.bounds.cols + 2)) counts.old.items }
+    ensures { OnOk result (AreBegunUpTo (HasGapOrLower window.now.bounds window.now.values.items)
+        window.now.bounds ((row + 1) * (window.now.bounds.cols + 2)) counts.new.items) }
 {
     for col in 0..window.bounds.cols + 2 {
-        counts.push(begin_spot(window, Place { row, col }))?;
+        counts.push(initial_count(window, Place { row, col }))?;
     }
     Ok(())
 }
@@ -97,7 +95,8 @@ fn begin_at_sinks(grid: &Grid, window: &Window<Cell>, counts: &mut [u32])
     }
 }
 
-/// Returns the initial counts of a tile, unknown around it.
+/// Returns the initial counts at a window's spots: 0 where a cell of the tile drains at once.
+/// All other counts are [`NO_COUNT`].
 pub(crate) fn begun_counts(
     alloc: Global,
     grid: &Grid,

@@ -1,11 +1,11 @@
 //! Finds the direction codes of all cells, by one job for each tile.
 //!
 //! A job copies two windows of its tile, with filled heights and with steps, `None` off the grid.
+//! A spot is a place of a tile's window: the tile with one more row and column on each side.
 //! So each cell of the tile has eight spots around it, also at the grid's border.
 //! Ways are the eight directions, from 0 to 7 in code order.
 ghost use Rattle.std.specs.Prelude.{◌≡◌, ℕ, ◌+◌, ◌*◌, ◌<◌, IsTrue, Some, None, length, position, slice_index_or, OnOk, IfOk};
 ghost use Rattle.std.specs.List.{list_any};
-ghost use Rattle.std.specs.Option.{option_zip};
 ghost use Rattle.terrain.specs.Raster.{Terrain};
 ghost use Rattle.terrain.specs.declared.place.Place.{Place};
 ghost use Rattle.tile_maps.specs.Maps.{IsMadeUpTo};
@@ -16,7 +16,7 @@ ghost use Rattle.drain.specs.Steepness.{leads_on};
 ghost use Rattle.drain.specs.Surroundings.{AreSurroundings, HasCells};
 ghost use Rattle.drain.specs.declared.around.Around.{Around};
 
-use crate::steepness::steepest;
+use crate::steepness::{leads_on, steepest};
 use drainage::{Code, StepCount};
 use std::alloc::{AllocError, Global};
 use std::marker::Model;
@@ -42,19 +42,6 @@ fn heights_at(cells: &[Cell], at: &[usize; 8]) -> [Option<Height>; 8]
         cells[at[6]].height(),
         cells[at[7]].height(),
     ]
-}
-
-/// Returns whether a neighbour has height `level` and `own - 1` steps.
-#[inline(always)]
-fn leads_on(level: Height, own: u32, height: Option<Height>, steps: Option<u32>) -> bool
-    ensures { (a : Around) → a.level ≡ level → a.steps ≡ own →
-        result ≡ leads_on a (option_zip height steps) }
-{
-    match (steps, height) {
-        // The `<` shows the prover that the sum does not overflow.
-        (Some(count), Some(height)) => count < own && count + 1 == own && height == level,
-        _ => false,
-    }
 }
 
 /// Returns the first way to a neighbour of height `level` with `own - 1` steps.
@@ -97,7 +84,7 @@ fn data_code(cells: &[Cell], steps: &[StepCount], at: &[usize; 8], level: Height
     }
 }
 
-/// Filled heights and steps of a tile's cells and around them.
+/// Filled heights and steps at the spots of a tile's window.
 #[derive(Drop)]
 struct SteppedWindow {
     levels: Window<Cell>,
@@ -177,13 +164,13 @@ impl SteppedWindow {
 
 /// Input of the jobs that find codes: a filled grid, its steps and its tiling.
 #[derive(Drop)]
-pub(crate) struct Codes<'a> {
+pub(crate) struct CodesInput<'a> {
     pub(crate) grid: &'a Grid,
     pub(crate) steps: Vec<StepCount>,
     pub(crate) tiling: &'a Tiling,
 }
 
-impl<'a> Model for Codes<'a> {
+impl<'a> Model for CodesInput<'a> {
     ghost use Rattle.drain.specs.Codes.{SteppedTerrain, IsSteppedTerrain};
 
     ghost Value = { SteppedTerrain };
@@ -198,8 +185,8 @@ impl<'a> Model for Codes<'a> {
         (record { terrain = m.grid.now.terrain; steps = m.steps.items; cutting = m.tiling.now }) };
 }
 
-impl<'a> Codes<'a> {
-    /// Copies the filled heights and steps of a tile's cells and around them.
+impl<'a> CodesInput<'a> {
+    /// Copies the filled heights and steps of a tile and of the places around it.
     fn window(&self, alloc: Global, tile: u32) -> Result<SteppedWindow, AllocError>
         requires { tile < tile_count self.now.cutting }
         ensures lawful { IfOk result (λ _. IsCutting self.now.cutting) }
@@ -216,7 +203,7 @@ impl<'a> Codes<'a> {
     }
 }
 
-impl<'a> TileMap for Codes<'a> {
+impl<'a> TileMap for CodesInput<'a> {
     ghost use Rattle.drain.specs.Directions.{IsCodeAt};
 
     type Entry = Option<Code>;

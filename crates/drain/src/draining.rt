@@ -13,7 +13,7 @@ ghost use Rattle.drain.specs.Steps.{AreSteps, DrainsAtOnce};
 ghost use Rattle.drain.specs.Directions.{AreDirections};
 ghost use Rattle.drainage.specs.Drained.{AllFlowEnds, directed_of};
 
-use crate::codes::Codes;
+use crate::codes::CodesInput;
 use crate::first::first_round;
 use crate::rounds::run_rounds;
 use crate::{loading, search};
@@ -131,7 +131,7 @@ pub fn directions<R: Threads + Wait + Sync, G: Gate + Sync>(
     let grid = filled.grid();
     let steps = count_steps(&runner, filled, tiling)?;
     let reported = Snapshot::of(&steps);
-    let codes = runner.map_tiles(Codes {
+    let codes = runner.map_tiles(CodesInput {
         grid,
         steps,
         tiling,

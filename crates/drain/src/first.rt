@@ -33,7 +33,7 @@ impl<'a> Work for FirstRound<'a> {
     ghost use Rattle.std.specs.Prelude.{ℕ, List, Option};
     ghost use Rattle.tiles.specs.Cutting.{tile_count};
     ghost use Rattle.drain.specs.Beginning.{AreInitialCounts};
-    ghost use Rattle.drain.specs.Rounds.{HasCountZero, IsFirstRound};
+    ghost use Rattle.drain.specs.Rounds.{HasCountZero, IsRoundInside};
     ghost use Rattle.drain.specs.Entering.{sinkless_terrain};
 
     type Out = Vec<StepCount>;
@@ -42,7 +42,7 @@ impl<'a> Work for FirstRound<'a> {
 
     ghost gives = { λ f tile out. let t = sinkless_terrain f.tiling.now f.grid.now.terrain.cells in
         (begun : List (Option ℕ)) → AreInitialCounts f.grid.now.terrain begun →
-        IsFirstRound (HasCountZero t begun) t f.tiling.now tile begun out.items };
+        IsRoundInside (HasCountZero t begun) t f.tiling.now tile begun out.items };
 
     fn run(&self, alloc: Global, job: u32) -> Result<Vec<StepCount>, JobFault> {
         let levels = self.tiling.view(self.grid.cells(), job);

@@ -43,7 +43,6 @@ pub fn each_has_direction()
 {}
 
 /// The surroundings of a data cell are fitting, as [`direction`](crate::direction) requires.
-#[tactic(auto, using(crate::proofs::Laid::fitting))]
 pub fn surroundings_are_fitting()
     ensures { (t : Terrain) (steps : List (Option ℕ)) (p : Place) (a : Around) → IsTerrain t →
         AreSteps t steps → IsAround t steps p a → IsFitting a }

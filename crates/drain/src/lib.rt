@@ -10,7 +10,7 @@
 //!
 //! - `draining`: `directions`, which runs all stages, and `flat_steps`
 //! - `first`: the first round
-//! - `beginning`: finds the cells that drain at once
+//! - `beginning`: finds the tile's cells that drain at once
 //! - `search`: searches the window of a tile for steps
 //! - `loading`: copies the counts of a tile's window, and out of these the tile's counts
 //! - `rounds`: later rounds

@@ -7,6 +7,7 @@
 ghost use Rattle.std.specs.Prelude.{◌≡◌, ◌*◌, ◌<◌, ◌≤◌, ◌<ℤ◌, ◌≤ℤ◌, ℕ, IfSome, IsTrue, Some, None, option_map, slice_index_or, position};
 ghost use Rattle.std.specs.Bool.{MatchBool};
 ghost use Rattle.std.specs.List.{list_any};
+ghost use Rattle.std.specs.Option.{option_zip};
 ghost use Rattle.terrain.specs.Raster.{IsHeight, greatest_drop};
 ghost use Rattle.drain.specs.Steepness.{direction_of, leads_on};
 ghost use Rattle.drain.specs.Surroundings.{HasHeights, IsGreatestFall, IsLowestBefore, IsSteepestWay, drop_by, height_on};
@@ -154,6 +155,19 @@ fn heights_around(around: &Around) -> [Option<Height>; 8]
     ]
 }
 
+/// Returns whether a neighbour has height `level` and `own - 1` steps.
+#[inline(always)]
+pub(crate) fn leads_on(level: Height, own: u32, height: Option<Height>, steps: Option<u32>) -> bool
+    ensures { (a : Around) → a.level ≡ level → a.steps ≡ own →
+        result ≡ leads_on a (option_zip height steps) }
+{
+    match (steps, height) {
+        // The `<` shows the prover that the sum does not overflow.
+        (Some(count), Some(height)) => count < own && count + 1 == own && height == level,
+        _ => false,
+    }
+}
+
 /// Returns whether the neighbour on `way` has the cell's height and one step fewer.
 #[inline(always)]
 fn leads_onward(around: &Around, way: usize) -> bool
@@ -161,10 +175,7 @@ fn leads_onward(around: &Around, way: usize) -> bool
     ensures { result ≡ leads_on around.now (slice_index_or around.now.ways way None) }
 {
     match around.ways[way] {
-        // The `<` shows the prover that the sum does not overflow.
-        Some((height, steps)) => height == around.level
-            && steps < around.steps
-            && steps + 1 == around.steps,
+        Some((height, steps)) => leads_on(around.level, around.steps, Some(height), Some(steps)),
         None => false,
     }
 }

@@ -40,8 +40,8 @@ impl Model for Horizon {
 }
 
 /// The index of the piece at which the next lookup in a horizon begins.
-/// From lookup to lookup, the target's index must not fall. A cursor is valid for one horizon,
-/// until that horizon is cleared.
+/// It is valid for one horizon, until that horizon is cleared, if the target's index never falls
+/// from lookup to lookup.
 #[derive(Clone, Copy)]
 pub struct Cursor {
     pub piece: usize,
@@ -134,8 +134,8 @@ impl Horizon {
     }
 
     /// Returns the piece that covers target `index`, and moves the cursor there.
-    /// Since it was new, the cursor must have been used on this horizon only, at no greater index,
-    /// and the horizon must not have been cleared.
+    /// No piece before the cursor's may have an `end` above `index`. None has if, since it was new,
+    /// the cursor was used on this horizon only, at no greater index, and this was not cleared.
     #[inline(always)]
     pub fn piece(&self, cursor: &mut Cursor, index: usize) -> Piece
         requires index { index < target_count self.now }
@@ -151,8 +151,8 @@ impl Horizon {
 
     /// Returns whether the horizon hides a target that is `rise` above the eye.
     /// `index` is the index of `target` among the targets of the horizon.
-    /// Since it was new, the cursor must have been used on this horizon only, at no greater index,
-    /// and the horizon must not have been cleared.
+    /// No piece before the cursor's may have an `end` above `index`. None has if, since it was new,
+    /// the cursor was used on this horizon only, at no greater index, and this was not cleared.
     #[inline(always)]
     pub fn hides(&self, cursor: &mut Cursor, index: usize, target: Target, rise: Value) -> bool
         requires index { index < target_count self.now }

@@ -97,7 +97,7 @@ fn round(
     flat_steps(alloc, &levels, &steps)
 }
 
-/// Returns the counts of a tile after the first round, for tiles of this side.
+/// Returns a tile's counts after one round from the grid's initial counts, for tiles of this side.
 fn first_round(
     rt: &impl Abort,
     alloc: Global,

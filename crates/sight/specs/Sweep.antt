@@ -100,8 +100,8 @@ constant_ramp f k height = record { gain = pos 0; intercept = height -ℤ f.eye;
 abbrev pub IsRise : ℤ → Type 0
 IsRise rise = unsigned_abs rise ≤ 2 ^ 51
 
--- Let target t be beyond line k. At each rise within the limit, the ramp hides t exactly if line k
--- blocks t.
+-- The ramp is within bounds at target t (`IsRampAt`). If t is beyond line k, then at each rise
+-- within the limit the ramp hides t exactly if line k blocks t.
 pub record IsShadow (cells : List (Option ℤ)) (f : Family) (k : ℕ) (t : Target)
     (r : Ramp) : Type 0 where
   pub at : IsRampAt r t
@@ -115,8 +115,8 @@ IsHiddenOn cells f targets k r from end =
     → (y : ℕ) (rise : ℤ) → IsAtCell f y t → k < t.line →
     line_blocks cells f t.line y rise k ≡ true → ramp_hides r t rise ≡ true
 
--- Let target t, of index i, be beyond line k. At each rise within the limit, the ramp hides t
--- exactly if the old horizon does or line k blocks t.
+-- The ramp is within bounds at target t, of index i. If t is beyond line k, then at each rise
+-- within the limit the ramp hides t exactly if the old horizon does or line k blocks t.
 pub record Raises (cells : List (Option ℤ)) (f : Family) (k : ℕ) (old : List Piece) (i : ℕ)
     (t : Target) (r : Ramp) : Type 0 where
   pub at : IsRampAt r t
@@ -131,8 +131,9 @@ RaisesBelow cells f targets k old end new =
     (i : ℕ) (t : Target) → i < end → slice_get targets i ≡ Some t
     → (r : Ramp) × (ramp_at new i ≡ Some r) × Raises cells f k old i t r
 
--- Take a target on line k or beyond, at a rise within the limit. The horizon hides the target
--- exactly if a line before line k blocks the target.
+-- The horizon covers the targets, with a ramp within bounds at each (`IsOver`). Take a target on
+-- line k or beyond, at a rise within the limit. The horizon hides the target exactly if a line
+-- before line k blocks it.
 pub record HidesBefore (cells : List (Option ℤ)) (f : Family) (targets : List Target) (k : ℕ)
     (h : List Piece) : Type 0 where
   pub over : IsOver targets h

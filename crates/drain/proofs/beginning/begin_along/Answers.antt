@@ -1,7 +1,7 @@
 use Rattle.std.proofs.Common.{◌≡◌, ◌+◌, ◌*◌, ℕ, List, sym, subst, arith}
 use Rattle.terrain.proofs.Places.{make_place}
-use Rattle.drain.specs.Beginning.{HasGapOrLower, IsBegunSpot}
-use Rattle.tiles.specs.Windows.{AreMadeSpots, spot_index}
+use Rattle.drain.specs.Beginning.{HasGapOrLower, IsBegunSpot, AreBegunUpTo}
+use Rattle.tiles.specs.Windows.{spot_index}
 use Rattle.tiles.proofs.Spots.{made_push}
 use Rattle.drain.proofs.beginning.begin_along.Goals as goal
 
@@ -11,11 +11,10 @@ loop-col-preserved c =
     let b = w.bounds in
     let s = make_place c.args.row c.loop-col.col in
     let more = made_push (IsBegunSpot (HasGapOrLower b w.values.items)) b s 0
-    c.loop-col.counts.items c.begin_spot.result (c.requires.row, c.loop-col-test.true)
-    c.loop-col.invariant c.begin_spot.ensures in
+    c.loop-col.counts.items c.initial_count.result (c.requires.row, c.loop-col-test.true)
+    c.loop-col.invariant c.initial_count.ensures in
     let next : spot_index b s + 1 ≡ c.args.row * (b.cols + 2) + (c.loop-col.col + 1) =
     omega arith in
-    subst (λ (n : ℕ). AreMadeSpots (IsBegunSpot (HasGapOrLower b w.values.items)) b n 0
-    c.push.new.self.items) next
-    (subst (λ (xs : List ℕ). AreMadeSpots (IsBegunSpot (HasGapOrLower b w.values.items)) b
-    (spot_index b s + 1) 0 xs) (sym c.in_ok-push.ensures.items) more)
+    subst (λ (n : ℕ). AreBegunUpTo (HasGapOrLower b w.values.items) b n c.push.new.self.items) next
+    (subst (λ (xs : List ℕ). AreBegunUpTo (HasGapOrLower b w.values.items) b (spot_index b s + 1)
+    xs) (sym c.in_ok-push.ensures.items) more)

@@ -1,9 +1,7 @@
 use Rattle.std.proofs.Common.{◌+◌, ◌*◌}
-use Rattle.drain.specs.Beginning.{HasGapOrLower, IsBegunSpot}
-use Rattle.tiles.specs.Windows.{AreMadeSpots}
+use Rattle.drain.specs.Beginning.{HasGapOrLower, AreBegunUpTo}
 use Rattle.drain.proofs.beginning.begin_along.Given as goal
 
 abbrev pub invariant-loop-col : goal.invariant-loop-col
-invariant-loop-col l =
-    AreMadeSpots (IsBegunSpot (HasGapOrLower l.window.bounds l.window.values.items)) l.window.bounds
-    (l.row * (l.window.bounds.cols + 2) + l.col) 0 l.counts.items
+invariant-loop-col l = AreBegunUpTo (HasGapOrLower l.window.bounds l.window.values.items)
+    l.window.bounds (l.row * (l.window.bounds.cols + 2) + l.col) l.counts.items

@@ -1,9 +1,7 @@
 use Rattle.std.proofs.Common.{◌+◌, ◌*◌}
-use Rattle.drain.specs.Beginning.{HasGapOrLower, IsBegunSpot}
-use Rattle.tiles.specs.Windows.{AreMadeSpots}
+use Rattle.drain.specs.Beginning.{HasGapOrLower, AreBegunUpTo}
 use Rattle.drain.proofs.beginning.begun_counts.Given as goal
 
 abbrev pub invariant-loop-row : goal.invariant-loop-row
-invariant-loop-row l =
-    AreMadeSpots (IsBegunSpot (HasGapOrLower l.window.bounds l.window.values.items)) l.window.bounds
-    (l.row * (l.window.bounds.cols + 2)) 0 l.counts.items
+invariant-loop-row l = AreBegunUpTo (HasGapOrLower l.window.bounds l.window.values.items)
+    l.window.bounds (l.row * (l.window.bounds.cols + 2)) l.counts.items

@@ -8,7 +8,7 @@ onward-requires-clause-some c =
     let some = c.requires.some in (
       some.2,
       subst (λ (z : ℤ). HasCells some.2 c.args.cells.now c.args.steps.now c.args.at.now z
-          c.args.own) (sym (to_z-of_z c.ranges.level)) some.3.found,
+          c.args.own) (sym (to_z-of_z c.ranges.level)) some.3.in_lists,
       leads some.0 some.1 c.args.cells.now c.args.steps.now c.args.at.now c.args.level c.args.own
           some.2 some.3 c.if-own-gt0.true,
     )
@@ -17,7 +17,7 @@ pub returns-then-own-gt0 : goal.returns-then-own-gt0
 returns-then-own-gt0 c = λ t p a are.
     let first = rw (to_z-of_z c.ranges.level) at c.onward.ensures.first in
     code_onward t p c.args.cells.now c.args.steps.now c.args.at.now c.args.level c.args.own a are
-    c.onward.result c.of_way.result c.if-own-gt0.true (first a are.found) c.of_way.ensures
+    c.onward.result c.of_way.result c.if-own-gt0.true (first a are.in_lists) c.of_way.ensures
 
 pub of_way-requires-in-Some : goal.of_way-requires-in-Some
 of_way-requires-in-Some c =

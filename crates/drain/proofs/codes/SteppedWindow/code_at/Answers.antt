@@ -5,7 +5,7 @@ use Rattle.terrain.specs.declared.place.Place.{Place}
 use Rattle.tiles.specs.Windows.{IsInner, Shows, spot_index}
 use Rattle.drain.specs.Codes.{SteppedSpots}
 use Rattle.drain.specs.Directions.{IsCodeAt}
-use Rattle.drain.proofs.Block.{read_is}
+use Rattle.drain.proofs.Reading.{read_is}
 use Rattle.drain.proofs.WindowCodes.{some_surroundings, code_shown}
 use Rattle.drain.proofs.codes.SteppedWindow.code_at.Goals as goal
 

@@ -1,6 +1,6 @@
 -- A cell of a tile is an edge cell or has a lower neighbour exactly if one of the spots around its
 -- own in the tile's window has no data or is lower.
-use Rattle.std.proofs.Common.{◌≡◌, ◌≢◌, ℕ, ◌+◌, ◌-◌, ◌<◌, ◌<ℤ◌, inl, inr, List, length, get_or, false, true, Option, None, Some, is_some, ℤ, ◌⊎◌, lit<, sym, ap, subst, refl, ◌∙◌, arith}
+use Rattle.std.proofs.Common.{◌≡◌, ◌≢◌, ℕ, ◌+◌, ◌-◌, ◌<◌, ◌<ℤ◌, inl, inr, List, get_or, false, true, Option, None, Some, is_some, ℤ, ◌⊎◌, lit<, sym, ap, subst, refl, ◌∙◌, arith}
 use Rattle.std.proofs.lemmas.Int.{ints}
 use Rattle.std.proofs.lemmas.Bool.{cases_eq, false≢true}
 use Rattle.std.proofs.lemmas.List.{get_or_default}
@@ -18,13 +18,6 @@ use Rattle.tiles.proofs.SpotWays.{value_on_way}
 use Rattle.drain.specs.Beginning.{IsEdgeOrHasLower, IsGapOrLower, HasGapOrLower}
 use Rattle.drain.proofs.Counted.{height_is as data_height}
 use Rattle.drain.proofs.Spreading.{spot_from_inner}
-
--- what is read at an index of a list is the list's entry there
-pub read_is : {X : Type 0} (xs : List (Option X)) (index at : ℕ) (read : Option X) (x : X) →
-    index ≡ at → index < length xs → read ≡ get_or xs index read → read ≡ Some x →
-    get_or xs at None ≡ Some x
-read_is xs index at read x same below is some = ap (λ (n : ℕ). get_or xs n None) (sym same)
-    ∙ sym (get_or_default xs index read None below) ∙ sym is ∙ some
 
 drains_from : (t : Terrain) (p q : Place) (level : ℤ) (o : Option ℤ) → height_at t p ≡ Some level →
     Touches p q → height_at t q ≡ o → IsGapOrLower level o → IsEdgeOrHasLower t p

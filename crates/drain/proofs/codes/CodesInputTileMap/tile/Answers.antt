@@ -3,7 +3,7 @@ use Rattle.terrain.specs.Raster.{Terrain}
 use Rattle.tile_maps.specs.Maps.{IsMadeTile}
 use Rattle.tile_maps.proofs.TileLists.{made_tile}
 use Rattle.drain.specs.Directions.{IsCodeAt}
-use Rattle.drain.proofs.codes.CodesTileMap.tile.Goals as goal
+use Rattle.drain.proofs.codes.CodesInputTileMap.tile.Goals as goal
 
 pub returns : goal.returns
 returns c =

@@ -5,8 +5,8 @@ use Rattle.terrain.proofs.Heights.{height_width}
 use Rattle.terrain.specs.Ways.{around_index}
 use Rattle.tiles.specs.Windows.{spot_index}
 use Rattle.drain.specs.Beginning.{IsGapOrLower}
-use Rattle.drain.proofs.Block.{read_is}
-use Rattle.drain.proofs.beginning.begin_spot.Goals as goal
+use Rattle.drain.proofs.Reading.{read_is}
+use Rattle.drain.proofs.beginning.initial_count.Goals as goal
 
 pub returns-else-any_gap_or_lower : goal.returns-else-any_gap_or_lower
 returns-else-any_gap_or_lower c =

@@ -1,5 +1,5 @@
 use Rattle.std.proofs.Common.{◌≡◌, ◌∙◌, sym}
-use Rattle.drain.proofs.codes.Codes.window.Goals as goal
+use Rattle.drain.proofs.codes.CodesInput.window.Goals as goal
 
 pub invariant_of-result : goal.invariant_of-result
 invariant_of-result c =
@@ -21,7 +21,7 @@ invariant_of-result c =
       same,
       rw (c.of.ensures) record {
         lawful = c.self.invariant.lawful;
-        heights = heights;
-        counts = (c.self.inside.steps.items, c.self.invariant.steps, rw same at counts);
+        levels = heights;
+        steps = (c.self.inside.steps.items, c.self.invariant.steps, rw same at counts);
       },
     )
