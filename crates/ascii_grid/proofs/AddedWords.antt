@@ -11,34 +11,34 @@ use Rattle.terrain.specs.Words.{Word}
 use Rattle.ascii_grid.specs.Header.{fills, slot_of, is_long, is_value, bad_value, begins_with_letter, header_words, height_words, key_left, nodata_for, header_fault, key_fault, value_fault, missing_fault}
 use Rattle.ascii_grid.specs.GridText.{AsksForCells, is_cell, spelled_cell, cells_wanted, words_fault, heights_fault, height_fault, AsksAtHeight, IsReported}
 use Rattle.ascii_grid.specs.Slots.{is_given, is_centre, with_value}
-use Rattle.ascii_grid.specs.Reading.{flat, slots_of, keys_before, IsHeaderOf, AwaitsValue, HasBegun, AreHeights, IsAt, HasAdded, IsWordFault}
+use Rattle.ascii_grid.specs.Reading.{flat, slots_of, keys_before, IsHeaderOf, AwaitsValue, HasBegun, HasReadHeights, FitsExpected, HasAdded, IsWordFault}
 use Rattle.ascii_grid.specs.declared.fault.Key.{Key}
 use Rattle.ascii_grid.specs.declared.fault.GridFault.{GridFault}
 use Rattle.ascii_grid.specs.declared.fault.GridFault.TheVariants.{UnknownKey, RepeatedKey, TooLong, MissingKey, BadHeight, TooMany, Memory}
 use Rattle.ascii_grid.specs.declared.header.Header.{Header}
-use Rattle.ascii_grid.specs.declared.builder.Stage.{Stage}
-use Rattle.ascii_grid.specs.declared.builder.Stage.TheVariants.{AtKey, AtValue, AtHeights}
+use Rattle.ascii_grid.specs.declared.builder.Expected.{Expected}
+use Rattle.ascii_grid.specs.declared.builder.Expected.TheVariants.{AtKey, AtValue, AtHeights}
 use Rattle.ascii_grid.specs.declared.builder.GridBuilder.{GridBuilder}
 use Rattle.ascii_grid.proofs.Judging.{Pairs, or_none, then_none, words-flat, key_left-flat, flat-push, are_keys-push, header_fault-flat, list_any-keys_before, is_given-slots_of, with_value-slots_of, words_fault-flat, words_fault-key, words_fault-value, words_fault-heights, words-begun, heights_fault-push, HasBegun-more}
 use Rattle.std.proofs.lemmas.Result.{MatchResult-weaker}
 use Rattle.ascii_grid.specs.declared.fault.Key.TheVariants.{Ncols}
 
--- ---- the stage
+-- ---- the expected word
 
-pub at_key : (j : GridBuilder) (ws : List Word) (h : HasAdded j ws) → j.stage ≡ AtKey →
+pub at_key : (j : GridBuilder) (ws : List Word) (h : HasAdded j ws) → j.expected ≡ AtKey →
     ws ≡ flat h.pairs
 at_key j ws h e = h.words ∙ ap (λ z. flat h.pairs ++ z) (rw e at h.at) ∙ append-nil (flat h.pairs)
 
 pub at_value : (j : GridBuilder) (ws : List Word) (h : HasAdded j ws) (slot : Key)
-    (centre : Bool) → j.stage ≡ AtValue slot centre → (k : Word) × (ws ≡ flat h.pairs ++ k ∷ [])
+    (centre : Bool) → j.expected ≡ AtValue slot centre → (k : Word) × (ws ≡ flat h.pairs ++ k ∷ [])
     × AwaitsValue h.pairs k slot centre
 at_value j ws h slot centre e =
     let there = rw e at h.at in
     (there.0, h.words ∙ ap (λ z. flat h.pairs ++ z) there.1, there.2)
 
-pub at_heights : (j : GridBuilder) (ws : List Word) (h : HasAdded j ws) → j.stage ≡ AtHeights →
-    HasBegun h.rest × AreHeights j h.pairs h.rest
-at_heights j ws h e = subst (IsAt j h.pairs h.rest) e h.at
+pub at_heights : (j : GridBuilder) (ws : List Word) (h : HasAdded j ws) → j.expected ≡ AtHeights →
+    HasBegun h.rest × HasReadHeights j h.pairs h.rest
+at_heights j ws h e = subst (FitsExpected j h.pairs h.rest) e h.at
 
 -- ---- a key
 
@@ -68,10 +68,11 @@ slot_fault ps (Some slot) f e =
     ap (λ b. cond b (Some (RepeatedKey slot)) None) (repeats slot ps ∙ e.0) ∙ ap Some (sym e.1)
 
 pub judged-key : (j j' : GridBuilder) (ws : List Word) (w : Word) (slot : Key) → HasAdded j ws →
-    j.stage ≡ AtKey → length w ≤ 64 → begins_with_letter w ≡ true → slot_of w ≡ Some slot →
-    is_given j.header slot ≡ false → j'.header ≡ j.header → j'.stage ≡ AtValue slot (is_centre w) →
+    j.expected ≡ AtKey → length w ≤ 64 → begins_with_letter w ≡ true → slot_of w ≡ Some slot →
+    is_given j.header slot ≡ false → j'.header ≡ j.header →
+    j'.expected ≡ AtValue slot (is_centre w) →
     HasAdded j' (ws ++ w ∷ [])
-judged-key j j' ws w slot h e short letter s free same stage =
+judged-key j j' ws w slot h e short letter s free same expected =
     let none : is_given (slots_of h.pairs) slot ≡ false =
     ap (λ x. is_given x slot) (sym h.header.slots) ∙ free in
     let awaits : AwaitsValue h.pairs w slot (is_centre w) =
@@ -88,17 +89,17 @@ judged-key j j' ws w slot h e short letter s free same stage =
       rest = w ∷ [];
       words = ap (λ z. z ++ w ∷ []) (at_key j ws h e);
       header = same_header j.header j'.header h.pairs same h.header;
-      at = rw stage (w, refl, awaits);
+      at = rw expected (w, refl, awaits);
     }
 
 pub next-key : (j : GridBuilder) (ws : List Word) (w : Word) (h : HasAdded j ws) →
-    j.stage ≡ AtKey → begins_with_letter w ≡ true →
+    j.expected ≡ AtKey → begins_with_letter w ≡ true →
     words_fault j.scale (ws ++ w ∷ []) ≡ key_fault (keys_before h.pairs []) w
 next-key j ws w h e letter = ap (λ z. words_fault j.scale (z ++ w ∷ [])) (at_key j ws h e)
     ∙ words_fault-key j.scale h.pairs w h.header.keys h.header.faultless letter
 
 pub fault-key : (j : GridBuilder) (ws : List Word) (w : Word) (f : GridFault) → HasAdded j ws →
-    j.stage ≡ AtKey → length w ≤ 64 → begins_with_letter w ≡ true →
+    j.expected ≡ AtKey → length w ≤ 64 → begins_with_letter w ≡ true →
     MatchOption (slot_of w) (f ≡ UnknownKey) (λ slot. (is_given j.header slot ≡ true)
     × (f ≡ RepeatedKey slot)) → words_fault j.scale (ws ++ w ∷ []) ≡ Some f
 fault-key j ws w f h e short letter m =
@@ -113,9 +114,9 @@ value_fault-short : (k v : Word) (slot : Key) → length v ≤ 64 → slot_of k 
 value_fault-short k v slot h s = rw (is_short v h, s) refl
 
 pub judged-value : (j j' : GridBuilder) (ws : List Word) (v : Word) (slot : Key) (centre : Bool) →
-    HasAdded j ws → j.stage ≡ AtValue slot centre → length v ≤ 64 → is_value slot v ≡ true →
-    j'.header ≡ with_value j.header slot centre v → j'.stage ≡ AtKey → HasAdded j' (ws ++ v ∷ [])
-judged-value j j' ws v slot centre h e short ok same stage =
+    HasAdded j ws → j.expected ≡ AtValue slot centre → length v ≤ 64 → is_value slot v ≡ true →
+    j'.header ≡ with_value j.header slot centre v → j'.expected ≡ AtKey → HasAdded j' (ws ++ v ∷ [])
+judged-value j j' ws v slot centre h e short ok same expected =
     let there = at_value j ws h slot centre e in
     let k = there.0 in
     let awaits = there.2 in
@@ -136,11 +137,11 @@ judged-value j j' ws v slot centre h e short ok same stage =
             ∙ ap (λ b. with_value (slots_of h.pairs) slot b v) awaits.named
             ∙ with_value-slots_of slot h.pairs k v awaits.key_is awaits.free;
       };
-      at = rw stage refl;
+      at = rw expected refl;
     }
 
 pub next-value : (j : GridBuilder) (ws : List Word) (v : Word)
-    (slot : Key) (centre : Bool) (h : HasAdded j ws) (e : j.stage ≡ AtValue slot centre) →
+    (slot : Key) (centre : Bool) (h : HasAdded j ws) (e : j.expected ≡ AtValue slot centre) →
     words_fault j.scale (ws ++ v ∷ []) ≡ value_fault (at_value j ws h slot centre e).0 v
 next-value j ws v slot centre h e =
     let there = at_value j ws h slot centre e in
@@ -150,7 +151,7 @@ next-value j ws v slot centre h e =
     there.2.faultless
 
 pub fault-value : (j : GridBuilder) (ws : List Word) (v : Word) (slot : Key) (centre : Bool) →
-    HasAdded j ws → j.stage ≡ AtValue slot centre → length v ≤ 64 → is_value slot v ≡ false →
+    HasAdded j ws → j.expected ≡ AtValue slot centre → length v ≤ 64 → is_value slot v ≡ false →
     words_fault j.scale (ws ++ v ∷ []) ≡ Some (bad_value slot)
 fault-value j ws v slot centre h e short bad =
     let there = at_value j ws h slot centre e in
@@ -193,14 +194,14 @@ first_short d header (x ∷ hs) w short none =
 -- let the words `ws` be the header of `j` and heights `hs`, and `j'` be among the heights of this
 -- header. If `hs ++ more` have no fault and `j'` stores their cells, it has read `ws` and `more`
 pub judged-heights : (j j' : GridBuilder) (ws : List Word) (ps : Pairs) (hs more : List Word) →
-    IsHeaderOf j.header ps → ws ≡ flat ps ++ hs → HasBegun (hs ++ more) → AreHeights j' ps (hs
-    ++ more) → j'.header ≡ j.header → j'.stage ≡ AtHeights → HasAdded j' (ws ++ more)
-judged-heights j j' ws ps hs more k e begun heights same stage = record {
+    IsHeaderOf j.header ps → ws ≡ flat ps ++ hs → HasBegun (hs ++ more) → HasReadHeights j' ps (hs
+    ++ more) → j'.header ≡ j.header → j'.expected ≡ AtHeights → HasAdded j' (ws ++ more)
+judged-heights j j' ws ps hs more k e begun heights same expected = record {
   pairs = ps;
   rest = hs ++ more;
   words = ap (λ z. z ++ more) e ∙ append_assoc (flat ps) hs more;
   header = same_header j.header j'.header ps same k;
-  at = subst (IsAt j' ps (hs ++ more)) (sym stage) (begun, heights);
+  at = subst (FitsExpected j' ps (hs ++ more)) (sym expected) (begun, heights);
 }
 
 pub next-height : (d : ℕ) (ws : List Word) (ps : Pairs) (hs : List Word) (w : Word) (h : Header) →
@@ -235,24 +236,24 @@ pub height_fault-none : (d : ℕ) (header : List Word) (place : ℕ) (w : Word) 
 height_fault-none d header place w short whole room ok =
     rw (is_short w short, whole, lt-ltb place (cells_wanted header) room, ok) refl
 
-pub place_of : (j : GridBuilder) (ps : Pairs) (hs : List Word) → AreHeights j ps hs →
+pub place_of : (j : GridBuilder) (ps : Pairs) (hs : List Word) → HasReadHeights j ps hs →
     length j.cells.items ≡ length hs
 place_of j ps hs h = ap length h.cells ∙ length-map hs (spelled_cell j.scale j.nodata)
 
 pub judged_none : (j : GridBuilder) (ws : List Word) → HasAdded j ws →
     words_fault j.scale ws ≡ None
-judged_none j ws h = by_stage j.stage refl
+judged_none j ws h = by_expected j.expected refl
   where
-    by_stage : (s : Stage) → j.stage ≡ s → words_fault j.scale ws ≡ None
-    by_stage AtKey e =
+    by_expected : (s : Expected) → j.expected ≡ s → words_fault j.scale ws ≡ None
+    by_expected AtKey e =
         ap (words_fault j.scale) (at_key j ws h e ∙ sym (append-nil (flat h.pairs)))
         ∙ words_fault-flat j.scale h.pairs [] [] [] h.header.keys h.header.faultless refl refl
-    by_stage (AtValue slot centre) e =
+    by_expected (AtValue slot centre) e =
         let there = at_value j ws h slot centre e in
         ap (words_fault j.scale) there.1
         ∙ words_fault-key j.scale h.pairs there.0 h.header.keys h.header.faultless there.2.letter
         ∙ there.2.faultless
-    by_stage AtHeights e =
+    by_expected AtHeights e =
         let there = at_heights j ws h e in
         ap (words_fault j.scale) h.words
         ∙ words_fault-heights j.scale h.pairs h.rest h.header.keys h.header.faultless there.0
@@ -324,20 +325,21 @@ memory_fault d ws f e h = rw e h
 
 pub long_fault : (j : GridBuilder) (ws : List Word) (w : Word) → HasAdded j ws → 64 < length w →
     words_fault j.scale (ws ++ w ∷ []) ≡ Some TooLong
-long_fault j ws w h far = by_stage j.stage refl
+long_fault j ws w h far = by_expected j.expected refl
   where
     long : is_long w ≡ true
     long = lt-ltb 64 (length w) far
 
-    by_stage : (s : Stage) → j.stage ≡ s → words_fault j.scale (ws ++ w ∷ []) ≡ Some TooLong
-    by_stage AtKey e =
+    by_expected : (s : Expected) → j.expected ≡ s →
+        words_fault j.scale (ws ++ w ∷ []) ≡ Some TooLong
+    by_expected AtKey e =
         elim (cases_Bool (begins_with_letter w)) [
           | inl letter ↦ next-key j ws w h e letter ∙ rw long refl
           | inr begun ↦ next-height j.scale ws h.pairs [] w j.header h.header (at_key j ws h e
               ∙ sym (append-nil (flat h.pairs))) begun refl ∙ rw long refl
         ]
-    by_stage (AtValue slot centre) e = next-value j ws w slot centre h e ∙ rw long refl
-    by_stage AtHeights e =
+    by_expected (AtValue slot centre) e = next-value j ws w slot centre h e ∙ rw long refl
+    by_expected AtHeights e =
         let there = at_heights j ws h e in
         next-height j.scale ws h.pairs h.rest w j.header h.header h.words
         (HasBegun-more h.rest (w ∷ []) there.0) there.1.faultless ∙ rw long refl
@@ -346,13 +348,14 @@ long_fault j ws w h far = by_stage j.stage refl
 -- of `add_word` for `w` after the words `ws`, which are a header and `hs`
 pub height_word : {T : Type 0} (j j' : GridBuilder) (ws : List Word) (ps : Pairs) (hs : List Word)
     (w : Word) (r : Result T GridFault) → IsHeaderOf j.header ps → ws ≡ flat ps ++ hs →
-    HasBegun (hs ++ w ∷ []) → AreHeights j ps hs → length w ≤ 64 → j'.header ≡ j.header →
-    j'.stage ≡ AtHeights → MatchResult r (λ _. AreHeights j' ps (hs ++ w ∷ [])) (λ f. (f ≡ Memory)
+    HasBegun (hs ++ w ∷ []) → HasReadHeights j ps hs → length w ≤ 64 → j'.header ≡ j.header →
+    j'.expected ≡ AtHeights →
+    MatchResult r (λ _. HasReadHeights j' ps (hs ++ w ∷ [])) (λ f. (f ≡ Memory)
     ⊎ (height_fault j.scale (flat ps) (length hs) w ≡ Some f)) →
     MatchResult r (λ _. HasAdded j' (ws ++ w ∷ [])) (IsWordFault j.scale (ws ++ w ∷ []))
-height_word j j' ws ps hs w r k e begun heights short same stage m =
+height_word j j' ws ps hs w r k e begun heights short same expected m =
     MatchResult-weaker r m (λ _ more.
-    judged-heights j j' ws ps hs (w ∷ []) k e begun more same stage)
+    judged-heights j j' ws ps hs (w ∷ []) k e begun more same expected)
     (λ f why. elim why [
       | inl lack ↦ memory_fault j.scale (ws ++ w ∷ []) f lack
           (memory-height j ws ps hs w j.header k e begun heights.whole heights.faultless short)
@@ -364,11 +367,11 @@ height_word j j' ws ps hs w r k e begun heights short same stage m =
 -- where `w` is the first height and not too long, a missing slot's fault may be reported for `ws`
 -- and `w`, or `Memory` if no slot is missing
 pub no_first_height : (j : GridBuilder) (ws : List Word) (w : Word)
-    (f : GridFault) (h : HasAdded j ws) → j.stage ≡ AtKey →
+    (f : GridFault) (h : HasAdded j ws) → j.expected ≡ AtKey →
     begins_with_letter w ≡ false → length w ≤ 64 → (missing_fault (flat h.pairs) ≡ Some f)
     ⊎ ((f ≡ Memory) × (missing_fault (flat h.pairs) ≡ None)) → IsWordFault j.scale (ws ++ w ∷ []) f
-no_first_height j ws w f h stage begun short why =
-    let e = at_key j ws h stage ∙ sym (append-nil (flat h.pairs)) in
+no_first_height j ws w f h expected begun short why =
+    let e = at_key j ws h expected ∙ sym (append-nil (flat h.pairs)) in
     elim why [
       | inl missing ↦ word_fault j.scale (ws ++ w ∷ []) f (ap is_memory (sym missing)
           ∙ not_memory_missing (flat h.pairs)) (next-height j.scale ws h.pairs []

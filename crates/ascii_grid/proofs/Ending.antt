@@ -9,12 +9,12 @@ use Rattle.std.proofs.Math.Seq.{take-add}
 use Rattle.terrain.specs.Words.{Word, is_word, is_separator, words, ended_words}
 use Rattle.terrain.specs.Decimal.{scaled_value}
 use Rattle.ascii_grid.specs.GridText.{words_fault, height_fault}
-use Rattle.ascii_grid.specs.Reading.{flat, IsParted, HasWords, HasAdded, AreHeights, IsWordFault}
+use Rattle.ascii_grid.specs.Reading.{flat, IsParted, HasWords, HasAdded, HasReadHeights, IsWordFault}
 use Rattle.decimals.specs.Plain.{IsPlain}
 use Rattle.ascii_grid.specs.declared.fault.GridFault.{GridFault}
 use Rattle.ascii_grid.specs.declared.fault.GridFault.TheVariants.{TooLong, Memory}
 use Rattle.ascii_grid.specs.declared.builder.GridBuilder.{GridBuilder}
-use Rattle.ascii_grid.specs.declared.builder.Stage.TheVariants.{AtHeights}
+use Rattle.ascii_grid.specs.declared.builder.Expected.TheVariants.{AtHeights}
 use Rattle.ascii_grid.specs.declared.tokenizer.Tokenizer.{Tokenizer}
 use Rattle.ascii_grid.proofs.Parting.{words-parted, IsParted-byte, IsParted-separator}
 use Rattle.ascii_grid.proofs.Judging.{Pairs, HasBegun-more}
@@ -158,26 +158,27 @@ parted_ended p text h e =
 -- If `r` meets the clause `word` of `add_height_value`, it meets `words` of `take_plain`.
 pub plain_word : {T : Type 0} (p : Tokenizer) (j : GridBuilder) (text bytes : List ℕ)
     (len b : ℕ) (value : ℤ) (r : Result T GridFault) → HasWords p text → p.word ≡ [] →
-    p.builder.stage ≡ AtHeights → IsPlain p.builder.scale bytes len value → len < length bytes →
+    p.builder.expected ≡ AtHeights → IsPlain p.builder.scale bytes len value → len < length bytes →
     b ≡ get_or bytes len 0 → is_separator b ≡ true → j.header ≡ p.builder.header →
-    j.stage ≡ p.builder.stage
-    → ((ps : Pairs) (hs : List Word) (w : Word) → AreHeights p.builder ps hs → length w ≤ 64 →
-    scaled_value p.builder.scale w ≡ Some value → MatchResult r (λ _. AreHeights j ps (hs ++ w
+    j.expected ≡ p.builder.expected
+    → ((ps : Pairs) (hs : List Word) (w : Word) → HasReadHeights p.builder ps hs → length w ≤ 64 →
+    scaled_value p.builder.scale w ≡ Some value → MatchResult r (λ _. HasReadHeights j ps (hs ++ w
     ∷ [])) (λ f. (f ≡ Memory) ⊎ (height_fault p.builder.scale (flat ps) (length hs) w ≡ Some f)))
     → MatchResult r (λ _. HasWords (record p { builder = j }) (text ++ take (len + 1) bytes)) (λ f.
     (n : ℕ) × (n ≤ length bytes)
     × IsWordFault p.builder.scale (ended_words (text ++ take n bytes)) f)
-plain_word p j text bytes len b value r h none stage plain inside at ends header same judged =
+plain_word p j text bytes len b value r h none expected plain inside at ends header same judged =
     let w = take len bytes in
     let short : length w ≤ 64 = omega (arith, plain.short, length-take len bytes) in
-    let there = at_heights p.builder h.ended h.judged stage in
+    let there = at_heights p.builder h.ended h.judged expected in
     let parted = parted_word text bytes h.ended len b
     (parted_ended p text h none) plain.whole plain.some inside at ends in
     let ps = h.judged.pairs in
     let hs = h.judged.rest in
     MatchResult-weaker r
     (height_word p.builder j h.ended ps hs w r h.judged.header h.judged.words (HasBegun-more hs (w
-    ∷ []) there.0) there.1 short header (same ∙ stage) (judged ps hs w there.1 short plain.scaled))
+    ∷ []) there.0) there.1 short header (same ∙ expected)
+    (judged ps hs w there.1 short plain.scaled))
     (λ _ more.
     record { ended = h.ended ++ w ∷ []; last = []; parted = parted; judged = more; front = none })
     (λ f fault.

@@ -13,9 +13,9 @@ use Rattle.terrain.specs.Words.{Word, is_word, is_separator, words, ended_words}
 use Rattle.ascii_grid.specs.Header.{nodata_for, header_words, missing_fault}
 use Rattle.ascii_grid.specs.GridText.{is_cell, spelled_cell, cells_wanted, heights_fault}
 use Rattle.ascii_grid.specs.HeightList.{ParserSettings, IsHeightWord, AreCells, IsEndedWord}
-use Rattle.ascii_grid.specs.Reading.{flat, IsParted, HasWords, AreHeights}
+use Rattle.ascii_grid.specs.Reading.{flat, IsParted, HasWords, HasReadHeights}
 use Rattle.ascii_grid.specs.declared.builder.GridBuilder.{GridBuilder}
-use Rattle.ascii_grid.specs.declared.builder.Stage.TheVariants.{AtHeights}
+use Rattle.ascii_grid.specs.declared.builder.Expected.TheVariants.{AtHeights}
 use Rattle.ascii_grid.specs.declared.tokenizer.Tokenizer.{Tokenizer}
 use Rattle.ascii_grid.proofs.Parting.{words-parted, IsParted-none, IsParted-byte, IsParted-separator}
 use Rattle.ascii_grid.proofs.Judging.{Pairs, HasBegun-more, heights_fault-append}
@@ -168,11 +168,12 @@ heights_none parser d header place (w ∷ more) scale nodata whole room h =
     (All-tail (IsHeightWord parser) w more h)
 
 pub AreHeights-more : (j j' : GridBuilder) (ps : Pairs)
-    (hs more : List Word) (parser : ParserSettings) (cells : List (Option ℤ)) → AreHeights j ps hs →
+    (hs more : List Word) (parser : ParserSettings) (cells : List (Option ℤ)) →
+    HasReadHeights j ps hs →
     parser.scale ≡ j.scale → parser.nodata ≡ j.nodata → All (IsHeightWord parser) more →
     cells ≡ map (spelled_cell parser.scale parser.nodata) more → length j.cells.items + length cells
     ≤ j.wanted → j'.wanted ≡ j.wanted → j'.nodata ≡ j.nodata → j'.nodata_value ≡ j.nodata_value →
-    j'.scale ≡ j.scale → j'.cells.items ≡ j.cells.items ++ cells → AreHeights j' ps (hs ++ more)
+    j'.scale ≡ j.scale → j'.cells.items ≡ j.cells.items ++ cells → HasReadHeights j' ps (hs ++ more)
 AreHeights-more j j' ps hs more parser cells h same_scale same_nodata heights are room wanted nodata
     value scale all =
     let size = ap length are ∙ length-map more (spelled_cell parser.scale parser.nodata) in
@@ -196,13 +197,14 @@ AreHeights-more j j' ps hs more parser cells h same_scale same_nodata heights ar
 -- after the cells of a piece are added, the words of the text and the piece have been read
 pub HasWords-more :
     (p p' : Tokenizer) (text piece : List ℕ) (parser : ParserSettings) (cells : List (Option ℤ)) →
-    HasWords p text → p.word ≡ [] → p.builder.stage ≡ AtHeights → AreCells parser piece cells →
-    p'.word ≡ p.word → p'.builder.header ≡ p.builder.header → p'.builder.stage ≡ p.builder.stage →
-    ((ps : Pairs) (hs more : List Word) → AreHeights p.builder ps hs →
+    HasWords p text → p.word ≡ [] → p.builder.expected ≡ AtHeights → AreCells parser piece cells →
+    p'.word ≡ p.word → p'.builder.header ≡ p.builder.header →
+    p'.builder.expected ≡ p.builder.expected →
+    ((ps : Pairs) (hs more : List Word) → HasReadHeights p.builder ps hs →
     All (IsHeightWord parser) more → cells ≡ map (spelled_cell parser.scale parser.nodata) more →
-    AreHeights p'.builder ps (hs ++ more)) → HasWords p' (text ++ piece)
-HasWords-more p p' text piece parser cells h none stage k word header same judged =
-    let there = at_heights p.builder h.ended h.judged stage in
+    HasReadHeights p'.builder ps (hs ++ more)) → HasWords p' (text ++ piece)
+HasWords-more p p' text piece parser cells h none expected k word header same judged =
+    let there = at_heights p.builder h.ended h.judged expected in
     let ps = h.judged.pairs in
     let hs = h.judged.rest in
     record {
@@ -211,16 +213,16 @@ HasWords-more p p' text piece parser cells h none stage k word header same judge
       parted = IsParted-more text piece h.ended (parted_ended p text h none) k.ended;
       judged = judged-heights p.builder p'.builder h.ended ps hs
           (words piece) h.judged.header h.judged.words (HasBegun-more hs (words piece) there.0)
-          (judged ps hs (words piece) there.1 k.heights k.are) header (same ∙ stage);
+          (judged ps hs (words piece) there.1 k.heights k.are) header (same ∙ expected);
       front = word ∙ none;
     }
 
 -- among the heights, the stored NODATA word is the header's
 pub stored_nodata : (p : Tokenizer) (text : List ℕ) → HasWords p text →
-    p.builder.stage ≡ AtHeights →
+    p.builder.expected ≡ AtHeights →
     p.builder.nodata ≡ nodata_for (header_words (ended_words text))
-stored_nodata p text h stage =
-    let there = at_heights p.builder h.ended h.judged stage in
+stored_nodata p text h expected =
+    let there = at_heights p.builder h.ended h.judged expected in
     let header =
     (words-after p.builder.header h.judged.pairs h.judged.rest h.judged.header there.0).0 in
     there.1.nodata

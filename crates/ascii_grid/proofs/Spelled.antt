@@ -1,5 +1,6 @@
--- The fault at a text's end, by the stage of the builder. At a scale of at most 6, a text without a
--- fault spells a lawful grid: one with all its parts within limits, no height equal to NODATA.
+-- The fault at a text's end, by the word that the builder expects. At a scale of at most 6, a text
+-- without a fault spells a lawful grid: one with all its parts within limits, no height equal to
+-- NODATA.
 -- Among the heights, the builder's slots and cells make the grid that its words spell.
 use Rattle.std.proofs.Common.{◌≡◌, ◌≢◌, ℕ, ◌+◌, ◌<◌, ◌≤◌, Bool, true, false, not, cond, nat_lt, nat_le, List, [], ◌∷◌, ◌++◌, length, map, Option, None, Some, ℤ, arith, lit≤, refl, ap, sym, ◌∙◌, subst, inl, inr}
 use Rattle.std.specs.Prelude.{is_some, All, IfSome, unwrap_or, option_map, int_le, codes}
@@ -18,14 +19,14 @@ use Rattle.terrain.specs.Raster.{lowest, highest, IsHeight, is_height, IsHeaderW
 use Rattle.ascii_grid.specs.Header.{fills, header_words, height_words, pairs, key_left, pair_for, value_for, word_for, nodata_for, is_long, is_value, bad_value, key_fault, value_fault, header_fault, missing_fault, no_value_fault}
 use Rattle.ascii_grid.specs.GridText.{AsksForCells, same_value, is_nodata, is_cell, spelled_cell, cells_wanted, height_fault, heights_fault, words_fault, end_fault, grid_of}
 use Rattle.ascii_grid.specs.Slots.{anchor_at, is_given, is_centre, IsWhole, raster_of}
-use Rattle.ascii_grid.specs.Reading.{flat, given, slots_of, AreHeights, HasAdded, IsEndFault}
+use Rattle.ascii_grid.specs.Reading.{flat, given, slots_of, HasReadHeights, HasAdded, IsEndFault}
 use Rattle.ascii_grid.specs.declared.fault.Key.{Key}
 use Rattle.ascii_grid.specs.declared.fault.Key.TheVariants.{Ncols, Nrows, Xll, Yll, Cellsize, Nodata}
 use Rattle.ascii_grid.specs.declared.fault.GridFault.{GridFault}
 use Rattle.ascii_grid.specs.declared.fault.GridFault.TheVariants.{MissingKey, BadHeight, TooFew, TooMany, TooLong, NoValue, Memory}
 use Rattle.terrain.specs.declared.grid.Anchor.{Anchor}
 use Rattle.ascii_grid.specs.declared.builder.GridBuilder.{GridBuilder}
-use Rattle.ascii_grid.specs.declared.builder.Stage.TheVariants.{AtKey, AtValue, AtHeights}
+use Rattle.ascii_grid.specs.declared.builder.Expected.TheVariants.{AtKey, AtValue, AtHeights}
 use Rattle.ascii_grid.proofs.Keys.{slot_filled}
 use Rattle.ascii_grid.proofs.Judging.{Pairs, or_none, then_none, else_none, pairs-flat, words-flat, words-whole, key_left-flat, is_given-slots_of, missing_of-slots_of, number-of_pair}
 use Rattle.ascii_grid.proofs.AddedWords.{at_key, at_value, at_heights, place_of, words-after, paired, judged_none, is_memory, reported, not_memory_missing}
@@ -157,7 +158,7 @@ cells_ok d header place (w ∷ hs) h none =
 -- ---- the fault at the end
 
 pub end-value : (j : GridBuilder) (ws : List Word) (slot : Key) (centre : Bool) → HasAdded j ws →
-    j.stage ≡ AtValue slot centre → end_fault ws ≡ Some (NoValue slot)
+    j.expected ≡ AtValue slot centre → end_fault ws ≡ Some (NoValue slot)
 end-value j ws slot centre h e =
     let there = at_value j ws h slot centre e in
     let k = there.0 in
@@ -169,7 +170,7 @@ end-value j ws slot centre h e =
     rw (header, left, there.2.key_is) refl
 
 pub end-missing : (j : GridBuilder) (ws : List Word) (f : GridFault) (h : HasAdded j ws) →
-    j.stage ≡ AtKey → missing_fault (flat h.pairs) ≡ Some f → IsEndFault ws f
+    j.expected ≡ AtKey → missing_fault (flat h.pairs) ≡ Some f → IsEndFault ws f
 end-missing j ws f h e missing =
     let same = at_key j ws h e in
     let at_end : end_fault (flat h.pairs) ≡ Some f =
@@ -179,7 +180,7 @@ end-missing j ws f h e missing =
     ∙ not_memory_missing (flat h.pairs)) there
 
 pub end-memory : (j : GridBuilder) (ws : List Word) (f : GridFault) (h : HasAdded j ws) →
-    j.stage ≡ AtKey → f ≡ Memory → missing_fault (flat h.pairs) ≡ None → IsEndFault ws f
+    j.expected ≡ AtKey → f ≡ Memory → missing_fault (flat h.pairs) ≡ None → IsEndFault ws f
 end-memory j ws f h e m whole =
     let same = at_key j ws h e in
     let are = words-whole h.pairs h.header.keys in
@@ -202,8 +203,8 @@ some_wanted header none missing =
 
 -- where a key or the first height comes next and no required slot is missing, the fault at the end
 -- is `TooFew 0`
-pub end-none : (j j' : GridBuilder) (ws : List Word) (h : HasAdded j ws) → j.stage ≡ AtKey →
-    AreHeights j' h.pairs [] → end_fault ws ≡ Some (TooFew 0)
+pub end-none : (j j' : GridBuilder) (ws : List Word) (h : HasAdded j ws) → j.expected ≡ AtKey →
+    HasReadHeights j' h.pairs [] → end_fault ws ≡ Some (TooFew 0)
 end-none j j' ws h e heights =
     let are = words-whole h.pairs h.header.keys in
     let some : nat_lt 0 (cells_wanted (flat h.pairs)) ≡ true =
@@ -212,7 +213,7 @@ end-none j j' ws h e heights =
     ap end_fault (at_key j ws h e) ∙ rw (are.0, paired h.pairs, heights.whole, are.1, some) refl
 
 pub end-heights : (j : GridBuilder) (ws : List Word) (h : HasAdded j ws) →
-    j.stage ≡ AtHeights → end_fault ws
+    j.expected ≡ AtHeights → end_fault ws
     ≡ cond (nat_lt (length j.cells.items) j.wanted) (Some (TooFew (length j.cells.items))) None
 end-heights j ws h e =
     let there = at_heights j ws h e in
@@ -297,12 +298,12 @@ lawful_words d ws few faultless end =
       apart = cells.1.1;
     }
 
-pub whole-grid : (j : GridBuilder) (ws : List Word) → HasAdded j ws → j.stage ≡ AtHeights →
+pub whole-grid : (j : GridBuilder) (ws : List Word) → HasAdded j ws → j.expected ≡ AtHeights →
     IsWhole j.header
 whole-grid j ws h e =
     subst IsWhole (sym h.header.slots) (whole_slots h.pairs (at_heights j ws h e).1.whole)
 
-pub spelled-grid : (j : GridBuilder) (ws : List Word) → HasAdded j ws → j.stage ≡ AtHeights →
+pub spelled-grid : (j : GridBuilder) (ws : List Word) → HasAdded j ws → j.expected ≡ AtHeights →
     raster_of j.header j.scale j.nodata j.cells.items ≡ grid_of j.scale ws
 spelled-grid j ws h e =
     let there = at_heights j ws h e in
@@ -315,7 +316,7 @@ spelled-grid j ws h e =
     ∙ are.0) (ap height_words h.words ∙ are.1)
 
 pub lawful-grid : (j : GridBuilder) (ws : List Word) →
-    HasAdded j ws → j.stage ≡ AtHeights → j.scale ≤ 6 → j.wanted ≤ length j.cells.items →
+    HasAdded j ws → j.expected ≡ AtHeights → j.scale ≤ 6 → j.wanted ≤ length j.cells.items →
     IsLawful (raster_of j.header j.scale j.nodata j.cells.items)
 lawful-grid j ws h e scale enough =
     subst IsLawful (sym (spelled-grid j ws h e))

@@ -24,8 +24,9 @@ pub record ReadsGrid {R : Type 0} (remaining : R → Option (List ℕ)) (scale :
   pub taken : Takes remaining old new
   -- On `Ok` the bytes read spell the grid, and no byte is left, if that is known.
   pub grid : IfOk result (λ g. IsGridText scale taken.bytes g × IsAtEnd (remaining new.device))
-  -- On `Err (Grid f)`, if the text that the device held before the call is known, `f` is its first
-  -- fault, or `Memory` where reading it allocates the cells. Only part of it may have been read.
+  -- On `Err (Grid f)`, let the text that the device held before the call be known. Then `f` is its
+  -- first fault, or `Memory` if its header leads to the allocation of the cells. The call may have
+  -- stopped before the end of the text.
   pub fault : (text : List ℕ) (f : GridFault) → remaining old.device ≡ Some text →
       result ≡ Err (Grid f) → IsRefusal scale text f
   -- The count of failures rises by one on `Err Read`, and else does not change.
@@ -43,8 +44,8 @@ pub record CanRead {R : Type 0} (reader : Reader) (device : Device R)
   pub room : 0 < length piece
 
 -- The result of reading and feeding a piece: its length, or `None` at the end of the text. A piece
--- may take several reads, of which the last may fail. If feeding returns a fault, the call returns
--- that fault; if a read failed too, that failure is not counted.
+-- may take several reads, of which the last may fail. A fault from feeding is returned first, and
+-- then a failed read is not counted. Else a failed read returns `Read` and is counted.
 abbrev pub IsPieceResult : ℕ → Option (List ℕ) → Result (Unit {0}) GridFault → ℕ → ℕ →
     Result (Option ℕ) InputFault → Type 0
 IsPieceResult count left fed old new (Ok (Some n)) =

@@ -13,8 +13,8 @@ use Rattle.ascii_grid.specs.declared.fault.Key.{Key}
 use Rattle.ascii_grid.specs.declared.fault.Key.TheVariants.{Ncols, Nrows, Xll, Yll, Cellsize, Nodata}
 use Rattle.ascii_grid.specs.declared.fault.GridFault.{GridFault}
 use Rattle.ascii_grid.specs.declared.header.Header.{Header}
-use Rattle.ascii_grid.specs.declared.builder.Stage.{Stage}
-use Rattle.ascii_grid.specs.declared.builder.Stage.TheVariants.{AtKey, AtValue, AtHeights}
+use Rattle.ascii_grid.specs.declared.builder.Expected.{Expected}
+use Rattle.ascii_grid.specs.declared.builder.Expected.TheVariants.{AtKey, AtValue, AtHeights}
 use Rattle.ascii_grid.specs.declared.builder.GridBuilder.{GridBuilder}
 use Rattle.ascii_grid.specs.declared.tokenizer.Tokenizer.{Tokenizer}
 use Rattle.ascii_grid.specs.declared.tokenizer.TheConstants.{KEPT_BYTES}
@@ -69,20 +69,22 @@ HasBegun (h ∷ rest) = begins_with_letter h ≡ false
 
 -- The pairs `ps` fill all required slots, and the words `hs` follow as heights without a fault.
 -- `j` stores the cells of `hs`, and the count of cells and the NODATA word for `ps`.
-pub record AreHeights (j : GridBuilder) (ps : List (Word × Word)) (hs : List Word) : Type 0 where
-  pub whole : missing_fault (flat ps) ≡ None
-  pub wanted : j.wanted ≡ cells_wanted (flat ps)
-  pub nodata : j.nodata ≡ nodata_for (flat ps)
-  pub value : j.nodata_value ≡ scaled_value j.scale j.nodata
-  pub faultless : heights_fault j.scale (flat ps) 0 hs ≡ None
-  pub cells : j.cells.items ≡ map (spelled_cell j.scale j.nodata) hs
+pub record HasReadHeights (j : GridBuilder) (ps : List (Word × Word)) (hs : List Word) : Type 0
+  where
+    pub whole : missing_fault (flat ps) ≡ None
+    pub wanted : j.wanted ≡ cells_wanted (flat ps)
+    pub nodata : j.nodata ≡ nodata_for (flat ps)
+    pub value : j.nodata_value ≡ scaled_value j.scale j.nodata
+    pub faultless : heights_fault j.scale (flat ps) 0 hs ≡ None
+    pub cells : j.cells.items ≡ map (spelled_cell j.scale j.nodata) hs
 
 -- `rest` is what follows the pairs: nothing before a key or the first height, a key before its
 -- value, or else the heights so far.
-abbrev pub IsAt : GridBuilder → List (Word × Word) → List Word → Stage → Type 0
-IsAt j ps rest AtKey = rest ≡ []
-IsAt j ps rest (AtValue slot centre) = (k : Word) × (rest ≡ k ∷ []) × AwaitsValue ps k slot centre
-IsAt j ps rest AtHeights = HasBegun rest × AreHeights j ps rest
+abbrev pub FitsExpected : GridBuilder → List (Word × Word) → List Word → Expected → Type 0
+FitsExpected j ps rest AtKey = rest ≡ []
+FitsExpected j ps rest (AtValue slot centre) = (k : Word) × (rest ≡ k ∷ [])
+    × AwaitsValue ps k slot centre
+FitsExpected j ps rest AtHeights = HasBegun rest × HasReadHeights j ps rest
 
 -- `j` has read the words `ws` without a fault. They are the `pairs` of a header and then `rest`.
 pub record HasAdded (j : GridBuilder) (ws : List Word) : Type 0 where
@@ -90,7 +92,7 @@ pub record HasAdded (j : GridBuilder) (ws : List Word) : Type 0 where
   pub rest : List Word
   pub words : ws ≡ flat pairs ++ rest
   pub header : IsHeaderOf j.header pairs
-  pub at : IsAt j pairs rest j.stage
+  pub at : FitsExpected j pairs rest j.expected
 
 -- `f` may be reported for these words: their first fault, or want of memory at the first height.
 abbrev pub IsWordFault : ℕ → List Word → GridFault → Type 0

@@ -11,7 +11,7 @@ ghost use Rattle.ascii_grid.specs.HeightList.{IsHeightWord};
 ghost use Rattle.std.specs.List.{All};
 ghost use Rattle.ascii_grid.specs.GridText.{spelled_cell, height_fault, end_fault, grid_of};
 ghost use Rattle.ascii_grid.specs.Meaning.{meaning_of};
-ghost use Rattle.ascii_grid.specs.Reading.{flat, IsHeaderOf, AreHeights, HasAdded, IsWordFault, IsEndFault};
+ghost use Rattle.ascii_grid.specs.Reading.{flat, IsHeaderOf, HasReadHeights, HasAdded, IsWordFault, IsEndFault};
 
 use crate::cell::{Meaning, cell, value_cell};
 use crate::fault::{GridFault, Key};
@@ -22,9 +22,9 @@ use decimals::scaled_value;
 use std::alloc::Global;
 use terrain::{Cell, Grid, MOST_WORD_BYTES, Word};
 
-/// The kind of word that comes next.
+/// The kind of word that the builder expects next.
 #[derive(Clone, Copy)]
-pub(crate) enum Stage {
+pub(crate) enum Expected {
     /// A key, or the first height.
     AtKey,
     /// The value of the slot `key`; `centre` if the key word names a cell's centre.
@@ -39,7 +39,7 @@ pub(crate) struct GridBuilder {
     alloc: Global,
     pub(crate) scale: u8,
     header: Header,
-    stage: Stage,
+    expected: Expected,
     // Set when the heights begin. `nodata_value` is the scaled value of `nodata`.
     wanted: u32,
     nodata: Word,
@@ -56,7 +56,7 @@ impl GridBuilder {
             alloc,
             scale,
             header: Header::new(),
-            stage: Stage::AtKey,
+            expected: Expected::AtKey,
             wanted: 0,
             nodata: Word::from_bytes(b""),
             nodata_value: None,
@@ -75,18 +75,18 @@ impl GridBuilder {
         if word.len() > MOST_WORD_BYTES {
             return Err(GridFault::TooLong);
         }
-        match self.stage {
-            Stage::AtHeights => self.add_height(word),
-            Stage::AtValue { key, centre } => {
+        match self.expected {
+            Expected::AtHeights => self.add_height(word),
+            Expected::AtValue { key, centre } => {
                 self.header.put(key, centre, word)?;
-                self.stage = Stage::AtKey;
+                self.expected = Expected::AtKey;
                 Ok(())
             }
-            Stage::AtKey => {
+            Expected::AtKey => {
                 if begins_with_letter(word) {
                     let key = self.header.slot_for(word)?;
                     let centre = names_centre(word);
-                    self.stage = Stage::AtValue { key, centre };
+                    self.expected = Expected::AtValue { key, centre };
                     return Ok(());
                 }
                 self.begin_heights()?;
@@ -102,14 +102,14 @@ impl GridBuilder {
         ensures { (ws : List Word) → HasAdded self ws → MatchResult result
             (λ g. (end_fault ws ≡ None) × (g ≡ grid_of self.scale ws)) (IsEndFault ws) }
     {
-        match self.stage {
-            Stage::AtValue { key, .. } => Err(GridFault::NoValue(key)),
-            Stage::AtKey => {
+        match self.expected {
+            Expected::AtValue { key, .. } => Err(GridFault::NoValue(key)),
+            Expected::AtKey => {
                 // The text's end ends the header: `MissingKey` and `Memory` come before `TooFew`.
                 self.begin_heights()?;
                 Err(GridFault::TooFew(0))
             }
-            Stage::AtHeights => {
+            Expected::AtHeights => {
                 let place = self.cells.len();
                 if place < self.wanted as usize {
                     return Err(GridFault::TooFew(place as u32));
@@ -125,17 +125,17 @@ impl GridBuilder {
     /// Ends the header and allocates the cells, or returns `MissingKey` or `Memory`.
     fn begin_heights(&mut self) -> Result<(), GridFault>
         ensures kept { self.new ≡ record self.old {
-          stage = self.new.stage;
+          expected = self.new.expected;
           wanted = self.new.wanted;
           nodata = self.new.nodata;
           nodata_value =
               self.new.nodata_value;
           cells = self.new.cells;
         } }
-        ensures stage { IfOk result (λ _. self.new.stage ≡ Stage.AtHeights) }
+        ensures expected { IfOk result (λ _. self.new.expected ≡ Expected.AtHeights) }
         ensures none { (ps : List (Word × Word)) → IsHeaderOf self.old.header ps →
             MatchResult result
-            (λ _. AreHeights self.new ps [])
+            (λ _. HasReadHeights self.new ps [])
             (λ f. (missing_fault (flat ps) ≡ Some f)
             ⊎ ((f ≡ GridFault.Memory) × (missing_fault (flat ps) ≡ None))) }
     {
@@ -146,7 +146,7 @@ impl GridBuilder {
             return Err(GridFault::Memory);
         };
         self.cells = cells;
-        self.stage = Stage::AtHeights;
+        self.expected = Expected::AtHeights;
         Ok(())
     }
 
@@ -154,8 +154,8 @@ impl GridBuilder {
     fn add_height(&mut self, word: &[u8]) -> Result<(), GridFault>
         requires { length word.now ≤ MOST_WORD_BYTES }
         ensures kept { self.new ≡ record self.old { cells = self.new.cells } }
-        ensures word { (ps : List (Word × Word)) (hs : List Word) → AreHeights self.old ps hs →
-            MatchResult result (λ _. AreHeights self.new ps (hs ++ word.now ∷ []))
+        ensures word { (ps : List (Word × Word)) (hs : List Word) → HasReadHeights self.old ps hs →
+            MatchResult result (λ _. HasReadHeights self.new ps (hs ++ word.now ∷ []))
             (λ f. (f ≡ GridFault.Memory)
             ⊎ (height_fault self.old.scale (flat ps) (length hs) word.now ≡ Some f)) }
     {
@@ -163,14 +163,14 @@ impl GridBuilder {
         self.add_cell(meaning)
     }
 
-    /// Adds the cell of a height with the scaled value `value`, or returns a fault.
+    /// Adds the cell of a word with the scaled value `value`, or returns the word's fault.
     #[inline(always)]
     pub(crate) fn add_height_value(&mut self, value: i64) -> Result<(), GridFault>
         ensures kept { self.new ≡ record self.old { cells = self.new.cells } }
         ensures word { (ps : List (Word × Word)) (hs : List Word) (word : Word) →
-            AreHeights self.old ps hs →
+            HasReadHeights self.old ps hs →
             length word ≤ MOST_WORD_BYTES → scaled_value self.old.scale word ≡ Some value →
-            MatchResult result (λ _. AreHeights self.new ps (hs ++ word ∷ []))
+            MatchResult result (λ _. HasReadHeights self.new ps (hs ++ word ∷ []))
             (λ f. (f ≡ GridFault.Memory)
             ⊎ (height_fault self.old.scale (flat ps) (length hs) word ≡ Some f)) }
     {
@@ -182,10 +182,10 @@ impl GridBuilder {
     fn add_cell(&mut self, meaning: Meaning) -> Result<(), GridFault>
         ensures kept { self.new ≡ record self.old { cells = self.new.cells } }
         ensures word { (ps : List (Word × Word)) (hs : List Word) (word : Word) →
-            AreHeights self.old ps hs →
+            HasReadHeights self.old ps hs →
             length word ≤ MOST_WORD_BYTES →
             meaning ≡ meaning_of self.old.scale self.old.nodata word →
-            MatchResult result (λ _. AreHeights self.new ps (hs ++ word ∷ []))
+            MatchResult result (λ _. HasReadHeights self.new ps (hs ++ word ∷ []))
             (λ f. (f ≡ GridFault.Memory)
             ⊎ (height_fault self.old.scale (flat ps) (length hs) word ≡ Some f)) }
     {
@@ -218,10 +218,10 @@ impl GridBuilder {
         ensures kept { self.new ≡ record self.old { cells = self.new.cells } }
         ensures refused { result ≡ false → self.new ≡ self.old }
         ensures added { (ps : List (Word × Word)) (hs more : List Word) →
-            AreHeights self.old ps hs →
+            HasReadHeights self.old ps hs →
             All (IsHeightWord parser.now) more →
             cells.now ≡ map (spelled_cell parser.now.scale parser.now.nodata) more →
-            IsTrue result → AreHeights self.new ps (hs ++ more) }
+            IsTrue result → HasReadHeights self.new ps (hs ++ more) }
     {
         // The capacity is at least `wanted`, but that is not proved here. The `min` shows that
         // adding the cells cannot fail.
@@ -238,8 +238,8 @@ impl GridBuilder {
 
     #[inline(always)]
     pub(crate) fn is_at_heights(&self) -> bool
-        ensures { IsTrue result ↔ (self.now.stage ≡ Stage.AtHeights) }
+        ensures { IsTrue result ↔ (self.now.expected ≡ Expected.AtHeights) }
     {
-        matches!(self.stage, Stage::AtHeights)
+        matches!(self.expected, Expected::AtHeights)
     }
 }

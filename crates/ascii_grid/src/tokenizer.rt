@@ -9,7 +9,7 @@ ghost use Rattle.ascii_grid.specs.Header.{header_words, nodata_for};
 ghost use Rattle.ascii_grid.specs.HeightList.{AreCells};
 ghost use Rattle.ascii_grid.specs.Reading.{HasAdded, HasWords, IsWordFault};
 
-use crate::builder::{GridBuilder, Stage};
+use crate::builder::{Expected, GridBuilder};
 use crate::fault::GridFault;
 use crate::heights::HeightParser;
 use crate::page::Buffer;
@@ -149,7 +149,7 @@ impl Tokenizer {
     #[inline(always)]
     fn is_between_heights(&self) -> bool
         ensures { IsTrue result
-            ↔ ((self.now.builder.stage ≡ Stage.AtHeights) × (self.now.word ≡ [])) }
+            ↔ ((self.now.builder.expected ≡ Expected.AtHeights) × (self.now.word ≡ [])) }
     {
         self.builder.is_at_heights() && self.word.as_bytes().is_empty()
     }

@@ -22,7 +22,7 @@ use Rattle.drainage.proofs.FilledExists.{filled_height}
 use Rattle.tiles.specs.declared.bounds.Bounds.{Bounds}
 use Rattle.tiles.specs.Cutting.{IsInBounds, is_in_bounds}
 use Rattle.floods.specs.declared.net.Spill.{Spill}
-use Rattle.floods.specs.Walk.{IsWalk, crest as walk_crest, end_of, IsFlooded}
+use Rattle.floods.specs.Walk.{IsWalk, walk_crest, last_node, IsFlooded}
 use Rattle.cell_floods.specs.Cells.{Cells, cell_at, node_at, IsNetOf, IsAfter, IsBeside, IsCellJoin, cells_around, has_gap_around, is_sink, source_of, last_cell}
 use Rattle.terrain.proofs.Options.{some_inside}
 use Rattle.terrain.proofs.Options.{cases_option, none_some, none_done, none_from_is_some}
@@ -387,7 +387,7 @@ pub walk_of : (t : Terrain) (w : Bounds) (n : Cells) → IsNetOf t w n →
     (p : Place) (rest : List Place) → IsInBounds w p → IsRectanglePath t w p rest →
     (walk : List Spill) × IsWalk (IsCellJoin n) (source_of n) (node_at w p) walk
     × (walk_crest (source_of n) (node_at w p) walk ≡ crest t p rest)
-    × (end_of (node_at w p) walk ≡ node_at w (last_cell p rest))
+    × (last_node (node_at w p) walk ≡ node_at w (last_cell p rest))
 walk_of t w n net p [] inside path =
     let there = source_there t w n net p inside path in (
       [],
@@ -422,7 +422,7 @@ walk_of t w n net p (q ∷ rest) inside path =
 pub path_of : (t : Terrain) (w : Bounds) (n : Cells) → IsNetOf t w n → (walk : List Spill)
     (p : Place) → IsInBounds w p → IsWalk (IsCellJoin n) (source_of n) (node_at w p) walk →
     (rest : List Place) × IsRectanglePath t w p rest × (crest t p rest ≡ walk_crest (source_of n)
-    (node_at w p) walk) × (end_of (node_at w p) walk ≡ node_at w (last_cell p rest))
+    (node_at w p) walk) × (last_node (node_at w p) walk ≡ node_at w (last_cell p rest))
 path_of t w n net [] p inside walk =
     let h = data_is (source_of n (node_at w p)) walk in
     let back = source_back t w n net p inside h.0 h.1 in (
@@ -457,7 +457,7 @@ path_of t w n net (step ∷ steps) p inside walk =
           ∙ ap (λ z. int_max z (crest t q.0 further.0)) join.greater
           ∙ ap (λ z. int_max step.height z) (further.2
           ∙ ap (λ a. walk_crest (source_of n) a steps) q.2),
-      ap (λ a. end_of a steps) (sym q.2) ∙ further.3,
+      ap (λ a. last_node a steps) (sym q.2) ∙ further.3,
     )
 
 -- A path from a place of the rectangle gives a path in the rectangle, at no greater crest.

@@ -11,7 +11,7 @@ use Rattle.terrain.specs.declared.place.Place.{Place}
 use Rattle.terrain.proofs.Places.{same_place}
 use Rattle.drainage.proofs.Reach.{data_inside}
 use Rattle.tiles.specs.Cutting.{IsInBounds, IsWithinLimits, Cutting, IsCutting, AreBounds, IsInTile, IsWithin, tile_count, bounds_of, is_on_rim, is_first_or_last, entry_in}
-use Rattle.floods.specs.Walk.{IsFlooded, IsWalk, end_of}
+use Rattle.floods.specs.Walk.{IsFlooded, IsWalk, last_node}
 use Rattle.cell_floods.specs.Cells.{Cells, node_at, IsNetOf, IsCellJoin, source_of, inner_rows, place_of_node}
 use Rattle.terrain.proofs.Options.{cases_option, match_of, none_some}
 use Rattle.cell_floods.proofs.InnerRows.{length-inner_rows, inner_rows-map, inner_rows_at}
@@ -199,7 +199,7 @@ tile_flood_is t c tile n b levels levels_in labels labels_in h l cuts net floode
     rw (y, x, same) (tile_flooded t c tile n levels labels h l cuts net flooded)
 
 walk_end_below : (n : Cells) (a : ℕ) (walk : List Spill) → a < length n.cells →
-    IsWalk (IsCellJoin n) (source_of n) a walk → end_of a walk < length n.cells
+    IsWalk (IsCellJoin n) (source_of n) a walk → last_node a walk < length n.cells
 walk_end_below n a [] low walk = low
 walk_end_below n a (step ∷ rest) low walk = walk_end_below n step.to rest
     (some_inside n.cells step.to walk.0.to_height walk.0.to_cell) walk.1

@@ -91,8 +91,8 @@ both_or_neither t c tile b levels labels h l is i = elim (cases_lt i (b.rows * b
       sym (ap is_some label) ∙ both ∙ ap is_some level
 ]
 
--- `levels_where` of a tile's labels and of `heights`, which encode the tile's levels, gives the
--- levels.
+-- If `heights` store a tile's levels (`height_or_lack`), `levels_where` gives these levels back
+-- from the tile's labels and `heights`.
 pub levels_where_are : (t : Terrain) (c : Cutting) (tile : ℕ) (b : Bounds)
     (levels : List (Option ℤ)) (labels : List (Option Place)) (heights : List ℤ) → IsCutting c →
     tile < tile_count c → heights ≡ map height_or_lack levels
@@ -182,7 +182,8 @@ level_shown b heights t ends f i is whole =
           (sym is) ∙ levels_where-at (labels_by t.places t.indexes) heights i fit,
     )
 
--- There are as many heights inside the border as label indexes, one for each cell.
+-- The net's lists have a border of one cell around the tile. Without it, there are as many heights
+-- as label indexes: one for each cell of the tile.
 pub heights_whole : (b : Bounds) (levels : List (Option ℤ))
     (nodes : List (Option ℕ)) (places : List (Option Place)) (cells : List ℕ) (heights : List ℤ) →
     length levels ≡ (b.rows + 2) * (b.cols + 2) → length nodes ≡ (b.rows + 2) * (b.cols + 2)

@@ -1,7 +1,8 @@
-//! Parses decimal words and digits into whole numbers.
+//! Tests decimal words, and parses them and digits into whole numbers.
 //!
-//! Begin with [`scaled_value`] for heights and [`whole_number`] for command-line words. Contracts
-//! cite the definitions of `terrain/specs/Decimal.antt` and of `specs/Plain.antt`.
+//! Begin with [`scaled_value`] for heights, and with [`whole_number`] for each number in a word of
+//! an observer, sink or gauge. Contracts cite the definitions of `terrain/specs/Decimal.antt` and
+//! of `specs/Plain.antt`.
 //!
 //! Modules, callers first:
 //!

@@ -8,10 +8,10 @@ use Rattle.std.specs.List.{range_with_len}
 use Rattle.std.proofs.lemmas.Option.{none-some, same_Some}
 use Rattle.terrain.proofs.Places.{make_place, same_place, index_injective, entry-inside, entry-beside, entry-below, index_below, inside_from_entry}
 use Rattle.terrain.specs.Raster.{Terrain}
-use Rattle.terrain.specs.Neighbours.{entry_or, IsDataCell, entry_at, index_of}
+use Rattle.terrain.specs.Neighbours.{IsDataCell, entry_at, index_of}
 use Rattle.terrain.specs.declared.place.Place.{Place}
 use Rattle.tiles.specs.declared.bounds.Bounds.{Bounds}
-use Rattle.tiles.specs.Cutting.{Cutting, IsCutting, IsInBounds, Cuts, View, bounds_of, is_in_bounds}
+use Rattle.tiles.specs.Cutting.{Cutting, IsCutting, IsInBounds, Cuts, View, bounds_of, is_in_bounds, terrain_of}
 use Rattle.tile_maps.specs.Maps.{IsMadeUpTo}
 use Rattle.drainage.specs.StepCounts.{known, no_count}
 use Rattle.drainage.proofs.StoredCounts.{known_number}
@@ -21,8 +21,8 @@ use Rattle.drain.specs.Entering.{sinkless_terrain}
 use Rattle.drain.specs.Lowering.{place_at}
 use Rattle.drain.specs.Rounds.{AreWalked, IsWalked, HasCountZero, IsRoundInside}
 use Rattle.drain.specs.Steps.{DrainsAtOnce}
-use Rattle.tiles.specs.Windows.{AreShown, IsSpot, IsInner, IsOff, Shows, area_of, spot_index}
-use Rattle.drain.specs.Search.{AreCounts, AreWindowCounts, IsCopied, IsSearched, count_on, known_counts}
+use Rattle.tiles.specs.Windows.{IsSpot, IsInner, IsOff, Shows, area_of, spot_index}
+use Rattle.drain.specs.Search.{AreEntriesShown, AreAtMostNoCount, AreWindowCounts, IsCopied, IsSearched, count_on, known_counts}
 use Rattle.drain.proofs.DrainedLemmas.{same_terrain}
 use Rattle.drain.proofs.Few.{drains_data}
 use Rattle.drain.proofs.Nearby.{drains_at_once}
@@ -56,7 +56,7 @@ spots_by A B b counts to from are = record {
 
 -- by the heights of a tile's window, the initial counts of the tile without regard to sinks
 pub begun_shown : (t : Terrain) (b : Bounds) (levels : List (Option ℤ)) (counts : List ℕ) →
-    AreShown (entry_or t.cols t.rows t.cells None) None b levels →
+    AreEntriesShown t t.cells b levels →
     AreBegunSpots (HasGapOrLower b levels) b counts →
     AreBegunSpots (ShowsDraining (IsEdgeOrHasLower t) b) b counts
 begun_shown t b levels counts on are =
@@ -204,7 +204,7 @@ one_begun Drains p (Some n) y f g = let drains = (f.only n refl).0 in f.zero dra
 one_begun Drains p None (Some n) f g = let drains = (g.only n refl).0 in f.zero drains
     ∙ sym (g.zero drains)
 
-known_again : (counts : List ℕ) → AreCounts counts → counts ≡ known_counts (map known counts)
+known_again : (counts : List ℕ) → AreAtMostNoCount counts → counts ≡ known_counts (map known counts)
 known_again [] few = refl
 known_again (n ∷ counts) few = ap (λ (m : ℕ). m ∷ counts) (sym (known_number n (few 0))) ∙ ap
     (λ (xs : List ℕ). unwrap_or (known n) no_count ∷ xs) (known_again counts (λ k. few (suc k)))
@@ -232,7 +232,7 @@ in_tile_entry cols rows b begun p row col =
 -- has at the tile's places, and none is above `no_count`.
 module _ (t : Terrain) (b : Bounds) (counts : List ℕ)
     (are : AreBegunSpots (ShowsDraining (DrainsAtOnce t) b) b counts) where
-  pub begun_small : AreCounts counts
+  pub begun_small : AreAtMostNoCount counts
   begun_small k = elim (cases_lt k (area_of b)) [
     | inl less ↦ at_place (λ i. get_or counts i 0 ≤ no_count) (b.cols + 2) (b.rows
         + 2) (λ s row col. (are.each s (row, col) (spot_below b s (row, col))).0) k less
@@ -368,7 +368,7 @@ pub begun_round : (t : Terrain) (v : View (Option ℤ)) (c : Cutting) (tile : �
     (levels : List (Option ℤ)) (old new : List ℕ) (list begun : List (Option ℕ)) →
     v ≡ record { cutting = c; tile = tile; cells = t.cells } → Cuts c t → IsCutting v.cutting →
     b ≡ bounds_of v.cutting v.tile →
-    AreShown (entry_or v.cutting.cols v.cutting.rows v.cells None) None b levels →
+    AreEntriesShown (terrain_of v) v.cells b levels →
     AreBegunSpots (ShowsDraining (DrainsAtOnce t) b) b old → AreInitialCounts t begun →
     IsSearched b levels old new → IsMadeUpTo b (IsCopied b new) (b.rows * b.cols) list →
     IsRoundInside (HasCountZero (sinkless_terrain c t.cells) begun)
@@ -379,7 +379,7 @@ begun_round t v c tile b levels old new list begun e cuts lawful bounds shown ar
     let u = sinkless_terrain c t.cells in
     let now =
     subst (λ (z : View (Option ℤ)). IsCutting z.cutting × (b ≡ bounds_of z.cutting z.tile)
-    × AreShown (entry_or z.cutting.cols z.cutting.rows z.cells None) None b levels) e
+    × AreEntriesShown (terrain_of z) z.cells b levels) e
     (lawful, bounds, shown) in
     let same = same_terrain t c.cols c.rows t.cells cuts.0 cuts.1 refl in
     let inside = in_tile_of c.cols c.rows b begun in

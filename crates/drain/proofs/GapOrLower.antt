@@ -6,18 +6,19 @@ use Rattle.std.proofs.lemmas.Bool.{cases_eq, false≢true}
 use Rattle.std.proofs.lemmas.List.{get_or_default}
 use Rattle.std.specs.Option.{option_and_then}
 use Rattle.terrain.specs.Raster.{Terrain}
-use Rattle.terrain.specs.Neighbours.{height_at, entry_at, entry_or, Touches, height_of}
+use Rattle.terrain.specs.Neighbours.{height_at, entry_at, Touches, height_of}
 use Rattle.terrain.specs.Ways.{around_index, before, place_if_both, place_on, entry_on, ways_from}
 use Rattle.terrain.specs.declared.place.Place.{Place}
 use Rattle.terrain.proofs.EightWays.{Touches-from_ways, way_to, on_ways}
 use Rattle.terrain.proofs.Heights.{height_is}
 use Rattle.terrain.proofs.Options.{cases_option, none_some}
 use Rattle.tiles.specs.declared.bounds.Bounds.{Bounds}
-use Rattle.tiles.specs.Windows.{IsInner, Shows, AreShown, spot_index}
+use Rattle.tiles.specs.Windows.{IsInner, Shows, spot_index}
 use Rattle.tiles.proofs.SpotWays.{value_on_way}
 use Rattle.drain.specs.Beginning.{IsEdgeOrHasLower, IsGapOrLower, HasGapOrLower}
 use Rattle.drain.proofs.Counted.{height_is as data_height}
 use Rattle.drain.proofs.Spreading.{spot_from_inner}
+use Rattle.drain.specs.Search.{AreEntriesShown}
 
 drains_from : (t : Terrain) (p q : Place) (level : ℤ) (o : Option ℤ) → height_at t p ≡ Some level →
     Touches p q → height_at t q ≡ o → IsGapOrLower level o → IsEdgeOrHasLower t p
@@ -123,7 +124,7 @@ found_on t p level is drains = found drains
         ∙ has)) (gap_at level (height_at t q) gap)
 
 module _ (t : Terrain) (b : Bounds) (levels : List (Option ℤ))
-    (on : AreShown (entry_or t.cols t.rows t.cells None) None b levels) (s p : Place)
+    (on : AreEntriesShown t t.cells b levels) (s p : Place)
     (inner : IsInner b s) (shows : Shows b s p) where
   value_is : (way : ℕ) → way < 8 →
       get_or levels (get_or (around_index (b.cols + 2) (spot_index b s)) way 0) None

@@ -1,7 +1,7 @@
 -- The search of a later round in its tile. Also after an entry is applied or a change spreads, each
 -- count that differs from the round's input is that of a listed change. An entry is a lower count
 -- that follows from a neighbour in another tile.
-use Rattle.std.proofs.Common.{◌≡◌, ◌≢◌, ℕ, zero, suc, ◌+◌, ◌*◌, ◌^◌, ◌<◌, ◌≤◌, ◌⊎◌, inl, inr, List, [], ◌∷◌, ◌++◌, length, Vec, Global, Option, Some, None, unwrap_or, IfSome, sym, ap, subst, refl, ◌∙◌, arith}
+use Rattle.std.proofs.Common.{◌≡◌, ◌≢◌, ℕ, ◌+◌, ◌*◌, ◌^◌, ◌<◌, ◌≤◌, ◌⊎◌, inl, inr, List, [], ◌∷◌, ◌++◌, length, Vec, Global, Option, Some, None, unwrap_or, IfSome, sym, ap, subst, refl, ◌∙◌, arith}
 use Rattle.std.specs.Prelude.{slice_get}
 use Rattle.std.proofs.lemmas.Bool.{cases_eq, cases_lt}
 use Rattle.std.proofs.lemmas.List.{length_push, get_or_past}
@@ -14,30 +14,15 @@ use Rattle.terrain.specs.declared.place.Place.{Place}
 use Rattle.tiles.specs.declared.bounds.Bounds.{Bounds}
 use Rattle.tiles.specs.Cutting.{Cutting, IsCutting, IsWithin, IsInTile, IsInBounds, bounds_of, tile_of_place}
 use Rattle.tiles.proofs.Cut.{in_bounds, in_tile, tile_of_place_below}
+use Rattle.tile_jobs.proofs.Sums.{sum_below-less}
 use Rattle.drain.specs.Rounds.{HasCountZero, IsWalked, AreCounting}
-use Rattle.drain.specs.Lowering.{count_of, counts_in, total, AreEquallyHigh, IsRelaxedInside, IsChange, IsLowered, IsReported, IsLoweredTo, IsEntered, IsAmong, MaySpread}
+use Rattle.drain.specs.Lowering.{count_of, counts_in, AreEquallyHigh, IsRelaxedInside, IsChange, IsLowered, IsChangeReported, IsLoweredTo, IsEntered, IsAmong, MaySpread}
 use Rattle.drain.specs.declared.changes.Change.{Change}
-use Rattle.drain.specs.declared.changes.Entry.{Entry}
+use Rattle.drain.specs.declared.changes.TileEntry.{TileEntry}
 use Rattle.drain.specs.declared.lowering.Lowered.{Lowered}
 use Rattle.drain.proofs.Spreading.{touches_back}
 use Rattle.drain.proofs.Unique.{at_place}
 use Rattle.drain.proofs.Kept.{kept_none}
-
-pub total_low : (n : ℕ) (f g : ℕ → ℕ) → ((k : ℕ) → g k ≤ f k) → total n g ≤ total n f
-unfolding total
-total_low zero f g low = omega arith
-total_low (suc n) f g low = omega (arith, low n, total_low n f g low)
-
--- the sum of the first n counts falls if no count rises and one of those n falls
-pub total_less : (n : ℕ) (f g : ℕ → ℕ) → ((k : ℕ) → g k ≤ f k) → (j : ℕ) → j < n → g j < f j →
-    total n g < total n f
-unfolding total
-total_less zero f g low j below less = absurd (omega arith)
-total_less (suc n) f g low j below less = elim (cases_eq j n) [
-  | inl e ↦ (let here : g n < f n = subst (λ (i : ℕ). g i < f i) e less in
-      omega (arith, here, total_low n f g low))
-  | inr ne ↦ omega (arith, low n, total_less n f g low j (omega arith) less)
-]
 
 -- Inside the tile each count is at most one above those of neighbours of equal height. Neighbours
 -- whose changes wait at index `from` or above are excepted.
@@ -45,7 +30,7 @@ pub record IsRelaxedButReported (t : Terrain) (c : Cutting) (tile : ℕ) (steps 
     (l : Lowered) (from : ℕ) : Type 0 where
   pub within : (p q : Place) → IsInTile c tile p → IsInTile c tile q → AreEquallyHigh t p q →
       (counts_in c tile steps l (index_of c.cols p) ≤ counts_in c tile steps l (index_of c.cols q)
-      + 1) ⊎ IsReported c tile steps l from q
+      + 1) ⊎ IsChangeReported c tile steps l from q
 
 small_walk : (Ends : Place → Type 0) (t : Terrain) (p : Place) (o : Option ℕ) →
     IfSome o (IsWalked Ends t p) → unwrap_or o (2 ^ 24) ≤ 2 ^ 24
@@ -77,12 +62,13 @@ module _ (t : Terrain) (c : Cutting) (tile : ℕ) (steps : List (Option ℕ)) wh
     least = omega (arith, is.least, low (index_of c.cols x.place));
   }
 
-  -- a place stays listed with its current count (`IsReported`), if that count and the old changes
-  -- are unchanged
+  -- a place stays listed with its current count (`IsChangeReported`), if that count and the old
+  -- changes are unchanged
   reported_still : (old new : Lowered) (from : ℕ) (p : Place) → ((k : ℕ) → k
       < length old.changes.items → slice_get new.changes.items k ≡ slice_get old.changes.items k) →
       counts_in c tile steps new (index_of c.cols p) ≡ counts_in c tile steps old
-      (index_of c.cols p) → IsReported c tile steps old from p → IsReported c tile steps new from p
+      (index_of c.cols p) → IsChangeReported c tile steps old from p →
+      IsChangeReported c tile steps new from p
   reported_still old new from p kept same reported = (
     reported.0,
     reported.1,
@@ -218,8 +204,8 @@ module _ (t : Terrain) (c : Cutting) (tile : ℕ) (steps : List (Option ℕ)) wh
         left = omega (
           arith,
           size,
-          total_less (c.cols * c.rows) (counts_in c tile steps old) (counts_in c tile steps new)
-              low i (index_below c.cols c.rows x.place inside.0.0 inside.0.1)
+          sum_below-less (counts_in c tile steps new) (counts_in c tile steps old) (c.cols * c.rows)
+              i (index_below c.cols c.rows x.place inside.0.0 inside.0.1) (λ k l. low k)
               (omega (arith, here, less_old)),
         );
       }
@@ -393,14 +379,15 @@ pub reached_tile : (t : Terrain) (c : Cutting) (tile other : ℕ) (steps : List 
 reached_tile t c tile other steps Done bound old new e f =
     subst (λ (k : ℕ). IsLoweredTo t c k steps Done bound old new) e f
 
-pub entered_low : (c : Cutting) (entries : List Entry) (from end : ℕ) (f g : ℕ → ℕ) →
+pub entered_low : (c : Cutting) (entries : List TileEntry) (from end : ℕ) (f g : ℕ → ℕ) →
     ((k : ℕ) → g k ≤ f k) → IsEntered c entries from end f → IsEntered c entries from end g
 entered_low c entries from end f g low is = record {
   each = λ k e past below here.
       omega (arith, is.each k e past below here, low (index_of c.cols e.change.place));
 }
 
-pub entered_more : (c : Cutting) (entries : List Entry) (from next : ℕ) (f g : ℕ → ℕ) (e : Entry) →
+pub entered_more : (c : Cutting) (entries : List TileEntry) (from next : ℕ) (f g : ℕ → ℕ)
+    (e : TileEntry) →
     slice_get entries next ≡ Some e → ((k : ℕ) → g k ≤ f k) →
     g (index_of c.cols e.change.place) ≤ e.change.count →
     IsEntered c entries from next f → IsEntered c entries from (next + 1) g
@@ -408,7 +395,7 @@ entered_more c entries from next f g e here low near is = record {
   each = λ k d past below at. elim (cases_eq k next) [
     | inl one ↦ (let same : e ≡ d =
         same_Some e d (sym here ∙ ap (λ (j : ℕ). slice_get entries j) (sym one) ∙ at) in
-        subst (λ (x : Entry). g (index_of c.cols x.change.place) ≤ x.change.count) same near)
+        subst (λ (x : TileEntry). g (index_of c.cols x.change.place) ≤ x.change.count) same near)
     | inr ne ↦ (entered_low c entries from next f g low is).each k d past (omega arith) at
   ];
 }

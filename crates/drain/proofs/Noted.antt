@@ -13,16 +13,18 @@ use Rattle.terrain.specs.Neighbours.{Touches}
 use Rattle.terrain.specs.declared.place.Place.{Place}
 use Rattle.tiles.specs.declared.bounds.Bounds.{Bounds}
 use Rattle.tiles.specs.Windows.{spot_index, area_of, IsSpot, IsInner}
-use Rattle.drain.specs.Search.{level_on, count_on, IsSpread, IsNear, AreNoted, IsReached, IsRelaxedBut, IsRelaxed, moved}
+use Rattle.drain.specs.Search.{level_on, count_on, IsSpread, IsNear, NotesChanges, IsReached, IsRelaxedBut, IsRelaxed, moved}
 use Rattle.tiles.proofs.Spots.{spot_below}
 use Rattle.drain.proofs.Spreading.{touches_back, spot_from_inner, spread_none, spread_not_above, spread_on, sum-set}
 
-pub noted_none : (b : Bounds) (counts : List ℕ) (xs : List Place) → AreNoted b counts counts xs xs
+pub noted_none : (b : Bounds) (counts : List ℕ) (xs : List Place) →
+    NotesChanges b counts counts xs xs
 noted_none b counts xs =
     record { longer = omega arith; kept = λ k below. refl; each = λ s inner. inl refl }
 
 pub noted_then : (b : Bounds) (old mid new : List ℕ) (xs ys zs : List Place) →
-    AreNoted b old mid xs ys → AreNoted b mid new ys zs → AreNoted b old new xs zs
+    NotesChanges b old mid xs ys → NotesChanges b mid new ys zs →
+    NotesChanges b old new xs zs
 noted_then b old mid new xs ys zs f g = record {
   longer = omega (arith, f.longer, g.longer);
   kept = λ k below. g.kept k (omega (arith, f.longer)) ∙ f.kept k below;
@@ -47,7 +49,8 @@ abbrev pub IsAdded : Bounds → Place → List Place → List Place → Type 0
 IsAdded b s xs ys = (IsInner b s × (ys ≡ xs ++ s ∷ [])) ⊎ ((IsInner b s → ⊥) × (ys ≡ xs))
 
 pub noted_set : (b : Bounds) (counts : List ℕ) (s : Place) (i n : ℕ) (xs ys : List Place) →
-    i ≡ spot_index b s → IsSpot b s → IsAdded b s xs ys → AreNoted b counts (set counts i n) xs ys
+    i ≡ spot_index b s → IsSpot b s → IsAdded b s xs ys →
+    NotesChanges b counts (set counts i n) xs ys
 noted_set b counts s i n xs ys e spot (inl (inside, is)) = record {
   longer = omega (arith, length_push xs s, ap (λ (zs : List Place). length zs) is);
   kept = λ k below. ap (λ (zs : List Place). slice_get zs k) is
@@ -165,7 +168,8 @@ reached_all f each = record {
 -- can lower others of the tile (`IsRelaxedBut`).
 pub even_begin :
     (b : Bounds) (levels : List (Option ℤ)) (old counts : List ℕ) (reached : List Place) →
-    ((s : Place) → IsInner b s → IsNear b levels old counts s) → AreNoted b old counts [] reached →
+    ((s : Place) → IsInner b s → IsNear b levels old counts s) →
+    NotesChanges b old counts [] reached →
     IsRelaxedBut b levels counts reached 0
 even_begin b levels old counts reached near noted = record {
   each = λ s r inner other touch level. elim (noted.each s inner) [

@@ -21,25 +21,16 @@ use Rattle.tiles.specs.Cutting.{Cutting, IsWithin, tile_of_place}
 use Rattle.drain.specs.Lowering.{AreEquallyHigh, IsAmong, count_of}
 use Rattle.drain.specs.Entering.{sinkless_terrain, IsEntry, AreEntries, IsRelaxedOrEntered, AreEntered}
 use Rattle.drain.specs.declared.changes.Change.{Change}
-use Rattle.drain.specs.declared.changes.Entry.{Entry}
+use Rattle.drain.specs.declared.changes.TileEntry.{TileEntry}
 
 module _ (t : Terrain) (c : Cutting) (steps : List (Option ℕ)) where
-  pub entered_still : (old new : List Entry) (p q : Place) → ((e : Entry) → IsAmong old e →
+  pub entered_still : (old new : List TileEntry) (p q : Place) → ((e : TileEntry) → IsAmong old e →
       IsAmong new e) → IsRelaxedOrEntered c steps old p q → IsRelaxedOrEntered c steps new p q
   entered_still old new p q kept (inl le) = inl le
   entered_still old new p q kept (inr reported) =
       inr (reported.0, kept reported.0 reported.1, reported.2, reported.3)
 
-  pub noted_same : (Done : Place → Place → Type 0) (entries : List Entry) →
-      ((p q : Place) → Done p q → AreEquallyHigh t p q → IsRelaxedOrEntered c steps entries p q) →
-      AreEntered t c steps Done entries entries
-  noted_same Done entries done = record { kept = λ e among. among; each = λ all. all; done = done }
-
-  pub noted_none : (Done : Place → Place → Type 0) (entries : List Entry) →
-      ((p q : Place) → Done p q → ⊥) → AreEntered t c steps Done entries entries
-  noted_none Done entries none = noted_same Done entries (λ p q done side. absurd (none p q done))
-
-  pub noted_then : (First Next Done : Place → Place → Type 0) (old mid new : List Entry) →
+  pub noted_then : (First Next Done : Place → Place → Type 0) (old mid new : List TileEntry) →
       ((p q : Place) → Done p q → AreEquallyHigh t p q → First p q ⊎ Next p q) →
       AreEntered t c steps First old mid → AreEntered t c steps Next mid new →
       AreEntered t c steps Done old new
@@ -52,7 +43,7 @@ module _ (t : Terrain) (c : Cutting) (steps : List (Option ℕ)) where
     ];
   }
 
-  pub noted_all : (First Done : Place → Place → Type 0) (old new : List Entry) →
+  pub noted_all : (First Done : Place → Place → Type 0) (old new : List TileEntry) →
       ((p q : Place) → Done p q → AreEquallyHigh t p q → First p q) →
       AreEntered t c steps First old new →
       AreEntered t c steps Done old new
@@ -62,23 +53,24 @@ module _ (t : Terrain) (c : Cutting) (steps : List (Option ℕ)) where
     done = λ p q done side. f.done p q (each p q done side) side;
   }
 
-  pub noted_push : (Done : Place → Place → Type 0) (old new : List Entry) (e : Entry) →
+  pub noted_push : (Done : Place → Place → Type 0) (old new : List TileEntry) (e : TileEntry) →
       new ≡ old ++ e ∷ [] → IsEntry t c steps e →
       ((p q : Place) → Done p q → AreEquallyHigh t p q → (e.change.place ≡ p) × (e.change.count
       ≤ count_of steps (index_of c.cols q) + 1)) → AreEntered t c steps Done old new
   noted_push Done old new e pushed entry reported =
-      let last : slice_get new (length old) ≡ Some e = ap (λ (xs : List Entry). slice_get xs
+      let last : slice_get new (length old) ≡ Some e = ap (λ (xs : List TileEntry). slice_get xs
       (length old)) pushed ∙ slice_get-append_right old (e ∷ []) (length old) 0 (omega arith) in
-      let size : length new ≡ length old + 1 = ap (λ (xs : List Entry). length xs) pushed
+      let size : length new ≡ length old + 1 = ap (λ (xs : List TileEntry). length xs) pushed
       ∙ length_push old e in
       let front : (k : ℕ) → k < length old → slice_get new k ≡ slice_get old k = λ k below. ap
-      (λ (xs : List Entry). slice_get xs k) pushed ∙ slice_get-append_left old (e ∷ []) k below in
+      (λ (xs : List TileEntry). slice_get xs k) pushed
+      ∙ slice_get-append_left old (e ∷ []) k below in
       record {
         kept =
             λ d among. (among.0, front among.0 (slice_get_within old among.0 d among.1) ∙ among.1);
         each = λ all d among. elim (cases_eq among.0 (length old)) [
           | inl at ↦ (let one : e ≡ d = same_Some e d (sym last ∙ ap (λ (k : ℕ). slice_get new k)
-              (sym at) ∙ among.1) in subst (λ (x : Entry). IsEntry t c steps x) one entry)
+              (sym at) ∙ among.1) in subst (λ (x : TileEntry). IsEntry t c steps x) one entry)
           | inr ne ↦ all d (
             among.0,
             sym (front among.0 (omega (arith, size, slice_get_within new among.0 d among.1)))
@@ -102,7 +94,7 @@ among_in_order xs ys x same among =
     among_from ys x (Contains-permutation xs ys x same (contains_from xs x among))
 
 pub noted_in_order : (t : Terrain) (c : Cutting) (steps : List (Option ℕ)) (Done : Place → Place →
-    Type 0) (new ys : List Entry) → IsPermutation new ys → AreEntered t c steps Done [] new →
+    Type 0) (new ys : List TileEntry) → IsPermutation new ys → AreEntered t c steps Done [] new →
     AreEntries t c steps ys
     × ((p q : Place) → Done p q → AreEquallyHigh t p q → IsRelaxedOrEntered c steps ys p q)
 noted_in_order t c steps Done new ys same noted = (

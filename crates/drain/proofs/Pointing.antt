@@ -1,5 +1,6 @@
 -- A code that points to a place is that of a way, one of the eight directions. A cell has at most
--- one direction. Along a direction other than 0 the pair of filled height and steps falls.
+-- one direction. A direction other than 0 leads to a lower data cell, or to one as high with fewer
+-- steps.
 use Rattle.std.proofs.Common.{◌≡◌, ◌≢◌, ℕ, ◌+◌, ◌^◌, ◌<◌, ◌≤◌, inl, inr, List, Option, None, Some, eqb, sym, ap, refl, ◌∙◌, arith}
 use Rattle.std.proofs.Math.Nat.{pow-le-pow_right}
 use Rattle.std.proofs.lemmas.Bool.{eqb-true}
@@ -71,7 +72,7 @@ one_direction t p m n a b = elim (has_lower t p) [
   ]
 ]
 
--- a direction other than 0 leads to a data cell with a lesser pair of height and steps
+-- a direction other than 0 leads to a lower data cell, or to one as high with fewer steps
 pub direction_leads : (t : Terrain) (steps codes : List (Option ℕ)) (p : Place) (code : ℕ) →
     AreSteps t steps → IsDirection t p code → code ≢ 0 →
     (q : Place) × (place_toward code p ≡ Some q) × IsDataCell t q

@@ -13,13 +13,15 @@ use Rattle.tiles.proofs.Cut.{tile_of_place_below}
 use Rattle.tiles.proofs.PutBack.{entry_at-put_back}
 use Rattle.drainage.proofs.Reach.{data_inside}
 use Rattle.drain.specs.Rounds.{HasCountZero, HaveSameZeros, IsWalked, IsAtMostOneAbove, IsRoundInside, AreCounting, AreFinal}
-use Rattle.drain.specs.Lowering.{AreEquallyHigh, IsAmong, IsRelaxedInside, IsTileResult, count_of, total}
+use Rattle.drain.specs.Lowering.{AreEquallyHigh, IsAmong, IsRelaxedInside, IsTileResult, count_of}
 use Rattle.drain.specs.Entering.{sinkless_terrain, AreEntered}
 use Rattle.drain.specs.Rounding.{Rounding, IsRounding, levels_of, AreRoundResults, IsRunResult, IsGiven, ArePut, IsNext}
 use Rattle.drain.specs.declared.changes.Change.{Change}
-use Rattle.drain.specs.declared.changes.Entry.{Entry}
+use Rattle.drain.specs.declared.changes.TileEntry.{TileEntry}
 use Rattle.drain.specs.declared.changes.Run.{Run}
-use Rattle.drain.proofs.Lowered.{small, total_less}
+use Rattle.tile_jobs.specs.Sums.{sum_below}
+use Rattle.tile_jobs.proofs.Sums.{sum_below-less}
+use Rattle.drain.proofs.Lowered.{small}
 use Rattle.std.specs.List.Sorted.{IsNonDecreasingBy, IsPermutation}
 use Rattle.drain.proofs.Noting.{noted_in_order}
 use Rattle.drain.proofs.Quiet.{if_some, ended, walked_to}
@@ -130,7 +132,7 @@ module _ (r : Rounding) (outs : List (Vec Change Global)) (answered : AreRoundRe
   given_within x given = ((answer_of given.0 given.1 given.2).1.lowered.each x given.3).inside.0
 
   -- if there is an entry, the results have a change
-  pub entry_given : (k : ℕ) (e : Entry) → IsRounding r → slice_get r.entries k ≡ Some e →
+  pub entry_given : (k : ℕ) (e : TileEntry) → IsRounding r → slice_get r.entries k ≡ Some e →
       (x : Change) × IsGiven outs x
   entry_given k e rounding at =
       let reported = answered.covered k (slice_get_within r.entries k e at) in
@@ -149,7 +151,7 @@ module _ (r : Rounding) (outs : List (Vec Change Global)) (answered : AreRoundRe
 
   pub some_given : IsRounding r → 0 < length r.entries → (x : Change) × IsGiven outs x
   some_given rounding some =
-      let none : Entry =
+      let none : TileEntry =
       record { tile = 0; change = record { place = record { row = 0; col = 0 }; count = 0 } } in
       entry_given 0 (get_or r.entries 0 none) rounding (slice_get-get_or r.entries 0 none some)
 
@@ -246,7 +248,7 @@ module _ (r : Rounding) (outs : List (Vec Change Global)) (new : List (Option �
     ];
   }
 
-  put_entered : (k : ℕ) (e : Entry) → slice_get r.entries k ≡ Some e →
+  put_entered : (k : ℕ) (e : TileEntry) → slice_get r.entries k ≡ Some e →
       count_of new (index_of r.cutting.cols e.change.place) ≤ e.change.count
   put_entered k e at =
       let reported = answered.covered k (slice_get_within r.entries k e at) in
@@ -258,17 +260,18 @@ module _ (r : Rounding) (outs : List (Vec Change Global)) (new : List (Option �
             reported.1.1 reported.5 e.change.place within,
       )
 
-  pub put_less : (x : Change) → IsGiven outs x → total (r.cutting.cols * r.cutting.rows)
-      (count_of new) < total (r.cutting.cols * r.cutting.rows) (count_of r.steps)
+  pub put_less : (x : Change) → IsGiven outs x →
+      sum_below (count_of new) (r.cutting.cols * r.cutting.rows)
+      < sum_below (count_of r.steps) (r.cutting.cols * r.cutting.rows)
   put_less x given =
       let a = answer_of r outs answered given.0 given.1 given.2 in
       let change = a.1.lowered.each x given.3 in
-      total_less (r.cutting.cols * r.cutting.rows) (count_of r.steps) (count_of new) put.low
+      sum_below-less (count_of new) (count_of r.steps) (r.cutting.cols * r.cutting.rows)
       (index_of r.cutting.cols x.place)
       (index_below r.cutting.cols r.cutting.rows x.place change.inside.0.0 change.inside.0.1)
-      (omega (arith, put.done x given, change.less))
+      (λ k l. put.low k) (omega (arith, put.done x given, change.less))
 
-  pub next_round : (noted entries : List Entry) (x : Change) → IsGiven outs x →
+  pub next_round : (noted entries : List TileEntry) (x : Change) → IsGiven outs x →
       IsPermutation noted entries → IsNonDecreasingBy (λ e. e.tile) entries →
       AreEntered (levels_of r) r.cutting new (λ p q. (x : Change) × IsGiven outs x × (x.place ≡ q)
       × (tile_of_place r.cutting p ≢ tile_of_place r.cutting q)) [] noted →
@@ -415,7 +418,7 @@ next_then first second third one next = record {
 
 -- after the first round, the entries from all cells, sorted by tile, make a state between rounds
 -- (`IsRounding`)
-pub first_rounding : (r : Rounding) (noted : List Entry) → IsCutting r.cutting →
+pub first_rounding : (r : Rounding) (noted : List TileEntry) → IsCutting r.cutting →
     length r.levels ≡ r.cutting.cols * r.cutting.rows → AreCounting (levels_of r) r.steps →
     ((tile : ℕ) → IsRelaxedInside (levels_of r) r.cutting tile (count_of r.steps)) →
     IsPermutation noted r.entries → IsNonDecreasingBy (λ e. e.tile) r.entries →

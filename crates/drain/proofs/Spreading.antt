@@ -9,7 +9,7 @@ use Rattle.terrain.specs.Neighbours.{Touches}
 use Rattle.terrain.specs.declared.place.Place.{Place}
 use Rattle.tiles.specs.declared.bounds.Bounds.{Bounds}
 use Rattle.tiles.specs.Windows.{spot_index, IsSpot, IsInner}
-use Rattle.drain.specs.Search.{AreCounts, level_on, count_on, IsSpread, IsNotAbove, IsNear, same, moved}
+use Rattle.drain.specs.Search.{AreAtMostNoCount, level_on, count_on, IsSpread, IsNotAbove, IsNear, same, moved}
 
 pub not_above_itself : (xs : List ℕ) → IsNotAbove xs xs
 not_above_itself xs = record { each = λ k. omega arith }
@@ -59,8 +59,8 @@ spread_on b levels old mid new first
     moved counts some s r n (spread_on b levels old mid counts first before)
     (spread_on b levels old mid some first earlier) spot other touch differ level from less
 
-pub spread_counts : (b : Bounds) (levels : List (Option ℤ)) (old new : List ℕ) → AreCounts old →
-    IsSpread b levels old new → AreCounts new
+pub spread_counts : (b : Bounds) (levels : List (Option ℤ)) (old new : List ℕ) →
+    AreAtMostNoCount old → IsSpread b levels old new → AreAtMostNoCount new
 spread_counts b levels old new small spread =
     λ k. omega (arith, small k, (spread_not_above b levels old new spread).each k)
 

@@ -16,8 +16,8 @@ use Rattle.tile_maps.specs.Maps.{IsMadeUpTo, IsMadeTile}
 use Rattle.tile_maps.proofs.TileLists.{made_tile, entry_of_tile}
 use Rattle.drainage.specs.StepCounts.{known, no_count}
 use Rattle.drainage.proofs.StoredCounts.{known-some, known-none}
-use Rattle.tiles.specs.Windows.{spot_index, area_of, IsSpot, IsInner, Shows, IsShown, AreShown}
-use Rattle.drain.specs.Search.{AreCounts, level_on, count_on, IsSpread, same, moved, IsSearched, known_counts, IsCopied, AreWindowCounts}
+use Rattle.tiles.specs.Windows.{spot_index, area_of, IsSpot, IsInner, Shows, IsShown}
+use Rattle.drain.specs.Search.{AreEntriesShown, AreAtMostNoCount, level_on, count_on, IsSpread, same, moved, IsSearched, known_counts, IsCopied, AreWindowCounts}
 use Rattle.tiles.proofs.Spots.{spot_below}
 use Rattle.drain.proofs.Spreading.{spread_not_above, spread_counts, spread-length, spot_from_inner}
 use Rattle.drain.proofs.Counted.{height_is}
@@ -61,7 +61,7 @@ some_of_known None n e less = absurd (omega arith)
 some_of_known (Some m) n e less = ap Some (sym e)
 
 sound_begin : (t : Terrain) (b : Bounds) (steps shown : List (Option ℕ)) →
-    length shown ≡ area_of b → AreShown (entry_or t.cols t.rows steps None) None b shown →
+    length shown ≡ area_of b → AreEntriesShown t steps b shown →
     AreWalked (HasCountZero t steps) t steps → IsSound t steps b (known_counts shown)
 unfolding IsSound
 sound_begin t b steps shown size on walked = λ s spot less.
@@ -96,7 +96,7 @@ walked_on t steps p q m n next level walk is less =
 
 sound_moved : (t : Terrain) (steps : List (Option ℕ)) (b : Bounds) (levels : List (Option ℤ))
     (some : List ℕ) (s r : Place) (n : ℕ) →
-    AreShown (entry_or t.cols t.rows t.cells None) None b levels → IsSound t steps b some →
+    AreEntriesShown t t.cells b levels → IsSound t steps b some →
     IsSpot b s → IsSpot b r → Touches s r → s ≢ r → level_on b levels s ≡ level_on b levels r →
     n ≡ count_on b some s + 1 → n < no_count → (q : Place) × Shows b r q
     × IsWalked (HasCountZero t steps) t q n
@@ -147,8 +147,8 @@ sound_set t steps b counts r n size spot sound moved_to = λ s inside less. elim
 
 sound_after : (t : Terrain) (steps : List (Option ℕ)) (b : Bounds) (levels : List (Option ℤ))
     (old new : List ℕ) →
-    AreShown (entry_or t.cols t.rows t.cells None) None b levels → length old ≡ area_of b →
-    AreCounts old → IsSound t steps b old → IsSpread b levels old new → IsSound t steps b new
+    AreEntriesShown t t.cells b levels → length old ≡ area_of b →
+    AreAtMostNoCount old → IsSound t steps b old → IsSpread b levels old new → IsSound t steps b new
 sound_after t steps b levels old new on size small sound same = sound
 sound_after t steps b levels old new on size small sound
     (moved counts some s r n before earlier spot other touch differ level from less) =
@@ -219,8 +219,8 @@ count_small t b s steps (Some n) on walks =
     let real = MatchOption-at_some _ _ n place.2 (walks place.0) in omega (arith, real.0)
 
 pub counts_small : (t : Terrain) (b : Bounds) (steps shown : List (Option ℕ)) →
-    length shown ≡ area_of b → AreShown (entry_or t.cols t.rows steps None) None b shown →
-    AreWalked (HasCountZero t steps) t steps → AreCounts (known_counts shown)
+    length shown ≡ area_of b → AreEntriesShown t steps b shown →
+    AreWalked (HasCountZero t steps) t steps → AreAtMostNoCount (known_counts shown)
 counts_small t b steps shown size seen walks k = elim (cases_lt k (area_of b)) [
   | inl less ↦ at_place (λ i. get_or (known_counts shown) i 0 ≤ no_count) (b.cols + 2) (b.rows + 2)
       (λ s row col. omega (
@@ -238,17 +238,16 @@ counts_small t b steps shown size seen walks k = elim (cases_lt k (area_of b)) [
 module _ (t : Terrain) (c : Cutting) (tile : ℕ) (b : Bounds) (steps shown : List (Option ℕ))
     (levels : List (Option ℤ)) (new : List ℕ) (list : List (Option ℕ))
     (cutting : IsCutting c) (bounds : b ≡ bounds_of c tile)
-    (on : AreShown (entry_or t.cols t.rows t.cells None) None b levels)
+    (on : AreEntriesShown t t.cells b levels)
     (size : length shown ≡ area_of b)
-    (seen : AreShown (entry_or t.cols t.rows steps None) None b shown) (walks :
-    AreWalked (HasCountZero t steps) t steps) (finished : IsSearched b levels
-    (known_counts shown) new)
+    (seen : AreEntriesShown t steps b shown) (walks : AreWalked (HasCountZero t steps) t steps)
+    (finished : IsSearched b levels (known_counts shown) new)
     (out : IsMadeUpTo b (IsCopied b new) (b.rows * b.cols) list) where
   in_bounds_of : (p : Place) → IsInTile c tile p → IsInBounds b p
   in_bounds_of p i =
       subst (λ (z : Bounds). IsInBounds z p) (sym bounds) (in_bounds c tile p cutting i)
 
-  small : AreCounts (known_counts shown)
+  small : AreAtMostNoCount (known_counts shown)
   small = counts_small t b steps shown size seen walks
 
   handed : IsMadeTile c tile (IsCopied b new) list
@@ -359,15 +358,16 @@ input_to v w b old cutting tile bounds input =
 
 pub input_small : (t : Terrain) (b : Bounds) (steps : List (Option ℕ)) (old : List ℕ) →
     AreWindowCounts t.cols t.rows steps b old → AreWalked (HasCountZero t steps) t steps →
-    AreCounts old
-input_small t b steps old input walks = subst (λ (xs : List ℕ). AreCounts xs) (sym input.value)
+    AreAtMostNoCount old
+input_small t b steps old input walks =
+    subst (λ (xs : List ℕ). AreAtMostNoCount xs) (sym input.value)
     (counts_small t b steps input.shown input.size input.seen walks)
 
 pub round_from : (v : View (Option ℤ)) (w : View (Option ℕ)) (b : Bounds) (levels : List (Option ℤ))
     (old new : List ℕ) (list : List (Option ℕ)) →
     IsCutting v.cutting →
     b ≡ bounds_of v.cutting v.tile →
-    AreShown (entry_or v.cutting.cols v.cutting.rows v.cells None) None b levels →
+    AreEntriesShown (terrain_of v) v.cells b levels →
     AreWindowCounts v.cutting.cols v.cutting.rows w.cells b old →
     AreWalked (HasCountZero (terrain_of v) w.cells) (terrain_of v) w.cells →
     IsSearched b levels old new → IsMadeUpTo b (IsCopied b new) (b.rows * b.cols) list →

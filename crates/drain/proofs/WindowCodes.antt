@@ -7,12 +7,12 @@ use Rattle.std.specs.Option.{option_zip, option_and_then}
 use Rattle.terrain.proofs.Heights.{height_in}
 use Rattle.terrain.proofs.Options.{cases_option}
 use Rattle.terrain.specs.Raster.{Terrain, IsTerrain, IsHeight}
-use Rattle.terrain.specs.Neighbours.{height_at, entry_at, entry_or}
+use Rattle.terrain.specs.Neighbours.{height_at, entry_at}
 use Rattle.terrain.specs.Ways.{around_index, place_on, entry_on, code_of}
 use Rattle.terrain.specs.declared.place.Place.{Place}
-use Rattle.tiles.specs.Windows.{IsInner, Shows, AreShown, spot_index}
+use Rattle.tiles.specs.Windows.{IsInner, Shows, spot_index}
 use Rattle.tiles.proofs.SpotWays.{value_on_way, inner_shows}
-use Rattle.drain.specs.Codes.{SteppedSpots, AreSteppedSpots}
+use Rattle.drain.specs.Codes.{SteppedSpots, AreSteppedSpots, IsCellRead}
 use Rattle.drain.specs.Directions.{IsDirection, IsCodeAt}
 use Rattle.drain.specs.Fitting.{IsLaidAround}
 use Rattle.drain.specs.Steepness.{weights, leads_on}
@@ -23,6 +23,7 @@ use Rattle.drain.proofs.AroundLemmas.{around_with, laid_with, steps_at}
 use Rattle.drain.proofs.Laid.{with_steps, without_steps, leads as leads_by_steps, is_down, is_outlet, is_onward, code_is}
 use Rattle.drain.proofs.Quiet.{if_some}
 use Rattle.drain.proofs.Spreading.{spot_from_inner}
+use Rattle.drain.specs.Search.{AreEntriesShown}
 
 -- the height of `option_zip` is the cell's height, since each data cell has steps
 zip_height : (t : Terrain) (steps : List (Option ℕ)) (q : Place) → AreSteps t steps →
@@ -57,28 +58,25 @@ module _ (w : SteppedSpots) (s : Place) (cells : List (Option ℤ)) (steps : Lis
     (at : List ℕ) (level : ℤ) (own : ℕ) (are : AreSteppedSpots w) (inner : IsInner w.bounds s)
     (cells_are : cells ≡ w.levels) (steps_are : steps ≡ w.steps)
     (at_is : at ≡ around_index (w.bounds.cols + 2) (spot_index w.bounds s))
-    (high : get_or cells (spot_index w.bounds s) None ≡ Some level)
-    (count : get_or steps (spot_index w.bounds s) None ≡ Some own) where
+    (is_read : IsCellRead w s level own) where
   abbrev t : Terrain
   t = w.terrain
 
   abbrev all : List (Option ℕ)
   all = are.steps.0
 
-  heights_shown : AreShown (entry_or t.cols t.rows t.cells None) None w.bounds cells
-  heights_shown = subst (λ (l : List (Option ℤ)).
-      AreShown (entry_or t.cols t.rows t.cells None) None w.bounds l) (sym cells_are) are.levels
+  heights_shown : AreEntriesShown t t.cells w.bounds cells
+  heights_shown = subst (AreEntriesShown t t.cells w.bounds) (sym cells_are) are.levels
 
-  steps_shown : AreShown (entry_or t.cols t.rows all None) None w.bounds steps
-  steps_shown = subst (λ (l : List (Option ℕ)).
-      AreShown (entry_or t.cols t.rows all None) None w.bounds l) (sym steps_are) are.steps.2
+  steps_shown : AreEntriesShown t all w.bounds steps
+  steps_shown = subst (AreEntriesShown t all w.bounds) (sym steps_are) are.steps.2
 
   module _ (p : Place) (shows : Shows w.bounds s p) where
     height_is : height_at t p ≡ Some level
-    height_is = sym ((heights_shown s (spot_from_inner w.bounds s inner)).0 p shows) ∙ high
+    height_is = sym ((are.levels s (spot_from_inner w.bounds s inner)).0 p shows) ∙ is_read.high
 
     own_steps : entry_at t.cols t.rows all p ≡ Some own
-    own_steps = sym ((steps_shown s (spot_from_inner w.bounds s inner)).0 p shows) ∙ count
+    own_steps = sym ((are.steps.2 s (spot_from_inner w.bounds s inner)).0 p shows) ∙ is_read.count
 
     way_levels : (way : ℕ) → way < 8 →
         get_or cells (get_or at way 0) None ≡ entry_on t.cols t.rows t.cells way p

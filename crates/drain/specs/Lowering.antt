@@ -1,17 +1,19 @@
 -- How the search of a later round lowers a tile's counts, from its entries: lower counts that
--- follow from neighbours in other tiles. A count is the fewest moves found so far from a cell to
--- one that drains at once, or unknown. A parameter `counts` is a function of row-order indexes.
+-- follow from neighbours in other tiles. A count is the fewest moves at one filled height, found so
+-- far, from a cell to one that drains at once, or unknown. A parameter `counts` is a function of
+-- row-order indexes.
 -- Private.
-use Rattle.std.specs.Prelude.{◌≡◌, ℕ, zero, suc, ◌+◌, ◌-◌, ◌*◌, ◌/◌, ◌%◌, ◌^◌, ◌<◌, ◌≤◌, ◌⊎◌, List, Vec, length, Option, None, Some, if◌then◌else◌, option_and_then, slice_get, slice_index_or, unwrap_or}
+use Rattle.std.specs.Prelude.{◌≡◌, ℕ, ◌+◌, ◌-◌, ◌*◌, ◌/◌, ◌%◌, ◌^◌, ◌<◌, ◌≤◌, ◌⊎◌, List, Vec, length, Option, None, Some, if◌then◌else◌, option_and_then, slice_get, slice_index_or, unwrap_or}
 use Rattle.std.specs.declared.alloc.Global.{Global}
 use Rattle.terrain.specs.Raster.{Terrain}
 use Rattle.terrain.specs.Neighbours.{height_at, index_of, IsNeighbour}
 use Rattle.terrain.specs.declared.place.Place.{Place}
 use Rattle.tiles.specs.declared.bounds.Bounds.{Bounds}
 use Rattle.tiles.specs.Cutting.{Cutting, IsWithin, IsInTile, bounds_of, is_in_bounds, tile_of_place}
+use Rattle.tile_jobs.specs.Sums.{sum_below}
 use Rattle.drain.specs.Rounds.{HasCountZero, IsWalked, AreCounting}
 use Rattle.drain.specs.declared.changes.Change.{Change}
-use Rattle.drain.specs.declared.changes.Entry.{Entry}
+use Rattle.drain.specs.declared.changes.TileEntry.{TileEntry}
 use Rattle.drain.specs.declared.lowering.Lowered.{Lowered}
 
 -- The list contains the element.
@@ -50,11 +52,6 @@ kept_of c tile l k =
 abbrev pub counts_in : Cutting → ℕ → List (Option ℕ) → Lowered → ℕ → ℕ
 counts_in c tile steps l k = unwrap_or (kept_of c tile l k) (count_of steps k)
 
--- The sum of the counts at the first n indexes.
-unfoldable pub total : ℕ → (ℕ → ℕ) → ℕ
-total zero counts = 0
-total (suc n) counts = counts n + total n counts
-
 -- Inside the tile each count is at most one above those of neighbours of equal height.
 pub record IsRelaxedInside (t : Terrain) (c : Cutting) (tile : ℕ) (counts : ℕ → ℕ) : Type 0 where
   pub within : (p q : Place) → IsInTile c tile p → IsInTile c tile q → AreEquallyHigh t p q →
@@ -91,8 +88,8 @@ pub record IsLowered (t : Terrain) (c : Cutting) (tile : ℕ) (steps : List (Opt
   pub each : (x : Change) → IsAmong changes x → IsChange t c tile steps counts x
 
 -- The list of changes has, at index `from` or above, place p with its current count.
-abbrev pub IsReported : Cutting → ℕ → List (Option ℕ) → Lowered → ℕ → Place → Type 0
-IsReported c tile steps l from p =
+abbrev pub IsChangeReported : Cutting → ℕ → List (Option ℕ) → Lowered → ℕ → Place → Type 0
+IsChangeReported c tile steps l from p =
     (k : ℕ) × (from ≤ k) × (slice_get l.changes.items k
     ≡ Some (record { place = p; count = counts_in c tile steps l (index_of c.cols p) }))
 
@@ -109,25 +106,25 @@ pub record IsLoweredTo (t : Terrain) (c : Cutting) (tile : ℕ) (steps : List (O
   pub reported : (p : Place) → IsWithin c p →
       (counts_in c tile steps new (index_of c.cols p)
       ≡ counts_in c tile steps old (index_of c.cols p))
-      ⊎ IsReported c tile steps new (length old.changes.items) p
+      ⊎ IsChangeReported c tile steps new (length old.changes.items) p
   pub added : (k : ℕ) (x : Change) → length old.changes.items ≤ k →
       slice_get new.changes.items k ≡ Some x →
       IsChange t c tile steps (counts_in c tile steps new) x
   -- for each added change, the sum of the counts fell by at least 1
-  pub left : length new.changes.items + total (c.cols * c.rows) (counts_in c tile steps new)
-      ≤ length old.changes.items + total (c.cols * c.rows) (counts_in c tile steps old)
+  pub left : length new.changes.items + sum_below (counts_in c tile steps new) (c.cols * c.rows)
+      ≤ length old.changes.items + sum_below (counts_in c tile steps old) (c.cols * c.rows)
 
 -- For each entry at an index in `from..end`, the count of its cell is at most the entry's count.
-pub record IsEntered (c : Cutting) (entries : List Entry) (from end : ℕ)
+pub record IsEntered (c : Cutting) (entries : List TileEntry) (from end : ℕ)
     (counts : ℕ → ℕ) : Type 0 where
-  pub each : (k : ℕ) (e : Entry) → from ≤ k → k < end → slice_get entries k ≡ Some e →
+  pub each : (k : ℕ) (e : TileEntry) → from ≤ k → k < end → slice_get entries k ≡ Some e →
       counts (index_of c.cols e.change.place) ≤ e.change.count
 
 -- The changes are a round's result for the tile: they apply the entries at indexes `from..end`.
 -- With the changes, no count of the tile is more than one above that of a neighbour of equal height
 -- in the same tile.
 pub record IsTileResult (t : Terrain) (c : Cutting) (tile : ℕ) (steps : List (Option ℕ))
-    (entries : List Entry) (from end : ℕ) (changes : List Change) : Type 0 where
+    (entries : List TileEntry) (from end : ℕ) (changes : List Change) : Type 0 where
   pub counts : ℕ → ℕ
   pub lowered : IsLowered t c tile steps counts changes
   pub even : IsRelaxedInside t c tile counts

@@ -10,12 +10,13 @@ use Rattle.terrain.specs.Neighbours.{index_of}
 use Rattle.terrain.specs.declared.place.Place.{Place}
 use Rattle.tiles.specs.Cutting.{Cutting, IsCutting, tile_count, tile_of_place}
 use Rattle.drain.specs.Rounds.{HaveSameZeros, AreCounting}
-use Rattle.drain.specs.Lowering.{AreEquallyHigh, IsAmong, IsRelaxedInside, IsTileResult, count_of, total}
+use Rattle.tile_jobs.specs.Sums.{sum_below}
+use Rattle.drain.specs.Lowering.{AreEquallyHigh, IsAmong, IsRelaxedInside, IsTileResult, count_of}
 use Rattle.drain.specs.Entering.{sinkless_terrain, AreEntries, AreRuns, IsRelaxedOrEntered}
 use Rattle.drain.specs.declared.changes.Change.{Change}
-use Rattle.drain.specs.declared.changes.Entry.{Entry}
+use Rattle.drain.specs.declared.changes.TileEntry.{TileEntry}
 use Rattle.drain.specs.declared.changes.Run.{Run}
-use Rattle.drain.specs.declared.rounds.Counting.{Counting}
+use Rattle.drain.specs.declared.rounds.RoundState.{RoundState}
 
 -- The state between rounds: cutting, filled heights, counts so far, and the entries of the next
 -- round.
@@ -23,10 +24,10 @@ pub record Rounding : Type 0 where
   pub cutting : Cutting
   pub levels : List (Option ℤ)
   pub steps : List (Option ℕ)
-  pub entries : List Entry
+  pub entries : List TileEntry
 
--- The state in a `Counting` of the code.
-abbrev pub rounding_of : Counting → Rounding
+-- The state in a `RoundState` of the code.
+abbrev pub rounding_of : RoundState → Rounding
 rounding_of c = record {
   cutting = c.tiling.now;
   levels = c.levels.now;
@@ -103,7 +104,7 @@ pub record ArePut (cols : ℕ) (old new : List (Option ℕ)) (Given : Change →
 
 -- The sum of all counts, where an unknown one counts as 2^24.
 abbrev pub count_sum : Rounding → ℕ
-count_sum r = total (r.cutting.cols * r.cutting.rows) (count_of r.steps)
+count_sum r = sum_below (count_of r.steps) (r.cutting.cols * r.cutting.rows)
 
 -- `new` is a state between rounds (`IsRounding`), `old` itself or a later one. Its cutting, heights
 -- and cells of count 0 are those of `old`, and its sum of counts is no greater.

@@ -1,13 +1,20 @@
 -- Counts in the window of a tile, and how a search lowers them. A spot is a place in the window. A
--- count is the fewest moves found so far from a cell to one that drains at once, or unknown.
+-- count is the fewest moves at one filled height, found so far, from a cell to one that drains at
+-- once, or unknown.
 -- Private.
 use Rattle.std.specs.Prelude.{◌≡◌, ◌≢◌, ℕ, ◌+◌, ◌*◌, ◌<◌, ◌≤◌, ◌⊎◌, ℤ, List, All, map, sum, length, Option, None, Some, slice_get, slice_index_or, slice_set, unwrap_or}
+use Rattle.terrain.specs.Raster.{Terrain}
 use Rattle.terrain.specs.Neighbours.{entry_or, Touches}
 use Rattle.terrain.specs.declared.place.Place.{Place}
 use Rattle.tiles.specs.declared.bounds.Bounds.{Bounds}
 use Rattle.tiles.specs.Windows.{area_of, spot_index, IsSpot, IsInner, Shows, AreShown}
 use Rattle.tile_maps.specs.Maps.{IsMadeUpTo}
 use Rattle.drainage.specs.StepCounts.{known, no_count}
+
+-- At each spot of the window, the list has the entry of the grid's cell there; `None` off the grid.
+abbrev pub AreEntriesShown : {X : Type 0} → Terrain → List (Option X) → Bounds → List (Option X)
+    → Type 0
+AreEntriesShown t entries b shown = AreShown (entry_or t.cols t.rows entries None) None b shown
 
 -- The height at a spot.
 abbrev pub level_on : Bounds → List (Option ℤ) → Place → Option ℤ
@@ -18,8 +25,8 @@ abbrev pub count_on : Bounds → List ℕ → Place → ℕ
 count_on b counts s = slice_index_or counts (spot_index b s) 0
 
 -- No count is above `no_count`, which stands for an unknown count.
-abbrev pub AreCounts : List ℕ → Type 0
-AreCounts counts = (k : ℕ) → slice_index_or counts k 0 ≤ no_count
+abbrev pub AreAtMostNoCount : List ℕ → Type 0
+AreAtMostNoCount counts = (k : ℕ) → slice_index_or counts k 0 ≤ no_count
 
 -- The counts come from the old ones by relaxations. A relaxation lowers a spot's count to one more
 -- than the count that an adjacent spot of its height has after some relaxations.
@@ -53,7 +60,7 @@ pub record IsNear (b : Bounds) (levels : List (Option ℤ)) (old new : List ℕ)
 
 -- The list `after` begins with `before`. Each spot of the tile whose count changed is in the rest
 -- of `after`.
-pub record AreNoted (b : Bounds) (old new : List ℕ) (before after : List Place) : Type 0 where
+pub record NotesChanges (b : Bounds) (old new : List ℕ) (before after : List Place) : Type 0 where
   pub longer : length before ≤ length after
   pub kept : (k : ℕ) → k < length before → slice_get after k ≡ slice_get before k
   pub each : (s : Place) → IsInner b s → (count_on b new s ≡ count_on b old s)
@@ -67,7 +74,7 @@ pub record IsReached (b : Bounds) (levels : List (Option ℤ)) (spot : Place) (D
   pub near : (r : Place) → Done r → level_on b levels spot ≡ level_on b levels r →
       count_on b new r ≤ count_on b old spot + 1
   pub own : count_on b new spot ≡ count_on b old spot
-  pub noted : AreNoted b old new before after
+  pub noted : NotesChanges b old new before after
   pub inner : All (IsInner b) before → All (IsInner b) after
   -- for each added spot, the sum of the counts fell by at least 1
   pub left : length after + sum new ≤ length before + sum old

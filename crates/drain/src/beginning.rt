@@ -1,13 +1,14 @@
 //! The counts of steps before the first round: 0 where a tile's cell drains at once, else unknown.
 //!
 //! A data cell drains at once on the grid's border, beside NODATA or a lower cell, or as a sink.
-//! A spot is a place of a tile's window: the tile with one more row and column on each side.
+//! A spot is a place of a tile's window: the tile and a border of one cell around it.
 ghost use Rattle.std.specs.Prelude.{ℕ, ◌+◌, ◌*◌, ◌<◌, ◌↔◌, None, length, IsTrue, OnOk, IfOk, slice_index_or};
 ghost use Rattle.std.specs.Bool.{MatchBool};
 ghost use Rattle.terrain.specs.Neighbours.{entry_or};
 ghost use Rattle.drain.specs.Beginning.{IsEdgeOrHasLower, IsGapOrLower, HasGapOrLower, IsBegunSpot, AreBegunUpTo, AreBegunSpots, ShowsDraining};
 ghost use Rattle.drain.specs.Steps.{DrainsAtOnce};
-ghost use Rattle.tiles.specs.Windows.{AreShown, IsSpot};
+ghost use Rattle.tiles.specs.Windows.{IsSpot};
+ghost use Rattle.drain.specs.Search.{AreEntriesShown};
 
 use drainage::NO_COUNT;
 use std::alloc::{AllocError, Global};
@@ -102,8 +103,8 @@ pub(crate) fn begun_counts(
     grid: &Grid,
     window: &Window<Cell>,
 ) -> Result<Vec<u32>, AllocError>
-    requires { AreShown (entry_or grid.now.terrain.cols grid.now.terrain.rows
-        grid.now.terrain.cells None) None window.now.bounds window.now.values.items }
+    requires { AreEntriesShown grid.now.terrain grid.now.terrain.cells window.now.bounds
+        window.now.values.items }
     ensures { IfOk result (λ counts. AreBegunSpots (ShowsDraining
         (DrainsAtOnce grid.now.terrain) window.now.bounds) window.now.bounds counts.items) }
 {

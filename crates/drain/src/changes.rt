@@ -1,12 +1,12 @@
-//! Counts of steps that rounds pass on: a `Change` is a cell with a count, mostly a new, lower one.
+//! Counts of steps that rounds pass on: a `Change` is a cell with a count.
 //!
-//! An `Entry` is a change that follows from a neighbour in another tile. A `Run` is the range of
+//! A `TileEntry` is a change that follows from a neighbour in another tile. A `Run` is the range of
 //! the entries into one tile.
 
 use terrain::Place;
 
-/// A cell and a count for it: mostly a new, lower one.
-/// As the neighbour from which a count follows, it has the cell's present count.
+/// A cell and a count: a lower count found for the cell or, for a cell from which a search
+/// spreads, its present count.
 #[derive(Clone, Copy)]
 pub(crate) struct Change {
     pub(crate) place: Place,
@@ -16,7 +16,7 @@ pub(crate) struct Change {
 /// A cell of `tile` with a lower count, which follows from another tile.
 /// The count is 1 plus that of a neighbour there, of the same filled height.
 #[derive(Clone, Copy)]
-pub(crate) struct Entry {
+pub(crate) struct TileEntry {
     pub(crate) tile: u32,
     pub(crate) change: Change,
 }

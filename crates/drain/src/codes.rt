@@ -1,16 +1,18 @@
 //! Finds the direction codes of all cells, by one job for each tile.
 //!
 //! A job copies two windows of its tile, with filled heights and with steps, `None` off the grid.
-//! A spot is a place of a tile's window: the tile with one more row and column on each side.
+//! A spot is a place of a tile's window: the tile and a border of one cell around it.
 //! So each cell of the tile has eight spots around it, also at the grid's border.
 //! Ways are the eight directions, from 0 to 7 in code order.
-ghost use Rattle.std.specs.Prelude.{◌≡◌, ℕ, ◌+◌, ◌*◌, ◌<◌, IsTrue, Some, None, length, position, slice_index_or, OnOk, IfOk};
+ghost use Rattle.std.specs.Prelude.{◌≡◌, ℕ, ◌+◌, ◌*◌, ◌<◌, IsTrue, Some, None, length, position, slice_index_or, OnOk, IfOk, IfSome};
 ghost use Rattle.std.specs.List.{list_any};
 ghost use Rattle.terrain.specs.Raster.{Terrain};
+ghost use Rattle.terrain.specs.Neighbours.{height_at};
 ghost use Rattle.terrain.specs.declared.place.Place.{Place};
 ghost use Rattle.tile_maps.specs.Maps.{IsMadeUpTo};
 ghost use Rattle.tiles.specs.Cutting.{IsCutting, bounds_of, tile_count};
 ghost use Rattle.tiles.specs.Windows.{IsInner, Shows};
+ghost use Rattle.drain.specs.Codes.{IsCellRead};
 ghost use Rattle.drain.specs.Directions.{IsCodeAt, IsDirection};
 ghost use Rattle.drain.specs.Steepness.{leads_on};
 ghost use Rattle.drain.specs.Surroundings.{AreSurroundings, HasCells};
@@ -46,7 +48,7 @@ fn heights_at(cells: &[Cell], at: &[usize; 8]) -> [Option<Height>; 8]
 
 /// Returns the first way to a neighbour of height `level` with `own - 1` steps.
 #[inline(always)]
-fn onward(cells: &[Cell], steps: &[StepCount], at: &[usize; 8], level: Height, own: u32) -> usize
+fn onward_at(cells: &[Cell], steps: &[StepCount], at: &[usize; 8], level: Height, own: u32) -> usize
     requires cells { (way : ℕ) → way < 8 → slice_index_or at.now way 0 < length cells.now }
     requires steps { (way : ℕ) → way < 8 → slice_index_or at.now way 0 < length steps.now }
     requires some { (a : Around) × HasCells a cells.now steps.now at.now level own
@@ -76,7 +78,7 @@ fn data_code(cells: &[Cell], steps: &[StepCount], at: &[usize; 8], level: Height
         AreSurroundings t p cells.now steps.now at.now level own a → IsDirection t p result }
 {
     if own > 0 {
-        return Code::of_way(onward(cells, steps, at, level, own));
+        return Code::of_way(onward_at(cells, steps, at, level, own));
     }
     match steepest(level, &heights_at(cells, at)) {
         Some(way) => Code::of_way(way),
@@ -114,20 +116,29 @@ impl Model for SteppedWindow {
 }
 
 impl SteppedWindow {
+    /// Returns the height and the steps of the cell at a spot, `None` where there is no data.
+    #[inline(always)]
+    fn cell(&self, spot: Place) -> Option<(Height, u32)>
+        requires { IsInner self.now.bounds spot }
+        ensures none { result ≡ None → (p : Place) → Shows self.now.bounds spot p →
+            height_at self.now.terrain p ≡ None }
+        ensures some { IfSome result (λ cell. IsCellRead self.now spot cell.0 cell.1) }
+    {
+        let index = self.levels.index(spot);
+        let level = self.levels.values[index].height()?;
+        let own = self.steps.values[index].value()?;
+        Some((level, own))
+    }
+
     /// Returns the code of the cell at a spot of the tile, `None` where there is no data.
     #[inline(always)]
     fn code_at(&self, spot: Place) -> Option<Code>
         requires { IsInner self.now.bounds spot }
         ensures { (p : Place) → Shows self.now.bounds spot p → IsCodeAt self.now.terrain p result }
     {
-        let index = self.levels.index(spot);
+        let (level, own) = self.cell(spot)?;
         let at = self.levels.around(spot);
-        let cells: &[Cell] = &self.levels.values;
-        let steps: &[StepCount] = &self.steps.values;
-        match (cells[index].height(), steps[index].value()) {
-            (Some(level), Some(own)) => Some(data_code(cells, steps, &at, level, own)),
-            _ => None,
-        }
+        Some(data_code(&self.levels.values, &self.steps.values, &at, level, own))
     }
 
     /// Appends the codes of one row of the tile.

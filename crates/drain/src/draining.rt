@@ -8,7 +8,7 @@ ghost use Rattle.tile_jobs.specs.Fault.{RefusesWorkers};
 ghost use Rattle.drain.specs.Beginning.{HasZeros};
 ghost use Rattle.drain.specs.Rounds.{AreWalked, IsRound};
 ghost use Rattle.tiles.specs.Windows.{area_of};
-ghost use Rattle.drain.specs.Search.{AreCounts, IsRoundOf};
+ghost use Rattle.drain.specs.Search.{AreAtMostNoCount, IsRoundOf};
 ghost use Rattle.drain.specs.Steps.{AreSteps, DrainsAtOnce};
 ghost use Rattle.drain.specs.Directions.{AreDirections};
 ghost use Rattle.drainage.specs.Drained.{AllFlowEnds, directed_of};
@@ -22,7 +22,7 @@ use std::alloc::{AllocError, Global};
 use std::snapshot::Snapshot;
 use std::sync::Wait;
 use std::thread::Threads;
-use terrain::{Cell, Grid, NoMemory};
+use terrain::{Cell, NoMemory};
 use tile_jobs::{Gate, JobFault};
 use tile_maps::Runner;
 use tiles::{TileView, Tiling, Window};
@@ -35,7 +35,7 @@ pub(crate) fn round(
     old: &[u32],
 ) -> Result<Vec<StepCount>, AllocError>
     requires size { length old.now ≡ area_of window.now.bounds }
-    requires counts { AreCounts old.now }
+    requires counts { AreAtMostNoCount old.now }
     ensures { IfOk result
         (λ v. IsRoundOf window.now.bounds window.now.values.items old.now v.items) }
 {

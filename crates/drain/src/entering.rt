@@ -8,7 +8,7 @@ ghost use Rattle.drain.specs.Rounds.{AreCounting};
 ghost use Rattle.drain.specs.Lowering.{IsAmong, count_of};
 ghost use Rattle.drain.specs.Entering.{sinkless_terrain, AreEntered, IsInterior};
 
-use crate::changes::{Change, Entry};
+use crate::changes::{Change, TileEntry};
 use drainage::StepCount;
 use std::alloc::AllocError;
 use terrain::{Cell, Place};
@@ -59,7 +59,7 @@ impl<'a> RoundInput<'a> {
 
     /// Appends an entry for `to`, if `from` is as high and lowers the count of `to`.
     #[inline(always)]
-    fn note(&self, from: Change, to: Place, entries: &mut Vec<Entry>) -> Result<(), AllocError>
+    fn note(&self, from: Change, to: Place, entries: &mut Vec<TileEntry>) -> Result<(), AllocError>
         requires counting { AreCounting (sinkless_terrain self.now.tiling.now self.now.levels.now)
             self.now.steps.now }
         requires from { IsWithin self.now.tiling.now from.place }
@@ -80,13 +80,18 @@ impl<'a> RoundInput<'a> {
         }
         let tile = self.tiling.tile_of(to);
         let change = Change { place: to, count };
-        entries.push(Entry { tile, change })?;
+        entries.push(TileEntry { tile, change })?;
         Ok(())
     }
 
     /// Appends entries for cells of `row` around `from` whose counts `from` lowers.
     #[inline(always)]
-    fn note_along(&self, from: Change, row: u32, entries: &mut Vec<Entry>) -> Result<(), AllocError>
+    fn note_along(
+        &self,
+        from: Change,
+        row: u32,
+        entries: &mut Vec<TileEntry>,
+    ) -> Result<(), AllocError>
         requires counting { AreCounting (sinkless_terrain self.now.tiling.now self.now.levels.now)
             self.now.steps.now }
         requires from { IsWithin self.now.tiling.now from.place }
@@ -110,7 +115,7 @@ impl<'a> RoundInput<'a> {
     pub(crate) fn note_around(
         &self,
         place: Place,
-        entries: &mut Vec<Entry>,
+        entries: &mut Vec<TileEntry>,
     ) -> Result<(), AllocError>
         requires counting { AreCounting (sinkless_terrain self.now.tiling.now self.now.levels.now)
             self.now.steps.now }
@@ -134,7 +139,7 @@ impl<'a> RoundInput<'a> {
     /// Appends entries for the cells around a tile whose counts the tile's rim lowers.
     /// After a search in the tile, the rim lowers no count of the tile's own cells, so these get no
     /// entries.
-    pub(crate) fn note_rim(&self, tile: u32, entries: &mut Vec<Entry>) -> Result<(), AllocError>
+    pub(crate) fn note_rim(&self, tile: u32, entries: &mut Vec<TileEntry>) -> Result<(), AllocError>
         requires counting { AreCounting (sinkless_terrain self.now.tiling.now self.now.levels.now)
             self.now.steps.now }
         requires tile { tile < tile_count self.now.tiling.now }
@@ -168,7 +173,7 @@ impl<'a> RoundInput<'a> {
     pub(crate) fn note_changes(
         &self,
         changes: &[Change],
-        entries: &mut Vec<Entry>,
+        entries: &mut Vec<TileEntry>,
     ) -> Result<(), AllocError>
         requires counting { AreCounting (sinkless_terrain self.now.tiling.now self.now.levels.now)
             self.now.steps.now }

@@ -8,12 +8,12 @@ ghost use Rattle.std.specs.declared.alloc.Global.{Global};
 ghost use Rattle.terrain.specs.declared.place.Place.{Place};
 ghost use Rattle.terrain.specs.Neighbours.{height_at, index_of, Touches};
 ghost use Rattle.tiles.specs.Cutting.{IsWithin, IsInTile, bounds_of, tile_count, tile_of_place};
-ghost use Rattle.drain.specs.declared.changes.Entry.{Entry};
+ghost use Rattle.drain.specs.declared.changes.TileEntry.{TileEntry};
 ghost use Rattle.drain.specs.Rounds.{HasCountZero, IsWalked, AreCounting};
 ghost use Rattle.drain.specs.Entering.{sinkless_terrain, AreEntries, IsRun};
 ghost use Rattle.drain.specs.Lowering.{IsRelaxedInside, IsLoweredTo, IsTileResult, MaySpread, count_of, counts_in};
 
-use crate::changes::{Change, Entry, Run};
+use crate::changes::{Change, Run, TileEntry};
 use crate::entering::RoundInput;
 use std::alloc::{AllocError, Global};
 use terrain::Place;
@@ -213,7 +213,7 @@ fn spread(
 /// True if the entry's count is at most one above that change's, or if there is no such change.
 /// A run is sorted by count, so changes go from low counts to high, and no cell changes twice.
 #[inline(always)]
-fn is_entry_due(entry: Entry, changes: &[Change], done: usize) -> bool
+fn is_entry_due(entry: TileEntry, changes: &[Change], done: usize) -> bool
     ensures { OnFalse result (done < length changes.now) }
 {
     match changes.get(done) {
@@ -227,7 +227,7 @@ fn is_entry_due(entry: Entry, changes: &[Change], done: usize) -> bool
 pub(crate) fn lower_tile(
     alloc: Global,
     input: &RoundInput<'_>,
-    entries: &[Entry],
+    entries: &[TileEntry],
     run: Run,
 ) -> Result<Vec<Change>, AllocError>
     requires counting { let c = input.now.tiling.now in

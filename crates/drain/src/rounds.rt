@@ -12,7 +12,7 @@ ghost use Rattle.drain.specs.Lowering.{IsAmong, IsRelaxedInside, count_of};
 ghost use Rattle.drain.specs.Entering.{sinkless_terrain, AreEntered};
 ghost use Rattle.drain.specs.Rounding.{AreRoundResults, ArePut, IsGiven, IsRounding, IsNext, IsResult, count_sum};
 
-use crate::changes::{Change, Entry, Run};
+use crate::changes::{Change, Run, TileEntry};
 use crate::entering::RoundInput;
 use crate::lowering::lower_tile;
 use crate::runs::{run_end, runs_of, sort};
@@ -38,7 +38,7 @@ struct Round<'a> {
     tiling: &'a Tiling,
     levels: &'a [Cell],
     steps: &'a [StepCount],
-    entries: &'a [Entry],
+    entries: &'a [TileEntry],
     runs: &'a [Run],
 }
 
@@ -130,7 +130,7 @@ fn put_all(tiling: &Tiling, steps: &mut [StepCount], outs: &[Vec<Change>])
 }
 
 /// Returns the entries into adjacent tiles, from the rims of all tiles.
-fn entries_of_all(alloc: Global, input: &RoundInput<'_>) -> Result<Vec<Entry>, AllocError>
+fn entries_of_all(alloc: Global, input: &RoundInput<'_>) -> Result<Vec<TileEntry>, AllocError>
     requires { AreCounting (sinkless_terrain input.now.tiling.now input.now.levels.now)
         input.now.steps.now }
     ensures { IfOk result (λ v. AreEntered
@@ -152,7 +152,7 @@ fn entries_of_changed(
     alloc: Global,
     input: &RoundInput<'_>,
     outs: &[Vec<Change>],
-) -> Result<Vec<Entry>, AllocError>
+) -> Result<Vec<TileEntry>, AllocError>
     requires counting { AreCounting (sinkless_terrain input.now.tiling.now input.now.levels.now)
         input.now.steps.now }
     requires changes { (x : Change) → IsGiven outs.now x → IsWithin input.now.tiling.now x.place }
@@ -187,7 +187,7 @@ fn has_changes(outs: &[Vec<Change>]) -> bool
 fn changes_by_jobs<R: Threads + Wait + Sync, G: Gate + Sync>(
     runner: &Runner<'_, R, G>,
     input: &RoundInput<'_>,
-    entries: &[Entry],
+    entries: &[TileEntry],
 ) -> Result<Vec<Vec<Change>>, JobFault>
     requires rounding { IsRounding (record {
       cutting = input.now.tiling.now;
@@ -222,7 +222,7 @@ fn changes_by_jobs<R: Threads + Wait + Sync, G: Gate + Sync>(
 fn changes_here(
     alloc: Global,
     input: &RoundInput<'_>,
-    entries: &[Entry],
+    entries: &[TileEntry],
 ) -> Result<Vec<Vec<Change>>, AllocError>
     requires { IsRounding (record {
       cutting = input.now.tiling.now;
@@ -252,14 +252,14 @@ fn changes_here(
 
 /// The state between rounds: counts so far, and entries sorted by tile.
 #[derive(Drop)]
-struct Counting<'a> {
+struct RoundState<'a> {
     tiling: &'a Tiling,
     levels: &'a [Cell],
     steps: Vec<StepCount>,
-    entries: Vec<Entry>,
+    entries: Vec<TileEntry>,
 }
 
-impl<'a> Counting<'a> {
+impl<'a> RoundState<'a> {
     ghost use Rattle.drain.specs.Rounding.{rounding_of};
 
     /// Applies a round's changes to the counts and finds the next round's entries.
@@ -380,16 +380,16 @@ pub(crate) fn run_rounds<R: Threads + Wait + Sync, G: Gate + Sync>(
         },
     )?;
     sort(&mut entries)?;
-    let mut counting = Counting {
+    let mut state = RoundState {
         tiling,
         levels,
         steps,
         entries,
     };
     let mut rounds = 0u32;
-    while counting.full_round(runner)? {
+    while state.full_round(runner)? {
         rounds = rounds.saturating_add(1);
-        counting.run_small_rounds(runner.alloc, enough_entries(tiling, rounds))?;
+        state.run_small_rounds(runner.alloc, enough_entries(tiling, rounds))?;
     }
-    Ok(counting.steps)
+    Ok(state.steps)
 }

@@ -3,16 +3,16 @@
 //! An entry is a lower count for a cell of one tile, from a neighbour in another tile.
 ghost use Rattle.std.specs.Prelude.{◌≡◌, ◌≢◌, ℕ, ◌<◌, ◌≤◌, length, OnOk, IfOk, Some, slice_get};
 ghost use Rattle.std.specs.List.Sorted.{IsNonDecreasingBy, IsPermutation};
-ghost use Rattle.drain.specs.declared.changes.Entry.{Entry};
+ghost use Rattle.drain.specs.declared.changes.TileEntry.{TileEntry};
 ghost use Rattle.drain.specs.Lowering.{IsAmong};
 ghost use Rattle.drain.specs.Entering.{AreRuns};
 
-use crate::changes::{Entry, Run};
+use crate::changes::{Run, TileEntry};
 use std::alloc::{AllocError, Global};
 
 /// Sorts entries by tile, and those of one tile by count.
 /// The second sort is stable, so it keeps the order by count.
-pub(crate) fn sort(entries: &mut Vec<Entry>) -> Result<(), AllocError>
+pub(crate) fn sort(entries: &mut Vec<TileEntry>) -> Result<(), AllocError>
     ensures sorted { OnOk result (IsNonDecreasingBy (λ e. e.tile) entries.new.items) }
     ensures same { OnOk result (IsPermutation entries.old.items entries.new.items) }
 {
@@ -22,12 +22,13 @@ pub(crate) fn sort(entries: &mut Vec<Entry>) -> Result<(), AllocError>
 }
 
 /// Returns the index after the entries of `tile` that begin at index `from`.
-pub(crate) fn run_end(entries: &[Entry], tile: u32, from: usize) -> usize
+pub(crate) fn run_end(entries: &[TileEntry], tile: u32, from: usize) -> usize
     requires { from ≤ length entries.now }
     ensures ordered { (from ≤ result) × (result ≤ length entries.now) }
-    ensures own { (k : ℕ) (e : Entry) → from ≤ k → k < result → slice_get entries.now k ≡ Some e →
+    ensures own { (k : ℕ) (e : TileEntry) → from ≤ k → k < result →
+        slice_get entries.now k ≡ Some e →
         e.tile ≡ tile }
-    ensures other { (e : Entry) → slice_get entries.now result ≡ Some e → e.tile ≢ tile }
+    ensures other { (e : TileEntry) → slice_get entries.now result ≡ Some e → e.tile ≢ tile }
 {
     for k in from..entries.len() {
         if entries[k].tile != tile {
@@ -38,9 +39,13 @@ pub(crate) fn run_end(entries: &[Entry], tile: u32, from: usize) -> usize
 }
 
 /// Returns the run of each tile, in the order of the tiles; a run may be empty.
-pub(crate) fn runs_of(alloc: Global, entries: &[Entry], tiles: u32) -> Result<Vec<Run>, AllocError>
+pub(crate) fn runs_of(
+    alloc: Global,
+    entries: &[TileEntry],
+    tiles: u32,
+) -> Result<Vec<Run>, AllocError>
     requires sorted { IsNonDecreasingBy (λ e. e.tile) entries.now }
-    requires tiles { (e : Entry) → IsAmong entries.now e → e.tile < tiles }
+    requires tiles { (e : TileEntry) → IsAmong entries.now e → e.tile < tiles }
     ensures { IfOk result (λ v. AreRuns entries.now tiles v.items) }
 {
     let mut runs = Vec::with_capacity(alloc, tiles as usize)?;

@@ -3,7 +3,7 @@ ghost use Rattle.std.specs.Prelude.{◌≡◌, ◌+◌, ◌<◌, ◌≤◌, ◌�
 ghost use Rattle.terrain.specs.Neighbours.{Touches};
 ghost use Rattle.terrain.specs.declared.place.Place.{Place};
 ghost use Rattle.tiles.specs.Windows.{area_of, spot_index, IsSpot, IsInner};
-ghost use Rattle.drain.specs.Search.{AreCounts, level_on, count_on, IsLeastAlong, IsSpread, IsNotAbove, IsNear, AreNoted, IsReached, IsRelaxedBut, IsRelaxed, IsSearched};
+ghost use Rattle.drain.specs.Search.{AreAtMostNoCount, level_on, count_on, IsLeastAlong, IsSpread, IsNotAbove, IsNear, NotesChanges, IsReached, IsRelaxedBut, IsRelaxed, IsSearched};
 
 use std::alloc::{AllocError, Global};
 use terrain::{Cell, Place};
@@ -25,7 +25,7 @@ fn is_level(window: &Window<Cell>, spot: Place, other: Place) -> bool
 #[inline(always)]
 fn lesser(window: &Window<Cell>, counts: &[u32], spot: Place, level: Cell, bound: u32) -> u32
     requires size { length counts.now ≡ area_of window.now.bounds }
-    requires counts { AreCounts counts.now }
+    requires counts { AreAtMostNoCount counts.now }
     requires spot { IsSpot window.now.bounds spot }
     ensures bound { result ≤ bound }
     ensures each { level_on window.now.bounds window.now.values.items spot ≡ level →
@@ -58,7 +58,7 @@ fn least_of_three(
     bound: u32,
 ) -> u32
     requires size { length counts.now ≡ area_of window.now.bounds }
-    requires counts { AreCounts counts.now }
+    requires counts { AreAtMostNoCount counts.now }
     requires from { (from.row < window.now.bounds.rows + 2)
         × (from.col + 2 < window.now.bounds.cols + 2) }
     ensures { IsLeastAlong window.now.bounds window.now.values.items counts.now from (from.col + 3)
@@ -76,7 +76,7 @@ fn least_of_three(
 #[inline(always)]
 fn least_around(window: &Window<Cell>, counts: &[u32], spot: Place, bound: u32) -> u32
     requires size { length counts.now ≡ area_of window.now.bounds }
-    requires counts { AreCounts counts.now }
+    requires counts { AreAtMostNoCount counts.now }
     requires spot { IsInner window.now.bounds spot }
     ensures bound { result ≤ bound }
     ensures each { (r : Place) → Touches spot r →
@@ -107,7 +107,7 @@ fn reach(
     to: Place,
 ) -> Result<(), AllocError>
     requires size { length counts.old ≡ area_of window.now.bounds }
-    requires counts { AreCounts counts.old }
+    requires counts { AreAtMostNoCount counts.old }
     requires from { IsSpot window.now.bounds from }
     requires to { IsSpot window.now.bounds to × Touches from to }
     ensures { OnOk result (IsReached window.now.bounds window.now.values.items from (λ r. r ≡ to)
@@ -137,7 +137,7 @@ fn spread_along(
     row: u32,
 ) -> Result<(), AllocError>
     requires size { length counts.old ≡ area_of window.now.bounds }
-    requires counts { AreCounts counts.old }
+    requires counts { AreAtMostNoCount counts.old }
     requires spot { IsInner window.now.bounds spot }
     requires row { (row ≤ spot.row + 1) × (spot.row ≤ row + 1) }
     ensures { OnOk result (IsReached window.now.bounds window.now.values.items spot
@@ -161,7 +161,7 @@ fn spread(
     spot: Place,
 ) -> Result<(), AllocError>
     requires size { length counts.old ≡ area_of window.now.bounds }
-    requires counts { AreCounts counts.old }
+    requires counts { AreAtMostNoCount counts.old }
     requires spot { IsInner window.now.bounds spot }
     ensures { OnOk result (IsReached window.now.bounds window.now.values.items spot (Touches spot)
         counts.old counts.new reached.old.items reached.new.items) }
@@ -180,7 +180,7 @@ fn search(
     mut reached: Vec<Place>,
 ) -> Result<(), AllocError>
     requires size { length counts.old ≡ area_of window.now.bounds }
-    requires counts { AreCounts counts.old }
+    requires counts { AreAtMostNoCount counts.old }
     requires inner { All (IsInner window.now.bounds) reached.items }
     requires even { IsRelaxedBut window.now.bounds window.now.values.items counts.old
         reached.items 0 }
@@ -211,7 +211,7 @@ fn pull_at(
 ) -> Result<(), AllocError>
     requires size { (length old.now ≡ area_of window.now.bounds)
         × (length counts.old ≡ area_of window.now.bounds) }
-    requires counts { AreCounts old.now }
+    requires counts { AreAtMostNoCount old.now }
     requires spot { IsInner window.now.bounds spot }
     requires spread { IsSpread window.now.bounds window.now.values.items old.now counts.old }
     requires inner { All (IsInner window.now.bounds) reached.old.items }
@@ -221,7 +221,7 @@ fn pull_at(
     ensures near { OnOk result
         (IsNear window.now.bounds window.now.values.items old.now counts.new spot) }
     ensures noted { OnOk result
-        (AreNoted window.now.bounds counts.old counts.new reached.old.items reached.new.items) }
+        (NotesChanges window.now.bounds counts.old counts.new reached.old.items reached.new.items) }
     ensures inner { OnOk result (All (IsInner window.now.bounds) reached.new.items) }
 {
     let index = window.index(spot);
@@ -248,7 +248,7 @@ fn pull_along(
 ) -> Result<(), AllocError>
     requires size { (length old.now ≡ area_of window.now.bounds)
         × (length counts.old ≡ area_of window.now.bounds) }
-    requires counts { AreCounts old.now }
+    requires counts { AreAtMostNoCount old.now }
     requires row { (1 ≤ row) × (row ≤ window.now.bounds.rows) }
     requires spread { IsSpread window.now.bounds window.now.values.items old.now counts.old }
     requires inner { All (IsInner window.now.bounds) reached.old.items }
@@ -258,7 +258,7 @@ fn pull_along(
     ensures near { OnOk result ((s : Place) → IsInner window.now.bounds s → s.row ≡ row →
         IsNear window.now.bounds window.now.values.items old.now counts.new s) }
     ensures noted { OnOk result
-        (AreNoted window.now.bounds counts.old counts.new reached.old.items reached.new.items) }
+        (NotesChanges window.now.bounds counts.old counts.new reached.old.items reached.new.items) }
     ensures inner { OnOk result (All (IsInner window.now.bounds) reached.new.items) }
 {
     for col in 1..window.bounds.cols + 1 {
@@ -276,14 +276,14 @@ fn pull(
     counts: &mut [u32],
 ) -> Result<Vec<Place>, AllocError>
     requires size { length old.now ≡ area_of window.now.bounds }
-    requires counts { AreCounts old.now }
+    requires counts { AreAtMostNoCount old.now }
     requires same { counts.old ≡ old.now }
     ensures spread { OnOk result
         (IsSpread window.now.bounds window.now.values.items old.now counts.new) }
     ensures near { OnOk result ((s : Place) → IsInner window.now.bounds s →
         IsNear window.now.bounds window.now.values.items old.now counts.new s) }
     ensures noted { IfOk result
-        (λ reached. AreNoted window.now.bounds old.now counts.new [] reached.items) }
+        (λ reached. NotesChanges window.now.bounds old.now counts.new [] reached.items) }
     ensures inner { IfOk result (λ reached. All (IsInner window.now.bounds) reached.items) }
 {
     let mut reached = Vec::new(alloc);
@@ -302,7 +302,7 @@ fn search_window(
     counts: &mut [u32],
 ) -> Result<(), AllocError>
     requires size { length old.now ≡ area_of window.now.bounds }
-    requires counts { AreCounts old.now }
+    requires counts { AreAtMostNoCount old.now }
     requires same { counts.old ≡ old.now }
     ensures { OnOk result
         (IsSearched window.now.bounds window.now.values.items old.now counts.new) }
@@ -319,7 +319,7 @@ pub(crate) fn searched_counts(
     old: &[u32],
 ) -> Result<Vec<u32>, AllocError>
     requires size { length old.now ≡ area_of window.now.bounds }
-    requires counts { AreCounts old.now }
+    requires counts { AreAtMostNoCount old.now }
     ensures finished { IfOk result
         (λ new. IsSearched window.now.bounds window.now.values.items old.now new.items) }
     ensures size { IfOk result (λ new. length new.items ≡ length old.now) }

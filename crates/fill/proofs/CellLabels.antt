@@ -11,7 +11,7 @@ use Rattle.terrain.specs.Ways.{place_on}
 use Rattle.terrain.specs.declared.place.Place.{Place}
 use Rattle.terrain.proofs.Places.{same_place}
 use Rattle.tiles.specs.declared.bounds.Bounds.{Bounds}
-use Rattle.tiles.specs.Cutting.{Cutting, IsCutting, IsWithin, IsInTile, IsInBounds, tile_count, tile_of_place, bounds_of, is_in_bounds, index_in}
+use Rattle.tiles.specs.Cutting.{Cutting, IsCutting, IsWithin, IsInBounds, tile_count, tile_of_place, bounds_of, is_in_bounds, index_in}
 use Rattle.cell_floods.proofs.Where.{all_inside, table_inside}
 use Rattle.tiles.proofs.Cut.{in_tile, in_bounds_parts, in_bounds_from}
 use Rattle.cell_floods.specs.TileFlood.{Flood, IsFlood, label_in}
@@ -121,13 +121,6 @@ cell_label_outside c floods p h fit outside = elim (cases_option (cell_label_amo
   | inl none ↦ none
   | inr some ↦ absurd (outside (labelled_within c floods p some.0 h fit some.1))
 ]
-
--- A place in the bounds of a tile's flood lies in the tile.
-pub held : (c : Cutting) (floods : List Flood) (tile : ℕ) (f : Flood) (p : Place) (b : Bounds) →
-    IsCutting c → Fit c floods → tile < tile_count c → slice_get floods tile ≡ Some f →
-    b ≡ f.bounds → is_in_bounds b p ≡ true → IsInTile c tile p
-held c floods tile f p b h fit below e same inside = in_tile c tile p h below
-    (subst (λ b. IsInBounds b p) (same ∙ fit.bounds tile f e) (in_bounds_parts b p inside))
 
 -- The cell label of a cell among the floods is that at its index in the flood of its tile.
 pub entry_cell_label : (c : Cutting) (floods : List Flood) (tile : ℕ) (f : Flood) (q : Place)

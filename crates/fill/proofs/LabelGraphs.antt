@@ -11,7 +11,7 @@ use Rattle.std.proofs.lemmas.List.Elements.{Contains-append_left, Contains-appen
 use Rattle.terrain.proofs.Orders.{le_of_same}
 use Rattle.terrain.proofs.Options.{cases_option, none_done, match_of}
 use Rattle.floods.specs.declared.net.Spill.{Spill}
-use Rattle.floods.specs.Walk.{IsWalk, crest, IsLevel, HasNoWalk, IsFlooded, HasJust}
+use Rattle.floods.specs.Walk.{IsWalk, walk_crest, IsLevel, HasNoWalk, IsFlooded, HasJust}
 use Rattle.floods.proofs.Heaps.{all_by_contains}
 use Rattle.fill.specs.LabelNet.{HasArc, IsJoinOf, NumberNet, IsNumberNet, AddsArcs, HasArcsOf, source_number, joined_source, AreNumberLevels, levels_or}
 use Rattle.fill.specs.Arcs.{has_arcs, is_some_arc}
@@ -158,7 +158,7 @@ module _ (arcs : List (List Spill)) (sources : List (Option ℤ)) where
   walk_forth : (walk : List Spill) (a : ℕ) → has_arcs arcs a ≡ true →
       IsWalk (HasArc arcs) (source_number sources) a walk
       → IsWalk (HasArc arcs) (joined_source arcs sources) a walk
-      × (crest (joined_source arcs sources) a walk ≡ crest (source_number sources) a walk)
+      × (walk_crest (joined_source arcs sources) a walk ≡ walk_crest (source_number sources) a walk)
   walk_forth [] a has walk = (
     subst (λ (o : Option ℤ). IsSome o) (sym (source_is a has)) walk,
     ap (λ (o : Option ℤ). unwrap_or o (pos 0)) (source_is a has),
@@ -176,7 +176,7 @@ module _ (arcs : List (List Spill)) (sources : List (Option ℤ)) where
   walk_back : (walk : List Spill) (a : ℕ) → has_arcs arcs a ≡ true →
       IsWalk (HasArc arcs) (joined_source arcs sources) a walk
       → IsWalk (HasArc arcs) (source_number sources) a walk
-      × (crest (source_number sources) a walk ≡ crest (joined_source arcs sources) a walk)
+      × (walk_crest (source_number sources) a walk ≡ walk_crest (joined_source arcs sources) a walk)
   walk_back [] a has walk = (
     subst (λ (o : Option ℤ). IsSome o) (source_is a has) walk,
     sym (ap (λ (o : Option ℤ). unwrap_or o (pos 0)) (source_is a has)),
@@ -220,7 +220,8 @@ module _ (arcs : List (List Spill)) (sources : List (Option ℤ)) where
         no_walk lacks (step ∷ rest) is = alone a none step.to step.height is.0
 
         low : (h : ℤ) → source_number sources a ≡ Some h → (walk : List Spill) → IsWalk
-            (HasArc arcs) (source_number sources) a walk → h ≤ℤ crest (source_number sources) a walk
+            (HasArc arcs) (source_number sources) a walk →
+            h ≤ℤ walk_crest (source_number sources) a walk
         low h some [] is = le_of_same _ _ (sym (ap (λ (o : Option ℤ). unwrap_or o (pos 0)) some))
         low h some (step ∷ rest) is = absurd (alone a none step.to step.height is.0)
 

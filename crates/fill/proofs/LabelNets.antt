@@ -17,7 +17,7 @@ use Rattle.drainage.proofs.Reach.{HasLowPath}
 use Rattle.tiles.specs.Cutting.{Cutting, IsCutting, IsWithin, tile_of_place, bounds_of}
 use Rattle.tiles.proofs.Cut.{in_bounds, tile_of_place_below}
 use Rattle.floods.specs.declared.net.Spill.{Spill}
-use Rattle.floods.specs.Walk.{Joins, Sources, IsWalk, crest as walk_crest, IsFlooded}
+use Rattle.floods.specs.Walk.{Joins, Sources, IsWalk, walk_crest, IsFlooded}
 use Rattle.cell_floods.specs.TileFlood.{IsTileSource, IsTilePath, IsTileLevel, Flood, level_in, label_in}
 use Rattle.cell_floods.specs.Cells.{last_cell}
 use Rattle.fill.specs.SpillGraph.{AreFloods, level_among, label_among}

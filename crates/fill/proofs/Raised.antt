@@ -23,7 +23,7 @@ use Rattle.tiles.specs.Cutting.{Cutting, IsCutting, IsInBounds, IsInTile, IsWith
 use Rattle.tiles.proofs.Cut.{in_bounds, tile_of_place_below}
 use Rattle.tiles.proofs.TileOrder.{tile_entry-in, entry_in-inside, index_in_below}
 use Rattle.cell_floods.specs.TileFlood.{Flood, level_in, label_in, IsTileFlood, levels_where}
-use Rattle.fill.specs.SpillGraph.{AreEntries, AreFloods, level_among, label_among, AreLeastCrests, crest_of, greater_of, raised_by, AreGreater, IsRaised, IsFilledTile, IsGraphOf, IsPass, Graph, HasJoin, source_in}
+use Rattle.fill.specs.SpillGraph.{IsListOf, AreFloods, level_among, label_among, AreLeastCrests, crest_of, greater_of, raised_by, AreGreater, IsRaised, IsFilledTile, IsGraphOf, IsPass, Graph, HasJoin, source_in}
 use Rattle.fill.specs.RaisedTiles.{IsRaisedTile, AreRaisedCells, raised_among, crest_with, crest_at}
 use Rattle.fill.specs.LabelNet.{HasArc, source_number, IsNumberGraph, AreNumberLevels}
 use Rattle.fill.specs.Numbers.{first_of}
@@ -48,15 +48,15 @@ use Rattle.tile_maps.proofs.Whole.{map_of_size, tile_of_entries}
 use Rattle.drainage.proofs.FilledTwice.{filled_twice}
 
 pub no_entries : (entry : ℕ → Option ℤ) (list : List (Option ℤ)) → list ≡ [] →
-    AreEntries entry 0 list
+    IsListOf entry 0 list
 no_entries entry list none = record {
   size = ap length none;
   each = λ k low. absurd (omega (arith, low));
 }
 
 pub one_entry : (entry : ℕ → Option ℤ) (i : ℕ) (now next : List (Option ℤ)) (x : Option ℤ)
-    → next ≡ now ++ x ∷ [] → x ≡ entry i → AreEntries entry i now → AreEntries entry (i + 1) next
-one_entry entry i now next x more is s = subst (AreEntries entry (i + 1)) (sym more) (record {
+    → next ≡ now ++ x ∷ [] → x ≡ entry i → IsListOf entry i now → IsListOf entry (i + 1) next
+one_entry entry i now next x more is s = subst (IsListOf entry (i + 1)) (sym more) (record {
   size = length_push now x ∙ ap (λ n. n + 1) s.size;
   each = λ k low. elim (cases_eq k i) [
     | inl same ↦ get_or_push now x None k (s.size ∙ sym same) ∙ is ∙ ap entry (sym same)
@@ -67,9 +67,9 @@ one_entry entry i now next x more is s = subst (AreEntries entry (i + 1)) (sym m
 })
 
 pub all_entries : (entry : ℕ → Option ℤ) (i count : ℕ) (list : List (Option ℤ))
-    → i ≤ count → count ≤ i → AreEntries entry i list → AreEntries entry count list
+    → i ≤ count → count ≤ i → IsListOf entry i list → IsListOf entry count list
 all_entries entry i count list below past s =
-    subst (λ n. AreEntries entry n list) (omega (arith, below, past)) s
+    subst (λ n. IsListOf entry n list) (omega (arith, below, past)) s
 
 -- The raised height does not change, if the level is made None where there is no label.
 raised_where : (c : Cutting) (levels : List (Option ℤ)) (height : ℤ) (label : Option Place) →

@@ -7,7 +7,7 @@ use Rattle.terrain.specs.declared.place.Place.{Place}
 use Rattle.tiles.specs.Cutting.{Cutting}
 use Rattle.cell_floods.specs.TileFlood.{Flood, IsFlood, levels_where}
 use Rattle.fill.specs.Gathering.{cell_label_among, cell_label_with}
-use Rattle.fill.specs.SpillGraph.{AreEntries, greater_of, level_among}
+use Rattle.fill.specs.SpillGraph.{IsListOf, greater_of, level_among}
 use Rattle.fill.specs.declared.cell_labels.CellLabel.{CellLabel}
 use Rattle.fill.specs.declared.raised_tiles.RaisedTile.{RaisedTile}
 
@@ -30,7 +30,7 @@ crest_at levels first places k =
 -- The list has the least crest of each label of the table, in the stored form of a cell.
 abbrev pub AreCrestCells : List (Option ℤ) → ℕ → List (Option Place) → List (Option ℤ) → Type 0
 AreCrestCells levels first places cells =
-    AreEntries (λ k. cell_of (crest_at levels first places k)) (length places) cells
+    IsListOf (λ k. cell_of (crest_at levels first places k)) (length places) cells
 
 -- The tile has the levels and label indexes of this flood, and the least crests of its labels.
 pub record IsRaisedTile (first : ℕ) (f : Flood) (levels : List (Option ℤ))
@@ -49,4 +49,4 @@ raised_at first f levels k =
 -- The list has the raised heights of a tile's cells, in the stored form of a cell.
 abbrev pub AreRaisedCells : ℕ → Flood → List (Option ℤ) → List (Option ℤ) → Type 0
 AreRaisedCells first f levels cells =
-    AreEntries (λ k. cell_of (raised_at first f levels k)) (length f.labels) cells
+    IsListOf (λ k. cell_of (raised_at first f levels k)) (length f.labels) cells

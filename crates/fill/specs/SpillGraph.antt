@@ -124,7 +124,7 @@ abbrev pub raised_by : Cutting → List (Option ℤ) → Option ℤ → Option P
 raised_by c levels level label = greater_of level (crest_of c levels label)
 
 -- The list has `count` entries, which `entry` gives.
-pub record AreEntries (entry : ℕ → Option ℤ) (count : ℕ) (list : List (Option ℤ)) : Type 0 where
+pub record IsListOf (entry : ℕ → Option ℤ) (count : ℕ) (list : List (Option ℤ)) : Type 0 where
   pub size : length list ≡ count
   pub each : (k : ℕ) → k < count → slice_index_or list k None ≡ entry k
 
@@ -133,7 +133,7 @@ pub record AreEntries (entry : ℕ → Option ℤ) (count : ℕ) (list : List (O
 -- `labels` has.
 abbrev pub AreGreater : List ℤ → List ℕ → List (Option ℤ) → List (Option ℤ) → Type 0
 AreGreater heights labels crests raised =
-    AreEntries (λ i. greater_of (Some (slice_index_or heights i (pos 0)))
+    IsListOf (λ i. greater_of (Some (slice_index_or heights i (pos 0)))
     (slice_index_or crests (slice_index_or labels i 0) None)) (length heights) raised
 
 -- `raised` has the raised height of each cell of the tile; `levels` has the least crests of labels.

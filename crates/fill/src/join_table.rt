@@ -46,8 +46,8 @@ impl Model for JoinTable {
 }
 
 /// Returns the slot `probe` slots after the one to which two labels hash.
-/// The first slot follows the last. Fibonacci hashing spreads labels: they are indexes into a
-/// tile's table, and many are close together.
+/// The first slot follows the last. Fibonacci's multiplier spreads labels: they are indexes into
+/// a tile's table, and many are close together.
 #[inline(always)]
 fn slot_of(from: u32, to: u32, probe: usize, slots: usize) -> usize
     requires { 0 < slots }

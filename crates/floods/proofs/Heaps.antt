@@ -4,7 +4,7 @@
 use Rattle.std.proofs.Common.{[], ◌≡◌, ℕ, ◌<◌, ◌≤◌, ◌⊎◌, ℤ, List, length, Option, None, Some, IsSome, zero, suc, ◌+◌, ◌∷◌, get_or, set, replicate, ◌≤ℤ◌, sym, ap, subst, refl, ◌∙◌, arith, inl, inr}
 use Rattle.std.specs.Int.{int_max}
 use Rattle.std.specs.List.{Contains, All}
-use Rattle.floods.specs.Walk.{Joins, Sources, HasNoSource, IsWalk, crest, end_of, IsLevel}
+use Rattle.floods.specs.Walk.{Joins, Sources, HasNoSource, IsWalk, walk_crest, last_node, IsLevel}
 use Rattle.floods.specs.Flood.{entry_of, HasLabel, HasCandidate, TakesLowest, PutsIn, HasNone, AreSourcesQueued, HasSourcesNoted}
 use Rattle.floods.specs.declared.net.Spill.{Spill}
 use Rattle.floods.specs.declared.queue.Candidate.{Candidate}
@@ -18,8 +18,9 @@ use Rattle.std.proofs.lemmas.Option.{same_Some}
 -- Some walk from the entry's node has the entry's height as crest and ends at the entry's label.
 abbrev pub HasWalk : Joins → Sources → Candidate → Type 0
 HasWalk joins source w =
-    (walk : List Spill) × IsWalk joins source w.node walk × (crest source w.node walk ≡ w.height.0)
-    × (end_of w.node walk ≡ w.label)
+    (walk : List Spill) × IsWalk joins source w.node walk
+    × (walk_crest source w.node walk ≡ w.height.0)
+    × (last_node w.node walk ≡ w.label)
 
 -- The invariant of a flood: nodes with labels have final levels, and each entry has a walk. Each
 -- source without a label has an entry, at most at its height. Each unlabelled neighbour of a node

@@ -1,5 +1,5 @@
--- Labels stored as numbers of 32 bits; the greatest number stands for no label. A new list has no
--- label, and a label written at a node is the label there.
+-- Labels stored as numbers of 32 bits; the greatest number stands for no label. A list of that
+-- number alone stores no label. Setting a node's number sets that node's label and no other.
 use Rattle.std.proofs.Common.{◌≡◌, ℕ, zero, suc, ◌<◌, List, ◌∷◌, set, replicate, None, Some, ◌∙◌, ap, refl, Bool, true, false, if◌then◌else◌, ◌==◌, arith}
 use Rattle.std.proofs.lemmas.Bool.{eqb-true}
 use Rattle.std.proofs.lemmas.List.{map-set}

@@ -12,7 +12,7 @@ use Rattle.terrain.proofs.Orders.{max_right, trans, le_of_same}
 use Rattle.terrain.proofs.Options.{cases_option, none_some, none_done}
 use Rattle.floods.specs.declared.net.Spill.{Spill}
 use Rattle.floods.specs.declared.queue.Candidate.{Candidate}
-use Rattle.floods.specs.Walk.{Joins, Sources, IsWalk, crest, end_of, IsLevel, HasNoWalk, IsFlooded, HasJust}
+use Rattle.floods.specs.Walk.{Joins, Sources, IsWalk, walk_crest, last_node, IsLevel, HasNoWalk, IsFlooded, HasJust}
 use Rattle.floods.specs.Flood.{entry_of, HasLabel, TakesLowest, candidate_by, AreSourcesQueued, HasSourcesNoted, AreOwn, HasCandidate, IsCandidateBy, Queues, AreNoted, KeepsDone}
 use Rattle.floods.proofs.Heaps.{HasWalk, IsFlooding, all_by_contains, replicated}
 
@@ -24,7 +24,8 @@ pub open_walk : (joins : Joins) (source : Sources) (nodes : ℕ) (levels : List 
     (labels : List (Option ℕ)) (waiting : List Candidate) → ((a b : ℕ) (h : ℤ) → joins a b h →
     b < nodes) → IsFlooding joins source nodes levels labels waiting → (walk : List Spill) (a : ℕ) →
     a < nodes → entry_of labels a ≡ None → IsWalk joins source a walk → (w : Candidate)
-    × Contains waiting w × (entry_of labels w.node ≡ None) × (w.height.0 ≤ℤ crest source a walk)
+    × Contains waiting w × (entry_of labels w.node ≡ None)
+    × (w.height.0 ≤ℤ walk_crest source a walk)
 open_walk joins source nodes levels labels waiting inside s [] a below none walk =
     elim (cases_option (source a)) [
       | inl none_here ↦ none_done (source a) none_here walk
@@ -42,7 +43,7 @@ open_walk joins source nodes levels labels waiting inside s (step ∷ rest) a be
       | inl open_next ↦
           let w = open_walk joins source nodes levels labels waiting inside s rest step.to next
           open_next walk.1 in
-          (w.0, w.1, w.2, trans _ _ _ w.3 (max_right step.height (crest source step.to rest)))
+          (w.0, w.1, w.2, trans _ _ _ w.3 (max_right step.height (walk_crest source step.to rest)))
       | inr found ↦
           let level = s.settled step.to found.0 found.1 in
           let w =
@@ -51,7 +52,7 @@ open_walk joins source nodes levels labels waiting inside s (step ∷ rest) a be
             w.0,
             w.1,
             ap (λ n. entry_of labels n) w.2 ∙ none,
-            trans _ _ _ w.3 (max_below step.height level.0 (crest source step.to rest)
+            trans _ _ _ w.3 (max_below step.height level.0 (walk_crest source step.to rest)
                 (level.2.least rest walk.1)),
           )
     ]
@@ -61,7 +62,8 @@ pub lowest_is_least : (joins : Joins) (source : Sources) (nodes : ℕ) (levels :
     (labels : List (Option ℕ)) (old new : List Candidate) (w : Candidate) →
     ((a b : ℕ) (h : ℤ) → joins a b h → b < nodes) →
     IsFlooding joins source nodes levels labels old → TakesLowest labels old w new →
-    (walk : List Spill) → IsWalk joins source w.node walk → w.height.0 ≤ℤ crest source w.node walk
+    (walk : List Spill) → IsWalk joins source w.node walk →
+    w.height.0 ≤ℤ walk_crest source w.node walk
 lowest_is_least joins source nodes levels labels old new w inside s t walk is_walk =
     let here = All-contains (λ x. (x.node < nodes) × HasWalk joins source x) old w s.queue t.was in
     let found =
@@ -153,7 +155,8 @@ sources_own source nodes levels waiting s noted = record {
 
 level_of_lowest : (joins : Joins) (source : Sources) (w : Candidate) →
     HasWalk joins source w → ((walk : List Spill) → IsWalk joins source w.node walk →
-    w.height.0 ≤ℤ crest source w.node walk) → (source w.node ≡ Some w.height.0 → w.label ≡ w.node) →
+    w.height.0 ≤ℤ walk_crest source w.node walk) →
+    (source w.node ≡ Some w.height.0 → w.label ≡ w.node) →
     IsLevel joins source w.node w.height.0 w.label
 level_of_lowest joins source w walk least own = record { reached = walk; least = least; own = own }
 
@@ -300,7 +303,7 @@ own_still source labels levels old new w level label below s t = record {
 
 pub ends_inside : (joins : Joins) (source : Sources) (nodes : ℕ) →
     ((a b : ℕ) (h : ℤ) → joins a b h → b < nodes) → (walk : List Spill) (a : ℕ) → a < nodes →
-    IsWalk joins source a walk → end_of a walk < nodes
+    IsWalk joins source a walk → last_node a walk < nodes
 ends_inside joins source nodes inside [] a below walk = below
 ends_inside joins source nodes inside (step ∷ rest) a below walk =
     ends_inside joins source nodes inside rest step.to (inside a step.to step.height walk.0) walk.1

@@ -26,21 +26,22 @@ IsWalk joins source a [] = IsSome (source a)
 IsWalk joins source a (step ∷ rest) = joins a step.to step.height × IsWalk joins source step.to rest
 
 -- The crest of a walk: the greatest of the heights of its joins and its source.
-abbrev pub crest : Sources → ℕ → List Spill → ℤ
-crest source a [] = unwrap_or (source a) (pos 0)
-crest source a (step ∷ rest) = int_max step.height (crest source step.to rest)
+abbrev pub walk_crest : Sources → ℕ → List Spill → ℤ
+walk_crest source a [] = unwrap_or (source a) (pos 0)
+walk_crest source a (step ∷ rest) = int_max step.height (walk_crest source step.to rest)
 
 -- The last node of a walk.
-abbrev pub end_of : ℕ → List Spill → ℕ
-end_of a [] = a
-end_of a (step ∷ rest) = end_of step.to rest
+abbrev pub last_node : ℕ → List Spill → ℕ
+last_node a [] = a
+last_node a (step ∷ rest) = last_node step.to rest
 
 -- The level of node a is the least crest of its walks. Its label is a source where a walk of that
 -- crest ends. A source whose level is its own height is its own label.
 pub record IsLevel (joins : Joins) (source : Sources) (a : ℕ) (level : ℤ) (label : ℕ) : Type 0 where
-  pub reached : (walk : List Spill) × IsWalk joins source a walk × (crest source a walk ≡ level)
-      × (end_of a walk ≡ label)
-  pub least : (walk : List Spill) → IsWalk joins source a walk → level ≤ℤ crest source a walk
+  pub reached : (walk : List Spill) × IsWalk joins source a walk
+      × (walk_crest source a walk ≡ level)
+      × (last_node a walk ≡ label)
+  pub least : (walk : List Spill) → IsWalk joins source a walk → level ≤ℤ walk_crest source a walk
   pub own : source a ≡ Some level → label ≡ a
 
 -- Node a has no walk to a source.

@@ -13,9 +13,9 @@ use Rattle.drainage.specs.Following.{Directed, code_at, follow, moves}
 use Rattle.terrain.proofs.Listed.{is_place_from, place_is}
 use Rattle.terrain.specs.Neighbours.{is_place}
 use Rattle.flow.specs.Counts.{drains_through, accumulation}
-use Rattle.flow.specs.Streams.{sum_below}
+use Rattle.tile_jobs.specs.Sums.{sum_below}
 use Rattle.flow.specs.TileFlow.{stays, reaches_inside, through_of, inflow_of}
-use Rattle.flow.proofs.Sums.{bit_le, sum_below-except, sum_below-few}
+use Rattle.tile_jobs.proofs.Sums.{bit_le, sum_below-except, sum_below-few}
 use Rattle.flow.proofs.Ranges.{any_in_range, all_in_range, whole_bounds, sum_of_cells}
 use Rattle.flow.proofs.Coded.{IsCoded}
 use Rattle.flow.proofs.Sending.{and_on}

@@ -4,9 +4,10 @@ use Rattle.std.proofs.lemmas.Bool.{cases_eq, cases_lt, cond-true, cond-false, eq
 use Rattle.std.proofs.lemmas.List.{get_or-set_same, get_or-set_other}
 use Rattle.std.proofs.Math.ListN.{length-set}
 use Rattle.drainage.proofs.Pigeonhole.{pigeonhole}
-use Rattle.flow.specs.Streams.{AreStreams, onward, node_after, end_of, sum_below}
+use Rattle.tile_jobs.specs.Sums.{sum_below}
+use Rattle.flow.specs.Streams.{AreStreams, next_node, node_after, end_of}
 use Rattle.flow.specs.Finding.{AreKnownEnds, IsKnown, unknown_entry}
-use Rattle.flow.proofs.Sums.{bit_le, sum_below-same}
+use Rattle.tile_jobs.proofs.Sums.{bit_le, sum_below-same}
 
 -- A sequence whose next value depends on the last alone stays where it stops.
 pub stays_from : {X : Type 0} (x : ℕ → X) → ((a b : ℕ) → x a ≡ x b → x (suc a) ≡ x (suc b)) →
@@ -62,9 +63,10 @@ module _ (x : ℕ → ℕ) (step : (a b : ℕ) → x a ≡ x b → x (suc a) ≡
   ]
 
 abbrev pub IsStop : List ℕ → ℕ → ℕ → Type 0
-IsStop links i k = onward links (node_after links i k) ≡ node_after links i k
+IsStop links i k = next_node links (node_after links i k) ≡ node_after links i k
 
-pub inside_along : (links : List ℕ) → ((i : ℕ) → i < length links → onward links i < length links) →
+pub inside_along : (links : List ℕ) →
+    ((i : ℕ) → i < length links → next_node links i < length links) →
     (i : ℕ) → i < length links → (k : ℕ) → node_after links i k < length links
 inside_along links inside i h zero = h
 inside_along links inside i h (suc k) =
@@ -72,22 +74,23 @@ inside_along links inside i h (suc k) =
 
 pub node_stays : (links : List ℕ) (i k m : ℕ) → k ≤ m → IsStop links i k →
     node_after links i m ≡ node_after links i k
-node_stays links i = stays_from (node_after links i) (λ a b e. ap (onward links) e)
+node_stays links i = stays_from (node_after links i) (λ a b e. ap (next_node links) e)
 
-pub early_end : (links : List ℕ) → ((i : ℕ) → i < length links → onward links i < length links) →
+pub early_end : (links : List ℕ) → ((i : ℕ) → i < length links → next_node links i < length links) →
     (i : ℕ) → i < length links → (m : ℕ) → IsStop links i m →
     (k : ℕ) × (k < length links) × IsStop links i k
 early_end links inside i h m stop = early_stop (node_after links i) (λ a b e.
-    ap (onward links) e) (length links) (inside_along links inside i h) m stop
+    ap (next_node links) e) (length links) (inside_along links inside i h) m stop
 
-pub streams_from : (links : List ℕ) → ((i : ℕ) → i < length links → onward links i < length links) →
+pub streams_from : (links : List ℕ) →
+    ((i : ℕ) → i < length links → next_node links i < length links) →
     ((i : ℕ) → i < length links → (m : ℕ) × IsStop links i m) → AreStreams links
 streams_from links inside stops = record {
   inside = inside;
   ends = λ i h. (let s = stops i h in
       let r = early_end links inside i h s.0 s.1 in
       let last = node_stays links i r.0 (length links) (omega (arith, r.1)) r.2 in
-      ap (onward links) last ∙ r.2 ∙ sym last);
+      ap (next_node links) last ∙ r.2 ∙ sym last);
 }
 
 pub node_after-inside : (links : List ℕ) → AreStreams links → (i : ℕ) → i < length links → (k : ℕ) →
@@ -95,17 +98,17 @@ pub node_after-inside : (links : List ℕ) → AreStreams links → (i : ℕ) �
 node_after-inside links s = inside_along links s.inside
 
 pub node_after-first : (links : List ℕ) (i k : ℕ) →
-    node_after links (onward links i) k ≡ node_after links i (suc k)
+    node_after links (next_node links i) k ≡ node_after links i (suc k)
 node_after-first links i zero = refl
-node_after-first links i (suc k) = ap (onward links) (node_after-first links i k)
+node_after-first links i (suc k) = ap (next_node links) (node_after-first links i k)
 
-pub node_after-stays : (links : List ℕ) (i : ℕ) → onward links i ≡ i → (k : ℕ) →
+pub node_after-stays : (links : List ℕ) (i : ℕ) → next_node links i ≡ i → (k : ℕ) →
     node_after links i k ≡ i
 node_after-stays links i e zero = refl
-node_after-stays links i e (suc k) = ap (onward links) (node_after-stays links i e k) ∙ e
+node_after-stays links i e (suc k) = ap (next_node links) (node_after-stays links i e k) ∙ e
 
 pub end-onward : (links : List ℕ) → AreStreams links → (i : ℕ) → i < length links →
-    end_of links (onward links i) ≡ end_of links i
+    end_of links (next_node links i) ≡ end_of links i
 end-onward links s i h = node_after-first links i (length links) ∙ s.ends i h
 
 -- The path of `node` ends where the path of `from` ends.
@@ -113,7 +116,7 @@ abbrev pub SharesEnd : List ℕ → ℕ → ℕ → Type 0
 SharesEnd links from node = (node < length links) × (end_of links node ≡ end_of links from)
 
 pub next_on_path : (links : List ℕ) → AreStreams links → (from node : ℕ) →
-    SharesEnd links from node → SharesEnd links from (onward links node)
+    SharesEnd links from node → SharesEnd links from (next_node links node)
 next_on_path links s from node on = (s.inside node on.0, end-onward links s node on.0 ∙ on.1)
 
 pub end-inside : (links : List ℕ) → AreStreams links → (i : ℕ) → i < length links →
@@ -130,15 +133,16 @@ sum_of_next f zero = refl
 sum_of_next f (suc n) = omega (arith, sum_of_next f n)
 
 pub moves_fall : (links : List ℕ) → AreStreams links → (i : ℕ) → i < length links →
-    onward links i ≢ i → moves_left links (onward links i) + 1 ≡ moves_left links i
+    next_node links i ≢ i → moves_left links (next_node links i) + 1 ≡ moves_left links i
 moves_fall links s i h on =
     let left : ℕ → ℕ = λ k. cond {A = ℕ} (eqb (node_after links i k) (end_of links i)) 0 1 in
     let here : left zero ≡ 1 = cond-false {A =
-    ℕ} _ 0 1 (ne_eqb i (end_of links i) (λ e. on (ap (onward links) e ∙ s.ends i h ∙ sym e))) in
+    ℕ} _ 0 1 (ne_eqb i (end_of links i) (λ e. on (ap (next_node links) e ∙ s.ends i h ∙ sym e))) in
     let last : left (length links) ≡ 0 = cond-true {A = ℕ} _ 0 1 (eq-eqb _ _ refl) in
-    let next : moves_left links (onward links i) ≡ sum_below (λ k. left (suc k)) (length links) =
+    let next : moves_left links (next_node links i) ≡ sum_below (λ k. left (suc k)) (length links) =
     sum_below-same _ (λ k. left (suc k)) (length links) (λ k _.
-    ap (λ a. cond {A = ℕ} (eqb a (end_of links (onward links i))) 0 1) (node_after-first links i k)
+    ap (λ a. cond {A = ℕ} (eqb a (end_of links (next_node links i))) 0 1)
+    (node_after-first links i k)
     ∙ ap (λ b. cond {A = ℕ} (eqb (node_after links i (suc k)) b) 0 1) (end-onward links s i h)) in
     omega (arith, next, sum_of_next left (length links), here, last)
 
@@ -150,13 +154,14 @@ writes_left links ends i =
 
 pub writes_fall : (links ends : List ℕ) (i last : ℕ) → AreStreams links → AreKnownEnds links ends →
     i < length links → get_or ends i 0 ≡ unknown_entry → last ≢ unknown_entry →
-    writes_left links (set ends i last) (onward links i) < writes_left links ends i
+    writes_left links (set ends i last) (next_node links i) < writes_left links ends i
 writes_fall links ends i last s f h unknown known =
     let was : cond {A = ℕ} (eqb (get_or ends i 0) unknown_entry) 1 0 ≡ 1 =
     cond-true {A = ℕ} _ 1 0 (eq-eqb _ _ unknown) in
-    elim (cases_eq (onward links i) i) [
+    elim (cases_eq (next_node links i) i) [
       | inl e ↦ (let now :
-          cond {A = ℕ} (eqb (get_or (set ends i last) (onward links i) 0) unknown_entry) 1 0 ≡ 0 =
+          cond {A = ℕ} (eqb (get_or (set ends i last) (next_node links i) 0) unknown_entry) 1 0
+          ≡ 0 =
           cond-false {A = ℕ} _ 1 0 (ne_eqb _ _ (λ u. known (sym (ap (λ n. get_or (set ends i last)
           n 0) e ∙ get_or-set_same ends i last 0 (omega (arith, f.size, h))) ∙ u))) in
           omega (arith, was, now, ap (moves_left links) e))
@@ -164,7 +169,7 @@ writes_fall links ends i last s f h unknown known =
         arith,
         was,
         moves_fall links s i h on,
-        bit_le (eqb (get_or (set ends i last) (onward links i) 0) unknown_entry),
+        bit_le (eqb (get_or (set ends i last) (next_node links i) 0) unknown_entry),
       )
     ]
 

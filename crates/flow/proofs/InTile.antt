@@ -11,7 +11,7 @@ use Rattle.tiles.proofs.TileOrder.{place_in_bounds, index_in_below, index_in-pla
 use Rattle.drainage.specs.Following.{Directed, code_at, next, follow, moves, last_of}
 use Rattle.drainage.specs.Drained.{AllFlowEnds}
 use Rattle.tiles.proofs.Cut.{in_bounds_parts, in_bounds_from}
-use Rattle.flow.specs.Streams.{AreStreams, onward, node_after, end_of}
+use Rattle.flow.specs.Streams.{AreStreams, next_node, node_after, end_of}
 use Rattle.flow.specs.TileFlow.{stays, IsExitOf}
 use Rattle.flow.proofs.Ending.{IsStop, inside_along, streams_from, early_end, node_stays}
 use Rattle.flow.proofs.Coded.{IsCoded, cases_coded, none_stays, outlet_stays, coded_inside, coded_along, outlet_from_stays}
@@ -63,10 +63,10 @@ module _ (d : Directed) (c : Cutting) (tile : ℕ) (b : Bounds) (links : List �
   pub in_place : (i : ℕ) → i < length links → IsInBounds b (place_in b i)
   in_place i h = place_in_bounds b i s.inside.some_col (omega (arith, h, s.made.size))
 
-  pub link_is : (i : ℕ) → i < length links → onward links i ≡ link_in d b i
+  pub link_is : (i : ℕ) → i < length links → next_node links i ≡ link_in d b i
   link_is i h = s.made.each i (omega (arith, h, s.made.size))
 
-  pub links_inside : (i : ℕ) → i < length links → onward links i < length links
+  pub links_inside : (i : ℕ) → i < length links → next_node links i < length links
   links_inside i h = elim (cases_bounds b (next d (place_in b i))) [
     | inl y ↦ omega (
       arith,
@@ -82,13 +82,13 @@ module _ (d : Directed) (c : Cutting) (tile : ℕ) (b : Bounds) (links : List �
   node_inside = inside_along links links_inside
 
   pub self_link : (i : ℕ) → i < length links → next d (place_in b i) ≡ place_in b i →
-      onward links i ≡ i
+      next_node links i ≡ i
   self_link i h e =
       link_is i h ∙ link-in d b i (subst (λ (q : Place). IsInBounds b q) (sym e) (in_place i h))
       ∙ ap (index_in b) e ∙ index_in-place_in b i
 
   pub link_place : (i : ℕ) → i < length links → IsInBounds b (next d (place_in b i)) →
-      place_in b (onward links i) ≡ next d (place_in b i)
+      place_in b (next_node links i) ≡ next d (place_in b i)
   link_place i h y = ap (place_in b) (link_is i h ∙ link-in d b i y)
       ∙ place_in-index_in b (next d (place_in b i)) y
 
@@ -107,7 +107,7 @@ module _ (d : Directed) (c : Cutting) (tile : ℕ) (b : Bounds) (links : List �
     few = omega (arith, t.few);
     way = t.way;
     here = ap (place_in b) stop ∙ t.here;
-    done = inr (ap (onward links) stop);
+    done = inr (ap (next_node links) stop);
   }
 
   way_on : (j m : ℕ) → ((l : ℕ) → l ≤ m → IsInBounds b (follow d (place_in b j) l)) →
@@ -194,7 +194,7 @@ module _ (d : Directed) (c : Cutting) (tile : ℕ) (b : Bounds) (links : List �
       ∙ ap (place_in b) last in
       let coded =
       subst (λ (q : Place). IsCoded d q) at (coded_along d s.ends (place_in b i) is t.met) in
-      let stop : onward links (end_of links i) ≡ end_of links i = tile_streams.ends i h in
+      let stop : next_node links (end_of links i) ≡ end_of links i = tile_streams.ends i h in
       let inside = node_inside i h (length links) in (
         t.met,
         omega (arith, t.few, r.1, few_cells),

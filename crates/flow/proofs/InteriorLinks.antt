@@ -9,10 +9,10 @@ use Rattle.terrain.proofs.EightWays.{on_ways}
 use Rattle.tiles.specs.declared.bounds.Bounds.{Bounds}
 use Rattle.tiles.specs.Cutting.{IsInBounds, is_in_bounds, index_in, place_in}
 use Rattle.tiles.proofs.Cut.{in_bounds_from}
-use Rattle.flow.specs.TileLinks.{IsInterior, link_by}
+use Rattle.flow.specs.TileLinks.{IsInteriorAt, link_by}
 use Rattle.flow.proofs.Listed.{place_in_row}
 
-module _ (b : Bounds) (r k : ℕ) (interior : IsInterior b r k) where
+module _ (b : Bounds) (r k : ℕ) (interior : IsInteriorAt b r k) where
   abbrev here : Place
   here = make_place (b.top + r) (b.left + k)
 

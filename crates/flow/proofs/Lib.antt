@@ -1,7 +1,6 @@
 -- worked examples
 mod Rows
 -- sums and ranges
-pub mod Sums
 pub mod Ranges
 -- paths and sums along links
 pub mod Ending

@@ -16,13 +16,13 @@ use Rattle.tiles.proofs.TileOrder.{place_in_bounds, index_in-place_in}
 use Rattle.drainage.specs.Following.{Directed, code_at, follow, moves, last_of, IsOutlet}
 use Rattle.flow.specs.Counts.{basin}
 use Rattle.flow.specs.Catchments.{catchment, gauge_number, outlets}
-use Rattle.flow.specs.Streams.{sum_below}
+use Rattle.tile_jobs.specs.Sums.{sum_below}
 use Rattle.flow.specs.Whole.{is_outlet_code}
 use Rattle.flow.proofs.CutPaths.{cases_first, position_none}
 use Rattle.flow.proofs.Coded.{IsCoded, outlet_stays, follow_stays}
 use Rattle.flow.proofs.DrainedCells.{cell}
 use Rattle.flow.proofs.Reaching.{IsEnding, cell_back, cell_below, reached_early}
-use Rattle.flow.proofs.Sums.{sum_more}
+use Rattle.tile_jobs.proofs.Sums.{sum_more}
 use Rattle.flow.proofs.Ranges.{whole_bounds}
 
 map_ranges : {X : Type 0} (f : ℕ → X) (a n m : ℕ) → map f (range_with_len a n)

@@ -12,9 +12,9 @@ use Rattle.terrain.specs.Ways.{places}
 use Rattle.terrain.specs.declared.place.Place.{Place}
 use Rattle.terrain.proofs.Places.{make_place, same_place}
 use Rattle.tiles.specs.declared.bounds.Bounds.{Bounds}
-use Rattle.flow.specs.Streams.{sum_below}
+use Rattle.tile_jobs.specs.Sums.{sum_below}
 use Rattle.tiles.specs.Cutting.{place_in}
-use Rattle.flow.proofs.Sums.{sum_below-same, sum_below-split}
+use Rattle.tile_jobs.proofs.Sums.{sum_below-same, sum_below-split}
 use Rattle.std.proofs.lemmas.List.Folds.{Any-from_list_any, list_any_at}
 
 abbrev pub whole_bounds : ℕ → ℕ → Bounds

@@ -10,11 +10,11 @@ use Rattle.tiles.proofs.Cut.{in_bounds, in_tile}
 use Rattle.tiles.proofs.TileOrder.{index_in_below, place_in-index_in}
 use Rattle.terrain.proofs.Listed.{is_place_from, place_is}
 use Rattle.terrain.specs.Neighbours.{is_place}
-use Rattle.flow.specs.Streams.{sum_below}
+use Rattle.tile_jobs.specs.Sums.{sum_below}
 use Rattle.tiles.specs.RimNumbers.{stride, side_number, side_place, rim_number, rim_place}
 use Rattle.flow.specs.RimGraph.{side_cell}
 use Rattle.flow.specs.Inflows.{adds, adds_at, inflow_by}
-use Rattle.flow.proofs.Sums.{sum_more, sum_below-part, one_term}
+use Rattle.tile_jobs.proofs.Sums.{sum_more, sum_below-part, one_term}
 use Rattle.flow.proofs.Sending.{added_at}
 use Rattle.flow.proofs.RimCells.{cell_from, cell_at}
 use Rattle.tiles.proofs.RimNumbered.{side_below, no_wider, no_higher}

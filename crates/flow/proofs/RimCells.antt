@@ -32,7 +32,7 @@ module _ (l b : Bounds) where
         | inr f ↦ absurd (none-some p (sym (cond-false {A = Option Place} _ _ None f) ∙ e))
       ]
 
-  -- If p is the place that p's side number gives, p is the cell with this side number.
+  -- If p lies in the tile and its side number gives p, `side_cell` finds p by that number.
   pub cell_at : (p : Place) → IsInBounds b p → side_place l b (side_number l b p) ≡ p →
       side_cell l b (side_number l b p) ≡ Some p
   cell_at p i back =

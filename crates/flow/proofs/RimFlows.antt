@@ -15,7 +15,7 @@ use Rattle.tiles.proofs.Cut.{in_bounds, in_tile, tile_of_place_below, in_bounds_
 use Rattle.terrain.proofs.EightWays.{Touches-from_ways}
 use Rattle.drainage.specs.Following.{Directed, code_at, next, follow, moves, last_of, IsOutlet}
 use Rattle.terrain.proofs.Listed.{is_place_from, place_is}
-use Rattle.flow.specs.Streams.{AreStreams, AreEnds, onward, node_after, end_of}
+use Rattle.flow.specs.Streams.{AreStreams, AreEnds, next_node, node_after, end_of}
 use Rattle.flow.specs.TileFlow.{Flow, stays, exit_in, IsTileExits, IsExitOf, IsExitCell}
 use Rattle.flow.specs.Whole.{is_outlet_code}
 use Rattle.tiles.specs.RimNumbers.{stride, side_number, rim_number_count, rim_number, rim_place}
@@ -428,11 +428,11 @@ module _ (d : Directed) (t : Cutting) (flows : List Flow) (s : AreFlowsOf d t fl
     links_size = ap length made ∙ length-map-range_with_len (rim_link t flows) 0
         (rim_number_count t)
 
-    pub link_at : (i : ℕ) → i < rim_number_count t → onward links i ≡ rim_link t flows i
+    pub link_at : (i : ℕ) → i < rim_number_count t → next_node links i ≡ rim_link t flows i
     link_at i h = ap (λ (l : List ℕ). get_or l i 0) made
         ∙ get_or-map-range_with_len (rim_link t flows) 0 (rim_number_count t) i i 0 h (omega arith)
 
-    links_in : (i : ℕ) → i < rim_number_count t → onward links i < rim_number_count t
+    links_in : (i : ℕ) → i < rim_number_count t → next_node links i < rim_number_count t
     links_in i h = elim (cases_option (target_by t flows i)) [
       | inl none ↦ omega (arith, link_at i h, untargeted i none)
       | inr q ↦ elim (next_or_last_exit i q.0 q.1) [
@@ -457,7 +457,7 @@ module _ (d : Directed) (t : Cutting) (flows : List Flow) (s : AreFlowsOf d t fl
             let same : node_after links (rim_number t g.to) r.0 ≡ node_after links i (suc r.0) =
             ap (λ j. node_after links j r.0) (sym (link_at i h ∙ g.link))
             ∙ node_after-first links i r.0 in
-            (suc r.0, sym (ap (onward links) same) ∙ r.1 ∙ same))
+            (suc r.0, sym (ap (next_node links) same) ∙ r.1 ∙ same))
       ]
     ]
 
@@ -475,7 +475,7 @@ module _ (d : Directed) (t : Cutting) (flows : List Flow) (s : AreFlowsOf d t fl
       pub last : last_of d (rim_place t j) ≡ last_of d (rim_place t i)
 
     step_on : (i j : ℕ) → j < rim_number_count t → SharesOutlet i j → SharesOutlet i
-        (onward links j)
+        (next_node links j)
     step_on i j h o =
         let c = (target_from j o.entry o.target).crosses in
         elim (next_or_last_exit j o.entry o.target) [

@@ -9,12 +9,13 @@ use Rattle.drainage.specs.Following.{Directed, code_at, next, follow, moves}
 use Rattle.terrain.proofs.Listed.{is_place_from, place_is}
 use Rattle.terrain.specs.Neighbours.{is_place}
 use Rattle.flow.specs.Counts.{drains_through}
-use Rattle.flow.specs.Streams.{AreUpstream, sum_below}
+use Rattle.tile_jobs.specs.Sums.{sum_below}
+use Rattle.flow.specs.Streams.{AreUpstream}
 use Rattle.flow.specs.TileFlow.{Flow, AreTileCounts, inflow_of}
 use Rattle.tiles.specs.RimNumbers.{rim_number_count, rim_number, rim_place}
 use Rattle.flow.specs.RimGraph.{AreFlowsOf, target_by, targets_by, rim_links_by}
 use Rattle.flow.specs.Inflows.{rim_weights_by, sent_to, entering, AreEntering, inflow_by, AreInflows}
-use Rattle.flow.proofs.Sums.{sum_below-same, sum_below-none, exchange, one_term, cond-sum}
+use Rattle.tile_jobs.proofs.Sums.{sum_below-same, sum_below-none, exchange, one_term, cond-sum}
 use Rattle.terrain.proofs.Options.{cases_option}
 use Rattle.flow.proofs.Coded.{IsCoded, coded_along, coded_from_some}
 use Rattle.tiles.proofs.RimNumbered.{IsSide, number_below, number_back}

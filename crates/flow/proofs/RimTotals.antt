@@ -12,12 +12,13 @@ use Rattle.drainage.specs.Following.{Directed, code_at, next, follow, moves}
 use Rattle.terrain.proofs.Listed.{is_place_from, place_is}
 use Rattle.terrain.specs.Neighbours.{is_place}
 use Rattle.flow.specs.Counts.{drains_through}
-use Rattle.flow.specs.Streams.{onward, leads_to, upstream_sum, sum_below, total, total_within}
+use Rattle.tile_jobs.specs.Sums.{sum_below}
+use Rattle.flow.specs.Streams.{next_node, leads_to, upstream_sum, total, total_within}
 use Rattle.flow.specs.TileFlow.{Flow, AreTileCounts, stays, reaches_inside, IsExitOf, through_in}
 use Rattle.tiles.specs.RimNumbers.{rim_number_count, rim_number, rim_place}
 use Rattle.flow.specs.RimGraph.{AreFlowsOf, target_by, next_exit_by, number_or, rim_links_by}
 use Rattle.flow.specs.Inflows.{rim_weight, rim_weights_by, weight_or, through_by}
-use Rattle.flow.proofs.Sums.{cond_same, sum_below-same, sum_below-add, sum_below-none, exchange, one_term, cond-sum}
+use Rattle.tile_jobs.proofs.Sums.{cond_same, sum_below-same, sum_below-add, sum_below-none, exchange, one_term, cond-sum}
 use Rattle.flow.proofs.Ranges.{some_in_range, any_in_range, every_in_range}
 use Rattle.flow.proofs.Totals.{each_downstream, totals_are, sums_same, leads_parts, leads_from}
 use Rattle.terrain.proofs.Options.{cases_option}
@@ -98,7 +99,7 @@ module _ (d : Directed) (t : Cutting) (flows : List Flow) (s : AreFlowsOf d t fl
     -- Exit e is linked to the exit of the place that e flows into, if both lead into other tiles.
     link_on : (e : Place) → LeavesTile d t flows s e → (is : IsCoded d (next d e)) →
         LeavesTile d t flows s (exit_here d t flows s (next d e) is).0 →
-        onward links (rim_number t e) ≡ rim_number t (exit_here d t flows s (next d e) is).0
+        next_node links (rim_number t e) ≡ rim_number t (exit_here d t flows s (next d e) is).0
     link_on e c is to =
         let x = exit_here d t flows s (next d e) is in
         link_at d t flows s links made (rim_number t e) (to_below d t flows s e c)
@@ -207,7 +208,7 @@ module _ (d : Directed) (t : Cutting) (flows : List Flow) (s : AreFlowsOf d t fl
           linked : (k : ℕ) → follow d c k ≡ rim_place t i →
               (x : EntersRegion d ending In c k) → (cr : LeavesTile d t flows s
               (follow d c x.from)) →
-              onward links (rim_number t (follow d c x.from)) ≡ i
+              next_node links (rim_number t (follow d c x.from)) ≡ i
           linked k at x cr =
               let coded = coded_along d s.ends c is (suc x.from) in
               let e = exit_here d t flows s (next d (follow d c x.from)) coded in

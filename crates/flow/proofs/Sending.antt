@@ -5,10 +5,11 @@ use Rattle.std.proofs.Common.{◌≡◌, ◌≢◌, ℕ, ◌+◌, ◌<◌, Bool,
 use Rattle.std.proofs.lemmas.Bool.{cases_eq, cases_Bool, eq-eqb, ne_eqb, eqb-true, cond-true, cond-false, and_left, and_right, and_parts, not-true, not_from_true, not_from_false, true_from_ne_false, false≢true, false_from_ne_true}
 use Rattle.std.proofs.lemmas.List.{get_or-set_same, get_or-set_other}
 use Rattle.std.proofs.Math.ListN.{length-set}
-use Rattle.flow.specs.Streams.{onward, leads_to, AreStreams, AreUpstream, sum_below, total}
+use Rattle.tile_jobs.specs.Sums.{sum_below}
+use Rattle.flow.specs.Streams.{next_node, leads_to, AreStreams, AreUpstream, total}
 use Rattle.flow.specs.Sending.{donor, sent_entry, has_sent, waiting, sent_on, IsSending, AreZeros, AreDonorCounts}
 use Rattle.flow.proofs.Totals.{leads_from, each_downstream, totals_le, totals_are, total_is, leads_self, leads_end}
-use Rattle.flow.proofs.Sums.{bit_le, sum_below-none, sum_below-few, sum_below-same, sum_below-le, sum_below-except, some_term, term-le-sum_below}
+use Rattle.tile_jobs.proofs.Sums.{bit_le, sum_below-none, sum_below-few, sum_below-same, sum_below-le, sum_below-except, some_term, term-le-sum_below}
 
 pub and_on : (a b : Bool) → b ≡ true → (a && b) ≡ a
 and_on true b t = t
@@ -45,9 +46,9 @@ pub open_from_count : (waits : List ℕ) (i : ℕ) → get_or waits i 0 < sent_e
 open_from_count waits i l = ne_eqb _ _ (λ e. omega (arith, e))
 
 -- A node that is no end leads to its link and to no other node.
-pub leads_test : (links : List ℕ) (node i : ℕ) → onward links node ≢ node →
-    leads_to links node i ≡ eqb (onward links node) i
-leads_test links node i ne = elim (cases_Bool (eqb (onward links node) i)) [
+pub leads_test : (links : List ℕ) (node i : ℕ) → next_node links node ≢ node →
+    leads_to links node i ≡ eqb (next_node links node) i
+leads_test links node i ne = elim (cases_Bool (eqb (next_node links node) i)) [
   | inl y ↦ leads_from links node i (eqb-true _ _ y) (λ e. ne (eqb-true _ _ y ∙ sym e)) ∙ sym y
   | inr n ↦ and_left _ _ n ∙ sym n
 ]

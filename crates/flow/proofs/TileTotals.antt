@@ -11,9 +11,10 @@ use Rattle.drainage.specs.Following.{Directed, code_at, next, follow, moves}
 use Rattle.terrain.proofs.Listed.{is_place_from, place_is}
 use Rattle.terrain.specs.Neighbours.{is_place}
 use Rattle.flow.specs.Counts.{drains_through}
-use Rattle.flow.specs.Streams.{onward, leads_to, upstream_sum, sum_below}
+use Rattle.tile_jobs.specs.Sums.{sum_below}
+use Rattle.flow.specs.Streams.{next_node, leads_to, upstream_sum}
 use Rattle.flow.specs.TileFlow.{stays, reaches_inside, inflow_of}
-use Rattle.flow.proofs.Sums.{cond_same, sum_below-same, sum_below-add, sum_below-none, exchange, one_term, cond-sum}
+use Rattle.tile_jobs.proofs.Sums.{cond_same, sum_below-same, sum_below-add, sum_below-none, exchange, one_term, cond-sum}
 use Rattle.flow.proofs.Ranges.{whole_bounds, some_in_range, any_in_range}
 use Rattle.flow.proofs.Totals.{AreTotals, leads_parts, leads_from}
 use Rattle.flow.proofs.Sending.{and_on}
@@ -138,7 +139,7 @@ module _ (d : Directed) (e : IsEnding d) (t : Cutting) (tile : ℕ) (b : Bounds)
                   place_in-index_in b (follow d q c.from) within in
                   let to : next d (place_in b (index_in b (follow d q c.from))) ≡ place_in b i =
                   ap (next d) back ∙ goes in
-                  let link : onward links (index_in b (follow d q c.from)) ≡ i =
+                  let link : next_node links (index_in b (follow d q c.from)) ≡ i =
                   link_is d t tile b links s (index_in b (follow d q c.from)) below
                   ∙ link-in d b (index_in b (follow d q c.from))
                   (subst (λ (p : Place). IsInBounds b p) (sym to) (in_place d t tile b links s i h))

@@ -2,19 +2,20 @@
 -- then every node has it. This bounds a node's total: its weight plus all weights upstream.
 use Rattle.std.proofs.Common.{◌≡◌, ◌≢◌, ℕ, zero, suc, ◌+◌, ◌<◌, ◌≤◌, true, false, not, eqb, cond, inl, inr, List, length, get_or, sym, ap, subst, refl, ◌∙◌, arith}
 use Rattle.std.proofs.lemmas.Bool.{cases_eq, cases_Bool, cond-true, cond-false, and_from, and_parts, and_right, eq-eqb, ne_eqb, eqb-true, not-true, not_from_true, not_from_false, false_from_ne_true, false≢true}
-use Rattle.flow.specs.Streams.{AreStreams, total_within, total, onward, node_after, leads_to, upstream_sum}
-use Rattle.flow.proofs.Sums.{sum_below-le}
+use Rattle.flow.specs.Streams.{AreStreams, total_within, total, next_node, node_after, leads_to, upstream_sum}
+use Rattle.tile_jobs.proofs.Sums.{sum_below-le}
 use Rattle.flow.proofs.Ending.{IsStop, early_end}
 
-pub leads_parts : (links : List ℕ) (j i : ℕ) → leads_to links j i ≡ true → (onward links j ≡ i)
+pub leads_parts : (links : List ℕ) (j i : ℕ) → leads_to links j i ≡ true → (next_node links j ≡ i)
     × (j ≢ i)
 leads_parts links j i y = let w = and_parts _ _ y in
     (eqb-true _ _ w.0, λ e. false≢true (sym (not-true _ w.1) ∙ eq-eqb _ _ e))
 
-pub leads_from : (links : List ℕ) (j i : ℕ) → onward links j ≡ i → j ≢ i → leads_to links j i ≡ true
+pub leads_from : (links : List ℕ) (j i : ℕ) → next_node links j ≡ i → j ≢ i →
+    leads_to links j i ≡ true
 leads_from links j i e ne = and_from _ _ (eq-eqb _ _ e) (not_from_false _ (ne_eqb _ _ ne))
 
-pub leads_end : (links : List ℕ) (node i : ℕ) → onward links node ≡ node →
+pub leads_end : (links : List ℕ) (node i : ℕ) → next_node links node ≡ node →
     leads_to links node i ≡ false
 leads_end links node i e =
     false_from_ne_true _ (λ y. (let w = leads_parts links node i y in w.1 (sym e ∙ w.0)))
@@ -35,7 +36,8 @@ module _ (links : List ℕ)
   chain_on : (k j i : ℕ) → leads_to links j i ≡ true → Chain k j → Chain (suc k) i
   chain_on k j i on c =
       let l = leads_parts links j i on in
-      let there : onward links (node_after links c.from k) ≡ i = ap (onward links) c.leads ∙ l.0 in
+      let there : next_node links (node_after links c.from k) ≡ i = ap (next_node links) c.leads
+      ∙ l.0 in
       record {
         from = c.from;
         inside = c.inside;

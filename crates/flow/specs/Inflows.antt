@@ -7,7 +7,7 @@ use Rattle.terrain.specs.declared.place.Place.{Place}
 use Rattle.tiles.specs.Cutting.{Cutting, IsWithin, bounds_of, tile_of_place}
 use Rattle.drainage.specs.Following.{Directed}
 use Rattle.terrain.specs.Neighbours.{is_place}
-use Rattle.flow.specs.Streams.{sum_below}
+use Rattle.tile_jobs.specs.Sums.{sum_below}
 use Rattle.flow.specs.TileFlow.{Flow, through_in, inflow_of}
 use Rattle.tiles.specs.RimNumbers.{stride, rim_number_count, rim_number, rim_place}
 use Rattle.flow.specs.RimGraph.{side_cell, target_by}

@@ -2,7 +2,8 @@
 -- linked to it, have sent theirs.
 -- Private.
 use Rattle.std.specs.Prelude.{◌≡◌, ℕ, ◌+◌, ◌<◌, Bool, true, false, not, ◌&&◌, ◌==◌, if◌then◌else◌, List, length, slice_index}
-use Rattle.flow.specs.Streams.{leads_to, sum_below}
+use Rattle.tile_jobs.specs.Sums.{sum_below}
+use Rattle.flow.specs.Streams.{leads_to}
 
 -- The entry in `waits` of a node that has sent. A node linked to itself, an end, sends nothing, and
 -- gets it when the sending comes to it and all its donors have sent.

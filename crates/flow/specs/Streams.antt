@@ -3,15 +3,16 @@
 -- Source: textbook forests, given by the parent of each node.
 -- Public.
 use Rattle.std.specs.Prelude.{◌≡◌, ℕ, zero, suc, ◌+◌, ◌<◌, Bool, not, ◌&&◌, ◌==◌, if◌then◌else◌, List, length, slice_index}
+use Rattle.tile_jobs.specs.Sums.{sum_below}
 
 -- The node to which a node is linked.
-abbrev pub onward : List ℕ → ℕ → ℕ
-onward links i = slice_index links i
+abbrev pub next_node : List ℕ → ℕ → ℕ
+next_node links i = slice_index links i
 
 -- The node after k moves along links.
 abbrev pub node_after : List ℕ → ℕ → ℕ → ℕ
 node_after links i zero = i
-node_after links i (suc k) = onward links (node_after links i k)
+node_after links i (suc k) = next_node links (node_after links i k)
 
 -- The end of a node's path: the node after as many moves as there are nodes.
 abbrev pub end_of : List ℕ → ℕ → ℕ
@@ -19,17 +20,12 @@ end_of links i = node_after links i (length links)
 
 -- Each link leads to a node, and each path ends.
 pub record AreStreams (links : List ℕ) : Type 0 where
-  pub inside : (i : ℕ) → i < length links → onward links i < length links
-  pub ends : (i : ℕ) → i < length links → onward links (end_of links i) ≡ end_of links i
-
--- The sum of f over all numbers below n.
-abbrev pub sum_below : (ℕ → ℕ) → ℕ → ℕ
-sum_below f zero = 0
-sum_below f (suc n) = sum_below f n + f n
+  pub inside : (i : ℕ) → i < length links → next_node links i < length links
+  pub ends : (i : ℕ) → i < length links → next_node links (end_of links i) ≡ end_of links i
 
 -- Node j is linked to i, another node.
 abbrev pub leads_to : List ℕ → ℕ → ℕ → Bool
-leads_to links j i = onward links j == i && not (j == i)
+leads_to links j i = next_node links j == i && not (j == i)
 
 -- The sum of f over all other nodes linked to node i.
 abbrev pub upstream_sum : List ℕ → (ℕ → ℕ) → ℕ → ℕ

@@ -18,7 +18,7 @@ pub record EndsInLargestGrid (b : Bounds) : Type 0 where
   pub few_cols : b.left + b.cols ≤ longest_axis
 
 -- All eight places around the cell lie in the bounds. `row` and `col` count from top and left.
-pub record IsInterior (b : Bounds) (row col : ℕ) : Type 0 where
+pub record IsInteriorAt (b : Bounds) (row col : ℕ) : Type 0 where
   pub first_row : 0 < row
   pub last_row : row + 1 < b.rows
   pub first_col : 0 < col

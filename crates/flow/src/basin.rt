@@ -1,5 +1,5 @@
 //! Maps each cell to its basin, the number of the outlet that ends its flow path: [`basins`].
-ghost use Rattle.std.specs.Prelude.{◌≡◌, IfOk};
+ghost use Rattle.std.specs.Prelude.{IfOk};
 ghost use Rattle.tiles.specs.Cutting.{Cuts};
 ghost use Rattle.tile_jobs.specs.Fault.{RefusesWorkers};
 ghost use Rattle.drainage.specs.Drained.{directed_of};

@@ -7,7 +7,7 @@ ghost use Rattle.terrain.specs.Ways.{place_toward};
 ghost use Rattle.tiles.specs.Cutting.{IsInBounds, bounds_of, place_in};
 ghost use Rattle.terrain.specs.Neighbours.{is_place};
 ghost use Rattle.flow.specs.TileFlow.{directed_by};
-ghost use Rattle.flow.specs.TileLinks.{AreTileCodes, IsInterior, EndsInLargestGrid, link_by, first_links, links_by, weights_by};
+ghost use Rattle.flow.specs.TileLinks.{AreTileCodes, IsInteriorAt, EndsInLargestGrid, link_by, first_links, links_by, weights_by};
 
 use drainage::Code;
 use std::alloc::{AllocError, Global};
@@ -95,7 +95,7 @@ fn is_interior(bounds: Bounds, row: u32, col: u32) -> bool
     requires small { EndsInLargestGrid bounds }
     requires row { row < bounds.rows }
     requires col { col < bounds.cols }
-    ensures { IsTrue result ↔ IsInterior bounds row col }
+    ensures { IsTrue result ↔ IsInteriorAt bounds row col }
 {
     0 < row && row + 1 < bounds.rows && 0 < col && col + 1 < bounds.cols
 }
@@ -104,7 +104,7 @@ fn is_interior(bounds: Bounds, row: u32, col: u32) -> bool
 #[inline(always)]
 fn interior_link(bounds: Bounds, row: u32, col: u32, code: Option<Code>) -> u32
     requires small { EndsInLargestGrid bounds }
-    requires interior { IsInterior bounds row col }
+    requires interior { IsInteriorAt bounds row col }
     ensures { result ≡ link_by bounds (row * bounds.cols + col) code }
 {
     let index = row * bounds.cols + col;

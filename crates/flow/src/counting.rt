@@ -30,14 +30,14 @@ use tiles::Tiling;
 
 /// Input of the jobs that find accumulations: all tiles' flows and inflows.
 #[derive(Drop)]
-struct Counting<'a> {
+struct CountsInput<'a> {
     tiling: &'a Tiling,
     flows: Vec<TileFlow>,
     inflows: Inflows,
     ghost countable: { AreCountable tiling.now flows.items inflows } by { Prim.hlevel props },
 }
 
-impl<'a> TileMap for Counting<'a> {
+impl<'a> TileMap for CountsInput<'a> {
     ghost use Rattle.flow.specs.Counting.{IsCountAt};
 
     type Entry = Count;
@@ -94,7 +94,7 @@ pub fn accumulation<R: Threads + Wait + Sync, G: Gate + Sync>(
     let rim_graph = RimGraph::of(alloc, tiling, &flows)?;
     let inflows = Inflows::of_flows(alloc, tiling, &flows, &rim_graph)?;
     drop(rim_graph);
-    runner.map_tiles(Counting {
+    runner.map_tiles(CountsInput {
         tiling,
         flows,
         inflows,

@@ -1,5 +1,5 @@
-//! Finds each tile's flow (its cells' exits and, on request, their counts) by one job for each
-//! tile.
+//! Finds each tile's flow by one job for each tile: each cell's exit and, on request, how many
+//! other cells' flow paths reach the cell inside the tile.
 ghost use Rattle.std.specs.Prelude.{◌≡◌, true, IfOk};
 ghost use Rattle.tile_jobs.specs.Fault.{RefusesWorkers};
 ghost use Rattle.flow.specs.TileFlow.{AreTileCounts};

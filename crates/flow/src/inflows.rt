@@ -5,7 +5,7 @@ ghost use Rattle.std.specs.Prelude.{◌≡◌, ◌+◌, ◌*◌, ◌^◌, ◌<�
 ghost use Rattle.terrain.specs.declared.place.Place.{Place as AtPlace};
 ghost use Rattle.tiles.specs.Cutting.{IsInBounds, IsWithin, bounds_of, cell_count, tile_count, index_in};
 ghost use Rattle.drainage.specs.Following.{Directed};
-ghost use Rattle.flow.specs.Streams.{sum_below};
+ghost use Rattle.tile_jobs.specs.Sums.{sum_below};
 ghost use Rattle.flow.specs.Sending.{AreZeros};
 ghost use Rattle.flow.specs.TileFlow.{AreTileCounts};
 ghost use Rattle.flow.specs.TileLinks.{EndsInLargestGrid};

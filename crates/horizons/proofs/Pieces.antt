@@ -8,7 +8,6 @@ use Rattle.std.proofs.lemmas.Bool.{cases_lt}
 use Rattle.std.proofs.lemmas.Option.{same_Some, get_or_from_slice_get}
 use Rattle.horizons.specs.Horizons.{ramp_at, target_count, IsPushed, AreUpTo}
 use Rattle.horizons.specs.declared.horizon.Piece.{Piece}
-use Rattle.horizons.specs.declared.ramp.Ramp.{Ramp}
 
 ramp_at-here : (p : Piece) (ps : List Piece) (i : ℕ) → i < p.end → ramp_at (p ∷ ps) i ≡ Some p.ramp
 unfolding ramp_at
@@ -76,15 +75,6 @@ ends_above ps k i d p h at = rw (get_or_from_slice_get ps k p d at) at h
 
 pub later : (ps : List Piece) (k i j : ℕ) → AreUpTo ps k i → i ≤ j → AreUpTo ps k j
 later ps k i j before h m p less at = omega (arith, before m p less at)
-
-pub reached : (ps : List Piece) (i : ℕ) → i < target_count ps → (r : Ramp) × (ramp_at ps i ≡ Some r)
-unfolding target_count
-reached [] i h = absurd (omega arith)
-reached (p ∷ ps) i h = elim (cases_lt i p.end) [
-  | inl here ↦ (p.ramp, ramp_at-here p ps i here)
-  | inr later ↦ let rest = reached ps i (omega arith) in
-      (rest.0, ramp_at-later p ps i later ∙ rest.1)
-]
 
 added_count : (ps : List Piece) (p : Piece) →
     target_count (ps ++ p ∷ []) ≡ max (target_count ps) p.end

@@ -8,11 +8,11 @@ use Rattle.std.proofs.lemmas.Bool.{cases_lt}
 use Rattle.std.proofs.lemmas.Int.{ints}
 use Rattle.std.proofs.lemmas.Nat.{mul-le}
 use Rattle.std.proofs.lemmas.Option.{same_Some}
-use Rattle.horizons.specs.Horizons.{value_at, is_above, IsTarget, IsSlopeUpTo, AreTargets}
+use Rattle.horizons.specs.Horizons.{ramp_value, is_ramp_above, IsTarget, IsSlopeUpTo, AreTargets}
 use Rattle.horizons.specs.declared.target.Target.{Target}
 use Rattle.horizons.specs.declared.ramp.Ramp.{Ramp}
 
--- `lead q p c t` less `lead p q e t` is `value_at` of t by a ramp of gain q - p and
+-- `lead q p c t` less `lead p q e t` is `ramp_value` of t by a ramp of gain q - p and
 -- intercept c - e.
 abbrev lead : ℕ → ℕ → ℕ → Target → ℕ
 lead q p c t = q * up t.offset + p * down t.offset + c * t.line
@@ -27,29 +27,31 @@ intercept r s = up r.intercept * s.lines + down s.intercept * r.lines
 abbrev over : Ramp → Ramp → Target → ℕ
 over r s t = lead (gain r s) (gain s r) (intercept r s) t
 
-value_is : (r : Ramp) (t : Target) → up (value_at r t) + (up r.gain * down t.offset
-    + down r.gain * up t.offset + down r.intercept * t.line) ≡ down (value_at r t)
+value_is : (r : Ramp) (t : Target) → up (ramp_value r t) + (up r.gain * down t.offset
+    + down r.gain * up t.offset + down r.intercept * t.line) ≡ down (ramp_value r t)
     + (up r.gain * up t.offset + down r.gain * down t.offset + up r.intercept * t.line)
 value_is r t = omega (arith, ints)
 
-difference : (r s : Ramp) (t : Target) → up (value_at r t) * s.lines + down (value_at s t) * r.lines
-    + over s r t ≡ down (value_at r t) * s.lines + up (value_at s t) * r.lines + over r s t
+difference : (r s : Ramp) (t : Target) →
+    up (ramp_value r t) * s.lines + down (ramp_value s t) * r.lines
+    + over s r t ≡ down (ramp_value r t) * s.lines + up (ramp_value s t) * r.lines + over r s t
 difference r s t =
     omega (arith, ap (λ n. n * s.lines) (value_is r t), ap (λ n. n * r.lines) (value_is s t))
 
-over_if_above : (r s : Ramp) (t : Target) → is_above r s t ≡ true → over s r t < over r s t
+over_if_above : (r s : Ramp) (t : Target) → is_ramp_above r s t ≡ true → over s r t < over r s t
 over_if_above r s t e = omega (arith, ints, e, difference r s t)
 
-not_over_if_not : (r s : Ramp) (t : Target) → is_above r s t ≡ false → over r s t ≤ over s r t
+not_over_if_not : (r s : Ramp) (t : Target) → is_ramp_above r s t ≡ false → over r s t ≤ over s r t
 not_over_if_not r s t e = omega (arith, ints, e, difference r s t)
 
-above_if_over : (r s : Ramp) (t : Target) → over s r t < over r s t → is_above r s t ≡ true
-above_if_over r s t h = sym (true_is_lt (value_at s t *ℤ pos r.lines) (value_at r t *ℤ pos s.lines)
+above_if_over : (r s : Ramp) (t : Target) → over s r t < over r s t → is_ramp_above r s t ≡ true
+above_if_over r s t h =
+    sym (true_is_lt (ramp_value s t *ℤ pos r.lines) (ramp_value r t *ℤ pos s.lines)
     (omega (arith, ints, h, difference r s t)))
 
-not_if_not_over : (r s : Ramp) (t : Target) → over r s t ≤ over s r t → is_above r s t ≡ false
-not_if_not_over r s t h = sym (false_is_lt (value_at s t *ℤ pos r.lines)
-    (value_at r t *ℤ pos s.lines) (omega (arith, ints, h, difference r s t)))
+not_if_not_over : (r s : Ramp) (t : Target) → over r s t ≤ over s r t → is_ramp_above r s t ≡ false
+not_if_not_over r s t h = sym (false_is_lt (ramp_value s t *ℤ pos r.lines)
+    (ramp_value r t *ℤ pos s.lines) (omega (arith, ints, h, difference r s t)))
 
 -- The ramp of gain q - p and intercept c - e is no higher at target t than at target u.
 abbrev Grows : ℕ → ℕ → ℕ → ℕ → Target → Target → Type 0
@@ -116,7 +118,8 @@ holds_between p q c e t u v some more low high first last =
     ]
 
 above_between : (r s : Ramp) (t u v : Target) (b : Bool) → IsTarget t → IsTarget u → IsTarget v →
-    IsSlopeUpTo t u → IsSlopeUpTo u v → is_above r s t ≡ b → is_above r s v ≡ b → is_above r s u ≡ b
+    IsSlopeUpTo t u → IsSlopeUpTo u v → is_ramp_above r s t ≡ b → is_ramp_above r s v ≡ b →
+    is_ramp_above r s u ≡ b
 above_between r s t u v true is_t is_u is_v low high first last =
     above_if_over r s u (leads_between (gain s r) (gain r s) (intercept r s)
     (intercept s r) t u v is_u.line.0 low high
@@ -141,7 +144,7 @@ slope_up targets i j t u are h at_i at_j =
 pub same_between : (targets : List Target) (r s : Ramp) (b : Bool) (i k j : ℕ) (t u v : Target) →
     AreTargets targets → i ≤ k → k ≤ j
     → slice_get targets i ≡ Some t → slice_get targets k ≡ Some u → slice_get targets j ≡ Some v →
-    is_above r s t ≡ b → is_above r s v ≡ b → is_above r s u ≡ b
+    is_ramp_above r s t ≡ b → is_ramp_above r s v ≡ b → is_ramp_above r s u ≡ b
 same_between targets r s b i k j t u v are low high at_i at_k at_j first last =
     above_between r s t u v b (are.each i t at_i) (are.each k u at_k) (are.each j v at_j) (slope_up
     targets i k t u are low at_i at_k) (slope_up targets k j u v are high at_k at_j) first last

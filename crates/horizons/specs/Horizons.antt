@@ -26,21 +26,21 @@ pub record AreTargets (targets : List Target) : Type 0 where
       slice_get targets j ≡ Some t → IsSlopeUpTo s t
 
 -- The ramp's value at a target's slope, times the target's `line` and the ramp's `lines`.
-abbrev pub value_at : Ramp → Target → ℤ
-value_at r t = (r.gain *ℤ t.offset) +ℤ (r.intercept *ℤ pos t.line)
+abbrev pub ramp_value : Ramp → Target → ℤ
+ramp_value r t = (r.gain *ℤ t.offset) +ℤ (r.intercept *ℤ pos t.line)
 
 -- A ramp hides a target of this rise: its value at the target's slope is above `rise / line`.
 abbrev pub ramp_hides : Ramp → Target → ℤ → Bool
-ramp_hides r t rise = int_lt (rise *ℤ pos r.lines) (value_at r t)
+ramp_hides r t rise = int_lt (rise *ℤ pos r.lines) (ramp_value r t)
 
 -- Ramp r is above ramp s at the slope of a target.
-abbrev pub is_above : Ramp → Ramp → Target → Bool
-is_above r s t = int_lt (value_at s t *ℤ pos r.lines) (value_at r t *ℤ pos s.lines)
+abbrev pub is_ramp_above : Ramp → Ramp → Target → Bool
+is_ramp_above r s t = int_lt (ramp_value s t *ℤ pos r.lines) (ramp_value r t *ℤ pos s.lines)
 
--- The ramp's `lines` is 1 to 4096, and `value_at` of the target fits in 64 bits.
+-- The ramp's `lines` is 1 to 4096, and `ramp_value` of the target fits in 64 bits.
 pub record IsRampAt (r : Ramp) (t : Target) : Type 0 where
   pub lines : (0 < r.lines) × (r.lines ≤ 4096)
-  pub value : unsigned_abs (value_at r t) < 2 ^ 63
+  pub value : unsigned_abs (ramp_value r t) < 2 ^ 63
 
 -- A horizon's ramp at target index `i`: that of the first piece whose `end` is above `i`, if any.
 unfoldable pub ramp_at : List Piece → ℕ → Option Ramp

@@ -2,7 +2,7 @@
 -- ramp is a straight line over targets' slopes: cells aside per row or column outward.
 -- Public.
 use Rattle.std.specs.Prelude.{◌≡◌, ℕ, ◌<◌, ◌≤◌, Bool, if◌then◌else◌, List, Some, slice_get}
-use Rattle.horizons.specs.Horizons.{is_above, ramp_at, target_count, IsRampAt}
+use Rattle.horizons.specs.Horizons.{is_ramp_above, ramp_at, target_count, IsRampAt}
 use Rattle.horizons.specs.declared.target.Target.{Target}
 use Rattle.horizons.specs.declared.ramp.Ramp.{Ramp}
 use Rattle.horizons.specs.declared.horizon.Piece.{Piece}
@@ -16,11 +16,11 @@ IsRampOn targets r from end =
 -- at none of them.
 abbrev pub IsAboveOn : List Target → Ramp → Ramp → Bool → ℕ → ℕ → Type 0
 IsAboveOn targets r s b from end = (i : ℕ) (t : Target) → from ≤ i → i < end →
-    slice_get targets i ≡ Some t → is_above r s t ≡ b
+    slice_get targets i ≡ Some t → is_ramp_above r s t ≡ b
 
 -- The greater of two ramps at the slope of a target; of equals the second.
 abbrev pub greater_at : Ramp → Ramp → Target → Ramp
-greater_at r s t = if is_above r s t then r else s
+greater_at r s t = if is_ramp_above r s t then r else s
 
 -- The horizon was extended up to `end`, by the greater of two ramps at each target that it gained.
 pub record IsGreaterPushed (targets : List Target) (r s : Ramp) (old : List Piece) (end : ℕ)

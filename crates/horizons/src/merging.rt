@@ -6,7 +6,7 @@
 ghost use Rattle.std.specs.Prelude.{◌≡◌, ◌+◌, ◌<◌, ◌≤◌, not, Bool, false, length, Some, OnOk, slice_get};
 ghost use Rattle.std.specs.Bool.{OnTrue};
 ghost use Rattle.horizons.specs.declared.target.Target.{Target};
-ghost use Rattle.horizons.specs.Horizons.{AreTargets, is_above, target_count};
+ghost use Rattle.horizons.specs.Horizons.{AreTargets, is_ramp_above, target_count};
 ghost use Rattle.horizons.specs.Merging.{IsRampOn, IsAboveOn, IsGreaterPushed};
 
 use crate::horizon::Horizon;
@@ -20,7 +20,8 @@ fn is_above_at(targets: &[Target], one: Ramp, other: Ramp, index: usize) -> bool
     requires index { index < length targets.now }
     requires one { IsRampOn targets.now one index (index + 1) }
     requires other { IsRampOn targets.now other index (index + 1) }
-    ensures { (t : Target) → slice_get targets.now index ≡ Some t → is_above one other t ≡ result }
+    ensures { (t : Target) → slice_get targets.now index ≡ Some t →
+        is_ramp_above one other t ≡ result }
 {
     one.is_above(other, targets[index])
 }

@@ -1,7 +1,7 @@
 //! A ramp: the ground between two cells, as a straight line over directions of targets: [`Ramp`].
 ghost use Rattle.std.specs.Prelude.{◌≡◌, ℤ, ◌^◌, ◌≤◌, false, unsigned_abs};
 ghost use Rattle.horizons.specs.declared.target.Target.{Target};
-ghost use Rattle.horizons.specs.Horizons.{IsTarget, IsRampAt, value_at, ramp_hides, is_above};
+ghost use Rattle.horizons.specs.Horizons.{IsTarget, IsRampAt, ramp_value, ramp_hides, is_ramp_above};
 
 use crate::target::Target;
 
@@ -41,7 +41,7 @@ impl Ramp {
     pub(crate) fn value_at(self, target: Target) -> Value
         requires target { IsTarget target }
         requires at { IsRampAt self target }
-        ensures { result ≡ value_at self target }
+        ensures { result ≡ ramp_value self target }
     {
         let gained = Product::from(self.gain) * Product::from(target.offset);
         let based = Product::from(self.intercept) * Product::from(target.line);
@@ -54,7 +54,7 @@ impl Ramp {
         requires target { IsTarget target }
         requires at { IsRampAt self target }
         requires other { IsRampAt other target }
-        ensures { result ≡ is_above self other target }
+        ensures { result ≡ is_ramp_above self other target }
     {
         Product::from(self.value_at(target)) * Product::from(other.lines)
             > Product::from(other.value_at(target)) * Product::from(self.lines)

@@ -109,7 +109,7 @@ pub(crate) fn prepare(
     Ok((grid, tiling))
 }
 
-/// Makes the requested map; of a view, checks observers, target and radius first.
+/// Makes the requested map. For a view, first checks observers, target and radius.
 pub(crate) fn make_map<H: Threads + Wait + Sync, G: Gate + Sync>(
     rt: &H,
     alloc: Global,

@@ -13,7 +13,7 @@ const CLEAR_LINE: &str = "\r\x1b[K";
 
 /// The progress of a stage, and the stream to which it is reported.
 #[derive(Drop)]
-struct Stage {
+struct StageProgress {
     errors: Stderr,
     number: u32,
     jobs: u64,
@@ -27,7 +27,7 @@ struct Stage {
     is_shown: bool,
 }
 
-impl Stage {
+impl StageProgress {
     /// Returns how much of the stage is finished, from 0 to 100.
     fn percent(&self) -> u64 {
         let (finished, due) = if self.parts > 0 {
@@ -95,7 +95,7 @@ pub struct ProgressReport<'a, R> {
     rt: &'a R,
     alloc: Global,
     is_in_place: bool,
-    stage: Mutex<Stage>,
+    stage: Mutex<StageProgress>,
 }
 
 impl<'a, R: Clock + Wait> ProgressReport<'a, R> {
@@ -105,7 +105,7 @@ impl<'a, R: Clock + Wait> ProgressReport<'a, R> {
             rt,
             alloc,
             is_in_place: errors.is_terminal(),
-            stage: Mutex::new(Stage {
+            stage: Mutex::new(StageProgress {
                 errors,
                 number: 0,
                 jobs: 0,
@@ -119,7 +119,7 @@ impl<'a, R: Clock + Wait> ProgressReport<'a, R> {
         }
     }
 
-    fn report(&self, stage: &mut Stage) {
+    fn report(&self, stage: &mut StageProgress) {
         if self.is_in_place {
             stage.report_in_place(self.alloc, self.rt);
         } else {

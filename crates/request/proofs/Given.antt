@@ -18,7 +18,7 @@ use Rattle.clap.proofs.WalkLemmas.{raw_values-rows}
 use Rattle.terrain.specs.declared.observer.Observer.{Observer}
 use Rattle.request.specs.CommandLine.{HasNumber, HasObservers, IsFirstBad, Names, Spell, sink_words, words_of}
 use Rattle.request.specs.PlaceWords.{observer_of, place_of_word}
-use Rattle.request.specs.Request.{IsView}
+use Rattle.request.specs.Request.{IsViewshedMap}
 use Rattle.request.specs.WordsFaults.{IsBadObserverAfter, IsBadGaugeAfter, IsFaultWith}
 use Rattle.request.specs.declared.words.WordsFault.{WordsFault}
 use Rattle.request.specs.declared.words.WordsFault.TheVariants.{Clap, BadObserver, BadGauge, BadSink, NoMap}
@@ -170,7 +170,8 @@ map_without_bad_gauge name rows (Catchments gauges) place n bad =
 map_without_bad_gauge name rows (View os t r) place n bad = let no =
     named_catchments name 118 bad.0 (ap (λ (t : Text). slice_index t 0) n.0) in absurd (omega arith)
 
-pub view_without_sinks : (name : Text) (rows : List Row) (m : Map) → Names name rows m → IsView m →
+pub view_without_sinks : (name : Text) (rows : List Row) (m : Map) → Names name rows m →
+    IsViewshedMap m →
     Spell place_of_word (sink_words name rows) []
 view_without_sinks name rows Fill named view = absurd view
 view_without_sinks name rows Flow named view = absurd view

@@ -11,9 +11,9 @@ use Rattle.clap.specs.declared.parser.matches.ArgMatches.{ArgMatches}
 use Rattle.clap.specs.declared.parser.matches.ArgMatches.TheViews.{out-SubCommand}
 use Rattle.clap.specs.declared.parser.matches.SubCommand.{SubCommand}
 use Rattle.clap.proofs.OnLiterals.{clap_on_literals}
-use Rattle.request.specs.CommandLine.{HasBadGauge, HasBadObserver, HasBadSink, HasOptions, IsFirstBad, Names, Spell, RequestFor, is_given, program_app, sink_words, words_given}
+use Rattle.request.specs.CommandLine.{HasBadGauge, HasBadObserver, HasBadSink, HasOptions, IsFirstBad, Names, Spell, RequestFor, is_flag_given, program_app, sink_words, words_given}
 use Rattle.request.specs.PlaceWords.{place_of_word}
-use Rattle.request.specs.Request.{AreLimits, IsView, Request}
+use Rattle.request.specs.Request.{AreLimits, IsViewshedMap, Request}
 use Rattle.request.specs.WordsFaults.{IsBadObserverAfter, IsBadGaugeAfter, IsFaultWith, IsFaultOf, IsMapFault}
 use Rattle.request.specs.declared.words.WordsFault.{WordsFault}
 use Rattle.request.specs.declared.words.WordsFault.TheVariants.{Clap, BadObserver, BadGauge, BadSink, NoMap}
@@ -82,8 +82,8 @@ module _ (words : List Text) (accepted : fault_of program_app words ≡ []) wher
         Names n rs map → request.map ≡ map → Spell place_of_word (sink_words n rs) request.sinks →
         HasOptions rs request.tile request.workers request.scale →
         AreLimits request.tile request.workers request.scale
-        → request.progress ≡ is_given (codes "progress") rs →
-        (IsView request.map → request.sinks ≡ []) → RequestFor words request
+        → request.progress ≡ is_flag_given (codes "progress") rs →
+        (IsViewshedMap request.map → request.sinks ≡ []) → RequestFor words request
     requested map request named same spelled options limits progress view = record {
       name = n;
       rows = rs;

@@ -12,7 +12,7 @@ use Rattle.clap.specs.declared.error.kind.ErrorKind.TheVariants as kind
 use Rattle.clap.proofs.OnLiterals.{clap_on_literals}
 use Rattle.terrain.specs.declared.observer.Observer.{Observer}
 use Rattle.terrain.specs.declared.place.Place.{Place}
-use Rattle.request.specs.CommandLine.{AreRefused, AskForHelp, HasNumber, HasOptions, IsHelp, Names, Spell, RequestFor, is_given, program_app, sink_words}
+use Rattle.request.specs.CommandLine.{AreRefused, AskForHelp, HasNumber, HasOptions, IsHelp, Names, Spell, RequestFor, is_flag_given, program_app, sink_words}
 use Rattle.request.specs.Laws.{AreSame, BasinsOfSinks, CatchmentsOfAGauge, FillAlone, HelpOfView, NoSideOfZero, VersionAlone, ViewWithRadius}
 use Rattle.request.specs.PlaceWords.{place_of_word}
 use Rattle.request.specs.Request.{Request}
@@ -106,7 +106,7 @@ one_request words request other a b =
       same_number a.rows (codes "scale") _ _ a.options.2 options.2,
       same_somes request.sinks other.sinks (sym a.sinks ∙ subst (λ (p : Text × List Row).
           Spell place_of_word (sink_words p.0 p.1) other.sinks) command b.sinks),
-      a.progress ∙ ap (λ (p : Text × List Row). is_given (codes "progress") p.1) (sym command)
+      a.progress ∙ ap (λ (p : Text × List Row). is_flag_given (codes "progress") p.1) (sym command)
           ∙ sym b.progress,
     )
 

@@ -160,8 +160,9 @@ pub record HasNumber (rows : List Row) (id : Text) (n : ℕ) : Type 0 where
   pub small : n < 2 ^ 32
 
 -- The flag `id` is given: `clap` keeps the value `true` for that flag.
-abbrev pub is_given : Text → List Row → Bool
-is_given id rows = option_map_or (λ text. bytes_eq text (codes "true")) (first_of id rows) false
+abbrev pub is_flag_given : Text → List Row → Bool
+is_flag_given id rows =
+    option_map_or (λ text. bytes_eq text (codes "true")) (first_of id rows) false
 
 -- The words given for the argument `id`.
 abbrev pub words_of : Text → List Row → List Text
@@ -213,7 +214,7 @@ pub record RequestFor (words : List Text) (request : Request) : Type 0 where
   pub map : Names name rows request.map
   pub sinks : Spell place_of_word (sink_words name rows) request.sinks
   pub options : HasOptions rows request.tile request.workers request.scale
-  pub progress : request.progress ≡ is_given (codes "progress") rows
+  pub progress : request.progress ≡ is_flag_given (codes "progress") rows
   pub limits : IsRequest request
 
 -- `clap` refuses the words, or accepts them although they have no request.

@@ -21,11 +21,11 @@ AreLimits tile workers scale =
     (1 ≤ tile) × (tile ≤ 4096) × (1 ≤ workers) × (workers ≤ 64) × (scale ≤ 6)
 
 -- The map is a viewshed.
-abbrev pub IsView : Map → Type 0
-IsView (View observers target radius) = ⊤
-IsView map = ⊥
+abbrev pub IsViewshedMap : Map → Type 0
+IsViewshedMap (View observers target radius) = ⊤
+IsViewshedMap map = ⊥
 
 -- Tile side, workers and scale are within their limits, and a viewshed has no sinks.
 pub record IsRequest (w : Request) : Type 0 where
   pub in_limits : AreLimits w.tile w.workers w.scale
-  pub view : IsView w.map → w.sinks ≡ []
+  pub view : IsViewshedMap w.map → w.sinks ≡ []

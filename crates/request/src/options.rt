@@ -1,6 +1,6 @@
 //! [`Options`]: a map and its options, with tile side, workers and scale within limits.
 ghost use Rattle.std.specs.Prelude.{◌≡◌, [], false, IfSome, IfNone, IfOk, IfErr};
-ghost use Rattle.request.specs.Request.{AreLimits, IsView};
+ghost use Rattle.request.specs.Request.{AreLimits, IsViewshedMap};
 
 use crate::map::Map;
 use std::marker::Model;
@@ -104,8 +104,8 @@ impl Options {
     /// The unchanged options if the map is a viewshed, which takes no sinks.
     pub fn with_sinks(self, sinks: Vec<Place>) -> Result<Self, Self>
         ensures some { IfOk result
-            (λ o. (o ≡ record self { sinks = sinks.items }) × ¬ IsView self.map) }
-        ensures view { IfErr result (λ o. (o ≡ self) × IsView self.map) }
+            (λ o. (o ≡ record self { sinks = sinks.items }) × ¬ IsViewshedMap self.map) }
+        ensures view { IfErr result (λ o. (o ≡ self) × IsViewshedMap self.map) }
     {
         if let Map::View { .. } = self.map {
             return Err(self);
@@ -164,7 +164,7 @@ impl Options {
     /// Returns the sinks in the order given; a viewshed has none.
     pub fn sinks(&self) -> &[Place]
         ensures value { result.now ≡ self.now.sinks }
-        ensures view { IsView self.now.map → self.now.sinks ≡ [] }
+        ensures view { IsViewshedMap self.now.map → self.now.sinks ≡ [] }
     {
         match &self.sinks {
             Some(sinks) => sinks.as_slice(),

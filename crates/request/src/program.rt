@@ -1,4 +1,4 @@
-//! Declares the subcommands and options of the program as a command of `clap`.
+//! Declares the command line for `clap`: its subcommands, options and other words.
 ghost use Rattle.std.specs.Prelude.{◌≡◌, IfOk};
 ghost use Rattle.clap.specs.Words.{app_of, with_subcommand};
 ghost use Rattle.request.specs.CommandLine.{catchments_shape, drainage_shape, map_shape, number_rule, program_app, progress_rule, radius_rule, scale_rule, sink_rule, sinks_rule, target_rule, tile_rule, view_shape, words_rule, workers_rule};

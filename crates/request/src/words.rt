@@ -1,7 +1,7 @@
 //! [`parse`] returns the [`Options`] that a command line requests, or a fault.
 ghost use Rattle.std.specs.Prelude.{◌≡◌, ℕ, [], map, codes, IfOk, IfErr, IfSome, IfNone};
 ghost use Rattle.clap.specs.Words.{found_of, rows_of};
-ghost use Rattle.request.specs.CommandLine.{HasNumber, HasOptions, IsFirstBad, Names, Spell, RequestFor, is_given, sink_words, words_given};
+ghost use Rattle.request.specs.CommandLine.{HasNumber, HasOptions, IsFirstBad, Names, Spell, RequestFor, is_flag_given, sink_words, words_given};
 ghost use Rattle.request.specs.PlaceWords.{observer_of, place_of_word};
 ghost use Rattle.request.specs.Request.{AreLimits};
 ghost use Rattle.request.specs.WordsFaults.{IsBadWord, IsFaultWith, IsFaultOf, IsMapFault, IsNoMemory};
@@ -184,7 +184,7 @@ fn sinks_given(alloc: Global, name: &str, found: &ArgMatches<'_>) -> Result<Vec<
 }
 
 fn progress_given(found: &ArgMatches<'_>) -> bool
-    ensures { result ≡ is_given (codes "progress") (rows_of (found_of found.now)) }
+    ensures { result ≡ is_flag_given (codes "progress") (rows_of (found_of found.now)) }
 {
     match found.get_str("progress") {
         Some(text) => text == "true",
@@ -197,7 +197,7 @@ fn with_options(map: Map, found: &ArgMatches<'_>) -> Option<Options>
     ensures some { IfSome result (λ o. (o.map ≡ map) × (o.sinks ≡ [])
         × HasOptions (rows_of (found_of found.now)) o.tile o.workers o.scale) }
     ensures progress { IfSome result
-        (λ o. o.progress ≡ is_given (codes "progress") (rows_of (found_of found.now))) }
+        (λ o. o.progress ≡ is_flag_given (codes "progress") (rows_of (found_of found.now))) }
     ensures limits { IfSome result (λ o. AreLimits o.tile o.workers o.scale) }
     ensures none { IfNone result ((tile workers scale : ℕ) → AreLimits tile workers scale →
         HasOptions (rows_of (found_of found.now)) tile workers scale → ⊥) }

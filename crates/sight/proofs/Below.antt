@@ -10,7 +10,7 @@ use Rattle.std.proofs.lemmas.Bool.{cases_lt}
 use Rattle.std.proofs.lemmas.Option.{slice_get-get_or}
 use Rattle.horizons.specs.declared.target.Target.{Target}
 use Rattle.horizons.specs.declared.ramp.Ramp.{Ramp}
-use Rattle.horizons.specs.Horizons.{AreTargets, IsSlopeUpTo, ramp_hides, value_at}
+use Rattle.horizons.specs.Horizons.{AreTargets, IsSlopeUpTo, ramp_hides, ramp_value}
 use Rattle.horizons.proofs.Straight.{slope_up}
 use Rattle.sightlines.specs.Blocks.{IsTopOf}
 use Rattle.sight.specs.Hiding.{line_height}
@@ -173,10 +173,10 @@ constant_hides f k offset near far top rise t passes a b hides =
     let rest : ((far -ℤ f.eye) *ℤ pos m.0) ≤ℤ ((top -ℤ f.eye) *ℤ pos m.0) =
     grows (far -ℤ f.eye) (top -ℤ f.eye) m.0 (omega (arith, ints, b)) in
     let n_is : (t.line - m.0) + m.0 ≡ t.line = omega (arith, m.1) in
-    let whole : value_at (constant_ramp f k top) t ≡ ((top -ℤ f.eye) *ℤ pos (t.line - m.0))
+    let whole : ramp_value (constant_ramp f k top) t ≡ ((top -ℤ f.eye) *ℤ pos (t.line - m.0))
     +ℤ ((top -ℤ f.eye) *ℤ pos m.0) = sym (joined (top -ℤ f.eye) t.offset (t.line - m.0) m.0
     ∙ ap (λ n. (pos 0 *ℤ t.offset) +ℤ ((top -ℤ f.eye) *ℤ pos n)) n_is) in
-    sym (true_is_lt (rise *ℤ pos k) (value_at (constant_ramp f k top) t)
+    sym (true_is_lt (rise *ℤ pos k) (ramp_value (constant_ramp f k top) t)
     (omega (arith, ints, hides, value, few, rest, whole)))
   where
     joined : (e j : ℤ) (r m : ℕ) → (e *ℤ pos r) +ℤ (e *ℤ pos m) ≡ (pos 0 *ℤ j) +ℤ (e *ℤ pos (r + m))

@@ -1,6 +1,7 @@
 -- A family's lines are the columns, or the rows, on one side of an observer, counted outward from
--- 1. A ray leads from the observer to a target, seen from above. Line by line and cell by cell, a
--- list gets the rays to all flagged cells from line 2 on.
+-- 1. An extent is a part of the grid whose cells have flags. A ray leads from the observer to a
+-- target, seen from above. Line by line and cell by cell, a list gets the rays to all flagged cells
+-- from line 2 on.
 use Rattle.std.proofs.Common.{arith, refl, sym, ap, subst, ◌∙◌, ◌≡◌, ℕ, ◌+◌, ◌*◌, ◌<◌, ◌≤◌, ◌++◌, ◌⊎◌, Bool, false, List, [], ◌∷◌, length, Some, inl, inr}
 use Rattle.std.specs.Prelude.{slice_get}
 use Rattle.std.proofs.lemmas.Bool.{cases_lt}

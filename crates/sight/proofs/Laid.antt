@@ -13,7 +13,7 @@ use Rattle.horizons.specs.Horizons.{AreTargets, IsTarget, IsSlopeUpTo, IsPushed,
 use Rattle.horizons.specs.Merging.{IsGreaterPushed, greater_at}
 use Rattle.horizons.proofs.Hiding.{greater_hides, greater_is_ramp, either_hides}
 use Rattle.horizons.proofs.Straight.{slope_up}
-use Rattle.sight.specs.Sweep.{IsBefore, AreBefore, Passes, PassesAmong, IsShadow, IsHiddenOn, Raises, RaisesBelow, IsFamily, IsAtCell, line_blocks}
+use Rattle.sight.specs.Sweep.{PassesBefore, AreBefore, Passes, PassesAmong, IsShadow, IsHiddenOn, Raises, RaisesBelow, IsFamily, IsAtCell, line_blocks}
 use Rattle.sight.specs.declared.family.Family.{Family}
 use Rattle.sight.specs.declared.family.Span.{Span}
 use Rattle.sight.proofs.Products.{rest_times}
@@ -29,7 +29,7 @@ grows a b n h = by (b -ℤ a) refl
 -- if the ray to target m passes line k before the cell at `offset`, so do the rays to all targets
 -- of lower index
 pub before_to : (targets : List Target) (k m : ℕ) (offset : ℤ) (u : Target) → AreTargets targets →
-    slice_get targets m ≡ Some u → IsBefore k offset u → AreBefore targets k offset (m + 1)
+    slice_get targets m ≡ Some u → PassesBefore k offset u → AreBefore targets k offset (m + 1)
 before_to targets k m offset u are at_m before i t below at_i =
     high_back offset t.offset u.offset t.line u.line k (are.each i t at_i).line.0
     (slope_up targets i m t u are (omega arith) at_i at_m) before
@@ -157,7 +157,7 @@ high_side cells at y k r some a b more = omega (
 
 -- a ray that crosses line k before the side's first cell leads to a target not beyond line k
 pub passed_low : (f : Family) (k y : ℕ) (t : Target) → IsFamily f → IsAtCell f y t → k < t.line →
-    IsBefore k (pos f.side.first -ℤ pos f.side.at) t → ⊥
+    PassesBefore k (pos f.side.first -ℤ pos f.side.at) t → ⊥
 passed_low f k y t is stands later before =
     let r = t.line - k in
     let n_is : t.line ≡ r + k = omega arith in

@@ -1,6 +1,7 @@
--- The ramp of the ground between two cells hides exactly the targets that this ground blocks. A ray
--- leads from the observer to a target, seen from above. Up to its target, a ray crosses columns or
--- rows only at, or between, cells that exist.
+-- Of the targets whose rays pass between two cells, the ramp of the ground there hides just those
+-- that this ground blocks. A ray leads from the observer to a target, seen from above. Line k is
+-- the k-th column or row of cell centres from the observer. Up to its target, a ray crosses lines
+-- only at, or between, cells that exist.
 use Rattle.std.proofs.Common.{arith, refl, sym, ap, ◌∙◌, ◌≡◌, ◌+◌, ◌-◌, ◌*◌, ◌/◌, ◌%◌, ◌<◌, ◌≤◌, ℕ, ℤ, pos, negsuc, ◌+ℤ◌, ◌-ℤ◌, ◌*ℤ◌, ◌≤ℤ◌, ◌<ℤ◌, int_lt, false, Option, None, Some, inl, inr}
 use borrow.Author.Differences.{up, down}
 use Rattle.std.proofs.lemmas.Int.{ints}
@@ -25,7 +26,8 @@ sight_rises : (e rise : ℤ) (k r : ℕ) →
     ((e *ℤ pos r) +ℤ ((e +ℤ rise) *ℤ pos k)) ≡ (rise *ℤ pos k) +ℤ (e *ℤ pos (r + k))
 sight_rises e rise k r = omega (arith, ints, sum_times e rise (pos k))
 
--- where a ray is m n-ths past the cell at `offset`, a ramp's value is n * base + m * step
+-- let a ramp rise by `step` a cell from `base`, its height above the eye at the cell at `offset`.
+-- Where a ray passes m n-ths of a cell beyond that, `ramp_value` is n * base + m * step.
 pub ramp_gains : (base step offset j : ℤ) (n k m : ℕ) → j *ℤ pos k ≡ (offset *ℤ pos n) +ℤ pos m
     → ((step *ℤ pos k) *ℤ j) +ℤ ((base -ℤ (step *ℤ offset)) *ℤ pos n) ≡ (base *ℤ pos n)
     +ℤ (pos m *ℤ step)
@@ -53,7 +55,8 @@ above_between near far z n m h =
           rw (m_is, weighed_height-some (Some near) (n - 0) (omega arith), no_part far) refl
     ]
 
--- the ramp between two cells hides a target exactly if the ground there is above the line of sight
+-- if a target's ray passes between two cells, their ramp hides the target exactly if the ground at
+-- that crossing is above the line of sight
 pub shown_between : (near far e rise offset j : ℤ) (n k m : ℕ) → m < n → k ≤ n →
     j *ℤ pos k ≡ (offset *ℤ pos n) +ℤ pos m
     → int_lt (rise *ℤ pos k) ((((far -ℤ near) *ℤ pos k) *ℤ j)
@@ -87,7 +90,8 @@ pub not_shown_far : (near : ℤ) (n m : ℕ) (z : ℤ) → m < n → 0 < m →
 not_shown_far near n m z h part =
     rw (weighed_height-some (Some near) (n - m) (omega arith), weighed_height-some None m part) refl
 
--- if a ray from o to y crosses line k at m / (r + k) past cell c, o * r + y * k is c * (r + k) + m
+-- let a ray from o reach y on line r + k, and cross line k at m / (r + k) of a cell past cell c.
+-- Then o * r + y * k is c * (r + k) + m.
 located : (o y c r k m : ℕ) (offset : ℤ) → (pos y -ℤ pos o) *ℤ pos k ≡ (offset *ℤ pos (r + k))
     +ℤ pos m → pos c ≡ pos o +ℤ offset → o * r + y * k ≡ c * (r + k) + m
 located o y c r k m offset is at = omega (
@@ -109,7 +113,8 @@ cell_is o y c n k m offset few below is at =
     let t_is : toward o y n k ≡ c * n + m = there ∙ ap (λ z. c * z + m) (sym n_is) in
     (rw t_is (div-mul-add c n m below), rw t_is (mod-mul-add c n m below))
 
--- a ray from cell o to cell y, both below `cells`, crosses a line at or past a cell c below `cells`
+-- if a ray leads from cell o to cell y, both below the number `cells`, and crosses a line at or
+-- past cell c, then c too is below `cells`
 at_most : (o y cells r k c m : ℕ) → o < cells → y < cells → 0 < r + k →
     o * r + y * k ≡ c * (r + k) + m → c < cells
 at_most o y cells r k c m a b some is =

@@ -9,7 +9,7 @@ use Rattle.std.proofs.lemmas.Bool.{cases_Bool}
 use Rattle.std.proofs.lemmas.Nat.{mul-le, div-add-mod', mod_below}
 use Rattle.terrain.specs.Raster.{IsHeight}
 use Rattle.horizons.specs.declared.target.Target.{Target}
-use Rattle.horizons.specs.Horizons.{IsTarget, IsRampAt, ramp_hides, value_at}
+use Rattle.horizons.specs.Horizons.{IsTarget, IsRampAt, ramp_hides, ramp_value}
 use Rattle.sightlines.specs.Sight.{sight}
 use Rattle.sightlines.specs.Walk.{is_above, whole_at, IsElevation}
 use Rattle.sight.specs.Sweep.{lead_of, lead_axis, line_blocks, ramp_of, IsFamily, IsLine, Passes, IsAtCell}
@@ -163,11 +163,11 @@ mixed near far e r m = omega (
 
 pub ramp_between : (f : Family) (k m : ℕ) (offset near far : ℤ) (t : Target) → m < t.line →
     (t.offset *ℤ pos k) ≡ (offset *ℤ pos t.line) +ℤ pos m
-    → value_at (ramp_of f k offset near far) t ≡ ((near -ℤ f.eye) *ℤ pos (t.line - m))
+    → ramp_value (ramp_of f k offset near far) t ≡ ((near -ℤ f.eye) *ℤ pos (t.line - m))
     +ℤ ((far -ℤ f.eye) *ℤ pos m)
 ramp_between f k m offset near far t below is =
     let n_is : t.line ≡ (t.line - m) + m = omega arith in
-    let gains : value_at (ramp_of f k offset near far) t ≡ ((near -ℤ f.eye) *ℤ pos t.line)
+    let gains : ramp_value (ramp_of f k offset near far) t ≡ ((near -ℤ f.eye) *ℤ pos t.line)
     +ℤ (pos m *ℤ (far -ℤ near)) =
     ramp_gains (near -ℤ f.eye) (far -ℤ near) offset t.offset t.line k m is in
     gains ∙ ap (λ n. ((near -ℤ f.eye) *ℤ pos n) +ℤ (pos m *ℤ (far -ℤ near))) n_is

@@ -71,13 +71,13 @@ pub record PassesAmong (k : ℕ) (first last : ℤ) (t : Target) : Type 0 where
   pub high : (t.offset *ℤ pos k) <ℤ ((last +ℤ pos 1) *ℤ pos t.line)
 
 -- On line k the ray to a target passes before the cell at this offset.
-abbrev pub IsBefore : ℕ → ℤ → Target → Type 0
-IsBefore k offset t = (t.offset *ℤ pos k) <ℤ (offset *ℤ pos t.line)
+abbrev pub PassesBefore : ℕ → ℤ → Target → Type 0
+PassesBefore k offset t = (t.offset *ℤ pos k) <ℤ (offset *ℤ pos t.line)
 
 -- On line k the rays to all targets below index `end` pass before the cell at this offset.
 abbrev pub AreBefore : List Target → ℕ → ℤ → ℕ → Type 0
 AreBefore targets k offset end =
-    (i : ℕ) (t : Target) → i < end → slice_get targets i ≡ Some t → IsBefore k offset t
+    (i : ℕ) (t : Target) → i < end → slice_get targets i ≡ Some t → PassesBefore k offset t
 
 -- The target is cell y of a line of the family.
 pub record IsAtCell (f : Family) (y : ℕ) (t : Target) : Type 0 where

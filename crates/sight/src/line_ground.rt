@@ -8,7 +8,7 @@ ghost use Rattle.horizons.specs.declared.target.Target.{Target};
 ghost use Rattle.horizons.specs.Horizons.{IsTarget, AreTargets, IsOver, target_count, ramp_at};
 ghost use Rattle.horizons.specs.Merging.{IsRampOn};
 ghost use Rattle.sightlines.specs.Walk.{AreHeights};
-ghost use Rattle.sight.specs.Sweep.{IsBefore, AreBefore, IsFamily, IsLine, Passes, PassesAmong, IsHiddenOn, RaisesBelow};
+ghost use Rattle.sight.specs.Sweep.{PassesBefore, AreBefore, IsFamily, IsLine, Passes, PassesAmong, IsHiddenOn, RaisesBelow};
 
 use crate::family::{Family, Span, offset_at, passed_ramp};
 use horizons::{Cursor, Horizon, Piece, Ramp, Target, is_never_above, push_greater};
@@ -21,7 +21,7 @@ fn is_before(target: Target, line: u32, offset: i32) -> bool
     requires target { IsTarget target }
     requires line { line ≤ 4096 }
     requires offset { unsigned_abs offset ≤ 2 ^ 26 }
-    ensures { IsTrue result ↔ IsBefore line offset target }
+    ensures { IsTrue result ↔ PassesBefore line offset target }
 {
     (target.offset as i64) * (line as i64) < (offset as i64) * (target.line as i64)
 }

@@ -10,7 +10,7 @@ ghost use Rattle.sight.specs.Ranks.{slope_of, AreNumbered, IsRanked};
 use horizons::Target;
 use std::alloc::{AllocError, Global};
 
-/// The greatest offset of a target, in cells.
+/// The greatest absolute value of a target's offset, in cells.
 const GREATEST_OFFSET: i64 = 4_096;
 
 /// The slope of a ray, as a whole number, and the ray's index in the list of rays.

@@ -9,7 +9,7 @@ use Rattle.terrain.specs.Neighbours.{IsInside, height_at}
 use Rattle.terrain.specs.declared.place.Place.{Place}
 use Rattle.terrain.proofs.Places.{entry-inside}
 use Rattle.sightlines.specs.Sight.{onward, sight, blocks, column_crossing, row_crossing, column_blocks, row_blocks, toward}
-use Rattle.sightlines.specs.Walk.{whole_at, part_at, index_at, is_above, step_blocks, walk_blocks, columns_of, rows_of, over_columns, over_rows, IsOver, steps_of}
+use Rattle.sightlines.specs.Walk.{whole_at, part_at, index_at, is_above, step_blocks, walk_blocks, columns_of, rows_of, over_columns, over_rows, CoversLine, steps_of}
 use Rattle.sightlines.proofs.Steps.{whole_le, whole_lt}
 use Rattle.sightlines.proofs.Toward.{onward_is}
 use Rattle.sightlines.proofs.Ranges.{any_same, any_back}
@@ -91,7 +91,7 @@ row_blocks-walk t p q e f a b = let n = abs_diff p.row q.row in
     any_same _ _ 1 (n - 1) (λ k low high. row_step t p q e f k a b low high)
 
 pub columns_in_list : (t : Terrain) (p q : Place) → length t.cells ≡ t.cols * t.rows →
-    IsInside t p → IsInside t q → IsOver t.cells (columns_of p q) (rows_of t p q)
+    IsInside t p → IsInside t q → CoversLine t.cells (columns_of p q) (rows_of t p q)
 columns_in_list t p q size a b = omega (
   arith,
   size,
@@ -99,7 +99,7 @@ columns_in_list t p q size a b = omega (
 )
 
 pub rows_in_list : (t : Terrain) (p q : Place) → length t.cells ≡ t.cols * t.rows → IsInside t p →
-    IsInside t q → IsOver t.cells (rows_of t p q) (columns_of p q)
+    IsInside t q → CoversLine t.cells (rows_of t p q) (columns_of p q)
 rows_in_list t p q size a b = omega (
   arith,
   size,

@@ -6,7 +6,7 @@ use Rattle.std.specs.Int.{abs_diff}
 use Rattle.std.proofs.lemmas.Bool.{cases_lt}
 use Rattle.std.proofs.lemmas.Nat.{mul-le, div-add-mod'}
 use Rattle.sightlines.specs.Sight.{toward}
-use Rattle.sightlines.specs.Walk.{whole_at, part_at, index_at, IsOver}
+use Rattle.sightlines.specs.Walk.{whole_at, part_at, index_at, CoversLine}
 use Rattle.sightlines.specs.Pace.{IsPace, Gains}
 use Rattle.sightlines.specs.declared.walk.Axis.{Axis}
 use Rattle.sightlines.specs.declared.walk.Pace.{Pace}
@@ -80,7 +80,8 @@ whole_lt a n k some h parts =
       ))
     ]
 
-pub near_inside : (cells : List (Option ℤ)) (lead side : Axis) (n k : ℕ) → IsOver cells lead side →
+pub near_inside : (cells : List (Option ℤ)) (lead side : Axis) (n k : ℕ) →
+    CoversLine cells lead side →
     0 < n → k ≤ n → index_at lead side n k < length cells
 near_inside cells lead side n k over some h =
     omega (
@@ -92,7 +93,8 @@ near_inside cells lead side n k over some h =
           (whole_le side n k some h) (omega arith),
     )
 
-pub far_inside : (cells : List (Option ℤ)) (lead side : Axis) (n k : ℕ) → IsOver cells lead side →
+pub far_inside : (cells : List (Option ℤ)) (lead side : Axis) (n k : ℕ) →
+    CoversLine cells lead side →
     0 < n → k ≤ n → 0 < part_at side n k → index_at lead side n k + side.stride < length cells
 far_inside cells lead side n k over some h parts =
     omega (

@@ -82,8 +82,8 @@ over_rows t p q e f =
     record { lead = rows_of t p q; side = columns_of p q; from_elevation = e; to_elevation = f }
 
 -- Each cell between the line's ends along both coordinates has its index in the list.
-abbrev pub IsOver : List (Option ℤ) → Axis → Axis → Type 0
-IsOver cells lead side =
+abbrev pub CoversLine : List (Option ℤ) → Axis → Axis → Type 0
+CoversLine cells lead side =
     max lead.from lead.to * lead.stride + max side.from side.to * side.stride < length cells
 
 -- Each height of the list is within the limits of a height (`IsHeight`).
@@ -118,8 +118,8 @@ pub record AreSightlines (t : Terrain) (o : Observer) (q : Place) (target radius
       (height_of t (place_of o) +ℤ pos o.eye)
   pub small_columns : IsSightline lines.columns
   pub small_rows : IsSightline lines.rows
-  pub columns_inside : IsOver t.cells lines.columns.lead lines.columns.side
-  pub rows_inside : IsOver t.cells lines.rows.lead lines.rows.side
+  pub columns_inside : CoversLine t.cells lines.columns.lead lines.columns.side
+  pub rows_inside : CoversLine t.cells lines.rows.lead lines.rows.side
   pub seen : is_seen t o q target radius
       ≡ (not (walk_blocks t.cells lines.columns) && not (walk_blocks t.cells lines.rows))
   pub reached : is_seen t o q target radius ≡ is_open t o q target

@@ -6,7 +6,7 @@ ghost use Rattle.std.specs.Prelude.{◌≡◌, ◌<◌, ◌≤◌, pos, ◌+ℤ�
 ghost use Rattle.terrain.specs.Raster.{IsHeight};
 ghost use Rattle.terrain.specs.Neighbours.{IsInside};
 ghost use Rattle.sightlines.specs.Sight.{highest_eye, longest_radius, is_open, is_seen, place_of};
-ghost use Rattle.sightlines.specs.Walk.{AreHeights, IsElevation, IsSightline, IsOver, AreSightlines, walk_blocks};
+ghost use Rattle.sightlines.specs.Walk.{AreHeights, IsElevation, IsSightline, CoversLine, AreSightlines, walk_blocks};
 ghost use Rattle.sightlines.specs.Blocks.{IsTops, IsPeak, AreTopsAlong, blocks_in};
 
 use crate::passing::{BlockStrides, blocking_step_past_blocks};
@@ -144,7 +144,7 @@ const NEARBY_CROSSINGS: u32 = 4;
 fn is_blocked_from(cells: &[Cell], line: Sightline, first: u32, crossings: u32) -> bool
     requires heights { AreHeights cells.now }
     requires line { IsSightline line }
-    requires over { IsOver cells.now line.lead line.side }
+    requires over { CoversLine cells.now line.lead line.side }
     requires first { (0 < first) × (first ≤ 4096) }
     requires crossings { crossings ≤ 4096 }
     ensures { result ≡ true → walk_blocks cells.now line ≡ true }
@@ -191,7 +191,7 @@ pub fn may_see(
 fn is_blocked_near(cells: &[Cell], line: Sightline, left: u32) -> bool
     requires heights { AreHeights cells.now }
     requires line { IsSightline line }
-    requires over { IsOver cells.now line.lead line.side }
+    requires over { CoversLine cells.now line.lead line.side }
     ensures { result ≡ true → walk_blocks cells.now line ≡ true }
 {
     let step = line.steps().saturating_sub(left);
@@ -216,8 +216,8 @@ impl Blocker {
         requires heights { AreHeights cells.now }
         requires columns { IsSightline lines.columns }
         requires rows { IsSightline lines.rows }
-        requires over_columns { IsOver cells.now lines.columns.lead lines.columns.side }
-        requires over_rows { IsOver cells.now lines.rows.lead lines.rows.side }
+        requires over_columns { CoversLine cells.now lines.columns.lead lines.columns.side }
+        requires over_rows { CoversLine cells.now lines.rows.lead lines.rows.side }
         ensures { result ≡ true → (not (walk_blocks cells.now lines.columns)
             && not (walk_blocks cells.now lines.rows)) ≡ false }
     {
@@ -234,8 +234,8 @@ impl Blocker {
         requires heights { AreHeights cells.now }
         requires columns { IsSightline lines.columns }
         requires rows { IsSightline lines.rows }
-        requires over_columns { IsOver cells.now lines.columns.lead lines.columns.side }
-        requires over_rows { IsOver cells.now lines.rows.lead lines.rows.side }
+        requires over_columns { CoversLine cells.now lines.columns.lead lines.columns.side }
+        requires over_rows { CoversLine cells.now lines.rows.lead lines.rows.side }
         ensures { result ≡ true → (not (walk_blocks cells.now lines.columns)
             && not (walk_blocks cells.now lines.rows)) ≡ false }
     {
@@ -336,7 +336,7 @@ fn blocker_on(
 ) -> Option<Blocker>
     requires heights { AreHeights cells.now }
     requires line { IsSightline line }
-    requires over { IsOver cells.now line.lead line.side }
+    requires over { CoversLine cells.now line.lead line.side }
     requires near { (near.lead ≤ 4096) × (near.side ≤ 4096) }
     requires far { (far.lead ≤ 4096) × (far.side ≤ 4096) }
     requires near_tops { AreTopsAlong 16 cells.now tops.now.near.items line near }

@@ -2,7 +2,7 @@
 ghost use Rattle.std.specs.Prelude.{◌≡◌, ℕ, ◌+◌, ◌-◌, ◌*◌, ◌/◌, ◌<◌, ◌≤◌, length, slice_index_or, None, IfSome, is_some, max, pos, ◌*ℤ◌, ◌≤ℤ◌};
 ghost use Rattle.std.specs.Bool.{OnTrue};
 ghost use Rattle.sightlines.specs.Pace.{IsPace, IsLeap};
-ghost use Rattle.sightlines.specs.Walk.{steps_of, whole_at, AreHeights, IsSightline, IsAt, IsOver, walk_blocks, step_range_blocks};
+ghost use Rattle.sightlines.specs.Walk.{steps_of, whole_at, AreHeights, IsSightline, IsAt, CoversLine, walk_blocks, step_range_blocks};
 ghost use Rattle.sightlines.specs.Blocks.{IsLow, IsPeak, AreTopsAlong, AreLowBetween};
 ghost use Rattle.terrain.specs.Raster.{IsHeight};
 
@@ -118,7 +118,7 @@ fn blocking_step_past_near_blocks(
 ) -> Option<u32>
     requires heights { AreHeights cells.now }
     requires line { IsSightline line }
-    requires over { IsOver cells.now line.lead line.side }
+    requires over { CoversLine cells.now line.lead line.side }
     requires pace { IsPace line.lead line.side (steps_of line) pace }
     requires leap { IsLeap line 16 leap }
     requires strides { (strides.lead ≤ 4096) × (strides.side ≤ 4096) }
@@ -173,7 +173,7 @@ pub(crate) fn blocking_step_past_blocks(
 ) -> Option<u32>
     requires heights { AreHeights cells.now }
     requires line { IsSightline line }
-    requires over { IsOver cells.now line.lead line.side }
+    requires over { CoversLine cells.now line.lead line.side }
     requires near { (near.lead ≤ 4096) × (near.side ≤ 4096) }
     requires far { (far.lead ≤ 4096) × (far.side ≤ 4096) }
     requires near_tops { AreTopsAlong 16 cells.now tops.now.near.items line near }

@@ -2,7 +2,7 @@
 ghost use Rattle.std.specs.Prelude.{◌≡◌, ◌^◌, ◌+◌, ◌-◌, ◌*◌, ◌<◌, ◌≤◌, ℤ, pos, unsigned_abs, ◌*ℤ◌, length, slice_index_or, None, IfSome, is_some};
 ghost use Rattle.std.specs.Int.{abs_diff};
 ghost use Rattle.terrain.specs.Raster.{IsHeight};
-ghost use Rattle.sightlines.specs.Walk.{is_above, steps_of, whole_at, AreHeights, IsSightline, IsAt, IsOver, step_range_blocks, walk_blocks};
+ghost use Rattle.sightlines.specs.Walk.{is_above, steps_of, whole_at, AreHeights, IsSightline, IsAt, CoversLine, step_range_blocks, walk_blocks};
 ghost use Rattle.sightlines.specs.Pace.{IsPace, IsLeap, Gains};
 
 use crate::tops::NEAR_BLOCK;
@@ -319,7 +319,7 @@ pub(crate) fn blocking_step(
 ) -> Option<u32>
     requires heights { AreHeights cells.now }
     requires line { IsSightline line }
-    requires over { IsOver cells.now line.lead line.side }
+    requires over { CoversLine cells.now line.lead line.side }
     requires pace { IsPace line.lead line.side (steps_of line) pace }
     requires start { IsAt line first start }
     requires range { (first < end) × (end ≤ steps_of line) }
@@ -353,7 +353,7 @@ pub(crate) fn blocking_step(
 pub(crate) fn is_blocked(cells: &[Cell], line: Sightline) -> bool
     requires heights { AreHeights cells.now }
     requires line { IsSightline line }
-    requires over { IsOver cells.now line.lead line.side }
+    requires over { CoversLine cells.now line.lead line.side }
     ensures { result ≡ walk_blocks cells.now line }
 {
     let steps = line.steps();

@@ -1,27 +1,16 @@
--- A terrain's heights are from -10^15 to 10^15 units, and fit in an `i64`.
-use Rattle.std.proofs.Common.{◌≡◌, ℕ, ◌<◌, ◌≤◌, ◌^◌, ℤ, pos, negsuc, true, List, length, get_or, Option, None, Some, IfSome, unwrap_or, sym, ap, ◌∙◌, arith}
-use Rattle.std.specs.Prelude.{int_le, unsigned_abs}
-use Rattle.std.proofs.lemmas.Int.{fits_signed_from_abs}
-use Rattle.std.proofs.lemmas.Bool.{leb-true}
-use mir.Val.{SFits}
+-- A terrain's heights are from -10^15 to 10^15 units. Code keeps them in an `i64`.
+use Rattle.std.proofs.Common.{◌≡◌, ℕ, ◌<◌, ℤ, pos, List, length, get_or, Option, None, Some, IfSome, unwrap_or, sym, ap, ◌∙◌, arith}
 use mir.Syntax.{Width, w64}
 use Rattle.std.specs.List.{All}
 use Rattle.std.proofs.lemmas.List.Elements.{All-get_or}
 use Rattle.std.proofs.lemmas.Option.{MatchOption-at_some}
-use Rattle.terrain.specs.Raster.{Terrain, IsTerrain, IsHeight, lowest, highest}
+use Rattle.terrain.specs.Raster.{Terrain, IsTerrain, IsHeight}
 use Rattle.terrain.specs.Neighbours.{height_at, height_of, index_of}
 use Rattle.terrain.specs.declared.place.Place.{Place}
 use Rattle.terrain.proofs.Places.{inside_from_entry, entry-inside, index_below}
 
 abbrev pub height_width : Width
 height_width = w64
-
-height_abs : (z : ℤ) → int_le lowest z ≡ true → int_le z highest ≡ true → unsigned_abs z ≤ 10 ^ 15
-height_abs (pos n) low high = let k = leb-true n 1000000000000000 high in omega (arith, k)
-height_abs (negsuc n) low high = let k = leb-true n 999999999999999 low in omega (arith, k)
-
-pub height_fits : (z : ℤ) → int_le lowest z ≡ true → int_le z highest ≡ true → SFits height_width z
-height_fits z low high = fits_signed_from_abs height_width z (omega (arith, height_abs z low high))
 
 pub height_is : (t : Terrain) (p : Place) (h : ℤ) → height_at t p ≡ Some h → height_of t p ≡ h
 height_is t p h e = ap (λ (o : Option ℤ). unwrap_or o (pos 0)) e

@@ -1,4 +1,4 @@
--- Defines how a number stores a cell (a height or no data) or a map's entry (a count or no data).
+-- Defines how a number stores a cell (a height or no data) or a count (a number or none).
 -- Source: this project.
 -- Public.
 use Rattle.std.specs.Prelude.{ℕ, ℤ, pos, nat_lt, Option, None, Some, if◌then◌else◌, option_and_then}
@@ -16,7 +16,7 @@ stored_cell z = if int_eq z no_data then None else Some z
 abbrev pub cell_of : Option ℤ → Option ℤ
 cell_of height = option_and_then stored_cell height
 
--- The number that stores a map's entry without data. It is above every count.
+-- The number that stores a cell without data in a map of counts. It is above every count.
 abbrev pub uncounted : ℕ
 uncounted = 4294967295
 

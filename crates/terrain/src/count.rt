@@ -1,16 +1,16 @@
 //! A count or none, in 4 bytes: an entry of a map of whole numbers, or a number of steps.
 //!
-//! Contracts see an option. [`OptionalCount::of`] makes an entry of a number, and
-//! [`OptionalCount::value`] returns the option.
+//! Contracts see an option. [`OptionalCount::of`] stores a number, and [`OptionalCount::value`]
+//! returns the option.
 ghost use Rattle.std.specs.Prelude.{◌≡◌, ◌<◌, ◌≤◌, None, Some, unwrap_or};
 ghost use Rattle.terrain.specs.StoredCells.{stored_count};
 
 use std::marker::Model;
 
-/// The stored number of an entry without data; above every count that a map has.
+/// The number stored for a cell without data; above every count that a map has.
 const UNCOUNTED: u32 = u32::MAX;
 
-/// A map's whole number or no data, in 4 bytes.
+/// A cell's count in a map, or no data, in 4 bytes.
 pub type Count = OptionalCount<UNCOUNTED>;
 
 /// A number below `NONE`, or none, stored as `NONE`. Takes 4 bytes; an `Option<u32>` takes 8.
@@ -44,7 +44,7 @@ impl<const NONE: u32> Model for OptionalCount<NONE> {
 }
 
 impl<const NONE: u32> OptionalCount<NONE> {
-    /// Returns the entry of `number`, without a number if that is `NONE` or more.
+    /// Returns the count `number`, or none if that is `NONE` or more.
     #[inline(always)]
     #[tactic(auto, using(crate::proofs::Stored::stored_count_some))]
     pub fn of(number: u32) -> Self
@@ -56,7 +56,7 @@ impl<const NONE: u32> OptionalCount<NONE> {
         }
     }
 
-    /// Returns an entry without a number.
+    /// Returns a stored count without a number.
     #[inline(always)]
     pub fn none() -> Self
         ensures { result ≡ None }
@@ -64,7 +64,7 @@ impl<const NONE: u32> OptionalCount<NONE> {
         OptionalCount { number: NONE }
     }
 
-    /// Returns the number, or `None` if there is none.
+    /// Returns the count, or `None` if there is none.
     #[inline(always)]
     pub fn value(&self) -> Option<u32>
         ensures { result ≡ self.now }
@@ -76,7 +76,7 @@ impl<const NONE: u32> OptionalCount<NONE> {
         }
     }
 
-    /// Returns the number, or `NONE` if there is none.
+    /// Returns the count, or `NONE` if there is none.
     #[inline(always)]
     pub fn number(&self) -> u32
         ensures value { result ≡ unwrap_or self.now NONE }

@@ -6,7 +6,7 @@
 //!
 //! - `grid`: grids, and their frames: header, scale and sinks without the cells
 //! - `cell`: a height or no data, in 8 bytes
-//! - `count`: a map's whole number or no data, in 4 bytes
+//! - `count`: a count or none, in 4 bytes
 //! - `sinks`: the first fault of a list of sinks, and the list without repeats
 //! - `ways`: the eight directions from a place
 //! - `place`: places, and heights with their limits

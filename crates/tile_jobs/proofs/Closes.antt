@@ -6,7 +6,8 @@ use Rattle.std.proofs.lemmas.Bool.{cases_eq, eq-eqb, ne_eqb}
 use Rattle.std.proofs.lemmas.List.{append-nil, length-drop, get_or-drop, get_or_default, drop-drop}
 use Rattle.std.proofs.lemmas.List.Folds.{concat-append}
 use lib.ListN.{length-append}
-use Rattle.tile_jobs.specs.Board.{deal, times, sum_to}
+use Rattle.tile_jobs.specs.Board.{deal, times}
+use Rattle.tile_jobs.specs.Sums.{sum_below}
 use Rattle.std.specs.List.{concat}
 use Rattle.tile_jobs.specs.Ends.{EndState, SeatState, IsSeat, IsDeal, HasAllMarks, of, skip}
 use Rattle.tile_jobs.specs.Closed.{ArePartsOf, in_seats, IsClosed}
@@ -65,15 +66,6 @@ get_of_drop xs k d = get_or-drop k xs 0 d ∙ ap (λ n. get_or xs n d) (add-zero
 pub some_drop : {A : Type 0} (xs : List A) (k : ℕ) → k < length xs → 0 < length (drop k xs)
 some_drop xs k low = omega (arith, length-drop k xs)
 
-pub sum_mono : (n m : ℕ) (f : ℕ → ℕ) → n ≤ m → sum_to n f ≤ sum_to m f
-sum_mono zero m f l = omega arith
-sum_mono (suc n) zero f l = absurd (omega arith)
-sum_mono (suc n) (suc m) f l = elim (cases_eq n m) [
-  | inl e ↦ rw e (omega arith)
-  | inr far ↦ let h =
-      sum_mono (suc n) m f (omega arith) in omega arith
-]
-
 pub place_is : (s v : ℕ) → s ≢ v → skip s (v - cond (nat_lt s v) 1 0) ≡ v
 place_is s v far = grind (arith, nat_tests)
 
@@ -96,7 +88,7 @@ next_row s v xs =
 -- `left` has the jobs left in deques 0 to n - 1.
 pub record IsLeft (jobs seats : ℕ) (ss : List SeatState) (n : ℕ) (left : List ℕ) : Type 0 where
   pub parts : ArePartsOf jobs seats n left
-  pub low : length left ≤ sum_to n (λ v. length (deal jobs seats v))
+  pub low : length left ≤ sum_below (λ v. length (deal jobs seats v)) n
   pub once : (y : ℕ) (d : SeatState) → y % seats < n →
       in_seats y seats ss d + times y left ≡ times y (deal jobs seats (y % seats))
   pub later : (y : ℕ) → n ≤ y % seats → times y left ≡ 0

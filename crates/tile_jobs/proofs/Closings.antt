@@ -6,32 +6,33 @@ use Rattle.std.proofs.lemmas.Bool.{ne_eqb}
 use Rattle.std.proofs.lemmas.List.{append-nil, append_assoc, drop_all}
 use Rattle.std.proofs.lemmas.Bool.Decides.{nat_tests}
 use lib.ListN.{length-append}
-use Rattle.tile_jobs.specs.declared.deque.Entry.{Entry}
-use Rattle.tile_jobs.specs.declared.deque.Entry.TheVariants.{Job, End}
-use Rattle.tile_jobs.specs.Board.{deal, feed, jobs_in, times, sum_to}
+use Rattle.tile_jobs.specs.declared.deque.DequeEntry.{DequeEntry}
+use Rattle.tile_jobs.specs.declared.deque.DequeEntry.TheVariants.{Job, End}
+use Rattle.tile_jobs.specs.Board.{deal, feed, jobs_in, times}
+use Rattle.tile_jobs.specs.Sums.{sum_below}
 use Rattle.tile_jobs.specs.declared.deque.Log.{Log}
 use Rattle.tile_jobs.specs.Ends.{IsSeated, ClosingState, position_of, deal_of}
 use Rattle.tile_jobs.proofs.Entries.{times_append, no_job}
 
-job_at : (d : List ℕ) (n t j : ℕ) (rest : List Entry) →
+job_at : (d : List ℕ) (n t j : ℕ) (rest : List DequeEntry) →
     Job j ∷ rest ≡ drop t (jobs_in d ++ replicate n End) → j ∷ drop (suc t) d ≡ drop t d
 job_at [] n t j rest e = absurd (no_job n t j rest e)
 job_at (i ∷ d) n zero j rest e = let q : j ≡ i = cc in ap (λ k. k ∷ d) q
 job_at (i ∷ d) n (suc t) j rest e = job_at d n t j rest e
 
-end_at : (d : List ℕ) (n t : ℕ) (rest : List Entry) →
+end_at : (d : List ℕ) (n t : ℕ) (rest : List DequeEntry) →
     End ∷ rest ≡ drop t (jobs_in d ++ replicate n End) → length d ≤ t
 end_at [] n t rest e = omega arith
 end_at (i ∷ d) n zero rest e = cc
 end_at (i ∷ d) n (suc t) rest e = let h = end_at d n t rest e in omega arith
 
-pub feed_job_at : (jobs seats v t j : ℕ) (rest : List Entry) →
+pub feed_job_at : (jobs seats v t j : ℕ) (rest : List DequeEntry) →
     Job j ∷ rest ≡ drop t (feed jobs seats v)
     → j ∷ drop (suc t) (deal jobs seats v) ≡ drop t (deal jobs seats v)
 unfolding feed
 feed_job_at jobs seats v t j rest e = job_at (deal jobs seats v) seats t j rest e
 
-pub feed_end_at : (jobs seats v t : ℕ) (rest : List Entry) →
+pub feed_end_at : (jobs seats v t : ℕ) (rest : List DequeEntry) →
     End ∷ rest ≡ drop t (feed jobs seats v) → length (deal jobs seats v) ≤ t
 unfolding feed
 feed_end_at jobs seats v t rest e = end_at (deal jobs seats v) seats t rest e
@@ -99,10 +100,10 @@ pub back_else : (v s b : ℕ) → s ≢ v → b + cond (nat_lt v s) 1 0 ≡ suc 
 back_else v s b far h = grind (arith, nat_tests)
 
 pub sum_here : (s v : ℕ) (f : ℕ → ℕ) → s ≡ v →
-    sum_to (s + 1) (λ i. cond (i == v) 0 (f i)) ≡ sum_to s (λ i. cond (i == v) 0 (f i))
+    sum_below (λ i. cond (i == v) 0 (f i)) (s + 1) ≡ sum_below (λ i. cond (i == v) 0 (f i)) s
 sum_here s v f e = let t : (s == v) ≡ true = grind (arith, nat_tests) in
     rw (add-one, t) (omega arith)
 
 pub sum_else : (s v : ℕ) (f : ℕ → ℕ) → s ≢ v →
-    sum_to (s + 1) (λ i. cond (i == v) 0 (f i)) ≡ sum_to s (λ i. cond (i == v) 0 (f i)) + f s
+    sum_below (λ i. cond (i == v) 0 (f i)) (s + 1) ≡ sum_below (λ i. cond (i == v) 0 (f i)) s + f s
 sum_else s v f far = let t : (s == v) ≡ false = ne_eqb s v far in rw (add-one, t) refl

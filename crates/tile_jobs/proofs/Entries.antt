@@ -6,9 +6,9 @@ use Rattle.std.proofs.lemmas.Bool.{cases_eq, ne_eqb}
 use Rattle.std.proofs.lemmas.List.{append-nil, length-drop, get_or-drop, get_or-append-add, take_more, drop-drop, take-append-drop}
 use Rattle.std.proofs.lemmas.List.Quantifiers.{all_pairs_push}
 use lib.ListN.{length-append}
-use Rattle.tile_jobs.specs.declared.deque.Entry.{Entry}
-use Rattle.tile_jobs.specs.declared.deque.Entry.TheVariants.{Job, End}
-use Rattle.tile_jobs.specs.Board.{deal, feed, jobs_in, jobs_of, ends_of, times, IsRising}
+use Rattle.tile_jobs.specs.declared.deque.DequeEntry.{DequeEntry}
+use Rattle.tile_jobs.specs.declared.deque.DequeEntry.TheVariants.{Job, End}
+use Rattle.tile_jobs.specs.Board.{deal, feed, jobs_in, jobs_of, end_count, times, IsRising}
 
 module _ {A : Type 0} where
   pub cut_below : (xs : List A) (t : ℕ) (x : A) (rest : List A) → x ∷ rest ≡ drop t xs →
@@ -37,12 +37,12 @@ pub times_append : (x : ℕ) (xs ys : List ℕ) → times x (xs ++ ys) ≡ times
 times_append x [] ys = omega arith
 times_append x (y ∷ xs) ys = let h = times_append x xs ys in omega arith
 
-pub jobs_append : (es fs : List Entry) → jobs_of (es ++ fs) ≡ jobs_of es ++ jobs_of fs
+pub jobs_append : (es fs : List DequeEntry) → jobs_of (es ++ fs) ≡ jobs_of es ++ jobs_of fs
 jobs_append [] fs = refl
 jobs_append (Job j ∷ es) fs = ap (λ l. j ∷ l) (jobs_append es fs)
 jobs_append (End ∷ es) fs = jobs_append es fs
 
-pub ends_append : (es fs : List Entry) → ends_of (es ++ fs) ≡ ends_of es + ends_of fs
+pub ends_append : (es fs : List DequeEntry) → end_count (es ++ fs) ≡ end_count es + end_count fs
 ends_append [] fs = omega arith
 ends_append (Job j ∷ es) fs = ends_append es fs
 ends_append (End ∷ es) fs = let h = ends_append es fs in omega arith
@@ -51,7 +51,7 @@ pub jobs_ends : (n : ℕ) → jobs_of (replicate n End) ≡ []
 jobs_ends zero = refl
 jobs_ends (suc n) = jobs_ends n
 
-pub ends_ends : (n : ℕ) → ends_of (replicate n End) ≡ n
+pub ends_ends : (n : ℕ) → end_count (replicate n End) ≡ n
 ends_ends zero = refl
 ends_ends (suc n) = ap suc (ends_ends n)
 
@@ -59,18 +59,18 @@ pub jobs_jobs : (d : List ℕ) → jobs_of (jobs_in d) ≡ d
 jobs_jobs [] = refl
 jobs_jobs (j ∷ d) = ap (λ l. j ∷ l) (jobs_jobs d)
 
-pub ends_jobs : (d : List ℕ) → ends_of (jobs_in d) ≡ 0
+pub ends_jobs : (d : List ℕ) → end_count (jobs_in d) ≡ 0
 ends_jobs [] = refl
 ends_jobs (j ∷ d) = ends_jobs d
 
-pub no_job : (n t j : ℕ) (rest : List Entry) → Job j ∷ rest ≡ drop t (replicate n End) → ⊥
+pub no_job : (n t j : ℕ) (rest : List DequeEntry) → Job j ∷ rest ≡ drop t (replicate n End) → ⊥
 no_job zero zero j rest e = cc
 no_job zero (suc t) j rest e = cc
 no_job (suc n) zero j rest e = cc
 no_job (suc n) (suc t) j rest e = no_job n t j rest e
 
-pub job_early : (d : List ℕ) (n t j : ℕ) (rest : List Entry) → Job j ∷ rest ≡ drop t (jobs_in d
-    ++ replicate n End) → (t < length d) × (ends_of (take t (jobs_in d ++ replicate n End)) ≡ 0)
+pub job_early : (d : List ℕ) (n t j : ℕ) (rest : List DequeEntry) → Job j ∷ rest ≡ drop t (jobs_in d
+    ++ replicate n End) → (t < length d) × (end_count (take t (jobs_in d ++ replicate n End)) ≡ 0)
 job_early [] n t j rest e = absurd (no_job n t j rest e)
 job_early (i ∷ d) n zero j rest e = (omega arith, refl)
 job_early (i ∷ d) n (suc t) j rest e = let h = job_early d n t j rest e in (omega arith, h.1)
@@ -80,7 +80,7 @@ no_jobs n zero = refl
 no_jobs zero (suc t) = refl
 no_jobs (suc n) (suc t) = no_jobs n t
 
-pub mark_late : (d : List ℕ) (n t : ℕ) → 0 < ends_of (take t (jobs_in d ++ replicate n End)) →
+pub mark_late : (d : List ℕ) (n t : ℕ) → 0 < end_count (take t (jobs_in d ++ replicate n End)) →
     jobs_of (take t (jobs_in d ++ replicate n End)) ≡ d
 mark_late [] n zero h = refl
 mark_late [] zero (suc t) h = refl
@@ -119,17 +119,17 @@ pub feed_jobs : (jobs seats v : ℕ) → jobs_of (feed jobs seats v) ≡ deal jo
 unfolding feed
 feed_jobs jobs seats v = rw (jobs_append, jobs_jobs, jobs_ends, append-nil)
 
-pub feed_ends : (jobs seats v : ℕ) → ends_of (feed jobs seats v) ≡ seats
+pub feed_ends : (jobs seats v : ℕ) → end_count (feed jobs seats v) ≡ seats
 unfolding feed
 feed_ends jobs seats v = rw (ends_append, ends_jobs, ends_ends) (omega arith)
 
-pub feed_early : (jobs seats v t j : ℕ) (rest : List Entry) →
+pub feed_early : (jobs seats v t j : ℕ) (rest : List DequeEntry) →
     Job j ∷ rest ≡ drop t (feed jobs seats v) → (t < length (deal jobs seats v))
-    × (ends_of (take t (feed jobs seats v)) ≡ 0)
+    × (end_count (take t (feed jobs seats v)) ≡ 0)
 unfolding feed
 feed_early jobs seats v t j rest e = job_early (deal jobs seats v) seats t j rest e
 
-pub feed_late : (jobs seats v t : ℕ) → 0 < ends_of (take t (feed jobs seats v)) →
+pub feed_late : (jobs seats v t : ℕ) → 0 < end_count (take t (feed jobs seats v)) →
     jobs_of (take t (feed jobs seats v)) ≡ deal jobs seats v
 unfolding feed
 feed_late jobs seats v t h = mark_late (deal jobs seats v) seats t h
@@ -167,14 +167,15 @@ rising_before (z ∷ xs) ys j x is n =
     ]
 
 -- The jobs of the feed before job j, then j, then the jobs after it, are the deal.
-feed_parts : (jobs seats v t j : ℕ) (rest : List Entry) → Job j ∷ rest ≡ drop t (feed jobs seats v)
+feed_parts : (jobs seats v t j : ℕ) (rest : List DequeEntry) →
+    Job j ∷ rest ≡ drop t (feed jobs seats v)
     → jobs_of (take t (feed jobs seats v)) ++ (j ∷ jobs_of rest) ≡ deal jobs seats v
 feed_parts jobs seats v t j rest e =
     let all = feed jobs seats v in
     sym (jobs_append (take t all) (Job j ∷ rest)) ∙ ap (λ l. jobs_of (take t all ++ l)) e
     ∙ ap jobs_of (take-append-drop t all) ∙ feed_jobs jobs seats v
 
-pub feed_is : (jobs seats v t j : ℕ) (rest : List Entry) →
+pub feed_is : (jobs seats v t j : ℕ) (rest : List DequeEntry) →
     Job j ∷ rest ≡ drop t (feed jobs seats v) → (j < jobs) × (j % seats ≡ v)
 feed_is jobs seats v t j rest e =
     let before = jobs_of (take t (feed jobs seats v)) in
@@ -184,7 +185,7 @@ feed_is jobs seats v t j rest e =
     (omega arith))
 
 -- A job of the feed is greater than each job before it.
-pub feed_rises : (jobs seats v t j : ℕ) (rest : List Entry) →
+pub feed_rises : (jobs seats v t j : ℕ) (rest : List DequeEntry) →
     Job j ∷ rest ≡ drop t (feed jobs seats v)
     → (x : ℕ) → 0 < times x (jobs_of (take t (feed jobs seats v))) → x < j
 feed_rises jobs seats v t j rest e x n =

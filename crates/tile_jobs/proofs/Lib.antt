@@ -1,3 +1,4 @@
+pub mod Sums
 -- Dealing the jobs.
 pub mod Residues
 pub mod Rounds

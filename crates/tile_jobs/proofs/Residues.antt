@@ -4,12 +4,14 @@
 use Rattle.std.proofs.Common.{◌≡◌, ◌≢◌, ℕ, zero, suc, ◌+◌, ◌%◌, ◌<◌, ◌≤◌, Bool, true, false, cond, ◌==◌, List, [], ◌∷◌, ◌++◌, length, drop, replicate, sym, refl, ap, ◌∙◌, arith, inl, inr}
 use Rattle.std.proofs.lemmas.Bool.Decides.{nat_tests}
 use lib.ListN.{length-append, length-replicate}
-use Rattle.tile_jobs.specs.declared.deque.Entry.TheVariants.{Job, End}
+use Rattle.tile_jobs.specs.declared.deque.DequeEntry.TheVariants.{Job, End}
 use Rattle.tile_jobs.specs.Rule.{once}
 use Rattle.std.proofs.Math.Seq.{drop-append-add}
 use Rattle.std.proofs.lemmas.Bool.{cases_eq, eq-eqb, ne_eqb}
 use Rattle.std.proofs.lemmas.List.{append-nil, append_assoc, map-append, length-map}
-use Rattle.tile_jobs.specs.Board.{deal, feed, jobs_in, sum_to}
+use Rattle.tile_jobs.specs.Board.{deal, feed, jobs_in}
+use Rattle.tile_jobs.specs.Sums.{sum_below}
+use Rattle.tile_jobs.proofs.Sums.{sum_below-none, sum_below-less, sum_below-except}
 use Rattle.tile_jobs.specs.Ends.{of}
 
 of_append : (v seats : ℕ) (xs ys : List ℕ) → of v seats (xs ++ ys) ≡ of v seats xs ++ of v seats ys
@@ -33,51 +35,15 @@ pub of_else : (v seats : ℕ) (xs : List ℕ) (j : ℕ) → j % seats ≢ v →
 of_else v seats xs j e = let t : (j % seats == v) ≡ false = grind (arith, nat_tests, e) in
     of_append v seats xs (j ∷ []) ∙ rw t (append-nil (of v seats xs))
 
-pub sum_ext : (n : ℕ) (f g : ℕ → ℕ) → ((v : ℕ) → v < n → f v ≡ g v) → sum_to n f ≡ sum_to n g
-sum_ext zero f g h = refl
-sum_ext (suc n) f g h = let k = sum_ext n f g (λ v l. h v (omega arith)) in let here =
-    h n (omega arith) in omega arith
-
-pub sum_le : (n : ℕ) (f g : ℕ → ℕ) → ((v : ℕ) → v < n → f v ≤ g v) → sum_to n f ≤ sum_to n g
-sum_le zero f g h = omega arith
-sum_le (suc n) f g h = let k = sum_le n f g (λ v l. h v (omega arith)) in let here =
-    h n (omega arith) in omega arith
-
-pub sum_lt : (n : ℕ) (f g : ℕ → ℕ) (w : ℕ) → w < n → ((v : ℕ) → v < n → f v ≤ g v) → f w < g w →
-    sum_to n f < sum_to n g
-sum_lt zero f g w low h less = absurd (omega arith)
-sum_lt (suc n) f g w low h less =
-    let k = sum_le n f g (λ v l. h v (omega arith)) in
-    let here = h n (omega arith) in
-    elim (cases_eq w n) [
-      | inl e ↦ let less' : f n < g n = rw e at less in omega arith
-      | inr far ↦ let m = sum_lt n f g w (omega arith) (λ v l. h v (omega arith)) less in
-          omega arith
-    ]
-
-pub sum_at : (n w : ℕ) (f g : ℕ → ℕ) → w < n → ((v : ℕ) → v < n → v ≢ w → f v ≡ g v) →
-    sum_to n f + g w ≡ sum_to n g + f w
-sum_at zero w f g low same = absurd (omega arith)
-sum_at (suc n) w f g low same =
-    elim (cases_eq n w) [
-      | inl e ↦ let rest = sum_ext n f g (λ v l. same v (omega arith) (omega arith)) in
-          rw (← e) (omega arith)
-      | inr far ↦ let rest = sum_at n w f g (omega arith) (λ v l. same v (omega arith)) in
-          let here = same n (omega arith) far in omega arith
-    ]
-
-sum_zero : (n : ℕ) → ◌≡◌ {A = ℕ} (sum_to n (λ v. 0)) 0
-sum_zero zero = refl
-sum_zero (suc n) = let h = sum_zero n in omega arith
-
 pub parts_length : (seats : ℕ) (xs : List ℕ) → 0 < seats →
-    sum_to seats (λ v. length (of v seats xs)) ≡ length xs
-parts_length seats [] some_seat = sum_zero seats
+    sum_below (λ v. length (of v seats xs)) seats ≡ length xs
+parts_length seats [] some_seat = sum_below-none (λ v. 0) seats (λ v l. refl)
 parts_length seats (x ∷ xs) some_seat =
     let r = x % seats in
     let h = parts_length seats xs some_seat in
-    let at = sum_at seats r (λ v. length (of v seats xs)) (λ v. length (of v seats (x ∷ xs)))
-    (omega arith) (λ v l far. rw (ne_eqb r v (λ e. far (sym e))) refl) in
+    let at = sum_below-except (λ v. length (of v seats xs))
+    (λ v. length (of v seats (x ∷ xs))) seats r (omega arith)
+    (λ v l far. rw (ne_eqb r v (λ e. far (sym e))) refl) in
     let here : length (of r seats (x ∷ xs)) ≡ suc (length (of r seats xs)) =
     rw (eq-eqb r r refl) refl in
     omega arith
@@ -90,13 +56,14 @@ deal_length j seats v =
     ≡ cond b 1 0 + length (deal j seats v)) [ true ↦ omega arith | false ↦ omega arith ]
 
 pub deals_length : (seats jobs : ℕ) → 0 < seats →
-    sum_to seats (λ v. length (deal jobs seats v)) ≡ jobs
-deals_length seats zero some_seat = sum_zero seats
+    sum_below (λ v. length (deal jobs seats v)) seats ≡ jobs
+deals_length seats zero some_seat = sum_below-none (λ v. 0) seats (λ v l. refl)
 deals_length seats (suc j) some_seat =
     let r = j % seats in
     let h = deals_length seats j some_seat in
-    let at = sum_at seats r (λ v. length (deal j seats v)) (λ v. length (deal (suc j) seats v))
-    (omega arith) (λ v l far. rw (ne_eqb r v (λ e. far (sym e))) refl) in
+    let at = sum_below-except (λ v. length (deal j seats v))
+    (λ v. length (deal (suc j) seats v)) seats r (omega arith)
+    (λ v l far. rw (ne_eqb r v (λ e. far (sym e))) refl) in
     let here : length (deal (suc j) seats r) ≡ suc (length (deal j seats r)) = deal_length j seats r
     ∙ rw (eq-eqb r r refl) (omega arith) in
     omega arith
@@ -108,7 +75,8 @@ room_left seats jobs xs w low h less =
     let a = parts_length seats xs (omega arith) in
     let b = deals_length seats jobs (omega arith) in
     let c =
-    sum_lt seats (λ v. length (of v seats xs)) (λ v. length (deal jobs seats v)) w low h less in
+    sum_below-less (λ v. length (of v seats xs)) (λ v. length (deal jobs seats v)) seats w low h
+    less in
     omega arith
 
 -- If deque v's deal of m jobs begins with v's jobs below j and then j, so does v's deal of m + 1
@@ -182,6 +150,6 @@ once_more zero x h = absurd (omega arith)
 once_more (suc n) x h = refl
 
 pub sum_skip : (n v : ℕ) (f : ℕ → ℕ) → v < n →
-    sum_to n (λ i. cond (i == v) 0 (f i)) + f v ≡ sum_to n f
-sum_skip n v f low = sum_at n v (λ i. cond (i == v) 0 (f i)) f low (λ i l far.
+    sum_below (λ i. cond (i == v) 0 (f i)) n + f v ≡ sum_below f n
+sum_skip n v f low = sum_below-except (λ i. cond (i == v) 0 (f i)) f n v low (λ i l far.
     rw (ne_eqb i v far) refl) ∙ rw (eq-eqb v v refl) (omega arith)

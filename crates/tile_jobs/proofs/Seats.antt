@@ -6,7 +6,7 @@ use Rattle.std.proofs.lemmas.Bool.{cases_eq, cases_lt, eq-eqb, ne_eqb, lt-ltb, l
 use Rattle.std.proofs.lemmas.List.{get_or-set_same, get_or-set_other}
 use lib.ListN.{length-append}
 use Rattle.tile_jobs.specs.Board.{deal}
-use Rattle.tile_jobs.specs.Ends.{EndState, SameEnd, Kept, TookJob, AllKept, TookAmong, of, skip, IsEnd, SeatState, IsSeat, SameSeat, seat_of, IsNew, without, IsFresh, AllFresh, IsDeal}
+use Rattle.tile_jobs.specs.Ends.{EndState, SameEnd, Kept, TookJob, AllKept, TookAmong, of, skip, IsDequeEnd, SeatState, IsSeat, SameSeat, seat_of, IsNew, without, IsFresh, AllFresh, IsDeal}
 use Rattle.tile_jobs.proofs.Residues.{of_here, of_else, room_left}
 
 pub same_trans : (a b c : EndState) → SameEnd a b → SameEnd b c → SameEnd a c
@@ -113,7 +113,7 @@ own_room s j o h t =
 
 others_took_at : (s : SeatState) (j : ℕ) (fs : List EndState) → IsSeat s →
     (t : TookAmong s.others j fs) → (i : ℕ) (d : EndState) → i < length s.others
-    → IsEnd s.own.jobs s.own.seats (skip s.number i) (s.taken ++ j ∷ []) (get_or fs i d)
+    → IsDequeEnd s.own.jobs s.own.seats (skip s.number i) (s.taken ++ j ∷ []) (get_or fs i d)
 others_took_at s j fs h t i d low =
     elim (cases_eq i t.0) [
       | inl e ↦

@@ -10,26 +10,28 @@ use mathlib.Core.Option.{some, some-ne-none}
 use lib.ListN.{get_elem?, length-append}
 use Rattle.crossbeam_deque.specs.Tasks.{Pushes, Takes, Finds, FindsFew, Forks, Merges, Learns}
 use Rattle.crossbeam_deque.proofs.Lists.{at_set, at_snoc}
-use Rattle.tile_jobs.specs.declared.deque.Entry.{Entry}
-use Rattle.tile_jobs.specs.declared.deque.Entry.TheVariants.{Job, End}
+use Rattle.tile_jobs.specs.declared.deque.DequeEntry.{DequeEntry}
+use Rattle.tile_jobs.specs.declared.deque.DequeEntry.TheVariants.{Job, End}
 use Rattle.tile_jobs.specs.declared.deque.Log.{Log}
-use Rattle.tile_jobs.specs.Board.{deal, feed, jobs_of, ends_of, times, IsRising}
-use Rattle.tile_jobs.specs.Rule.{total, all_taken, taken, share, blank, spent, once, dealing, IsOf, Lawful, CanTake, Took, split_off, after_split, taken_back, TookNext}
-use Rattle.tile_jobs.proofs.Totals.{total_set, total_at, total_snoc, total_plus, total_alone}
+use Rattle.tile_jobs.specs.Board.{deal, feed, jobs_of, end_count, times, IsRising}
+use Rattle.tile_jobs.specs.Rule.{sum_over, all_taken, taken, share, blank, spent, once, dealing, IsOf, Lawful, CanTake, Took, split_off, after_split, taken_back, TookNext}
+use Rattle.tile_jobs.proofs.Totals.{sum_over_set, sum_over_at, sum_over_append, sum_over_plus, sum_over_alone}
 use Rattle.tile_jobs.proofs.Entries.{cut_take, cut_drop, cut_below, cut_past, times_append, jobs_append, ends_append, feed_ends, feed_early, feed_late, feed_is, feed_rises, all_below}
 
 no_list : All IsRising ([] ∷ [])
 no_list =
     All-cons IsRising [] [] (λ i k d l low. absurd (omega arith)) (λ k d low. absurd (omega arith))
 
-pub names : (items : List Entry) (views : List Log) (h : Lawful items views) (port : ℕ) (u : Log) →
+pub names : (items : List DequeEntry) (views : List Log) (h : Lawful items views) (port : ℕ)
+    (u : Log) →
     get_elem? views port ≡ some u → CanTake u → (u.jobs ≡ h.jobs) × (u.seats ≡ h.seats)
     × (u.deque ≡ h.v)
 names items views h port u at can = let n : 0 < u.marks_due = can.0 in
     (h.views_are port u at).named (inr (omega arith))
 
-pub all_pushed : (items : List Entry) (views : List Log) (h : Lawful items views) (port : ℕ) (u :
-    Log) → get_elem? views port ≡ some u → CanTake u → h.pushed ≡ length (feed h.jobs h.seats h.v)
+pub all_pushed : (items : List DequeEntry) (views : List Log) (h : Lawful items views) (port : ℕ)
+    (u : Log) → get_elem? views port ≡ some u → CanTake u →
+    h.pushed ≡ length (feed h.jobs h.seats h.v)
 all_pushed items views h port u at can =
     let mine = h.views_are port u at in
     let n = names items views h port u at can in
@@ -37,30 +39,31 @@ all_pushed items views h port u at can =
     (mine.ready r).0) (λ (o : (u.owns ≡ true) × (u.pushed ≡ length (feed u.jobs u.seats u.deque))).
     sym (mine.owns o.0).1 ∙ rw (n.0, n.1, n.2) at o.1) can.1
 
-left_of_feed : (items : List Entry) (views : List Log)
+left_of_feed : (items : List DequeEntry) (views : List Log)
     (h : Lawful items views) (port : ℕ) (u : Log) → get_elem? views port ≡ some u → CanTake u →
-    items ≡ drop (total taken views) (feed h.jobs h.seats h.v)
+    items ≡ drop (sum_over taken views) (feed h.jobs h.seats h.v)
 left_of_feed items views h port u at can =
     let all = feed h.jobs h.seats h.v in
-    h.held ∙ ap (drop (total taken views))
+    h.held ∙ ap (drop (sum_over taken views))
     (rw (all_pushed items views h port u at can) (take_all (length all) all (omega arith)))
 
 -- A take by a pass that may take (`CanTake`) keeps `Lawful` if the pass's new view w is lawful
 -- (`IsOf`), counts the entry, and has the `share` (end marks due or taken) of its old view u.
-taken_after : (x : Entry) (items : List Entry) (views : List Log) (h : Lawful (x ∷ items) views)
+taken_after : (x : DequeEntry) (items : List DequeEntry) (views : List Log)
+    (h : Lawful (x ∷ items) views)
     (port : ℕ) (u w : Log) → get_elem? views port ≡ some u → CanTake u
     → taken w ≡ suc (taken u) → share w ≡ share u → ((y : ℕ) → times y (all_taken w)
-    ≡ times y (all_taken u) + times y (jobs_of (x ∷ []))) → w.marks ≡ u.marks + ends_of (x ∷ [])
+    ≡ times y (all_taken u) + times y (jobs_of (x ∷ []))) → w.marks ≡ u.marks + end_count (x ∷ [])
     → IsOf h.jobs h.seats h.v h.pushed h.owner port w
     → Lawful items (set views port w)
 taken_after x items views h port u w at can more same jobs ends is =
     let all = feed h.jobs h.seats h.v in
-    let t = total taken views in
+    let t = sum_over taken views in
     let whole = all_pushed (x ∷ items) views h port u at can in
     let held = left_of_feed (x ∷ items) views h port u at can in
     let low = cut_below all t x items held in
-    let t' : total taken (set views port w) ≡ suc t =
-    (let s = total_set taken views port u w at in omega arith) in
+    let t' : sum_over taken (set views port w) ≡ suc t =
+    (let s = sum_over_set taken views port u w at in omega arith) in
     let next : take (suc t) all ≡ take t all ++ x ∷ [] = cut_take all t x items held in
     record {
       jobs = h.jobs;
@@ -71,12 +74,13 @@ taken_after x items views h port u w at can more same jobs ends is =
       within = omega arith;
       held = rw (t', whole, take_all (length all) all (omega arith)) (cut_drop all t x items held);
       each = λ y. rw (t', next, jobs_append, times_append)
-          (let s = total_set (λ (v : Log). times y (all_taken v)) views port u w at in
+          (let s = sum_over_set (λ (v : Log). times y (all_taken v)) views port u w at in
           let old = h.each y in let new = jobs y in omega arith);
       marks = rw (t', next, ends_append) (let s =
-          total_set (λ (v : Log). v.marks) views port u w at in let old = h.marks in omega arith);
+          sum_over_set (λ (v : Log). v.marks) views port u w at in
+          let old = h.marks in omega arith);
       marks_due =
-          (let s = total_set share views port u w at in let old = h.marks_due in omega arith);
+          (let s = sum_over_set share views port u w at in let old = h.marks_due in omega arith);
       closed = λ _. whole;
       views_are = λ j v e. ⊎_elim (λ (q : (j ≡ port) × (w ≡ v)). subst (λ (y : ℕ × Log).
           IsOf h.jobs h.seats h.v h.pushed h.owner y.0 y.1) (λ i. (sym q.0 i, q.1 i)) is)
@@ -84,20 +88,20 @@ taken_after x items views h port u w at can more same jobs ends is =
           h.views_are j v q.1) (at_set views port j w v e);
     }
 
-takes_job : (j : ℕ) (items : List Entry) (views : List Log) (h : Lawful (Job j ∷ items) views)
+takes_job : (j : ℕ) (items : List DequeEntry) (views : List Log) (h : Lawful (Job j ∷ items) views)
     (port : ℕ) (u : Log) → get_elem? views port ≡ some u → CanTake u
     → let w = record u { took = u.took ++ j ∷ [] } in Lawful items (set views port w)
     × Took u (Job j ∷ []) w
 takes_job j items views h port u at can =
-    let t = total taken views in
+    let t = sum_over taken views in
     let mine = h.views_are port u at in
     let n = names (Job j ∷ items) views h port u at can in
     let held = left_of_feed (Job j ∷ items) views h port u at can in
     let w : Log = record u { took = u.took ++ j ∷ [] } in
     let some_leave : 0 < u.marks_due = can.0 in
     let early = feed_early h.jobs h.seats h.v t j items held in
-    let mine_of_all = total_at taken views port u at in
-    let marks_of_all = total_at (λ (v : Log). v.marks) views port u at in
+    let mine_of_all = sum_over_at taken views port u at in
+    let marks_of_all = sum_over_at (λ (v : Log). v.marks) views port u at in
     let no_marks : u.marks ≡ 0 = (let a = h.marks in let b = early.1 in omega arith) in
     let l1 = length-append u.took (j ∷ []) in
     let l2 = length-append (u.took ++ j ∷ []) (concat u.gathered) in
@@ -105,7 +109,7 @@ takes_job j items views h port u at can =
     let j_is = feed_is h.jobs h.seats h.v t j items held in
     let rises : All (λ x. x < j) u.took =
     all_below u.took j (λ x n. feed_rises h.jobs h.seats h.v t j items held x
-    (let a = times_append x u.took (concat u.gathered) in let b = total_at
+    (let a = times_append x u.took (concat u.gathered) in let b = sum_over_at
     (λ (v : Log). times x (all_taken v)) views port u at in let c = h.each x in omega arith)) in
     let rising : All IsRising (w.took ∷ w.gathered) = All-cons IsRising w.took u.gathered
     (all_pairs_push (λ x y. x < y) u.took j (All-head IsRising u.took u.gathered mine.rising) rises)
@@ -132,7 +136,8 @@ takes_job j items views h port u at can =
       },
     )
 
-takes_mark : (items : List Entry) (views : List Log) (h : Lawful (End ∷ items) views) (port : ℕ)
+takes_mark : (items : List DequeEntry) (views : List Log) (h : Lawful (End ∷ items) views)
+    (port : ℕ)
     (u : Log) → get_elem? views port ≡ some u → CanTake u
     → let w = record u { marks = suc u.marks; marks_due = u.marks_due - 1 } in
     Lawful items (set views port w) × Took u (End ∷ []) w
@@ -166,13 +171,13 @@ pub never_empty : (port : ℕ) (u : Log) → CanTake u → (views : List Log) �
     get_elem? views port ≡ some u → ⊥
 never_empty port u can views h at =
     let all = feed h.jobs h.seats h.v in
-    let t = total taken views in
+    let t = sum_over taken views in
     let held = left_of_feed [] views h port u at can in
     let past : length all ≤ t = cut_past all t held in
-    let marks : total (λ (v : Log). v.marks) views ≡ h.seats = h.marks
-    ∙ ap ends_of (take_all t all past) ∙ feed_ends h.jobs h.seats h.v in
-    let sums = total_plus (λ (v : Log). v.marks_due) (λ (v : Log). v.marks) views in
-    let mine = total_at (λ (v : Log). v.marks_due) views port u at in
+    let marks : sum_over (λ (v : Log). v.marks) views ≡ h.seats = h.marks
+    ∙ ap end_count (take_all t all past) ∙ feed_ends h.jobs h.seats h.v in
+    let sums = sum_over_plus (λ (v : Log). v.marks_due) (λ (v : Log). v.marks) views in
+    let mine = sum_over_at (λ (v : Log). v.marks_due) views port u at in
     let some_leave : 0 < u.marks_due = can.0 in
     let marks_due = h.marks_due in
     absurd (omega arith)
@@ -212,8 +217,9 @@ forks port u owns all two items views h at =
       idle = λ z. absurd (omega arith);
       rising = no_list;
     } in
-    let same : total taken (vs ++ r ∷ []) ≡ total taken views =
-    (let s = total_set taken views port u l at in let k = total_snoc taken vs r in omega arith) in
+    let same : sum_over taken (vs ++ r ∷ []) ≡ sum_over taken views =
+    (let s = sum_over_set taken views port u l at in let k = sum_over_append taken vs r in
+    omega arith) in
     record {
       jobs = h.jobs;
       seats = h.seats;
@@ -222,12 +228,13 @@ forks port u owns all two items views h at =
       owner = h.owner;
       within = rw same h.within;
       held = rw same h.held;
-      each = λ y. rw same (let s = total_set (λ (v : Log). times y (all_taken v))
-          views port u l at in let k = total_snoc (λ (v : Log). times y (all_taken v)) vs r in
+      each = λ y. rw same (let s = sum_over_set (λ (v : Log). times y (all_taken v))
+          views port u l at in let k = sum_over_append (λ (v : Log). times y (all_taken v)) vs r in
           let old = h.each y in omega arith);
-      marks = rw same (let s = total_set (λ (v : Log). v.marks) views port u l at in
-          let k = total_snoc (λ (v : Log). v.marks) vs r in let old = h.marks in omega arith);
-      marks_due = (let s = total_set share views port u l at in let k = total_snoc share vs r in
+      marks = rw same (let s = sum_over_set (λ (v : Log). v.marks) views port u l at in
+          let k = sum_over_append (λ (v : Log). v.marks) vs r in let old = h.marks in omega arith);
+      marks_due = (let s = sum_over_set share views port u l at in
+          let k = sum_over_append share vs r in
           let old = h.marks_due in omega arith);
       closed = λ _. whole;
       views_are = λ j v e. ⊎_elim
@@ -278,8 +285,9 @@ merges port u other w owns items views h at two at' =
       idle = λ _. refl;
       rising = no_list;
     } in
-    let same : total taken (set vs other spent) ≡ total taken views =
-    (let s = total_set taken views port u both at in let k = total_set taken vs other w spent at' in
+    let same : sum_over taken (set vs other spent) ≡ sum_over taken views =
+    (let s = sum_over_set taken views port u both at in
+    let k = sum_over_set taken vs other w spent at' in
     omega arith) in
     record {
       jobs = h.jobs;
@@ -290,15 +298,16 @@ merges port u other w owns items views h at two at' =
       within = rw same h.within;
       held = rw same h.held;
       each = λ y. rw same (let s =
-          total_set (λ (v : Log). times y (all_taken v)) views port u both at in let k = total_set
-          (λ (v : Log). times y (all_taken v)) vs other w spent at' in let old = h.each y in
+          sum_over_set (λ (v : Log). times y (all_taken v)) views port u both at in
+          let k = sum_over_set (λ (v : Log). times y (all_taken v)) vs other w spent at' in
+          let old = h.each y in
           let c : times y (all_taken both) ≡ times y (all_taken u) + times y (all_taken w) =
           ap (times y) joins ∙ times_append y (all_taken u) (all_taken w) in omega arith);
-      marks = rw same (let s = total_set (λ (v : Log). v.marks) views port u both at in
-          let k = total_set (λ (v : Log). v.marks) vs other w spent at' in let old = h.marks in
+      marks = rw same (let s = sum_over_set (λ (v : Log). v.marks) views port u both at in
+          let k = sum_over_set (λ (v : Log). v.marks) vs other w spent at' in let old = h.marks in
           omega arith);
-      marks_due = (let s = total_set share views port u both at in
-          let k = total_set share vs other w spent at' in let old = h.marks_due in omega arith);
+      marks_due = (let s = sum_over_set share views port u both at in
+          let k = sum_over_set share vs other w spent at' in let old = h.marks_due in omega arith);
       closed = rw same h.closed;
       views_are = λ j v e. ⊎_elim (λ (q : (j ≡ other) × (spent ≡ v)). subst (λ (y : ℕ × Log).
           IsOf h.jobs h.seats h.v h.pushed h.owner y.0 y.1) (λ i. (sym q.0 i, q.1 i)) spent_is)
@@ -319,14 +328,15 @@ whole_learns port u is items views h at y =
     let mine = h.views_are port u at in
     let n = mine.named (inl is.0) in
     let all = feed h.jobs h.seats h.v in
-    let t = total taken views in
-    let alone : total share views ≡ share u = h.marks_due ∙ sym n.1 ∙ sym is.1 in
+    let t = sum_over taken views in
+    let alone : sum_over share views ≡ share u = h.marks_due ∙ sym n.1 ∙ sym is.1 in
     let weigh : (j : ℕ) (v : Log) → get_elem? views j ≡ some v → share v ≡ 0 →
     times y (all_taken v) ≡ 0 = λ j v e z. ap (times y) ((h.views_are j v e).idle z) in
-    let only = total_alone (λ (v : Log). times y (all_taken v)) share views port u weigh at alone in
-    let marks = total_at (λ (v : Log). v.marks) views port u at in
+    let only =
+    sum_over_alone (λ (v : Log). times y (all_taken v)) share views port u weigh at alone in
+    let marks = sum_over_at (λ (v : Log). v.marks) views port u at in
     let some_mark : 0 < u.marks = is.2 in
-    let late : 0 < ends_of (take t all) = (let m = h.marks in omega arith) in
+    let late : 0 < end_count (take t all) = (let m = h.marks in omega arith) in
     sym only ∙ h.each y ∙ ap (times y) (feed_late h.jobs h.seats h.v t late) ∙ rw (n.0, n.1, n.2)
 
 first_is : (port : ℕ) (u : Log) → get_elem? (blank ∷ []) port ≡ some u → IsOf 0 0 0 0 0 port u
@@ -358,10 +368,11 @@ begins = record {
 
 -- Pushing the next entry keeps `Lawful` if no entry was taken, only the owner's pass may take end
 -- marks, and the other views stay lawful.
-pushed_after : (J S V n : ℕ) (e : Entry) (rest items : List Entry) (views : List Log)
+pushed_after : (J S V n : ℕ) (e : DequeEntry) (rest items : List DequeEntry) (views : List Log)
     (h : Lawful items views) (port : ℕ) → get_elem? views port ≡ some (dealing J S V n) →
     e ∷ rest ≡ drop n (feed J S V)
-    → total taken views ≡ 0 → items ≡ take n (feed J S V) → total share views + S ≡ S + once n S
+    → sum_over taken views ≡ 0 → items ≡ take n (feed J S V) →
+    sum_over share views + S ≡ S + once n S
     → ((j : ℕ) (v : Log) → j ≢ port → get_elem? views j ≡ some v → IsOf J S V (suc n) port j v)
     → Lawful (items ++ e ∷ []) (set views port (dealing J S V (suc n)))
 pushed_after J S V n e rest items views h port at next none held shares others =
@@ -369,8 +380,8 @@ pushed_after J S V n e rest items views h port at next none held shares others =
     let u : Log = dealing J S V n in
     let w : Log = dealing J S V (suc n) in
     let low = cut_below all n e rest next in
-    let t' : total taken (set views port w) ≡ 0 =
-    (let s = total_set taken views port u w at in omega arith) in
+    let t' : sum_over taken (set views port w) ≡ 0 =
+    (let s = sum_over_set taken views port u w at in omega arith) in
     let w_is : IsOf J S V (suc n) port port w =
     record {
       named = λ _. (refl, refl, refl);
@@ -387,11 +398,12 @@ pushed_after J S V n e rest items views h port at next none held shares others =
       owner = port;
       within = omega arith;
       held = rw (t', cut_take all n e rest next) (ap (λ l. l ++ e ∷ []) held);
-      each = λ y. rw t' (let s = total_set (λ (v : Log). times y (all_taken v)) views port u w at in
+      each = λ y. rw t' (let s =
+          sum_over_set (λ (v : Log). times y (all_taken v)) views port u w at in
           let old = rw none at (h.each y) in omega arith);
-      marks = rw t' (let s = total_set (λ (v : Log). v.marks) views port u w at in
+      marks = rw t' (let s = sum_over_set (λ (v : Log). v.marks) views port u w at in
           let old = rw none at h.marks in omega arith);
-      marks_due = (let s = total_set share views port u w at in omega arith);
+      marks_due = (let s = sum_over_set share views port u w at in omega arith);
       closed = λ z. absurd (omega arith);
       views_are = λ j v x. ⊎_elim (λ (q : (j ≡ port) × (w ≡ v)).
           subst (λ (y : ℕ × Log). IsOf J S V (suc n) port y.0 y.1) (λ i. (sym q.0 i, q.1 i)) w_is)
@@ -403,21 +415,22 @@ none_yet : (t p l : ℕ) → (0 < t → p ≡ l) → p < l → t ≡ 0
 none_yet zero p l closed low = refl
 none_yet (suc t) p l closed low = let e = closed (omega arith) in absurd (omega arith)
 
-pub pushes : (J S V n port : ℕ) (e : Entry) (rest : List Entry) → e ∷ rest ≡ drop n (feed J S V) →
+pub pushes : (J S V n port : ℕ) (e : DequeEntry) (rest : List DequeEntry) →
+    e ∷ rest ≡ drop n (feed J S V) →
     Pushes Lawful port (dealing J S V n) (e ∷ []) (λ w. w ≡ dealing J S V (suc n))
 pushes J S V zero port e rest next items views h at =
     let mine = h.views_are port blank at in
     let n = mine.named (inl refl) in
     let o = mine.owns refl in
     let within = h.within in
-    let none : total taken views ≡ 0 = omega arith in
+    let none : sum_over taken views ≡ 0 = omega arith in
     let p : h.pushed ≡ 0 = sym o.1 in
     let held : items ≡ [] = h.held ∙ rw (none, p) in
-    let shares : total share views ≡ 0 = h.marks_due ∙ sym n.1 in
+    let shares : sum_over share views ≡ 0 = h.marks_due ∙ sym n.1 in
     let others : (j : ℕ) (v : Log) → j ≢ port → get_elem? views j ≡ some v → IsOf J S V 1 port j v =
     λ j v far x.
     let theirs = h.views_are j v x in
-    let little = total_at share views j v x in
+    let little = sum_over_at share views j v x in
     record {
       named = elim [
         | inl q ↦ absurd (far ((theirs.owns q).0 ∙ sym o.0))
@@ -439,7 +452,7 @@ pushes J S V (suc m) port e rest next items views h at =
     let o = mine.owns refl in
     let low = cut_below (feed J S V) (suc m) e rest next in
     let low' : suc m < length (feed h.jobs h.seats h.v) = rw (n.0, n.1, n.2) at low in
-    let none : total taken views ≡ 0 = none_yet (total taken views) h.pushed
+    let none : sum_over taken views ≡ 0 = none_yet (sum_over taken views) h.pushed
     (length (feed h.jobs h.seats h.v)) h.closed (omega arith) in
     let held : items ≡ take (suc m) (feed J S V) = h.held ∙ rw (none, n.0, n.1, n.2, o.1) in
     let marks_due = h.marks_due in
@@ -458,15 +471,16 @@ pushes J S V (suc m) port e rest next items views h at =
       refl,
     )
 
-next_is : (xs items : List Entry) (views : List Log) (h : Lawful (xs ++ items) views) (port : ℕ)
+next_is : (xs items : List DequeEntry) (views : List Log) (h : Lawful (xs ++ items) views)
+    (port : ℕ)
     (u : Log) → get_elem? views port ≡ some u → CanTake u → u.owns ≡ true → share u ≡ u.seats
-    → (rest : List Entry) × (xs ++ rest ≡ drop (taken u) (feed u.jobs u.seats u.deque))
+    → (rest : List DequeEntry) × (xs ++ rest ≡ drop (taken u) (feed u.jobs u.seats u.deque))
 next_is xs items views h port u at can owns whole =
     let n = (h.views_are port u at).named (inl owns) in
-    let alone : total share views ≡ share u = h.marks_due ∙ sym n.1 ∙ sym whole in
+    let alone : sum_over share views ≡ share u = h.marks_due ∙ sym n.1 ∙ sym whole in
     let weigh : (j : ℕ) (v : Log) → get_elem? views j ≡ some v → share v ≡ 0 → taken v ≡ 0 =
     λ j v e z. (let k = ap length ((h.views_are j v e).idle z) in omega arith) in
-    let only = total_alone taken share views port u weigh at alone in
+    let only = sum_over_alone taken share views port u weigh at alone in
     (items, rw (n.0, n.1, n.2, ← only) (left_of_feed (xs ++ items) views h port u at can))
 
 -- If all other passes are joined to the owner's, the owner takes the next entry in the order

@@ -1,6 +1,5 @@
 -- A worker has a result of each job that its seat took.
-use Rattle.std.proofs.Common.{◌≡◌, ℕ, zero, suc, ◌+◌, ◌<◌, Result, Ok, Err, sym, subst, ◌==◌, cond, Bool, true, false, List, [], ◌∷◌, ◌++◌, get_or, refl, ◌∙◌, arith, inl, inr}
-use Rattle.std.proofs.lemmas.Bool.{cases_lt}
+use Rattle.std.proofs.Common.{◌≡◌, ℕ, ◌+◌, ◌<◌, Result, Ok, Err, sym, subst, ◌==◌, cond, Bool, true, false, List, [], ◌∷◌, ◌++◌, get_or, refl, ◌∙◌, arith}
 use Rattle.std.proofs.lemmas.Bool.Decides.{nat_tests}
 use Rattle.tile_jobs.specs.declared.slots.JobResult.{JobResult}
 use Rattle.tile_jobs.specs.Results.{HasResult}
@@ -9,7 +8,7 @@ use Rattle.std.specs.Prelude.{IsOkAnd}
 use Rattle.tile_jobs.specs.declared.JobFault.{JobFault}
 use Rattle.tile_jobs.specs.declared.worker.WorkerResult.{WorkerResult}
 use Rattle.tile_jobs.specs.Workers.{IsOutcome}
-use Rattle.tile_jobs.specs.Board.{times, sum_to}
+use Rattle.tile_jobs.specs.Board.{times}
 use Rattle.tile_jobs.specs.Ends.{SeatState, SameSeat, HasAllMarks}
 use Rattle.tile_jobs.proofs.Entries.{times_append}
 use Rattle.tile_jobs.proofs.Seats.{same_trans}
@@ -43,11 +42,3 @@ module _ {O : Type 0} where
   back_same gives s t (Ok output) out e =
       (subst (SameSeat s) (sym e) out.0.same, subst HasAllMarks (sym e) out.0.empty)
   back_same gives s t (Err f) out e = absurd e
-
-pub some_part : (n : ℕ) (f : ℕ → ℕ) → 0 < sum_to n f → (s : ℕ) × (s < n) × (0 < f s)
-some_part zero f h = absurd (omega arith)
-some_part (suc n) f h =
-    elim (cases_lt 0 (f n)) [
-      | inl l ↦ (n, omega arith, l)
-      | inr none ↦ let rest = some_part n f (omega arith) in (rest.0, omega (arith, rest.1), rest.2)
-    ]

@@ -3,7 +3,8 @@
 -- Public.
 use Rattle.std.specs.Prelude.{◌≡◌, ℕ, ◌+◌, ◌%◌, ◌<◌, ◌≤◌, true, List, [], length, drop, get_or}
 use Rattle.std.specs.List.{concat}
-use Rattle.tile_jobs.specs.Board.{deal, times, sum_to}
+use Rattle.tile_jobs.specs.Board.{deal, times}
+use Rattle.tile_jobs.specs.Sums.{sum_below}
 use Rattle.tile_jobs.specs.Ends.{SeatState, HasAllMarks}
 
 -- `left` has jobs of deques 0 to n - 1, in the order of the deques. Of each deque it has the jobs
@@ -14,7 +15,7 @@ ArePartsOf jobs seats n left = (parts : List (List ℕ)) × (length parts ≡ n)
 
 -- How often y occurs in all seats' lists of jobs taken.
 abbrev pub in_seats : ℕ → ℕ → List SeatState → SeatState → ℕ
-in_seats y seats ss d = sum_to seats (λ s. times y (get_or ss s d).taken)
+in_seats y seats ss d = sum_below (λ s. times y (get_or ss s d).taken) seats
 
 -- `left` has exactly the jobs below `jobs` that no seat took.
 pub record IsClosed (jobs seats : ℕ) (ss : List SeatState) (left : List ℕ) : Type 0 where

@@ -28,8 +28,8 @@ pub record EndState : Type 0 where
   pub seen : ℕ
 
 -- The end of deque `id` with this `marked` and `seen`; all else is as in the view u.
-abbrev pub end_of : DequeId → Bool → ℕ → Log → EndState
-end_of id marked seen u = record {
+abbrev pub end_from : DequeId → Bool → ℕ → Log → EndState
+end_from id marked seen u = record {
   id = id;
   jobs = u.jobs;
   seats = u.seats;
@@ -115,8 +115,8 @@ abbrev pub skip : ℕ → ℕ → ℕ
 skip n k = cond (nat_lt k n) k (suc k)
 
 -- The end is of deque v and lists v's jobs among `taken`, at most as many as were dealt to v.
-abbrev pub IsEnd : ℕ → ℕ → ℕ → List ℕ → EndState → Type 0
-IsEnd jobs seats v taken e = (e.jobs ≡ jobs) × (e.seats ≡ seats) × (e.deque ≡ v)
+abbrev pub IsDequeEnd : ℕ → ℕ → ℕ → List ℕ → EndState → Type 0
+IsDequeEnd jobs seats v taken e = (e.jobs ≡ jobs) × (e.seats ≡ seats) × (e.deque ≡ v)
     × (e.took ≡ of v seats taken) × (length e.took ≤ length (deal jobs seats v))
 
 -- A seat: its number, its ends and the jobs that it took.
@@ -133,9 +133,9 @@ pub record SeatState : Type 0 where
 pub record IsSeat (s : SeatState) : Type 0 where
   pub below : s.number < s.own.seats
   pub count : suc (length s.others) ≡ s.own.seats
-  pub own_is : IsEnd s.own.jobs s.own.seats s.number s.taken s.own
+  pub own_is : IsDequeEnd s.own.jobs s.own.seats s.number s.taken s.own
   pub others_are : (k : ℕ) (d : EndState) → k < length s.others →
-      IsEnd s.own.jobs s.own.seats (skip s.number k) s.taken (get_or s.others k d)
+      IsDequeEnd s.own.jobs s.own.seats (skip s.number k) s.taken (get_or s.others k d)
 
 -- The seat made of these parts.
 abbrev pub seat_of : ℕ → EndState → List EndState → List ℕ → SeatState

@@ -1,5 +1,6 @@
 pub mod Results
 pub mod Fault
+pub mod Sums
 pub mod Board
 pub mod Rule
 pub mod Ends

@@ -5,7 +5,8 @@
 use Rattle.std.specs.Prelude.{◌≡◌, ◌≢◌, ℕ, ◌+◌, ◌<◌, ◌==◌, true, cond, List, [], length, drop, slice_index_or}
 use Rattle.std.specs.declared.alloc.Global.{Global}
 use Rattle.std.specs.declared.vec.Vec.{Vec}
-use Rattle.tile_jobs.specs.Board.{deal, times, sum_to}
+use Rattle.tile_jobs.specs.Board.{deal, times}
+use Rattle.tile_jobs.specs.Sums.{sum_below}
 use Rattle.tile_jobs.specs.Ends.{DequeId, EndState}
 
 -- For each seat its stealing ends of the deques that are not closed yet.
@@ -40,4 +41,4 @@ pub record IsLeftOf (own : EndState) (n v : ℕ) (rows : Rows) (left : List ℕ)
   -- jobs dealt to the deque.
   pub once : (y : ℕ) (f : ℕ → ℕ) → EachHead n v rows (λ s e. times y e.took ≡ f s) →
       times y own.took ≡ f v
-      → sum_to n f + times y left ≡ times y (deal own.jobs own.seats own.deque)
+      → sum_below f n + times y left ≡ times y (deal own.jobs own.seats own.deque)

@@ -10,15 +10,15 @@ use Rattle.std.specs.Prelude.{◌≡◌, ℕ, zero, suc, ◌+◌, ◌-◌, ◌%�
 use Rattle.std.specs.List.{concat}
 use mathlib.Core.Option.{some}
 use lib.ListN.{get_elem?}
-use Rattle.tile_jobs.specs.declared.deque.Entry.{Entry}
-use Rattle.tile_jobs.specs.declared.deque.Entry.TheVariants.{Job, End}
+use Rattle.tile_jobs.specs.declared.deque.DequeEntry.{DequeEntry}
+use Rattle.tile_jobs.specs.declared.deque.DequeEntry.TheVariants.{Job, End}
 use Rattle.tile_jobs.specs.declared.deque.Log.{Log}
-use Rattle.tile_jobs.specs.Board.{deal, feed, jobs_of, ends_of, times, IsRising}
+use Rattle.tile_jobs.specs.Board.{deal, feed, jobs_of, end_count, times, IsRising}
 
 -- The sum of f over the views.
-abbrev pub total : (Log → ℕ) → List Log → ℕ
-total f [] = 0
-total f (v ∷ vs) = f v + total f vs
+abbrev pub sum_over : (Log → ℕ) → List Log → ℕ
+sum_over f [] = 0
+sum_over f (v ∷ vs) = f v + sum_over f vs
 
 -- The jobs that a pass took, and those of the passes joined to it.
 abbrev pub all_taken : Log → List ℕ
@@ -83,7 +83,7 @@ pub record IsOf (jobs seats v pushed owner : ℕ) (port : ℕ) (u : Log) : Type 
   pub rising : All IsRising (u.took ∷ u.gathered)
 
 -- A lawful deque: its entries, and the views of all its passes.
-pub record Lawful (items : List Entry) (views : List Log) : Type 0 where
+pub record Lawful (items : List DequeEntry) (views : List Log) : Type 0 where
   -- how many jobs and seats the board has and the deque's number v (each 0 before the first push),
   -- how many entries were pushed, and the number of the owner's pass
   pub jobs : ℕ
@@ -91,16 +91,17 @@ pub record Lawful (items : List Entry) (views : List Log) : Type 0 where
   pub v : ℕ
   pub pushed : ℕ
   pub owner : ℕ
-  pub within : total taken views ≤ pushed
+  pub within : sum_over taken views ≤ pushed
   -- The deque holds the entries that were pushed and not taken.
-  pub held : items ≡ drop (total taken views) (take pushed (feed jobs seats v))
+  pub held : items ≡ drop (sum_over taken views) (take pushed (feed jobs seats v))
   -- A number occurs in the lists of all passes as often as among the jobs of the entries taken.
-  pub each : (x : ℕ) → total (λ u. times x (all_taken u)) views
-      ≡ times x (jobs_of (take (total taken views) (feed jobs seats v)))
-  pub marks : total (λ u. u.marks) views ≡ ends_of (take (total taken views) (feed jobs seats v))
-  pub marks_due : total share views ≡ seats
+  pub each : (x : ℕ) → sum_over (λ u. times x (all_taken u)) views
+      ≡ times x (jobs_of (take (sum_over taken views) (feed jobs seats v)))
+  pub marks : sum_over (λ u. u.marks) views
+      ≡ end_count (take (sum_over taken views) (feed jobs seats v))
+  pub marks_due : sum_over share views ≡ seats
   -- No entry is taken before all are pushed.
-  pub closed : 0 < total taken views → pushed ≡ length (feed jobs seats v)
+  pub closed : 0 < sum_over taken views → pushed ≡ length (feed jobs seats v)
   pub views_are : (port : ℕ) (u : Log) → get_elem? views port ≡ some u →
       IsOf jobs seats v pushed owner port u
 
@@ -120,7 +121,7 @@ pub record AddsJob (u : Log) (j : ℕ) (w : Log) : Type 0 where
   pub unmarked : u.marks ≡ 0
 
 -- One entry was taken: a job, or an end mark.
-abbrev pub Took : Log → List Entry → Log → Type 0
+abbrev pub Took : Log → List DequeEntry → Log → Type 0
 Took u [] w = ⊥
 Took u (Job j ∷ []) w = AddsJob u j w
 Took u (End ∷ []) w = (w ≡ record u { marks = suc u.marks; marks_due = u.marks_due - 1 })
@@ -154,6 +155,6 @@ taken_back u w = record u {
 }
 
 -- One entry was taken: the one at index `taken u` in the order pushed.
-abbrev pub TookNext : Log → List Entry → Log → Type 0
+abbrev pub TookNext : Log → List DequeEntry → Log → Type 0
 TookNext u xs w = Took u xs w
-    × ((rest : List Entry) × (xs ++ rest ≡ drop (taken u) (feed u.jobs u.seats u.deque)))
+    × ((rest : List DequeEntry) × (xs ++ rest ≡ drop (taken u) (feed u.jobs u.seats u.deque)))

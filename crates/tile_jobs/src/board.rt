@@ -3,7 +3,8 @@
 //! [`Board::deal`] makes the seats, by module `dealing`. [`Board::close`] takes the seats apart and
 //! closes each deque, by module `closing`.
 ghost use Rattle.std.specs.Prelude.{◌≡◌, ℕ, ◌+◌, ◌<◌, ◌≤◌, ◌==◌, ◌⊎◌, ◌↔◌, cond, true, List, [], ◌++◌, length, vec_len, vec_capacity, slice_index_or, IfOk, IfErr, OnOk, Err};
-ghost use Rattle.tile_jobs.specs.Board.{deal as deal_list, times, sum_to};
+ghost use Rattle.tile_jobs.specs.Board.{deal as deal_list, times};
+ghost use Rattle.tile_jobs.specs.Sums.{sum_below};
 ghost use Rattle.tile_jobs.specs.Closed.{IsClosed};
 ghost use Rattle.tile_jobs.specs.Ends.{EndState, SeatState, IsBoard, IsDeal, IsSeat, IsNew};
 ghost use Rattle.tile_jobs.specs.Rows.{EachHead, HaveHeads, WithoutHeads, IsLeftOf};
@@ -29,7 +30,7 @@ fn join_ends(own: OwnEnd, rows: &mut Vec<Vec<OtherEnd>>, v: usize) -> Closing
         × (result.back ≡ vec_len rows.old) }
     ensures times { (y : ℕ) (f : ℕ → ℕ) →
         EachHead (vec_len rows.old) v rows.old.items (λ s e. times y e.took ≡ f s) →
-        times y result.gathered ≡ sum_to (vec_len rows.old) (λ i. cond (i == v) 0 (f i)) }
+        times y result.gathered ≡ sum_below (λ i. cond (i == v) 0 (f i)) (vec_len rows.old) }
     ensures own_mark { own.marked ≡ true → 0 < result.marks }
     ensures marks { EachHead (vec_len rows.old) v rows.old.items
         (λ s e. e.marked ≡ true → 0 < result.marks) }

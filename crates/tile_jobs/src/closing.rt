@@ -4,7 +4,7 @@ ghost use Rattle.crossbeam_deque.specs.Handles.{worker_deque, worker_view, worke
 ghost use Rattle.tile_jobs.specs.Board.{times};
 ghost use Rattle.tile_jobs.specs.Ends.{ClosingState, closing_of, IsClosing, Begins, AbsorbedEnd, PoppedJob, PoppedMark, deal_of};
 
-use crate::deque::{Deque, Entry, SplitsEnd, Whole, pop_next};
+use crate::deque::{Deque, DequeEntry, SplitsEnd, Whole, pop_next};
 use crate::ends::{OtherEnd, OwnEnd};
 use crate::reserved::put;
 use std::marker::Model;
@@ -51,8 +51,8 @@ impl Closing {
             (λ j. PoppedJob self.old j self.new) }
     {
         match pop_next(&mut self.worker) {
-            Entry::Job(job) => Some(job),
-            Entry::End => {
+            DequeEntry::Job(job) => Some(job),
+            DequeEntry::End => {
                 self.marked = true;
                 None
             }

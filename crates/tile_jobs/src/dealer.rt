@@ -6,7 +6,7 @@ ghost use Rattle.tile_jobs.specs.Board.{deal};
 ghost use Rattle.tile_jobs.specs.Rule.{dealing};
 ghost use Rattle.tile_jobs.specs.Ends.{DealerState, dealer_of, IsDealer, fresh};
 
-use crate::deque::{Deque, DequeKey, Entry, SplitsEnd, push};
+use crate::deque::{Deque, DequeEntry, DequeKey, SplitsEnd, push};
 use crate::ends::{OtherEnd, OwnEnd};
 use std::alloc::{AllocError, Global};
 use std::marker::Model;
@@ -51,7 +51,7 @@ fn push_jobs<D: DequeKey>(worker: &mut Deque, jobs: u32, seats: u32, v: u32)
         ≡ dealing D.jobs D.seats D.deque (worker_index worker.new) }
 {
     for round in 0..count_jobs(jobs, seats, v) {
-        push::<D>(worker, Entry::Job(v + round * seats));
+        push::<D>(worker, DequeEntry::Job(v + round * seats));
     }
 }
 
@@ -66,7 +66,7 @@ fn push_marks<D: DequeKey>(worker: &mut Deque, seats: u32)
     ensures view { worker_view worker.new ≡ dealing D.jobs seats D.deque (worker_index worker.new) }
 {
     for _ in 0..seats {
-        push::<D>(worker, Entry::End);
+        push::<D>(worker, DequeEntry::End);
     }
 }
 

@@ -15,7 +15,7 @@ use std::marker::{Brand, PhantomData};
 
 /// An entry of a deque: a job's number, or an end mark after all jobs.
 #[derive(Clone, Copy, PartialEq, Eq, Debug)]
-pub enum Entry {
+pub enum DequeEntry {
     Job(u32),
     End,
 }
@@ -45,7 +45,7 @@ pub struct Log {
 /// The deque holds the entries pushed and not taken; the views record those taken.
 pub struct DequeRule;
 
-impl Protocol<Entry, Log> for DequeRule {
+impl Protocol<DequeEntry, Log> for DequeRule {
     ghost use Rattle.tile_jobs.specs.Rule.{blank, spent, Lawful};
 
     ghost holds = { Lawful };
@@ -56,10 +56,10 @@ impl Protocol<Entry, Log> for DequeRule {
 }
 
 /// The owner's handle of a deque.
-pub type Deque = Worker<Entry, Global, Log, DequeRule>;
+pub type Deque = Worker<DequeEntry, Global, Log, DequeRule>;
 
 /// A stealing seat's handle of a deque.
-pub type Thief = Stealer<Entry, Global, Log, DequeRule>;
+pub type Thief = Stealer<DequeEntry, Global, Log, DequeRule>;
 
 /// A type that names a deque.
 /// It has the board's numbers of jobs and seats, and the deque's number.
@@ -86,7 +86,7 @@ pub struct Deals<D> {
     place: PhantomData<D>,
 }
 
-impl<D: DequeKey> Outcome<Entry, Log> for Deals<D> {
+impl<D: DequeKey> Outcome<DequeEntry, Log> for Deals<D> {
     ghost use Rattle.std.specs.Prelude.{◌≡◌, suc};
     ghost use Rattle.tile_jobs.specs.Rule.{dealing};
 
@@ -97,7 +97,7 @@ impl<D: DequeKey> Outcome<Entry, Log> for Deals<D> {
 /// The deque is never found empty.
 pub struct Takes;
 
-impl Outcome<Entry, Log> for Takes {
+impl Outcome<DequeEntry, Log> for Takes {
     ghost use Rattle.tile_jobs.specs.Rule.{Took};
 
     ghost then = { Took };
@@ -109,7 +109,7 @@ impl Outcome<Entry, Log> for Takes {
 /// The deque is never found empty.
 pub struct TakesNext;
 
-impl Outcome<Entry, Log> for TakesNext {
+impl Outcome<DequeEntry, Log> for TakesNext {
     ghost use Rattle.tile_jobs.specs.Rule.{TookNext};
 
     ghost then = { TookNext };
@@ -140,7 +140,7 @@ impl Join<Log> for SplitsEnd {
 /// They took no other job.
 pub struct Whole;
 
-impl Lesson<Entry, Log> for Whole {
+impl Lesson<DequeEntry, Log> for Whole {
     ghost use Rattle.std.specs.Prelude.{◌≡◌, ℕ};
     ghost use Rattle.tile_jobs.specs.Board.{deal, times};
     ghost use Rattle.tile_jobs.specs.Rule.{all_taken};
@@ -149,7 +149,7 @@ impl Lesson<Entry, Log> for Whole {
 }
 
 /// Pushes the next entry. Only the dealer pushes, before any entry is taken.
-pub(crate) fn push<D: DequeKey>(worker: &mut Deque, entry: Entry)
+pub(crate) fn push<D: DequeKey>(worker: &mut Deque, entry: DequeEntry)
     requires view { worker_view worker.old
         ≡ dealing D.jobs D.seats D.deque (worker_index worker.old) }
     requires next { entry ∷ drop (suc (worker_index worker.old)) (feed D.jobs D.seats D.deque)
@@ -167,7 +167,7 @@ pub(crate) fn push<D: DequeKey>(worker: &mut Deque, entry: Entry)
 }
 
 /// Pops the first entry, for the owner.
-pub(crate) fn pop(worker: &mut Deque) -> Entry
+pub(crate) fn pop(worker: &mut Deque) -> DequeEntry
     requires can { CanTake (worker_view worker.old) }
     requires fifo { worker_flavor worker.old ≡ 0 }
     ensures same { SameWorker worker.old worker.new }
@@ -180,7 +180,7 @@ pub(crate) fn pop(worker: &mut Deque) -> Entry
 }
 
 /// Pops the next entry in the order pushed. All other passes must be joined to the owner's.
-pub(crate) fn pop_next(worker: &mut Deque) -> Entry
+pub(crate) fn pop_next(worker: &mut Deque) -> DequeEntry
     requires can { CanTake (worker_view worker.old) }
     requires whole { ((worker_view worker.old).owns ≡ true)
         × (share (worker_view worker.old) ≡ (worker_view worker.old).seats) }
@@ -197,7 +197,7 @@ pub(crate) fn pop_next(worker: &mut Deque) -> Entry
 /// Steals the first entry, for a seat that is not the owner.
 ///
 /// Returns `None` after losing a race: the deque lost an entry since this pass last looked.
-pub(crate) fn steal(thief: &Thief, pass: &mut Pass<Entry, Log>) -> Option<Entry>
+pub(crate) fn steal(thief: &Thief, pass: &mut Pass<DequeEntry, Log>) -> Option<DequeEntry>
     requires table { IsPassOf (stealer_deque thief.now) pass.old }
     requires can { CanTake (view pass.old) }
     requires fifo { stealer_flavor thief.now ≡ 0 }

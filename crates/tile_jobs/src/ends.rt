@@ -3,11 +3,11 @@
 //! The seat pops at its own end and steals at the others.
 ghost use Rattle.std.specs.Prelude.{◌≡◌, ◌≤◌, true, false, cond, length, vec_len, MatchOption};
 ghost use Rattle.crossbeam_deque.specs.Handles.{taken, view as pass_view, IsPassOf, worker_deque, stealer_deque, worker_view, worker_flavor, stealer_flavor};
-ghost use Rattle.tile_jobs.specs.Ends.{EndState, end_of, IsOwn, IsOther, TookJob, Kept, LostSteal, SameElsewhere};
+ghost use Rattle.tile_jobs.specs.Ends.{EndState, end_from, IsOwn, IsOther, TookJob, Kept, LostSteal, SameElsewhere};
 ghost use Rattle.tile_jobs.specs.RoundOutcome.{StealsAmong};
 ghost use Rattle.tile_jobs.specs.StealOutcome.{MatchSteal};
 
-use crate::deque::{Deque, Entry, Log, Thief, pop, steal};
+use crate::deque::{Deque, DequeEntry, Log, Thief, pop, steal};
 use crossbeam_deque::Pass;
 use std::marker::Model;
 
@@ -21,7 +21,7 @@ pub struct OwnEnd {
 impl Model for OwnEnd {
     ghost Value = { EndState };
 
-    ghost view = { λ o. end_of (worker_deque o.worker) o.marked 0 (worker_view o.worker) };
+    ghost view = { λ o. end_from (worker_deque o.worker) o.marked 0 (worker_view o.worker) };
 
     ghost invariant = { λ o. IsOwn o.marked (worker_view o.worker) × (worker_flavor o.worker ≡ 0) };
 }
@@ -30,7 +30,7 @@ impl Model for OwnEnd {
 #[derive(Drop)]
 pub struct OtherEnd {
     thief: Thief,
-    pass: Pass<Entry, Log>,
+    pass: Pass<DequeEntry, Log>,
     // whether a steal was tried; contracts alone read this field
     tried: bool,
     marked: bool,
@@ -39,7 +39,7 @@ pub struct OtherEnd {
 impl Model for OtherEnd {
     ghost Value = { EndState };
 
-    ghost view = { λ o. end_of (stealer_deque o.thief) o.marked (cond o.tried (taken o.pass) 0)
+    ghost view = { λ o. end_from (stealer_deque o.thief) o.marked (cond o.tried (taken o.pass) 0)
         (pass_view o.pass) };
 
     ghost invariant = { λ o. IsOther o.marked (pass_view o.pass)
@@ -59,7 +59,7 @@ pub enum StealOutcome {
 impl OwnEnd {
     pub(crate) fn new(worker: Deque) -> OwnEnd
         requires { IsOwn false (worker_view worker) × (worker_flavor worker ≡ 0) }
-        ensures { result ≡ end_of (worker_deque worker) false 0 (worker_view worker) }
+        ensures { result ≡ end_from (worker_deque worker) false 0 (worker_view worker) }
     {
         OwnEnd {
             worker,
@@ -69,7 +69,7 @@ impl OwnEnd {
 
     pub(crate) fn into_parts(self) -> (Deque, bool)
         ensures own { IsOwn result.1 (worker_view result.0) × (worker_flavor result.0 ≡ 0) }
-        ensures parts { self ≡ end_of (worker_deque result.0) result.1 0 (worker_view result.0) }
+        ensures parts { self ≡ end_from (worker_deque result.0) result.1 0 (worker_view result.0) }
     {
         let OwnEnd { worker, marked } = self;
         (worker, marked)
@@ -84,8 +84,8 @@ impl OwnEnd {
             return None;
         }
         match pop(&mut self.worker) {
-            Entry::Job(job) => Some(job),
-            Entry::End => {
+            DequeEntry::Job(job) => Some(job),
+            DequeEntry::End => {
                 self.marked = true;
                 None
             }
@@ -94,10 +94,10 @@ impl OwnEnd {
 }
 
 impl OtherEnd {
-    pub(crate) fn new(thief: Thief, pass: Pass<Entry, Log>) -> OtherEnd
+    pub(crate) fn new(thief: Thief, pass: Pass<DequeEntry, Log>) -> OtherEnd
         requires { IsOther false (pass_view pass) × IsPassOf (stealer_deque thief) pass
             × (stealer_flavor thief ≡ 0) }
-        ensures { result ≡ end_of (stealer_deque thief) false 0 (pass_view pass) }
+        ensures { result ≡ end_from (stealer_deque thief) false 0 (pass_view pass) }
     {
         OtherEnd {
             thief,
@@ -107,9 +107,9 @@ impl OtherEnd {
         }
     }
 
-    pub(crate) fn into_pass(self) -> Pass<Entry, Log>
+    pub(crate) fn into_pass(self) -> Pass<DequeEntry, Log>
         ensures other { IsOther self.marked (pass_view result) × IsPassOf self.id result }
-        ensures parts { self ≡ end_of self.id self.marked self.seen (pass_view result) }
+        ensures parts { self ≡ end_from self.id self.marked self.seen (pass_view result) }
     {
         let OtherEnd {
             thief,
@@ -131,8 +131,8 @@ impl OtherEnd {
         }
         self.tried = true;
         match steal(&self.thief, &mut self.pass) {
-            Some(Entry::Job(job)) => StealOutcome::Job(job),
-            Some(Entry::End) => {
+            Some(DequeEntry::Job(job)) => StealOutcome::Job(job),
+            Some(DequeEntry::End) => {
                 self.marked = true;
                 StealOutcome::Mark
             }

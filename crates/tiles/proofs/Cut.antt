@@ -1,12 +1,11 @@
 -- A place is in a tile exactly if it lies in the tile's bounds. Each tile's bounds are in the grid.
-use Rattle.std.proofs.Common.{◌≡◌, ◌↔◌, ℕ, ◌+◌, ◌-◌, ◌*◌, ◌/◌, ◌%◌, ◌<◌, ◌≤◌, min, sym, ap, subst, ◌∙◌, arith, mul_comm, true}
+use Rattle.std.proofs.Common.{◌≡◌, ◌↔◌, ℕ, ◌+◌, ◌-◌, ◌*◌, ◌/◌, ◌%◌, ◌<◌, min, sym, ap, subst, ◌∙◌, arith, mul_comm, true}
 use Rattle.std.proofs.lemmas.Bool.{and_from, and_parts, le-leb, lt-ltb, leb-true, ltb-true}
 use Rattle.std.proofs.lemmas.Nat.{div-mul-add, mod-mul-add, mul-add-lt, div_below, mod_below, div-add-mod'}
-use Rattle.std.specs.Int.{div_ceil}
 use Rattle.terrain.specs.declared.place.Place.{Place}
 use Rattle.tiles.specs.declared.bounds.Bounds.{Bounds}
-use Rattle.tiles.specs.Cutting.{Cutting, longest_axis, longest_side, IsCutting, IsWithin, IsInTile, IsInBounds, is_in_bounds, AreBounds, across, down, tile_count, tile_of_place, bounds_of}
-use Rattle.tiles.proofs.Quotients.{one_piece, piece_begins, piece_of, pieces_some, piece_is, piece_from}
+use Rattle.tiles.specs.Cutting.{Cutting, longest_side, IsCutting, IsWithin, IsInTile, IsInBounds, is_in_bounds, AreBounds, across, down, tile_count, tile_of_place, bounds_of}
+use Rattle.tiles.proofs.Quotients.{piece_begins, piece_of, pieces_some, piece_is, piece_from}
 
 abbrev pub make_bounds : ℕ → ℕ → ℕ → ℕ → Bounds
 make_bounds top left rows cols = record { top = top; left = left; rows = rows; cols = cols }
@@ -126,19 +125,3 @@ in_bounds_from b p h = and_from _ _ (and_from _ _ (and_from _ _ (le-leb _ _ h.0)
 
 abbrev pub one_tile : ℕ → ℕ → Cutting
 one_tile cols rows = record { cols = cols; rows = rows; side = longest_side }
-
-pub one_tile_bounds : (cols rows : ℕ) → 1 ≤ cols → cols ≤ longest_axis → rows ≤ longest_axis →
-    bounds_of (one_tile cols rows) 0 ≡ make_bounds 0 0 rows cols
-one_tile_bounds cols rows some few_cols few_rows =
-    ap (λ a. make_bounds (0 / a * 4096) (0 % a * 4096) (min 4096 (rows - 0 / a * 4096))
-    (min 4096 (cols - 0 % a * 4096))) (one_piece cols some few_cols)
-    ∙ ap (λ n. make_bounds 0 0 n (min 4096 (cols - 0))) (whole rows few_rows)
-    ∙ ap (λ n. make_bounds 0 0 rows n) (whole cols few_cols) where
-      whole : (n : ℕ) → n ≤ 4096 → min 4096 (n - 0) ≡ n
-      whole n few = omega arith
-
-pub one_tile_count : (cols rows : ℕ) → 1 ≤ cols → cols ≤ longest_axis → 1 ≤ rows →
-    rows ≤ longest_axis → tile_count (one_tile cols rows) ≡ 1
-one_tile_count cols rows some_col few_cols some_row few_rows =
-    ap (λ n. n * div_ceil rows 4096) (one_piece cols some_col few_cols)
-    ∙ ap (λ n. 1 * n) (one_piece rows some_row few_rows)

@@ -5,7 +5,6 @@ use Rattle.std.specs.Int.{div_ceil}
 use Rattle.std.proofs.lemmas.Bool.{cases_lt}
 use Rattle.std.proofs.lemmas.Grind.{div_ceil_times}
 use Rattle.std.proofs.lemmas.Nat.{mul-le, div-mul-add, mod_below, div-add-mod'}
-use Rattle.tiles.specs.Cutting.{longest_side}
 
 pub piece_begins : (n s k : ℕ) → 0 < s → k < div_ceil n s → k * s < n
 piece_begins n s k p h =
@@ -36,6 +35,3 @@ piece_is s k x a b =
 pub piece_from : (s x : ℕ) → 0 < s → (x / s * s ≤ x) × (x < x / s * s + s)
 piece_from s x p =
     (omega (arith, div-add-mod' x s), omega (arith, div-add-mod' x s, mod_below x s p))
-
-pub one_piece : (n : ℕ) → 1 ≤ n → n ≤ longest_side → div_ceil n longest_side ≡ 1
-one_piece n some few = let a = div_ceil_times n 4096 (omega arith) in omega (arith, a)

@@ -1,14 +1,14 @@
 -- A list of values made spot by spot has, at each spot of a tile's window, the value of the place
 -- that the spot shows, or `none` where this place is not in `seen`. The bounds `seen` are those of
 -- the tile or of the whole grid. Spots are the places of the window.
-use Rattle.std.proofs.Common.{◌≡◌, ℕ, ◌+◌, ◌-◌, ◌*◌, ◌<◌, ◌≤◌, true, true≢false, inl, inr, List, [], ◌∷◌, ◌++◌, length, get_or, Option, unwrap_or, sym, ap, subst, refl, ◌∙◌, arith}
-use Rattle.std.proofs.lemmas.Bool.{cases_Bool, cases_eq, cases_lt, cond-true, cond-false, and_from, and_parts, le-leb, lt-ltb, ltb-true}
+use Rattle.std.proofs.Common.{◌≡◌, ℕ, ◌+◌, ◌-◌, ◌*◌, ◌<◌, ◌≤◌, true, inl, inr, List, [], ◌∷◌, ◌++◌, length, get_or, Option, unwrap_or, sym, ap, subst, refl, ◌∙◌, arith}
+use Rattle.std.proofs.lemmas.Bool.{cases_eq, cases_lt, cond-true, and_from, le-leb, lt-ltb}
 use Rattle.std.proofs.lemmas.List.{get_or_append_left, get_or-append_right, length-append, get_or_push, length_push}
 use Rattle.std.proofs.lemmas.Nat.{mul-add-lt}
 use Rattle.std.proofs.lemmas.Option.{unwrap_or-slice_get}
 use Rattle.std.proofs.Math.Nat.{mul-le-mul_right}
-use Rattle.terrain.proofs.Places.{same_place, index_injective, entry_or-inside}
-use Rattle.terrain.specs.Neighbours.{entry_or, index_of}
+use Rattle.terrain.proofs.Places.{same_place, index_injective}
+use Rattle.terrain.specs.Neighbours.{index_of}
 use Rattle.terrain.specs.declared.place.Place.{Place}
 use Rattle.tiles.specs.declared.bounds.Bounds.{Bounds}
 use Rattle.tiles.specs.Cutting.{Cutting, IsCutting, View, tile_count, bounds_of, is_within, is_shown, cell_shown, row_shown, is_in_bounds}
@@ -177,32 +177,3 @@ held_by_grid c tile seen lawful below e =
       rows_inside = omega arith;
       cols_inside = omega arith;
     })
-
-entry_in_grid : {X : Type 0} (c : Cutting) (cells : List X) (none : X) (p : Place) →
-    entry_inside (make_bounds 0 0 c.rows c.cols) c.cols cells none p
-    ≡ entry_or c.cols c.rows cells none p
-entry_in_grid c cells none p =
-    let all = make_bounds 0 0 c.rows c.cols in
-    elim (cases_Bool (is_in_bounds all p)) [
-      | inl inside ↦ (let held = in_bounds_parts all p inside in
-          cond-true _ _ _ inside ∙ sym (entry_or-inside c.cols c.rows cells none p
-          (omega (arith, held)) (omega (arith, held))))
-      | inr outside ↦ elim (cases_Bool (is_within c p)) [
-        | inl within ↦ (let row = ltb-true p.row c.rows (and_parts _ _ within).0 in
-            let col = ltb-true p.col c.cols (and_parts _ _ within).1 in
-            absurd (true≢false (sym (in_bounds_from all p
-            (omega arith, omega (arith, row), omega arith, omega (arith, col))) ∙ outside)))
-        | inr out ↦ cond-false _ _ _ outside ∙ sym (cond-false _ _ _ out)
-      ]
-    ]
-
--- what is seen of a whole grid is the grid's entries
-pub seen_grid : {X : Type 0} (c : Cutting) (cells : List X) (none : X) (seen b : Bounds)
-    (list : List X) → seen ≡ make_bounds 0 0 c.rows c.cols →
-    AreShown (entry_inside seen c.cols cells none) none b list →
-    AreShown (entry_or c.cols c.rows cells none) none b list
-seen_grid c cells none seen b list e f = λ s spot. (
-  λ p shows. (f s spot).0 p shows ∙ ap (λ (z : Bounds). entry_inside z c.cols cells none p) e
-      ∙ entry_in_grid c cells none p,
-  (f s spot).1,
-)

@@ -1,5 +1,5 @@
--- Defines the window of a tile: the tile with one row and one column more on each side. A spot is a
--- place in the window, whose row 0 and column 0 lie before the tile's first.
+-- Defines the window of a tile: the tile and a border of one cell around it. A spot is a place in
+-- the window, whose row 0 and column 0 lie before the tile's first.
 -- Public.
 use Rattle.std.specs.Prelude.{◌≡◌, ℕ, ◌+◌, ◌*◌, ◌<◌, ◌≤◌, ◌⊎◌, List, length, if◌then◌else◌, slice_index_or}
 use Rattle.terrain.specs.Neighbours.{index_of}

@@ -6,7 +6,7 @@
 //! Modules, callers first; `tiling` and `view` use each other:
 //!
 //! - `rim_numbers`: numbers for the rim cells of all tiles
-//! - `window`: a copy of a tile, with one more row and column on each side
+//! - `window`: a copy of a tile and of a border of one cell around it
 //! - `tiling`: a grid cut into tiles, and the tiles' lists merged
 //! - `view`: a borrowed view of a tile and the cells next to it
 //! - `rim`: a tile's outermost cells
@@ -26,4 +26,4 @@ pub use bounds::Bounds;
 pub use rim::Rim;
 pub use tiling::{Tiling, TilingFault};
 pub use view::TileView;
-pub use window::{Window, place_shown, spot_of};
+pub use window::{Window, spot_of};

@@ -1,6 +1,6 @@
-//! A copy of a tile's values, with one more row and column on each side: [`Window`].
+//! A copy of a tile's values and of a border around it: [`Window`].
 //!
-//! A spot is a place of a tile's window: the tile with one more row and column on each side.
+//! A spot is a place of a tile's window: the tile and a border of one cell around it.
 ghost use Rattle.std.specs.Prelude.{◌≡◌, ℕ, ◌+◌, ◌*◌, ◌<◌, ◌≤◌, ◌↔◌, IsTrue, length, MatchOption, OnOk, IfOk, slice_index_or};
 ghost use Rattle.terrain.specs.Neighbours.{entry_or};
 ghost use Rattle.terrain.specs.Ways.{around_index};
@@ -13,9 +13,9 @@ use crate::view::TileView;
 use std::alloc::{AllocError, Global};
 use terrain::{Place, around_index};
 
-/// A tile's values, with one row and one column more on each side, in row order.
-/// These have the values around the tile ([`Window::of_view`]) or `none` ([`Window::of_tile`]).
-/// The places of the window are spots.
+/// The values of a tile and of a border of one cell around it, in row order.
+/// With [`Window::of_view`] the border has the values around the tile, and `none` off the grid.
+/// With [`Window::of_tile`] it has `none` alone. The places of the window are spots.
 #[derive(Drop)]
 pub struct Window<T> {
     pub bounds: Bounds,
@@ -36,7 +36,7 @@ impl<T> Window<T> {
         spot.index_in(self.bounds.cols + 2)
     }
 
-    /// Returns the row-order indexes of the eight spots around one of the tile's, in code order.
+    /// Returns the row-order indexes, in code order, of the eight spots around a spot of the tile.
     #[inline(always)]
     #[tactic(auto, using(crate::proofs::SpotWays::index_after_row))]
     pub fn around(&self, spot: Place) -> [usize; 8]
@@ -98,7 +98,7 @@ impl<T: Copy + Drop> Window<T> {
 /// Returns the place at a spot, `None` if it lies north or west of the grid.
 /// Any other spot south or east of the grid gets a place outside the grid.
 #[inline(always)]
-pub fn place_shown(bounds: Bounds, spot: Place) -> Option<Place>
+fn place_shown(bounds: Bounds, spot: Place) -> Option<Place>
     requires bounds { IsWithinLimits bounds }
     requires spot { IsSpot bounds spot }
     ensures { MatchOption result (IsOff bounds spot) (λ p. Shows bounds spot p) }

@@ -3,8 +3,8 @@ use Rattle.drain.specs.Surroundings.{HasCells}
 use Rattle.drain.proofs.WindowCodes.{heights_are, leads, code_onward, code_down, code_outlet}
 use Rattle.drain.proofs.codes.data_code.Goals as goal
 
-pub onward-requires-clause-some : goal.onward-requires-clause-some
-onward-requires-clause-some c =
+pub onward_at-requires-clause-some : goal.onward_at-requires-clause-some
+onward_at-requires-clause-some c =
     let some = c.requires.some in (
       some.2,
       subst (λ (z : ℤ). HasCells some.2 c.args.cells.now c.args.steps.now c.args.at.now z
@@ -15,9 +15,9 @@ onward-requires-clause-some c =
 
 pub returns-then-own-gt0 : goal.returns-then-own-gt0
 returns-then-own-gt0 c = λ t p a are.
-    let first = rw (to_z-of_z c.ranges.level) at c.onward.ensures.first in
+    let first = rw (to_z-of_z c.ranges.level) at c.onward_at.ensures.first in
     code_onward t p c.args.cells.now c.args.steps.now c.args.at.now c.args.level c.args.own a are
-    c.onward.result c.of_way.result c.if-own-gt0.true (first a are.in_lists) c.of_way.ensures
+    c.onward_at.result c.of_way.result c.if-own-gt0.true (first a are.in_lists) c.of_way.ensures
 
 pub of_way-requires-in-Some : goal.of_way-requires-in-Some
 of_way-requires-in-Some c =

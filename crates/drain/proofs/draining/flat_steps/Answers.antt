@@ -7,7 +7,7 @@ use Rattle.tiles.specs.Cutting.{View, terrain_of}
 use Rattle.drain.specs.Rounds.{HasCountZero, AreWalked, IsRound}
 use Rattle.drain.specs.Steps.{DrainsAtOnce}
 use Rattle.drain.specs.Beginning.{HasZeros}
-use Rattle.drain.specs.Search.{AreCounts, IsSearched}
+use Rattle.drain.specs.Search.{AreAtMostNoCount, IsSearched}
 use Rattle.drain.proofs.Few.{drains_data}
 use Rattle.drain.proofs.Quiet.{ended, are_walked_to, round_to}
 use Rattle.drain.proofs.TileRound.{input_to, input_small, round_from}
@@ -36,7 +36,7 @@ round-requires g c =
     (ap (λ (xs : List ℕ). length xs) (c.deref.ensures.value ∙ input.value)) in
     record {
       size = size ∙ input.size;
-      counts = subst (λ (xs : List ℕ). AreCounts xs) (sym c.deref.ensures.value)
+      counts = subst (λ (xs : List ℕ). AreAtMostNoCount xs) (sym c.deref.ensures.value)
           (input_small (terrain_of v) b w.cells c.in_ok-old.old.items input
           (walks g.terrain v w.cells c.requires.0 c.requires.1.1.1.0 c.requires.1.1.1.1));
     }

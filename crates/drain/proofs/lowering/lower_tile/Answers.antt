@@ -2,18 +2,18 @@ use Rattle.std.proofs.Common.{◌≡◌, ◌<◌, ◌∙◌, ℕ, Some, length, 
 use Rattle.std.proofs.Common.{sym, ap, refl, arith}
 use Rattle.std.proofs.lemmas.Option.{slice_get-get_or, slice_get_read}
 use Rattle.tiles.specs.Cutting.{bounds_of, tile_of_place}
-use Rattle.drain.specs.declared.changes.Entry.{Entry}
+use Rattle.drain.specs.declared.changes.TileEntry.{TileEntry}
 use Rattle.drain.specs.Lowering.{counts_in}
 use Rattle.drain.proofs.Lowered.{begun, entered_more, entered_low, low_own, ready_at, even_end}
 use Rattle.drain.proofs.Lowered.{even_enter, even_spread, lowered_then, reached_all, reached_tile}
 use Rattle.drain.proofs.lowering.lower_tile.Goals as goal
 use Rattle.drain.proofs.lowering.lower_tile.Goals.{Then-next-run-2}
 
-abbrev none : Entry
+abbrev none : TileEntry
 none = record { tile = 0; change = record { place = record { row = 0; col = 0 }; count = 0 } }
 
 module _ (c : Then-next-run-2) where
-  abbrev next_entry : Entry
+  abbrev next_entry : TileEntry
   next_entry = get_or c.args.entries.now c.loop-next.next none
 
   entry_at : slice_get c.args.entries.now c.loop-next.next ≡ Some next_entry

@@ -1,6 +1,7 @@
 use Rattle.std.proofs.Common.{◌≡◌, ◌≤◌, ◌+◌, ◌-◌, ◌*◌, length}
 use Rattle.drain.specs.Entering.{sinkless_terrain}
-use Rattle.drain.specs.Lowering.{IsLowered, IsEntered, counts_in, total}
+use Rattle.tile_jobs.specs.Sums.{sum_below}
+use Rattle.drain.specs.Lowering.{IsLowered, IsEntered, counts_in}
 use Rattle.drain.proofs.Lowered.{IsRelaxedButReported}
 use Rattle.drain.proofs.lowering.lower_tile.Given as goal
 
@@ -26,4 +27,4 @@ decreases-loop-next l =
     let c = l.input.tiling.now in
     let tile = l.run.tile in
     (l.run.end - l.next) + ((length l.lowered.changes.items - l.done)
-    + total (c.cols * c.rows) (counts_in c tile l.input.steps.now l.lowered))
+    + sum_below (counts_in c tile l.input.steps.now l.lowered) (c.cols * c.rows))

@@ -5,12 +5,12 @@ use Rattle.tiles.specs.Cutting.{tile_count}
 use Rattle.tiles.proofs.Cut.{tile_of_place_below}
 use Rattle.drain.specs.Rounding.{Rounding, IsRunResult}
 use Rattle.drain.specs.declared.changes.Change.{Change}
-use Rattle.drain.specs.declared.changes.Entry.{Entry}
+use Rattle.drain.specs.declared.changes.TileEntry.{TileEntry}
 use Rattle.drain.specs.declared.changes.Run.{Run}
 use Rattle.drain.proofs.RunLemmas.{among_push, answered_more}
 use Rattle.drain.proofs.rounds.changes_here.Goals as goal
 
-abbrev none : Entry
+abbrev none : TileEntry
 none = record { tile = 0; change = record { place = record { row = 0; col = 0 }; count = 0 } }
 
 pub lower_tile-requires-clause-tile : goal.lower_tile-requires-clause-tile

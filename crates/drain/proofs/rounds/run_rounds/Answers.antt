@@ -11,8 +11,8 @@ invariant_of-entries_of_all g c = record {
       ∙ c.requires.counting.size;
 }
 
-pub loop-counting-init : goal.loop-counting-init
-loop-counting-init g c =
+pub loop-state-init : goal.loop-state-init
+loop-state-init g c =
     let notes = rw c.deref.ensures.value at c.in_ok-entries.ensures in
     record {
       tiling = refl;
@@ -31,7 +31,7 @@ loop-counting-init g c =
 
 pub returns-clause-finished : goal.returns-clause-finished
 returns-clause-finished g c =
-    let inv = c.loop-counting.invariant in
+    let inv = c.loop-state.invariant in
     let next = c.in_ok-full_round.ensures.next in
     let same = rw (inv.tiling, inv.levels) at next.same_sources in
     final_at (rounding_of c.full_round.new.self)
@@ -42,9 +42,9 @@ returns-clause-finished g c =
       λ input. (inv.same_sources p).1 ((same p).1 input),
     ))
 
-pub loop-counting-preserved : goal.loop-counting-preserved
-loop-counting-preserved g c =
-    let inv = c.loop-counting.invariant in
+pub loop-state-preserved : goal.loop-state-preserved
+loop-state-preserved g c =
+    let inv = c.loop-state.invariant in
     let next = next_then _ _ _ c.in_ok-full_round.ensures.next c.in_ok-run_small_rounds.ensures in
     let same = rw (inv.tiling, inv.levels) at next.same_sources in
     record {
@@ -57,6 +57,6 @@ loop-counting-preserved g c =
       );
     }
 
-pub loop-counting-smaller : goal.loop-counting-smaller
-loop-counting-smaller g c = (let less = c.in_ok-full_round.ensures.less c.if-branch.true in
+pub loop-state-smaller : goal.loop-state-smaller
+loop-state-smaller g c = (let less = c.in_ok-full_round.ensures.less c.if-branch.true in
     let low = c.in_ok-run_small_rounds.ensures.low in omega (arith, less, low))

@@ -4,21 +4,22 @@ use Rattle.std.proofs.lemmas.Bool.{cases_lt}
 use Rattle.std.proofs.lemmas.List.{length_push}
 use Rattle.std.proofs.lemmas.Option.{slice_get-get_or, slice_get_within, get_or_from_slice_get}
 use Rattle.std.specs.List.Sorted.{IsNonDecreasingBy}
-use Rattle.drain.specs.declared.changes.Entry.{Entry}
+use Rattle.drain.specs.declared.changes.TileEntry.{TileEntry}
 use Rattle.drain.specs.declared.changes.Run.{Run}
 use Rattle.drain.specs.Entering.{IsRun}
 use Rattle.drain.proofs.RunLemmas.{at_push, covered_more}
 use Rattle.drain.proofs.runs.runs_of.Goals as goal
 
-abbrev none : Entry
+abbrev none : TileEntry
 none = record { tile = 0; change = record { place = record { row = 0; col = 0 }; count = 0 } }
 
 -- entries after those of a tile are for later tiles
-later_more : (entries : List Entry) (tile from end : ℕ) → IsNonDecreasingBy (λ e. e.tile) entries →
+later_more : (entries : List TileEntry) (tile from end : ℕ) →
+    IsNonDecreasingBy (λ e. e.tile) entries →
     from ≤ end →
-    ((k : ℕ) (e : Entry) → from ≤ k → slice_get entries k ≡ Some e → tile ≤ e.tile) →
-    ((e : Entry) → slice_get entries end ≡ Some e → e.tile ≢ tile) →
-    (k : ℕ) (e : Entry) → end ≤ k → slice_get entries k ≡ Some e → tile + 1 ≤ e.tile
+    ((k : ℕ) (e : TileEntry) → from ≤ k → slice_get entries k ≡ Some e → tile ≤ e.tile) →
+    ((e : TileEntry) → slice_get entries end ≡ Some e → e.tile ≢ tile) →
+    (k : ℕ) (e : TileEntry) → end ≤ k → slice_get entries k ≡ Some e → tile + 1 ≤ e.tile
 later_more entries tile from end sorted ordered later other k e past at =
     let inside = slice_get_within entries k e at in
     let first = get_or entries end none in
@@ -27,7 +28,7 @@ later_more entries tile from end sorted ordered later other k e past at =
     let least = later end first ordered at_first in
     let differ = other first at_first in
     let is : get_or entries k none ≡ e = get_or_from_slice_get entries k e none at in
-    let tiles : (get_or entries k none).tile ≡ e.tile = ap (λ (x : Entry). x.tile) is in
+    let tiles : (get_or entries k none).tile ≡ e.tile = ap (λ (x : TileEntry). x.tile) is in
     let up = sorted end k none past inside in
     omega (arith, least, differ, tiles, up)
 

@@ -1,5 +1,5 @@
 use Rattle.std.proofs.Common.{◌≡◌, ◌≤◌, ◌<◌, ℕ, Some, length, slice_get}
-use Rattle.drain.specs.declared.changes.Entry.{Entry}
+use Rattle.drain.specs.declared.changes.TileEntry.{TileEntry}
 use Rattle.drain.specs.declared.changes.Run.{Run}
 use Rattle.drain.specs.Lowering.{IsAmong}
 use Rattle.drain.specs.Entering.{IsRun}
@@ -13,5 +13,5 @@ invariant-loop-tile l = record {
   covered : (k : ℕ) → k < l.from → (run : Run) × IsAmong l.runs.items run × (run.from ≤ k)
       × (k < run.end);
   below : l.from ≤ length l.entries;
-  later : (k : ℕ) (e : Entry) → l.from ≤ k → slice_get l.entries k ≡ Some e → l.tile ≤ e.tile;
+  later : (k : ℕ) (e : TileEntry) → l.from ≤ k → slice_get l.entries k ≡ Some e → l.tile ≤ e.tile;
 }

@@ -1,7 +1,7 @@
 use Rattle.std.proofs.Common.{◌≡◌, ◌<◌, All}
 use Rattle.terrain.specs.declared.place.Place.{Place}
 use Rattle.tiles.specs.Windows.{IsInner}
-use Rattle.drain.specs.Search.{IsSpread, IsNotAbove, IsNear, AreNoted}
+use Rattle.drain.specs.Search.{IsSpread, IsNotAbove, IsNear, NotesChanges}
 use Rattle.drain.proofs.search.pull_along.Given as goal
 
 abbrev pub invariant-loop-col : goal.invariant-loop-col
@@ -11,6 +11,7 @@ invariant-loop-col l = record {
   near : (s : Place) → IsInner l.window.bounds s → s.row ≡ l.row → s.col < l.col →
       IsNear l.window.bounds l.window.values.items l.old l.counts s;
   noted :
-      AreNoted l.window.bounds l.initial.counts l.counts l.initial.reached.items l.reached.items;
+      NotesChanges l.window.bounds l.initial.counts l.counts l.initial.reached.items
+      l.reached.items;
   inner : All (IsInner l.window.bounds) l.reached.items;
 }

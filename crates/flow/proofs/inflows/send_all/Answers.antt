@@ -1,8 +1,8 @@
 use Rattle.std.proofs.Common.{◌≡◌, ◌+◌, ap, ◌∙◌, arith}
-use Rattle.flow.specs.Streams.{sum_below}
+use Rattle.tile_jobs.specs.Sums.{sum_below}
 use Rattle.tiles.specs.RimNumbers.{rim_number_count}
 use Rattle.flow.specs.Inflows.{entering}
-use Rattle.flow.proofs.Sums.{sum_more, sum_below-part}
+use Rattle.tile_jobs.proofs.Sums.{sum_more, sum_below-part}
 use Rattle.flow.proofs.inflows.send_all.Goals as goal
 
 pub send-requires-clause-fits : goal.send-requires-clause-fits

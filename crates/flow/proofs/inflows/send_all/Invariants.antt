@@ -1,5 +1,5 @@
 use Rattle.std.proofs.Common.{◌≡◌, ℕ, ◌<◌, length, get_or}
-use Rattle.flow.specs.Streams.{sum_below}
+use Rattle.tile_jobs.specs.Sums.{sum_below}
 use Rattle.tiles.specs.RimNumbers.{rim_number_count}
 use Rattle.flow.specs.Inflows.{entering}
 use Rattle.flow.proofs.inflows.send_all.Given as goal

@@ -2,7 +2,7 @@ use Rattle.std.proofs.Common.{ℕ, ◌+◌, ◌^◌, ◌<◌, List, get_or, cond
 use Rattle.flow.specs.Sending.{donor}
 use Rattle.std.proofs.lemmas.Bool.{cond-false}
 use Rattle.flow.specs.Streams.{leads_to}
-use Rattle.flow.proofs.Sums.{bit_le, sum_below-few, sum_more}
+use Rattle.tile_jobs.proofs.Sums.{bit_le, sum_below-few, sum_more}
 use Rattle.flow.proofs.Totals.{leads_end}
 use Rattle.flow.proofs.Sending.{leads_test, added_at}
 use Rattle.flow.proofs.streams.count_donors.Goals as goal

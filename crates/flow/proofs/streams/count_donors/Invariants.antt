@@ -1,5 +1,5 @@
 use Rattle.std.proofs.Common.{◌≡◌, ℕ, ◌<◌, length, get_or}
-use Rattle.flow.specs.Streams.{sum_below}
+use Rattle.tile_jobs.specs.Sums.{sum_below}
 use Rattle.flow.specs.Sending.{donor}
 use Rattle.flow.proofs.streams.count_donors.Given as goal
 

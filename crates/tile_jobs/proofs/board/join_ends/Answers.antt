@@ -1,6 +1,7 @@
 use Rattle.std.proofs.Common.{rules, arith, sym, ap, ◌≡◌, ◌≢◌, ℕ, ◌<◌, ◌≤◌, ◌==◌, cond, length, drop, get_or, ◌∙◌, true, vec_len, set, below_more, eq-eqb}
 use Rattle.std.proofs.lemmas.Grind.{common_steps}
-use Rattle.tile_jobs.specs.Board.{times, sum_to}
+use Rattle.tile_jobs.specs.Board.{times}
+use Rattle.tile_jobs.specs.Sums.{sum_below}
 use Rattle.tile_jobs.specs.Ends.{EndState, ClosingState, AbsorbedEnd}
 use Rattle.tile_jobs.proofs.Entries.{times_append}
 use Rattle.tile_jobs.proofs.Closings.{back_here, back_else, sum_here, sum_else}
@@ -112,4 +113,4 @@ loop-s-preserved c =
 pub returns-clause-times : goal.returns-clause-times
 returns-clause-times c = λ y f each. let end : c.loop-s.s ≡ vec_len c.args.rows.now =
     grind (arith, common_steps) in c.loop-s.invariant.counts y f each
-    ∙ ap (λ n. sum_to n (λ i. cond (i == c.args.v) 0 (f i))) end
+    ∙ ap (λ n. sum_below (λ i. cond (i == c.args.v) 0 (f i)) n) end

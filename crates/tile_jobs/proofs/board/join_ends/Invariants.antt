@@ -1,5 +1,6 @@
 use Rattle.std.proofs.Common.{◌≡◌, ◌≢◌, ℕ, suc, ◌+◌, ◌<◌, ◌≤◌, ◌==◌, cond, nat_lt, vec_len, get_or, drop, true}
-use Rattle.tile_jobs.specs.Board.{times, sum_to}
+use Rattle.tile_jobs.specs.Board.{times}
+use Rattle.tile_jobs.specs.Sums.{sum_below}
 use Rattle.tile_jobs.specs.Ends.{EndState}
 use Rattle.tile_jobs.proofs.board.join_ends.Given as goal
 
@@ -18,7 +19,7 @@ invariant-loop-s l = let was = l.initial.rows.items in let own = l.fn.own in rec
       (get_or l.rows.items i d).items ≡ (get_or was i d).items;
   counts : (y : ℕ) (f : ℕ → ℕ) → ((i : ℕ) (d : _) (e : EndState) → i < vec_len l.initial.rows →
       i ≢ l.v → times y (get_or (get_or was i d).items 0 e).took ≡ f i) →
-      times y l.closing.gathered ≡ sum_to l.s (λ i. cond (i == l.v) 0 (f i));
+      times y l.closing.gathered ≡ sum_below (λ i. cond (i == l.v) 0 (f i)) l.s;
   own_mark : own.marked ≡ true → 0 < l.closing.marks;
   marks : (i : ℕ) (d : _) (e : EndState) → i < l.s → i ≢ l.v →
       (get_or (get_or was i d).items 0 e).marked ≡ true → 0 < l.closing.marks;

@@ -3,7 +3,7 @@ use Rattle.std.proofs.lemmas.Result.{err_from_is_err_and}
 use Rattle.std.proofs.lemmas.List.{append-nil}
 use Rattle.ascii_grid.specs.Reading.{flat, HasAdded, IsWordFault}
 use Rattle.ascii_grid.specs.declared.builder.GridBuilder.{GridBuilder}
-use Rattle.ascii_grid.specs.declared.builder.Stage.TheVariants.{AtValue}
+use Rattle.ascii_grid.specs.declared.builder.Expected.TheVariants.{AtValue}
 use Rattle.ascii_grid.proofs.Judging.{HasBegun-more}
 use Rattle.ascii_grid.proofs.AddedWords.{is_memory, not_memory_slot, not_memory_bad_value, word_fault, judged-key, fault-key, judged-value, fault-value, long_fault, height_word, no_first_height, at_key, at_heights, same_header}
 use Rattle.ascii_grid.proofs.builder.GridBuilder.add_word.Goals as goal
@@ -62,7 +62,7 @@ returns-in-AtHeights-clause-word c = λ ws h.
     height_word c.args.self.now c.add_height.new.self
     ws h.pairs h.rest c.args.word.now c.add_height.result h.header h.words
     (HasBegun-more h.rest (c.args.word.now ∷ []) there.0) there.1 (omega arith)
-    (ap (λ (j : GridBuilder). j.header) kept) (ap (λ (j : GridBuilder). j.stage) kept
+    (ap (λ (j : GridBuilder). j.header) kept) (ap (λ (j : GridBuilder). j.expected) kept
     ∙ c.in-AtHeights.is) (c.add_height.ensures.word h.pairs h.rest there.1)
 
 pub returns-in_ok-begin_heights-in-AtKey-clause-word :
@@ -77,8 +77,8 @@ returns-in_ok-begin_heights-in-AtKey-clause-word c = λ ws h.
     let words = at_key c.args.self.now ws h c.in-AtKey.is ∙ sym (append-nil (flat h.pairs)) in
     let more = height_word c.begin_heights.new.self c.add_height-in-AtKey.new.self ws h.pairs []
     c.args.word.now c.add_height-in-AtKey.result header words letter begun (omega arith)
-    (ap (λ (j : GridBuilder). j.header) kept) (ap (λ (j : GridBuilder). j.stage) kept
-    ∙ c.in_ok-begin_heights-in-AtKey.ensures.stage)
+    (ap (λ (j : GridBuilder). j.header) kept) (ap (λ (j : GridBuilder). j.expected) kept
+    ∙ c.in_ok-begin_heights-in-AtKey.ensures.expected)
     (c.add_height-in-AtKey.ensures.word h.pairs [] begun) in
     subst (λ d. MatchResult c.add_height-in-AtKey.result
     (λ _. HasAdded c.add_height-in-AtKey.new.self (ws ++ c.args.word.now ∷ []))

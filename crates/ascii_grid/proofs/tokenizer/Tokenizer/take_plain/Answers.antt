@@ -23,7 +23,7 @@ returns-in_err-add_height_value-clause-words c = λ text h.
     Unit {0}} self c.add_height_value.new.self text c.args.rest.now c.in-Some.len _ _
     (Err c.in_err-add_height_value.field-0.0) h between.1 between.0 plain inside refl
     (sym c.is_separator.ensures ∙ c.if-not-is_separator.false) (ap (λ (j : GridBuilder). j.header)
-    kept) (ap (λ (j : GridBuilder). j.stage) kept) c.in_err-add_height_value.ensures.word)
+    kept) (ap (λ (j : GridBuilder). j.expected) kept) c.in_err-add_height_value.ensures.word)
 
 pub returns-clause-words : goal.returns-clause-words
 returns-clause-words c = λ text h.
@@ -38,4 +38,4 @@ returns-clause-words c = λ text h.
     plain_word self c.add_height_value.new.self text c.args.rest.now c.in-Some.len _ _
     (Ok c.in_ok-add_height_value.field-0) h between.1 between.0 plain inside refl
     (sym c.is_separator.ensures ∙ c.if-not-is_separator.false) (ap (λ (j : GridBuilder). j.header)
-    kept) (ap (λ (j : GridBuilder). j.stage) kept) c.in_ok-add_height_value.ensures.word
+    kept) (ap (λ (j : GridBuilder). j.expected) kept) c.in_ok-add_height_value.ensures.word

@@ -1,7 +1,7 @@
 use Rattle.std.proofs.Common.{◌≡◌, ◌+◌, ℕ, sym, ap, ◌∙◌, arith}
 use Rattle.terrain.specs.Neighbours.{index_of}
 use Rattle.terrain.specs.declared.place.Place.{Place}
-use Rattle.drain.specs.declared.changes.Entry.{Entry}
+use Rattle.drain.specs.declared.changes.TileEntry.{TileEntry}
 use Rattle.drain.specs.Entering.{sinkless_terrain}
 use Rattle.drain.specs.Lowering.{count_of}
 use Rattle.drain.proofs.Lowered.{small}
@@ -15,7 +15,7 @@ returns c =
     let steps = c.args.self.now.steps.now in
     let from = c.args.from in
     let to = c.args.to in
-    let e : Entry = record {
+    let e : TileEntry = record {
       tile = c.tile_of-tile.result;
       change = record { place = to; count = from.count + 1 };
     } in

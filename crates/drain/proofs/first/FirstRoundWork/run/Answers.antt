@@ -1,5 +1,5 @@
 use Rattle.std.proofs.Common.{ℕ, ℤ, List, Option, sym, ap, subst, ◌∙◌}
-use Rattle.drain.specs.Search.{AreCounts, IsSearched}
+use Rattle.drain.specs.Search.{AreAtMostNoCount, IsSearched}
 use Rattle.drain.proofs.Begun.{begun_round, begun_small}
 use Rattle.drain.proofs.first.FirstRoundWork.run.Goals as goal
 
@@ -15,7 +15,7 @@ begun_counts-requires c =
 
 pub round-requires-clause-counts : goal.round-requires-clause-counts
 round-requires-clause-counts c =
-    subst (λ (xs : List ℕ). AreCounts xs) (sym c.deref.ensures.value)
+    subst (λ (xs : List ℕ). AreAtMostNoCount xs) (sym c.deref.ensures.value)
     (begun_small c.args.self.now.grid.now.terrain c.in_ok-window.window.bounds
     c.in_ok-begun.begun.items c.in_ok-begun.ensures)
 

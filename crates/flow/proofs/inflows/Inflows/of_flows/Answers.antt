@@ -3,7 +3,8 @@ use Rattle.std.proofs.lemmas.List.{take_at}
 use Rattle.flow.specs.Sending.{AreZeros}
 use Rattle.terrain.specs.declared.place.Place.{Place}
 use Rattle.tiles.specs.Cutting.{IsWithin}
-use Rattle.flow.specs.Streams.{AreUpstream, sum_below}
+use Rattle.tile_jobs.specs.Sums.{sum_below}
+use Rattle.flow.specs.Streams.{AreUpstream}
 use Rattle.tiles.specs.RimNumbers.{rim_number_count}
 use Rattle.flow.specs.Inflows.{AreEntering, entering}
 use Rattle.tiles.proofs.RimNumbered.{few_numbers}

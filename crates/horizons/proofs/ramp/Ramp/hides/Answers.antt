@@ -1,11 +1,11 @@
 use Rattle.std.proofs.Common.{refl, arith, pos}
-use Rattle.horizons.specs.Horizons.{value_at}
+use Rattle.horizons.specs.Horizons.{ramp_value}
 use Rattle.horizons.proofs.Sizes.{back, back_long, product_is}
 use Rattle.horizons.proofs.ramp.Ramp.hides.Goals as goal
 
 pub returns : goal.returns
 returns c =
-    let at = value_at c.args.self c.args.target in
+    let at = ramp_value c.args.self c.args.target in
     let value = back at c.requires.at.value in
     let value_long = back_long at (omega (arith, c.requires.at.value)) in
     let few = c.requires.at.lines in

@@ -3,16 +3,16 @@ use mir.Syntax.{w128}
 use Rattle.std.proofs.lemmas.Int.{fits_signed_from_abs}
 use Rattle.horizons.specs.declared.ramp.Ramp.{Ramp}
 use Rattle.horizons.specs.declared.target.Target.{Target}
-use Rattle.horizons.specs.Horizons.{IsRampAt, value_at}
+use Rattle.horizons.specs.Horizons.{IsRampAt, ramp_value}
 use Rattle.horizons.proofs.Sizes.{long_product, product_is}
 use Rattle.horizons.proofs.ramp.Ramp.is_above.Goals as goal
 
 value_times : (r s : Ramp) (t : Target) → IsRampAt r t → IsRampAt s t →
-    let p = long_product (value_at r t) (pos s.lines) in
-    FitsSigned w128 p × (to_z w128 (of_z w128 p) ≡ value_at r t *ℤ pos s.lines)
+    let p = long_product (ramp_value r t) (pos s.lines) in
+    FitsSigned w128 p × (to_z w128 (of_z w128 p) ≡ ramp_value r t *ℤ pos s.lines)
 value_times r s t at other =
-    let fits = fits_signed_from_abs w64 (value_at r t) at.value in
-    product_is (value_at r t) (pos s.lines) fits (omega (arith, other.lines))
+    let fits = fits_signed_from_abs w64 (ramp_value r t) at.value in
+    product_is (ramp_value r t) (pos s.lines) fits (omega (arith, other.lines))
 
 pub overflow_mul-result : goal.overflow_mul-result
 overflow_mul-result c =

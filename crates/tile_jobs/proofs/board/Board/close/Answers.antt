@@ -2,14 +2,16 @@ use Rattle.std.proofs.Common.{rules, arith, refl, sym, ap, ◌≡◌, ℕ, ◌+�
 use Rattle.std.proofs.lemmas.Bool.{cases_eq}
 use Rattle.std.proofs.lemmas.Grind.{common_steps}
 use Rattle.std.specs.Vec.Iter.{into_iter_items}
-use Rattle.tile_jobs.specs.Board.{deal, times, sum_to}
+use Rattle.tile_jobs.specs.Board.{deal, times}
+use Rattle.tile_jobs.specs.Sums.{sum_below}
 use Rattle.tile_jobs.specs.Ends.{EndState, SeatState, HasAllMarks, seat_of}
 use Rattle.tile_jobs.specs.Closed.{in_seats}
+use Rattle.tile_jobs.proofs.Sums.{sum_below-part}
 use Rattle.tile_jobs.proofs.Closes.{IsLeft}
 use Rattle.tile_jobs.proofs.Entries.{get_drop, cut_drop}
 use Rattle.tile_jobs.proofs.Residues.{deals_length}
 use Rattle.tile_jobs.proofs.Seats.{some_element}
-use Rattle.tile_jobs.proofs.Closes.{head, own_names, own_takes, head_low, head_id, head_took, some_drop, get_of_drop, next_row, left_more, sum_mono, times_of, all_left}
+use Rattle.tile_jobs.proofs.Closes.{head, own_names, own_takes, head_low, head_id, head_took, some_drop, get_of_drop, next_row, left_more, times_of, all_left}
 use Rattle.tile_jobs.proofs.board.Board.close.Goals as goal
 
 pub close_one-requires : goal.close_one-requires
@@ -40,7 +42,7 @@ close_one-requires c =
       capacity =
           let left = (inv.left J D).low in
           let f : ℕ → ℕ = λ u. length (deal J S u) in
-          let sums = sum_mono (suc v) S f low in
+          let sums = sum_below-part f (suc v) S low in
           let whole = deals_length S J c.requires.board.1 in
           let first : c.index.result.now ≡ get_or ss 0 c.index.result.now =
           grind (arith, common_steps) in
@@ -104,7 +106,7 @@ loop-own-preserved c =
           low far) ∙ times_of v S y (get_or ss s d).taken rem))
           (ap (λ (q : EndState). times y q.took) (own_is d) ∙ ap (times y)
           (own_takes J S ss D each v d low) ∙ times_of v S y (get_or ss v d).taken rem) in
-          let sizes = ap (λ n. sum_to n f) inv.size in
+          let sizes = ap (λ n. sum_below f n) inv.size in
           let r = ap (times y) deal_is in
           omega arith in
           rw o.left.1 (left_more J S ss v c.loop-own.left.items p low (inv.left J D) o.left.2.part.0

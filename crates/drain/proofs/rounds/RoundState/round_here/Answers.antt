@@ -2,7 +2,7 @@ use Rattle.std.proofs.Common.{List, Vec, Global, sym, subst, arith}
 use Rattle.drain.specs.Rounding.{rounding_of, IsGiven, AreRoundResults}
 use Rattle.drain.specs.declared.changes.Change.{Change}
 use Rattle.drain.proofs.RoundLemmas.{some_given}
-use Rattle.drain.proofs.rounds.Counting.round_here.Goals as goal
+use Rattle.drain.proofs.rounds.RoundState.round_here.Goals as goal
 
 pub put_round-requires-clause-answered : goal.put_round-requires-clause-answered
 put_round-requires-clause-answered c =

@@ -1,6 +1,6 @@
 use Rattle.drain.specs.Rounding.{rounding_of}
 use Rattle.drain.proofs.RoundLemmas.{next_none, next_then}
-use Rattle.drain.proofs.rounds.Counting.run_small_rounds.Goals as goal
+use Rattle.drain.proofs.rounds.RoundState.run_small_rounds.Goals as goal
 
 pub loop-self-init : goal.loop-self-init
 loop-self-init c = next_none (rounding_of c.args.self.now) c.requires

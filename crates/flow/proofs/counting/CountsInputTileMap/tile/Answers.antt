@@ -4,7 +4,7 @@ use Rattle.tiles.specs.Cutting.{Cutting, cell_count}
 use Rattle.tile_maps.proofs.Whole.{tile_of_entries}
 use Rattle.flow.specs.Counting.{IsCountAt}
 use Rattle.flow.proofs.Counted.{counts_size, entry_counted}
-use Rattle.flow.proofs.counting.CountingTileMap.tile.Goals as goal
+use Rattle.flow.proofs.counting.CountsInputTileMap.tile.Goals as goal
 
 pub tile_counts-requires-clause-countable : goal.tile_counts-requires-clause-countable
 tile_counts-requires-clause-countable c =

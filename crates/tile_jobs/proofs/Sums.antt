@@ -1,7 +1,8 @@
--- Sums of a function over the numbers below n are compared term by term, split and exchanged.
-use Rattle.std.proofs.Common.{◌≡◌, ◌≢◌, ℕ, zero, suc, ◌+◌, ◌-◌, ◌<◌, ◌≤◌, Bool, true, false, cond, inl, inr, sym, ap, refl, ◌∙◌, arith, add-one, add-zero}
+-- Laws of sums of a function over the numbers below n: comparing them term by term, splitting one,
+-- and exchanging the order of two nested sums.
+use Rattle.std.proofs.Common.{◌≡◌, ◌≢◌, ℕ, zero, suc, ◌+◌, ◌-◌, ◌<◌, ◌≤◌, Bool, true, false, cond, inl, inr, sym, ap, subst, refl, ◌∙◌, arith, add-one, add-zero}
 use Rattle.std.proofs.lemmas.Bool.{cases_eq, cases_lt}
-use Rattle.flow.specs.Streams.{sum_below}
+use Rattle.tile_jobs.specs.Sums.{sum_below}
 
 pub sum_below-same : (f g : ℕ → ℕ) (n : ℕ) → ((i : ℕ) → i < n → f i ≡ g i) →
     sum_below f n ≡ sum_below g n
@@ -43,6 +44,20 @@ term-le-sum_below f zero i h = absurd (omega arith)
 term-le-sum_below f (suc n) i h = elim (cases_eq i n) [
   | inl e ↦ (let same : f i ≡ f n = ap f e in omega arith)
   | inr ne ↦ omega (arith, term-le-sum_below f n i (omega arith))
+]
+
+-- If no term is greater, and term i is less, the sum is less.
+pub sum_below-less : (f g : ℕ → ℕ) (n i : ℕ) → i < n → ((j : ℕ) → j < n → f j ≤ g j) → f i < g i →
+    sum_below f n < sum_below g n
+sum_below-less f g zero i h le less = absurd (omega arith)
+sum_below-less f g (suc n) i h le less = elim (cases_eq i n) [
+  | inl e ↦ (let here : f n < g n = subst (λ (j : ℕ). f j < g j) e less in
+      omega (arith, here, sum_below-le f g n (λ j l. le j (omega arith))))
+  | inr ne ↦ omega (
+    arith,
+    le n (omega arith),
+    sum_below-less f g n i (omega arith) (λ j l. le j (omega arith)) less,
+  )
 ]
 
 -- If only term i changes, the sum changes by as much.

@@ -4,7 +4,7 @@ use Rattle.drain.specs.Rounds.{AreCounting}
 use Rattle.drain.specs.Entering.{sinkless_terrain}
 use Rattle.drain.specs.Rounding.{rounding_of, count_sum, IsNext}
 use Rattle.drain.proofs.RoundLemmas.{given_within, carried_counting, next_round, put_carried, put_less}
-use Rattle.drain.proofs.rounds.Counting.put_round.Goals as goal
+use Rattle.drain.proofs.rounds.RoundState.put_round.Goals as goal
 
 pub put_all-requires-clause-changes : goal.put_all-requires-clause-changes
 put_all-requires-clause-changes c =

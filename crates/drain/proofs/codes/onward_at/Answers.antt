@@ -3,7 +3,7 @@ use Rattle.std.proofs.lemmas.Bool.{false≢true}
 use Rattle.std.proofs.lemmas.List.{get_or_default}
 use Rattle.drain.specs.Steepness.{leads_on}
 use Rattle.drain.proofs.Greatest.{position_is, none_passes}
-use Rattle.drain.proofs.codes.onward.Goals as goal
+use Rattle.drain.proofs.codes.onward_at.Goals as goal
 
 pub returns-then-leads_on-clause-first : goal.returns-then-leads_on-clause-first
 returns-then-leads_on-clause-first c =

@@ -3,7 +3,7 @@ use Rattle.std.proofs.lemmas.Bool.{cases_lt}
 use Rattle.drain.specs.Rounding.{rounding_of, IsGiven, AreRoundResults}
 use Rattle.drain.specs.declared.changes.Change.{Change}
 use Rattle.drain.proofs.RoundLemmas.{some_given}
-use Rattle.drain.proofs.rounds.Counting.full_round.Goals as goal
+use Rattle.drain.proofs.rounds.RoundState.full_round.Goals as goal
 
 pub put_round-requires-clause-answered : goal.put_round-requires-clause-answered
 put_round-requires-clause-answered g c =

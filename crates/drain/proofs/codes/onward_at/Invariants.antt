@@ -2,7 +2,7 @@ use Rattle.std.proofs.Common.{◌≡◌, ◌<◌, ℕ, false, None, length, get_
 use Rattle.drain.specs.Surroundings.{HasCells}
 use Rattle.drain.specs.Steepness.{leads_on}
 use Rattle.drain.specs.declared.around.Around.{Around}
-use Rattle.drain.proofs.codes.onward.Given as goal
+use Rattle.drain.proofs.codes.onward_at.Given as goal
 
 abbrev pub invariant-loop-way : goal.invariant-loop-way
 invariant-loop-way l = record {
