@@ -64,8 +64,9 @@ impl HeightParser {
         Some(cells)
     }
 
-    /// Skips a separator or adds the next word's cell. Returns the count of bytes read.
-    /// `None` if the word or refused memory makes [`cells`](Self::cells) return `None`.
+    /// Skips a separator, or adds the next word's cell. Returns the number of bytes read.
+    /// `None` if the word is too long, spells no cell or has no separator after it, or if memory is
+    /// refused.
     #[inline(always)]
     fn add_next(
         &self,

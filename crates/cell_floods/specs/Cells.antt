@@ -1,4 +1,6 @@
--- A rectangle of a terrain's cells as a net: neighbouring data cells are joined.
+-- A rectangle of a terrain's cells as a net: nodes, joins of two nodes, and sources. Nodes are
+-- cells. Neighbouring data cells are joined, at the greater of their heights. Sources are the data
+-- cells that are sinks or beside a cell without data.
 -- Public.
 use Rattle.std.specs.Prelude.{◌≡◌, ◌≢◌, ◌≤ℤ◌, ℕ, zero, suc, ◌+◌, ◌-◌, ◌*◌, ◌/◌, ◌%◌, ◌<◌, ◌≤◌, ◌⊎◌, ◌↔◌, ◌||◌, ℤ, Bool, true, false, List, [], ◌∷◌, ◌++◌, length, Option, None, Some, IsSome, is_none, if◌then◌else◌, slice_index_or, slice_range}
 use Rattle.std.specs.List.{list_any, Contains}

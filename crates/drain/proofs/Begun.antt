@@ -1,5 +1,6 @@
--- The initial counts of steps at a window's spots: 0 where a cell of the tile drains at once, sinks
--- included, else unknown. A search from them gives the counts of the first round.
+-- The initial counts of steps at the spots of a tile's window: 0 where a cell of the tile drains at
+-- once, sinks included, else unknown. A search from them gives the counts of the first round. The
+-- window is the tile and a border of one cell around it.
 use Rattle.std.proofs.Common.{◌≡◌, ℕ, suc, cond, if◌then◌else◌, ◌+◌, ◌*◌, ◌<◌, ◌≤◌, ◌⊎◌, inl, inr, List, [], ◌∷◌, map, length, get_or, Option, None, Some, slice_set, unwrap_or, Contains, ℤ, sym, ap, subst, refl, ◌∙◌, arith}
 use Rattle.std.proofs.lemmas.Bool.{cases_Bool, cases_eq, cases_lt, cond-true, cond-false}
 use Rattle.std.proofs.lemmas.List.{get_or_default, get_or_past, get_or-map, get_or-set_same, get_or-set_other, length-map, length-set}
@@ -54,7 +55,8 @@ spots_by A B b counts to from are = record {
   each = λ s spot below. begun_by A B s _ (to s spot) (from s spot) (are.each s spot below);
 }
 
--- by the heights of a tile's window, the initial counts of the tile without regard to sinks
+-- counts that are initial by the heights of a tile's window (`HasGapOrLower`) are initial by the
+-- terrain, where being a sink does not suffice (`IsEdgeOrHasLower`)
 pub begun_shown : (t : Terrain) (b : Bounds) (levels : List (Option ℤ)) (counts : List ℕ) →
     AreEntriesShown t t.cells b levels →
     AreBegunSpots (HasGapOrLower b levels) b counts →
@@ -209,7 +211,8 @@ known_again [] few = refl
 known_again (n ∷ counts) few = ap (λ (m : ℕ). m ∷ counts) (sym (known_number n (few 0))) ∙ ap
     (λ (xs : List ℕ). unwrap_or (known n) no_count ∷ xs) (known_again counts (λ k. few (suc k)))
 
--- The counts of the list for the places of the tile, `None` elsewhere.
+-- The entry at row-order index k of the grid: that of `begun` if its place is in the tile, else
+-- `None`. `in_tile_of` lists these entries.
 abbrev in_tile_at : ℕ → Bounds → List (Option ℕ) → ℕ → Option ℕ
 in_tile_at cols b begun k = if is_in_bounds b (place_at cols k) then get_or begun k None else None
 
@@ -228,8 +231,9 @@ in_tile_entry cols rows b begun p row col =
     ∙ ap (λ (o : Option ℕ). cond (is_in_bounds b p) o None)
     (sym (entry-inside cols rows begun p row col))
 
--- Let `counts` be the initial counts at a window's spots. They are those that the terrain's list
--- has at the tile's places, and none is above `no_count`.
+-- Let `counts` be the initial counts at a window's spots. None is above `no_count`. At a spot of
+-- the tile, the count is the cell's entry in `begun`, the initial counts of the terrain. At other
+-- spots it is unknown, as in `tile_begun`, which has no entries outside the tile.
 module _ (t : Terrain) (b : Bounds) (counts : List ℕ)
     (are : AreBegunSpots (ShowsDraining (DrainsAtOnce t) b) b counts) where
   pub begun_small : AreAtMostNoCount counts

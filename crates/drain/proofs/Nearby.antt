@@ -1,5 +1,5 @@
 -- It is decidable whether a cell is an end cell, has a lower neighbour, drains at once, or has a
--- flat walk of n moves.
+-- flat walk of n moves: a walk at one height to a cell that drains at once.
 use Rattle.std.proofs.Common.{◌≡◌, ℕ, zero, suc, ◌<ℤ◌, Bool, Decides, ◌&&◌, ◌||◌, ◌⊎◌, inl, inr, List, [], ◌∷◌, length, Option, Some, unwrap_or, ℤ, pos, int_lt, sym, ap, refl, ◌∙◌, arith}
 use Rattle.std.specs.List.{list_any}
 use Rattle.std.specs.Ordering.{int_eq}

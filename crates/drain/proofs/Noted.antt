@@ -1,6 +1,6 @@
 -- A search lists the spots of a tile whose counts it lowers. When all listed spots have spread,
 -- `IsRelaxed` holds: inside the tile no spot can lower another. A spot is a place of the tile's
--- window.
+-- window: the tile and a border of one cell around it.
 use Rattle.std.proofs.Common.{◌≡◌, ◌≢◌, ℕ, ◌+◌, ◌<◌, ◌≤◌, ◌⊎◌, inl, inr, All, List, [], ◌∷◌, ◌++◌, length, get_or, set, Option, Some, ℤ, sym, ap, subst, refl, ◌∙◌, arith}
 use Rattle.std.specs.Prelude.{slice_get}
 use Rattle.std.proofs.lemmas.Bool.{cases_eq}

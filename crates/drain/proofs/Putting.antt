@@ -1,6 +1,7 @@
--- Changes are put into the grid's counts (`ArePut`) if each lowers its cell's count or finds it no
--- higher, and all other counts stay. To set a cell's count to a change's lower count puts that
--- change. Two sets of changes that are put in turn are put as one set.
+-- Changes (cells with new, lower counts) are put into the grid's counts (`ArePut`): each change's
+-- cell then has at most the change's count, no count has risen, and all other counts stay. To set a
+-- cell's count to a change's lower count puts that change. Two sets of changes that are put in turn
+-- are put as one set.
 use Rattle.std.proofs.Common.{◌≡◌, ℕ, ◌^◌, ◌<◌, ◌≤◌, ◌⊎◌, inl, inr, List, length, get_or, slice_set, Option, None, Some, unwrap_or, sym, ap, subst, refl, ◌∙◌, arith}
 use Rattle.std.proofs.lemmas.Bool.{cases_eq}
 use Rattle.std.proofs.lemmas.List.{get_or-set_same, get_or-set_other, length-set}

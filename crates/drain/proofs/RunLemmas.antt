@@ -1,6 +1,7 @@
 -- A list with one element appended has the old elements and that one. If runs, or their results,
--- cover the entries before a further run, with that run they cover the entries before its end. A
--- run is the range of one tile's entries.
+-- cover the entries before a further run, with that run they cover the entries before its end. An
+-- entry is a lower count that follows from a neighbour in another tile. A run is the range of one
+-- tile's entries.
 use Rattle.std.proofs.Common.{◌≡◌, ℕ, ◌+◌, ◌<◌, ◌≤◌, ◌⊎◌, inl, inr, List, [], ◌∷◌, ◌++◌, length, Some, Vec, Global, sym, ap, subst, ◌∙◌, arith}
 use Rattle.std.specs.Prelude.{slice_get}
 use Rattle.std.proofs.lemmas.Bool.{cases_eq, cases_lt}

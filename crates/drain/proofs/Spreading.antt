@@ -1,6 +1,6 @@
--- Relaxations after relaxations are relaxations. They keep the length of the list and raise no
--- count. A relaxation lowers a spot's count to one more than a count that an adjacent spot of its
--- height has after some relaxations.
+-- Laws of `IsSpread` (`Search`): a relaxation lowers a spot's count to one more than a count that
+-- an adjacent spot of its height has after some relaxations. Relaxations after relaxations are
+-- relaxations. They keep the length of the list of counts and raise no count.
 use Rattle.std.proofs.Common.{◌≡◌, ◌≢◌, ℕ, ◌+◌, ◌<◌, ◌≤◌, ◌⊎◌, inl, inr, List, length, get_or, set, sum, ℤ, Option, sym, ap, subst, refl, ◌∙◌, arith}
 use Rattle.std.proofs.lemmas.Bool.{cases_eq, cases_lt}
 use Rattle.std.proofs.lemmas.List.{length-set, get_or-set_same, get_or-set_other, get_or_past}

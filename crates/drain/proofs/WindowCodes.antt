@@ -1,5 +1,6 @@
--- The windows of a tile have the surroundings of each of its cells, and these give the cell's
--- direction. Surroundings are heights and steps of a cell and its neighbours.
+-- The windows of a tile, with heights and with steps, have the surroundings of each of its cells,
+-- and these give the cell's direction. Surroundings are heights and steps of a cell and its
+-- neighbours. A window is the tile and a border of one cell around it.
 use Rattle.std.proofs.Common.{◌≡◌, ℕ, ◌+◌, ◌<◌, ◌≤◌, inl, inr, true, false, max, fold, List, get_or, Option, None, Some, is_some, IfSome, ℤ, sym, ap, subst, refl, ◌∙◌, arith}
 use Rattle.std.specs.Prelude.{option_map}
 use Rattle.std.specs.List.{list_any, position}

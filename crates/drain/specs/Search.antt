@@ -1,6 +1,6 @@
--- Counts in the window of a tile, and how a search lowers them. A spot is a place in the window. A
--- count is the fewest moves at one filled height, found so far, from a cell to one that drains at
--- once, or unknown.
+-- Counts in the window of a tile (the tile and a border of one cell around it), and how a search
+-- lowers them. A spot is a place in the window. A count is the fewest moves at one filled height,
+-- found so far, from a cell to one that drains at once, or unknown.
 -- Private.
 use Rattle.std.specs.Prelude.{◌≡◌, ◌≢◌, ℕ, ◌+◌, ◌*◌, ◌<◌, ◌≤◌, ◌⊎◌, ℤ, List, All, map, sum, length, Option, None, Some, slice_get, slice_index_or, slice_set, unwrap_or}
 use Rattle.terrain.specs.Raster.{Terrain}

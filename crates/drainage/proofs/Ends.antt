@@ -15,7 +15,7 @@ use Rattle.drainage.proofs.Pigeonhole.{pigeonhole}
 abbrev steps_in : Drained → Place → Option ℕ
 steps_in d p = entry_at d.terrain.cols d.terrain.rows d.steps p
 
--- `q` is lower than `p`, or as high with fewer steps, where unknown steps count as 0
+-- `q` is lower than `p`, or as high with fewer steps; missing heights and unknown steps count as 0
 IsBelow : Drained → Place → Place → Type 0
 IsBelow d p q = (height_of d.terrain q <ℤ height_of d.terrain p)
     ⊎ ((height_of d.terrain q ≡ height_of d.terrain p)

@@ -18,7 +18,8 @@ abbrev pub directed_of : Drained → Directed
 directed_of d = record { cols = d.terrain.cols; rows = d.terrain.rows; codes = d.codes }
 
 -- For data cells: q is lower than p, or as high with fewer steps. If the steps of p or q are
--- unknown, equal height is enough. (The height of a place without data counts as 0 here.)
+-- unknown, equal height is enough. (A place without data counts as height 0 where q is lower, and
+-- is as high as no data cell.)
 abbrev pub Falls : Drained → Place → Place → Type 0
 Falls d p q =
     (height_of d.terrain q <ℤ height_of d.terrain p)

@@ -1,6 +1,8 @@
--- In lists over all tiles, a label's number finds its place and, if it is an end cell, its height.
--- So the spill graph with labels given by number is a net whose nodes are labels (`IsLabelNet`).
--- Each join is one of neighbouring cells, and the sources are the labels that are end cells.
+-- In `places_of` and `ends_of`, a label's number is the index of its place and, if it is an end
+-- cell, of its height. So the spill graph by numbers is a net whose nodes are labels
+-- (`IsLabelNet`). Each join is one of neighbouring cells, and the sources are labels of end cells.
+-- Neighbouring cells of different labels have a join no higher than theirs, unless both labels are
+-- sources or a third cell bypasses the two.
 use Rattle.std.proofs.Common.{◌≡◌, ℕ, zero, suc, ◌+◌, ◌*◌, ◌<◌, ◌≤◌, ◌≤ℤ◌, ◌⊎◌, inl, inr, ℤ, List, [], ◌∷◌, length, get_or, take, Option, None, Some, ◌∙◌, sym, ap, subst, refl, arith}
 use Rattle.std.specs.Prelude.{slice_get, option_map}
 use Rattle.std.specs.List.{flat_map}
@@ -31,7 +33,8 @@ use Rattle.floods.specs.declared.net.Spill.{Spill}
 use Rattle.fill.proofs.CellLabels.{some_below, labelled, labelled_within, cell_label_from_tile, cell_label_some}
 use Rattle.fill.proofs.LabelNets.{IsLabelNet, LeadsRound, neighbour_back, level_has_data, has_tile_level, among_is, list_there}
 
--- If `g` and `h` give lists of equal lengths for each item, so do the `flat_map`s of the first `i`.
+-- If `g` and `h` give lists of equal lengths for each item, their `flat_map`s over the first `i`
+-- items have equal lengths.
 flat_same : {X Y Z : Type 0} (g : X → List Y) (h : X → List Z) (xs : List X) (i : ℕ) →
     i ≤ length xs →
     ((k : ℕ) (d : X) → k < length xs → length (g (get_or xs k d)) ≡ length (h (get_or xs k d)))

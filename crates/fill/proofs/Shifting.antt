@@ -1,6 +1,7 @@
--- The joins inside a tile give labels by index in the tile's table. With the number of the table's
--- first entry added to each index, they are the joins, with labels by number, of the tile's pairs
--- of cells (`Adds`). With those over its rim, they are the joins of its cells with later cells.
+-- A tile's inner joins name labels by index in the tile's table of labels. With the number of the
+-- table's first entry added to each index, they name labels by number over all tiles, and are the
+-- joins of the tile's pairs of cells (`Adds`). Together with the joins over the tile's rim, they
+-- are the joins of its cells with later cells.
 use Rattle.std.proofs.Common.{◌≡◌, ℕ, ◌+◌, ◌<◌, ◌≤◌, ◌⊎◌, ◌&&◌, inl, inr, Bool, ℤ, List, ◌++◌, length, get_or, map, Option, None, Some, is_some, ◌∙◌, sym, ap, subst, arith}
 use Rattle.std.specs.Prelude.{slice_get, option_map}
 use Rattle.std.specs.List.{All, Contains}

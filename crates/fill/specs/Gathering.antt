@@ -1,5 +1,6 @@
--- The joins of a spill graph, as collected from the floods of the tiles. A tile's flood has the
--- level and the label of each data cell, and a table that lists the tile's labels.
+-- The joins of a spill graph, as collected from the floods of the tiles, and which of them may be
+-- left out: those of two end cells, and those of two cells that a third cell bypasses. A tile's
+-- flood has the level and the label of each data cell, and a table that lists the tile's labels.
 -- Public.
 use Rattle.std.specs.Prelude.{◌≡◌, ◌≢◌, ℕ, ◌+◌, ◌-◌, ◌*◌, ◌/◌, ◌%◌, ◌<◌, ◌≤◌, ◌⊎◌, ◌==◌, ◌&&◌, true, false, if◌then◌else◌, is_some, Bool, ℤ, ◌≤ℤ◌, List, [], ◌∷◌, length, Option, None, Some, slice_get, slice_index_or, option_and_then, Vec}
 use Rattle.std.specs.declared.alloc.Global.{Global}
@@ -31,8 +32,9 @@ pub record Fit (c : Cutting) (floods : List Flood) : Type 0 where
   pub levels : (tile : ℕ) (f : Flood) → slice_get floods tile ≡ Some f →
       length f.levels ≡ f.bounds.rows * f.bounds.cols
 
--- The cell label of a cell with this level and label, where `node` is the label's number or index.
--- None if level or label is None.
+-- A cell label: a cell's level, and `node` for its label. `node` is the label's index in its tile's
+-- table, or its number, which counts the entries of all tables (`Numbers`). None if level or label
+-- is None.
 abbrev pub cell_label_of : ℕ → Option ℤ → Option Place → Option CellLabel
 cell_label_of node (Some level) (Some label) = Some (record { level = level; node = node })
 cell_label_of node (Some level) None = None
@@ -253,14 +255,14 @@ pub record AreGathered (c : Cutting) (floods : List Flood) (out : LeftOutJoins)
       Meets (cell_label_among c floods) out p q j →
       IsLeftOut (cell_label_among c floods) out p q ⊎ Covered joins j
 
--- The joins left out over all tiles: if `spare`, joins of two labels that are end cells, and
--- bypassed joins: they lower no filled height. Else none.
+-- The joins to leave out over all tiles. If `spare`, these are the joins of two labels that are end
+-- cells and the bypassed joins, which lower no filled height. If not, none is left out.
 abbrev pub left_out_of : Bool → List Flood → LeftOutJoins
 left_out_of spare floods =
     record { sources = if spare then ends_of floods else []; bypassed = spare }
 
--- The joins left out inside a tile: if `spare`, joins of two labels that are end cells, and
--- bypassed joins: they lower no filled height. Else none.
+-- The joins to leave out inside a tile. If `spare`, these are the joins of two labels that are end
+-- cells and the bypassed joins, which lower no filled height. If not, none is left out.
 abbrev pub left_out_in : Bool → Flood → LeftOutJoins
 left_out_in spare f = record { sources = if spare then f.ends else []; bypassed = spare }
 

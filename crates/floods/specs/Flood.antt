@@ -1,7 +1,7 @@
 -- The queue of a flood has entries: a node, and the crest and end of a walk from it. A step takes a
 -- lowest entry of an unlabelled node and labels the node. An unlabelled neighbour is queued if its
 -- crest, the greater of the entry's and the arc's heights, is below its level, if any. An arc is a
--- join seen from a node.
+-- join seen from a node. A walk follows joins from a node to a source (`Walk`).
 -- Public.
 use Rattle.std.specs.Prelude.{◌≡◌, ℕ, ◌<◌, ◌≤◌, ◌⊎◌, ℤ, pos, ◌+ℤ◌, ◌≤ℤ◌, List, [], ◌∷◌, ◌++◌, map, length, Option, None, Some, IsSome, slice_index_or}
 use Rattle.std.specs.Ordering.{int_cmp}

@@ -73,7 +73,8 @@ module _ (cols rows : ℕ) where
   pub places_at : places cols rows ≡ map at (range_with_len 0 (rows * cols))
   places_at = rows_places 0 rows ∙ ap (λ k. map at (range_with_len k (rows * cols))) (zero-mul cols)
 
--- f j passes the tests p and t, and no f k with k < j passes p.
+-- f j passes the tests p and t, and no f k with k < j passes p. So of the f k that pass t, f j is
+-- the first that passes p, and its position is how many of them have k < j (`count j`).
 module _ {X : Type 0} (f : ℕ → X) (p t : X → Bool) (j : ℕ) (here : p (f j) ≡ true)
     (kept : t (f j) ≡ true) (before : (k : ℕ) → k < j → p (f k) ≡ false) where
   abbrev count : ℕ → ℕ

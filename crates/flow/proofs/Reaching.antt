@@ -1,4 +1,6 @@
--- If all flow paths end, a data cell's path repeats no cell, and has fewer moves than d has cells.
+-- If all flow paths end, a data cell's path repeats no cell, and has fewer moves than the map of
+-- directions has cells. A path that reaches a cell of a region was never outside the region, or has
+-- one last move by which it entered the region (`EntersRegion`).
 use Rattle.std.proofs.Common.{◌≡◌, ◌≢◌, ℕ, zero, suc, ◌+◌, ◌-◌, ◌*◌, ◌<◌, ◌≤◌, ◌⊎◌, Bool, true, ◌&&◌, not, eqb, inl, inr, sym, ap, subst, ◌∙◌, arith}
 use Rattle.std.specs.List.{list_any, range_with_len}
 use Rattle.std.proofs.lemmas.Bool.{cases_eq, cases_lt, cases_order, and_from, and_parts, eq-eqb, ne_eqb, eqb-true, not-true, not_from_false, false≢true}

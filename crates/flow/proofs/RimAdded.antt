@@ -1,4 +1,5 @@
--- Adding the amounts listed for a tile's side numbers adds to each cell's weight the cell's inflow.
+-- A list has a weight for each cell of a tile. If the amount listed for each side number of the
+-- tile is added at the cell of that number, each weight grows by the cell's inflow.
 -- A side number is a rim cell's number in its tile.
 use Rattle.std.proofs.Common.{◌≡◌, ◌≢◌, ℕ, ◌+◌, ◌*◌, ◌%◌, ◌^◌, ◌<◌, ◌≤◌, cond, eqb, inl, inr, List, length, get_or, set, Option, None, Some, sym, ap, subst, ◌∙◌, arith, refl}
 use Rattle.std.proofs.lemmas.Bool.{cases_Bool, eq-eqb, ne_eqb, cond-true, cond-false, false_from_ne_true, false≢true}
@@ -19,7 +20,8 @@ use Rattle.flow.proofs.Sending.{added_at}
 use Rattle.flow.proofs.RimCells.{cell_from, cell_at}
 use Rattle.tiles.proofs.RimNumbered.{side_below, no_wider, no_higher}
 
--- Raising the weight at q adds the amount at q alone.
+-- If the weight of q grows by `amount`, that of p grows by `adds_at (Some q) amount p`: `amount` if
+-- p is q, else 0.
 pub added : (b : Bounds) (old : List ℕ) (q : Place) (amount : ℕ) → length old ≡ b.rows * b.cols →
     IsInBounds b q → (p : Place) → IsInBounds b p →
     get_or (set old (index_in b q) (get_or old (index_in b q) 0 + amount)) (index_in b p) 0

@@ -1,5 +1,6 @@
--- Links lead from each exit into another tile to the next such exit on its flow path. Water that
--- leaves by the last such exit ends in the next tile.
+-- Links lead from each exit into another tile to the next such exit on its flow path, and paths
+-- along links end (`AreStreams`). Water that leaves by the last such exit ends in the next tile. So
+-- the end of an exit's path along links gives the exit's outlet (`AreOutlets`).
 use Rattle.std.proofs.Common.{◌≡◌, ◌≢◌, ℕ, zero, suc, ◌+◌, ◌*◌, ◌/◌, ◌%◌, ◌<◌, ◌⊎◌, inl, inr, true, false, cond, eqb, List, length, get_or, Option, None, Some, IfSome, is_some, slice_get, unwrap_or, sym, ap, subst, refl, ◌∙◌, arith}
 use Rattle.std.specs.Option.{option_and_then}
 use Rattle.std.proofs.lemmas.Bool.{cases_eq, cases_lt, cases_Bool, eqb-true, cond-true, cond-false, false_from_ne_true, false≢true}
@@ -32,7 +33,7 @@ pub outlet_from_code : (o : Option ℕ) → is_outlet_code o ≡ true → o ≡ 
 outlet_from_code None h = cc
 outlet_from_code (Some n) h = ap Some (eqb-true _ _ h)
 
--- If `read` finds x in `flow`, the flow of p's tile, it finds x in the entry of `flows` for p.
+-- What `read` finds in `flow`, the flow of p's tile, it finds in that tile's entry of `flows`.
 pub read_of_tile : {X : Type 0} (read : Flow → Option X) (t : Cutting) (flows : List Flow)
     (p : Place) (tile : ℕ) (flow : Flow) (x : Option X) →
     length flows ≡ tile_count t →

@@ -59,7 +59,7 @@ module _ (d : Directed) (t : Cutting) (flows : List Flow) (s : AreFlowsOf d t fl
   entry_back p c = number_back t s.cutting (next d p)
       (within_of d t flows s (next d p) (coded_along d s.ends p c.coded 1)) (entry_side p c)
 
-  -- The flow path of q enters p from another tile, by the move after the first `steps` moves.
+  -- After `steps` moves, the next move of the flow path of q enters p from another tile.
   record Enters (p q : Place) : Type 0 where
     pub steps : ℕ
     pub crosses : LeavesTile d t flows s (follow d q steps)
@@ -89,8 +89,9 @@ module _ (d : Directed) (t : Cutting) (flows : List Flow) (s : AreFlowsOf d t fl
       (one_move d e q p a first (λ z. c.apart (ap (tile_of_place t) (first ∙ sym z))))
       (one_move d e q p b second (λ z. x.apart (ap (tile_of_place t) (second ∙ sym z)))))
 
-  -- 1 if rim number i has an exit into a place with p's rim number, and the flow path of cell c
-  -- contains this exit; else 0. Cell c has row-order index c.
+  -- What the cell of row-order index c adds to the amount that rim number i sends to p's rim
+  -- number. It is 1 if the cell of i flows into a place of p's rim number in another tile, and the
+  -- flow path of cell c contains the cell of i; else 0.
   abbrev piece : Place → ℕ → ℕ → ℕ
   piece p c i =
       sent_to t (rim_number t p) (target_by t flows i) (drained d (rim_place t i) (cell d c))

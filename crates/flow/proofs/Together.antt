@@ -1,5 +1,6 @@
--- The flow paths of a drained terrain all end. A list with each data cell's value at its place, and
--- `None` at NODATA, is the map of these values for the terrain.
+-- The flow paths of a drained terrain, one with steps and codes for which `IsDraining` holds, all
+-- end. A list with each data cell's value at its place, and `None` at NODATA, is the map of these
+-- values for the terrain.
 use Rattle.std.proofs.Common.{◌≡◌, ℕ, ◌*◌, List, length, Option, subst, sym, ap, ◌∙◌, Some, Vec, Global, vec_len, slice_get, arith}
 use Rattle.std.specs.Prelude.{Result, Ok, Err, IfOk}
 use Rattle.std.proofs.lemmas.Option.{get_or_from_slice_get, slice_get_within}

@@ -1,4 +1,6 @@
--- Catchments of gauges. Source: Jenson and Domingue (1988), watersheds of given cells.
+-- Catchments of gauges: each cell gets the number of the first gauge on its flow path. Also the
+-- fault of a list of gauges, and which errors `catchments` may return.
+-- Source: Jenson and Domingue (1988), watersheds of given cells.
 -- Trust base.
 use Rattle.std.specs.Prelude.{◌≡◌, ◌↔◌, ◌⊎◌, ℕ, ◌<◌, ◌==◌, false, List, map, Option, Some, None, option_map, unwrap_or, Result, Err}
 use Rattle.std.specs.List.{filter, find, list_any, position_from, range_with_len}

@@ -17,12 +17,12 @@ pub record AreCodeRuns (r : CodeRuns) : Type 0 where
   pub some : 0 < r.run_length
   pub short : r.run_length ≤ 2 ^ 32
 
--- The length of a full run: the groups of 16 codes, divided by the number of runs and rounded up,
--- but at least one group.
+-- The length of a full run, in codes: 16 for each of its groups. It has the number of all groups of
+-- 16 codes, divided by the number of runs and rounded up, but at least one group.
 abbrev pub run_share : ℕ → ℕ → ℕ
 run_share codes runs = max 1 (div_ceil (div_ceil codes 16) runs) * 16
 
--- The index where run k starts, or the end of the codes if that is less.
+-- The index where run k starts, but at most the number of codes.
 abbrev pub run_start : CodeRuns → ℕ → ℕ
 run_start r k = min (k * r.run_length) (length r.codes)
 

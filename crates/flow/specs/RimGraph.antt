@@ -1,5 +1,6 @@
 -- The graph of exits into other tiles. Each is linked to the next such exit on its flow path, and
--- the last to itself. A rim number is a rim cell's number among the rim cells of all tiles.
+-- the last to itself. Also the outlets of exits, found where paths along these links end. A rim
+-- number is a rim cell's number among the rim cells of all tiles.
 -- Public.
 use Rattle.std.specs.Prelude.{◌≡◌, ℕ, Bool, true, ◌/◌, ◌%◌, ◌&&◌, ◌==◌, if◌then◌else◌, List, map, Option, None, Some, slice_get, slice_index, slice_index_or, unwrap_or, option_and_then}
 use Rattle.std.specs.List.{range_with_len}

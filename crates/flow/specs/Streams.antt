@@ -1,5 +1,6 @@
--- Nodes numbered from 0, each linked to the next one downstream. An end is linked to itself.
--- A node's path follows links from the node.
+-- Nodes numbered from 0, each linked to the next one downstream. An end is linked to itself. A
+-- node's path follows links from the node. A node's total is the sum of the weights of all nodes
+-- whose paths contain it.
 -- Source: textbook forests, given by the parent of each node.
 -- Public.
 use Rattle.std.specs.Prelude.{◌≡◌, ℕ, zero, suc, ◌+◌, ◌<◌, Bool, not, ◌&&◌, ◌==◌, if◌then◌else◌, List, length, slice_index}

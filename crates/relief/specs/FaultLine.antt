@@ -42,11 +42,11 @@ pub record FaultParts : Type 0 where
   pub name : List ℕ
   pub detail : Option (List ℕ)
 
--- A fault without a detail.
+-- The parts of the line for a fault without a detail.
 abbrev pub plain : ℕ → List ℕ → FaultParts
 plain number name = record { number = number; name = name; detail = None }
 
--- A fault with a detail.
+-- The parts of the line for a fault with a detail.
 abbrev pub detailed : ℕ → List ℕ → List ℕ → FaultParts
 detailed number name detail = record { number = number; name = name; detail = Some detail }
 

@@ -1,5 +1,6 @@
--- A grid with the requested sinks in place of its own (`grid_with_sinks`), a finished map's text
--- (`made_text`), and that its codes or counts are as many as the grid's cells (`FitsGrid`).
+-- A grid with the requested sinks, if any, in place of its own (`grid_with_sinks`), the text of a
+-- finished map (`made_text`), and that its codes or counts are as many as the grid's cells
+-- (`FitsGrid`).
 -- Private.
 use Rattle.std.specs.Prelude.{◌≡◌, ℕ, ◌*◌, ⊤, List, [], ◌∷◌, length}
 use Rattle.terrain.specs.Raster.{Raster}

@@ -1,6 +1,6 @@
 //! Makes maps of terrain grids, from bytes to bytes, and runs the program `relief`.
 //!
-//! [`run`] reads a grid and writes one map. Its contract `Runs` is the main promise of
+//! [`run`] reads a grid and writes one map. Its contract `Runs` is the headline of
 //! `docs/promises.md`. [`run_words`] parses a command line and runs what it requests.
 //!
 //! Modules, callers first:
@@ -10,7 +10,7 @@
 //! - `making`: cuts a grid into tiles, gives it the requested sinks and makes the map
 //! - `fault_line`: writes the line of a fault
 //! - `fault`: faults with their numbers, names and exit statuses
-//! - `laws`: theorems about the definitions
+//! - `laws`: a theorem: a grid text and a request determine the text of the map
 #![tactic(auto)]
 
 mod command;

@@ -29,7 +29,8 @@ pub enum WordsFault {
     BadGauge(usize),
     /// The number of the first word that is no sink, from 0 among sink words.
     BadSink(usize),
-    /// The words name no map or exceed a limit. `clap` refuses such words first.
+    /// The words name no map, or a number is missing or outside its limits. `clap` refuses such
+    /// words first.
     NoMap,
 }
 

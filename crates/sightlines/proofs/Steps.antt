@@ -1,6 +1,7 @@
--- At each step a walk has the index of the near cell, which is at or before the line, and the
--- n-ths of a cell between the two. The pace, the change of both, leads to the next step. The near
--- cell is in the list, and so is the far cell if these n-ths are above 0.
+-- A line has n steps. At each step its near cell is at or before it (`index_at`), and it is some
+-- n-ths of a cell past the near cell (`part_at`). The pace is the change of both in one step, and
+-- leads from step k to step k + 1. The near cell is in the list. So is the far cell, the next on
+-- the side coordinate, if the n-ths are above 0. The sums of indexes fit in 64 bits (`room`).
 use Rattle.std.proofs.Common.{arith, ap, ◌≡◌, ◌+◌, ◌*◌, ◌^◌, ◌/◌, ◌%◌, ◌<◌, ◌≤◌, ℕ, ℤ, Option, List, length, max, inl, inr}
 use Rattle.std.specs.Int.{abs_diff}
 use Rattle.std.proofs.lemmas.Bool.{cases_lt}

@@ -1,4 +1,5 @@
--- A list has an entry q with `is_place p q` exactly if the list contains place p.
+-- `is_place p q` is true exactly if p and q are the same place. A list has an entry q with
+-- `is_place p q` exactly if the list contains p.
 use Rattle.std.proofs.Common.{◌≡◌, ◌<◌, ℕ, zero, suc, true, List, [], ◌∷◌, length, get_or, refl, sym, subst, arith}
 use Rattle.std.specs.Prelude.{◌==◌}
 use Rattle.std.specs.List.{list_any, Contains}

@@ -1,6 +1,6 @@
--- If a view w is appended, the sum of f over the views of all passes grows by f w. If w replaces v,
--- the sum grows by f w - f v. If the sum of g is g of one view, and f is 0 wherever g is, the sum
--- of f is f of that view.
+-- Sums of a function over views. A view (`Log`) has the pushes and takes of one pass (`Rule`).
+-- If a view w is appended, the sum of f grows by f w. If w replaces v, it grows by f w - f v. If
+-- the sum of g is g of one view, and f is 0 wherever g is, the sum of f is f of that view.
 use Rattle.std.proofs.Common.{◌≡◌, ℕ, zero, suc, ◌+◌, ◌≤◌, List, [], ◌∷◌, ◌++◌, set, sym, refl, arith}
 use mathlib.Core.Option.{some, some-ne-none}
 use lib.ListN.{get_elem?}

@@ -1,6 +1,6 @@
 -- The spots around a spot of a tile show the places around the place that the spot shows. So a
 -- window has, at the indexes around the spot, the entries on the eight ways from that place; `None`
--- off the grid.
+-- off the grid. Spots are the places of a tile's window (`Windows`).
 use Rattle.std.proofs.Common.{◌≡◌, ℕ, zero, suc, ◌+◌, ◌-◌, ◌*◌, ◌<◌, ◌≤◌, inl, inr, List, get_or, Option, None, Some, ap, subst, sym, refl, ◌∙◌, arith}
 use Rattle.std.proofs.Math.Nat.{suc-mul, mul-le-mul_right}
 use Rattle.std.specs.Option.{option_and_then}

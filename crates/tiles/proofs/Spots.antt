@@ -1,6 +1,6 @@
 -- A list of values made spot by spot has, at each spot of a tile's window, the value of the place
 -- that the spot shows, or `none` where this place is not in `seen`. The bounds `seen` are those of
--- the tile or of the whole grid. Spots are the places of the window.
+-- the tile or of the whole grid. Spots are the places of the window (`Windows`).
 use Rattle.std.proofs.Common.{◌≡◌, ℕ, ◌+◌, ◌-◌, ◌*◌, ◌<◌, ◌≤◌, true, inl, inr, List, [], ◌∷◌, ◌++◌, length, get_or, Option, unwrap_or, sym, ap, subst, refl, ◌∙◌, arith}
 use Rattle.std.proofs.lemmas.Bool.{cases_eq, cases_lt, cond-true, and_from, le-leb, lt-ltb}
 use Rattle.std.proofs.lemmas.List.{get_or_append_left, get_or-append_right, length-append, get_or_push, length_push}

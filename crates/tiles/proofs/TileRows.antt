@@ -1,4 +1,5 @@
--- A row of a tile's view has the grid's cells in that row of the tile.
+-- A view of a tile shows the tile's cells and those next to it. A row of the view has the grid's
+-- cells in that row of the tile.
 use Rattle.std.proofs.Common.{◌≡◌, ℕ, ◌+◌, ◌-◌, ◌*◌, ◌<◌, get_or, drop, slice_range, sym, ap, ◌∙◌, arith}
 use Rattle.std.proofs.lemmas.List.{get_or-take, get_or-drop}
 use Rattle.tiles.specs.declared.bounds.Bounds.{Bounds}

@@ -10,8 +10,10 @@ use Rattle.tiles.specs.Cutting.{Cutting, bounds_of, tile_count, tile_of_place}
 abbrev pub stride : Bounds → ℕ
 stride largest = 2 * largest.cols + 2 * largest.rows
 
--- In a tile of bounds b: the number, from 0, of rim cell p, and the rim cell of number i. Numbers
--- run along the first row, the last row, the first column, then the last column.
+-- In a tile of bounds b, if `largest` are the bounds of the largest tile: the number, from 0, of
+-- rim cell p, and the rim cell of number i. Numbers run along the first row, the last row, the
+-- first column, then the last column. A number without a rim cell gets the rim cell of another
+-- number or a place outside the tile.
 abbrev pub side_number : Bounds → Bounds → Place → ℕ
 side_number largest b p =
     if p.row == b.top then p.col - b.left
@@ -32,7 +34,8 @@ side_place largest b i =
 abbrev pub rim_number_count : Cutting → ℕ
 rim_number_count t = tile_count t * stride (bounds_of t 0)
 
--- The number of a rim cell, and the rim cell of a number. Some numbers have no rim cell.
+-- The number of a rim cell, and the rim cell of a number. A number without a rim cell gets the rim
+-- cell of another number or a place outside the tile.
 abbrev pub rim_number : Cutting → Place → ℕ
 rim_number t p =
     tile_of_place t p * stride (bounds_of t 0)
