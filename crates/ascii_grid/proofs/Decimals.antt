@@ -1,5 +1,6 @@
--- The digits of a number can be written one by one. If it is below 2^64, they spell the number, and
--- there are more than k of them if it is at least 10^k.
+-- The next digit before the last k digits of a number makes its last k + 1 digits. The digits of a
+-- number below 2^64 spell it, also as `decimal (n / 10 ^ d)` and then the last d digits. They are
+-- more than k if the number is at least 10^k.
 use Rattle.std.proofs.Common.{◌≡◌, ℕ, zero, suc, ◌+◌, ◌*◌, ◌/◌, ◌%◌, ◌^◌, ◌<◌, ◌≤◌, ◌-◌, List, [], ◌∷◌, ◌++◌, length, drop, set, sym, ap, refl, ◌∙◌, arith, add-one, true, leb}
 use Rattle.std.specs.Prelude.{decimal}
 use Rattle.std.proofs.Math.Nat.{div-div-eq-div-mul, pow-succ', div-one, pow-le-pow_right}

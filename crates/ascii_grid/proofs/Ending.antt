@@ -1,4 +1,5 @@
--- The words that a `Tokenizer` has read after one more byte, a word's end, or a whole word.
+-- The words that a `Tokenizer` has read after one more byte, a word's end, or a whole word, or the
+-- fault that may be reported for them.
 use Rattle.std.proofs.Common.{◌≡◌, ℕ, ◌+◌, ◌<◌, ◌≤◌, true, false, List, [], ◌∷◌, ◌++◌, length, take, drop, get_or, Some, ℤ, Result, MatchResult, ◌⊎◌, arith, refl, ap, sym, ◌∙◌, subst, inl, inr}
 use Rattle.std.specs.Prelude.{filter}
 use Rattle.std.specs.List.{list_any}

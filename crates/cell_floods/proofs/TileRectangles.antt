@@ -1,4 +1,5 @@
--- A flood of a tile's net has the levels and the labels of the tile (`AreTileLevels`).
+-- A flood of a tile's net has the levels and the labels of the tile (`AreTileLevels`). Its labels
+-- are nodes of the net. Lists that store levels and labels still do so without the net's border.
 use Rattle.std.proofs.Common.{◌≡◌, ℕ, ◌+◌, ◌-◌, ◌*◌, ◌<◌, inl, inr, ℤ, List, [], ◌∷◌, length, get_or, Option, None, is_some, ◌∙◌, sym, ap, arith, true, map, Some, subst, refl, take, zero, suc}
 use Rattle.std.specs.Prelude.{MatchOption}
 use Rattle.std.proofs.lemmas.Bool.{or_cases, or_left, or_right, eqb-true, eq-eqb, cases_lt}

@@ -1,4 +1,5 @@
 -- A tile's cells have levels exactly where they have labels, and labels are data cells of the tile.
+-- So labels, and heights that store the levels, give the levels back (`levels_where`).
 use Rattle.std.proofs.Common.{◌≡◌, ◌==◌, ℕ, zero, suc, ◌+◌, ◌*◌, ◌<◌, inl, inr, ℤ, pos, List, [], ◌∷◌, map, length, get_or, Option, None, Some, is_some, option_map, sym, ap, subst, ◌∙◌, refl, arith}
 use Rattle.std.proofs.lemmas.Bool.{cases_lt, eqb-true}
 use Rattle.std.proofs.lemmas.List.{get_or-map, get_or_past, length-map}

@@ -1,4 +1,5 @@
--- What is read at an index of a list is the list's entry there.
+-- If an entry read below a list's length is `Some x`, `get_or` with default None gives `Some x` at
+-- that index too.
 use Rattle.std.proofs.Common.{◌≡◌, ℕ, ◌<◌, List, length, get_or, Option, None, Some, sym, ap, ◌∙◌}
 use Rattle.std.proofs.lemmas.List.{get_or_default}
 

@@ -1,4 +1,5 @@
-//! Copies the counts of a tile's window from the whole grid's list, and out of these the tile's.
+//! Copies counts of steps: a tile's window from the whole grid's list, and the tile's own out of
+//! the window's. [`step_numbers`] turns the tile's counts into options of numbers.
 ghost use Rattle.std.specs.Prelude.{◌≡◌, ◌+◌, ◌*◌, ◌<◌, length, map, OnOk, IfOk};
 ghost use Rattle.tiles.specs.Cutting.{bounds_of};
 ghost use Rattle.tiles.specs.Windows.{area_of};

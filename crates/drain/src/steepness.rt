@@ -1,7 +1,7 @@
 //! The D8 direction of one cell: [`direction`].
 //!
 //! Ways are the eight directions, from 0 to 7 in code order. Even ways, of parity 0, lead along a
-//! row or column, odd ways, of parity 1, across a diagonal. `steepest` finds the steepest way down
+//! row or column, odd ways, of parity 1, along a diagonal. `steepest` finds the steepest way down
 //! by exact squares of drops. `onward` finds a way over the flat. Of equally good ways, both return
 //! the first.
 ghost use Rattle.std.specs.Prelude.{◌≡◌, ◌*◌, ◌<◌, ◌≤◌, ◌<ℤ◌, ◌≤ℤ◌, ℕ, IfSome, IsTrue, Some, None, option_map, slice_index_or, position};
@@ -27,7 +27,7 @@ struct Fall {
 }
 
 /// Returns the height on way `2 * turn + parity`, `level` if there is none.
-/// Even ways lead along a row or column, odd ones across a diagonal.
+/// Even ways lead along a row or column, odd ones along a diagonal.
 #[inline(always)]
 fn height_on(level: Height, heights: &[Option<Height>; 8], parity: usize, turn: usize) -> Height
     requires { (parity < 2) × (turn < 4) }

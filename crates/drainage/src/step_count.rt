@@ -5,6 +5,6 @@ use terrain::OptionalCount;
 /// A grid has at most 2^24 cells, and a cell has fewer steps than the grid has cells.
 pub const NO_COUNT: u32 = 1 << 24;
 
-/// The fewest moves found, at one filled height, from a cell to one that drains at once, or
-/// unknown, in 4 bytes.
+/// A cell's steps as found so far, in 4 bytes: the fewest moves found, at one filled height, from
+/// the cell to one that drains at once; or unknown.
 pub type StepCount = OptionalCount<NO_COUNT>;

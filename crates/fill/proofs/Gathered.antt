@@ -1,5 +1,6 @@
--- The joins gathered from all tiles are those of the spill graph, both with labels given by number
--- and with labels given by place.
+-- The joins gathered from all tiles are those of the spill graph. By number, joins of labels that
+-- are both end cells are left out, and joins that a third cell bypasses may be. By place, none is
+-- left out, and the lowest join of each two labels is taken (`AreLowest`).
 use Rattle.std.proofs.Common.{◌≡◌, ◌≢◌, ℕ, ◌*◌, ◌<◌, ◌⊎◌, inl, inr, ◌&&◌, true, false, Bool, ℤ, ◌≤ℤ◌, List, [], length, get_or, Option, None, Some, is_some, ◌∙◌, sym, ap, subst, refl, arith}
 use Rattle.std.specs.Prelude.{slice_get}
 use Rattle.std.specs.List.{All, Contains}

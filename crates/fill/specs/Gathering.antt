@@ -1,6 +1,7 @@
 -- The joins of a spill graph, as collected from the floods of the tiles, and which of them may be
--- left out: those of two end cells, and those of two cells that a third cell bypasses. A tile's
--- flood has the level and the label of each data cell, and a table that lists the tile's labels.
+-- left out: those of two labels that are end cells, and those over a corner where the detour by a
+-- third cell is no higher (`IsBypassed`). A tile's flood has the level and the label of each data
+-- cell, and a table that lists the tile's labels.
 -- Public.
 use Rattle.std.specs.Prelude.{◌≡◌, ◌≢◌, ℕ, ◌+◌, ◌-◌, ◌*◌, ◌/◌, ◌%◌, ◌<◌, ◌≤◌, ◌⊎◌, ◌==◌, ◌&&◌, true, false, if◌then◌else◌, is_some, Bool, ℤ, ◌≤ℤ◌, List, [], ◌∷◌, length, Option, None, Some, slice_get, slice_index_or, option_and_then, Vec}
 use Rattle.std.specs.declared.alloc.Global.{Global}

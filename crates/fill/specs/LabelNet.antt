@@ -86,7 +86,7 @@ pub record IsNumberPass (t : Terrain) (c : Cutting) (floods : List Flood) (a b :
   pub to_is : cell_label_among c floods to ≡ Some (record { level = to_level; node = b })
   pub greater : int_max from_level to_level ≡ height
 
--- The spill graph of these floods. It may have higher arcs beside the lowest of two labels. It may
+-- The spill graph of these floods. Two labels may have higher arcs beside their lowest one. It may
 -- lack arcs between two end cells, or between labels whose cells a third cell bypasses at a corner.
 pub record IsNumberGraph (t : Terrain) (c : Cutting) (floods : List Flood)
     (arcs : List (List Spill)) (sources : List (Option ℤ)) : Type 0 where

@@ -1,5 +1,6 @@
--- A flood's invariant `IsFlooding` holds once the sources are queued, and as nodes are taken and
--- labelled. When no unlabelled node is queued, each node with a walk has its level and its label.
+-- A flood's invariants (`IsFlooding`, `AreNoted`, `AreOwn`) hold once the sources are queued and
+-- have levels, and as nodes are taken and labelled. When no unlabelled node is queued, each node
+-- with a walk has its level and its label.
 use Rattle.std.proofs.Common.{◌≡◌, ◌≢◌, ℕ, ◌<◌, List, [], ◌∷◌, length, set, replicate, ℤ, pos, ◌≤ℤ◌, Option, None, Some, is_some, IsSome, unwrap_or, sym, ap, subst, refl, ◌∙◌, arith, ◌⊎◌, inl, inr}
 use Rattle.std.specs.Int.{int_max}
 use Rattle.std.specs.List.{Contains, All}
@@ -160,7 +161,8 @@ level_of_lowest : (joins : Joins) (source : Sources) (w : Candidate) →
     IsLevel joins source w.node w.height.0 w.label
 level_of_lowest joins source w walk least own = record { reached = walk; least = least; own = own }
 
--- If w was taken, any other node a without a label still has an entry at most at h, if it had one.
+-- If entry w was taken, any node a but w's, without a label, still has an entry at most at h, if it
+-- had one.
 still_waits : (labels : List (Option ℕ)) (old new : List Candidate) (w : Candidate)
     (a : ℕ) (h : ℤ) → TakesLowest labels old w new → a ≢ w.node → entry_of labels a ≡ None →
     HasCandidate old a h → HasCandidate new a h

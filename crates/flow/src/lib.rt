@@ -22,7 +22,7 @@
 //! - `outlets`: the outlet of each exit
 //! - `links`: `RimLinks`, inflows and outlets together
 //! - `outlet_numbers`: numbers of outlets
-//! - `outlet_runs`: counts outlets in runs of codes, one for each job
+//! - `outlet_runs`: counts the outlets of runs, parts of the list of codes, by one job for each
 //! - `laws`: consequences of the definitions
 #![tactic(auto)]
 

@@ -1,5 +1,5 @@
-//! Gives each data cell the number of the cell where its flow path ends: [`number_cells`].
-//! These are outlets and, for catchments, gauges too, which get an outlet's code.
+//! Numbers each data cell by the cell where its flow path ends: [`number_cells`].
+//! Such an end is an outlet or, for catchments, also a gauge, which gets an outlet's code.
 ghost use Rattle.std.proofs.Props.{props};
 ghost use Rattle.std.specs.Prelude.{◌≡◌, ◌*◌, ◌<◌, ℕ, length, slice_index_or, None, IfOk, IfSome};
 ghost use Rattle.terrain.specs.Neighbours.{index_of};

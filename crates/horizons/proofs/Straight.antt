@@ -23,7 +23,7 @@ gain r s = up r.gain * s.lines + down s.gain * r.lines
 abbrev intercept : Ramp → Ramp → ℕ
 intercept r s = up r.intercept * s.lines + down s.intercept * r.lines
 
--- `over r s t` less `over s r t` is `value_at r t * s.lines` less `value_at s t * r.lines`.
+-- `over r s t` less `over s r t` is `ramp_value r t * s.lines` less `ramp_value s t * r.lines`.
 abbrev over : Ramp → Ramp → Target → ℕ
 over r s t = lead (gain r s) (gain s r) (intercept r s) t
 

@@ -1,5 +1,7 @@
 -- The first fault of tiles, sinks and gauges, in this order, forbids the requested map: a run may
--- return it. The fault that forbids a map of a grid stays the same when the grid gets other sinks.
+-- return it. Without one, it may return the refused memory that ends the naming of its sinks. The
+-- fault that forbids a map of a grid stays the same when the grid gets other sinks. The text of the
+-- map of a grid with its requested sinks is that of the map that the run was asked for.
 use Rattle.std.proofs.Common.{◌≡◌, ℕ, ◌<◌, ◌≤◌, true, false, eqb, length, List, [], ◌∷◌, Option, None, Some, Err, sym, ap, subst, refl, ◌∙◌}
 use Rattle.std.specs.Option.{option_map, option_or}
 use Rattle.std.proofs.lemmas.Bool.{le-ltb, lt-ltb, cond-false, cond-true}

@@ -8,7 +8,7 @@ ghost use Rattle.relief.specs.FaultLine.{fault_line, fault_status};
 ghost use Rattle.relief.specs.Runs.{Runs};
 
 use crate::fault::RunFault;
-use crate::fault_line::{tell, tell_bad_word};
+use crate::fault_line::{tell, write_bad_word};
 use crate::running::{run, run_gated};
 use ascii_grid::{Counted, WriteFailed};
 use clap::Error;
@@ -151,15 +151,15 @@ pub fn run_words_reported<
         Ok(options) => { run_options(rt, alloc, &options, reader, writer, errors, progress) },
         Err(WordsFault::Clap(error)) => show_error(alloc, &error, writer, errors),
         Err(WordsFault::BadObserver(place)) => {
-            let _ = tell_bad_word(b"relief: bad observer word ", place, errors);
+            let _ = write_bad_word(b"relief: bad observer word ", place, errors);
             WORDS_REFUSED
         }
         Err(WordsFault::BadGauge(place)) => {
-            let _ = tell_bad_word(b"relief: bad gauge word ", place, errors);
+            let _ = write_bad_word(b"relief: bad gauge word ", place, errors);
             WORDS_REFUSED
         }
         Err(WordsFault::BadSink(place)) => {
-            let _ = tell_bad_word(b"relief: bad sink word ", place, errors);
+            let _ = write_bad_word(b"relief: bad sink word ", place, errors);
             WORDS_REFUSED
         }
         Err(WordsFault::NoMap) => show("relief: the words name no map", errors, WORDS_REFUSED),

@@ -1,4 +1,4 @@
-//! [`tell`] writes the line that reports a run's fault, `tell_bad_word` that of a bad word.
+//! [`tell`] writes the line that reports a run's fault, `write_bad_word` that of a bad word.
 ghost use Rattle.std.specs.Prelude.{◌≡◌, ◌<◌, ◌≤◌, ◌+◌, ◌-◌, ◌^◌, ◌++◌, [], length, codes, decimal, option_map};
 ghost use Rattle.std.specs.Option.{option_map_or};
 ghost use Rattle.ascii_grid.specs.Device.{Writes};
@@ -62,8 +62,8 @@ pub fn tell<W: Write>(fault: &RunFault, out: &mut Counted<W>) -> Result<(), Writ
     line.write_to(out)
 }
 
-/// Writes a line: `front`, then `place`, the number of a bad word, counted from 0.
-pub(crate) fn tell_bad_word<W: Write>(
+/// Writes a line: `front`, then `place`, a bad word's number from 0 among the words of its kind.
+pub(crate) fn write_bad_word<W: Write>(
     front: &'static [u8],
     place: usize,
     out: &mut Counted<W>,

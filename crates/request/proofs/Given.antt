@@ -1,5 +1,6 @@
--- An option's value spells at most one number. If a command line names a map, none of its observer
--- or gauge words is bad.
+-- An option's value spells at most one number: the one read from it, or none if none is read. The
+-- first word that spells nothing is the bad word. If a command line names a map, none of its
+-- observer or gauge words is bad; if it names a viewshed, it has no sink words.
 use Rattle.std.proofs.Common.{◌≡◌, ◌<◌, ◌^◌, ℕ, zero, suc, Bool, false, List, [], ◌∷◌, length, map, take, drop, get_or, slice_index, slice_index_or, codes, arith, Bor, Option, Some, None, Result, IfSome, IfNone, sym, ap, refl, ◌∙◌, subst}
 use Rattle.std.specs.Prelude.{is_none, option_map, unwrap_or}
 use Rattle.std.specs.List.{position_or_len}

@@ -1,5 +1,6 @@
--- An upper bound of the bounds of 8 by 8 near blocks bounds the heights of their far block, of 128
--- by 128 cells. Lists of the bounds of successive blocks may be joined.
+-- A far block, of 128 by 128 cells, holds up to 8 by 8 near blocks. An upper bound of the entries
+-- of these is an upper bound of the far block's heights. The lists of two successive runs of
+-- blocks, joined, are the list of both runs.
 use Rattle.std.proofs.Common.{arith, refl, sym, ap, subst, ◌∙◌, ◌≡◌, ◌+◌, ◌-◌, ◌*◌, ◌/◌, ◌%◌, ◌<◌, ◌≤◌, ℕ, ℤ, List, [], ◌∷◌, ◌++◌, length, length-append, get_or, get_or-take, get_or-drop, drop, slice_range, ◌≤ℤ◌, Option, None, Some, inl, inr}
 use Rattle.std.proofs.lemmas.Bool.{cases_lt}
 use Rattle.std.proofs.lemmas.List.{get_or_past}

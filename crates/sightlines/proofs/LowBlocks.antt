@@ -1,6 +1,6 @@
 -- If each block that a line can meet between two steps is low at both, no crossing between them
--- blocks. A block or a cell is low if it is not above the line. If a line is at or above the peak
--- at a step and at its end, no crossing from that step on blocks.
+-- blocks. A block or a cell is low if it is not above the line. No block's entry is above the peak.
+-- If a line is at or above the peak at a step and at its end, no crossing from that step on blocks.
 use Rattle.std.proofs.Common.{arith, refl, sym, ap, subst, ◌∙◌, ◌≡◌, ◌+◌, ◌-◌, ◌*◌, ◌/◌, ◌<◌, ◌≤◌, ℕ, ℤ, pos, ◌+ℤ◌, ◌*ℤ◌, ◌≤ℤ◌, false, int_lt, List, Option, None, Some, get_or, min, max, inl, inr}
 use borrow.Author.Differences.{up, down}
 use Rattle.std.proofs.lemmas.Int.{ints}

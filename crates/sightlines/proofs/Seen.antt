@@ -1,5 +1,7 @@
 -- Between data cells within the radius, a target is seen exactly if neither the walk over columns
--- nor the walk over rows is blocked.
+-- nor the walk over rows is blocked. If terrain and elevations are within their limits too, the two
+-- lines are `AreSightlines`. A target beyond the radius is not seen. The last lemmas serve
+-- `may_see`: a blocked walk hides the target.
 use Rattle.std.proofs.Common.{arith, refl, sym, ap, ◌∙◌, ◌≡◌, ℤ, pos, ◌+ℤ◌, ℕ, Bool, true, false, not, ◌&&◌, Some, is_some}
 use Rattle.terrain.specs.Raster.{Terrain, IsTerrain}
 use Rattle.terrain.specs.Neighbours.{IsInside, height_at}
@@ -101,7 +103,8 @@ pub hidden_by_rows : (seen a b : Bool) → seen ≡ (not a && not b) → b ≡ t
 hidden_by_rows seen true b is blocked = sym is
 hidden_by_rows seen false b is blocked = sym (is ∙ ap not blocked)
 
--- a target is seen exactly if no tested row crossing blocks and the line is open
+-- Where `seen` equals `is_open`, as between data cells within the radius, a target is seen exactly
+-- if no tested row crossing blocks (`rows` is false) and the line is open.
 pub seen_if_open : (seen is_open a b rows : Bool) → seen ≡ (not a && not b) → seen ≡ is_open →
     (rows ≡ true → b ≡ true) → (not rows && is_open) ≡ seen
 seen_if_open seen is_open a b true is same reported = hidden_by_rows seen a b is (reported refl)

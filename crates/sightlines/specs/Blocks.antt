@@ -53,12 +53,13 @@ pub record AreTopsAlong (size : ℕ) (cells tops : List (Option ℤ)) (l : Sight
       → slice_index_or cells (a * l.lead.stride + b * l.side.stride) None ≡ Some h
       → IsTopOf (slice_index_or tops (a / size * s.lead + b / size * s.side) None) h
 
--- The block's entry is NODATA, or a height that, times n, is not above the sight z.
+-- The block's entry is NODATA, or a height that, times n, is not above z. For a line, n is the
+-- number of its steps, and z its elevation at a step times n (`Step`).
 abbrev pub IsLow : Option ℤ → ℕ → ℤ → Type 0
 IsLow top n z = MatchOption top (Unit {0}) (λ m. (pos n *ℤ m) ≤ℤ z)
 
--- Each block that a line can meet between steps `start` and `end`, while the line's leading
--- coordinate is in block `block`, is low at both steps.
+-- Take the blocks that a line can meet between steps `start` and `end`, while its leading
+-- coordinate stays in row (or column) `block` of the blocks. Each of them is low at both steps.
 abbrev pub AreLowBetween : ℕ → List (Option ℤ) → BlockStrides → Sightline → ℕ → Step → Step → Type 0
 AreLowBetween size tops s l block start end =
     (cell : ℕ) → min start.whole end.whole ≤ cell → cell ≤ max start.whole end.whole + 1 →

@@ -1,4 +1,5 @@
--- Defines why a list of named sinks is refused (its fault), and the list without repeats.
+-- Defines why a list of named sinks is refused (its fault), the list without repeats, and the grid
+-- with these sinks in place of its own.
 -- Source: this project.
 -- Trust base.
 use Rattle.std.specs.Prelude.{◌≡◌, ℕ, ◌+◌, not, nat_lt, is_none, if◌then◌else◌, List, [], ◌∷◌, ◌++◌, length, Option, None, Some, Result, Err}

@@ -1,8 +1,8 @@
 //! Reads and writes the text of a grid by several workers.
 //!
 //! [`read_grid`] and the three writers have the same results as their namesakes in `ascii_grid`.
-//! If a job finds a fault, the caller's thread parses that job's bytes. If a thread or memory for
-//! jobs is refused, it does the jobs' work by calls of `ascii_grid`.
+//! If a job returns no cells, as at a fault, the caller's thread parses that job's bytes. If memory
+//! for jobs, a thread or the number of workers is refused, that thread does the work of all jobs.
 //!
 //! Modules, callers first:
 //!

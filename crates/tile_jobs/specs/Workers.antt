@@ -10,7 +10,7 @@ use Rattle.tile_jobs.specs.Ends.{SeatState, SameSeat, HasAllMarks, IsNew}
 
 module _ {O : Type 0} where
   -- The worker took jobs until its seat had an end mark of each deque. `output` has a result of
-  -- each job taken.
+  -- each job taken, and each result is one that its job may return, by `gives`.
   pub record IsWorked (gives : ℕ → O → Type 0) (seat : SeatState)
       (output : WorkerResult O) : Type 0 where
     pub same : SameSeat seat output.seat

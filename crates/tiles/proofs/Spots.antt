@@ -1,6 +1,7 @@
--- A list of values made spot by spot has, at each spot of a tile's window, the value of the place
--- that the spot shows, or `none` where this place is not in `seen`. The bounds `seen` are those of
--- the tile or of the whole grid. Spots are the places of the window (`Windows`).
+-- A list of values made spot by spot, or row by row, has at each spot of a tile's window the value
+-- of the place that the spot shows. It has `none` where this place is not in `seen`, and at spots
+-- north or west of the grid. The bounds `seen` lie in the grid and hold the tile's (`IsHeld`).
+-- Spots are the places of the window (`Windows`).
 use Rattle.std.proofs.Common.{◌≡◌, ℕ, ◌+◌, ◌-◌, ◌*◌, ◌<◌, ◌≤◌, true, inl, inr, List, [], ◌∷◌, ◌++◌, length, get_or, Option, unwrap_or, sym, ap, subst, refl, ◌∙◌, arith}
 use Rattle.std.proofs.lemmas.Bool.{cases_eq, cases_lt, cond-true, and_from, le-leb, lt-ltb}
 use Rattle.std.proofs.lemmas.List.{get_or_append_left, get_or-append_right, length-append, get_or_push, length_push}
@@ -41,7 +42,8 @@ shows_within c tile b s p e spot shows within =
     (le-leb _ _ (omega (arith, shows.1, left))))
     (le-leb _ _ (omega (arith, shows.1, spot.1, left, cols)))
 
--- a view has the grid's entry at the place of a spot that lies in `seen`
+-- if `seen` has the place of a spot, the value that the view has there is the value seen at the
+-- spot (`IsSeen`)
 pub seen_at : {X : Type 0} (v : View X) (none : X) (seen b : Bounds) (s q : Place) (o : Option X)
     (x : X) → b ≡ bounds_of v.cutting v.tile → IsHeld v.cutting b seen → IsSpot b s → Shows b s q →
     is_in_bounds seen q ≡ true → o ≡ cell_shown v q → x ≡ unwrap_or o none →

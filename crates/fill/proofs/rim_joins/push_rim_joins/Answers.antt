@@ -13,7 +13,8 @@ not_both : (x : Bool) → not x ≡ true → x ≡ true → ⊥
 not_both true e f = absurd (cc)
 not_both false e f = absurd (cc)
 
--- A neighbour of an inner cell that comes after it in row order lies in the bounds.
+-- If the four places after a cell lie in the bounds (`HasFourAfter`), each place that touches the
+-- cell and comes after it in row order lies in them too.
 after_inner : (b : Bounds) (p q : Place) → HasFourAfter b p → Touches p q → IsLater p q →
     IsInBounds b q
 after_inner b p q inner touch (inl down) = (

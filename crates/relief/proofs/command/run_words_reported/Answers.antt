@@ -19,7 +19,7 @@ returns-in-Err-BadObserver-clause-ends g c =
     c.args.writer.now _ c.args.errors.now _ _ _
     (bad_observer_refused words c.in-Err-BadObserver.place
     (subst (IsFaultOf words) c.in-Err-BadObserver.field-0-is c.in-Err-BadObserver.ensures.fault))
-    (c.tell_bad_word.result, c.tell_bad_word.ensures) refl refl)
+    (c.write_bad_word.result, c.write_bad_word.ensures) refl refl)
 
 pub returns-in-Err-BadGauge-clause-ends : goal.returns-in-Err-BadGauge-clause-ends
 returns-in-Err-BadGauge-clause-ends g c =
@@ -28,7 +28,7 @@ returns-in-Err-BadGauge-clause-ends g c =
     c.args.writer.now _ c.args.errors.now _ _ _
     (bad_gauge_refused words c.in-Err-BadGauge.place
     (subst (IsFaultOf words) c.in-Err-BadGauge.field-0-is c.in-Err-BadGauge.ensures.fault))
-    (c.tell_bad_word-in-Err-BadGauge.result, c.tell_bad_word-in-Err-BadGauge.ensures) refl refl)
+    (c.write_bad_word-in-Err-BadGauge.result, c.write_bad_word-in-Err-BadGauge.ensures) refl refl)
 
 pub returns-in-Err-BadSink-clause-ends : goal.returns-in-Err-BadSink-clause-ends
 returns-in-Err-BadSink-clause-ends g c =
@@ -37,7 +37,7 @@ returns-in-Err-BadSink-clause-ends g c =
     c.args.writer.now _ c.args.errors.now _ _ _
     (bad_sink_refused words c.in-Err-BadSink.place
     (subst (IsFaultOf words) c.in-Err-BadSink.field-0-is c.in-Err-BadSink.ensures.fault))
-    (c.tell_bad_word-in-Err-BadSink.result, c.tell_bad_word-in-Err-BadSink.ensures) refl refl)
+    (c.write_bad_word-in-Err-BadSink.result, c.write_bad_word-in-Err-BadSink.ensures) refl refl)
 
 pub returns-in-Err-NoMap-clause-ends : goal.returns-in-Err-NoMap-clause-ends
 returns-in-Err-NoMap-clause-ends g c =

@@ -1,4 +1,4 @@
-use Rattle.relief.proofs.fault_line.tell_bad_word.Goals as goal
+use Rattle.relief.proofs.fault_line.write_bad_word.Goals as goal
 
 pub returns : goal.returns
 returns g c =
