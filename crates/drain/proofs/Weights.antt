@@ -1,5 +1,7 @@
 -- Each of the eight ways from a cell has the weight of its drop. If no weight is above 0, no way
--- leads down; else the first way of the greatest weight gives the direction.
+-- leads down; a cell with fitting surroundings (`IsFitting`) that is no end cell then has a
+-- neighbour of its height with one step fewer. Else the first way of the greatest weight gives the
+-- direction.
 use Rattle.std.proofs.Common.{◌≡◌, ℕ, ◌+◌, ◌*◌, ◌<◌, ◌≤◌, ◌%◌, max, true, false, eqb, ltb, length, get_or, fold, Option, None, Some, ℤ, sym, ap, ◌∙◌, subst, arith, ◌⊎◌, inl, inr}
 use Rattle.std.proofs.Math.Nat.{mul-le-mul_right}
 use Rattle.std.proofs.lemmas.Bool.{false≢true, cases_Bool, cond-true, cond-false, le-ltb, lt-ltb, cases_eq}

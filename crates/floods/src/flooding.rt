@@ -1,8 +1,9 @@
 //! The flood: finds each node's level, the least crest of its walks to sources, and its label.
 //! The label is a source where a walk of that crest ends. A walk's crest is its greatest height.
 //!
-//! [`flood_net`] labels the unlabelled node queued at the least height. It queues each unlabelled
-//! neighbour whose crest is below its level, if any.
+//! [`flood_net`] labels the unlabelled node queued at the least height, again and again. It queues
+//! each unlabelled neighbour of this node at the greater of the node's height in the queue and the
+//! join's height, unless the neighbour was queued before at that height or a lower one.
 ghost use Rattle.std.specs.Prelude.{◌≡◌, IfOk, length, replicate, None};
 ghost use Rattle.floods.specs.Walk.{IsFlooded};
 ghost use Rattle.floods.specs.Flood.{candidates_in, InOrder, AreSourcesQueued, HasSourcesNoted};

@@ -1,5 +1,6 @@
 -- If the inflows and outlets found are those of a map of directions, so are those of the `RimLinks`
--- made of both. The tiles' flows and counts, found tile by tile, are those of the map.
+-- made of both. Flows with the exits and counts of their tiles (`AreTileFlows`) meet what finding
+-- both requires: `AreFlowsOf`, if the tiling is lawful and all flow paths end, and `AreTileCounts`.
 use Rattle.std.proofs.Common.{◌≡◌, true, inl, inr, List, Option, None, sym, ap, ◌∙◌}
 use Rattle.std.proofs.lemmas.Bool.{cases_Bool, and_from, and_parts, lt-ltb, ltb-true, cond-true, cond-false}
 use Rattle.terrain.specs.declared.place.Place.{Place}

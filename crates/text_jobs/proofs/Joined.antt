@@ -1,5 +1,5 @@
--- The runs into which a text is cut, joined in order, are the text. A reader that is fed the
--- runs in order, up to the first fault, is fed the text.
+-- The runs into which a piece of a text is cut, joined in order, are the piece. A reader that is
+-- fed the runs in order, up to the first fault, is fed the piece.
 use Rattle.std.proofs.Common.{◌≡◌, ℕ, ◌+◌, ◌<◌, List, [], ◌∷◌, ◌++◌, length, take, drop, get_or, map, Ok, Err, Result, ap, sym, subst, ◌∙◌}
 use Rattle.std.specs.List.{concat}
 use Rattle.std.proofs.lemmas.List.{append-nil, append_assoc, map-append, take_more, take-append-drop}

@@ -13,8 +13,8 @@ use Rattle.tiles.specs.declared.bounds.Bounds.{Bounds}
 use Rattle.tiles.specs.Windows.{IsInner, spot_index, area_of, IsSpot, Shows, IsShown, AreShown}
 use Rattle.tiles.proofs.Spots.{spot_below}
 
--- Row or column `at` of a window that begins at `first` of the grid shows this row or column, or
--- lies before the grid's first.
+-- Row or column `at` of the window of a tile that begins at `first` of the grid shows this row or
+-- column, or lies before the grid's first. The window begins one row or column before its tile.
 abbrev ShowsAxis : ℕ → ℕ → Option ℕ → Type 0
 ShowsAxis first at None = first + at ≡ 0
 ShowsAxis first at (Some shown) = first + at ≡ shown + 1

@@ -1,5 +1,7 @@
 -- Defines the window of a tile: the tile and a border of one cell around it. A spot is a place in
--- the window, whose row 0 and column 0 lie before the tile's first.
+-- the window, whose row 0 and column 0 lie before the tile's first. Also the value at a spot: that
+-- of the place that it shows (`IsShown`), in `IsSeen` only if the place is in the bounds `seen`. It
+-- is `none` elsewhere, as at spots north or west of the grid.
 -- Public.
 use Rattle.std.specs.Prelude.{◌≡◌, ℕ, ◌+◌, ◌*◌, ◌<◌, ◌≤◌, ◌⊎◌, List, length, if◌then◌else◌, slice_index_or}
 use Rattle.terrain.specs.Neighbours.{index_of}
