@@ -45,7 +45,7 @@ fn any_gap_or_lower(cells: &[Cell], at: &[usize; 8], level: Height) -> bool
     false
 }
 
-/// Returns 0 for a cell of the tile that has a gap or a lower cell around it, else [`NO_COUNT`].
+/// Returns 0 for a data cell of the tile with a gap or a lower cell around it, else [`NO_COUNT`].
 #[inline(always)]
 fn initial_count(window: &Window<Cell>, spot: Place) -> u32
     requires { IsSpot window.now.bounds spot }

@@ -1,4 +1,4 @@
-//! Finds the rim cells of a tile by side number, and where their paths along links end.
+//! Finds the rim cells of a tile by side number, and where the paths of cells along links end.
 //!
 //! A cell's link leads to the next cell downstream, or to the cell itself if none is in the tile.
 //! A side number is a rim cell's number in its tile (`Bounds::side_number`). A rim number is a

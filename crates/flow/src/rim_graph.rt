@@ -1,7 +1,10 @@
-//! Links each exit into another tile to the next such exit on its flow path: [`RimGraph`].
+//! Finds where each exit into another tile leads, and the next such exit on its flow path:
+//! [`RimGraph`].
 //!
-//! An exit without a next one is linked to itself. The lists have an entry for each rim number, a
-//! number for a rim cell among those of all tiles (`Tiling::rim_number`).
+//! An exit's target is the place in the other tile that it flows into. Its link is the next such
+//! exit on its flow path, or the exit itself if there is none. The lists of targets and of links
+//! have an entry for each rim number, a number for a rim cell among those of all tiles
+//! (`Tiling::rim_number`).
 ghost use Rattle.std.specs.Prelude.{◌≡◌, ◌+◌, ◌*◌, ◌<◌, ◌≤◌, length, IfOk, OnOk};
 ghost use Rattle.tiles.specs.Cutting.{IsCutting, IsWithin, IsWithinLimits, bounds_of, tile_count};
 ghost use Rattle.drainage.specs.Following.{Directed};

@@ -85,7 +85,7 @@ impl Family {
     }
 
     /// Returns the rays of all flagged cells of an extent on lines 2 and beyond.
-    /// No line is before line 1, so nothing hides the cells of line 1.
+    /// No line of the family is before line 1, so none of its lines hides a cell of line 1.
     pub(crate) fn gather(
         self,
         alloc: Global,

@@ -1,5 +1,7 @@
 -- If a number passes a test, some number passes in each range that has it. If none passes in a
 -- range, none does in its parts; if none passes in two adjoining ranges, none does in both joined.
+-- Let two tests agree on a range (`any_same`), or on one from 1 that one of them counts backward
+-- (`any_back`). Then some number in it passes the one exactly if some number passes the other.
 use Rattle.std.proofs.Common.{arith, refl, sym, ap, ◌∙◌, ◌≡◌, ◌+◌, ◌-◌, ◌<◌, ◌≤◌, ℕ, zero, suc, Bool, true, false, get_or, inl, inr}
 use Rattle.std.specs.List.{list_any, range_with_len}
 use Rattle.std.proofs.lemmas.Bool.{or_from, cases_lt, false_from_ne_true, true_from_ne_false}

@@ -170,7 +170,7 @@ impl Frame {
         &self.header.cellsize
     }
 
-    /// The NODATA value, as the header spells it.
+    /// The NODATA word: as the header spells it, or `-9999` where the text that was read has none.
     pub fn nodata(&self) -> &Word
         ensures { result.now ≡ self.now.nodata }
     {

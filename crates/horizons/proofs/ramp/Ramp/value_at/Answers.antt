@@ -27,7 +27,7 @@ overflow_add-result c =
 pub overflow_cast-result : goal.overflow_cast-result
 overflow_cast-result c =
     let is = value_is c.args.self c.args.target (search rules) (search rules) c.requires.target in
-    let sum = back_long (ramp_value c.args.self c.args.target) 
+    let sum = back_long (ramp_value c.args.self c.args.target)
     (omega (arith, c.requires.at.value)) in
     rw (c.from.ensures, c.from-2.ensures, c.from-3.ensures, c.from-4.ensures, is, sum)
     (fits_signed_from_abs w64 (ramp_value c.args.self c.args.target) c.requires.at.value)
@@ -35,7 +35,7 @@ overflow_cast-result c =
 pub returns : goal.returns
 returns c =
     let is = value_is c.args.self c.args.target (search rules) (search rules) c.requires.target in
-    let sum = back_long (ramp_value c.args.self c.args.target) 
+    let sum = back_long (ramp_value c.args.self c.args.target)
     (omega (arith, c.requires.at.value)) in
     rw (c.from.ensures, c.from-2.ensures, c.from-3.ensures, c.from-4.ensures, is, sum)
     (back (ramp_value c.args.self c.args.target) c.requires.at.value)
