@@ -271,7 +271,8 @@ fn gauges_notice(fault: &GaugeFault) -> Notice
     }
 }
 
-/// Returns the name of a header key in the line of a fault.
+/// Returns the name of a header slot in the line of a fault.
+/// `xll` stands for `xllcorner` and `xllcenter`, `yll` for `yllcorner` and `yllcenter`.
 pub(crate) fn slot_name(key: Key) -> &'static [u8]
     ensures name { result.now ≡ slot_text key }
     ensures short { length result.now ≤ 40 }

@@ -172,6 +172,6 @@ relief: NUMBER NAME [DETAIL]
   61 GaugeOutside PLACE  this gauge is not in the grid: give ROW,COL in cells, not coordinates
   62 GaugeOnNodata PLACE this gauge is on a cell without data: move it
   63 TooManyGauges       more than 1024: make several maps
-KEY is a header word. PLACE and K count from 0: cells in row order, so PLACE is row PLACE / ncols, rounded down,
-and column PLACE % ncols; observers, gauges and sinks in the order of the command line. `relief-cells` turns
-coordinates into ROW,COL and ROW,COL,EYE.";
+KEY is ncols, nrows, xll, yll (a corner or a centre), cellsize or nodata. PLACE and K count from 0: cells in row
+order, so PLACE is row PLACE / ncols, rounded down, and column PLACE % ncols; observers, gauges and sinks in the
+order of the command line. `relief-cells` turns coordinates into ROW,COL and ROW,COL,EYE.";
