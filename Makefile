@@ -1,5 +1,6 @@
-# `make` proves and builds the program and maps an example; `make test` passes all tests.
-.PHONY: all relief test bench recipes picture pictures install uninstall package qgis-plugin
+# `make` proves and builds the program and maps an example; `make test` passes all tests, and `make gate` also tries all
+# must-fail edits.
+.PHONY: all relief test gate bench recipes picture pictures install uninstall package qgis-plugin
 
 all: relief
 	./relief fill < examples/valley.asc
@@ -7,13 +8,16 @@ all: relief
 relief:
 	tools/build
 
-# `rt ci` proves what no earlier run on the machine has proved, and leaves the program that it has built.
+# Proves all crates and those of tests, as far as no earlier run on the machine has, and runs all tests.
 test:
 	tests/documents
-	rt ci
-	cp crates/relief_program/out/relief_program relief
+	tools/build --tests
 	tests/progress ./relief
 	$(MAKE) --no-print-directory --jobs=4 --output-sync=target test-program
+
+# `rt ci` keeps proofs, so it proves nothing anew: what is left are the must-fail edits.
+gate: test
+	rt ci
 
 # The longest first. tests/progress looks at the clock, and so runs alone.
 PROGRAM_TESTS = refusals gis limits sights texts install recipes run catchments pictures tools
@@ -75,7 +79,7 @@ install:
 	install -m 755 relief "$(BIN)/relief"
 	install -m 644 docs/relief.1 "$(MAN)/relief.1"
 	install -m 755 $(TOOLS:%=tools/%) "$(SHARE)/relief"
-	install -m 644 tools/grid_text.py "$(SHARE)/relief"
+	install -m 644 tools/grid_text.py gis/relief_gis/voids.py "$(SHARE)/relief"
 	for tool in $(TOOLS); do \
 	  ln -sf "../share/relief/$$tool" "$(BIN)/relief-$$tool" && ln -sf relief.1 "$(MAN)/relief-$$tool.1" || exit 1; done
 	install -m 644 tools/completion/relief.bash "$(BASH)/relief"

@@ -1,16 +1,16 @@
 """Drainage and visibility maps of numpy arrays and rasters, made by the program `relief`.
 
-The functions take and return numpy arrays; rasters, projections and points are the matter of the command
-`relief-gis` (`relief_gis.job`). No map is computed here: each is what `relief` writes.
+The functions take and return arrays (`relief_gis.arrays` says which); rasters, projections and points are the matter
+of the command `relief-gis` (`relief_gis.job`). No map is computed here: each is what `relief` writes.
 """
-from .arrays import accumulate, basins, catchments, fill, flow, view
+from .arrays import accumulate, basins, catchments, fill, flow, uncertain, view
 from .errors import Cancelled, DeviceError, GisError, InputError, MissingError, ReliefError, UsageError
 from .maps import NODATA_CODE, NODATA_COUNT
 from .program import Program
 
 __version__ = "0.2.0"
 __all__ = [
-    "accumulate", "basins", "catchments", "fill", "flow", "view",
+    "accumulate", "basins", "catchments", "fill", "flow", "uncertain", "view",
     "NODATA_CODE", "NODATA_COUNT", "Program",
     "Cancelled", "DeviceError", "GisError", "InputError", "MissingError", "ReliefError", "UsageError",
 ]

@@ -1,46 +1,59 @@
-"""The maps as functions from numpy arrays to numpy arrays.
+"""The maps as functions of Python, from arrays to arrays.
 
-In each function `heights` is a (rows, cols) array of integers or floats, 1 to 4,096 each, row 0 in the north. Cells
-are square and heights are in any unit; `scale` is how many of their decimals are kept (0 to 6; None: 0 of integers,
-2 of floats), and floats are rounded to it. Cells that equal `nodata`, and NaN, have no data. Places are (row, column)
-from 0. `workers` is the number of threads, 1 to 64; it changes no value.
+In each function `heights` is a (rows, cols) grid of integers or floats, 1 to 4,096 each, row 0 in the north. It may be
+
+- an array or a list; in any layout and byte order;
+- a masked array: masked cells have no data, whatever lies under the mask, and the map is a masked array, of which the
+  mask is set where there is no data;
+- a DataArray of xarray: the map is a DataArray with its dims and coordinates. Rows whose coordinate rises begin in the
+  south: they are turned for the map, which is then turned back. Cells in degrees, uneven or not square are refused.
+
+Cells are square and heights are in any unit; `scale` is how many of their decimals are kept (0 to 6; None: 0 of
+integers, 2 of floats), and floats are rounded to it. Cells that equal `nodata`, and NaN, have no data. Where heights
+are floats, `nodata` is rounded to their type. Of a DataArray `nodata` is that of its attributes or encoding, unless it
+is given. Places are (row, column) from 0, as in `heights`. `workers` is the number of threads, 1 to 64; it changes no
+value.
 """
 from __future__ import annotations
 
-from typing import List, Optional, Sequence, Tuple
+from typing import Any, Optional, Sequence, Tuple
 
-import numpy as np
-
-from .heights import Heights, default_decimals, heights_of
+from .arguments import MOST_WORKERS, needed, radius_of, units_of, whole_number
+from .edges import uncertain_cells, uncertain_map
+from .given import Given, given_of
 from .maps import Place, Request, make
 from .program import Program
-from .units import Number, decimal_of, whole_units
+from .units import Number
+from .words import PYTHON, spoken_in
 
 Cell = Tuple[int, int]
 Observer = Tuple[int, int, Number]
+# A map is of the kind of its heights: np.ndarray (also of lists), np.ma.MaskedArray or xarray.DataArray.
+Map = Any
 
 
-def fill(heights: np.ndarray, nodata: Optional[float] = None, scale: Optional[int] = None, *,
-         sinks: Sequence[Cell] = (), workers: int = 1, program: Optional[Program] = None) -> np.ndarray:
+def fill(heights: Any, nodata: Optional[float] = None, scale: Optional[int] = None, *,
+         sinks: Sequence[Cell] = (), workers: int = 1, program: Optional[Program] = None) -> Map:
     """Filled heights: the least height at which each cell's water reaches the data's edge or a sink.
 
     Returns:
         (rows, cols) in the unit of `heights`: their own type if they are integers and `scale` is 0, else float64.
-        Cells without data keep their value.
+        Cells without data keep their value, rounded where their type is longer. The fill_value of a masked array is
+        no height.
 
     Raises:
-        InputError: the array, scale or a place has no map.
+        InputError: the heights, an argument or a place has no map.
         ReliefError: `relief` refused; `number`, `name` and `place` say why.
         MissingError: `relief` is not installed.
     """
-    grid = _grid(heights, nodata, scale)
-    found = make(Request("fill", _places(sinks, "sink"), workers=workers), grid, program or Program.find())
-    dtype = heights.dtype if heights.dtype.kind in "iu" and grid.decimals == 0 else np.dtype(np.float64)
-    return np.where(grid.valid, grid.values(found, dtype), heights.astype(dtype))
+    with spoken_in(PYTHON):
+        given = given_of(heights, nodata, scale)
+        request = Request("fill", given.places(sinks, "sinks"), workers=_threads(workers))
+        return given.filled(make(request, given.heights, program or Program.find()))
 
 
-def flow(heights: np.ndarray, nodata: Optional[float] = None, scale: Optional[int] = None, *,
-         sinks: Sequence[Cell] = (), workers: int = 1, program: Optional[Program] = None) -> np.ndarray:
+def flow(heights: Any, nodata: Optional[float] = None, scale: Optional[int] = None, *,
+         sinks: Sequence[Cell] = (), workers: int = 1, program: Optional[Program] = None) -> Map:
     """D8 directions on the filled heights: E 1, SE 2, S 4, SW 8, W 16, NW 32, N 64, NE 128, outlet 0.
 
     Returns:
@@ -49,12 +62,13 @@ def flow(heights: np.ndarray, nodata: Optional[float] = None, scale: Optional[in
     Raises:
         InputError, ReliefError, MissingError: as in `fill`.
     """
-    request = Request("flow", _places(sinks, "sink"), workers=workers)
-    return make(request, _grid(heights, nodata, scale), program or Program.find())
+    with spoken_in(PYTHON):
+        given = given_of(heights, nodata, scale)
+        return _counted("flow", given, given.places(sinks, "sinks"), workers, program)
 
 
-def accumulate(heights: np.ndarray, nodata: Optional[float] = None, scale: Optional[int] = None, *,
-               sinks: Sequence[Cell] = (), workers: int = 1, program: Optional[Program] = None) -> np.ndarray:
+def accumulate(heights: Any, nodata: Optional[float] = None, scale: Optional[int] = None, *,
+               sinks: Sequence[Cell] = (), workers: int = 1, program: Optional[Program] = None) -> Map:
     """How many other cells' water flows through each cell.
 
     Returns:
@@ -63,13 +77,14 @@ def accumulate(heights: np.ndarray, nodata: Optional[float] = None, scale: Optio
     Raises:
         InputError, ReliefError, MissingError: as in `fill`.
     """
-    request = Request("accumulate", _places(sinks, "sink"), workers=workers)
-    return make(request, _grid(heights, nodata, scale), program or Program.find())
+    with spoken_in(PYTHON):
+        given = given_of(heights, nodata, scale)
+        return _counted("accumulate", given, given.places(sinks, "sinks"), workers, program)
 
 
-def basins(heights: np.ndarray, nodata: Optional[float] = None, scale: Optional[int] = None, *,
-           sinks: Sequence[Cell] = (), workers: int = 1, program: Optional[Program] = None) -> np.ndarray:
-    """The number of the outlet to which each cell's water flows, from 1 in row order.
+def basins(heights: Any, nodata: Optional[float] = None, scale: Optional[int] = None, *,
+           sinks: Sequence[Cell] = (), workers: int = 1, program: Optional[Program] = None) -> Map:
+    """The number of the outlet to which each cell's water flows, from 1 in row order from the north.
 
     Returns:
         (rows, cols) int32, NODATA_COUNT (-9999) where there is no data.
@@ -77,13 +92,13 @@ def basins(heights: np.ndarray, nodata: Optional[float] = None, scale: Optional[
     Raises:
         InputError, ReliefError, MissingError: as in `fill`.
     """
-    request = Request("basins", _places(sinks, "sink"), workers=workers)
-    return make(request, _grid(heights, nodata, scale), program or Program.find())
+    with spoken_in(PYTHON):
+        given = given_of(heights, nodata, scale)
+        return _counted("basins", given, given.places(sinks, "sinks"), workers, program)
 
 
-def catchments(heights: np.ndarray, gauges: Sequence[Cell], nodata: Optional[float] = None,
-               scale: Optional[int] = None, *, sinks: Sequence[Cell] = (), workers: int = 1,
-               program: Optional[Program] = None) -> np.ndarray:
+def catchments(heights: Any, gauges: Sequence[Cell], nodata: Optional[float] = None, scale: Optional[int] = None, *,
+               sinks: Sequence[Cell] = (), workers: int = 1, program: Optional[Program] = None) -> Map:
     """The place in the list of gauges, from 1, of the first gauge that each cell's flow path meets; 0: none.
 
     Returns:
@@ -93,13 +108,15 @@ def catchments(heights: np.ndarray, gauges: Sequence[Cell], nodata: Optional[flo
         MissingError: `relief` is not installed, or its version has no catchments.
         InputError, ReliefError: as in `fill`.
     """
-    request = Request("catchments", _places(gauges, "gauge"), _places(sinks, "sink"), workers=workers)
-    return make(request, _grid(heights, nodata, scale), program or Program.find())
+    with spoken_in(PYTHON):
+        given = given_of(heights, nodata, scale)
+        places = needed(given.places(gauges, "gauges"), "gauges")
+        return _counted("catchments", given, places, workers, program, sinks=given.places(sinks, "sinks"))
 
 
-def view(heights: np.ndarray, observers: Sequence[Observer], nodata: Optional[float] = None,
-         scale: Optional[int] = None, *, target: Number = 0, radius: Optional[int] = None, workers: int = 1,
-         program: Optional[Program] = None) -> np.ndarray:
+def view(heights: Any, observers: Sequence[Observer], nodata: Optional[float] = None, scale: Optional[int] = None, *,
+         target: Number = 0, radius: Optional[int] = None, workers: int = 1,
+         program: Optional[Program] = None) -> Map:
     """How many of the observers see each cell.
 
     Args:
@@ -115,18 +132,37 @@ def view(heights: np.ndarray, observers: Sequence[Observer], nodata: Optional[fl
         UsageError: an eye or the target is no whole number of units.
         InputError, ReliefError, MissingError: as in `fill`.
     """
-    grid = _grid(heights, nodata, scale)
-    places = [Place(f"observer {at}", int(row), int(col), whole_units(decimal_of(eye, "eye"), grid.decimals, "eye"))
-              for at, (row, col, eye) in enumerate(observers)]
-    above = whole_units(decimal_of(target, "target"), grid.decimals, "target")
-    request = Request("view", places, target=above, radius=radius, workers=workers)
-    return make(request, grid, program or Program.find())
+    with spoken_in(PYTHON):
+        given = given_of(heights, nodata, scale)
+        places = needed(given.observers(observers), "observers")
+        above = units_of(target, given.heights.decimals, "target")
+        return _counted("view", given, places, workers, program, target=above, radius=radius_of(radius))
 
 
-def _grid(heights: np.ndarray, nodata: Optional[float], scale: Optional[int]) -> Heights:
-    valid = np.ones(heights.shape, bool) if nodata is None else heights != nodata
-    return heights_of(heights, valid, default_decimals(heights.dtype) if scale is None else scale)
+def uncertain(heights: Any, nodata: Optional[float] = None, scale: Optional[int] = None, *,
+              sinks: Sequence[Cell] = (), workers: int = 1, program: Optional[Program] = None) -> Map:
+    """Which cells lie where the data ends or downstream of it: land beyond may drain in, and counts be too small.
+
+    Returns:
+        (rows, cols) uint8, 1 or 0, NODATA_CODE (255) where there is no data.
+
+    Raises:
+        InputError, ReliefError, MissingError: as in `fill`.
+    """
+    with spoken_in(PYTHON):
+        given = given_of(heights, nodata, scale)
+        request = Request("flow", given.places(sinks, "sinks"), workers=_threads(workers))
+        codes = make(request, given.heights, program or Program.find())
+        valid = given.heights.valid
+        return given.counted(uncertain_map(uncertain_cells(codes, valid), valid), "uncertain")
 
 
-def _places(cells: Sequence[Cell], kind: str) -> List[Place]:
-    return [Place(f"{kind} {at}", int(row), int(col)) for at, (row, col) in enumerate(cells)]
+def _counted(name: str, given: Given, places: Sequence[Place], workers: Any, program: Optional[Program],
+             **more: Any) -> Map:
+    """A map of codes or counts."""
+    request = Request(name, places, workers=_threads(workers), **more)
+    return given.counted(make(request, given.heights, program or Program.find()), name)
+
+
+def _threads(workers: Any) -> int:
+    return whole_number(workers, "workers", 1, MOST_WORKERS)

@@ -5,23 +5,24 @@ import argparse
 import os
 import re
 import shlex
-import shutil
 import signal
 import sys
+from dataclasses import replace
 from decimal import Decimal
-from typing import List, NoReturn, Optional, Sequence
+from typing import IO, Any, List, NoReturn, Optional, Sequence, Tuple
 
 from . import __version__
+from .arguments import MOST_WORKERS
+from .console import Bar, StreamError, open_streams, write
+from .edges import UNCERTAIN_MAPS
 from .errors import GisError, UsageError
 from .job import VOIDS, Caller, Job, bounds_of, run
-from .points import Layer, point_of_word
-from .program import Program, Progress
+from .points import Layer, Point, point_of_word
+from .program import Program
 from .units import MOST_DECIMALS, decimal_of
 
 NAME = "relief-gis"
 NEGATIVE = re.compile(r"-[\d.]")
-MOST_BAR_CELLS = 40
-MOST_WORKERS = 64
 ABOUT = {
     "fill": "filled heights",
     "flow": "D8 directions (E 1, SE 2, S 4, SW 8, W 16, NW 32, N 64, NE 128, outlet 0)",
@@ -45,8 +46,29 @@ thread; 4 reading or writing failed; 5 a program or module is missing; 130 inter
 class _Parser(argparse.ArgumentParser):
     """A parser whose errors are one line with status 1, as those of `relief`."""
 
+    def __init__(self, *words: Any, **more: Any) -> None:
+        super().__init__(*words, **more)
+        self.register("action", None, _Once)
+
     def error(self, message: str) -> NoReturn:
-        self.exit(1, f"{self.prog}: {message}\n")
+        _say_if_heard(message, self.prog)
+        self.exit(1)
+
+    def _print_message(self, message: str, file: Optional[IO[str]] = None) -> None:
+        if message:
+            write(message, file)
+
+
+class _Once(argparse.Action):
+    """Stores the value of an option that has one; a second one is refused, as none is better than the other."""
+
+    def __call__(self, parser: argparse.ArgumentParser, namespace: argparse.Namespace, values: Any,
+                 option_string: Optional[str] = None) -> None:
+        given = namespace.__dict__.setdefault("given_options", set())
+        if option_string is not None and self.dest in given:
+            parser.error(f"{option_string} is given twice: give it once")
+        given.add(self.dest)
+        setattr(namespace, self.dest, values)
 
 
 def _parser() -> argparse.ArgumentParser:
@@ -63,8 +85,11 @@ def _parser() -> argparse.ArgumentParser:
             _add_view(one)
         if name == "catchments":
             _add_gauges(one)
+        if name in UNCERTAIN_MAPS:
+            one.add_argument("--uncertain", metavar="OUT",
+                             help="GeoTIFF of the cells downstream of where the data ends, NAME.tif: 1 in them, else 0")
         if name == "streams":
-            one.add_argument("--threshold", type=int, required=True, metavar="CELLS",
+            one.add_argument("--threshold", type=_threshold, required=True, metavar="CELLS",
                              help="a stream's cells are those through which more than so many other cells drain")
     return parser
 
@@ -77,7 +102,8 @@ def _add_common(parser: argparse.ArgumentParser) -> None:
     add("--decimals", type=int, choices=range(MOST_DECIMALS + 1), metavar="D",
         help="decimals of heights that are kept, 0 to 6 (of integers 0, of floats 2)")
     add("--voids", choices=VOIDS, default="refuse",
-        help="holes inside the land: refuse them, let water drain off there, or fill them by interpolation")
+        help="holes inside the land: refuse them, leave them as they are (water drains off there, and they block no "
+             "view), or fill them by interpolation")
     cut = parser.add_mutually_exclusive_group()
     cut.add_argument("--window", type=_window, metavar="COL,ROW,COLS,ROWS", help="the part of IN to read, in cells")
     cut.add_argument("--bounds", type=_bounds, metavar="WEST,SOUTH,EAST,NORTH",
@@ -95,24 +121,29 @@ def _add_common(parser: argparse.ArgumentParser) -> None:
 def _add_places(parser: argparse.ArgumentParser, name: str) -> None:
     kind = {"view": "observer", "catchments": "gauge"}.get(name, "sink")
     parser.add_argument("--at", action="append", default=[], metavar="X,Y",
-                        help=f"a {kind}, by coordinates; again and again")
+                        help=f"{'an' if kind == 'observer' else 'a'} {kind}, by coordinates; again and again")
     parser.add_argument("--points", action="append", default=[], metavar="LAYER",
-                        help=f"{kind}s: points of a file, or of one of its layers by FILE|layername=NAME")
+                        help=f"{kind}s: points of a file, or of one of its layers by 'FILE|layername=NAME'")
+    parser.add_argument("--skip", action="store_true",
+                        help="leave out points that lie where there is no data, and say which; else they are refused")
 
 
 def _add_view(parser: argparse.ArgumentParser) -> None:
-    parser.add_argument("--eye", metavar="H", help="height of the eyes above the ground")
-    parser.add_argument("--eye-field", metavar="FIELD", help="field of the points with the height of each eye")
-    parser.add_argument("--target", dest="above", default="0", metavar="H",
-                        help="height of the targets above the ground")
-    parser.add_argument("--radius", metavar="R", help="how far is seen, rounded down to whole cells")
+    add = parser.add_argument
+    add("--eye", action="append", default=[], metavar="H",
+        help="height of the eyes above the ground; once for all, or once for each --at")
+    add("--eye-field", metavar="FIELD", help="field of the points with the height of each eye; --eye is of --at then")
+    add("--target", dest="above", action="append", default=[], metavar="H",
+        help="height of the targets above the ground (0); once for all, or once for each --at")
+    add("--radius", action="append", default=[], metavar="R",
+        help="how far is seen, rounded down to whole cells; once for all, or once for each --at")
 
 
 def _add_gauges(parser: argparse.ArgumentParser) -> None:
     parser.add_argument("--sink-at", action="append", default=[], metavar="X,Y",
                         help="a sink, by coordinates; again and again")
     parser.add_argument("--sinks", action="append", default=[], metavar="LAYER",
-                        help="sinks: points of a file, or of one of its layers by FILE|layername=NAME")
+                        help="sinks: points of a file, or of one of its layers by 'FILE|layername=NAME'")
     parser.add_argument("--snap", type=int, metavar="CELLS",
                         help="move each gauge to the greatest accumulation within so many rows and columns")
     parser.add_argument("--snapped", metavar="OUT", help="GeoPackage of the gauges where they were moved to, NAME.gpkg")
@@ -135,39 +166,83 @@ def _window(word: str) -> tuple:
     return tuple(int(number) for number in numbers)
 
 
+def _threshold(word: str) -> int:
+    if not word.isascii() or not word.isdecimal():
+        raise argparse.ArgumentTypeError(f"{word} is no number of cells, from 0")
+    return int(word)
+
+
 def _bounds(word: str) -> tuple:
     return bounds_of(_numbers(word, "WEST,SOUTH,EAST,NORTH"))
 
 
 def _job(words: Sequence[str], asked: argparse.Namespace) -> Job:
-    eye_field = getattr(asked, "eye_field", None)
-    above = decimal_of(getattr(asked, "above", "0"), "the target")
     snap, snapped = getattr(asked, "snap", None), getattr(asked, "snapped", None)
     if snapped is not None and snap is None:
         raise UsageError("--snapped is where --snap writes the gauges to: give --snap CELLS")
     if snap is not None and snap < 0:
         raise UsageError(f"--snap {snap} is below 0")
+    eye_field = _eye_field(asked)
+    points = [point_of_word(word, f"point {at}") for at, word in enumerate(asked.at, 1)]
+    points, (eye, above, radius) = _observers(points, asked)
     sinks = [point_of_word(word, f"sink {at}") for at, word in enumerate(getattr(asked, "sink_at", []), 1)]
     return Job(
         map=asked.map, source=asked.source, target=asked.target, band=asked.band, window=asked.window,
         bounds=asked.bounds, projection=asked.projection, needs_projection=not asked.no_projection,
-        decimals=asked.decimals, voids=asked.voids,
-        places=[point_of_word(word, f"point {at}") for at, word in enumerate(asked.at, 1)]
-        + [Layer(path, eye_field) for path in asked.points],
-        sinks=sinks + [Layer(path) for path in getattr(asked, "sinks", [])],
-        eye=_optional(getattr(asked, "eye", None), "the eye"), above=above,
-        radius=_optional(getattr(asked, "radius", None), "the radius"), threshold=getattr(asked, "threshold", None),
-        snap=snap, snapped=snapped, workers=asked.workers, tile=asked.tile,
+        decimals=asked.decimals, voids=asked.voids, skip=asked.skip,
+        places=[*points, *(Layer(path, eye_field) for path in asked.points)],
+        sinks=[*sinks, *map(Layer, getattr(asked, "sinks", []))],
+        eye=eye, above=Decimal(0) if above is None else above, radius=radius,
+        threshold=getattr(asked, "threshold", None), snap=snap, snapped=snapped,
+        uncertain=getattr(asked, "uncertain", None), workers=asked.workers, tile=asked.tile,
         command=shlex.join([NAME, *words]),
     )
 
 
-def _optional(word: Optional[str], what: str) -> Optional[Decimal]:
-    return None if word is None else decimal_of(word, what)
+def _eye_field(asked: argparse.Namespace) -> Optional[str]:
+    """The field of eyes, which is of layers as --eye is of words: where there are no words, only one has a meaning."""
+    field = getattr(asked, "eye_field", None)
+    if field is None:
+        return None
+    if not asked.points:
+        raise UsageError(f"--eye-field {field} is a field of --points LAYER, which is not given")
+    if asked.eye and not asked.at:
+        raise UsageError(f"--eye and --eye-field {field} both say how high the eyes of --points are: give one of them")
+    return field
 
 
-def _say(line: str) -> None:
-    print(f"{NAME}: {line}", file=sys.stderr)
+def _observers(points: List[Point], asked: argparse.Namespace) -> Tuple[List[Point], List[Optional[Decimal]]]:
+    """Observers with what is given for each of them; and the eye, target and radius that are given for all, or None."""
+    common: List[Optional[Decimal]] = []
+    for name, option in (("eye", "--eye"), ("above", "--target"), ("radius", "--radius")):
+        numbers = [decimal_of(word, f"the {option[2:]}") for word in getattr(asked, name, [])]
+        common.append(numbers[0] if len(numbers) == 1 else None)
+        if len(numbers) > 1:
+            _check_pairs(option, len(numbers), asked)
+            points = [replace(point, **{name: number}) for point, number in zip(points, numbers)]
+    return points, common
+
+
+def _check_pairs(option: str, count: int, asked: argparse.Namespace) -> None:
+    """Refuses an option that is given several times, and not once for each observer."""
+    if asked.points:
+        raise UsageError(f"{option} is given {count} times, and the observers of --points have no order of the command "
+                         "line: give it once")
+    if count != len(asked.at):
+        raise UsageError(f"{option} is given {count} times for {len(asked.at)} observers by --at: give it once, or "
+                         "once for each")
+
+
+def _say(line: str, name: str = NAME) -> None:
+    write(f"{name}: {line}\n")
+
+
+def _say_if_heard(line: str, name: str = NAME) -> None:
+    """Says why a run ends, where there is a stream for it; the status tells the rest."""
+    try:
+        _say(line, name)
+    except StreamError:
+        pass
 
 
 def _joined(words: Sequence[str]) -> List[str]:
@@ -181,38 +256,6 @@ def _joined(words: Sequence[str]) -> List[str]:
     return found
 
 
-class _Bar:
-    """A bar for each stage on a terminal, written anew in place; elsewhere a line for each tenth that is reported."""
-
-    def __init__(self) -> None:
-        self.is_terminal = sys.stderr.isatty()
-        self.width = 0
-
-    def __call__(self, step: Progress) -> None:
-        label = f"{step.map}, stage {step.stage}"
-        if not self.is_terminal:
-            return _say(f"{label}: {step.share:.0%}".replace("%", " %"))
-        percent = f" {step.share:4.0%}"
-        # One column is left free: a full line would begin a new one.
-        most = shutil.get_terminal_size().columns - len(label) - len(percent) - 2
-        cells = max(0, min(MOST_BAR_CELLS, most))
-        done = round(step.share * cells)
-        line = f"{label} {'#' * done}{'.' * (cells - done)}{percent}"
-        print(f"\r{line:{self.width}}", end="", file=sys.stderr, flush=True)
-        self.width = len(line)
-
-    def say(self, line: str) -> None:
-        """Says a line in the place of the bar."""
-        self.clear()
-        _say(line)
-
-    def clear(self) -> None:
-        """Takes the bar off the terminal."""
-        if self.width:
-            print(f"\r{'':{self.width}}\r", end="", file=sys.stderr, flush=True)
-            self.width = 0
-
-
 def _run(words: Sequence[str], asked: argparse.Namespace) -> None:
     program = Program.find(asked.relief)
     job = _job(words, asked)
@@ -221,28 +264,43 @@ def _run(words: Sequence[str], asked: argparse.Namespace) -> None:
     if not program.has_progress:
         _say(f"relief {program.version} reports no progress")
         return run(job, program, Caller(_say))
-    bar = _Bar()
+    bar = Bar(NAME)
     try:
         return run(job, program, Caller(bar.say, bar, by_percent=bar.is_terminal))
     finally:
         bar.clear()
 
 
+def _status(words: Sequence[str]) -> int:
+    """Runs the command and says what is wrong; its exit status."""
+    try:
+        _check_encoding(words)
+        _run(words, _parser().parse_args(_joined(words)))
+    except GisError as error:
+        _say_if_heard(str(error))
+        return error.status
+    except MemoryError:
+        _say_if_heard("out of memory: take a smaller grid, or free some memory")
+        return 3
+    except KeyboardInterrupt:
+        _say_if_heard("interrupted")
+        return 130
+    return 0
+
+
+def _check_encoding(words: Sequence[str]) -> None:
+    """Refuses words that GDAL and the metadata of a map cannot take."""
+    for word in words:
+        try:
+            word.encode()
+        except UnicodeEncodeError:
+            raise UsageError(f"{ascii(word)} is not in UTF-8: rename the file, or the folder") from None
+
+
 def main(words: Optional[Sequence[str]] = None) -> int:
     """Runs the command; its exit status."""
     words = sys.argv[1:] if words is None else words
+    open_streams()
     # An end by a signal goes the way of an exception, so that no temporary file is left.
     signal.signal(signal.SIGTERM, lambda number, frame: sys.exit(128 + number))
-    asked = _parser().parse_args(_joined(words))
-    try:
-        _run(words, asked)
-    except GisError as error:
-        _say(str(error))
-        return error.status
-    except MemoryError:
-        _say("out of memory: take a smaller grid, or free some memory")
-        return 3
-    except KeyboardInterrupt:
-        _say("interrupted")
-        return 130
-    return 0
+    return _status(words)

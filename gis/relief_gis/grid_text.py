@@ -1,79 +1,165 @@
 """The grid text that `relief` reads and writes, from and to numpy arrays.
 
 Heights are written as whole numbers of units, so the program runs with its scale of 0 and no decimal point is
-written or read. Words are parted by any number of spaces, so that all words have one width and digits are computed
-for many cells at once.
+written or read. All is computed for the cells of a block at once.
 """
 from __future__ import annotations
 
-from typing import IO, Dict, Optional
+from typing import IO, Iterable, Iterator, Optional, Tuple
 
 import numpy as np
 
+from .blocks import in_order, row_blocks, rows_of
 from .errors import InputError
 
 HEADER_LINES = 6
-# How many cells are written at once: what they need stays in a processor's cache.
-CELLS_AT_ONCE = 1 << 16
+ZERO, MINUS, SPACE, LINE_FEED = b"0- \n"
+# What is read at once, in bytes.
+PIECE = 1 << 17
+# No word of the program is longer, and no line of its header.
+MOST_WORD, MOST_LINE = 64, 200
+NO_NUMBERS = "relief wrote words that are no whole numbers"
+# Words of so many digits are computed with half the bytes.
 NARROW_DIGITS = 9
+
+
+def _table(words: Iterable[bytes]) -> np.ndarray:
+    """Words of four bytes as numbers of 32 bits."""
+    return np.frombuffer(b"".join(words), np.uint32)
+
+
+FOUR_DIGITS = _table(b"%04d" % number for number in range(10_000))
+# The last digits of a word, and its first ones with a sign.
+THREE_DIGITS = _table(b"%03d " % number for number in range(1_000))
+SIGNED_DIGITS = _table(b"%c%03d" % (sign, number) for sign in b"0-" for number in range(1_000))
 
 
 def write_grid(units: np.ndarray, valid: Optional[np.ndarray], file: IO[bytes]) -> None:
     """Writes heights as a grid text, with cells of size 1 at the origin.
 
     Args:
-        units: (rows, cols) int64, heights in units.
+        units: (rows, cols) integers, heights in units.
         valid: (rows, cols) bool, where there is data; None: everywhere.
         file: a binary file, open for writing.
     """
     rows, cols = units.shape
-    data = units if valid is None else units[valid]
-    low, high = (int(data.min()), int(data.max())) if data.size else (0, 0)
-    nodata = low - 1
+    low, high = int(units.min()), int(units.max())
+    nodata = high + 1
     file.write(f"ncols {cols}\nnrows {rows}\nxllcorner 0\nyllcorner 0\ncellsize 1\nNODATA_value {nodata}\n".encode())
-    digits = len(str(max(abs(nodata), abs(high))))
-    step = max(1, CELLS_AT_ONCE // cols)
-    for first in range(0, rows, step):
-        part = units[first:first + step]
-        if valid is not None:
-            part = np.where(valid[first:first + step], part, nodata)
-        file.write(_words(part, digits).data)
+    digits = len(str(max(abs(low), abs(nodata))))
+    is_signed = low < 0
+
+    def text_of(block: slice) -> np.ndarray:
+        part = units[block] if valid is None else rows_of(units, valid, block, nodata)
+        return _words(part, digits, is_signed)
+
+    for text in in_order(text_of, row_blocks(units.shape)):
+        file.write(text.data)
 
 
-def _words(units: np.ndarray, digits: int) -> np.ndarray:
-    """The bytes of rows of heights: a sign or a space, digits with leading zeros, a space or a line feed."""
-    kind = np.uint32 if digits <= NARROW_DIGITS else np.uint64
-    text = np.empty(units.shape + (digits + 2,), np.uint8)
-    text[..., 0] = np.where(units < 0, ord("-"), ord(" "))
-    rest = np.abs(units).astype(kind)
-    ten, zero = kind(10), kind(ord("0"))
-    for column in range(digits, 0, -1):
-        tenth = rest // ten
-        text[..., column] = rest - tenth * ten + zero
-        rest = tenth
-    text[..., -1] = ord(" ")
-    text[:, -1, -1] = ord("\n")
-    return text
+def _words(units: np.ndarray, digits: int, is_signed: bool) -> np.ndarray:
+    """The bytes of rows of heights: words of four, eight, twelve .. bytes, a space or a line feed the last of each.
+
+    Args:
+        units: (rows, cols) integers.
+        digits: most digits of a height.
+        is_signed: whether heights below 0 are among them.
+    """
+    kind = np.uint32 if digits <= NARROW_DIGITS else np.int64
+    rest = (np.abs(units) if is_signed else units).astype(kind)
+    tables = [THREE_DIGITS] + [FOUR_DIGITS] * (digits // 4)
+    if is_signed:
+        tables = [THREE_DIGITS] + [FOUR_DIGITS] * (max(digits - 3, 0) // 4) + [SIGNED_DIGITS]
+    text = np.empty(units.shape + (len(tables),), np.uint32)
+    for group, table in zip(range(len(tables) - 1, 0, -1), tables):
+        over = rest // kind(table.size)
+        text[..., group] = table.take(rest - over * kind(table.size), mode="clip")
+        rest = over
+    if is_signed:
+        rest += (units < 0) * kind(SIGNED_DIGITS.size // 2)
+    text[..., 0] = tables[-1].take(rest, mode="clip")
+    letters = text.view(np.uint8).reshape(len(units), -1)
+    letters[:, -1] = LINE_FEED
+    return letters
 
 
-def read_grid(file: IO[bytes]) -> np.ndarray:
+def read_grid(file: IO[bytes], dtype: "np.typing.DTypeLike" = np.int64) -> np.ndarray:
     """Reads the numbers of a grid text that `relief` wrote with a scale of 0.
 
     Args:
         file: a binary file at its start.
+        dtype: an integer type that has all numbers.
 
     Returns:
-        (rows, cols) int64, with the NODATA value of the text where there is no data.
+        (rows, cols) of that type, with the NODATA value of the text where there is no data.
 
     Raises:
-        InputError: the text is cut off.
+        InputError: the text is cut off, or no grid text.
     """
-    header: Dict[bytes, bytes] = {}
-    for _ in range(HEADER_LINES):
-        key, value = file.readline().split()
-        header[key] = value
-    shape = int(header[b"nrows"]), int(header[b"ncols"])
-    values = np.fromstring(file.read(), dtype=np.int64, sep=" ")
-    if values.size != shape[0] * shape[1]:
-        raise InputError(f"relief wrote {values.size} values of {shape[0] * shape[1]}")
-    return values.reshape(shape)
+    shape = _shape(file)
+    numbers = np.empty(shape[0] * shape[1], dtype)
+    count = 0
+    for part in in_order(_numbers, _pieces(file)):
+        kept = numbers[count:count + part.size]
+        kept[:] = part[:kept.size]
+        count += part.size
+    if count != numbers.size:
+        raise InputError(f"relief wrote {count} values of {numbers.size}")
+    return numbers.reshape(shape)
+
+
+def _shape(file: IO[bytes]) -> Tuple[int, int]:
+    """Rows and columns by the header, which is read."""
+    lines = [file.readline(MOST_LINE).split() for _ in range(HEADER_LINES)]
+    header = {line[0]: line[1] for line in lines if len(line) == 2}
+    try:
+        return int(header[b"nrows"]), int(header[b"ncols"])
+    except (KeyError, ValueError):
+        raise InputError("relief wrote no map: set RELIEF to the path of the relief that makes maps") from None
+
+
+def _pieces(file: IO[bytes]) -> Iterator[np.ndarray]:
+    """The bytes of a text in pieces of whole words."""
+    rest = b""
+    while True:
+        read = file.read(PIECE)
+        text = rest + read
+        if not read:
+            break
+        end = max(text.rfind(b" "), text.rfind(b"\n")) + 1
+        rest = text[end:]
+        if len(rest) > MOST_WORD:
+            raise InputError(NO_NUMBERS)
+        if end:
+            yield np.frombuffer(text, np.uint8, end)
+    if rest:
+        raise InputError("relief wrote a text that is cut off")
+
+
+def _numbers(text: np.ndarray) -> np.ndarray:
+    """The numbers of words, each of which a space or a line feed ends: two digits at a time, from the last ones."""
+    ends = np.flatnonzero(text <= SPACE)
+    lengths = ends.copy()
+    lengths[1:] -= ends[:-1] + 1
+    is_digit = text >= ZERO
+    # Of a space and a sign the digit is 0.
+    digits = (text - np.uint8(ZERO)) * is_digit
+    signs = np.flatnonzero(text == MINUS)
+    signed = np.searchsorted(ends, signs)
+    if (lengths.min() < 1 or digits.max() > 9 or np.any(lengths[signed] < 2)
+            or np.any(signs != ends[signed] - lengths[signed])
+            or np.count_nonzero(is_digit) + ends.size + signs.size != text.size):
+        raise InputError(NO_NUMBERS)
+    # Of the two bytes before each.
+    pairs = np.zeros_like(digits)
+    pairs[2:] = digits[:-2] * np.uint8(10)
+    pairs[1:] += digits[:-1]
+    width = int(lengths.max())
+    numbers = pairs.take(ends).astype(np.int32 if width <= NARROW_DIGITS else np.int64)
+    for place in range(2, width, 2):
+        is_long = lengths > place
+        chosen = slice(None) if 2 * np.count_nonzero(is_long) > ends.size else np.flatnonzero(is_long)
+        pair = pairs.take(ends[chosen] - place, mode="clip") * is_long[chosen]
+        numbers[chosen] += np.multiply(pair, 10**place, dtype=numbers.dtype)
+    numbers[signed] *= -1
+    return numbers

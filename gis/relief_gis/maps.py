@@ -1,13 +1,16 @@
 """The maps: what `relief` is asked for, and of which numpy type its answer is."""
 from __future__ import annotations
 
-from dataclasses import dataclass
+from dataclasses import dataclass, replace
 from typing import List, Optional, Sequence, Tuple
 
 import numpy as np
 
+from .blocks import array_of
 from .heights import Heights
 from .program import Program, Question, Report
+from .units import MOST_RADIUS_CELLS
+from .voids import any_of_nine
 
 NODATA_CODE = 255
 NODATA_COUNT = -9999
@@ -65,27 +68,47 @@ class Request:
         return words + [place.word for place in self.places]
 
 
+def _reach(request: Request, shape: Tuple[int, ...]) -> Optional[Tuple[slice, slice]]:
+    """Rows and columns that hold all that the observers of `view` can see; None: all, or the program will refuse."""
+    places, radius = request.places, request.radius
+    is_refused = not all(0 <= place.row < shape[0] and 0 <= place.col < shape[1] for place in places)
+    if request.map != "view" or radius is None or not 1 <= radius <= MOST_RADIUS_CELLS or not places or is_refused:
+        return None
+    ends = [(min(cells), max(cells)) for cells in zip(*((place.row, place.col) for place in places))]
+    rows, cols = (slice(max(low - radius, 0), min(high + radius + 1, side)) for (low, high), side in zip(ends, shape))
+    return rows, cols
+
+
 def make(request: Request, heights: Heights, program: Program, on_progress: Optional[Report] = None,
          is_cancelled: Optional[Question] = None, by_percent: bool = False) -> np.ndarray:
     """Makes a map with the program, which reports its progress and is cancelled as in `Program.run`.
 
     Returns:
-        (rows, cols): of `fill` int64 in units, any number where there is no data; of `flow` uint8 with NODATA_CODE;
-        of the others int32 with NODATA_COUNT.
+        (rows, cols): of `fill` in units, of their type, any number where there is no data; of `flow` uint8 with
+        NODATA_CODE; of the others int32 with NODATA_COUNT.
 
     Raises:
         MissingError, ReliefError, DeviceError, Cancelled.
     """
     if request.map == "catchments":
         program.require("catchments")
-    names, sinks = ([place.name for place in places] for places in (request.places, request.sinks))
-    found = program.run(request.words(), heights.units, heights.valid, names, sinks, on_progress, is_cancelled,
-                        by_percent)
-    if request.map == "fill":
+    part = _reach(request, heights.units.shape)
+    if part is not None and heights.units[part].size < heights.units.size:
+        # Lines of sight lie between their ends, and farther off nothing is seen.
+        places = [replace(place, row=place.row - part[0].start, col=place.col - part[1].start)
+                  for place in request.places]
+        found = array_of(lambda rows: np.where(heights.valid[rows], 0, NODATA_COUNT), heights.units.shape, np.int32)
+        found[part] = make(replace(request, places=places),
+                           replace(heights, units=heights.units[part], valid=heights.valid[part]), program, on_progress,
+                           is_cancelled, by_percent)
         return found
+    names, sinks = ([place.name for place in places] for places in (request.places, request.sinks))
+    dtype = heights.units.dtype if request.map == "fill" else np.dtype(np.int32)
+    found = program.run(request.words(), heights.units, heights.valid, names, sinks, on_progress, is_cancelled,
+                        by_percent, dtype)
     if request.map == "flow":
-        return np.where(heights.valid, found, NODATA_CODE).astype(np.uint8)
-    return found.astype(np.int32)
+        return array_of(lambda rows: np.where(heights.valid[rows], found[rows], NODATA_CODE), found.shape, np.uint8)
+    return found
 
 
 def edge_cells(valid: np.ndarray) -> np.ndarray:
@@ -97,13 +120,8 @@ def edge_cells(valid: np.ndarray) -> np.ndarray:
     Returns:
         (rows, cols) bool.
     """
-    rows, cols = valid.shape
-    around = np.pad(valid, 1)
-    inside = valid.copy()
-    for down in range(3):
-        for right in range(3):
-            inside &= around[down:down + rows, right:right + cols]
-    return valid & ~inside
+    around = np.pad(~valid, 1, constant_values=True)
+    return array_of(lambda rows: valid[rows] & any_of_nine(around[rows.start:rows.stop + 2]), valid.shape, bool)
 
 
 def lower_neighbour(heights: Heights, place: Place) -> Optional[Tuple[int, int]]:

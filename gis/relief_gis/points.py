@@ -1,34 +1,47 @@
 """Points by coordinates, from words or vector layers, and the cells in which they lie."""
 from __future__ import annotations
 
+import shlex
+import uuid
 from dataclasses import dataclass, replace
 from decimal import Decimal
 from fractions import Fraction
-from typing import Iterator, List, Optional, Sequence, Tuple, Union
+from typing import Callable, Iterator, List, Optional, Sequence, Tuple, Union
 
 import numpy as np
 from osgeo import gdal, ogr, osr
 
+from .datums import change_between
 from .errors import DeviceError, InputError, UsageError
 from .gdal_errors import raised_errors
+from .geotiff import copy_to_disk
 from .maps import Place
 from .raster import Frame, reference_of
+from .tables import Columns, columns_of, degrees_of, number_of, reference_of_table
 from .units import decimal_of, plain, whole_units
 
-X_NAMES = "x,X,easting,Easting,EASTING,east,lon,Lon,longitude,Longitude"
-Y_NAMES = "y,Y,northing,Northing,NORTHING,north,lat,Lat,latitude,Latitude"
-CSV_OPTIONS = [f"X_POSSIBLE_NAMES={X_NAMES}", f"Y_POSSIBLE_NAMES={Y_NAMES}"]
 LAYER_MARK = "|layername="
+WGS_84 = "EPSG:4326"
+
+Coordinates = Tuple[Decimal, Decimal]
 
 
 @dataclass(frozen=True)
 class Point:
-    """A point in the raster's projection: its name in messages, coordinates, and height of the eye."""
+    """A point in the raster's projection.
+
+    Attributes:
+        name: its name in messages.
+        x, y: its coordinates.
+        eye, above, radius: of an observer, as in `Job`; None: those of the job.
+    """
 
     name: str
     x: Decimal
     y: Decimal
     eye: Optional[Decimal] = None
+    above: Optional[Decimal] = None
+    radius: Optional[Decimal] = None
 
     def __str__(self) -> str:
         return f"{self.name} ({plain(self.x)}, {plain(self.y)})"
@@ -40,6 +53,14 @@ class Layer:
 
     path: str
     eye_field: Optional[str] = None
+
+    @property
+    def file(self) -> str:
+        """What GDAL opens."""
+        return self.path.partition(LAYER_MARK)[0]
+
+
+Source = Union[Point, Layer]
 
 
 def point_of_word(word: str, name: str) -> Point:
@@ -54,40 +75,46 @@ def point_of_word(word: str, name: str) -> Point:
     return Point(name, decimal_of(parts[0], "x"), decimal_of(parts[1], "y"))
 
 
-def points_of(sources: Sequence[Union[Point, Layer]], frame: Frame) -> Tuple[List[Point], List[str]]:
+def points_of(sources: Sequence[Source], frame: Frame, notes: List[str],
+              faults: List[str]) -> List[Point]:
     """The points of words and layers, in their order, in the projection of a raster.
 
-    Returns:
-        the points, and notes for the user.
+    Args:
+        notes: lines for the user are added here.
+        faults: what is wrong with features that are left out is added here.
 
     Raises:
         UsageError: a layer or field is none.
-        InputError: a feature is no point, or cannot be projected.
+        InputError: a layer cannot be projected.
         DeviceError: a layer could not be read.
     """
     points: List[Point] = []
-    notes: List[str] = []
     for source in sources:
         if isinstance(source, Point):
             points.append(source)
         else:
-            points += _points_of_layer(source, frame, notes)
-    return points, notes
+            points += _points_of_layer(source, frame, notes, faults)
+    return points
 
 
-def _points_of_layer(source: Layer, frame: Frame, notes: List[str]) -> List[Point]:
+def _points_of_layer(source: Layer, frame: Frame, notes: List[str], faults: List[str]) -> List[Point]:
     path, _, name = source.path.partition(LAYER_MARK)
+    points: List[Point] = []
     try:
         with raised_errors():
-            options = CSV_OPTIONS if path.lower().endswith(".csv") else []
-            dataset = gdal.OpenEx(path, gdal.OF_VECTOR, open_options=options)
+            dataset = gdal.OpenEx(path, gdal.OF_VECTOR)
             layer = _layer_of(dataset, path, name)
             if source.eye_field and layer.GetLayerDefn().GetFieldIndex(source.eye_field) < 0:
                 raise UsageError(f"{path} has no field {source.eye_field}")
-            change = _change_between(layer.GetSpatialRef(), frame, path, notes)
-            return [_point_of_feature(feature, path, source.eye_field, change) for feature in _features_of(layer)]
+            coordinates = _coordinates_of(dataset, layer, frame, path, notes)
+            for feature in _features_of(layer):
+                try:
+                    points.append(_point_of_feature(feature, path, source.eye_field, coordinates))
+                except InputError as error:
+                    faults.append(str(error))
     except RuntimeError as error:
         raise DeviceError(f"{path} could not be read: {error}") from error
+    return points
 
 
 def _layer_of(dataset: gdal.Dataset, path: str, name: str) -> ogr.Layer:
@@ -99,7 +126,8 @@ def _layer_of(dataset: gdal.Dataset, path: str, name: str) -> ogr.Layer:
         return layer
     if count != 1:
         names = ", ".join(dataset.GetLayer(at).GetName() for at in range(count))
-        raise UsageError(f"{path} has {count} layers: choose one by {path}{LAYER_MARK}NAME of {names}")
+        choice = shlex.quote(f"{path}{LAYER_MARK}NAME")
+        raise UsageError(f"{path} has {count} layers: choose one by {choice} of {names}")
     return dataset.GetLayer(0)
 
 
@@ -111,59 +139,86 @@ def _features_of(layer: ogr.Layer) -> Iterator[ogr.Feature]:
         feature = layer.GetNextFeature()
 
 
-def _change_between(reference: Optional[osr.SpatialReference], frame: Frame, path: str,
-                    notes: List[str]) -> Optional[osr.CoordinateTransformation]:
-    """How coordinates of a layer become those of the raster; None: they are the same."""
-    target = frame.spatial_reference()
-    if reference is None or target is None:
-        notes.append(f"{path} names no projection: its coordinates are taken as those of the raster"
-                     if reference is None else "the raster has no projection: coordinates are taken as they are")
-        return None
-    source = reference_of(reference.ExportToWkt())
-    return None if source.IsSame(target) else osr.CoordinateTransformation(source, target)
+def _coordinates_of(dataset: gdal.Dataset, layer: ogr.Layer, frame: Frame, path: str,
+                    notes: List[str]) -> Callable[[ogr.Feature, str], Coordinates]:
+    """How a feature's coordinates in the raster's projection are found, by the feature and its name."""
+    if layer.GetGeomType() != ogr.wkbNone:
+        change = change_between(layer.GetSpatialRef(), frame, path, notes)
+        return lambda feature, name: _changed(_geometry_of(feature, name), change, name)
+    columns = columns_of(layer, path)
+    reference = reference_of_table(path, columns) if dataset.GetDriver().ShortName == "CSV" else None
+    if columns.is_degrees and reference is None:
+        change = _change_from_degrees(columns, frame, path, notes)
+        return lambda feature, name: _changed(degrees_of(feature, columns, name), change, name)
+    change = change_between(reference, frame, path, notes)
+    return lambda feature, name: _changed([number_of(feature, field, name) for field in columns[:2]], change, name)
 
 
-def _point_of_feature(feature: ogr.Feature, path: str, eye_field: Optional[str],
-                      change: Optional[osr.CoordinateTransformation]) -> Point:
-    name = f"feature {feature.GetFID()} of {path}"
+def _change_from_degrees(columns: Columns, frame: Frame, path: str,
+                         notes: List[str]) -> Optional[osr.CoordinateTransformation]:
+    if frame.spatial_reference() is None:
+        raise UsageError(f"{path} has degrees, {columns.x} and {columns.y}, and the raster has no projection: give "
+                         "x,y in the coordinates of the raster")
+    notes.append(f"{path} has {columns.x},{columns.y}: they are taken as degrees of WGS 84")
+    return change_between(reference_of(WGS_84), frame, path, notes)
+
+
+def _geometry_of(feature: ogr.Feature, name: str) -> Sequence[Decimal]:
     geometry = feature.GetGeometryRef()
     if geometry is not None and ogr.GT_Flatten(geometry.GetGeometryType()) == ogr.wkbMultiPoint \
             and geometry.GetGeometryCount() == 1:
         geometry = geometry.GetGeometryRef(0)
     if geometry is None or geometry.IsEmpty() or ogr.GT_Flatten(geometry.GetGeometryType()) != ogr.wkbPoint:
         raise InputError(f"{name} is no point")
-    x, y = geometry.GetX(), geometry.GetY()
-    if change is not None:
-        x, y, _ = change.TransformPoint(x, y)
-    if not np.isfinite([x, y]).all():
-        raise InputError(f"{name} cannot be projected to the raster")
-    return Point(name, decimal_of(x), decimal_of(y), _eye_of(feature, eye_field, name))
+    if not np.isfinite([geometry.GetX(), geometry.GetY()]).all():
+        raise InputError(f"{name} has coordinates that are no numbers")
+    return decimal_of(geometry.GetX()), decimal_of(geometry.GetY())
 
 
-def _eye_of(feature: ogr.Feature, eye_field: Optional[str], name: str) -> Optional[Decimal]:
-    if not eye_field:
-        return None
-    value = feature.GetField(eye_field)
-    if value is None:
-        raise InputError(f"{name} has no value in its field {eye_field}")
-    return decimal_of(value, f"{eye_field} of {name}:")
+def _changed(numbers: Sequence[Decimal], change: Optional[osr.CoordinateTransformation], name: str) -> Coordinates:
+    x, y = numbers
+    if change is None:
+        return x, y
+    try:
+        moved = change.TransformPoint(float(x), float(y))[:2]
+    except RuntimeError:
+        moved = (np.inf, np.inf)
+    if not np.isfinite(moved).all():
+        raise InputError(f"{name} ({plain(x)}, {plain(y)}) cannot be projected to the raster")
+    return decimal_of(moved[0]), decimal_of(moved[1])
 
 
-def places_of(points: Sequence[Point], frame: Frame, valid: np.ndarray, decimals: Optional[int] = None,
+def _point_of_feature(feature: ogr.Feature, path: str, eye_field: Optional[str],
+                      coordinates: Callable[[ogr.Feature, str], Coordinates]) -> Point:
+    name = f"feature {feature.GetFID()} of {path}"
+    x, y = coordinates(feature, name)
+    return Point(name, x, y, number_of(feature, eye_field, name) if eye_field else None)
+
+
+def points_on_data(points: Sequence[Point], frame: Frame, valid: np.ndarray, faults: List[str]) -> List[Point]:
+    """The points that lie in cells with data; what is wrong with the others is added to the faults."""
+    found = []
+    for point in points:
+        row, col = frame.cell_at(Fraction(point.x), Fraction(point.y))
+        if not frame.has(row, col):
+            faults.append(f"{point} lies outside the raster")
+        elif not valid[row, col]:
+            faults.append(f"{point} lies where there is no data, at row {row} and column {col}")
+        else:
+            found.append(point)
+    return found
+
+
+def places_of(points: Sequence[Point], frame: Frame, decimals: Optional[int] = None,
               eye: Optional[Decimal] = None) -> List[Place]:
     """The cells in which points lie, with eyes in units where decimals are given.
 
     Raises:
-        InputError: a point lies outside the raster or where there is no data.
         UsageError: an observer has no eye, or one that is no whole number of units.
     """
     places = []
     for point in points:
         row, col = frame.cell_at(Fraction(point.x), Fraction(point.y))
-        if not frame.has(row, col):
-            raise InputError(f"{point} lies outside the raster")
-        if not valid[row, col]:
-            raise InputError(f"{point} lies where there is no data, at row {row} and column {col}")
         units = None
         if decimals is not None:
             height = point.eye if point.eye is not None else eye
@@ -198,24 +253,32 @@ def write_points(path: str, places: Sequence[Place], counts: np.ndarray, frame: 
     """Writes places as a GeoPackage of points with their number, name, row, column and accumulation.
 
     Raises:
-        DeviceError: the file could not be written.
+        DeviceError, OSError: the file could not be written.
     """
+    # As a map: a disk that is full is one error, and not one of a destructor.
+    memory = f"/vsimem/{uuid.uuid4().hex}.gpkg"
     try:
         with raised_errors():
-            dataset = gdal.GetDriverByName("GPKG").Create(path, 0, 0, 0, gdal.GDT_Unknown)
-            layer = dataset.CreateLayer("gauges", frame.spatial_reference(), ogr.wkbPoint)
-            for name, kind in (("number", ogr.OFTInteger), ("name", ogr.OFTString), ("row", ogr.OFTInteger),
-                               ("col", ogr.OFTInteger), ("accumulation", ogr.OFTInteger)):
-                layer.CreateField(ogr.FieldDefn(name, kind))
-            for number, place in enumerate(places, 1):
-                feature = ogr.Feature(layer.GetLayerDefn())
-                values = number, place.name, place.row, place.col, int(counts[place.row, place.col])
-                for at, value in enumerate(values):
-                    feature.SetField(at, value)
-                point = ogr.Geometry(ogr.wkbPoint)
-                point.AddPoint_2D(*frame.centre(place.row, place.col))
-                feature.SetGeometry(point)
-                layer.CreateFeature(feature)
-            del layer, dataset
+            _write_layer(memory, places, counts, frame)
+        copy_to_disk(memory, path)
     except RuntimeError as error:
         raise DeviceError(f"{path} could not be written: {error}") from error
+    finally:
+        gdal.Unlink(memory)
+
+
+def _write_layer(path: str, places: Sequence[Place], counts: np.ndarray, frame: Frame) -> None:
+    dataset = gdal.GetDriverByName("GPKG").Create(path, 0, 0, 0, gdal.GDT_Unknown)
+    layer = dataset.CreateLayer("gauges", frame.spatial_reference(), ogr.wkbPoint)
+    for name, kind in (("number", ogr.OFTInteger), ("name", ogr.OFTString), ("row", ogr.OFTInteger),
+                       ("col", ogr.OFTInteger), ("accumulation", ogr.OFTInteger)):
+        layer.CreateField(ogr.FieldDefn(name, kind))
+    for number, place in enumerate(places, 1):
+        feature = ogr.Feature(layer.GetLayerDefn())
+        values = number, place.name, place.row, place.col, int(counts[place.row, place.col])
+        for at, value in enumerate(values):
+            feature.SetField(at, value)
+        point = ogr.Geometry(ogr.wkbPoint)
+        point.AddPoint_2D(*frame.centre(place.row, place.col))
+        feature.SetGeometry(point)
+        layer.CreateFeature(feature)

@@ -1,20 +1,20 @@
 """The program `relief`: where it is, what it offers, and a run of it."""
 from __future__ import annotations
 
+import functools
 import os
 import queue
 import re
 import shutil
 import subprocess
-import tempfile
-import threading
+from concurrent.futures import FIRST_COMPLETED, Future, ThreadPoolExecutor, wait
 from dataclasses import dataclass
-from typing import IO, Callable, Iterator, List, Optional, Sequence, Tuple
+from typing import IO, Callable, Iterator, List, Optional, Sequence, Set, Tuple
 
 import numpy as np
 
-from .errors import Cancelled, DeviceError, MissingError, ReliefError
-from .grid_text import read_grid, write_grid
+from .errors import Cancelled, DeviceError, InputError, MissingError, ReliefError
+from .grid_text import PIECE, read_grid, write_grid
 
 FAULT = re.compile(r"relief: (?:(\d+) )?(\S.*?)(?: (\d+))?")
 STAGE = re.compile(r"relief: stage (\d+): (\d{1,3}) %")
@@ -84,58 +84,33 @@ class Program:
 
     def run(self, words: Sequence[str], units: np.ndarray, valid: Optional[np.ndarray],
             subjects: Sequence[str] = (), sinks: Sequence[str] = (), on_progress: Optional[Report] = None,
-            is_cancelled: Optional[Question] = None, by_percent: bool = False) -> np.ndarray:
+            is_cancelled: Optional[Question] = None, by_percent: bool = False,
+            dtype: "np.typing.DTypeLike" = np.int64) -> np.ndarray:
         """Makes a map of heights.
 
         Args:
             words: the map, its options and places.
-            units: (rows, cols) int64, heights in units.
+            units: (rows, cols) integers, heights in units.
             valid: (rows, cols) bool, where there is data; None: everywhere.
             subjects: the names of the places among the words, for the text of a refusal.
             sinks: the names of the sinks that are given by options, likewise.
             on_progress: called at most once for each tenth of each stage, where the program reports how far it is.
             is_cancelled: asked ten times a second; the run ends when it says so.
             by_percent: call on_progress at each percent, where a tenth of a second has passed, and not at tenths.
+            dtype: an integer type that has all numbers of the map.
 
         Returns:
-            (rows, cols) int64, the map as the program wrote it.
+            (rows, cols) of that type, the map as the program wrote it.
 
         Raises:
             ReliefError: the program refused.
-            DeviceError: a temporary file could not be written or read.
+            InputError: what the program wrote is cut off, or no map.
+            DeviceError: the program could not be started.
             Cancelled: the caller asked for the end.
         """
         if on_progress is not None and self.has_progress:
             words = [words[0], "--progress", *words[1:]]
-        try:
-            # Both files have no name, so none is left whatever happens; from a file several workers read.
-            with tempfile.TemporaryFile() as source, tempfile.TemporaryFile() as target:
-                write_grid(units, valid, source)
-                source.seek(0)
-                status, lines = self._run(words, source, target, on_progress, is_cancelled, by_percent)
-                if status != 0:
-                    raise _refusal(status, lines, subjects, sinks or subjects)
-                target.seek(0)
-                return read_grid(target)
-        except OSError as error:
-            if isinstance(error, DeviceError):
-                raise
-            raise DeviceError(f"a temporary file below {tempfile.gettempdir()} failed: {error.strerror}") from error
-
-    def _run(self, words: Sequence[str], source: IO[bytes], target: IO[bytes], on_progress: Optional[Report],
-             is_cancelled: Optional[Question], by_percent: bool) -> Tuple[int, List[str]]:
-        """Runs the program over two open files; its status and the lines of its errors without progress."""
-        ours, errors = _errors_of(by_percent and on_progress is not None)
-        lines: List[str] = []
         steps: queue.SimpleQueue[Progress] = queue.SimpleQueue()
-
-        def listen() -> None:
-            for line in _lines_of(ours):
-                stage = STAGE.fullmatch(line)
-                if stage is None:
-                    lines.append(line)
-                else:
-                    steps.put(Progress(words[0], int(stage[1]), min(int(stage[2]), 100) / 100))
 
         def report() -> None:
             """Tells the caller on the thread that called: feedback of QGIS wants that."""
@@ -143,26 +118,79 @@ class Program:
                 step = steps.get()
                 if on_progress is not None:
                     on_progress(step)
+            if is_cancelled is not None and is_cancelled():
+                raise Cancelled("cancelled")
 
-        listener = threading.Thread(target=listen, daemon=True)
-        try:
+        process, errors = self._start(words, by_percent and on_progress is not None)
+        # The threads end with the program, which closes its ends of the pipes.
+        with process, errors, ThreadPoolExecutor(3) as pool:
             try:
-                process = subprocess.Popen([self.path, *words], stdin=source, stdout=target, stderr=errors)
-            finally:
-                os.close(errors)
-            listener.start()
-            try:
-                _wait(process, report, is_cancelled)
+                listening = pool.submit(_listen, words[0], errors.fileno(), steps)
+                feeding = pool.submit(_feed, units, valid, process.stdin)
+                reading = pool.submit(_collect, process.stdout, dtype)
+                _wait({listening, feeding, reading}, report)
+                status = process.wait()
             except BaseException:
                 process.kill()
                 raise
-            finally:
-                process.wait()
-                listener.join()
-        finally:
-            os.close(ours)
         report()
-        return process.returncode, lines
+        feeding.result()
+        if status != 0:
+            raise _refusal(status, listening.result(), subjects, sinks or subjects)
+        found = reading.result()
+        if found.shape != units.shape:
+            raise InputError(f"relief wrote {found.shape} rows and columns of {units.shape}")
+        return found
+
+    def _start(self, words: Sequence[str], on_terminal: bool) -> Tuple["subprocess.Popen[bytes]", IO[bytes]]:
+        """Starts the program; its process, with pipes in and out, and where its errors are read."""
+        ours, errors = _errors_of(on_terminal)
+        try:
+            process = subprocess.Popen([*_guard(), self.path, *words], stdin=subprocess.PIPE,
+                                       stdout=subprocess.PIPE, stderr=errors)
+        except OSError as error:
+            os.close(ours)
+            raise DeviceError(f"{self.path} could not be started: {error.strerror}") from error
+        finally:
+            os.close(errors)
+        return process, open(ours, "rb", 0)
+
+
+def _feed(units: np.ndarray, valid: Optional[np.ndarray], file: IO[bytes]) -> None:
+    """Writes heights to the program, which reads all of them, or refuses and says why."""
+    try:
+        with file:
+            write_grid(units, valid, file)
+    except BrokenPipeError:
+        pass
+
+
+def _collect(file: IO[bytes], dtype: "np.typing.DTypeLike") -> np.ndarray:
+    """Reads the map that the program writes; to the end in any case, so that the program ends too."""
+    try:
+        return read_grid(file, dtype)
+    finally:
+        while file.read(PIECE):
+            pass
+
+
+def _listen(name: str, errors: int, steps: "queue.SimpleQueue[Progress]") -> List[str]:
+    """Puts a map's progress into a queue until the program's errors end; returns their other lines."""
+    lines: List[str] = []
+    for line in _lines_of(errors):
+        stage = STAGE.fullmatch(line)
+        if stage is None:
+            lines.append(line)
+        else:
+            steps.put(Progress(name, int(stage[1]), min(int(stage[2]), 100) / 100))
+    return lines
+
+
+def _wait(pending: "Set[Future]", report: Callable[[], None]) -> None:
+    """Waits for the end of all threads and reports meanwhile; ends with the error of the report."""
+    while pending:
+        _, pending = wait(pending, SECONDS_BETWEEN_LOOKS, FIRST_COMPLETED)
+        report()
 
 
 def _errors_of(is_terminal: bool) -> Tuple[int, int]:
@@ -196,16 +224,19 @@ def _lines_of(errors: int) -> Iterator[str]:
         yield text
 
 
-def _wait(process: "subprocess.Popen[bytes]", report: Callable[[], None], is_cancelled: Optional[Question]) -> None:
-    """Waits for the end of a process and reports meanwhile; raises Cancelled where the caller asks for the end."""
-    while True:
-        try:
-            process.wait(SECONDS_BETWEEN_LOOKS)
-            return
-        except subprocess.TimeoutExpired:
-            report()
-            if is_cancelled is not None and is_cancelled():
-                raise Cancelled("cancelled") from None
+@functools.lru_cache(maxsize=None)
+def _guard() -> Tuple[str, ...]:
+    """Words before a command with which it ends when the thread that started it does, however that ended.
+
+    So no run goes on where the caller was killed. That thread waits for the program, so it ends no run too early. Code
+    of our own between fork and exec is not safe where there are other threads, as in QGIS.
+    """
+    words = "setpriv", "--pdeathsig", "KILL"
+    try:
+        done = subprocess.run([*words, "true"], stdin=subprocess.DEVNULL, capture_output=True)
+    except OSError:
+        return ()
+    return words if done.returncode == 0 else ()
 
 
 def _output_of(path: str, word: str) -> str:

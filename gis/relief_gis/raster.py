@@ -1,64 +1,99 @@
-"""Rasters of heights, as GDAL opens them, with what `relief` cannot see refused; and maps as GeoTIFFs."""
+"""Rasters of heights, as GDAL opens them, with what `relief` cannot see refused."""
 from __future__ import annotations
 
 import math
-import os
-import uuid
-from dataclasses import dataclass
+from dataclasses import dataclass, replace
 from fractions import Fraction
-from typing import Any, Dict, Mapping, Optional, Tuple, cast
+from functools import cached_property
+from typing import Optional, Tuple, cast
 
 import numpy as np
 from osgeo import gdal, osr
 
+from . import cures
+from .blocks import for_rows
 from .errors import DeviceError, InputError, UsageError
 from .gdal_errors import raised_errors
+from .ground import GroundCell, conformal_code, degrees_of, ground_cell, worst_cell
 from .heights import MOST_SIDE
-from .units import fraction_of, plain
+from .units import origin_of, plain, side_of
+from .voids import alpha_bands, data_cells, has_own_mask
 
 # How far the last column may drift from its place where cells are a little oblong by rounding, in cells.
 MOST_DRIFT = Fraction(1, 100)
-METRES_OF_DEGREE = 111_320
-SIDECARS = (".aux.xml", ".ovr", ".msk")
-LAYOUT = ["TILED=YES", "COMPRESS=DEFLATE", "BIGTIFF=IF_SAFER"]
+# How many rows are read at once, at least.
+ROWS_AT_ONCE = 512
 
 Geotransform = Tuple[float, float, float, float, float, float]
 Window = Tuple[int, int, int, int]
 Bounds = Tuple[Fraction, Fraction, Fraction, Fraction]
-Color = Tuple[int, int, int, int]
 
 
 @dataclass(frozen=True)
 class Frame:
-    """Where a raster lies: its geotransform and projection (WKT, empty: none), columns and rows."""
+    """Where a raster lies: its geotransform and projection (WKT, empty: none), columns and rows.
+
+    Sides and origin of its cells are taken as the simplest fractions that their floats stand for.
+    """
 
     geotransform: Geotransform
     projection: str
     cols: int
     rows: int
     is_point: bool = False
+    # The exact origin of a part, which its rounded float need not stand for.
+    origin: Optional[Tuple[Fraction, Fraction]] = None
+
+    @cached_property
+    def across(self) -> Fraction:
+        """The width of a cell."""
+        return side_of(self.geotransform[1])
+
+    @cached_property
+    def down(self) -> Fraction:
+        """The height of a cell, below 0 where rows run from north to south."""
+        return side_of(self.geotransform[5])
+
+    @cached_property
+    def corner(self) -> Tuple[Fraction, Fraction]:
+        """The coordinates of the first cell's outer corner."""
+        if self.origin is not None:
+            return self.origin
+        return origin_of(self.geotransform[0], self.across), origin_of(self.geotransform[3], self.down)
 
     @property
     def cell(self) -> Fraction:
         """The side of a cell."""
-        return fraction_of(self.geotransform[1])
+        return self.across
+
+    def columns_to(self, x: Fraction) -> Fraction:
+        """How many cells lie between the first column's outer side and a coordinate."""
+        return (x - self.corner[0]) / self.across
+
+    def rows_to(self, y: Fraction) -> Fraction:
+        """How many cells lie between the first row's outer side and a coordinate."""
+        return (y - self.corner[1]) / self.down
 
     def cell_at(self, x: Fraction, y: Fraction) -> Tuple[int, int]:
         """Row and column of the cell that holds a point; of a border the cell in the east or the south."""
-        west, north = fraction_of(self.geotransform[0]), fraction_of(self.geotransform[3])
-        col = math.floor((x - west) / fraction_of(self.geotransform[1]))
-        row = math.floor((y - north) / fraction_of(self.geotransform[5]))
-        return row, col
+        return math.floor(self.rows_to(y)), math.floor(self.columns_to(x))
 
     def centre(self, row: int, col: int) -> Tuple[float, float]:
         """The coordinates of a cell's centre."""
-        west, across, _, north, _, down = (fraction_of(number) for number in self.geotransform)
         half = Fraction(1, 2)
-        return float(west + (col + half) * across), float(north + (row + half) * down)
+        return float(self.corner[0] + (col + half) * self.across), float(self.corner[1] + (row + half) * self.down)
 
     def has(self, row: int, col: int) -> bool:
         """Whether a cell lies in the raster."""
         return 0 <= row < self.rows and 0 <= col < self.cols
+
+    def part(self, window: Window) -> Frame:
+        """The frame of a window of the raster."""
+        left, top, cols, rows = window
+        x, y = self.corner[0] + left * self.across, self.corner[1] + top * self.down
+        west, across, turn, north, tilt, down = self.geotransform
+        moved = (float(x) if left else west, across, turn, float(y) if top else north, tilt, down)
+        return replace(self, geotransform=moved, cols=cols, rows=rows, origin=(x, y))
 
     def spatial_reference(self) -> Optional[osr.SpatialReference]:
         """The projection with x before y, or None."""
@@ -72,20 +107,22 @@ class Terrain:
     Attributes:
         values: (rows, cols), of the raster's own type.
         valid: (rows, cols) bool, where there is data.
-        masked: (rows, cols) bool, where a mask or alpha band takes cells out.
         nodata: the band's NODATA value, or None.
         scale, offset: heights are values * scale + offset.
         unit: the unit of heights that the band names, or "".
+        source: the raster as commands of GDAL read it.
+        is_part: whether a window or bounds leave cells of the raster out.
     """
 
     values: np.ndarray
     valid: np.ndarray
-    masked: np.ndarray
     nodata: Optional[float]
     scale: float
     offset: float
     unit: str
     frame: Frame
+    source: cures.Source
+    is_part: bool = False
 
 
 def reference_of(words: str) -> osr.SpatialReference:
@@ -124,70 +161,124 @@ def read_terrain(path: str, band: int = 1, window: Optional[Window] = None, boun
     try:
         with raised_errors():
             dataset = gdal.OpenEx(path, gdal.OF_RASTER)
-            if not 1 <= band <= dataset.RasterCount:
-                raise UsageError(f"{path} has no band {band}: it has {dataset.RasterCount}")
-            whole = _frame_of(dataset, path, projection)
-            _check_frame(whole, path, needs_projection)
+            _check_band(dataset, path, band)
+            source = _source_of(dataset, path, band, projection)
+            whole = _frame_of(dataset, source, projection)
+            _check_frame(whole, source, needs_projection)
             part = _window_of(whole, window, bounds)
-            _check_size(part, path)
-            return _read(dataset.GetRasterBand(band), whole, part)
+            _check_size(part, whole, source)
+            _check_ground(whole.part(part), source)
+            return _read(dataset, source, whole, part)
     except (RuntimeError, MemoryError) as error:
         raise DeviceError(f"{path} could not be read: {error}") from error
 
 
-def _frame_of(dataset: gdal.Dataset, path: str, projection: Optional[str]) -> Frame:
+def _check_band(dataset: gdal.Dataset, path: str, band: int) -> None:
+    if not 1 <= band <= dataset.RasterCount:
+        raise UsageError(f"{path} has no band {band}: it has {dataset.RasterCount}")
+    if band in alpha_bands(dataset):
+        raise InputError(f"band {band} of {path} is an alpha band, which says where there is data and has no heights: "
+                         "give that of the heights by --band")
+
+
+def _source_of(dataset: gdal.Dataset, path: str, number: int, projection: Optional[str]) -> cures.Source:
+    band, alphas = dataset.GetRasterBand(number), alpha_bands(dataset)
+    masks = ([f"mask,{number}"] if has_own_mask(band) else []) + [str(alpha) for alpha in alphas]
+    is_last = masks == [str(dataset.RasterCount)]
+    kind = cures.SIGNED if _is_signed(band) else gdal.GetDataTypeName(band.DataType)
+    given = "" if dataset.GetProjection() else projection or ""
+    return cures.Source(path, kind, number, tuple(masks), is_last, given)
+
+
+def _frame_of(dataset: gdal.Dataset, source: cures.Source, projection: Optional[str]) -> Frame:
     placed = dataset.GetGeoTransform(can_return_null=True)
     if placed is None:
-        raise InputError(f"{path} is not placed: it has no geotransform")
+        raise InputError(f"{source.path} is not placed: it has no geotransform")
     words = dataset.GetProjection()
     if words and projection is not None:
-        raise UsageError(f"{path} has a projection already: leave --projection out, or gdalwarp it")
+        raise UsageError(f"{source.path} has a projection already: leave --projection out, or project it first: "
+                         f"{cures.reproject(source, projection)}")
     if projection is not None:
         words = reference_of(projection).ExportToWkt()
     is_point = dataset.GetMetadataItem("AREA_OR_POINT") == "Point"
     return Frame(cast(Geotransform, tuple(placed)), words, dataset.RasterXSize, dataset.RasterYSize, is_point)
 
 
-def _check_frame(frame: Frame, path: str, needs_projection: bool) -> None:
+def _check_frame(frame: Frame, source: cures.Source, needs_projection: bool) -> None:
     _, across, turn, _, tilt, down = frame.geotransform
     reference = frame.spatial_reference()
+    if not all(map(math.isfinite, frame.geotransform)):
+        raise InputError(f"{source.path} is not placed: its geotransform is {frame.geotransform}")
     if reference is None and needs_projection:
-        raise InputError(f"{path} names no projection: give it by --projection EPSG:NUMBER, "
+        raise InputError(f"{source.path} names no projection: give it by --projection EPSG:NUMBER, "
                          "or --no-projection if x and y are in one unit of length")
     if reference is not None and (reference.IsGeographic() or reference.IsGeocentric()):
-        raise InputError(f"{path} is in degrees, and cells of degrees are not square on the ground: "
-                         f"project it first: {_warp_words(frame, path)}")
+        raise InputError(f"{source.path} is in degrees, and cells of degrees are not square on the ground: "
+                         f"project it first: {_projecting(reference, frame, source)[1]}")
     if turn != 0 or tilt != 0:
-        raise InputError(f"{path} is turned: its rows do not run from west to east. Lay it straight first: "
-                         f"gdalwarp -r bilinear {path} straight.tif")
+        raise InputError(f"{source.path} is turned: its rows do not run from west to east. Lay it straight first: "
+                         f"{cures.lay_straight(source)}")
     if across <= 0 or down >= 0:
-        raise InputError(f"{path} runs from south to north or from east to west. Turn it over first: "
-                         f"gdalwarp {path} north_up.tif")
-    wide, high = fraction_of(across), -fraction_of(down)
+        raise InputError(f"{source.path} runs from south to north or from east to west. Turn it over first: "
+                         f"{_turning_over(frame, source)}")
+    wide, high = frame.across, -frame.down
     if abs(wide - high) * max(frame.cols, frame.rows) > MOST_DRIFT * wide:
-        side = plain(min(wide, high))
-        raise InputError(f"{path} has cells of {plain(wide)} by {plain(high)}, which are not square: make them so "
-                         f"first: gdalwarp -r bilinear -tr {side} {side} {path} square.tif")
+        raise InputError(f"{source.path} has cells of {plain(wide)} by {plain(high)}, which are not square: make them "
+                         f"so first: {cures.make_square(source, min(wide, high))}")
 
 
-def _warp_words(frame: Frame, path: str) -> str:
-    """A command that projects a raster in degrees to the zone of UTM in which its middle lies."""
-    west, across, _, north, _, down = frame.geotransform
-    middle = west + across * frame.cols / 2, north + down * frame.rows / 2
-    zone = int((middle[0] + 180) // 6) % 60 + 1
-    code = (32600 if middle[1] >= 0 else 32700) + zone
-    side = float(f"{abs(down) * METRES_OF_DEGREE:.2g}")
-    return f"gdalwarp -ot Float32 -r bilinear -t_srs EPSG:{code} -tr {side:g} {side:g} {path} metres.tif"
+def _turning_over(frame: Frame, source: cures.Source) -> str:
+    x, y = frame.corner
+    west, east = sorted((x, x + frame.cols * frame.across))
+    south, north = sorted((y, y + frame.rows * frame.down))
+    return cures.turn_over(source, (west, south, east, north), (abs(frame.across), abs(frame.down)))
+
+
+def _projecting(reference: osr.SpatialReference, frame: Frame, source: cures.Source) -> Tuple[str, str]:
+    """A projection in which the raster's cells are square on the ground, by its name, and the command that projects."""
+    middle = _at(frame, 0.5, 0.5)
+    place = degrees_of(reference, middle)
+    if place is None:
+        raise InputError(f"{source.path} lies off the earth by its projection: give the right one: "
+                         f"{cures.name_projection(source)}")
+    code, name = conformal_code(*place)
+    _, across, turn, _, tilt, down = frame.geotransform
+    cell = ground_cell(reference, middle, math.hypot(across, tilt), math.hypot(turn, down))
+    return f"{name}, EPSG:{code}", cures.project(source, code, max(cell.wide, cell.high))
+
+
+def _at(frame: Frame, right: float, below: float) -> Tuple[float, float]:
+    """The coordinates of the centre of a cell by its place, 0 to 1, between the first and the last."""
+    west, across, turn, north, tilt, down = frame.geotransform
+    col, row = 0.5 + right * (frame.cols - 1), 0.5 + below * (frame.rows - 1)
+    return west + col * across + row * turn, north + col * tilt + row * down
+
+
+def _check_ground(frame: Frame, source: cures.Source) -> None:
+    """Refuses cells that are not square on the ground, at the four corners and in the middle."""
+    reference = frame.spatial_reference()
+    if reference is None or not reference.IsProjected():
+        return
+    centres = [_at(frame, right, below) for right, below in ((0, 0), (1, 0), (0, 1), (1, 1), (0.5, 0.5))]
+    worst = worst_cell(reference, centres, frame.geotransform[1], frame.geotransform[5])
+    if not worst.is_square:
+        name, command = _projecting(reference, frame, source)
+        raise InputError(f"{source.path} has cells that are not square on the ground: {_ground_words(worst)}. Project "
+                         f"it to {name}, first: {command}")
+
+
+def _ground_words(cell: GroundCell) -> str:
+    if not math.isfinite(cell.ratio):
+        return "some lie off the earth"
+    return (f"{cell.wide:.4g} by {cell.high:.4g} m, with diagonals of {cell.falling:.4g} and {cell.rising:.4g} m, "
+            "where they are worst")
 
 
 def _window_of(frame: Frame, window: Optional[Window], bounds: Optional[Bounds]) -> Window:
     if bounds is not None:
         west, south, east, north = bounds
-        top, left = frame.cell_at(west, north)
-        cell = frame.cell
-        right = math.ceil((east - fraction_of(frame.geotransform[0])) / cell)
-        bottom = math.ceil((fraction_of(frame.geotransform[3]) - south) / -fraction_of(frame.geotransform[5]))
-        left, top = max(left, 0), max(top, 0)
+        left, top = max(math.floor(frame.columns_to(west)), 0), max(math.floor(frame.rows_to(north)), 0)
+        right, bottom = math.ceil(frame.columns_to(east)), math.ceil(frame.rows_to(south))
         window = left, top, min(right, frame.cols) - left, min(bottom, frame.rows) - top
         if window[2] < 1 or window[3] < 1:
             raise UsageError("--bounds lie outside the raster: give WEST,SOUTH,EAST,NORTH in its projection")
@@ -200,159 +291,52 @@ def _window_of(frame: Frame, window: Optional[Window], bounds: Optional[Bounds])
     return window
 
 
-def _check_size(window: Window, path: str) -> None:
+def _check_size(window: Window, frame: Frame, source: cures.Source) -> None:
     _, _, cols, rows = window
-    if max(cols, rows) > MOST_SIDE:
-        raise InputError(f"{path} has {cols:,} columns and {rows:,} rows, and {MOST_SIDE:,} of each is the most: "
-                         "cut a part out by --window COL,ROW,COLS,ROWS or --bounds WEST,SOUTH,EAST,NORTH, "
-                         "with a margin round the catchment, or make the cells larger by gdalwarp -r average -tr")
+    longest = max(cols, rows)
+    if longest > MOST_SIDE:
+        coarser = cures.coarsen(source, frame.cell, -(-longest // MOST_SIDE))
+        raise InputError(f"{source.path} has {cols:,} columns and {rows:,} rows, and {MOST_SIDE:,} of each is the "
+                         "most: cut a part out by --window COL,ROW,COLS,ROWS or --bounds WEST,SOUTH,EAST,NORTH, "
+                         f"with a margin round the catchment, or make the cells larger: {coarser}")
 
 
-def _read(band: gdal.Band, whole: Frame, window: Window) -> Terrain:
-    left, top, cols, rows = window
-    values = band.ReadAsArray(left, top, cols, rows)
+def _read(dataset: gdal.Dataset, source: cures.Source, whole: Frame, window: Window) -> Terrain:
+    band = dataset.GetRasterBand(source.band)
+    values = _signed(band, _values_of(band, window))
     if values.dtype.kind not in "iuf":
         raise InputError(f"heights of type {values.dtype} are neither integers nor floats")
-    nodata = band.GetNoDataValue()
-    unmasked = np.ones(values.shape, bool)
-    is_masked = bool(band.GetMaskFlags() & (gdal.GMF_PER_DATASET | gdal.GMF_ALPHA))
-    shown = band.GetMaskBand().ReadAsArray(left, top, cols, rows) != 0
-    if is_masked:
-        unmasked = shown
-    valid = shown.copy()
-    if nodata is not None:
-        valid &= values != values.dtype.type(nodata) if _fits(nodata, values.dtype) else True
-    if values.dtype.kind == "f":
-        valid &= ~np.isnan(values)
-    start = whole.geotransform
-    moved = (_moved(start[0], left, start[1]), start[1], start[2], _moved(start[3], top, start[5]), start[4], start[5])
-    frame = Frame(moved, whole.projection, cols, rows, whole.is_point)
-    return Terrain(values, valid, ~unmasked, nodata, band.GetScale() or 1.0, band.GetOffset() or 0.0,
-                   band.GetUnitType() or "", frame)
+    valid = data_cells(dataset, source.band, window, values, for_rows)
+    scale, offset = band.GetScale(), band.GetOffset()
+    is_part = window != (0, 0, whole.cols, whole.rows)
+    return Terrain(values, valid, band.GetNoDataValue(), 1.0 if scale is None else scale, offset or 0.0,
+                   band.GetUnitType() or "", whole.part(window), source, is_part)
 
 
-def _moved(start: float, cells: int, step: float) -> float:
-    return float(fraction_of(start) + cells * fraction_of(step)) if cells else start
+def _values_of(band: gdal.Band, window: Window) -> np.ndarray:
+    """What a band has in a window."""
+    left, top, cols, rows = window
+    values = np.empty((rows, cols), band.ReadAsArray(left, top, 1, 1).dtype)
+    height = band.GetBlockSize()[1]
+    step = -(-ROWS_AT_ONCE // height) * height
+    for row in range(0, rows, step):
+        part = values[row:row + step]
+        band.ReadAsArray(left, top + row, cols, len(part), buf_obj=part)
+        # Blocks that GDAL keeps would need as much memory as the values.
+        band.FlushCache()
+    return values
 
 
-def _fits(value: float, dtype: np.dtype) -> bool:
-    """Whether a type has a value."""
-    least, most = _limits(dtype)
-    if dtype.kind == "f":
-        return math.isnan(value) or least <= value <= most
-    return float(value).is_integer() and least <= value <= most
+def _is_signed(band: gdal.Band) -> bool:
+    """Whether a band has bytes with a sign, which before version 3.7 are a word of metadata."""
+    return band.GetMetadataItem("PIXELTYPE", "IMAGE_STRUCTURE") == cures.SIGNED
 
 
-def nodata_for(dtype: np.dtype, wanted: Optional[float], data: np.ndarray) -> Optional[float]:
-    """A NODATA value that a type has and no datum is: the wanted one if it can be, else -9999, else an end of the type.
-
-    Args:
-        dtype: the type of the raster to be written.
-        wanted: the NODATA value of the raster that was read, or None.
-        data: the values that are data, of that type.
-    """
-    least, most = _limits(dtype)
-    for value in (wanted, -9999.0, least, most):
-        # No datum is NaN.
-        if value is not None and _fits(value, dtype) and not np.any(data == dtype.type(value)):
-            return value
-    return None
-
-
-def _limits(dtype: np.dtype) -> Tuple[float, float]:
-    limits: Any = np.iinfo(dtype) if dtype.kind in "iu" else np.finfo(dtype)
-    return float(limits.min), float(limits.max)
-
-
-def write_geotiff(path: str, array: np.ndarray, frame: Frame, nodata: Optional[float], unit: str, description: str,
-                  metadata: Mapping[str, str], colors: Optional[Mapping[int, Color]] = None) -> None:
-    """Writes a map as a compressed, tiled GeoTIFF.
-
-    Args:
-        path: the file, which must not be there.
-        array: (rows, cols), of a type that GeoTIFF has.
-        nodata: the NODATA value, or None.
-        unit: the unit of the values, or "".
-        description: what the values are.
-        metadata: texts by name.
-        colors: of bytes, the colour of each value.
-
-    Raises:
-        DeviceError, OSError: the file could not be written.
-    """
-    # GDAL writes to memory and Python to the disk: a disk that is full is one error, and not one of a destructor.
-    memory = f"/vsimem/{uuid.uuid4().hex}.tif"
-    try:
-        with raised_errors():
-            _write_dataset(memory, array, frame, nodata, unit, description, metadata, colors)
-            data = _bytes_of(memory)
-    except RuntimeError as error:
-        raise DeviceError(f"{path} could not be written: {error}") from error
-    finally:
-        gdal.Unlink(memory)
-    with open(path, "wb") as file:
-        file.write(data)
-
-
-def _write_dataset(path: str, array: np.ndarray, frame: Frame, nodata: Optional[float], unit: str, description: str,
-                   metadata: Mapping[str, str], colors: Optional[Mapping[int, Color]]) -> None:
-    predictor = "PREDICTOR=3" if array.dtype.kind == "f" else "PREDICTOR=2"
-    options = [*LAYOUT, predictor, "NUM_THREADS=ALL_CPUS"]
-    driver = gdal.GetDriverByName("GTiff")
-    dataset = driver.Create(path, frame.cols, frame.rows, 1, _gdal_type(array.dtype), options)
-    dataset.SetGeoTransform(frame.geotransform)
-    if frame.projection:
-        dataset.SetProjection(frame.projection)
-    _describe(dataset, nodata, unit, description, metadata, frame.is_point)
-    if colors is not None:
-        dataset.GetRasterBand(1).SetColorTable(_color_table(colors))
-    dataset.GetRasterBand(1).WriteArray(array)
-    dataset.FlushCache()
-
-
-def _bytes_of(path: str) -> bytes:
-    """The bytes of a file that GDAL holds in memory."""
-    size = gdal.VSIStatL(path).size
-    file = gdal.VSIFOpenL(path, "rb")
-    try:
-        return bytes(gdal.VSIFReadL(1, size, file))
-    finally:
-        gdal.VSIFCloseL(file)
-
-
-def _describe(dataset: gdal.Dataset, nodata: Optional[float], unit: str, description: str,
-              metadata: Mapping[str, str], is_point: bool) -> None:
-    words: Dict[str, str] = dict(metadata)
-    if is_point:
-        words["AREA_OR_POINT"] = "Point"
-    dataset.SetMetadata(words)
-    band = dataset.GetRasterBand(1)
-    band.SetDescription(description)
-    if unit:
-        band.SetUnitType(unit)
-    if nodata is not None:
-        band.SetNoDataValue(nodata)
-
-
-def _color_table(colors: Mapping[int, Color]) -> gdal.ColorTable:
-    table = gdal.ColorTable()
-    for value, color in colors.items():
-        table.SetColorEntry(value, color)
-    return table
-
-
-def _gdal_type(dtype: np.dtype) -> int:
-    names = {"uint8": gdal.GDT_Byte, "int8": gdal.GDT_Int16, "uint16": gdal.GDT_UInt16, "int16": gdal.GDT_Int16,
-             "uint32": gdal.GDT_UInt32, "int32": gdal.GDT_Int32, "float32": gdal.GDT_Float32,
-             "float64": gdal.GDT_Float64}
-    return names[dtype.name]
-
-
-def remove_sidecars(path: str) -> None:
-    """Removes what tools left beside an older raster of this name: statistics, overviews, masks."""
-    for suffix in SIDECARS:
-        if os.path.exists(path + suffix):
-            os.remove(path + suffix)
+def _signed(band: gdal.Band, values: np.ndarray) -> np.ndarray:
+    """Values of a type that GDAL writes as it reads it."""
+    if values.dtype == np.uint8 and _is_signed(band):
+        values = values.view(np.int8)
+    return values.astype(np.int16) if values.dtype == np.int8 else values
 
 
 def fill_holes(values: np.ndarray, valid: np.ndarray, holes: np.ndarray, reach: int) -> np.ndarray:

@@ -2,11 +2,12 @@
 from __future__ import annotations
 
 import colorsys
+from html import escape
 from typing import Dict, Iterable, List, Optional, Sequence, Tuple
-from xml.sax.saxutils import quoteattr
 
 import numpy as np
 
+from .blocks import for_rows
 from .maps import NODATA_CODE
 
 Color = Tuple[int, int, int, int]
@@ -17,6 +18,8 @@ DIRECTIONS = ((0, "outlet"), (1, "E"), (2, "SE"), (4, "S"), (8, "SW"), (16, "W")
 # More classes than these make a legend that nobody reads and a style that QGIS is slow to load.
 MOST_CLASSES = 2048
 GOLDEN_TURN = 0.6180339887
+# By this a style of this package is told from one that a user has made.
+MARK = "<!-- made by relief-gis -->"
 
 
 def color_table(name: str) -> Optional[Dict[int, Color]]:
@@ -26,6 +29,8 @@ def color_table(name: str) -> Optional[Dict[int, Color]]:
         return {0: (0, 0, 0, 255), **ways, NODATA_CODE: CLEAR}
     if name == "streams":
         return {0: (255, 255, 255, 0), 1: (8, 81, 156, 255), NODATA_CODE: CLEAR}
+    if name == "uncertain":
+        return {0: (255, 255, 255, 0), 1: (227, 74, 51, 160), NODATA_CODE: CLEAR}
     return None
 
 
@@ -34,7 +39,7 @@ def style(name: str, values: np.ndarray, decimals: int = 0) -> Optional[str]:
 
     Args:
         name: the map.
-        values: its data, without NODATA.
+        values: (rows, cols), the map as it is written.
         decimals: those of heights.
     """
     if values.size == 0:
@@ -45,10 +50,8 @@ def style(name: str, values: np.ndarray, decimals: int = 0) -> Optional[str]:
     if name == "streams":
         return _palette([(1, (8, 81, 156, 255), "stream")])
     if name in ("basins", "catchments"):
-        numbers = [int(number) for number in np.unique(values) if number > 0]
-        if len(numbers) > MOST_CLASSES:
-            return None
-        return _palette([(it, _hue(it * GOLDEN_TURN), str(it)) for it in numbers])
+        numbers = _numbers(values)
+        return None if numbers is None else _palette([(it, _hue(it * GOLDEN_TURN), str(it)) for it in numbers])
     most = float(values.max())
     if name == "view":
         return _palette(_seen(int(most)))
@@ -58,6 +61,19 @@ def style(name: str, values: np.ndarray, decimals: int = 0) -> Optional[str]:
         return _classes([(0.0, CLEAR, "0")] + [(most * share, _blue(share), f"{most * share:.{max(decimals, 1)}f}")
                                                for share in (0.1, 0.25, 0.5, 1.0)])
     return None
+
+
+def _numbers(values: np.ndarray) -> Optional[List[int]]:
+    """The numbers above 0; None: there are too many."""
+    is_there = np.zeros(int(values.max()) + 1, bool)
+    if is_there.size > MOST_CLASSES + 1:
+        return None
+
+    def mark(rows: slice) -> None:
+        is_there[np.maximum(values[rows], 0)] = True
+
+    for_rows(mark, values.shape)
+    return [int(number) for number in np.flatnonzero(is_there) if number > 0]
 
 
 def _hue(turn: float) -> Color:
@@ -89,7 +105,7 @@ def _steps_of_counts(most: float) -> List[Entry]:
 
 
 def _palette(entries: Iterable[Entry]) -> str:
-    lines = [f'<paletteEntry value="{value:g}" color="{_web(color)}" alpha="{color[3]}" label={quoteattr(label)}/>'
+    lines = [f'<paletteEntry value="{value:g}" color="{_web(color)}" alpha="{color[3]}" label="{escape(label)}"/>'
              for value, color, label in entries]
     return _qml('<rasterrenderer type="paletted" band="1" opacity="1" alphaBand="-1"><colorPalette>',
                 lines, "</colorPalette></rasterrenderer>")
@@ -97,7 +113,7 @@ def _palette(entries: Iterable[Entry]) -> str:
 
 def _classes(entries: Sequence[Entry]) -> str:
     """Classes of values, each up to its limit."""
-    lines = [f'<item value="{value!r}" color="{_web(color)}" alpha="{color[3]}" label={quoteattr(label)}/>'
+    lines = [f'<item value="{value!r}" color="{_web(color)}" alpha="{color[3]}" label="{escape(label)}"/>'
              for value, color, label in entries]
     least, most = 0, entries[-1][0]
     return _qml(f'<rasterrenderer type="singlebandpseudocolor" band="1" opacity="1" alphaBand="-1" '
@@ -112,5 +128,5 @@ def _web(color: Color) -> str:
 
 def _qml(head: str, lines: Iterable[str], tail: str) -> str:
     body = "\n".join(lines)
-    return (f"<!DOCTYPE qgis PUBLIC 'http://mrcc.com/qgis.dtd' 'SYSTEM'>\n<qgis version=\"3.16\">\n<pipe>\n{head}\n"
-            f"{body}\n{tail}\n</pipe>\n</qgis>\n")
+    return (f"<!DOCTYPE qgis PUBLIC 'http://mrcc.com/qgis.dtd' 'SYSTEM'>\n{MARK}\n<qgis version=\"3.16\">\n<pipe>\n"
+            f"{head}\n{body}\n{tail}\n</pipe>\n</qgis>\n")

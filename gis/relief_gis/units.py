@@ -1,4 +1,4 @@
-"""Exact decimals: heights of eyes and targets in units of 10^-D, lengths in cells."""
+"""Exact numbers: heights of eyes and targets in units of 10^-D, sides of cells, lengths in cells."""
 from __future__ import annotations
 
 import math
@@ -15,6 +15,8 @@ MOST_DECIMALS = 6
 MOST_EYE_UNITS = 1_000_000
 MOST_HEIGHT_UNITS = 10**15
 MOST_RADIUS_CELLS = 8192
+# A geotransform has sides and origins as floats, which tools compute: so near to a simple number they stand for it.
+NEARNESS = Fraction(1, 10**9)
 
 
 def decimal_of(value: Number, what: str = "number") -> Decimal:
@@ -73,6 +75,32 @@ def fraction_of(value: float) -> Fraction:
     return Fraction(Decimal(repr(float(value))))
 
 
+def side_of(value: float) -> Fraction:
+    """The simplest fraction within one part in 10^9 of the side of a cell; it has the sign of the side."""
+    exact = Fraction(value)
+    return simplest_fraction(exact, abs(exact) * NEARNESS)
+
+
+def origin_of(value: float, side: Fraction) -> Fraction:
+    """The simplest fraction within 10^-9 of a cell of the coordinate at which cells of a side begin."""
+    return simplest_fraction(Fraction(value), abs(side) * NEARNESS)
+
+
+def simplest_fraction(number: Fraction, most: Fraction) -> Fraction:
+    """The fraction of least denominator that differs from a number by at most so much; of several the nearest."""
+    denominator = _simplest_between(number - most, number + most).denominator
+    return Fraction(round(number * denominator), denominator)
+
+
+def _simplest_between(low: Fraction, high: Fraction) -> Fraction:
+    """A fraction of least denominator from one number to another, by their continued fractions."""
+    whole = math.ceil(low)
+    if whole <= high:
+        return Fraction(whole)
+    below = whole - 1
+    return below + 1 / _simplest_between(1 / (high - below), 1 / (low - below))
+
+
 def plain(value: Union[Fraction, Decimal, int]) -> str:
     """A number as people write it: without exponent, with at most 10 digits behind the point."""
     if isinstance(value, Fraction):
@@ -81,7 +109,6 @@ def plain(value: Union[Fraction, Decimal, int]) -> str:
     return text.rstrip("0").rstrip(".")
 
 
-def rounded_up(value: float) -> str:
+def rounded_up(value: Decimal) -> str:
     """A length above 0 with two significant digits, never less than it is."""
-    exact = Decimal(value)
-    return f"{exact.quantize(Decimal(1).scaleb(exact.adjusted() - 1), ROUND_UP):f}"
+    return f"{value.quantize(Decimal(1).scaleb(value.adjusted() - 1), ROUND_UP):f}"

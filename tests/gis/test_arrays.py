@@ -1,6 +1,8 @@
 """The functions of the package: numpy arrays in and out."""
 import inspect
 import os
+import subprocess
+import sys
 import unittest
 import unittest.mock
 
@@ -69,13 +71,25 @@ class Arrays(Case):
                                   [[2, 2, 2, 0], [2, 2, 3, 3], [2, 3, 3, 1], [0, 3, 1, 1]])):
             self.assertEqual(relief_gis.catchments(heights, gauges).tolist(), expected)
 
+    def test_uncertain_cells_of_an_example(self):
+        """A valley from west to east: its water may come from beyond the edge, that of its slopes does not."""
+        heights = np.full((5, 5), 9)
+        heights[2] = [5, 4, 3, 2, 1]
+        expected = np.ones((5, 5), int)
+        expected[[1, 3], 1:4] = 0
+        self.assertEqual(relief_gis.uncertain(heights).tolist(), expected.tolist())
+        found = relief_gis.uncertain(np.ma.masked_equal(heights, 4))
+        # The hole is an edge too, of the slopes beside it as well, and cuts the valley.
+        self.assertEqual(found.filled().tolist(), [[1, 1, 1, 1, 1], [1, 1, 1, 0, 1], [1, 255, 1, 1, 1], [1, 1, 1, 0, 1],
+                                                   [1, 1, 1, 1, 1]])
+
     def test_refused_gauges_and_sinks(self):
         for gauges, sinks, number, name, place, told in (
-                ([(1, 8), (0, 0)], [], 62, "GaugeOnNodata", 1, "gauge 1: the gauge stands where there is no data"),
-                ([(99, 0)], [(1, 8)], 61, "GaugeOutside", 0, "gauge 0: the gauge lies outside the grid"),
+                ([(1, 8), (0, 0)], [], 62, "GaugeOnNodata", 1, "gauges[1]: the gauge stands where there is no data"),
+                ([(99, 0)], [(1, 8)], 61, "GaugeOutside", 0, "gauges[0]: the gauge lies outside the grid"),
                 ([(1, 8)] * 1025, [], 63, "TooManyGauges", None, "more than 1,024 gauges"),
                 # Sinks are judged before gauges.
-                ([(99, 0)], [(1, 8), (99, 0)], 46, "SinkOutside", 1, "sink 1: the sink lies outside the grid")):
+                ([(99, 0)], [(1, 8), (99, 0)], 46, "SinkOutside", 1, "sinks[1]: the sink lies outside the grid")):
             with self.assertRaises(relief_gis.ReliefError) as caught:
                 relief_gis.catchments(self.heights, gauges, sinks=sinks)
             error = caught.exception
@@ -87,14 +101,20 @@ class Arrays(Case):
             relief_gis.fill(self.heights, sinks=[(1, 8), (99, 0)])
         error = caught.exception
         self.assertEqual((error.number, error.name, error.place, error.status), (46, "SinkOutside", 1, 2))
-        self.assertIn("sink 1", str(error))
+        self.assertIn("sinks[1]", str(error))
         with self.assertRaises(relief_gis.InputError):
             relief_gis.fill(np.zeros(3))
         with self.assertRaises(relief_gis.UsageError):
             relief_gis.view(self.heights, [(12, 20, 1.115)])
 
+    def test_arrays_take_no_gdal(self):
+        code = ("import sys; sys.modules['osgeo'] = None; import relief_gis; "
+                "print(relief_gis.fill([[9, 9, 9], [9, 1, 9], [9, 9, 5]])[1, 1])")
+        done = subprocess.run([sys.executable, "-c", code], env=fixtures.environment(), capture_output=True, text=True)
+        self.assertEqual((done.stdout, done.stderr), ("5\n", ""))
+
     def test_every_public_function_is_typed_and_told(self):
-        for name in ("fill", "flow", "accumulate", "basins", "catchments", "view"):
+        for name in ("fill", "flow", "accumulate", "basins", "catchments", "view", "uncertain"):
             function = getattr(relief_gis, name)
             self.assertIn("Returns:", function.__doc__)
             self.assertIn("Raises:", function.__doc__)

@@ -55,7 +55,7 @@ class Packages(Case):
         self.assertEqual(done.returncode, 0, done.stderr)
         package = TOP / done.stdout.strip()
         fields = run(["dpkg-deb", "-f", str(package)]).stdout
-        for name in ("relief (>=", "python3-gdal", "python3-numpy", "Recommends: qgis"):
+        for name in ("relief (>=", "python3-gdal", "python3-numpy", "Suggests: qgis"):
             self.assertIn(name, fields)
         run(["dpkg-deb", "-x", str(package), str(self.folder / "root")])
         modules = self.folder / "root" / "usr" / "lib" / "python3" / "dist-packages" / "relief_gis"

@@ -57,7 +57,7 @@ class Layers(Case):
 
     def test_coordinates_below_zero(self):
         placed = (-2000000.0, 30.0, 0.0, -100.0, 0.0, -30.0)
-        make_raster(self.folder / "west.tif", hills().astype(np.float32), placed=placed, projection="EPSG:5070")
+        make_raster(self.folder / "west.tif", hills().astype(np.float32), placed=placed)
         x, y = centre(10, 20, placed)
         bounds = f"{placed[0]},{placed[3] - 900},{placed[0] + 1200},{placed[3]}"
         self.make("view", "west.tif", "view.tif", "--at", f"{x},{y}", "--eye", "12.5", "--bounds", bounds)

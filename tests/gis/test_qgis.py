@@ -1,45 +1,25 @@
 """The QGIS provider, headless: every algorithm by `qgis_process`, and errors in plain words."""
 import json
 import os
-import pathlib
-import shutil
-import subprocess
-import tempfile
 import time
 import unittest
 from concurrent.futures import ThreadPoolExecutor
 
 import numpy as np
 
-from fixtures import GIS, HERE, RELIEF, UTM, Case, centre, hills, info, make_points, make_raster, read
+from fixtures import HERE, UTM, Case, centre, hills, info, make_points, make_raster, read
+from qgis_profile import Profile
 
-# Debian's wrapper `qgis_process` hands the program a word that it does not know.
-QGIS = shutil.which("qgis_process.bin") or shutil.which("qgis_process")
 PARALLEL = 3
 
 
 def setUpModule():
     """Makes a profile of QGIS in which the plugin is enabled."""
-    if QGIS is None:
-        raise unittest.SkipTest("no qgis_process: package qgis")
-    global ROOM
-    ROOM = pathlib.Path(tempfile.mkdtemp())
-    unittest.addModuleCleanup(shutil.rmtree, ROOM)
-    subprocess.run([str(GIS / "plugin"), str(ROOM / "plugins" / "relief")], check=True)
-    (ROOM / "run").mkdir(mode=0o700)
-    done = qgis("plugins", "enable", "relief")
+    global PROFILE
+    PROFILE = Profile.of_module()
+    done = PROFILE.run("plugins", "enable", "relief")
     if "Enabled relief" not in done.stdout:
         raise RuntimeError(done.stdout + done.stderr)
-
-
-def qgis(*words, command=None):
-    """Runs `qgis_process`, or another command, in the profile."""
-    environment = {**os.environ, "HOME": str(ROOM), "XDG_RUNTIME_DIR": str(ROOM / "run"),
-                   "QT_QPA_PLATFORM": "offscreen", "QGIS_PLUGINPATH": str(ROOM / "plugins"), "RELIEF": RELIEF,
-                   # QGIS takes its modules from the first python3: that has to be the distribution's.
-                   "PATH": f"/usr/bin:/bin:{os.environ['PATH']}", "LC_ALL": "C.UTF-8"}
-    environment.pop("PYTHONPATH", None)
-    return subprocess.run([*(command or [QGIS]), *words], capture_output=True, text=True, timeout=300, env=environment)
 
 
 class Algorithms(Case):
@@ -52,8 +32,8 @@ class Algorithms(Case):
         self.points = [f"--POINTS={self.folder / 'places.gpkg'}"]
 
     def run_algorithm(self, name, *words):
-        return qgis("run", f"relief:{name}", f"--INPUT={self.folder / 'dem.tif'}",
-                    f"--OUTPUT={self.folder / f'qgis_{name}.tif'}", *words)
+        return PROFILE.run("run", f"relief:{name}", f"--INPUT={self.folder / 'dem.tif'}",
+                           f"--OUTPUT={self.folder / f'qgis_{name}.tif'}", *words)
 
     def check(self, case):
         """Runs one algorithm, and compares what it wrote with what the command wrote."""
@@ -106,8 +86,8 @@ class Algorithms(Case):
     def feedback(self, name, *words, **parameters):
         """The lines of a run within QGIS: its progress, and how it ended."""
         parameters = {"INPUT": str(self.folder / "dem.tif"), "OUTPUT": str(self.folder / "out.tif"), **parameters}
-        done = qgis(str(ROOM / "plugins"), name, json.dumps(parameters), *words,
-                    command=["/usr/bin/python3", str(HERE / "feedback_in_qgis.py")])
+        done = PROFILE.run(str(PROFILE.plugins), name, json.dumps(parameters), *words,
+                           command=["/usr/bin/python3", str(HERE / "feedback_in_qgis.py")])
         self.assertEqual(done.returncode, 0, done.stderr)
         return done.stdout.splitlines()
 

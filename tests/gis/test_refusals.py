@@ -212,13 +212,14 @@ class Ends(Case):
                     "out.tif", *at(2, 2), *at(3, 3), program=program)
 
     def test_an_older_map_stays_where_the_new_one_is_refused(self):
-        (self.folder / "out.tif").write_text("older")
+        make_raster(self.folder / "out.tif", np.zeros((3, 3), np.uint8))
+        older = (self.folder / "out.tif").read_bytes()
         program = self.program("echo 'relief: 12 Memory' >&2; exit 3")
         self.refuse(3, "Memory", "fill", "dem.tif", "out.tif", program=program)
-        self.assertEqual((self.folder / "out.tif").read_text(), "older")
+        self.assertEqual((self.folder / "out.tif").read_bytes(), older)
 
     def test_what_tools_left_of_an_older_map_goes(self):
-        for name in ("out.tif.aux.xml", "out.tif.ovr", "out.qml"):
+        for name in ("out.tif.aux.xml", "out.tif.ovr"):
             (self.folder / name).write_text("older")
         self.make("fill", "dem.tif", "out.tif")
         self.assertEqual(sorted(os.listdir(self.folder)), ["dem.tif", "out.tif"])
@@ -247,7 +248,7 @@ class Ends(Case):
         done = subprocess.run([sys.executable, str(GIS / "relief-gis"), "fill", "dem.tif", "out.tif"], cwd=self.folder,
                               env=environment(), stderr=subprocess.PIPE, text=True, preexec_fn=limit)
         self.assertEqual((done.returncode, done.stderr.count("\n")), (4, 1), done.stderr)
-        self.assertIn("a temporary file below", done.stderr)
+        self.assertIn("out.tif could not be written", done.stderr)
         self.assertEqual(os.listdir(self.folder), ["dem.tif"])
 
     def test_no_program(self):

@@ -45,8 +45,8 @@ class Units(unittest.TestCase):
                 decimal_of(word)
 
     def test_what_is_rounded_is_never_told_too_small(self):
-        self.assertEqual(rounded_up(0.00441), "0.0045")
-        self.assertEqual(rounded_up(0.5), "0.50")
+        self.assertEqual(rounded_up(Decimal("0.00441")), "0.0045")
+        self.assertEqual(rounded_up(Decimal("0.5")), "0.50")
 
 
 class Text(unittest.TestCase):
@@ -58,8 +58,8 @@ class Text(unittest.TestCase):
     def test_rows_and_nodata(self):
         words = self.text([[-5, 120], [7, 0]], [[True, True], [False, True]]).split()
         self.assertEqual(words[:12:2], ["ncols", "nrows", "xllcorner", "yllcorner", "cellsize", "NODATA_value"])
-        self.assertEqual([int(word) for word in words[1:12:2]], [2, 2, 0, 0, 1, -6])
-        self.assertEqual([int(word) for word in words[12:]], [-5, 120, -6, 0])
+        self.assertEqual([int(word) for word in words[1:12:2]], [2, 2, 0, 0, 1, 121])
+        self.assertEqual([int(word) for word in words[12:]], [-5, 120, 121, 0])
 
     def test_numbers_of_all_lengths(self):
         numbers = [[sign * 10**digits + more for digits in range(16) for more in (-1, 0)] for sign in (1, -1)]
@@ -90,11 +90,11 @@ class ArraysToUnits(unittest.TestCase):
     def test_rounding_is_told(self):
         found = heights_of(np.array([[1.004, 2.0]]), np.ones((1, 2), bool), 2)
         self.assertEqual(found.units.tolist(), [[100, 200]])
-        self.assertAlmostEqual(found.rounding, 0.004)
+        self.assertAlmostEqual(float(found.rounding), 0.004)
 
     def test_bands_with_a_factor_are_exact(self):
-        found = scaled_integers(np.array([[123, -7]], np.int32), np.ones((1, 2), bool), 0.01, 100.0, None)
-        self.assertEqual((found.units.tolist(), found.decimals), ([[10123, 9993]], 2))
+        found = scaled_integers(np.array([[123, -7]], np.int32), np.ones((1, 2), bool), 0.01, 100.0, 2)
+        self.assertEqual((found.units.tolist(), found.rounding), ([[10123, 9993]], 0))
 
     def test_what_has_no_map(self):
         valid = np.ones((1, 1), bool)

@@ -16,25 +16,24 @@ use Rattle.tiles.specs.Cutting.{Cutting, IsCutting, IsInBounds, Cuts, View, boun
 use Rattle.tile_maps.specs.Maps.{IsMadeUpTo}
 use Rattle.drainage.specs.StepCounts.{known, no_count}
 use Rattle.drainage.proofs.StoredCounts.{known_number}
+use Rattle.terrain.specs.Sinks.{with_sinks}
 use Rattle.drainage.proofs.Reach.{data_inside}
 use Rattle.drain.specs.Beginning.{IsEdgeOrHasLower, HasGapOrLower, ShowsDraining, IsInitialCount, IsBegunSpot, AreInitialCounts, AreBegunSpots}
-use Rattle.drain.specs.Entering.{sinkless_terrain}
-use Rattle.drain.specs.Lowering.{place_at}
-use Rattle.drain.specs.Rounds.{AreWalked, IsWalked, HasCountZero, IsRoundInside}
+use Rattle.drain.specs.Rounds.{AreWalked, IsWalked, HasCountZero, IsRound, IsRoundInside}
 use Rattle.drain.specs.Steps.{DrainsAtOnce}
 use Rattle.tiles.specs.Windows.{IsSpot, IsInner, IsOff, Shows, area_of, spot_index}
 use Rattle.drain.specs.Search.{AreEntriesShown, AreAtMostNoCount, AreWindowCounts, IsCopied, IsSearched, count_on, known_counts}
-use Rattle.drain.proofs.DrainedLemmas.{same_terrain}
+use Rattle.drain.proofs.DrainedLemmas.{same_terrain, with_own_sinks}
 use Rattle.drain.proofs.Few.{drains_data}
 use Rattle.drain.proofs.Nearby.{drains_at_once}
 use Rattle.drain.proofs.GapOrLower.{shown_drains, drains_shown}
-use Rattle.drain.proofs.Quiet.{if_some, are_walked_to, round_to}
+use Rattle.drain.proofs.Quiet.{if_some, are_walked_to, round_to, zeros_drain}
 use Rattle.drain.proofs.Spreading.{spot_from_inner}
 use Rattle.tiles.proofs.Cut.{in_bounds, in_bounds_parts, in_bounds_from}
 use Rattle.tiles.proofs.Spots.{shows_same, shows_none, spot_below}
 use Rattle.tiles.proofs.SpotWays.{inner_shows}
 use Rattle.drain.proofs.TileRound.{round_from}
-use Rattle.drain.proofs.Unique.{at_place, place_at-index_of}
+use Rattle.drain.proofs.Unique.{at_place, place_at, place_at-index_of}
 
 -- if A and B agree at the spot, its initial count for A is that for B
 begun_by : (A B : Place → Type 0) (s : Place) (n : ℕ) → (A s → B s) → (B s → A s) →
@@ -375,12 +374,11 @@ pub begun_round : (t : Terrain) (v : View (Option ℤ)) (c : Cutting) (tile : �
     AreEntriesShown (terrain_of v) v.cells b levels →
     AreBegunSpots (ShowsDraining (DrainsAtOnce t) b) b old → AreInitialCounts t begun →
     IsSearched b levels old new → IsMadeUpTo b (IsCopied b new) (b.rows * b.cols) list →
-    IsRoundInside (HasCountZero (sinkless_terrain c t.cells) begun)
-    (sinkless_terrain c t.cells) c tile begun list
+    IsRoundInside (DrainsAtOnce t) t c tile begun list
 begun_round t v c tile b levels old new list begun e cuts lawful bounds shown are first finished
     out =
     let w : View (Option ℤ) = record { cutting = c; tile = tile; cells = t.cells } in
-    let u = sinkless_terrain c t.cells in
+    let u : Terrain = record { cols = c.cols; rows = c.rows; cells = t.cells; sinks = [] } in
     let now =
     subst (λ (z : View (Option ℤ)). IsCutting z.cutting × (b ≡ bounds_of z.cutting z.tile)
     × AreEntriesShown (terrain_of z) z.cells b levels) e
@@ -398,13 +396,17 @@ begun_round t v c tile b levels old new list begun e cuts lawful bounds shown ar
     let known_begun : (p : Place) (n : ℕ) → entry_at c.cols c.rows inside p ≡ Some n →
     entry_at c.cols c.rows begun p ≡ Some n = λ p n is.
     ((rw (← cuts.0, ← cuts.1) at (known_here t b old are begun first)) p n is).1 in
-    let to = round_to (HasCountZero u inside) (HasCountZero u begun) u [] c tile inside list
-    (λ p zero. (zero.0, known_begun p 0 zero.1)) round in
+    let back : with_sinks u t.sinks ≡ t = with_own_sinks t c.cols c.rows cuts.0 cuts.1 in
+    let to = subst (λ (x : Terrain). IsRound (DrainsAtOnce t) x c tile inside list) back
+    (round_to (HasCountZero u inside) (DrainsAtOnce t) u t.sinks c tile inside list
+    (λ p zero. zeros_drain t begun first p
+    (rw (cuts.0, cuts.1) at zero.0, rw (cuts.0, cuts.1) at (known_begun p 0 zero.1))) round) in
     record {
       size = to.inside.size;
       walked = to.inside.walked;
       within = to.inside.within;
-      kept = λ p m i is. to.inside.kept p m i (rw (← cuts.0, ← cuts.1) at
+      kept = λ p m i is. to.inside.kept p m i
+          (subst (λ (xs : List (Option ℕ)). entry_at t.cols t.rows xs p ≡ Some m) sized
           (entry_here t b old are begun first p (subst (λ (z : Bounds). IsInBounds z p) (sym now.1)
-          (in_bounds c tile p now.0 i))) ∙ is);
+          (in_bounds c tile p now.0 i)) ∙ is));
     }

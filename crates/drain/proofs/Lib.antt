@@ -16,17 +16,12 @@ pub mod Noted
 pub mod Least
 pub mod Begun
 pub mod TileRound
--- later rounds: the search in a tile, entries and runs, and the state between rounds
-pub mod Kept
-pub mod Lowered
-pub mod Noting
-pub mod RunLemmas
-pub mod Putting
-pub mod RoundLemmas
-pub mod Entered
+-- counts between rounds, and lower counts that rounds find
+pub mod Sound
 -- the direction of a cell, and which cells drain at once
 pub mod GapOrLower
 pub mod AroundLemmas
+pub mod Onward
 pub mod Greatest
 pub mod Weights
 pub mod Pointing

@@ -12,7 +12,7 @@ use Rattle.terrain.specs.declared.place.Place.{Place}
 use Rattle.tiles.specs.Cutting.{Cutting, Cuts, IsCutting, tile_of_place, IsInTile, tile_entry}
 use Rattle.drain.specs.Beginning.{HasZeros, AreInitialCounts, KeepsCounts}
 use Rattle.drain.specs.Steps.{DrainsAtOnce, IsWalkAtOneHeight, IsFlatWalk, IsSteps, AreSteps}
-use Rattle.drain.specs.Rounds.{HasCountZero, IsWalked, AreWalked, IsAtMostOneAbove, IsRound, AreFinal}
+use Rattle.drain.specs.Rounds.{HasCountZero, IsWalked, AreWalked, IsAtMostOneAbove, IsRound}
 use Rattle.drain.proofs.Counted.{has_steps}
 use Rattle.drainage.proofs.Reach.{data_inside}
 use Rattle.terrain.proofs.Options.{cases_option}
@@ -120,7 +120,7 @@ pub begun_zeros : (t : Terrain) (counts : List (Option ℕ)) → AreInitialCount
 begun_zeros t counts begun p drains = let is = drains_data t p drains in
     (is, (begun.each p (data_inside t p is)).zero drains)
 
-zeros_drain : (t : Terrain) (counts : List (Option ℕ)) → AreInitialCounts t counts → (p : Place) →
+pub zeros_drain : (t : Terrain) (counts : List (Option ℕ)) → AreInitialCounts t counts → (p : Place) →
     HasCountZero t counts p → DrainsAtOnce t p
 zeros_drain t counts begun p input = ((begun.each p (data_inside t p input.0)).only 0 input.1).0
 
@@ -165,20 +165,3 @@ counts_are_steps t c steps lists cuts cutting zeros quiet lawful filled size =
     (tile_of_place_below c p cutting here.0)).near p q here next level m e less in
     (near.0, sym (quiet.same (tile_of_place c p) p here) ∙ near.1, near.2))
     lawful filled size
-
--- in a filled terrain, final counts that rounds reach from the initial counts are the steps
-pub final_is_steps : (c : Cutting) (t : Terrain) (begun steps : List (Option ℕ)) → Cuts c t →
-    IsTerrain t → IsFilled t t.cells → AreInitialCounts t begun →
-    AreFinal c (with_sinks t []) begun steps →
-    AreSteps t steps
-final_is_steps c t begun steps cuts lawful filled first finished =
-    still_is_steps t steps
-    (λ p drains. ((finished.same_sources p).0 (begun_zeros t begun first p drains)).1)
-    (are_walked_to (HasCountZero t steps) (DrainsAtOnce t) (with_sinks t []) t.sinks steps
-    (λ p input.
-    zeros_drain t begun first p ((finished.same_sources p).1 input)) finished.counting.walked)
-    (λ p q next level.
-    let inside = in_own_tile t c p cuts (data_inside t p next.from_data) in
-    (finished.still (tile_of_place c p) (tile_of_place_below c p finished.cutting
-    inside.0)).near p q inside (next_with t [] p q next) level)
-    lawful filled finished.counting.size

@@ -10,7 +10,6 @@ use Rattle.terrain.proofs.Places.{entry-inside, same_place, index_below}
 use Rattle.terrain.specs.Raster.{Terrain}
 use Rattle.terrain.specs.Neighbours.{height_at, entry_at, index_of, IsDataCell, height_of}
 use Rattle.terrain.specs.declared.place.Place.{Place}
-use Rattle.drain.specs.Lowering.{place_at}
 use Rattle.drain.specs.Directions.{AreDirections, IsDirection}
 use Rattle.drain.proofs.Pointing.{one_direction}
 use Rattle.terrain.proofs.Options.{cases_option}
@@ -23,6 +22,10 @@ use Rattle.drain.proofs.AroundLemmas.{around_with, laid_with, steps_at}
 use Rattle.drain.proofs.Counted.{has_steps, height_is}
 use Rattle.drain.proofs.Laid.{direction_is}
 use Rattle.drainage.proofs.Reach.{is_end_cell, end_true, true_end}
+
+-- the place of a row-order index
+abbrev pub place_at : ℕ → ℕ → Place
+place_at cols k = record { row = k / cols; col = k % cols }
 
 pub index-place_at : (cols i : ℕ) → index_of cols (place_at cols i) ≡ i
 index-place_at cols i = let whole : cols * (i / cols) + i % cols ≡ i = div-add-mod i cols in

@@ -1,44 +1,88 @@
--- The input of the jobs that find the codes of directions: a terrain, its steps and a cutting
--- of its grid into tiles. A job has the heights and steps at the spots of a tile's window: the tile
--- and one row or column on each side.
+-- The last round finds the codes of directions, tile by tile, and whether a count is more than one
+-- above that of a neighbour of equal height. A job has the heights and counts at the spots of a
+-- tile's window: the tile and one row or column on each side.
 -- Private.
-use Rattle.std.specs.Prelude.{◌≡◌, ℕ, ℤ, List, Option, None, Some, slice_index_or}
+use Rattle.std.specs.Prelude.{◌≡◌, ℕ, ◌+◌, ◌*◌, ◌<◌, ◌≤◌, ℤ, List, Vec, Option, None, Some, length, map, position, slice_get, slice_index_or, unwrap_or}
+use Rattle.std.specs.declared.alloc.Global.{Global}
 use Rattle.terrain.specs.Raster.{Terrain, IsTerrain}
+use Rattle.terrain.specs.Ways.{code_of}
 use Rattle.terrain.specs.declared.place.Place.{Place}
 use Rattle.tiles.specs.declared.bounds.Bounds.{Bounds}
 use Rattle.tiles.specs.Windows.{spot_index}
-use Rattle.tiles.specs.Cutting.{Cutting, Cuts}
-use Rattle.drain.specs.Steps.{AreSteps}
-use Rattle.drain.specs.Search.{AreEntriesShown, level_on}
+use Rattle.tiles.specs.Cutting.{tile_count}
+use Rattle.tile_maps.specs.Maps.{IsMadeTile, IsMadeUpTo}
+use Rattle.drainage.specs.StepCounts.{no_count}
+use Rattle.drain.specs.Counts.{AreCounts, Counted, IsChange, IsCheckedCode}
+use Rattle.drain.specs.Search.{AreEntriesShown}
+use Rattle.drain.specs.Steepness.{leads_on}
+use Rattle.drain.specs.declared.around.Around.{Around}
+use Rattle.drain.specs.declared.codes.Checked.{Checked}
+use Rattle.drain.specs.declared.codes.Checked.TheVariants as checked
+use Rattle.drain.specs.declared.codes.TileCodes.{TileCodes}
+use Rattle.drain.specs.declared.codes.TileCodes.TheVariants as tile_codes
 
--- A terrain, a list of steps and a cutting into tiles.
-pub record SteppedTerrain : Type 0 where
+-- A terrain, counts of its cells in row order, the bounds of one of its tiles, and heights and
+-- counts at the spots of the tile's window.
+pub record CountedSpots : Type 0 where
   pub terrain : Terrain
-  pub steps : List (Option ℕ)
-  pub cutting : Cutting
-
--- The steps are those of the terrain, and the cutting is of the terrain's grid.
-pub record IsSteppedTerrain (t : SteppedTerrain) : Type 0 where
-  pub lawful : IsTerrain t.terrain
-  pub steps : AreSteps t.terrain t.steps
-  pub cuts : Cuts t.cutting t.terrain
-
--- A terrain, the bounds of one of its tiles, and heights and steps at the spots of the tile's
--- window.
-pub record SteppedSpots : Type 0 where
-  pub terrain : Terrain
+  pub all : List (Option ℕ)
   pub bounds : Bounds
   pub levels : List (Option ℤ)
   pub steps : List (Option ℕ)
 
--- At each spot these are the height and the steps of the terrain's cell there; `None` off the grid.
-pub record AreSteppedSpots (w : SteppedSpots) : Type 0 where
+-- At each spot these are the height and the count of the terrain's cell there; `None` off the grid.
+pub record AreCountedSpots (w : CountedSpots) : Type 0 where
   pub lawful : IsTerrain w.terrain
+  pub counts : AreCounts w.terrain w.all
   pub levels : AreEntriesShown w.terrain w.terrain.cells w.bounds w.levels
-  pub steps : (all : List (Option ℕ)) × AreSteps w.terrain all
-      × AreEntriesShown w.terrain all w.bounds w.steps
+  pub steps : AreEntriesShown w.terrain w.all w.bounds w.steps
 
--- The cell that the spot shows has this height and these steps.
-pub record IsCellRead (w : SteppedSpots) (s : Place) (level : ℤ) (own : ℕ) : Type 0 where
-  pub high : level_on w.bounds w.levels s ≡ Some level
-  pub count : slice_index_or w.steps (spot_index w.bounds s) None ≡ Some own
+-- The count at a spot, 2^24 if none is known.
+abbrev pub stored_on : CountedSpots → Place → ℕ
+stored_on w s = unwrap_or (slice_index_or w.steps (spot_index w.bounds s) None) no_count
+
+-- The count on a way, 2^24 if none is known. For each way, `at` has its index in the list `steps`.
+abbrev pub stored_at : List (Option ℕ) → List ℕ → ℕ → ℕ
+stored_at steps at way = unwrap_or (slice_index_or steps (slice_index_or at way 0) None) no_count
+
+-- The count `own` is at most one above those on the ways at the height `level`.
+abbrev pub IsStillAround : List (Option ℤ) → List (Option ℕ) → List ℕ → Option ℤ → ℕ → Type 0
+IsStillAround cells steps at level own = (way : ℕ) → way < 8 →
+    slice_index_or cells (slice_index_or at way 0) None ≡ level → own ≤ stored_at steps at way + 1
+
+-- `count` is less than `own`, and one above the count on a way at the height `level`.
+abbrev pub IsTooHigh : List (Option ℤ) → List (Option ℕ) → List ℕ → Option ℤ → ℕ → ℕ → Type 0
+IsTooHigh cells steps at level own count = (count < own) × (way : ℕ) × (way < 8)
+    × (slice_index_or cells (slice_index_or at way 0) None ≡ level)
+    × (count ≡ stored_at steps at way + 1)
+
+-- If a way leads to a neighbour of equal height with one step fewer, this is the code of the first.
+abbrev pub IsOnwardCode : Around → ℕ → Type 0
+IsOnwardCode a code =
+    (way : ℕ) → position (leads_on a) a.ways ≡ Some way → code ≡ code_of (Some way)
+
+-- The codes of the window's tile, each checked (`IsCheckedCode`), or a lower count of a cell.
+abbrev pub AreCodes : CountedSpots → TileCodes → Type 0
+AreCodes w (tile_codes.Codes list) = IsMadeUpTo w.bounds (IsCheckedCode w.terrain w.all)
+    (w.bounds.rows * w.bounds.cols) list.items
+AreCodes w (tile_codes.TooHigh change) = IsChange w.terrain w.all change
+
+-- The codes of the tile, each checked (`IsCheckedCode`), or a lower count of a cell.
+abbrev pub IsTileCodes : Counted → ℕ → TileCodes → Type 0
+IsTileCodes c tile (tile_codes.Codes list) =
+    IsMadeTile c.cutting tile (IsCheckedCode c.terrain c.steps) list.items
+IsTileCodes c tile (tile_codes.TooHigh change) = IsChange c.terrain c.steps change
+
+-- The lists of codes that the jobs found, in the order of the tiles, or a lower count that one
+-- found.
+abbrev pub AreAll : List TileCodes → Checked → Type 0
+AreAll outs (checked.Codes lists) = outs ≡ map (λ list. tile_codes.Codes list) lists.items
+AreAll outs (checked.TooHigh change) =
+    (k : ℕ) × (slice_get outs k ≡ Some (tile_codes.TooHigh change))
+
+-- Each tile's list has the codes of the tile, each checked, or a cell has a lower count.
+abbrev pub IsChecked : Counted → Checked → Type 0
+IsChecked c (checked.Codes lists) = (length lists.items ≡ tile_count c.cutting)
+    × ((k : ℕ) (list : Vec (Option ℕ) Global) → slice_get lists.items k ≡ Some list →
+    IsMadeTile c.cutting k (IsCheckedCode c.terrain c.steps) list.items)
+IsChecked c (checked.TooHigh change) = IsChange c.terrain c.steps change

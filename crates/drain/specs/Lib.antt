@@ -2,9 +2,7 @@ pub mod Steepness
 pub mod Steps
 pub mod Directions
 pub mod Rounds
-pub mod Lowering
-pub mod Entering
-pub mod Rounding
+pub mod Counts
 pub mod Search
 pub mod Codes
 pub mod Beginning

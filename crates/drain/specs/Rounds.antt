@@ -2,20 +2,16 @@
 -- is the length of a walk, over neighbours of one height, to such a cell. Rounds lower each count
 -- toward the least such length.
 -- Public.
-use Rattle.std.specs.Prelude.{◌≡◌, ◌↔◌, ℕ, ◌+◌, ◌-◌, ◌*◌, ◌^◌, ◌<◌, ◌≤◌, List, length, Option, Some, IfSome}
+use Rattle.std.specs.Prelude.{◌≡◌, ℕ, ◌+◌, ◌-◌, ◌^◌, ◌<◌, ◌≤◌, List, length, Option, Some, IfSome}
 use Rattle.terrain.specs.Raster.{Terrain}
 use Rattle.terrain.specs.Neighbours.{height_at, entry_at, IsDataCell, IsNeighbour}
 use Rattle.terrain.specs.declared.place.Place.{Place}
-use Rattle.tiles.specs.Cutting.{Cutting, IsCutting, IsInTile, tile_count, tile_entry, cell_count}
+use Rattle.tiles.specs.Cutting.{Cutting, IsInTile, tile_entry, cell_count}
 use Rattle.drain.specs.Steps.{IsWalkAtOneHeight}
 
 -- The cell has data and the count 0.
 abbrev pub HasCountZero : Terrain → List (Option ℕ) → Place → Type 0
 HasCountZero t steps p = IsDataCell t p × (entry_at t.cols t.rows steps p ≡ Some 0)
-
--- The two lists of counts have 0 at the same data cells.
-abbrev pub HaveSameZeros : Terrain → List (Option ℕ) → List (Option ℕ) → Type 0
-HaveSameZeros t old new = (p : Place) → HasCountZero t old p ↔ HasCountZero t new p
 
 -- The number n is below 2^24, and some walk at one height from p to a cell of `Ends` has n moves.
 abbrev pub IsWalked : (Place → Type 0) → Terrain → Place → ℕ → Type 0
@@ -56,23 +52,3 @@ pub record IsRound (Ends : Place → Type 0) (t : Terrain) (c : Cutting) (tile :
   -- equal height
   pub near : (p q : Place) → IsInTile c tile p → IsNeighbour t p q → height_at t q ≡ height_at t p →
       IsAtMostOneAbove (tile_entry c tile new p) (entry_at t.cols t.rows old q)
-
--- A round would change no count of the tile: each is at most one above the known counts of
--- neighbours of equal height (`IsAtMostOneAbove`).
-pub record IsTileStill (t : Terrain) (c : Cutting) (tile : ℕ)
-    (steps : List (Option ℕ)) : Type 0 where
-  pub near : (p q : Place) → IsInTile c tile p → IsNeighbour t p q → height_at t q ≡ height_at t p →
-      IsAtMostOneAbove (entry_at t.cols t.rows steps p) (entry_at t.cols t.rows steps q)
-
--- Each known count is the length of a walk at one height to a cell of count 0.
-pub record AreCounting (t : Terrain) (steps : List (Option ℕ)) : Type 0 where
-  pub size : length steps ≡ t.cols * t.rows
-  pub walked : AreWalked (HasCountZero t steps) t steps
-
--- The final counts: no round would change them. They are 0 at the same data cells as `input`. Each
--- known count is the length of a walk at one height to such a cell.
-pub record AreFinal (c : Cutting) (t : Terrain) (input steps : List (Option ℕ)) : Type 0 where
-  pub cutting : IsCutting c
-  pub counting : AreCounting t steps
-  pub same_sources : HaveSameZeros t input steps
-  pub still : (tile : ℕ) → tile < tile_count c → IsTileStill t c tile steps

@@ -1,31 +1,26 @@
 //! Counts of steps that rounds pass on: a `Change` is a cell with a count.
 //!
-//! A `TileEntry` is a change that follows from a neighbour in another tile. A `Run` is the range of
-//! the entries into one tile.
+//! An entry is a change with which a round begins. A `Run` is the range of one job's entries.
 
 use terrain::Place;
 
-/// A cell and a count: a lower count found for the cell or, for a cell from which a search
-/// spreads, its present count.
+/// A cell and a count: a lower count found for the cell, or the known count from which one follows.
 #[derive(Clone, Copy)]
 pub(crate) struct Change {
     pub(crate) place: Place,
     pub(crate) count: u32,
 }
 
-/// A cell of `tile` with a lower count, which follows from another tile.
-/// The count is 1 plus that of a neighbour there, of the same filled height.
+/// A change with which a round begins, and the tile whose job applies it.
 #[derive(Clone, Copy)]
 pub(crate) struct TileEntry {
     pub(crate) tile: u32,
     pub(crate) change: Change,
 }
 
-/// The entries into one tile, maybe none.
-/// They have the indexes `from..end` in the list of all entries, sorted by tile.
+/// The entries of one job, perhaps none: those at the indexes `from..end` of a round's list.
 #[derive(Clone, Copy)]
 pub(crate) struct Run {
-    pub(crate) tile: u32,
     pub(crate) from: usize,
     pub(crate) end: usize,
 }

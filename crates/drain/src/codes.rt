@@ -1,31 +1,40 @@
-//! Finds the direction codes of all cells, by one job for each tile.
+//! Finds the direction codes of all cells in the last round, by one job for each tile.
 //!
-//! A job copies two windows of its tile, with filled heights and with steps, `None` off the grid.
+//! A job copies two windows of its tile, with filled heights and with counts, `None` off the grid.
 //! A spot is a place of a tile's window: the tile and a border of one cell around it.
 //! So each cell of the tile has eight spots around it, also at the grid's border.
 //! Ways are the eight directions, from 0 to 7 in code order.
-ghost use Rattle.std.specs.Prelude.{◌≡◌, ℕ, ◌+◌, ◌*◌, ◌<◌, IsTrue, Some, None, length, position, slice_index_or, OnOk, IfOk, IfSome};
-ghost use Rattle.std.specs.List.{list_any};
-ghost use Rattle.terrain.specs.Raster.{Terrain};
+//!
+//! A job also certifies the counts: it looks whether a cell's count is more than one above that of
+//! a neighbour of its height. If no job finds such a cell, the counts are the steps.
+ghost use Rattle.std.specs.Prelude.{◌≡◌, ℕ, ℤ, ◌+◌, ◌*◌, ◌<◌, ◌≤◌, Some, None, length, slice_index_or, OnOk, IfOk, IfErr, IfSome};
+ghost use Rattle.terrain.specs.Raster.{Terrain, IsHeight};
 ghost use Rattle.terrain.specs.Neighbours.{height_at};
+ghost use Rattle.drainage.specs.StepCounts.{no_count};
 ghost use Rattle.terrain.specs.declared.place.Place.{Place};
+ghost use Rattle.tile_jobs.specs.Fault.{RefusesWorkers};
 ghost use Rattle.tile_maps.specs.Maps.{IsMadeUpTo};
 ghost use Rattle.tiles.specs.Cutting.{IsCutting, bounds_of, tile_count};
 ghost use Rattle.tiles.specs.Windows.{IsInner, Shows};
-ghost use Rattle.drain.specs.Codes.{IsCellRead};
-ghost use Rattle.drain.specs.Directions.{IsCodeAt, IsDirection};
-ghost use Rattle.drain.specs.Steepness.{leads_on};
+ghost use Rattle.drain.specs.Codes.{AreAll, AreCodes, IsChecked, IsOnwardCode, IsStillAround, IsTooHigh, stored_on};
+ghost use Rattle.drain.specs.Counts.{IsChange, IsCheckedCode};
+ghost use Rattle.drain.specs.Directions.{IsDirection};
+ghost use Rattle.drain.specs.Search.{level_on};
 ghost use Rattle.drain.specs.Surroundings.{AreSurroundings, HasCells};
 ghost use Rattle.drain.specs.declared.around.Around.{Around};
 
-use crate::steepness::{leads_on, steepest};
+use crate::changes::Change;
+use crate::input::RoundInput;
+use crate::steepness::steepest;
 use drainage::{Code, StepCount};
 use std::alloc::{AllocError, Global};
 use std::marker::Model;
-use std::snapshot::Snapshot;
-use terrain::{Cell, Grid, Height, NoMemory, Place};
-use tile_maps::TileMap;
-use tiles::{Bounds, Tiling, Window};
+use std::sync::Wait;
+use std::thread::Threads;
+use terrain::{Cell, Height, Place};
+use tile_jobs::{Gate, JobFault, Work};
+use tile_maps::Runner;
+use tiles::{Bounds, Window};
 
 /// Returns the heights of the eight cells at the indexes `at`.
 #[inline(always)]
@@ -46,190 +55,285 @@ fn heights_at(cells: &[Cell], at: &[usize; 8]) -> [Option<Height>; 8]
     ]
 }
 
-/// Returns the first way to a neighbour of height `level` with `own - 1` steps.
+/// Returns the code of the first way to a neighbour of height `level` with one step fewer than
+/// `own`.
+/// Returns an outlet's code if there is none, which is so of no cell once the counts are the steps.
+/// An error is the lower count of a cell whose count is more than one above a neighbour's.
 #[inline(always)]
-fn onward_at(cells: &[Cell], steps: &[StepCount], at: &[usize; 8], level: Height, own: u32) -> usize
+fn onward_code(
+    cells: &[Cell],
+    steps: &[StepCount],
+    at: &[usize; 8],
+    level: Cell,
+    own: u32,
+) -> Result<Code, u32>
     requires cells { (way : ℕ) → way < 8 → slice_index_or at.now way 0 < length cells.now }
     requires steps { (way : ℕ) → way < 8 → slice_index_or at.now way 0 < length steps.now }
-    requires some { (a : Around) × HasCells a cells.now steps.now at.now level own
-        × IsTrue (list_any (leads_on a) a.ways) }
-    ensures below { result < 8 }
-    ensures first { (a : Around) → HasCells a cells.now steps.now at.now level own →
-        position (leads_on a) a.ways ≡ Some result }
+    requires own { own ≤ no_count }
+    ensures onward { IfOk result (λ code. (a : Around) (height : ℤ) → level ≡ Some height →
+        HasCells a cells.now steps.now at.now height own → IsOnwardCode a code) }
+    ensures still { IfOk result (λ _. IsStillAround cells.now steps.now at.now level own) }
+    ensures lower { IfErr result (IsTooHigh cells.now steps.now at.now level own) }
 {
-    for way in 0..8 {
+    let mut code = Code::outlet();
+    for turn in 0..8 {
+        let way = 7 - turn;
         let index = at[way];
-        if leads_on(level, own, cells[index].height(), steps[index].value()) {
-            return way;
+        if cells[index].is_level_with(level) {
+            let count = steps[index].number() + 1;
+            if count < own {
+                return Err(count);
+            }
+            if count == own {
+                code = Code::of_way(way);
+            }
         }
     }
-    unreachable!()
+    Ok(code)
 }
 
-/// Returns the code of a data cell with height `level` and `own` steps.
+/// Returns the code of a data cell with the height `level` and the count `own`.
 /// A cell with steps above 0 has no lower neighbour; a cell with 0 steps drains at once.
+///
+/// An error is the lower count of a cell whose count is more than one above a neighbour's.
 #[inline(always)]
-fn data_code(cells: &[Cell], steps: &[StepCount], at: &[usize; 8], level: Height, own: u32) -> Code
+fn data_code(
+    cells: &[Cell],
+    steps: &[StepCount],
+    at: &[usize; 8],
+    level: Height,
+    own: u32,
+) -> Result<Code, u32>
     requires cells { (way : ℕ) → way < 8 → slice_index_or at.now way 0 < length cells.now }
     requires steps { (way : ℕ) → way < 8 → slice_index_or at.now way 0 < length steps.now }
-    requires some { (t : Terrain) × (p : Place) × (a : Around)
-        × AreSurroundings t p cells.now steps.now at.now level own a }
-    ensures { (t : Terrain) (p : Place) (a : Around) →
-        AreSurroundings t p cells.now steps.now at.now level own a → IsDirection t p result }
+    requires own { own ≤ no_count }
+    requires level { IsHeight level }
+    requires heights { (way : ℕ) → way < 8 →
+        IfSome (slice_index_or cells.now (slice_index_or at.now way 0) None) IsHeight }
+    ensures code { IfOk result (λ code. (t : Terrain) (p : Place) (a : Around) →
+        AreSurroundings t p cells.now steps.now at.now level own a → IsDirection t p code) }
+    ensures still { IfOk result (λ _.
+        IsStillAround cells.now steps.now at.now (Some level) own) }
+    ensures lower { IfErr result (IsTooHigh cells.now steps.now at.now (Some level) own) }
 {
     if own > 0 {
-        return Code::of_way(onward_at(cells, steps, at, level, own));
+        let code = onward_code(cells, steps, at, Cell::of(level), own)?;
+        return Ok(code);
     }
     match steepest(level, &heights_at(cells, at)) {
-        Some(way) => Code::of_way(way),
-        None => Code::outlet(),
+        Some(way) => Ok(Code::of_way(way)),
+        None => Ok(Code::outlet()),
     }
 }
 
-/// Filled heights and steps at the spots of a tile's window.
+/// Filled heights and counts at the spots of a tile's window.
 #[derive(Drop)]
-struct SteppedWindow {
+struct CountedWindow<'a> {
     levels: Window<Cell>,
     steps: Window<StepCount>,
-    grid: Snapshot<Grid>,
+    input: &'a RoundInput<'a>,
 }
 
-impl Model for SteppedWindow {
+impl<'a> Model for CountedWindow<'a> {
     ghost use Rattle.std.specs.Prelude.{◌≡◌};
-    ghost use Rattle.drain.specs.Codes.{SteppedSpots, AreSteppedSpots};
+    ghost use Rattle.drain.specs.Codes.{CountedSpots, AreCountedSpots};
 
-    ghost Value = { SteppedSpots };
+    ghost Value = { CountedSpots };
 
     ghost view = { λ w. record {
-      terrain = w.grid.value.terrain;
+      terrain = w.input.now.terrain;
+      all = w.input.now.steps;
       bounds = w.levels.bounds;
       levels = w.levels.values.items;
       steps = w.steps.values.items;
     } };
 
-    ghost invariant = { λ w. (w.steps.bounds ≡ w.levels.bounds) × AreSteppedSpots (record {
-      terrain = w.grid.value.terrain;
+    ghost invariant = { λ w. (w.steps.bounds ≡ w.levels.bounds) × AreCountedSpots (record {
+      terrain = w.input.now.terrain;
+      all = w.input.now.steps;
       bounds = w.levels.bounds;
       levels = w.levels.values.items;
       steps = w.steps.values.items;
     }) };
 }
 
-impl SteppedWindow {
-    /// Returns the height and the steps of the cell at a spot, `None` where there is no data.
-    #[inline(always)]
-    fn cell(&self, spot: Place) -> Option<(Height, u32)>
-        requires { IsInner self.now.bounds spot }
-        ensures none { result ≡ None → (p : Place) → Shows self.now.bounds spot p →
-            height_at self.now.terrain p ≡ None }
-        ensures some { IfSome result (λ cell. IsCellRead self.now spot cell.0 cell.1) }
+impl<'a> CountedWindow<'a> {
+    /// Copies the filled heights and counts of a tile and of the places around it.
+    fn new(
+        alloc: Global,
+        input: &'a RoundInput<'a>,
+        tile: u32,
+    ) -> Result<CountedWindow<'a>, AllocError>
+        requires { tile < tile_count input.now.cutting }
+        ensures lawful { IfOk result (λ _. IsCutting input.now.cutting) }
+        ensures bounds { IfOk result (λ w. w.bounds ≡ bounds_of input.now.cutting tile) }
+        ensures terrain { IfOk result (λ w. w.terrain ≡ input.now.terrain) }
+        ensures counts { IfOk result (λ w. w.all ≡ input.now.steps) }
     {
-        let index = self.levels.index(spot);
-        let level = self.levels.values[index].height()?;
-        let own = self.steps.values[index].value()?;
-        Some((level, own))
+        let levels = input.tiling.view(input.levels, tile);
+        let steps = input.tiling.view(input.steps, tile);
+        Ok(CountedWindow {
+            levels: Window::of_view(alloc, &levels, Cell::no_data())?,
+            steps: Window::of_view(alloc, &steps, StepCount::none())?,
+            input,
+        })
+    }
+
+    /// Returns the height of the cell at a spot, `None` where there is no data.
+    #[inline(always)]
+    fn level(&self, spot: Place) -> Option<Height>
+        requires { IsInner self.now.bounds spot }
+        ensures spot { result ≡ level_on self.now.bounds self.now.levels spot }
+        ensures place { (p : Place) → Shows self.now.bounds spot p →
+            height_at self.now.terrain p ≡ result }
+    {
+        self.levels.values[self.levels.index(spot)].height()
+    }
+
+    /// Returns the count of the cell at a spot, [`NO_COUNT`](drainage::NO_COUNT) where none is
+    /// known.
+    #[inline(always)]
+    fn count(&self, spot: Place) -> u32
+        requires { IsInner self.now.bounds spot }
+        ensures value { result ≡ stored_on self.now spot }
+        ensures few { result ≤ no_count }
+    {
+        self.steps.values[self.levels.index(spot)].number()
     }
 
     /// Returns the code of the cell at a spot of the tile, `None` where there is no data.
+    /// An error is the lower count of a cell whose count is more than one above a neighbour's.
     #[inline(always)]
-    fn code_at(&self, spot: Place) -> Option<Code>
+    fn code_at(&self, spot: Place) -> Result<Option<Code>, Change>
         requires { IsInner self.now.bounds spot }
-        ensures { (p : Place) → Shows self.now.bounds spot p → IsCodeAt self.now.terrain p result }
+        ensures code { IfOk result (λ code. (p : Place) → Shows self.now.bounds spot p →
+            IsCheckedCode self.now.terrain self.now.all p code) }
+        ensures lower { IfErr result (IsChange self.now.terrain self.now.all) }
     {
-        let (level, own) = self.cell(spot)?;
+        let Some(level) = self.level(spot) else {
+            return Ok(None);
+        };
         let at = self.levels.around(spot);
-        Some(data_code(&self.levels.values, &self.steps.values, &at, level, own))
+        let own = self.count(spot);
+        match data_code(&self.levels.values, &self.steps.values, &at, level, own) {
+            Ok(code) => Ok(Some(code)),
+            Err(count) => Err(Change {
+                place: Place {
+                    row: self.levels.bounds.top + spot.row - 1,
+                    col: self.levels.bounds.left + spot.col - 1,
+                },
+                count,
+            }),
+        }
     }
 
-    /// Appends the codes of one row of the tile.
-    fn codes_along(&self, row: u32, codes: &mut Vec<Option<Code>>) -> Result<(), AllocError>
+    /// Appends the codes of one row of the tile, and returns the first lower count that it finds.
+    fn codes_along(
+        &self,
+        row: u32,
+        codes: &mut Vec<Option<Code>>,
+    ) -> Result<Option<Change>, AllocError>
         requires row { row < self.now.bounds.rows }
-        requires codes { IsMadeUpTo self.now.bounds (IsCodeAt self.now.terrain)
+        requires codes { IsMadeUpTo self.now.bounds (IsCheckedCode self.now.terrain self.now.all)
             (row * self.now.bounds.cols) codes.old.items }
-        ensures { OnOk result (IsMadeUpTo self.now.bounds (IsCodeAt self.now.terrain)
+        ensures codes { IfOk result (λ found. found ≡ None → IsMadeUpTo self.now.bounds
+            (IsCheckedCode self.now.terrain self.now.all)
             ((row + 1) * self.now.bounds.cols) codes.new.items) }
+        ensures lower { IfOk result (λ found. IfSome found
+            (IsChange self.now.terrain self.now.all)) }
     {
         for col in 0..self.levels.bounds.cols {
             let spot = Place {
                 row: row + 1,
                 col: col + 1,
             };
-            codes.push(self.code_at(spot))?;
+            match self.code_at(spot) {
+                Ok(code) => codes.push(code)?,
+                Err(change) => return Ok(Some(change)),
+            }
         }
-        Ok(())
+        Ok(None)
     }
 
-    /// Returns the codes of the tile's cells, in row order.
-    fn codes(&self, alloc: Global) -> Result<Vec<Option<Code>>, AllocError>
-        ensures { IfOk result (λ codes. IsMadeUpTo self.now.bounds (IsCodeAt self.now.terrain)
-            (self.now.bounds.rows * self.now.bounds.cols) codes.items) }
+    /// Returns the codes of the tile's cells, or a lower count.
+    fn codes(&self, alloc: Global) -> Result<TileCodes, AllocError>
+        ensures { IfOk result (AreCodes self.now) }
     {
         let Bounds { rows, cols, .. } = self.levels.bounds;
         let mut codes = Vec::with_capacity(alloc, rows as usize * cols as usize)?;
         for row in 0..rows {
-            self.codes_along(row, &mut codes)?;
+            if let Some(change) = self.codes_along(row, &mut codes)? {
+                return Ok(TileCodes::TooHigh(change));
+            }
         }
-        Ok(codes)
+        Ok(TileCodes::Codes(codes))
     }
 }
 
-/// Input of the jobs that find codes: a filled grid, its steps and its tiling.
+/// What a job of the last round finds.
 #[derive(Drop)]
-pub(crate) struct CodesInput<'a> {
-    pub(crate) grid: &'a Grid,
-    pub(crate) steps: Vec<StepCount>,
-    pub(crate) tiling: &'a Tiling,
+pub(crate) enum TileCodes {
+    /// The codes of the tile's cells, in row order.
+    Codes(Vec<Option<Code>>),
+    /// A count that is lower than the cell's count so far.
+    TooHigh(Change),
 }
 
-impl<'a> Model for CodesInput<'a> {
-    ghost use Rattle.drain.specs.Codes.{SteppedTerrain, IsSteppedTerrain};
-
-    ghost Value = { SteppedTerrain };
-
-    ghost view = { λ m. record {
-      terrain = m.grid.now.terrain;
-      steps = m.steps.items;
-      cutting = m.tiling.now;
-    } };
-
-    ghost invariant = { λ m. IsSteppedTerrain
-        (record { terrain = m.grid.now.terrain; steps = m.steps.items; cutting = m.tiling.now }) };
+/// Input of the last round's jobs.
+#[derive(Drop)]
+struct LastRound<'a> {
+    input: &'a RoundInput<'a>,
 }
 
-impl<'a> CodesInput<'a> {
-    /// Copies the filled heights and steps of a tile and of the places around it.
-    fn window(&self, alloc: Global, tile: u32) -> Result<SteppedWindow, AllocError>
-        requires { tile < tile_count self.now.cutting }
-        ensures lawful { IfOk result (λ _. IsCutting self.now.cutting) }
-        ensures bounds { IfOk result (λ w. w.bounds ≡ bounds_of self.now.cutting tile) }
-        ensures terrain { IfOk result (λ w. w.terrain ≡ self.now.terrain) }
-    {
-        let levels = self.tiling.view(self.grid.cells(), tile);
-        let steps = self.tiling.view(&self.steps, tile);
-        Ok(SteppedWindow {
-            levels: Window::of_view(alloc, &levels, Cell::no_data())?,
-            steps: Window::of_view(alloc, &steps, StepCount::none())?,
-            grid: Snapshot::of(self.grid),
-        })
-    }
-}
+impl<'a> Work for LastRound<'a> {
+    ghost use Rattle.tiles.specs.Cutting.{tile_count};
+    ghost use Rattle.drain.specs.Codes.{IsTileCodes};
 
-impl<'a> TileMap for CodesInput<'a> {
-    ghost use Rattle.drain.specs.Directions.{IsCodeAt};
+    type Out = TileCodes;
 
-    type Entry = Option<Code>;
+    ghost most = { λ r. tile_count r.input.now.cutting };
 
-    ghost cutting = { λ m. m.cutting };
+    ghost gives = { λ r tile out. IsTileCodes r.input.now tile out };
 
-    ghost has = { λ m. IsCodeAt m.terrain };
-
-    fn tiling(&self) -> Tiling {
-        *self.tiling
-    }
-
-    fn tile(&self, alloc: Global, tile: u32) -> Result<Vec<Option<Code>>, NoMemory> {
-        let window = self.window(alloc, tile)?;
+    fn run(&self, alloc: Global, job: u32) -> Result<TileCodes, JobFault> {
+        let window = CountedWindow::new(alloc, self.input, job)?;
         let codes = window.codes(alloc)?;
         Ok(codes)
     }
+}
+
+/// What the last round finds.
+#[derive(Drop)]
+pub(crate) enum Checked {
+    /// The codes of each tile; the counts are the steps.
+    Codes(Vec<Vec<Option<Code>>>),
+    /// A count that is lower than the cell's count so far.
+    TooHigh(Change),
+}
+
+/// Returns the lists of codes of all tiles, or the first lower count.
+fn check_all(alloc: Global, outs: Vec<TileCodes>) -> Result<Checked, AllocError>
+    ensures { IfOk result (AreAll outs.items) }
+{
+    let mut lists = Vec::with_capacity(alloc, outs.len())?;
+    for out in outs {
+        match out {
+            TileCodes::Codes(list) => lists.push(list)?,
+            TileCodes::TooHigh(change) => return Ok(Checked::TooHigh(change)),
+        }
+    }
+    Ok(Checked::Codes(lists))
+}
+
+/// Finds the codes of all tiles in one round, and whether a count is too high.
+pub(crate) fn last_round<R: Threads + Wait + Sync, G: Gate + Sync>(
+    runner: &Runner<'_, R, G>,
+    input: &RoundInput<'_>,
+) -> Result<Checked, JobFault>
+    ensures checked { IfOk result (IsChecked input.now) }
+    ensures workers { RefusesWorkers runner.now.workers result }
+{
+    let outs = runner.run(&LastRound { input }, input.tiling.tiles())?;
+    let found = check_all(runner.alloc, outs)?;
+    Ok(found)
 }

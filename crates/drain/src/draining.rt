@@ -3,21 +3,23 @@
 ghost use Rattle.std.specs.Prelude.{◌≡◌, [], IfOk, OnOk, length};
 ghost use Rattle.terrain.specs.Raster.{Terrain, IsTerrain};
 ghost use Rattle.terrain.specs.Sinks.{with_sinks};
-ghost use Rattle.tiles.specs.Cutting.{Cuts, terrain_of};
+ghost use Rattle.tiles.specs.Cutting.{Cuts, IsCutting, terrain_of};
 ghost use Rattle.tile_jobs.specs.Fault.{RefusesWorkers};
 ghost use Rattle.drain.specs.Beginning.{HasZeros};
 ghost use Rattle.drain.specs.Rounds.{AreWalked, IsRound};
 ghost use Rattle.tiles.specs.Windows.{area_of};
 ghost use Rattle.drain.specs.Search.{AreAtMostNoCount, IsRoundOf};
+ghost use Rattle.drain.specs.Counts.{AreCoded};
 ghost use Rattle.drain.specs.Steps.{AreSteps, DrainsAtOnce};
 ghost use Rattle.drain.specs.Directions.{AreDirections};
 ghost use Rattle.drainage.specs.Drained.{AllFlowEnds, directed_of};
 
-use crate::codes::CodesInput;
+use crate::codes::{Checked, last_round};
 use crate::first::first_round;
-use crate::rounds::run_rounds;
+use crate::input::RoundInput;
+use crate::rounds::{changes_at_rims, put, run_rounds};
 use crate::{loading, search};
-use drainage::{Directions, Filled, StepCount};
+use drainage::{Code, Directions, Filled, StepCount};
 use std::alloc::{AllocError, Global};
 use std::snapshot::Snapshot;
 use std::sync::Wait;
@@ -26,6 +28,13 @@ use terrain::{Cell, NoMemory};
 use tile_jobs::{Gate, JobFault};
 use tile_maps::Runner;
 use tiles::{TileView, Tiling, Window};
+
+/// The steps of all cells in row order, and the codes of each tile's cells.
+#[derive(Drop)]
+struct StepsAndCodes {
+    steps: Vec<StepCount>,
+    codes: Vec<Vec<Option<Code>>>,
+}
 
 /// Returns a tile's counts after one round, in row order.
 /// `window` has the tile and the places around it; `old` has a count for each of these.
@@ -74,26 +83,38 @@ pub fn flat_steps(
     Ok(loading::step_numbers(alloc, &counts)?)
 }
 
-/// Returns the steps of each data cell: runs rounds until one changes no count.
+/// Counts steps by rounds until one changes no count; returns them with the codes of each tile.
+///
+/// Each round is one job of each tile. The last one finds the codes, and that no count is too high.
 fn count_steps<R: Threads + Wait + Sync, G: Gate + Sync>(
     runner: &Runner<'_, R, G>,
     filled: &Filled,
     tiling: &Tiling,
-) -> Result<Vec<StepCount>, JobFault>
+) -> Result<StepsAndCodes, JobFault>
     requires { Cuts tiling.now filled.now.terrain }
-    ensures steps { IfOk result (λ s. AreSteps filled.now.terrain s.items) }
-    ensures lawful { OnOk result (IsTerrain filled.now.terrain) }
+    ensures steps { IfOk result (λ s. AreSteps filled.now.terrain s.steps.items) }
+    ensures codes { IfOk result (λ s. AreCoded filled.now.terrain tiling.now s.codes.items) }
+    ensures lawful { OnOk result (IsTerrain filled.now.terrain × IsCutting tiling.now) }
     ensures workers { RefusesWorkers runner.now.workers result }
 {
     let grid = filled.grid();
-    let first = first_round(runner, grid, tiling)?;
-    let steps = run_rounds(runner, tiling, grid.cells(), first)?;
-    Ok(steps)
+    let mut steps = first_round(runner, grid, tiling)?;
+    let mut changes = changes_at_rims(runner.alloc, &RoundInput::new(grid, tiling, &steps))?;
+    loop {
+        steps = run_rounds(runner, grid, tiling, steps, changes)?;
+        let change = match last_round(runner, &RoundInput::new(grid, tiling, &steps))? {
+            Checked::Codes(codes) => return Ok(StepsAndCodes { steps, codes }),
+            Checked::TooHigh(change) => change,
+        };
+        put(grid, &mut steps, change);
+        changes = Vec::new(runner.alloc);
+        RoundInput::new(grid, tiling, &steps).push_around(change.place, &mut changes)?;
+    }
 }
 
 /// Returns the D8 direction of each data cell of a filled grid.
 ///
-/// Rounds count the steps; then a job for each tile finds the codes of its cells.
+/// Rounds count the steps, each by one job of each tile. The last round finds the codes.
 ///
 /// # Errors
 ///
@@ -128,13 +149,11 @@ pub fn directions<R: Threads + Wait + Sync, G: Gate + Sync>(
         workers,
         gate,
     };
-    let grid = filled.grid();
-    let steps = count_steps(&runner, filled, tiling)?;
+    let StepsAndCodes { steps, codes } = count_steps(&runner, filled, tiling)?;
     let reported = Snapshot::of(&steps);
-    let codes = runner.map_tiles(CodesInput {
-        grid,
-        steps,
-        tiling,
-    })?;
-    Ok(Directions::new(grid, reported, codes))
+    drop(steps);
+    match tiling.put_back(alloc, &codes) {
+        Ok(codes) => Ok(Directions::new(filled.grid(), reported, codes)),
+        Err(_) => Err(JobFault::Memory),
+    }
 }

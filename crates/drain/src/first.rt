@@ -2,13 +2,10 @@
 //!
 //! Module `beginning` finds the tile's cells that drain at once.
 //! `draining::round` searches from them, by module `search`.
-ghost use Rattle.std.specs.Prelude.{ℕ, List, Option, IfOk};
+ghost use Rattle.std.specs.Prelude.{IfOk};
 ghost use Rattle.tile_jobs.specs.Fault.{RefusesWorkers};
 ghost use Rattle.tiles.specs.Cutting.{Cuts, IsCutting};
-ghost use Rattle.drain.specs.Beginning.{AreInitialCounts};
-ghost use Rattle.drain.specs.Rounds.{HaveSameZeros, AreCounting};
-ghost use Rattle.drain.specs.Lowering.{IsRelaxedInside, count_of};
-ghost use Rattle.drain.specs.Entering.{sinkless_terrain};
+ghost use Rattle.drain.specs.Counts.{AreCounts};
 
 use crate::beginning::begun_counts;
 use crate::draining::round;
@@ -33,16 +30,16 @@ impl<'a> Work for FirstRound<'a> {
     ghost use Rattle.std.specs.Prelude.{ℕ, List, Option};
     ghost use Rattle.tiles.specs.Cutting.{tile_count};
     ghost use Rattle.drain.specs.Beginning.{AreInitialCounts};
-    ghost use Rattle.drain.specs.Rounds.{HasCountZero, IsRoundInside};
-    ghost use Rattle.drain.specs.Entering.{sinkless_terrain};
+    ghost use Rattle.drain.specs.Rounds.{IsRoundInside};
+    ghost use Rattle.drain.specs.Steps.{DrainsAtOnce};
 
     type Out = Vec<StepCount>;
 
     ghost most = { λ f. tile_count f.tiling.now };
 
-    ghost gives = { λ f tile out. let t = sinkless_terrain f.tiling.now f.grid.now.terrain.cells in
-        (begun : List (Option ℕ)) → AreInitialCounts f.grid.now.terrain begun →
-        IsRoundInside (HasCountZero t begun) t f.tiling.now tile begun out.items };
+    ghost gives = { λ f tile out. let t = f.grid.now.terrain in
+        (begun : List (Option ℕ)) → AreInitialCounts t begun →
+        IsRoundInside (DrainsAtOnce t) t f.tiling.now tile begun out.items };
 
     fn run(&self, alloc: Global, job: u32) -> Result<Vec<StepCount>, JobFault> {
         let levels = self.tiling.view(self.grid.cells(), job);
@@ -61,14 +58,7 @@ pub(crate) fn first_round<R: Threads + Wait + Sync, G: Gate + Sync>(
 ) -> Result<Vec<StepCount>, JobFault>
     requires { Cuts tiling.now grid.now.terrain }
     ensures lawful { IfOk result (λ _. IsCutting tiling.now) }
-    ensures counting { IfOk result
-        (λ v. AreCounting (sinkless_terrain tiling.now grid.now.terrain.cells) v.items) }
-    ensures begun { IfOk result (λ v. (begun : List (Option ℕ)) ×
-        AreInitialCounts grid.now.terrain begun
-        × HaveSameZeros (sinkless_terrain tiling.now grid.now.terrain.cells) begun v.items) }
-    ensures even { IfOk result (λ v. (tile : ℕ) →
-        IsRelaxedInside (sinkless_terrain tiling.now grid.now.terrain.cells) tiling.now tile
-        (count_of v.items)) }
+    ensures counts { IfOk result (λ v. AreCounts grid.now.terrain v.items) }
     ensures workers { RefusesWorkers runner.now.workers result }
 {
     let lists = runner.run(&FirstRound { grid, tiling }, tiling.tiles())?;

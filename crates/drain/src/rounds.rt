@@ -1,395 +1,236 @@
-//! Later rounds: they carry counts of steps over rims until a round changes nothing.
+//! Later rounds: they carry counts of steps over rims while that lowers any.
 //!
-//! An entry is a lower count that follows from a neighbour in another tile. The first few later
-//! rounds, and those with many or no entries, run as jobs. Other rounds run on the caller's thread.
-ghost use Rattle.std.specs.Prelude.{◌≡◌, ◌≢◌, ℕ, ◌*◌, ◌<◌, ◌≤◌, ◌↔◌, [], true, false, IsTrue, Vec, length, vec_len, OnOk, IfOk};
+//! Each round is one job of each tile. Only soundness is proved of them: each count is the length
+//! of a walk. That no count is too high shows the round that finds the codes (module `codes`).
+ghost use Rattle.std.specs.Prelude.{◌≡◌, ◌<◌, ◌≤◌, ℕ, true, All, length, IfOk, OnOk};
+ghost use Rattle.terrain.specs.Raster.{Terrain};
 ghost use Rattle.tile_jobs.specs.Fault.{RefusesWorkers};
-ghost use Rattle.tiles.specs.Cutting.{IsCutting, IsWithin, tile_of_place};
-ghost use Rattle.std.specs.declared.alloc.Global.{Global};
-ghost use Rattle.drain.specs.declared.changes.Change.{Change};
-ghost use Rattle.drain.specs.Rounds.{AreCounting, AreFinal};
-ghost use Rattle.drain.specs.Lowering.{IsAmong, IsRelaxedInside, count_of};
-ghost use Rattle.drain.specs.Entering.{sinkless_terrain, AreEntered};
-ghost use Rattle.drain.specs.Rounding.{AreRoundResults, ArePut, IsGiven, IsRounding, IsNext, IsResult, count_sum};
+ghost use Rattle.tiles.specs.Cutting.{Cuts, IsCutting};
+ghost use Rattle.drain.specs.Counts.{AreChanges, AreCounts, AreFound, IsChange, IsCounted, count_sum};
 
+use crate::blocks::{Blocks, Shares};
 use crate::changes::{Change, Run, TileEntry};
-use crate::entering::RoundInput;
-use crate::lowering::lower_tile;
-use crate::runs::{run_end, runs_of, sort};
+use crate::input::RoundInput;
+use crate::lowering::{Found, search};
 use drainage::StepCount;
 use std::alloc::{AllocError, Global};
 use std::marker::Model;
 use std::sync::Wait;
 use std::thread::Threads;
-use terrain::Cell;
+use terrain::Grid;
 use tile_jobs::{Gate, JobFault, Work};
 use tile_maps::Runner;
 use tiles::Tiling;
 
-/// The number of rounds, from the first later one, that always run as jobs.
-const FULL_ROUNDS: u32 = 4;
-
-/// The number of entries below which starting threads takes longer than a round.
-const FEW_ENTRIES: usize = 256;
-
-/// Input of a round's jobs: heights, counts so far, and the entries of each tile.
+/// Input of a round's jobs: what all rounds read, and each tile's run of the entries.
 #[derive(Drop)]
 struct Round<'a> {
-    tiling: &'a Tiling,
-    levels: &'a [Cell],
-    steps: &'a [StepCount],
+    input: &'a RoundInput<'a>,
+    blocks: Blocks,
     entries: &'a [TileEntry],
     runs: &'a [Run],
 }
 
 impl<'a> Model for Round<'a> {
-    ghost use Rattle.drain.specs.Rounding.{Jobs, AreJobs};
+    ghost use Rattle.drain.specs.Counts.{Jobs, AreJobs};
 
     ghost Value = { Jobs };
 
     ghost view = { λ r. record {
-      rounding = record {
-        cutting = r.tiling.now;
-        levels = r.levels.now;
-        steps = r.steps.now;
-        entries = r.entries.now;
-      };
+      counted = r.input.now;
+      entries = r.entries.now;
       runs = r.runs.now;
     } };
 
     ghost invariant = { λ r. AreJobs (record {
-      rounding = record {
-        cutting = r.tiling.now;
-        levels = r.levels.now;
-        steps = r.steps.now;
-        entries = r.entries.now;
-      };
-      runs =
-          r.runs.now;
+      counted = r.input.now;
+      entries = r.entries.now;
+      runs = r.runs.now;
     }) };
 }
 
 impl<'a> Work for Round<'a> {
     ghost use Rattle.std.specs.Prelude.{length};
-    ghost use Rattle.drain.specs.Rounding.{IsResult};
+    ghost use Rattle.drain.specs.Counts.{AreChanges};
 
-    type Out = Vec<Change>;
+    type Out = Found;
 
     ghost most = { λ r. length r.runs };
 
-    ghost gives = { λ r job out. IsResult r job out.items };
+    ghost gives = { λ r _ found. AreChanges r.counted.terrain r.counted.steps found.changes.items };
 
-    fn run(&self, alloc: Global, job: u32) -> Result<Vec<Change>, JobFault> {
+    fn run(&self, alloc: Global, job: u32) -> Result<Found, JobFault> {
         let run = self.runs[job as usize];
         if run.from == run.end {
-            return Ok(Vec::new(alloc));
+            return Ok(Found {
+                changes: Vec::new(alloc),
+                spread: 0,
+            });
         }
-        let input = RoundInput {
-            tiling: self.tiling,
-            levels: self.levels,
-            steps: self.steps,
-        };
-        let changes = lower_tile(alloc, &input, self.entries, run)?;
-        Ok(changes)
+        let place = self.entries[run.from].change.place;
+        let block = self.input.block(self.blocks, place);
+        let found = search(alloc, self.input, block, self.entries, run)?;
+        Ok(found)
     }
 }
 
-/// Lowers the count at `change.place` to `change.count` if that is less.
+/// Lowers the count at `change.place` to `change.count` if that is less; returns whether it was.
 #[inline(always)]
-fn put(tiling: &Tiling, steps: &mut [StepCount], change: Change)
-    requires steps { length steps.old ≡ tiling.now.cols * tiling.now.rows }
-    requires place { IsWithin tiling.now change.place }
-    ensures { ArePut tiling.now.cols steps.old steps.new (λ x. x ≡ change) }
+pub(crate) fn put(grid: &Grid, steps: &mut [StepCount], change: Change) -> bool
+    requires counts { AreCounts grid.now.terrain steps.old }
+    requires change { IsCounted grid.now.terrain change }
+    ensures counts { AreCounts grid.now.terrain steps.new }
+    ensures low { count_sum steps.new ≤ count_sum steps.old }
+    ensures put { result ≡ true → count_sum steps.new < count_sum steps.old }
+    ensures less { IsChange grid.now.terrain steps.old change →
+        count_sum steps.new < count_sum steps.old }
 {
-    let index = change.place.index_in(tiling.cols());
-    if change.count < steps[index].number() {
-        steps[index] = StepCount::of(change.count);
+    let index = change.place.index_in(grid.cols());
+    if change.count >= steps[index].number() {
+        return false;
     }
+    steps[index] = StepCount::of(change.count);
+    true
 }
 
-/// Applies one tile's changes to the counts of the grid, each if it lowers a count.
-fn put_changes(tiling: &Tiling, steps: &mut [StepCount], changes: &[Change])
-    requires steps { length steps.old ≡ tiling.now.cols * tiling.now.rows }
-    requires changes { (x : Change) → IsAmong changes.now x → IsWithin tiling.now x.place }
-    ensures { ArePut tiling.now.cols steps.old steps.new (IsAmong changes.now) }
+/// Puts the changes of one job; returns whether one lowered a count.
+fn put_changes(grid: &Grid, steps: &mut [StepCount], changes: &[Change]) -> bool
+    requires counts { AreCounts grid.now.terrain steps.old }
+    requires changes { All (IsCounted grid.now.terrain) changes.now }
+    ensures counts { AreCounts grid.now.terrain steps.new }
+    ensures low { count_sum steps.new ≤ count_sum steps.old }
+    ensures put { result ≡ true → count_sum steps.new < count_sum steps.old }
 {
+    let mut has_lowered = false;
     for change in changes {
-        put(tiling, steps, *change);
+        if put(grid, steps, *change) {
+            has_lowered = true;
+        }
     }
+    has_lowered
 }
 
-/// Applies a round's changes to the counts of the grid, each if it lowers a count.
-fn put_all(tiling: &Tiling, steps: &mut [StepCount], outs: &[Vec<Change>])
-    requires steps { length steps.old ≡ tiling.now.cols * tiling.now.rows }
-    requires changes { (x : Change) → IsGiven outs.now x → IsWithin tiling.now x.place }
-    ensures { ArePut tiling.now.cols steps.old steps.new (IsGiven outs.now) }
+/// Puts the changes of all jobs, of each cell the least; returns whether one lowered a count.
+fn put_all(grid: &Grid, steps: &mut [StepCount], outs: &[Found]) -> bool
+    requires counts { AreCounts grid.now.terrain steps.old }
+    requires changes { AreFound grid.now.terrain outs.now }
+    ensures counts { AreCounts grid.now.terrain steps.new }
+    ensures low { count_sum steps.new ≤ count_sum steps.old }
+    ensures put { result ≡ true → count_sum steps.new < count_sum steps.old }
 {
-    for changes in outs {
-        put_changes(tiling, steps, changes);
+    let mut has_lowered = false;
+    for found in outs {
+        if put_changes(grid, steps, &found.changes) {
+            has_lowered = true;
+        }
     }
+    has_lowered
 }
 
-/// Returns the entries into adjacent tiles, from the rims of all tiles.
-fn entries_of_all(alloc: Global, input: &RoundInput<'_>) -> Result<Vec<TileEntry>, AllocError>
-    requires { AreCounting (sinkless_terrain input.now.tiling.now input.now.levels.now)
-        input.now.steps.now }
-    ensures { IfOk result (λ v. AreEntered
-        (sinkless_terrain input.now.tiling.now input.now.levels.now) input.now.tiling.now
-        input.now.steps.now
-        (λ p q. IsWithin input.now.tiling.now q
-        × (tile_of_place input.now.tiling.now p ≢ tile_of_place input.now.tiling.now q)) []
-        v.items) }
-{
-    let mut entries = Vec::new(alloc);
-    for tile in 0..input.tiling.tiles() {
-        input.note_rim(tile, &mut entries)?;
-    }
-    Ok(entries)
-}
-
-/// Returns the entries into adjacent tiles, from the cells of the changes `outs`.
-fn entries_of_changed(
+/// Returns the lower counts that follow from the rims of all tiles.
+pub(crate) fn changes_at_rims(
     alloc: Global,
     input: &RoundInput<'_>,
-    outs: &[Vec<Change>],
-) -> Result<Vec<TileEntry>, AllocError>
-    requires counting { AreCounting (sinkless_terrain input.now.tiling.now input.now.levels.now)
-        input.now.steps.now }
-    requires changes { (x : Change) → IsGiven outs.now x → IsWithin input.now.tiling.now x.place }
-    ensures { IfOk result (λ v. AreEntered
-        (sinkless_terrain input.now.tiling.now input.now.levels.now) input.now.tiling.now
-        input.now.steps.now
-        (λ p q. (x : Change) × IsGiven outs.now x × (x.place ≡ q)
-        × (tile_of_place input.now.tiling.now p ≢ tile_of_place input.now.tiling.now q)) []
-        v.items) }
+) -> Result<Vec<Change>, AllocError>
+    ensures { IfOk result (λ v. AreChanges input.now.terrain input.now.steps v.items) }
 {
-    let mut entries = Vec::new(alloc);
-    for changes in outs {
-        input.note_changes(changes, &mut entries)?;
+    let mut changes = Vec::new(alloc);
+    for tile in 0..input.tiling.tiles() {
+        input.push_around_rim(tile, &mut changes)?;
     }
-    Ok(entries)
+    Ok(changes)
 }
 
-fn has_changes(outs: &[Vec<Change>]) -> bool
-    ensures some { result ≡ true → (x : Change) × IsGiven outs.now x }
-    ensures none { result ≡ false → (x : Change) → IsGiven outs.now x → ⊥ }
+/// Appends the lower counts that follow from what one job found.
+/// Changes that the search has spread from lower counts in other blocks alone.
+fn push_after(
+    input: &RoundInput<'_>,
+    blocks: Blocks,
+    found: &Found,
+    changes: &mut Vec<Change>,
+) -> Result<(), AllocError>
+    requires found { All (IsCounted input.now.terrain) found.now.changes.items }
+    requires old { AreChanges input.now.terrain input.now.steps changes.old.items }
+    ensures { OnOk result (AreChanges input.now.terrain input.now.steps changes.new.items) }
 {
-    for changes in outs {
-        if !changes.is_empty() {
-            return true;
+    for (index, change) in found.changes.iter().enumerate() {
+        let is_last = input.count(change.place) == change.count;
+        if is_last && (index >= found.spread || blocks.has_on_rim(change.place)) {
+            input.push_around(change.place, changes)?;
         }
     }
-    false
+    Ok(())
 }
 
-/// Runs a round as jobs, one for each tile, and returns the changes of each.
-/// A job without entries returns at once.
-fn changes_by_jobs<R: Threads + Wait + Sync, G: Gate + Sync>(
+/// Returns the lower counts that follow from what the jobs of a round found.
+fn changes_after(
+    alloc: Global,
+    input: &RoundInput<'_>,
+    blocks: Blocks,
+    outs: &[Found],
+) -> Result<Vec<Change>, AllocError>
+    requires { AreFound input.now.terrain outs.now }
+    ensures { IfOk result (λ v. AreChanges input.now.terrain input.now.steps v.items) }
+{
+    let mut changes = Vec::new(alloc);
+    for found in outs {
+        push_after(input, blocks, found, &mut changes)?;
+    }
+    Ok(changes)
+}
+
+/// Runs a round, one job of each tile, and returns what each found.
+fn found_by_jobs<R: Threads + Wait + Sync, G: Gate + Sync>(
     runner: &Runner<'_, R, G>,
     input: &RoundInput<'_>,
-    entries: &[TileEntry],
-) -> Result<Vec<Vec<Change>>, JobFault>
-    requires rounding { IsRounding (record {
-      cutting = input.now.tiling.now;
-      levels = input.now.levels.now;
-      steps = input.now.steps.now;
-      entries = entries.now;
-    }) }
+    blocks: Blocks,
+    changes: &[Change],
+) -> Result<Vec<Found>, JobFault>
+    requires changes { AreChanges input.now.terrain input.now.steps changes.now }
     requires workers { (1 ≤ runner.now.workers) × (runner.now.workers ≤ 64) }
-    ensures answered { IfOk result (λ v.
-        AreRoundResults (record {
-          cutting = input.now.tiling.now;
-          levels = input.now.levels.now;
-          steps = input.now.steps.now;
-          entries = entries.now;
-        }) v.items) }
+    ensures found { IfOk result (λ v. AreFound input.now.terrain v.items) }
     ensures workers { RefusesWorkers runner.now.workers result }
 {
-    let tiles = input.tiling.tiles();
-    let runs = runs_of(runner.alloc, entries, tiles)?;
+    let shares = Shares::of_changes(runner.alloc, input, blocks, changes)?;
     let round = Round {
-        tiling: input.tiling,
-        levels: input.levels,
-        steps: input.steps,
-        entries,
-        runs: &runs,
+        input,
+        blocks,
+        entries: &shares.entries,
+        runs: &shares.runs,
     };
-    let outs = runner.run(&round, tiles)?;
+    let outs = runner.run(&round, input.tiling.tiles())?;
     Ok(outs)
 }
 
-/// Runs a round on the caller's thread; returns the changes of tiles with entries.
-fn changes_here(
-    alloc: Global,
-    input: &RoundInput<'_>,
-    entries: &[TileEntry],
-) -> Result<Vec<Vec<Change>>, AllocError>
-    requires { IsRounding (record {
-      cutting = input.now.tiling.now;
-      levels = input.now.levels.now;
-      steps = input.now.steps.now;
-      entries = entries.now;
-    }) }
-    ensures { IfOk result (λ v. AreRoundResults
-        (record {
-          cutting = input.now.tiling.now;
-          levels = input.now.levels.now;
-          steps = input.now.steps.now;
-          entries = entries.now;
-        }) v.items) }
-{
-    let mut outs = Vec::new(alloc);
-    let mut from = 0;
-    while from < entries.len() {
-        let tile = entries[from].tile;
-        let end = run_end(entries, tile, from);
-        let changes = lower_tile(alloc, input, entries, Run { tile, from, end })?;
-        outs.push(changes)?;
-        from = end;
-    }
-    Ok(outs)
-}
-
-/// The state between rounds: counts so far, and entries sorted by tile.
-#[derive(Drop)]
-struct RoundState<'a> {
-    tiling: &'a Tiling,
-    levels: &'a [Cell],
-    steps: Vec<StepCount>,
-    entries: Vec<TileEntry>,
-}
-
-impl<'a> RoundState<'a> {
-    ghost use Rattle.drain.specs.Rounding.{rounding_of};
-
-    /// Applies a round's changes to the counts and finds the next round's entries.
-    fn put_round(&mut self, alloc: Global, outs: &[Vec<Change>]) -> Result<(), AllocError>
-        requires rounding { IsRounding (rounding_of self.old) }
-        requires answered { AreRoundResults (rounding_of self.old) outs.now }
-        requires some { (x : Change) × IsGiven outs.now x }
-        ensures next { OnOk result (IsNext (rounding_of self.old) (rounding_of self.new)) }
-        ensures less { OnOk result
-            (count_sum (rounding_of self.new) < count_sum (rounding_of self.old)) }
-    {
-        put_all(self.tiling, &mut self.steps, outs);
-        let input = RoundInput {
-            tiling: self.tiling,
-            levels: self.levels,
-            steps: &self.steps,
-        };
-        let mut entries = entries_of_changed(alloc, &input, outs)?;
-        sort(&mut entries)?;
-        self.entries = entries;
-        Ok(())
-    }
-
-    /// Runs one round as jobs over all tiles; returns whether the round changed a count.
-    fn full_round<R: Threads + Wait + Sync, G: Gate + Sync>(
-        &mut self,
-        runner: &Runner<'_, R, G>,
-    ) -> Result<bool, JobFault>
-        requires rounding { IsRounding (rounding_of self.old) }
-        requires workers { (1 ≤ runner.now.workers) × (runner.now.workers ≤ 64) }
-        ensures next { OnOk result (IsNext (rounding_of self.old) (rounding_of self.new)) }
-        ensures less { IfOk result (λ changed. changed ≡ true →
-            count_sum (rounding_of self.new) < count_sum (rounding_of self.old)) }
-        ensures last { IfOk result
-            (λ changed. changed ≡ false → length self.new.entries.items ≡ 0) }
-        ensures workers { RefusesWorkers runner.now.workers result }
-    {
-        let outs = {
-            let input = RoundInput {
-                tiling: self.tiling,
-                levels: self.levels,
-                steps: &self.steps,
-            };
-            changes_by_jobs(runner, &input, &self.entries)?
-        };
-        if !has_changes(&outs) {
-            return Ok(false);
-        }
-        self.put_round(runner.alloc, &outs)?;
-        Ok(true)
-    }
-
-    /// Runs one round on the caller's thread, over the tiles that have entries.
-    fn round_here(&mut self, alloc: Global) -> Result<(), AllocError>
-        requires rounding { IsRounding (rounding_of self.old) }
-        requires some { 0 < vec_len self.old.entries }
-        ensures next { OnOk result (IsNext (rounding_of self.old) (rounding_of self.new)) }
-        ensures less { OnOk result
-            (count_sum (rounding_of self.new) < count_sum (rounding_of self.old)) }
-    {
-        let outs = {
-            let input = RoundInput {
-                tiling: self.tiling,
-                levels: self.levels,
-                steps: &self.steps,
-            };
-            changes_here(alloc, &input, &self.entries)?
-        };
-        self.put_round(alloc, &outs)
-    }
-
-    /// Runs rounds on the caller's thread while 1 to `many - 1` entries remain.
-    fn run_small_rounds(&mut self, alloc: Global, many: usize) -> Result<(), AllocError>
-        requires { IsRounding (rounding_of self.old) }
-        ensures { OnOk result (IsNext (rounding_of self.old) (rounding_of self.new)) }
-    {
-        while !self.entries.is_empty() && self.entries.len() < many {
-            self.round_here(alloc)?;
-        }
-        Ok(())
-    }
-}
-
-/// Returns the fewest entries worth a round of jobs, after `rounds` rounds of jobs.
-/// Fewer, unless there are none, are left to the caller's thread. A winding flat takes thousands of
-/// rounds, each with an entry or two into a single tile.
-fn enough_entries(tiling: &Tiling, rounds: u32) -> usize {
-    if rounds < FULL_ROUNDS {
-        return 0;
-    }
-    FEW_ENTRIES.max(tiling.tiles() as usize)
-}
-
-/// Runs later rounds until one changes nothing, and returns the counts.
-/// After [`FULL_ROUNDS`] rounds of jobs, rounds with a few entries run on the caller's thread.
+/// Runs rounds from `changes` while they lower counts, and returns the counts.
 pub(crate) fn run_rounds<R: Threads + Wait + Sync, G: Gate + Sync>(
     runner: &Runner<'_, R, G>,
+    grid: &Grid,
     tiling: &Tiling,
-    levels: &[Cell],
-    steps: Vec<StepCount>,
+    mut steps: Vec<StepCount>,
+    mut changes: Vec<Change>,
 ) -> Result<Vec<StepCount>, JobFault>
-    requires size { length levels.now ≡ tiling.now.cols * tiling.now.rows }
-    requires lawful { IsCutting tiling.now }
-    requires counting { AreCounting (sinkless_terrain tiling.now levels.now) steps.items }
-    requires even { (tile : ℕ) → IsRelaxedInside (sinkless_terrain tiling.now levels.now) tiling.now
-        tile (count_of steps.items) }
+    requires cuts { Cuts tiling.now grid.now.terrain }
+    requires counts { AreCounts grid.now.terrain steps.items }
+    requires changes { AreChanges grid.now.terrain steps.items changes.items }
     requires workers { (1 ≤ runner.now.workers) × (runner.now.workers ≤ 64) }
-    ensures finished { IfOk result (λ s.
-        AreFinal tiling.now (sinkless_terrain tiling.now levels.now) steps.items s.items) }
+    ensures counts { IfOk result (λ s. AreCounts grid.now.terrain s.items) }
+    ensures low { IfOk result (λ s. count_sum s.items ≤ count_sum steps.items) }
     ensures workers { RefusesWorkers runner.now.workers result }
 {
-    let mut entries = entries_of_all(
-        runner.alloc,
-        &RoundInput {
-            tiling,
-            levels,
-            steps: &steps,
-        },
-    )?;
-    sort(&mut entries)?;
-    let mut state = RoundState {
-        tiling,
-        levels,
-        steps,
-        entries,
-    };
-    let mut rounds = 0u32;
-    while state.full_round(runner)? {
-        rounds = rounds.saturating_add(1);
-        state.run_small_rounds(runner.alloc, enough_entries(tiling, rounds))?;
+    while !changes.is_empty() {
+        let blocks = Blocks::of_round(tiling, changes.len());
+        let outs = found_by_jobs(
+            runner,
+            &RoundInput::new(grid, tiling, &steps),
+            blocks,
+            &changes,
+        )?;
+        if !put_all(grid, &mut steps, &outs) {
+            return Ok(steps);
+        }
+        let input = RoundInput::new(grid, tiling, &steps);
+        changes = changes_after(runner.alloc, &input, blocks, &outs)?;
     }
-    Ok(state.steps)
+    Ok(steps)
 }

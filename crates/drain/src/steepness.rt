@@ -116,7 +116,8 @@ fn square(drop: u64) -> u128
 pub(crate) fn steepest(level: Height, heights: &[Option<Height>; 8]) -> Option<usize>
     requires level { IsHeight level }
     requires heights { (way : ℕ) → way < 8 → IfSome (slice_index_or heights.now way None) IsHeight }
-    ensures { (a : Around) → HasHeights a level heights.now → IsSteepestWay a result }
+    ensures first { (a : Around) → HasHeights a level heights.now → IsSteepestWay a result }
+    ensures below { IfSome result (λ way. way < 8) }
 {
     let straight = greatest_fall(level, heights, 0);
     let across = greatest_fall(level, heights, 1);
@@ -157,7 +158,7 @@ fn heights_around(around: &Around) -> [Option<Height>; 8]
 
 /// Returns whether a neighbour has height `level` and `own - 1` steps.
 #[inline(always)]
-pub(crate) fn leads_on(level: Height, own: u32, height: Option<Height>, steps: Option<u32>) -> bool
+fn leads_on(level: Height, own: u32, height: Option<Height>, steps: Option<u32>) -> bool
     ensures { (a : Around) → a.level ≡ level → a.steps ≡ own →
         result ≡ leads_on a (option_zip height steps) }
 {

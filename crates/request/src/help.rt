@@ -25,7 +25,7 @@ only these: `relief-holes dem.tif whole.tif` leaves the sea and the raster's cor
 Out: heights in the units of the input, with D decimals (--scale D); NODATA as in the input.\n\n\
 Example, heights in metres with centimetres:\n  \
 relief fill --scale 2 < dem.asc > filled.asc",
-    usage: "relief fill [OPTIONS] [ROW,COL...] < dem.asc > map.asc",
+    usage: "relief fill [OPTIONS] [SINK_ROW,SINK_COL...] < dem.asc > map.asc",
 };
 
 pub(crate) const FLOW: MapHelp = MapHelp {
@@ -36,7 +36,7 @@ Out: E 1, SE 2, S 4, SW 8, W 16, NW 32, N 64, NE 128; 0 for an outlet, at the da
 keeps its water; -9999 for NODATA.\n\n\
 Example:\n  \
 relief flow < dem.asc > directions.asc",
-    usage: "relief flow [OPTIONS] [ROW,COL...] < dem.asc > map.asc",
+    usage: "relief flow [OPTIONS] [SINK_ROW,SINK_COL...] < dem.asc > map.asc",
 };
 
 pub(crate) const ACCUMULATE: MapHelp = MapHelp {
@@ -45,7 +45,7 @@ pub(crate) const ACCUMULATE: MapHelp = MapHelp {
 Out: whole numbers of cells from 0, the cell itself not counted; -9999 for NODATA.\n\n\
 Example, with four threads:\n  \
 relief accumulate --workers 4 < dem.asc > accumulation.asc",
-    usage: "relief accumulate [OPTIONS] [ROW,COL...] < dem.asc > map.asc",
+    usage: "relief accumulate [OPTIONS] [SINK_ROW,SINK_COL...] < dem.asc > map.asc",
 };
 
 pub(crate) const BASINS: MapHelp = MapHelp {
@@ -54,7 +54,7 @@ pub(crate) const BASINS: MapHelp = MapHelp {
 Out: whole numbers from 1, outlets numbered in row order from the north-west; -9999 for NODATA.\n\n\
 Example, with a quarry whose lowest cell is at row 120 and column 340:\n  \
 relief basins 120,340 < dem.asc > basins.asc",
-    usage: "relief basins [OPTIONS] [ROW,COL...] < dem.asc > map.asc",
+    usage: "relief basins [OPTIONS] [SINK_ROW,SINK_COL...] < dem.asc > map.asc",
 };
 
 pub(crate) const CATCHMENTS: MapHelp = MapHelp {

@@ -155,7 +155,7 @@ fn tiles_with_inner_cells_meet(rt: HostRuntime) {
 }
 
 /// Round 1 counts steps inside each tile, round 2 takes them into the other tile.
-/// Round 3 changes nothing. The fourth stage finds the codes.
+/// Round 3 changes nothing and finds the codes.
 #[test]
 fn tiles_meet_in_each_round(rt: HostRuntime) {
     let alloc = rt.alloc();
@@ -163,7 +163,7 @@ fn tiles_meet_in_each_round(rt: HostRuntime) {
     let level = filled(&rt, alloc, &corridors, &tiling, 1, &NoGate).expect(&rt, "levels");
     let gate = Meeting::new();
     assert!(rt; directions(&rt, alloc, &level, &tiling, 2, &gate).is_ok());
-    gate.expect(&rt, 4, 2, "directions");
+    gate.expect(&rt, 3, 2, "directions");
 }
 
 /// Each of three rounds has a job for each tile, though in round 2 only one tile gets steps.
@@ -174,7 +174,7 @@ fn idle_tiles_have_a_job_in_each_round(rt: HostRuntime) {
     let level = filled(&rt, alloc, &pit, &tiling, 1, &NoGate).expect(&rt, "levels");
     let gate = Meeting::new();
     assert!(rt; directions(&rt, alloc, &level, &tiling, 2, &gate).is_ok());
-    gate.expect(&rt, 4, 4, "directions");
+    gate.expect(&rt, 3, 4, "directions");
 }
 
 /// A grid of three tiles has three jobs at each of three stages, also with one worker.
@@ -267,12 +267,12 @@ fn tiles_of_catchments_meet(rt: HostRuntime) {
     gauges.push(Place { row: 2, col: 2 }).expect(&rt, "a gauge");
     let gate = Meeting::new();
     let out = gated_map(&rt, alloc, PIT_OF_TWO, 2, Map::Catchments { gauges }, &gate);
-    gate.expect_met(&rt, 8, "catchments");
+    gate.expect_met(&rt, 7, "catchments");
     let lines = "\n1 1 1 0\n1 1 1 1\n1 1 1 0\n0 1 0 0\n";
     expect_map(&rt, alloc, &out, 4, 4, lines);
 }
 
-/// A run has the stages of the calls that it makes: `filled` 2, `directions` 4, `accumulation` 2,
+/// A run has the stages of the calls that it makes: `filled` 2, `directions` 3, `accumulation` 2,
 /// `basins` 3, `viewshed` 2.
 #[test]
 fn tiles_meet_over_corridors(rt: HostRuntime) {
@@ -305,7 +305,7 @@ fn tiles_meet_over_corridors(rt: HostRuntime) {
         ),
         (
             Map::Flow,
-            6,
+            5,
             "
 0 0 2 4 4 1 0 16 0 0
 0 1 1 1 1 128 64 16 1 0
@@ -316,7 +316,7 @@ fn tiles_meet_over_corridors(rt: HostRuntime) {
         ),
         (
             Map::Accumulate,
-            8,
+            7,
             "
 0 0 0 0 0 0 12 0 0 0
 0 0 1 4 6 7 1 0 0 1
@@ -327,7 +327,7 @@ fn tiles_meet_over_corridors(rt: HostRuntime) {
         ),
         (
             Map::Basins,
-            9,
+            8,
             "
 1 2 3 3 3 3 3 3 4 5
 6 3 3 3 3 3 3 3 7 7

@@ -2,30 +2,27 @@
 from __future__ import annotations
 
 import os
+from dataclasses import replace
 from decimal import Decimal
 from fractions import Fraction
-from typing import Any, Dict, List, Optional, Type
+from typing import Any, Dict, List, Optional, Tuple, Type
 
-from qgis.core import (QgsFeatureRequest, QgsProcessing, QgsProcessingAlgorithm, QgsProcessingContext,
-                       QgsProcessingException, QgsProcessingFeedback, QgsProcessingLayerPostProcessorInterface,
-                       QgsProcessingParameterBand, QgsProcessingParameterDefinition, QgsProcessingParameterDistance,
+from qgis.core import (QgsProcessing, QgsProcessingAlgorithm, QgsProcessingContext, QgsProcessingException,
+                       QgsProcessingFeedback, QgsProcessingLayerPostProcessorInterface, QgsProcessingParameterBand,
+                       QgsProcessingParameterBoolean, QgsProcessingParameterDefinition, QgsProcessingParameterDistance,
                        QgsProcessingParameterEnum, QgsProcessingParameterExtent, QgsProcessingParameterFeatureSource,
                        QgsProcessingParameterField, QgsProcessingParameterNumber, QgsProcessingParameterPoint,
                        QgsProcessingParameterRasterDestination, QgsProcessingParameterRasterLayer,
-                       QgsProcessingParameterVectorDestination, QgsRasterLayer, QgsWkbTypes)
+                       QgsProcessingParameterVectorDestination, QgsRasterLayer)
 from qgis.PyQt.QtCore import QCoreApplication
 from qgis.PyQt.QtGui import QIcon
 
-from .library import errors, job, points, program, units
+from . import labels
+from .layers import raster_of
+from .library import arguments, edges, errors, job, points, program, typed, units, words
+from .places import check_change, files_of, points_of
 
 HERE = os.path.dirname(__file__)
-VOIDS = ["refuse them", "let water drain off there", "fill them by interpolation"]
-# The options of the command that errors name, by their labels in the dialogue.
-LABELS = {"--voids fill": f"'Holes inside the land: {VOIDS[2]}'",
-          "--voids drain": f"'Holes inside the land: {VOIDS[1]}'", "--decimals": "Decimals",
-          "--window COL,ROW,COLS,ROWS": "Extent", "--bounds WEST,SOUTH,EAST,NORTH": "Extent",
-          "--workers": "Threads", "--snap": "Move gauges", "--at X,Y": "a click", "--points LAYER": "a layer of points",
-          "--eye-field": "a field with the height of each eye", "--eye": "Height of the eyes"}
 
 
 class Style(QgsProcessingLayerPostProcessorInterface):
@@ -66,13 +63,15 @@ class MapAlgorithm(QgsProcessingAlgorithm):
     """What all maps have in common: raster, band, decimals, voids, extent, and points by layer or click."""
 
     INPUT, BAND, DECIMALS, VOIDS, EXTENT = "INPUT", "BAND", "DECIMALS", "VOIDS", "EXTENT"
-    POINTS, AT, OUTPUT, WORKERS = "POINTS", "AT", "OUTPUT", "WORKERS"
+    POINTS, AT, SKIP, OUTPUT, WORKERS = "POINTS", "AT", "SKIP", "OUTPUT", "WORKERS"
+    UNCERTAIN = "UNCERTAIN"
 
     map = ""
     title = ""
     about = ""
     kind = "Sinks"
     output = "Map"
+    layers: Tuple[str, ...] = (POINTS,)
 
     def createInstance(self) -> "MapAlgorithm":  # noqa: N802
         """A new algorithm of the same map."""
@@ -99,11 +98,14 @@ class MapAlgorithm(QgsProcessingAlgorithm):
     def initAlgorithm(self, configuration: Optional[Dict[str, Any]] = None) -> None:  # noqa: N802
         """Defines the dialogue."""
         self.addParameter(QgsProcessingParameterRasterLayer(self.INPUT, tr("Heights")))
-        self.addParameter(QgsProcessingParameterBand(self.BAND, tr("Band"), 1, self.INPUT, True))
+        self.addParameter(QgsProcessingParameterBand(self.BAND, tr(labels.BAND), 1, self.INPUT, True))
         self.add_places()
-        self.addParameter(QgsProcessingParameterEnum(self.VOIDS, tr("Holes inside the land"), VOIDS, defaultValue=0))
+        self.addParameter(QgsProcessingParameterEnum(self.VOIDS, tr(labels.HOLES), labels.VOIDS, defaultValue=0))
         self._add_advanced()
         self.addParameter(QgsProcessingParameterRasterDestination(self.OUTPUT, tr(self.output)))
+        if self.map in edges.UNCERTAIN_MAPS:
+            self.addParameter(QgsProcessingParameterRasterDestination(
+                self.UNCERTAIN, tr(labels.UNCERTAIN), None, True, False))
 
     def add_places(self) -> None:
         """Defines what is asked of places: a layer, a click."""
@@ -112,12 +114,14 @@ class MapAlgorithm(QgsProcessingAlgorithm):
         self.addParameter(QgsProcessingParameterPoint(self.AT, tr(f"{self.kind}: one by click"), optional=True))
 
     def _add_advanced(self) -> None:
-        number = QgsProcessingParameterNumber
-        decimals = number(self.DECIMALS, tr("Decimals of heights that are kept (empty: integers 0, floats 2)"),
+        number, most = QgsProcessingParameterNumber, arguments.MOST_WORKERS
+        all_cores = min(os.cpu_count() or 1, most)
+        decimals = number(self.DECIMALS, tr(f"{labels.DECIMALS} (empty: integers 0, floats 2)"),
                           number.Integer, None, True, 0, units.MOST_DECIMALS)
-        workers = number(self.WORKERS, tr("Threads"), number.Integer, min(os.cpu_count() or 1, 64), False, 1, 64)
-        extent = QgsProcessingParameterExtent(self.EXTENT, tr("Extent to read (empty: all)"), optional=True)
-        for parameter in (decimals, extent, workers):
+        workers = number(self.WORKERS, tr(labels.THREADS), number.Integer, all_cores, False, 1, most)
+        extent = QgsProcessingParameterExtent(self.EXTENT, tr(f"{labels.EXTENT} (empty: all)"), optional=True)
+        skip = QgsProcessingParameterBoolean(self.SKIP, tr(labels.SKIP), False)
+        for parameter in (skip, decimals, extent, workers):
             parameter.setFlags(parameter.flags() | QgsProcessingParameterDefinition.FlagAdvanced)
             self.addParameter(parameter)
 
@@ -127,8 +131,9 @@ class MapAlgorithm(QgsProcessingAlgorithm):
         layer = self.parameterAsRasterLayer(parameters, self.INPUT, context)
         target = self.parameterAsOutputLayer(parameters, self.OUTPUT, context)
         try:
-            asked = job.Job(**self.job_words(parameters, context, layer, target))
-            caller = job.Caller(feedback.pushInfo, Bar(feedback), feedback.isCanceled, by_percent=True)
+            asked = self._job(parameters, context, layer, target)
+            caller = job.Caller(lambda line: feedback.pushInfo(in_labels(line)), Bar(feedback), feedback.isCanceled,
+                                by_percent=True)
             job.run(asked, program.Program.find(), caller)
         except errors.Cancelled:
             return {}
@@ -140,65 +145,58 @@ class MapAlgorithm(QgsProcessingAlgorithm):
 
     def results(self, asked: Any) -> Dict[str, Any]:
         """What the algorithm hands to Processing."""
-        return {self.OUTPUT: asked.target}
+        return {self.OUTPUT: asked.target, **({self.UNCERTAIN: asked.uncertain} if asked.uncertain else {})}
+
+    def _job(self, parameters: Dict[str, Any], context: QgsProcessingContext, layer: QgsRasterLayer,
+             target: str) -> Any:
+        """The job, with the command that makes its map again."""
+        raster = raster_of(layer, self.band(parameters, context))
+        asked = job.Job(source=raster.path, **self.job_words(parameters, context, layer, target))
+        command = typed.typed_command(replace(asked, source=raster.name))
+        return replace(asked, command=" && ".join(filter(None, (raster.command, command))))
+
+    def band(self, parameters: Dict[str, Any], context: QgsProcessingContext) -> int:
+        """The band of heights, from 1."""
+        return self.parameterAsInt(parameters, self.BAND, context) or 1
 
     def job_words(self, parameters: Dict[str, Any], context: QgsProcessingContext, layer: QgsRasterLayer,
                   target: str) -> Dict[str, Any]:
-        """The fields of the job."""
-        if layer is None or layer.providerType() != "gdal":
-            raise errors.InputError("the heights have to be a raster layer of a file that GDAL opens")
+        """The fields of the job but for its source and command."""
         words: Dict[str, Any] = {
-            "map": self.map, "source": layer.source(), "target": target,
-            "band": self.parameterAsInt(parameters, self.BAND, context) or 1,
+            "map": self.map, "target": target, "band": self.band(parameters, context),
             "voids": job.VOIDS[self.parameterAsEnum(parameters, self.VOIDS, context)],
             "workers": self.parameterAsInt(parameters, self.WORKERS, context),
             "places": self.points(parameters, context, layer, self.POINTS, self.AT),
-            "command": f"QGIS relief:{self.map}",
+            "skip": self.parameterAsBool(parameters, self.SKIP, context),
+            "also_read": [path for name in self.layers for path in files_of(self, parameters, name, context)],
         }
+        if self.map in edges.UNCERTAIN_MAPS:
+            words["uncertain"] = self.parameterAsOutputLayer(parameters, self.UNCERTAIN, context) or None
         if parameters.get(self.DECIMALS) not in (None, ""):
             words["decimals"] = self.parameterAsInt(parameters, self.DECIMALS, context)
         if parameters.get(self.EXTENT) not in (None, ""):
+            check_change(self.parameterAsExtentCrs(parameters, self.EXTENT, context), layer, context, "the extent")
             extent = self.parameterAsExtent(parameters, self.EXTENT, context, layer.crs())
             words["bounds"] = tuple(Fraction(units.decimal_of(number)) for number in (
                 extent.xMinimum(), extent.yMinimum(), extent.xMaximum(), extent.yMaximum()))
-        words.update(self._projection(layer))
         return words
-
-    def _projection(self, layer: QgsRasterLayer) -> Dict[str, Any]:
-        """The projection that the user gave a layer whose file names none."""
-        if not layer.crs().isValid() or layer.dataProvider().crs().isValid():
-            return {}
-        return {"projection": layer.crs().authid() or layer.crs().toWkt()}
 
     def points(self, parameters: Dict[str, Any], context: QgsProcessingContext, layer: QgsRasterLayer,
                points_name: str, click_name: str) -> List[Any]:
         """The points of a layer and of a click, in the projection of the raster."""
         found = []
         if click_name and parameters.get(click_name) not in (None, ""):
+            check_change(self.parameterAsPointCrs(parameters, click_name, context), layer, context, "the click")
             click = self.parameterAsPoint(parameters, click_name, context, layer.crs())
             found.append(points.Point("the click", units.decimal_of(click.x()), units.decimal_of(click.y())))
         source = self.parameterAsSource(parameters, points_name, context)
         if source is None:
             return found
-        field = self.eye_field(parameters, context)
-        request = QgsFeatureRequest().setDestinationCrs(layer.crs(), context.transformContext())
-        return found + [self._point(feature, field) for feature in source.getFeatures(request)]
+        return [*found, *points_of(source, self.eye_field(parameters, context), layer, context)]
 
     def eye_field(self, parameters: Dict[str, Any], context: QgsProcessingContext) -> str:
         """The field of eyes; empty: none."""
         return ""
-
-    def _point(self, feature: Any, field: str) -> Any:
-        name = f"feature {feature.id()}"
-        geometry = feature.geometry()
-        if geometry.isEmpty() or QgsWkbTypes.geometryType(geometry.wkbType()) != QgsWkbTypes.PointGeometry \
-                or geometry.constGet().partCount() != 1:
-            raise errors.InputError(f"{name} is no point")
-        point = next(geometry.vertices())
-        eye = None
-        if field:
-            eye = units.decimal_of(feature[field], f"the eye of {name}, {field}")
-        return points.Point(name, units.decimal_of(point.x()), units.decimal_of(point.y()), eye)
 
     def _ask_for_style(self, target: str, context: QgsProcessingContext) -> None:
         if context.willLoadLayerOnCompletion(target):
@@ -239,7 +237,7 @@ class Streams(MapAlgorithm):
     def add_places(self) -> None:
         """Adds the threshold."""
         number = QgsProcessingParameterNumber
-        self.addParameter(number(self.THRESHOLD, tr("Streams drain more cells than"), number.Integer, 1000, False, 0))
+        self.addParameter(number(self.THRESHOLD, tr(labels.THRESHOLD), number.Integer, 1000, False, 0))
         super().add_places()
 
     def job_words(self, parameters, context, layer, target):
@@ -257,6 +255,7 @@ class Basins(MapAlgorithm):
 class Catchments(MapAlgorithm):
     SNAP, SNAPPED, SINKS = "SNAP", "SNAPPED", "SINKS"
     map, title, output, kind = "catchments", "Catchments of gauges", "Catchments", "Gauges"
+    layers = (MapAlgorithm.POINTS, SINKS)
     about = ("Which gauge the water of each cell meets first, by the gauge's place in the list; 0: none. Nested gauges "
              "divide the land. A gauge beside the stream has a small catchment: let it move to the greatest "
              "accumulation. The log counts the cells that drain to each gauge first, and those of them that lie where "
@@ -266,7 +265,7 @@ class Catchments(MapAlgorithm):
         """Adds sinks and the way of gauges to the stream."""
         super().add_places()
         number = QgsProcessingParameterNumber
-        self.addParameter(number(self.SNAP, tr("Move gauges to the greatest accumulation within (cells)"),
+        self.addParameter(number(self.SNAP, tr(labels.SNAP),
                                  number.Integer, 0, False, 0))
         self.addParameter(QgsProcessingParameterFeatureSource(
             self.SINKS, tr("Sinks"), [QgsProcessing.TypeVectorPoint], optional=True))
@@ -296,15 +295,22 @@ class View(MapAlgorithm):
         """Adds eyes, targets and radius."""
         super().add_places()
         number = QgsProcessingParameterNumber
-        self.addParameter(number(self.EYE, tr("Height of the eyes above the ground, in the unit of heights"),
-                                 number.Double, 2.0, False, 0))
+        # A number that has to be given would begin with 0: one that may be left out begins empty, and is asked for.
+        self.addParameter(number(self.EYE, tr(f"{labels.EYE}, in the unit of heights"), number.Double, None, True, 0))
         self.addParameter(QgsProcessingParameterField(
-            self.EYE_FIELD, tr("Field with the height of each eye"), None, self.POINTS,
-            QgsProcessingParameterField.Numeric, False, True))
-        self.addParameter(number(self.TARGET, tr("Height of the targets above the ground"), number.Double, 0.0, False,
-                                 0))
+            self.EYE_FIELD, tr(labels.EYE_FIELD), None, self.POINTS, QgsProcessingParameterField.Numeric, False, True))
+        self.addParameter(number(self.TARGET, tr(labels.TARGET), number.Double, 0.0, False, 0))
         self.addParameter(QgsProcessingParameterDistance(
-            self.RADIUS, tr("Radius (empty: over the whole raster)"), None, self.INPUT, True, 0))
+            self.RADIUS, tr(f"{labels.RADIUS} (empty: over the whole raster)"), None, self.INPUT, True, 0))
+
+    def checkParameterValues(self, parameters: Dict[str, Any], context: QgsProcessingContext):  # noqa: N802
+        """Asks before the run for the one eye that each observer has: a click has none of a field."""
+        eye, field, click = (parameters.get(name) not in (None, "") for name in (self.EYE, self.EYE_FIELD, self.AT))
+        if click and not eye:
+            return False, tr(f"give '{labels.EYE}' for the click")
+        if not click and eye == field:
+            return False, tr(f"give '{labels.EYE}' or '{labels.EYE_FIELD}'{', not both' if eye else ''}")
+        return super().checkParameterValues(parameters, context)
 
     def eye_field(self, parameters: Dict[str, Any], context: QgsProcessingContext) -> str:
         """The field of eyes; empty: none."""
@@ -314,10 +320,10 @@ class View(MapAlgorithm):
     def job_words(self, parameters, context, layer, target):
         """Adds eyes, targets and radius."""
         words = super().job_words(parameters, context, layer, target)
-        words["eye"] = self._decimal(parameters, self.EYE, context)
         words["above"] = self._decimal(parameters, self.TARGET, context)
-        if parameters.get(self.RADIUS) not in (None, ""):
-            words["radius"] = self._decimal(parameters, self.RADIUS, context)
+        for field, name in (("eye", self.EYE), ("radius", self.RADIUS)):
+            if parameters.get(name) not in (None, ""):
+                words[field] = self._decimal(parameters, name, context)
         return words
 
     def _decimal(self, parameters: Dict[str, Any], name: str, context: QgsProcessingContext) -> Decimal:
@@ -333,9 +339,7 @@ ALGORITHMS: List[Type[MapAlgorithm]] = [Fill, Depth, Flow, Accumulate, Area, Str
 
 def in_labels(text: str) -> str:
     """An error's text with the labels of the dialogue in place of the command's options."""
-    for option, label in LABELS.items():
-        text = text.replace(option, label)
-    return text
+    return words.in_words(text, labels.VOCABULARY)
 
 
 def tr(text: str) -> str:

@@ -1,7 +1,8 @@
 """The package `relief_gis`: that of the system, or the one that the plugin's archive brings."""
 try:
-    from relief_gis import errors, job, points, program, styles, units
+    from relief_gis import arguments, edges, errors, gdal_errors, job, points, program, styles, typed, units, words
 except ImportError:
-    from .relief_gis import errors, job, points, program, styles, units
+    from .relief_gis import arguments, edges, errors, gdal_errors, job, points, program, styles, typed, units, words
 
-__all__ = ["errors", "job", "points", "program", "styles", "units"]
+__all__ = ["arguments", "edges", "errors", "gdal_errors", "job", "points", "program", "styles", "typed", "units",
+           "words"]

@@ -1,41 +1,76 @@
-use Rattle.std.proofs.Common.{List, ℤ, Option, sym, ap, subst}
-use Rattle.terrain.specs.Raster.{Raster, Terrain, IsTerrain}
-use Rattle.drain.specs.Beginning.{AreInitialCounts}
-use Rattle.drain.specs.Entering.{sinkless_terrain}
-use Rattle.drain.specs.Rounds.{AreFinal}
-use Rattle.drain.proofs.DrainedLemmas.{same_terrain}
-use Rattle.drain.proofs.Quiet.{final_is_steps}
+use Rattle.std.proofs.Common.{ℕ, List, Option, sym, subst, arith}
+use Rattle.std.proofs.lemmas.List.{with_items_is}
+use Rattle.terrain.specs.Raster.{Raster}
+use Rattle.tiles.specs.Cutting.{Cuts}
+use Rattle.drainage.specs.Filled.{IsFilled}
+use Rattle.drain.specs.Codes.{IsChecked}
+use Rattle.drain.specs.Counts.{AreChanges, AreCoded, AreCounts, Counted}
+use Rattle.drain.specs.Steps.{AreSteps}
+use Rattle.drain.specs.declared.codes.Checked.{Checked}
+use Rattle.drain.specs.declared.codes.Checked.TheVariants.{Codes}
+use Rattle.drain.proofs.Sound.{certified, coded}
 use Rattle.drain.proofs.draining.count_steps.Goals as goal
 
-pub returns-clause-steps : goal.returns-clause-steps
-returns-clause-steps g c =
-    let v = c.args.tiling.now in
-    let t = c.args.filled.now.terrain in
+pub loop-steps-init : goal.loop-steps-init
+loop-steps-init g c =
+    let t = c.grid-grid.result.now.terrain in
+    record {
+      counts = c.in_ok-steps.ensures.counts;
+      changes = subst (λ (ss : List (Option ℕ)). AreChanges t ss c.in_ok-changes.changes.items)
+          c.deref.ensures.value
+          (subst (λ (v : Counted). AreChanges v.terrain v.steps c.in_ok-changes.changes.items)
+          c.new.ensures.value c.in_ok-changes.ensures);
+    }
+
+pub returns-in-Codes-clause-steps : goal.returns-in-Codes-clause-steps
+returns-in-Codes-clause-steps g c =
+    let cut = c.args.tiling.now in
+    let steps = c.in_ok-steps-2.steps.items in
     let grid = c.grid-grid.result.now in
-    let steps = c.in_ok-steps.steps.items in
-    let first = c.in_ok-first.ensures.begun in
-    let here = subst (λ (xs : List (Option ℤ)). AreFinal v (sinkless_terrain v xs)
-    c.in_ok-first.first.items steps) c.cells.ensures.value c.in_ok-steps.ensures.finished in
-    let finished : AreFinal v (sinkless_terrain v grid.terrain.cells) first.0 steps = record {
-      cutting = here.cutting;
-      counting = here.counting;
-      same_sources = λ p. (
-        λ input. (here.same_sources p).0 ((first.2 p).0 input),
-        λ input. (first.2 p).1 ((here.same_sources p).1 input),
-      );
-      still = here.still;
-    } in
-    let same = same_terrain t v.cols v.rows grid.terrain.cells c.requires.0 c.requires.1
-    (ap (λ (x : Raster). x.terrain.cells) c.grid-grid.ensures.value) in
-    final_is_steps v t first.0 steps c.requires (subst (λ (x : Raster). IsTerrain x.terrain)
-    c.grid-grid.ensures.value c.cells.ensures.lawful.terrain) c.grid-grid.ensures.own
-    (subst (λ (x : Raster). AreInitialCounts x.terrain first.0) c.grid-grid.ensures.value first.1)
-    (subst (λ (x : Terrain). AreFinal v x first.0 steps) (sym same) finished)
+    let same = sym c.grid-grid.ensures.value in
+    let cuts = subst (λ (x : Raster). Cuts cut x.terrain) same c.requires in
+    let filled = subst (λ (x : Raster). IsFilled x.terrain x.terrain.cells) same c.grid-grid.ensures.own in
+    let found = subst (λ (f : Checked). IsChecked c.new-in-loop-steps.result f) c.in-Codes.is
+    c.in_ok-codes.ensures.checked in
+    let checked = subst (λ (ss : List (Option ℕ)). IsChecked
+    (let v : Counted = record { terrain = grid.terrain; cutting = cut; steps = ss } in v)
+    (Codes c.in-Codes.codes)) c.deref-in-loop-steps.ensures.value
+    (subst (λ (v : Counted). IsChecked v (Codes c.in-Codes.codes)) c.new-in-loop-steps.ensures.value found) in
+    let are = certified grid.terrain cut steps c.in-Codes.codes.items cuts c.in_ok-steps.ensures.lawful
+    checked.0 checked.1 c.in_ok-steps-2.ensures.counts c.new.ensures.lawful filled in
+    subst (λ (x : Raster). AreSteps x.terrain steps) c.grid-grid.ensures.value are
 
-pub run_rounds-requires-clause-counting : goal.run_rounds-requires-clause-counting
-run_rounds-requires-clause-counting g c =
-    rw c.cells.ensures.value (λ κs alive. c.in_ok-first.ensures.counting)
+pub returns-in-Codes-clause-codes : goal.returns-in-Codes-clause-codes
+returns-in-Codes-clause-codes g c =
+    let cut = c.args.tiling.now in
+    let steps = c.in_ok-steps-2.steps.items in
+    let grid = c.grid-grid.result.now in
+    let same = sym c.grid-grid.ensures.value in
+    let cuts = subst (λ (x : Raster). Cuts cut x.terrain) same c.requires in
+    let filled = subst (λ (x : Raster). IsFilled x.terrain x.terrain.cells) same c.grid-grid.ensures.own in
+    let found = subst (λ (f : Checked). IsChecked c.new-in-loop-steps.result f) c.in-Codes.is
+    c.in_ok-codes.ensures.checked in
+    let checked = subst (λ (ss : List (Option ℕ)). IsChecked
+    (let v : Counted = record { terrain = grid.terrain; cutting = cut; steps = ss } in v)
+    (Codes c.in-Codes.codes)) c.deref-in-loop-steps.ensures.value
+    (subst (λ (v : Counted). IsChecked v (Codes c.in-Codes.codes)) c.new-in-loop-steps.ensures.value found) in
+    let are = certified grid.terrain cut steps c.in-Codes.codes.items cuts c.in_ok-steps.ensures.lawful
+    checked.0 checked.1 c.in_ok-steps-2.ensures.counts c.new.ensures.lawful filled in
+    subst (λ (x : Raster). AreCoded x.terrain cut c.in-Codes.codes.items) c.grid-grid.ensures.value
+    (coded grid.terrain cut steps c.in-Codes.codes.items cuts c.in_ok-steps.ensures.lawful checked.0 checked.1
+    are)
 
-pub run_rounds-requires-clause-even : goal.run_rounds-requires-clause-even
-run_rounds-requires-clause-even g c =
-    rw c.cells.ensures.value (λ κs alive. c.in_ok-first.ensures.even)
+pub loop-steps-preserved : goal.loop-steps-preserved
+loop-steps-preserved g c =
+    let t = c.grid-grid.result.now.terrain in
+    let steps = c.in_ok-steps-2.steps in
+    let put = c.put.ensures in
+    let whole = with_items_is steps c.put.new.steps
+    (omega (arith, put.counts.size, c.in_ok-steps-2.ensures.counts.size, steps.ok.0)) in
+    let xs = c.push_around.new.changes.items in
+    record {
+      counts = subst (λ (ss : List (Option ℕ)). AreCounts t ss) (sym whole) put.counts;
+      changes = subst (λ (ss : List (Option ℕ)). AreChanges t ss xs) c.deref-in-loop-steps-2.ensures.value
+          (subst (λ (v : Counted). AreChanges v.terrain v.steps xs) c.new-in-loop-steps-2.ensures.value
+          c.in_ok-push_around.ensures);
+    }

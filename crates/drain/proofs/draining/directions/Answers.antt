@@ -1,62 +1,50 @@
-use Rattle.std.proofs.Common.{sym, subst}
-use Rattle.terrain.specs.Raster.{Raster, IsTerrain}
-use Rattle.tiles.specs.Cutting.{Cuts}
-use Rattle.tile_maps.specs.Maps.{IsMadeMap}
-use Rattle.drain.specs.Directions.{AreDirections, IsCodeAt}
+use Rattle.std.proofs.Common.{List, Option, Vec, Global, sym, subst}
+use Rattle.terrain.specs.Raster.{Raster}
+use Rattle.tiles.specs.Cutting.{AreTileLists}
+use Rattle.drain.specs.Directions.{AreDirections}
 use Rattle.drain.specs.Steps.{AreSteps}
 use Rattle.drainage.specs.Drained.{Drained, IsDraining, AllFlowEnds, directed_of}
-use Rattle.drain.proofs.TileLists.{coded_map}
+use Rattle.drain.proofs.TileLists.{coded_whole}
 use Rattle.drain.proofs.DrainedLemmas.{are_draining}
 use Rattle.drainage.proofs.Ends.{falling_ends}
 use Rattle.drain.proofs.draining.directions.Goals as goal
 
-pub invariant_of-map_tiles : goal.invariant_of-map_tiles
-invariant_of-map_tiles g c =
-    let same = sym c.grid-grid.ensures.value in
-    record {
-      lawful = subst (λ (x : Raster). IsTerrain x.terrain) same c.in_ok-steps.ensures.lawful;
-      steps = subst (λ (x : Raster).
-          AreSteps x.terrain c.in_ok-steps.steps.items) same c.in_ok-steps.ensures.steps;
-      cuts = subst (λ (x : Raster). Cuts c.args.tiling.now x.terrain) same c.requires;
-    }
+pub put_back-requires : goal.put_back-requires
+put_back-requires g c =
+    let coded = c.in_ok-steps.ensures.codes in
+    subst (λ (ls : List (Vec (Option _) Global)). AreTileLists c.args.tiling.now ls) (sym c.deref.ensures.value)
+    (record { count = coded.size; each = λ tile list at. (coded.each tile list at).size })
 
 pub new-requires : goal.new-requires
 new-requires g c =
     let t = c.args.filled.now.terrain in
+    let made = c.in_ok-steps in
     let steps = c.of-reported.result.value.items in
-    let stepped =
-    subst (λ v. AreSteps t v.items) (sym c.of-reported.ensures) c.in_ok-steps.ensures.steps in
-    let codes = c.in_ok-codes.codes.items in
-    let all = coded_map t c.args.tiling.now codes c.requires
-    (subst (λ (x : Raster). IsMadeMap c.args.tiling.now (IsCodeAt x.terrain) codes)
-    c.grid-grid.ensures.value c.in_ok-codes.ensures.made) in
-    subst (λ (x : Raster).
-    IsDraining (record { terrain = x.terrain; steps = steps; codes = codes }))
-    (sym c.grid-grid.ensures.value) (are_draining t steps codes stepped all)
+    let stepped = subst (λ v. AreSteps t v.items) (sym c.of-reported.ensures) made.ensures.steps in
+    let codes = c.in-Ok.codes.items in
+    let all = coded_whole t c.args.tiling.now made.field-0.codes codes c.requires made.ensures.lawful.1
+    made.ensures.codes (rw c.deref.ensures.value at c.in-Ok.ensures) in
+    subst (λ (x : Raster). IsDraining (record { terrain = x.terrain; steps = steps; codes = codes }))
+    (sym c.grid.ensures.value) (are_draining t steps codes stepped all)
 
-pub returns-clause-codes : goal.returns-clause-codes
-returns-clause-codes g c =
+pub returns-in-Ok-clause-codes : goal.returns-in-Ok-clause-codes
+returns-in-Ok-clause-codes g c =
     let t = c.args.filled.now.terrain in
-    let codes = c.in_ok-codes.codes.items in
-    let all = coded_map t c.args.tiling.now codes c.requires
-    (subst (λ (x : Raster). IsMadeMap c.args.tiling.now (IsCodeAt x.terrain) codes)
-    c.grid-grid.ensures.value c.in_ok-codes.ensures.made) in
+    let made = c.in_ok-steps in
+    let all = coded_whole t c.args.tiling.now made.field-0.codes c.in-Ok.codes.items c.requires
+    made.ensures.lawful.1 made.ensures.codes (rw c.deref.ensures.value at c.in-Ok.ensures) in
     subst (λ (x : Drained). AreDirections t x.codes) (sym c.new.ensures) all
 
-pub returns-clause-ends : goal.returns-clause-ends
-returns-clause-ends g c =
+pub returns-in-Ok-clause-ends : goal.returns-in-Ok-clause-ends
+returns-in-Ok-clause-ends g c =
     let t = c.args.filled.now.terrain in
+    let made = c.in_ok-steps in
     let steps = c.of-reported.result.value.items in
-    let stepped =
-    subst (λ v. AreSteps t v.items) (sym c.of-reported.ensures) c.in_ok-steps.ensures.steps in
-    let codes = c.in_ok-codes.codes.items in
-    let all = coded_map t c.args.tiling.now codes c.requires
-    (subst (λ (x : Raster). IsMadeMap c.args.tiling.now (IsCodeAt x.terrain) codes)
-    c.grid-grid.ensures.value c.in_ok-codes.ensures.made) in
-    let d : Drained =
-    record { terrain = c.grid-grid.result.now.terrain; steps = steps; codes = codes } in
-    let draining = subst (λ (x : Raster).
-    IsDraining (record { terrain = x.terrain; steps = steps; codes = codes }))
-    (sym c.grid-grid.ensures.value) (are_draining t steps codes stepped all) in
-    subst (λ (x : Drained). AllFlowEnds (directed_of x)) (sym c.new.ensures)
-    (falling_ends d draining)
+    let stepped = subst (λ v. AreSteps t v.items) (sym c.of-reported.ensures) made.ensures.steps in
+    let codes = c.in-Ok.codes.items in
+    let all = coded_whole t c.args.tiling.now made.field-0.codes codes c.requires made.ensures.lawful.1
+    made.ensures.codes (rw c.deref.ensures.value at c.in-Ok.ensures) in
+    let d : Drained = record { terrain = c.grid.result.now.terrain; steps = steps; codes = codes } in
+    let draining = subst (λ (x : Raster). IsDraining (record { terrain = x.terrain; steps = steps; codes = codes }))
+    (sym c.grid.ensures.value) (are_draining t steps codes stepped all) in
+    subst (λ (x : Drained). AllFlowEnds (directed_of x)) (sym c.new.ensures) (falling_ends d draining)

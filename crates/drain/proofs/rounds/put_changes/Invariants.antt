@@ -1,7 +1,10 @@
-use Rattle.std.proofs.Common.{◌≡◌, ◌<◌, ℕ, Some, slice_get}
-use Rattle.drain.specs.Rounding.{ArePut}
+use Rattle.std.proofs.Common.{◌≡◌, ◌<◌, ◌≤◌, true}
+use Rattle.drain.specs.Counts.{AreCounts, count_sum}
 use Rattle.drain.proofs.rounds.put_changes.Given as goal
 
 abbrev pub invariant-loop-change : goal.invariant-loop-change
-invariant-loop-change l = ArePut l.tiling.cols l.initial.steps l.steps (λ x. (k : ℕ)
-    × (k < l.change-index) × (slice_get l.changes k ≡ Some x))
+invariant-loop-change l = record {
+  counts : AreCounts l.grid.terrain l.steps;
+  low : count_sum l.steps ≤ count_sum l.initial.steps;
+  put : l.has_lowered ≡ true → count_sum l.steps < count_sum l.initial.steps;
+}

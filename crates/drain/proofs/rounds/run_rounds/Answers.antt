@@ -1,62 +1,47 @@
-use Rattle.std.proofs.Common.{ℕ, List, Option, length, ap, refl, ◌∙◌, arith}
-use Rattle.drain.specs.Rounding.{rounding_of}
-use Rattle.drain.proofs.RoundLemmas.{first_rounding, next_then, final_at}
+use Rattle.std.proofs.Common.{ℕ, List, Option, sym, ap, subst, arith}
+use Rattle.std.proofs.lemmas.List.{with_items_is}
+use Rattle.drain.specs.Counts.{AreChanges, AreCounts, AreFound, Counted, count_sum}
+use Rattle.drain.specs.declared.changes.Change.{Change}
+use Rattle.drain.specs.declared.lowering.Found.{Found}
 use Rattle.drain.proofs.rounds.run_rounds.Goals as goal
 
-pub invariant_of-entries_of_all : goal.invariant_of-entries_of_all
-invariant_of-entries_of_all g c = record {
-  lawful = c.requires.lawful;
-  levels_size = c.requires.size;
-  steps_size = ap (λ (xs : List (Option ℕ)). length xs) c.deref.ensures.value
-      ∙ c.requires.counting.size;
-}
+pub found_by_jobs-requires-clause-changes : goal.found_by_jobs-requires-clause-changes
+found_by_jobs-requires-clause-changes g c =
+    let changes = c.loop-changes.changes.items in
+    let given = subst (λ (v : Counted). AreChanges v.terrain v.steps changes) (sym c.new.ensures.value)
+    (subst (λ (ss : List (Option ℕ)). AreChanges c.args.grid.now.terrain ss changes)
+    (sym c.deref.ensures.value) c.loop-changes.invariant.changes) in
+    λ κs alive. subst (λ (xs : List Change). AreChanges c.new.result.terrain c.new.result.steps xs)
+    (sym c.deref-in-loop-changes.ensures.value) given
 
-pub loop-state-init : goal.loop-state-init
-loop-state-init g c =
-    let notes = rw c.deref.ensures.value at c.in_ok-entries.ensures in
+pub put_all-requires-clause-changes : goal.put_all-requires-clause-changes
+put_all-requires-clause-changes g c =
+    subst (λ (fs : List Found). AreFound c.args.grid.now.terrain fs) (sym c.deref-in-loop-changes-2.ensures.value)
+    (subst (λ (v : Counted). AreFound v.terrain c.in_ok-outs.outs.items) c.new.ensures.value c.in_ok-outs.ensures.found)
+
+pub changes_after-requires : goal.changes_after-requires
+changes_after-requires g c =
+    let found = subst (λ (v : Counted). AreFound v.terrain c.in_ok-outs.outs.items) c.new.ensures.value
+    c.in_ok-outs.ensures.found in
+    subst (λ (fs : List Found). AreFound c.new-input.result.terrain fs)
+    (sym c.deref-in-loop-changes-4.ensures.value)
+    (subst (λ (v : Counted). AreFound v.terrain c.in_ok-outs.outs.items) (sym c.new-input.ensures.value) found)
+
+pub loop-changes-preserved : goal.loop-changes-preserved
+loop-changes-preserved g c =
+    let t = c.args.grid.now.terrain in
+    let steps = c.loop-changes.steps in
+    let inv = c.loop-changes.invariant in
+    let put = c.put_all.ensures in
+    let whole = with_items_is steps c.put_all.new.steps
+    (omega (arith, put.counts.size, inv.counts.size, steps.ok.0)) in
+    let sum = ap (λ (ss : List (Option ℕ)). count_sum ss) whole in
+    let before = ap (λ (ss : List (Option ℕ)). count_sum ss) c.deref_mut.ensures.value in
     record {
-      tiling = refl;
-      levels = refl;
-      rounding =
-          first_rounding (rounding_of (record {
-            tiling = c.args.tiling;
-            levels = c.args.levels;
-            steps = c.args.steps;
-            entries = c.sort.new.entries;
-          })) c.in_ok-entries.entries.items
-          c.requires.lawful c.requires.size c.requires.counting c.requires.even
-          c.in_ok-sort.ensures.same c.in_ok-sort.ensures.sorted notes;
-      same_sources = λ p. (λ input. input, λ input. input);
+      counts = subst (λ (ss : List (Option ℕ)). AreCounts t ss) (sym whole) put.counts;
+      changes = subst (λ (ss : List (Option ℕ)). AreChanges t ss c.in_ok-changes.changes.items)
+          c.deref-in-loop-changes-3.ensures.value
+          (subst (λ (v : Counted). AreChanges v.terrain v.steps c.in_ok-changes.changes.items)
+          c.new-input.ensures.value c.in_ok-changes.ensures);
+      low = omega (arith, sum, before, put.low, inv.low);
     }
-
-pub returns-clause-finished : goal.returns-clause-finished
-returns-clause-finished g c =
-    let inv = c.loop-state.invariant in
-    let next = c.in_ok-full_round.ensures.next in
-    let same = rw (inv.tiling, inv.levels) at next.same_sources in
-    final_at (rounding_of c.full_round.new.self)
-    c.args.tiling.now c.args.levels.now c.args.steps.items (next.same_cutting
-    ∙ inv.tiling) (next.same_levels ∙ inv.levels) next.rounding
-    (c.in_ok-full_round.ensures.last c.if-branch.false) (λ p. (
-      λ input. (same p).0 ((inv.same_sources p).0 input),
-      λ input. (inv.same_sources p).1 ((same p).1 input),
-    ))
-
-pub loop-state-preserved : goal.loop-state-preserved
-loop-state-preserved g c =
-    let inv = c.loop-state.invariant in
-    let next = next_then _ _ _ c.in_ok-full_round.ensures.next c.in_ok-run_small_rounds.ensures in
-    let same = rw (inv.tiling, inv.levels) at next.same_sources in
-    record {
-      tiling = next.same_cutting ∙ inv.tiling;
-      levels = next.same_levels ∙ inv.levels;
-      rounding = next.rounding;
-      same_sources = λ p. (
-        λ input. (same p).0 ((inv.same_sources p).0 input),
-        λ input. (inv.same_sources p).1 ((same p).1 input),
-      );
-    }
-
-pub loop-state-smaller : goal.loop-state-smaller
-loop-state-smaller g c = (let less = c.in_ok-full_round.ensures.less c.if-branch.true in
-    let low = c.in_ok-run_small_rounds.ensures.low in omega (arith, less, low))

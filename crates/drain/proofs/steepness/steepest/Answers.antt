@@ -1,10 +1,13 @@
-use Rattle.std.proofs.Common.{ap, inl, inr, to_z-of_z, arith}
+use Rattle.std.proofs.Common.{◌≡◌, ◌<◌, ℕ, Bool, true, false, IfSome, ap, inl, inr, refl, to_z-of_z, arith}
+use Rattle.std.specs.Bool.{then_some}
+use Rattle.std.proofs.lemmas.Bool.{ltb-true}
+use Rattle.drain.specs.declared.steepness.Fall.{Fall}
 use Rattle.drain.proofs.Steepest.{heavier_is}
 use Rattle.drain.proofs.steepness.steepest.Goals as goal
 use Rattle.drain.proofs.steepness.steepest.Goals.{then-square, else-square}
 
-pub returns : goal.returns
-returns c = λ a has.
+pub returns-clause-first : goal.returns-clause-first
+returns-clause-first c = λ a has.
     let straight = rw (to_z-of_z c.ranges.level) at c.greatest_fall-straight.ensures.value in
     let across = rw (to_z-of_z c.ranges.level) at c.greatest_fall-across.ensures.value in
     rw c.then_some.ensures
@@ -21,4 +24,20 @@ returns c = λ a has.
         ap (λ f. f.drop) w.fall-is,
         ap (λ f. f.way) w.fall-is,
       )
+    ]))
+
+below_by : (b : Bool) (way : ℕ) → (b ≡ true → way < 8) → IfSome (then_some b way) (λ w. w < 8)
+below_by true way below = below refl
+below_by false way below = tt
+
+pub returns-clause-below : goal.returns-clause-below
+returns-clause-below c = rw c.then_some.ensures (below_by _ c.if-square.fall.way (λ some.
+    let drop : 0 < c.if-square.fall.drop = ltb-true 0 c.if-square.fall.drop some in
+    elim c.if-square.branch [
+      | then-square w ↦ (let at = ap (λ (f : Fall). f.drop) w.fall-is in
+          let way = ap (λ (f : Fall). f.way) w.fall-is in
+          omega (arith, way, (c.greatest_fall-straight.ensures.value.reached (omega (arith, drop, at))).0))
+      | else-square w ↦ (let at = ap (λ (f : Fall). f.drop) w.fall-is in
+          let way = ap (λ (f : Fall). f.way) w.fall-is in
+          omega (arith, way, (c.greatest_fall-across.ensures.value.reached (omega (arith, drop, at))).0))
     ]))

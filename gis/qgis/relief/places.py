@@ -1,0 +1,60 @@
+"""Points and extents of QGIS in the projection of a raster layer, as far as the way there is known."""
+from __future__ import annotations
+
+from typing import Any, Dict, Iterator, List
+
+from qgis.core import (QgsCoordinateReferenceSystem, QgsCoordinateTransform, QgsFeatureRequest, QgsProcessingAlgorithm,
+                       QgsProcessingContext, QgsProcessingFeatureSource, QgsProcessingFeatureSourceDefinition,
+                       QgsProviderRegistry, QgsRasterLayer, QgsWkbTypes)
+
+from .library import errors, points, units
+
+
+def check_change(reference: QgsCoordinateReferenceSystem, layer: QgsRasterLayer, context: QgsProcessingContext,
+                 name: str) -> None:
+    """Refuses coordinates between whose datum and that of the raster no shift is known.
+
+    QGIS takes degrees as they are then, up to some hundred metres off.
+    """
+    change = QgsCoordinateTransform(reference, layer.crs(), context.transformContext())
+    if "ballpark" in change.instantiatedCoordinateOperationDetails().name.lower():
+        raise errors.InputError(f"{name} cannot be projected to the raster: no shift from its datum to that of the "
+                                "raster is known here. Give coordinates in the projection of the raster, or install "
+                                "the grids of shifts (package proj-data)")
+
+
+def points_of(source: QgsProcessingFeatureSource, field: str, layer: QgsRasterLayer,
+              context: QgsProcessingContext) -> Iterator[Any]:
+    """The points of a layer in the projection of a raster layer, with eyes from a field, if one is named.
+
+    Raises:
+        InputError: a feature is no point, or the layer cannot be projected.
+        UsageError: a field has no number.
+    """
+    check_change(source.sourceCrs(), layer, context, source.sourceName())
+    request = QgsFeatureRequest().setDestinationCrs(layer.crs(), context.transformContext())
+    for feature in source.getFeatures(request):
+        yield _point_of(feature, field)
+
+
+def files_of(algorithm: QgsProcessingAlgorithm, parameters: Dict[str, Any], name: str,
+             context: QgsProcessingContext) -> List[str]:
+    """The file of a layer of points, which no output may replace; none of a layer in memory or a database."""
+    value = parameters.get(name)
+    if isinstance(value, QgsProcessingFeatureSourceDefinition):
+        value = value.source.staticValue()
+    layer = algorithm.parameterAsVectorLayer({name: value}, name, context) if value else None
+    if layer is None or layer.providerType() != "ogr":
+        return []
+    return [QgsProviderRegistry.instance().decodeUri("ogr", layer.source())["path"]]
+
+
+def _point_of(feature: Any, field: str) -> Any:
+    name = f"feature {feature.id()}"
+    geometry = feature.geometry()
+    if geometry.isEmpty() or QgsWkbTypes.geometryType(geometry.wkbType()) != QgsWkbTypes.PointGeometry \
+            or geometry.constGet().partCount() != 1:
+        raise errors.InputError(f"{name} is no point")
+    point = next(geometry.vertices())
+    eye = units.decimal_of(feature[field], f"the eye of {name}, {field}") if field else None
+    return points.Point(name, units.decimal_of(point.x()), units.decimal_of(point.y()), eye)

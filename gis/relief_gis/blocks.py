@@ -1,0 +1,73 @@
+"""Work on blocks of rows, shared by threads: numpy frees Python's lock while it computes."""
+from __future__ import annotations
+
+import os
+from collections import deque
+from concurrent.futures import Future, ThreadPoolExecutor
+from typing import Any, Callable, Deque, Iterable, Iterator, List, Optional, Tuple, TypeVar
+
+import numpy as np
+
+Item = TypeVar("Item")
+Result = TypeVar("Result")
+
+# What a block and its intermediate arrays need stays in a processor's cache.
+CELLS = 1 << 15
+MOST_THREADS = 8
+THREADS = min(len(os.sched_getaffinity(0)) if hasattr(os, "sched_getaffinity") else os.cpu_count() or 1, MOST_THREADS)
+
+
+def row_blocks(shape: Tuple[int, ...]) -> List[slice]:
+    """Blocks of rows that cover an array, from its first row to its last."""
+    rows, cols = shape
+    step = max(1, CELLS // cols)
+    return [slice(first, min(first + step, rows)) for first in range(0, rows, step)]
+
+
+def in_order(work: Callable[[Item], Result], items: Iterable[Item]) -> Iterator[Result]:
+    """The results of a function for each item, in order; few of them wait at a time."""
+    waiting: Deque["Future[Result]"] = deque()
+    with ThreadPoolExecutor(THREADS) as pool:
+        for item in items:
+            waiting.append(pool.submit(work, item))
+            if len(waiting) > 2 * THREADS:
+                yield waiting.popleft().result()
+        while waiting:
+            yield waiting.popleft().result()
+
+
+def for_rows(work: Callable[[slice], Result], shape: Tuple[int, ...]) -> List[Result]:
+    """Calls a function with each block of rows; its results, in no order."""
+    blocks = row_blocks(shape)
+    shares = [blocks[first::THREADS] for first in range(min(THREADS, len(blocks)))]
+    if len(blocks) == 1:
+        return [work(blocks[0])]
+    with ThreadPoolExecutor(len(shares)) as pool:
+        return [result for part in pool.map(lambda share: [work(rows) for rows in share], shares) for result in part]
+
+
+def array_of(work: Callable[[slice], np.ndarray], shape: Tuple[int, ...], dtype: "np.typing.DTypeLike") -> np.ndarray:
+    """An array of a type of which a function returns each block of rows."""
+    array = np.empty(shape, dtype)
+
+    def put(rows: slice) -> None:
+        array[rows] = work(rows)
+
+    for_rows(put, shape)
+    return array
+
+
+def rows_of(values: np.ndarray, valid: np.ndarray, rows: slice, rest: Any = 0) -> np.ndarray:
+    """Rows of values, with another value where there is no data."""
+    return values[rows] if valid[rows].all() else np.where(valid[rows], values[rows], values.dtype.type(rest))
+
+
+def data_ends(values: np.ndarray, valid: np.ndarray) -> Optional[Tuple[Any, Any]]:
+    """The least and the greatest of the values where there is data; None: there is none."""
+
+    def ends(rows: slice) -> Optional[Tuple[Any, Any]]:
+        data = values[rows] if valid[rows].all() else values[rows][valid[rows]]
+        return (data.min(), data.max()) if data.size else None
+
+    found = [pair for pair in for_rows(ends, values.shape) if pair is not None]
+    return (min(low for low, _ in found), max(high for _, high in found)) if found else None

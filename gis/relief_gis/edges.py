@@ -1,0 +1,114 @@
+"""What lies downstream of where the data ends: land beyond may drain in there, and no map can show it."""
+from __future__ import annotations
+
+from fractions import Fraction
+from typing import Dict, Iterator, Sequence, Tuple
+
+import numpy as np
+
+from .blocks import row_blocks
+from .maps import NODATA_CODE, Place, edge_cells
+from .units import plain
+
+# The maps of which it is told what lies downstream of a cut, and those of which a map of it can be made.
+COUNTED_MAPS = ("accumulate", "area", "streams")
+TOLD_MAPS = (*COUNTED_MAPS, "basins")
+UNCERTAIN_MAPS = ("flow", *TOLD_MAPS, "catchments")
+DESCRIPTION = "1: where the data ends, or downstream of it"
+
+# Down and right of each code of directions.
+STEPS = {1: (0, 1), 2: (1, 1), 4: (1, 0), 8: (1, -1), 16: (0, -1), 32: (-1, -1), 64: (-1, 0), 128: (-1, 1)}
+
+
+def uncertain_cells(codes: np.ndarray, valid: np.ndarray) -> np.ndarray:
+    """The cells that a flow path from an edge cell crosses, the edge cells themselves included.
+
+    Their maps change where land beyond the data drains into it; TauDEM calls this edge contamination.
+
+    Args:
+        codes: (rows, cols) uint8, D8 directions as `relief flow` writes them.
+        valid: (rows, cols) bool, where there is data.
+
+    Returns:
+        (rows, cols) bool.
+
+    # Memory
+    Some 12 bytes a cell.
+    """
+    found = edge_cells(valid)
+    ways = _targets(codes)
+    before, count = 0, np.count_nonzero(found)
+    # After n rounds ways lead 2^n cells on, and all cells less than 2^n cells below an edge cell are found. So the
+    # first round that finds none is the last.
+    while count > before:
+        _mark_targets(found, ways)
+        ways = _twice(ways)
+        before, count = count, np.count_nonzero(found)
+    return found
+
+
+def _targets(codes: np.ndarray) -> np.ndarray:
+    """The place to which each cell drains, in row order; its own where its flow path ends."""
+    rows, cols = codes.shape
+    offsets = np.zeros(256, np.int32)
+    for code, (down, right) in STEPS.items():
+        offsets[code] = down * cols + right
+    ways = np.arange(rows * cols, dtype=np.int32).reshape(rows, cols)
+    for block in row_blocks(codes.shape):
+        ways[block] += offsets[codes[block]]
+    return ways
+
+
+def _mark_targets(found: np.ndarray, ways: np.ndarray) -> None:
+    """Marks the cells to which marked cells lead."""
+    flat = found.reshape(-1)
+    for block in row_blocks(ways.shape):
+        flat[ways[block][found[block]]] = True
+
+
+def _twice(ways: np.ndarray) -> np.ndarray:
+    """The ways that lead twice as far."""
+    further, flat = np.empty_like(ways), ways.reshape(-1)
+    for block in row_blocks(ways.shape):
+        np.take(flat, ways[block], out=further[block])
+    return further
+
+
+def uncertain_map(cells: np.ndarray, valid: np.ndarray) -> np.ndarray:
+    """Cells as a map of bytes: 1 in them, 0 elsewhere, NODATA_CODE where there is no data."""
+    return np.where(valid, cells, NODATA_CODE).astype(np.uint8)
+
+
+def line_of(name: str, cells: np.ndarray, found: np.ndarray, cell_area: Fraction) -> str:
+    """How many cells of a map are uncertain, and how much drains through one of them at most.
+
+    Args:
+        name: of the map.
+        cells: (rows, cols) bool, those of `uncertain_cells`.
+        found: (rows, cols), what the program wrote for the map.
+        cell_area: in square units of the projection.
+    """
+    most = int(found.max(where=cells, initial=0))
+    counted = f"{plain((most + 1) * cell_area)} square units" if name == "area" else f"{most:,} other cells"
+    rest = f"up to {counted} drain through one of them, and land beyond may too"
+    return (f"{np.count_nonzero(cells):,} cells lie where the data ends or downstream of it: "
+            f"{rest if name in COUNTED_MAPS else 'land beyond may drain through them'}")
+
+
+def catchment_lines(gauges: Sequence[Place], valid: np.ndarray, found: np.ndarray) -> Iterator[str]:
+    """How many cells have each gauge's number, and how many of these lie where the data ends."""
+    edges = edge_cells(valid)
+    for gauge in gauges:
+        # Where the data ends at the gauge itself, its water runs out and none runs in.
+        edges[gauge.row, gauge.col] = False
+    sizes, cut = (np.bincount(numbers[numbers > 0], minlength=len(gauges) + 1) for numbers in (found, found[edges]))
+    first: Dict[Tuple[int, int], int] = {}
+    for number, gauge in enumerate(gauges, 1):
+        same = first.setdefault((gauge.row, gauge.col), number)
+        if same != number:
+            yield f"{number}, {gauge.name}: lies in the cell of {same}, and no cell has its number"
+            continue
+        rest = f", {cut[number]:,} of them where the data ends" if cut[number] else ""
+        yield f"{number}, {gauge.name}: {sizes[number]:,} cells drain to it first{rest}"
+    if cut.any():
+        yield "where the data ends, land beyond it may drain in, and the catchment is larger then"

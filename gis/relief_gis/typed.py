@@ -1,0 +1,72 @@
+"""The command by which a job's map is made again, as it is typed."""
+from __future__ import annotations
+
+import shlex
+from decimal import Decimal, localcontext
+from fractions import Fraction
+from typing import Iterator, List, Optional, Sequence, Tuple, Union
+
+from .job import Job, Source
+from .points import Layer, Point
+
+# More digits than an exact decimal of a float's shortest text has.
+MOST_DIGITS = 400
+Option = Tuple[str, Optional[object]]
+
+
+def typed_command(job: Job) -> str:
+    """The command of a job, with all its parameters, for a shell."""
+    words = ["relief-gis", job.map, job.source, job.target]
+    for name, value in (*_options(job), *_places("--at", "--points", job.places), *_observers(job),
+                        *_places("--sink-at", "--sinks", job.sinks)):
+        if value is not None:
+            words += [name] if value == "" else [name, _text(value)]
+    return shlex.join(words)
+
+
+def _options(job: Job) -> List[Option]:
+    """The options that have one value; those at their defaults have none, but for threads."""
+    return [("--band", job.band if job.band != 1 else None), ("--window", job.window), ("--bounds", job.bounds),
+            ("--projection", job.projection), ("--no-projection", None if job.needs_projection else ""),
+            ("--decimals", job.decimals), ("--voids", job.voids if job.voids != "refuse" else None),
+            ("--skip", "" if job.skip else None), ("--threshold", job.threshold), ("--snap", job.snap),
+            ("--snapped", job.snapped), ("--uncertain", job.uncertain), ("--workers", job.workers),
+            ("--tile", job.tile)]
+
+
+def _places(word: str, layer: str, sources: Sequence[Source]) -> Iterator[Option]:
+    for source in sources:
+        if isinstance(source, Layer):
+            yield layer, source.path
+        else:
+            yield word, (source.x, source.y)
+
+
+def _observers(job: Job) -> Iterator[Option]:
+    """What all observers have, once, or what each has, in their order."""
+    if job.map != "view":
+        return
+    points = [source for source in job.places if isinstance(source, Point)]
+    fields = [source.eye_field for source in job.places if isinstance(source, Layer)]
+    yield "--eye-field", fields[0] if fields else None
+    for option, name, common in (("--eye", "eye", job.eye), ("--target", "above", job.above or None),
+                                 ("--radius", "radius", job.radius)):
+        own = [getattr(point, name) for point in points]
+        each = [common if value is None else value for value in own] or [common]
+        yield from ((option, value) for value in (each[:1] if len(set(each)) == 1 else each))
+
+
+def _text(value: object) -> str:
+    """A value as a word; numbers are exact and without exponent."""
+    if isinstance(value, tuple):
+        return ",".join(map(_text, value))
+    if isinstance(value, (Decimal, Fraction)):
+        return _decimal_text(value)
+    return str(value)
+
+
+def _decimal_text(value: Union[Decimal, Fraction]) -> str:
+    with localcontext() as context:
+        context.prec = MOST_DIGITS
+        exact = Decimal(value.numerator) / value.denominator if isinstance(value, Fraction) else value
+        return f"{exact.normalize():f}"

@@ -1,0 +1,133 @@
+"""The grid text from and to arrays, against plain Python."""
+import io
+import os
+import subprocess
+import tempfile
+import unittest
+
+import numpy as np
+
+from fixtures import RELIEF, hills
+from relief_gis.errors import InputError
+from relief_gis.grid_text import HEADER_LINES, read_grid, write_grid
+
+HEADER = "ncols {1}\nnrows {0}\nxllcorner 0\nyllcorner 0\ncellsize 1\nNODATA_value -9999\n"
+MOST = 10**15
+# Rows and columns: single cells, rows and columns, several blocks and pieces of text.
+SHAPES = ((1, 1), (1, 700), (700, 1), (3, 4096), (40, 33), (500, 150))
+
+
+def written(units, valid=None):
+    """The words of the text of an array: those of the header's values, and those of the cells."""
+    file = io.BytesIO()
+    write_grid(units, valid, file)
+    words = file.getvalue().decode().split()
+    return words[1:2 * HEADER_LINES:2], words[2 * HEADER_LINES:]
+
+
+def plain_text(numbers):
+    """A grid text as the program writes it, by Python alone."""
+    lines = [" ".join(str(number) for number in row) for row in numbers.tolist()]
+    return (HEADER.format(*numbers.shape) + "".join(line + "\n" for line in lines)).encode()
+
+
+def random_units(random, shape, digits):
+    """Whole numbers of up to so many digits, some of them of few, of both signs or above 0."""
+    few = random.integers(0, 2, shape) * random.integers(0, digits, shape)
+    low = -10**digits if random.integers(2) else 0
+    return random.integers(low, 10**digits + 1, shape) // 10**few
+
+
+class Writing(unittest.TestCase):
+    def test_random_numbers_of_all_lengths(self):
+        random = np.random.default_rng(5)
+        for shape in SHAPES:
+            for digits in range(1, 16):
+                units = random_units(random, shape, digits)
+                header, words = written(units)
+                self.assertEqual([int(word) for word in words], units.ravel().tolist())
+                self.assertEqual(header[:2], [str(shape[1]), str(shape[0])])
+                self.assertLessEqual(max(map(len, words)), 64)
+
+    def test_ends_of_lengths(self):
+        for digits in range(16):
+            for sign in (1, -1):
+                for off in (-1, 0, 1):
+                    units = np.array([[sign * min(10**digits + off, MOST)]])
+                    self.assertEqual([int(word) for word in written(units)[1]], units.ravel().tolist())
+
+    def test_cells_without_data(self):
+        random = np.random.default_rng(6)
+        for shape in SHAPES:
+            for dtype, digits in ((np.int32, 8), (np.int64, 15)):
+                units, valid = random_units(random, shape, digits).astype(dtype), random.random(shape) < 0.7
+                header, words = written(units, valid)
+                expected = [int(unit) if known else int(header[5]) for unit, known in zip(units.flat, valid.flat)]
+                self.assertEqual([int(word) for word in words], expected)
+                self.assertNotIn(int(header[5]), units[valid].tolist())
+
+    def test_the_program_reads_it(self):
+        random = np.random.default_rng(7)
+        for digits in (2, 3, 6, 7, 9, 15):
+            units, valid = random_units(random, (50, 60), digits), random.random((50, 60)) < 0.9
+            with tempfile.TemporaryFile() as text:
+                write_grid(units, valid, text)
+                text.seek(0)
+                done = subprocess.run([RELIEF, "fill"], stdin=text, capture_output=True, check=True)
+            header, words = written(units, valid)
+            # Each word of it is a height of the grid or NODATA.
+            found = np.array([int(word) for word in done.stdout.split()[2 * HEADER_LINES:]]).reshape(50, 60)
+            np.testing.assert_array_equal(found == int(header[5]), ~valid)
+            self.assertTrue(np.all(found[valid] >= units[valid]))
+            self.assertLessEqual(set(found[valid].tolist()), set(units[valid].tolist()))
+
+
+class Reading(unittest.TestCase):
+    def test_random_numbers_of_all_lengths(self):
+        random = np.random.default_rng(8)
+        for shape in SHAPES:
+            for digits in range(1, 16):
+                numbers = random_units(random, shape, digits)
+                numbers[random.random(shape) < 0.2] = -9999
+                found = read_grid(io.BytesIO(plain_text(numbers)))
+                np.testing.assert_array_equal(found, numbers)
+                self.assertEqual(found.dtype, np.int64)
+
+    def test_a_narrow_type(self):
+        numbers = np.random.default_rng(9).integers(-9999, 2**30, (300, 400))
+        found = read_grid(io.BytesIO(plain_text(numbers)), np.int32)
+        np.testing.assert_array_equal(found, numbers)
+        self.assertEqual(found.dtype, np.int32)
+
+    def test_each_map_of_the_program(self):
+        with tempfile.TemporaryDirectory() as folder:
+            path = os.path.join(folder, "dem.asc")
+            heights = np.rint(hills(60, 70, decimals=0) - 300).astype(int)
+            heights[:5, 20:] = -9999
+            with open(path, "wb") as file:
+                file.write(plain_text(heights))
+            for words in (["fill"], ["flow"], ["accumulate"], ["basins"], ["catchments", "50,40"],
+                          ["view", "30,30,20", "9,9,5"]):
+                with open(path, "rb") as file:
+                    text = subprocess.run([RELIEF, *words], stdin=file, capture_output=True, check=True).stdout
+                expected = [[int(word) for word in line.split()] for line in text.splitlines()[HEADER_LINES:]]
+                np.testing.assert_array_equal(read_grid(io.BytesIO(text)), expected)
+
+    def test_a_text_that_is_cut_off(self):
+        text = plain_text(np.random.default_rng(10).integers(-99, 10**6, (5, 6)))
+        for end in range(len(text)):
+            with self.assertRaises(InputError, msg=text[:end]):
+                read_grid(io.BytesIO(text[:end]))
+
+    def test_words_that_are_no_whole_numbers(self):
+        for words in ("1 2  3 4\n", "1 2.5 3 4\n", "1 x 3 4\n", "1 2-3 3 4\n", "1 - 3 4\n", "1 2 3 4 5\n",
+                      "1 +2 3 4\n"):
+            with self.assertRaises(InputError, msg=words):
+                read_grid(io.BytesIO((HEADER.format(2, 2) + words).encode()))
+        for text in (b"", b"no grid\n" * 9, b"ncols x\nnrows 1\n" * 3):
+            with self.assertRaises(InputError, msg=text):
+                read_grid(io.BytesIO(text))
+
+
+if __name__ == "__main__":
+    unittest.main()
