@@ -1,39 +1,29 @@
 -- The initial counts of steps at the spots of a tile's window: 0 where a cell of the tile drains at
--- once, sinks included, else unknown. A search from them gives the counts of the first round. The
--- window is the tile and a border of one cell around it.
-use Rattle.std.proofs.Common.{◌≡◌, ℕ, suc, cond, if◌then◌else◌, ◌+◌, ◌*◌, ◌<◌, ◌≤◌, ◌⊎◌, inl, inr, List, [], ◌∷◌, map, length, get_or, Option, None, Some, slice_set, unwrap_or, Contains, ℤ, sym, ap, subst, refl, ◌∙◌, arith}
-use Rattle.std.proofs.lemmas.Bool.{cases_Bool, cases_eq, cases_lt, cond-true, cond-false}
-use Rattle.std.proofs.lemmas.List.{get_or_default, get_or_past, get_or-map, get_or-set_same, get_or-set_other, length-map, length-set}
-use Rattle.std.proofs.lemmas.List.FromFn.{length-range_with_len, get_or-map-range_with_len}
-use Rattle.std.specs.List.{range_with_len}
-use Rattle.std.proofs.lemmas.Option.{none-some, same_Some}
-use Rattle.terrain.proofs.Places.{make_place, same_place, index_injective, entry-inside, entry-beside, entry-below, index_below, inside_from_entry}
+-- once, sinks included, else unknown. The window is the tile and a border of one cell around it.
+use Rattle.std.proofs.Common.{◌≡◌, ℕ, ◌+◌, ◌*◌, ◌<◌, ◌≤◌, ◌⊎◌, inl, inr, List, [], length, get_or, Option, Some, slice_set, Contains, ℤ, sym, ap, subst, refl, ◌∙◌, arith}
+use Rattle.std.proofs.lemmas.Bool.{cases_eq, cases_lt}
+use Rattle.std.proofs.lemmas.List.{get_or_default, get_or_past, get_or-set_same, get_or-set_other, length-set}
+use Rattle.std.proofs.lemmas.Option.{same_Some}
+use Rattle.terrain.proofs.Places.{make_place, same_place, index_injective}
 use Rattle.terrain.specs.Raster.{Terrain}
-use Rattle.terrain.specs.Neighbours.{IsDataCell, entry_at, index_of}
+use Rattle.terrain.specs.Neighbours.{IsDataCell}
 use Rattle.terrain.specs.declared.place.Place.{Place}
 use Rattle.tiles.specs.declared.bounds.Bounds.{Bounds}
-use Rattle.tiles.specs.Cutting.{Cutting, IsCutting, IsInBounds, Cuts, View, bounds_of, is_in_bounds, terrain_of}
+use Rattle.tiles.specs.Cutting.{Cutting, IsCutting, bounds_of}
 use Rattle.tile_maps.specs.Maps.{IsMadeUpTo}
-use Rattle.drainage.specs.StepCounts.{known, no_count}
-use Rattle.drainage.proofs.StoredCounts.{known_number}
-use Rattle.terrain.specs.Sinks.{with_sinks}
-use Rattle.drainage.proofs.Reach.{data_inside}
-use Rattle.drain.specs.Beginning.{IsEdgeOrHasLower, HasGapOrLower, ShowsDraining, IsInitialCount, IsBegunSpot, AreInitialCounts, AreBegunSpots}
-use Rattle.drain.specs.Rounds.{AreWalked, IsWalked, HasCountZero, IsRound, IsRoundInside}
+use Rattle.drainage.specs.StepCounts.{no_count}
+use Rattle.drainage.proofs.StoredCounts.{known-some}
+use Rattle.drain.specs.Beginning.{IsEdgeOrHasLower, HasGapOrLower, ShowsDraining, IsBegunSpot, AreBegunSpots, AreSoundInTile}
+use Rattle.drain.specs.Rounds.{IsWalked}
 use Rattle.drain.specs.Steps.{DrainsAtOnce}
-use Rattle.tiles.specs.Windows.{IsSpot, IsInner, IsOff, Shows, area_of, spot_index}
-use Rattle.drain.specs.Search.{AreEntriesShown, AreAtMostNoCount, AreWindowCounts, IsCopied, IsSearched, count_on, known_counts}
-use Rattle.drain.proofs.DrainedLemmas.{same_terrain, with_own_sinks}
-use Rattle.drain.proofs.Few.{drains_data}
-use Rattle.drain.proofs.Nearby.{drains_at_once}
+use Rattle.tiles.specs.Windows.{IsSpot, IsInner, Shows, area_of, spot_index}
+use Rattle.drain.specs.Search.{AreEntriesShown, AreAtMostNoCount, IsCopied, IsSpread, count_on}
 use Rattle.drain.proofs.GapOrLower.{shown_drains, drains_shown}
-use Rattle.drain.proofs.Quiet.{if_some, are_walked_to, round_to, zeros_drain}
-use Rattle.drain.proofs.Spreading.{spot_from_inner}
-use Rattle.tiles.proofs.Cut.{in_bounds, in_bounds_parts, in_bounds_from}
-use Rattle.tiles.proofs.Spots.{shows_same, shows_none, spot_below}
+use Rattle.drain.proofs.Spreading.{spot_from_inner, spread_not_above}
+use Rattle.tiles.proofs.Spots.{spot_below}
 use Rattle.tiles.proofs.SpotWays.{inner_shows}
-use Rattle.drain.proofs.TileRound.{round_from}
-use Rattle.drain.proofs.Unique.{at_place, place_at, place_at-index_of}
+use Rattle.drain.proofs.TileRound.{AreSoundSpots, at_most, inner_of, known_is, sound_after, spot_of, tile_size, tile_walked}
+use Rattle.drain.proofs.Unique.{at_place}
 
 -- if A and B agree at the spot, its initial count for A is that for B
 begun_by : (A B : Place → Type 0) (s : Place) (n : ℕ) → (A s → B s) → (B s → A s) →
@@ -197,42 +187,7 @@ module _ (t : Terrain) (sinks : List Place) (index : ℕ) (b : Bounds) (counts :
         },
       )
 
-one_begun : (Drains : Place → Type 0) (p : Place) (x y : Option ℕ) → IsInitialCount Drains p x →
-    IsInitialCount Drains p y → x ≡ y
-one_begun Drains p None None f g = refl
-one_begun Drains p (Some n) y f g = let drains = (f.only n refl).0 in f.zero drains
-    ∙ sym (g.zero drains)
-one_begun Drains p None (Some n) f g = let drains = (g.only n refl).0 in f.zero drains
-    ∙ sym (g.zero drains)
-
-known_again : (counts : List ℕ) → AreAtMostNoCount counts → counts ≡ known_counts (map known counts)
-known_again [] few = refl
-known_again (n ∷ counts) few = ap (λ (m : ℕ). m ∷ counts) (sym (known_number n (few 0))) ∙ ap
-    (λ (xs : List ℕ). unwrap_or (known n) no_count ∷ xs) (known_again counts (λ k. few (suc k)))
-
--- The entry at row-order index k of the grid: that of `begun` if its place is in the tile, else
--- `None`. `in_tile_of` lists these entries.
-abbrev in_tile_at : ℕ → Bounds → List (Option ℕ) → ℕ → Option ℕ
-in_tile_at cols b begun k = if is_in_bounds b (place_at cols k) then get_or begun k None else None
-
-abbrev in_tile_of : ℕ → ℕ → Bounds → List (Option ℕ) → List (Option ℕ)
-in_tile_of cols rows b begun = map (in_tile_at cols b begun) (range_with_len 0 (cols * rows))
-
-in_tile_entry : (cols rows : ℕ) (b : Bounds) (begun : List (Option ℕ)) (p : Place) → p.row < rows →
-    p.col < cols → entry_at cols rows (in_tile_of cols rows b begun) p
-    ≡ (if is_in_bounds b p then entry_at cols rows begun p else None)
-in_tile_entry cols rows b begun p row col =
-    entry-inside cols rows (in_tile_of cols rows b begun) p row col
-    ∙ get_or-map-range_with_len (in_tile_at cols b begun) 0 (cols * rows) (index_of cols p)
-    (index_of cols p) None (index_below cols rows p row col) (omega arith)
-    ∙ ap (λ (q : Place). cond (is_in_bounds b q) (get_or begun (index_of cols p) None) None)
-    (place_at-index_of cols p col)
-    ∙ ap (λ (o : Option ℕ). cond (is_in_bounds b p) o None)
-    (sym (entry-inside cols rows begun p row col))
-
--- Let `counts` be the initial counts at a window's spots. None is above `no_count`. At a spot of
--- the tile, the count is the cell's entry in `begun`, the initial counts of the terrain. At other
--- spots it is unknown, as in `tile_begun`, which has no entries outside the tile.
+-- Initial counts at a window's spots are lengths of flat walks.
 module _ (t : Terrain) (b : Bounds) (counts : List ℕ)
     (are : AreBegunSpots (ShowsDraining (DrainsAtOnce t) b) b counts) where
   pub begun_small : AreAtMostNoCount counts
@@ -242,171 +197,31 @@ module _ (t : Terrain) (b : Bounds) (counts : List ℕ)
     | inr past ↦ omega (arith, get_or_past counts k 0 (omega (arith, are.size)))
   ]
 
-  module _ (begun : List (Option ℕ)) (first : AreInitialCounts t begun) where
-    abbrev tile_begun : List (Option ℕ)
-    tile_begun = in_tile_of t.cols t.rows b begun
+  begun_sound : AreSoundSpots t b counts
+  begun_sound s spot less =
+      let n = count_on b counts s in
+      let at = (are.each s spot (spot_below b s spot)).1.only n (known-some n less) in (
+        at.0.1,
+        at.0.2,
+        subst (λ (m : ℕ). IsWalked (DrainsAtOnce t) t at.0.1 m) (sym at.1) (omega arith, [], at.0.3, refl),
+      )
 
-    -- a place of the tile has the same entry in both lists
-    pub entry_here : (p : Place) → IsInBounds b p → entry_at t.cols t.rows tile_begun p
-        ≡ entry_at t.cols t.rows begun p
-    entry_here p within = elim (cases_lt p.row t.rows) [
-      | inl row ↦ elim (cases_lt p.col t.cols) [
-        | inl col ↦ in_tile_entry t.cols t.rows b begun p row col
-            ∙ cond-true _ _ _ (in_bounds_from b p within)
-        | inr beside ↦ entry-beside t.cols t.rows tile_begun p beside
-            ∙ sym (entry-beside t.cols t.rows begun p beside)
-      ]
-      | inr past ↦ entry-below t.cols t.rows tile_begun p past
-          ∙ sym (entry-below t.cols t.rows begun p past)
-    ]
-
-    -- each known entry is that of a place of the tile
-    pub known_here : (p : Place) (n : ℕ) → entry_at t.cols t.rows tile_begun p ≡ Some n →
-        IsInBounds b p × (entry_at t.cols t.rows begun p ≡ Some n)
-    known_here p n e =
-        let inside = inside_from_entry t.cols t.rows tile_begun p n e in
-        let is = sym (in_tile_entry t.cols t.rows b begun p inside.0 inside.1) ∙ e in
-        elim (cases_Bool (is_in_bounds b p)) [
-          | inl within ↦ (in_bounds_parts b p within, sym (cond-true _ _ _ within) ∙ is)
-          | inr out ↦ absurd (none-some n (sym (cond-false _ _ _ out) ∙ is))
-        ]
-
-    value : (s p : Place) (n : ℕ) → Shows b s p → IsSpot b s →
-        IsInitialCount (ShowsDraining (DrainsAtOnce t) b) s (known n) →
-        known n ≡ entry_at t.cols t.rows tile_begun p
-    value s p n shows spot is =
-        one_begun (ShowsDraining (DrainsAtOnce t) b) s (known n)
-        (entry_at t.cols t.rows tile_begun p) is
-        (record {
-          zero = λ drains.
-              let same = shows_same b s drains.1 p drains.2 shows in
-              let now = subst (λ (q : Place). DrainsAtOnce t q) same drains.3 in
-              entry_here p (in_tile drains.0)
-              ∙ (first.each p (data_inside t p (drains_data t p now))).zero now;
-          only = λ m e.
-              let at = known_here p m e in
-              let inside = inside_from_entry t.cols t.rows begun p m at.1 in
-              let now = (first.each p inside).only m at.1 in
-              ((inner at.0, p, shows, now.0), now.1);
-        })
-      where
-        in_tile : IsInner b s → IsInBounds b p
-        in_tile i = (
-          omega (arith, shows.0, i.first_row),
-          omega (arith, shows.0, i.last_row),
-          omega (arith, shows.1, i.first_col),
-          omega (arith, shows.1, i.last_col),
-        )
-
-        inner : IsInBounds b p → IsInner b s
-        inner i = record {
-          first_row = omega (arith, shows.0, i.0);
-          last_row = omega (arith, shows.0, i.1);
-          first_col = omega (arith, shows.1, i.2);
-          last_col = omega (arith, shows.1, i.3);
-        }
-
-    off : (s : Place) (n : ℕ) → IsOff b s →
-        IsInitialCount (ShowsDraining (DrainsAtOnce t) b) s (known n) → known n ≡ None
-    off s n out is = at (known n) refl
-      where
-        at : (o : Option ℕ) → known n ≡ o → known n ≡ None
-        at None e = e
-        at (Some m) e = let d = (is.only m e).0 in absurd (shows_none b s d.1 d.2 out)
-
-    begun_window : AreWindowCounts t.cols t.rows tile_begun b counts
-    begun_window = record {
-      shown = map known counts;
-      size = length-map counts known ∙ are.size;
-      seen = λ s spot.
-          let below = spot_below b s spot in
-          let at = are.each s spot below in
-          let is =
-          get_or-map known counts (spot_index b s) 0 None (omega (arith, are.size, below)) in (
-            λ p shows. is ∙ value s p (count_on b counts s) shows spot at.1,
-            λ out. is ∙ off s (count_on b counts s) out at.1,
-          );
-      value = known_again counts begun_small;
-    }
-
-    here_walked : AreWalked (HasCountZero t tile_begun) t tile_begun
-    here_walked p = if_some (entry_at t.cols t.rows tile_begun p)
-        (IsWalked (HasCountZero t tile_begun) t p)
-        (λ n e.
-        let at = known_here p n e in
-        let now = (first.each p (inside_from_entry t.cols t.rows begun p n at.1)).only n at.1 in
-        (omega (arith, now.1), [], (drains_data t p now.0, e ∙ ap Some now.1), sym now.1))
-
-begun_at : (t : Terrain) (p : Place) → (count : Option ℕ) × IsInitialCount (DrainsAtOnce t) p count
-begun_at t p = elim (drains_at_once t p) [
-  | inl drains ↦
-      (Some 0, record { zero = λ _. refl; only = λ n e. (drains, same_Some n 0 (sym e)) })
-  | inr keeps ↦ (
-    None,
-    record { zero = λ drains. absurd (keeps drains); only = λ n e. absurd (none-some n e) },
-  )
-]
-
-abbrev begun_in : Terrain → ℕ → Option ℕ
-begun_in t k = (begun_at t (place_at t.cols k)).0
-
-pub some_begun : (t : Terrain) → (begun : List (Option ℕ)) × AreInitialCounts t begun
-some_begun t =
-    let count = t.cols * t.rows in
-    let begun = map (begun_in t) (range_with_len 0 count) in (
-      begun,
-      record {
-        size = length-map (range_with_len 0 count) (begun_in t) ∙ length-range_with_len 0 count;
-        each = λ p inside.
-            let at = entry-inside t.cols t.rows begun p inside.0 inside.1
-            ∙ get_or-map-range_with_len (begun_in t) 0 count (index_of t.cols p)
-            (index_of t.cols p) None (index_below t.cols t.rows p inside.0 inside.1) (omega arith)
-            ∙ ap (λ q. (begun_at t q).0) (place_at-index_of t.cols p inside.1) in
-            subst (λ (o : Option ℕ). IsInitialCount (DrainsAtOnce t) p o) (sym at) (begun_at t p).1;
-      },
-    )
-
--- a search from the initial counts of a tile gives the counts of the first round
-pub begun_round : (t : Terrain) (v : View (Option ℤ)) (c : Cutting) (tile : ℕ) (b : Bounds)
-    (levels : List (Option ℤ)) (old new : List ℕ) (list begun : List (Option ℕ)) →
-    v ≡ record { cutting = c; tile = tile; cells = t.cells } → Cuts c t → IsCutting v.cutting →
-    b ≡ bounds_of v.cutting v.tile →
-    AreEntriesShown (terrain_of v) v.cells b levels →
-    AreBegunSpots (ShowsDraining (DrainsAtOnce t) b) b old → AreInitialCounts t begun →
-    IsSearched b levels old new → IsMadeUpTo b (IsCopied b new) (b.rows * b.cols) list →
-    IsRoundInside (DrainsAtOnce t) t c tile begun list
-begun_round t v c tile b levels old new list begun e cuts lawful bounds shown are first finished
-    out =
-    let w : View (Option ℤ) = record { cutting = c; tile = tile; cells = t.cells } in
-    let u : Terrain = record { cols = c.cols; rows = c.rows; cells = t.cells; sinks = [] } in
-    let now =
-    subst (λ (z : View (Option ℤ)). IsCutting z.cutting × (b ≡ bounds_of z.cutting z.tile)
-    × AreEntriesShown (terrain_of z) z.cells b levels) e
-    (lawful, bounds, shown) in
-    let same = same_terrain t c.cols c.rows t.cells cuts.0 cuts.1 refl in
-    let inside = in_tile_of c.cols c.rows b begun in
-    let sized : in_tile_of t.cols t.rows b begun ≡ inside = rw (cuts.0, cuts.1) refl in
-    let input = rw (← cuts.0, ← cuts.1) at (begun_window t b old are begun first) in
-    let walks = subst (λ (x : Terrain). AreWalked (HasCountZero x inside) x inside) same
-    (are_walked_to (HasCountZero t inside) (HasCountZero t inside) t [] inside (λ p i. i)
-    (subst (λ (xs : List (Option ℕ)). AreWalked (HasCountZero t xs) t xs) sized
-    (here_walked t b old are begun first))) in
-    let round = round_from w (record { cutting = c; tile = tile; cells = inside })
-    b levels old new list now.0 now.1 now.2 input walks finished out in
-    let known_begun : (p : Place) (n : ℕ) → entry_at c.cols c.rows inside p ≡ Some n →
-    entry_at c.cols c.rows begun p ≡ Some n = λ p n is.
-    ((rw (← cuts.0, ← cuts.1) at (known_here t b old are begun first)) p n is).1 in
-    let back : with_sinks u t.sinks ≡ t = with_own_sinks t c.cols c.rows cuts.0 cuts.1 in
-    let to = subst (λ (x : Terrain). IsRound (DrainsAtOnce t) x c tile inside list) back
-    (round_to (HasCountZero u inside) (DrainsAtOnce t) u t.sinks c tile inside list
-    (λ p zero. zeros_drain t begun first p
-    (rw (cuts.0, cuts.1) at zero.0, rw (cuts.0, cuts.1) at (known_begun p 0 zero.1))) round) in
-    record {
-      size = to.inside.size;
-      walked = to.inside.walked;
-      within = to.inside.within;
-      kept = λ p m i is. to.inside.kept p m i
-          (subst (λ (xs : List (Option ℕ)). entry_at t.cols t.rows xs p ≡ Some m) sized
-          (entry_here t b old are begun first p (subst (λ (z : Bounds). IsInBounds z p) (sym now.1)
-          (in_bounds c tile p now.0 i)) ∙ is));
-    }
+  -- a search from them keeps the counts of the tile sound
+  pub begun_tile : (c : Cutting) (tile : ℕ) (levels : List (Option ℤ)) (new : List ℕ)
+      (list : List (Option ℕ)) → IsCutting c → b ≡ bounds_of c tile → AreEntriesShown t t.cells b levels →
+      IsSpread b levels counts new → IsMadeUpTo b (IsCopied b new) (b.rows * b.cols) list →
+      AreSoundInTile t c tile list
+  begun_tile c tile levels new list cutting bounds on spread out = record {
+    size = tile_size t c tile b new list cutting bounds out;
+    zeros = λ p i drains.
+        let inner = inner_of t c tile b new list cutting bounds out p i in
+        let s = spot_of b p in
+        let zero = (are.each s (spot_from_inner b s inner.0) (spot_below b s (spot_from_inner b s inner.0))).1.zero
+        (inner.0, p, inner.1, drains) in
+        let fewer = (spread_not_above b levels counts new spread).each (spot_index b s) in
+        let at = at_most t c tile b new list cutting bounds out p 0 i
+        (omega (arith, fewer, known_is (count_on b counts s) 0 zero)) (omega arith) in
+        at.1 ∙ ap Some (omega (arith, at.2));
+    walked = tile_walked t c tile b new list cutting bounds out
+        (sound_after t b levels on counts new are.size begun_small begun_sound spread);
+  }

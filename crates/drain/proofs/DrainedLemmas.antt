@@ -1,6 +1,6 @@
 -- In a map of directions exactly the data cells have steps and codes. Each code but 0 leads to a
 -- data cell that is lower, or as high with fewer steps (`IsDraining`).
-use Rattle.std.proofs.Common.{◌≡◌, ℕ, ◌<◌, inl, inr, List, [], Option, None, Some, MatchOption, is_some, ℤ, sym, ap, subst, refl, ◌∙◌}
+use Rattle.std.proofs.Common.{◌≡◌, ℕ, ◌<◌, inl, inr, List, [], Option, None, Some, MatchOption, is_some, ℤ, sym, ap, subst, ◌∙◌}
 use Rattle.std.proofs.lemmas.Bool.{cases_lt}
 use Rattle.std.proofs.lemmas.Option.{MatchOption-at_some, MatchOption-at_none, same_Some, none-some}
 use Rattle.terrain.proofs.Places.{entry-below, entry-beside, inside_from_entry}
@@ -67,8 +67,3 @@ pub same_terrain : (t : Terrain) (cols rows : ℕ) (cells : List (Option ℤ)) �
     cols ≡ t.cols → rows ≡ t.rows → cells ≡ t.cells →
     with_sinks t [] ≡ record { cols = cols; rows = rows; cells = cells; sinks = [] }
 same_terrain t cols rows cells a b c = cc
-
--- a terrain is given by its size, cells and sinks
-pub with_own_sinks : (t : Terrain) (cols rows : ℕ) → cols ≡ t.cols → rows ≡ t.rows →
-    with_sinks (record { cols = cols; rows = rows; cells = t.cells; sinks = [] }) t.sinks ≡ t
-with_own_sinks t cols rows a b = rw (a, b) refl

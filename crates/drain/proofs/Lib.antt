@@ -12,7 +12,6 @@ pub mod Counted
 pub mod TileLists
 -- the initial counts of a tile's window, and the search over it
 pub mod Spreading
-pub mod Noted
 pub mod Least
 pub mod Begun
 pub mod TileRound

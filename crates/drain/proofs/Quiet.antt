@@ -7,12 +7,11 @@ use Rattle.terrain.proofs.Places.{inside_from_entry}
 use Rattle.terrain.specs.Raster.{Terrain, IsTerrain}
 use Rattle.terrain.specs.Neighbours.{height_at, entry_at, IsDataCell, IsNeighbour}
 use Rattle.drainage.specs.Filled.{IsFilled}
-use Rattle.terrain.specs.Sinks.{with_sinks}
 use Rattle.terrain.specs.declared.place.Place.{Place}
-use Rattle.tiles.specs.Cutting.{Cutting, Cuts, IsCutting, tile_of_place, IsInTile, tile_entry}
+use Rattle.tiles.specs.Cutting.{Cutting, Cuts, IsCutting, tile_of_place, IsInTile}
 use Rattle.drain.specs.Beginning.{HasZeros, AreInitialCounts, KeepsCounts}
 use Rattle.drain.specs.Steps.{DrainsAtOnce, IsWalkAtOneHeight, IsFlatWalk, IsSteps, AreSteps}
-use Rattle.drain.specs.Rounds.{HasCountZero, IsWalked, AreWalked, IsAtMostOneAbove, IsRound}
+use Rattle.drain.specs.Rounds.{IsWalked, AreWalked, IsAtMostOneAbove}
 use Rattle.drain.proofs.Counted.{has_steps}
 use Rattle.drainage.proofs.Reach.{data_inside}
 use Rattle.terrain.proofs.Options.{cases_option}
@@ -33,34 +32,6 @@ pub ended : (Ends : Place → Type 0) (t : Terrain) (p : Place) (rest : List Pla
     IsWalkAtOneHeight Ends t p rest → length rest ≡ 0 → Ends p
 ended Ends t p [] walk none = walk
 ended Ends t p (q ∷ rest) walk none = absurd (omega (arith, none))
-
-next_with : (t : Terrain) (sinks : List Place) (p q : Place) → IsNeighbour t p q →
-    IsNeighbour (with_sinks t sinks) p q
-next_with t sinks p q next = record {
-  different = next.different;
-  touches = next.touches;
-  from_data = next.from_data;
-  to_data = next.to_data;
-}
-
-walk_to : (A B : Place → Type 0) (t : Terrain) (sinks : List Place) →
-    ((p : Place) → A p → B p) → (p : Place) (rest : List Place) → IsWalkAtOneHeight A t p rest →
-    IsWalkAtOneHeight B (with_sinks t sinks) p rest
-walk_to A B t sinks to p [] walk = to p walk
-walk_to A B t sinks to p (q ∷ rest) walk =
-    (next_with t sinks p q walk.0, walk.1, walk_to A B t sinks to q rest walk.2)
-
--- a walk to a place of A is a walk to a place of B, if A implies B, with any sinks
-pub walked_to : (A B : Place → Type 0) (t : Terrain) (sinks : List Place) → ((p : Place) → A p →
-    B p) → (p : Place) (n : ℕ) → IsWalked A t p n → IsWalked B (with_sinks t sinks) p n
-walked_to A B t sinks to p n w = (w.0, w.1, walk_to A B t sinks to p w.1 w.2, w.3)
-
-pub are_walked_to :
-    (A B : Place → Type 0) (t : Terrain) (sinks : List Place) (steps : List (Option ℕ)) →
-    ((p : Place) → A p → B p) → AreWalked A t steps → AreWalked B (with_sinks t sinks) steps
-are_walked_to A B t sinks steps to walked p =
-    if_some (entry_at t.cols t.rows steps p) (IsWalked B (with_sinks t sinks) p) (λ n e.
-    walked_to A B t sinks to p n (MatchOption-at_some _ _ n e (walked p)))
 
 -- Counts are the steps of a filled terrain under three conditions. Cells that drain at once have 0,
 -- and known counts are lengths of flat walks. Each count is at most one above the known counts of
@@ -114,15 +85,8 @@ pub in_own_tile : (t : Terrain) (c : Cutting) (p : Place) → Cuts c t → (p.ro
 in_own_tile t c p cuts inside =
     ((omega (arith, inside.0, cuts.1), omega (arith, inside.1, cuts.0)), refl)
 
-pub begun_zeros : (t : Terrain) (counts : List (Option ℕ)) → AreInitialCounts t counts →
-    (p : Place) →
-    DrainsAtOnce t p → HasCountZero t counts p
-begun_zeros t counts begun p drains = let is = drains_data t p drains in
-    (is, (begun.each p (data_inside t p is)).zero drains)
-
-pub zeros_drain : (t : Terrain) (counts : List (Option ℕ)) → AreInitialCounts t counts → (p : Place) →
-    HasCountZero t counts p → DrainsAtOnce t p
-zeros_drain t counts begun p input = ((begun.each p (data_inside t p input.0)).only 0 input.1).0
+pub begun_zeros : (t : Terrain) (counts : List (Option ℕ)) → AreInitialCounts t counts → HasZeros t counts
+begun_zeros t counts begun p drains = (begun.each p (data_inside t p (drains_data t p drains))).zero drains
 
 -- each known initial count is 0, the length of a walk without moves
 pub begun_walked : (Ends : Place → Type 0) (t : Terrain) (counts : List (Option ℕ)) →
@@ -132,23 +96,6 @@ begun_walked Ends t counts begun to p =
     let at = (begun.each p (inside_from_entry t.cols t.rows counts p n e)).only n e in
     (omega (arith, at.1), [], to p at.0, sym at.1))
 
--- counts of a round with walks to places of A are also those of a round with walks to places of B,
--- if A implies B, with any sinks
-pub round_to : (A B : Place → Type 0) (t : Terrain) (sinks : List Place) (c : Cutting) (tile : ℕ)
-    (old new : List (Option ℕ)) → ((p : Place) → A p → B p) →
-    IsRound A t c tile old new → IsRound B (with_sinks t sinks) c tile old new
-round_to A B t sinks c tile old new to round = record {
-  inside = record {
-    size = round.inside.size;
-    walked = λ p i. if_some (tile_entry c tile new p) (IsWalked B (with_sinks t sinks) p) (λ n e.
-        walked_to A B t sinks to p n (MatchOption-at_some _ _ n e (round.inside.walked p i)));
-    within = λ p q here there next.
-        round.inside.within p q here there (next_with (with_sinks t sinks) t.sinks p q next);
-    kept = round.inside.kept;
-  };
-  near = λ p q here next. round.near p q here (next_with (with_sinks t sinks) t.sinks p q next);
-}
-
 pub counts_are_steps : (t : Terrain) (c : Cutting) (steps : List (Option ℕ)) (lists : ℕ →
     List (Option ℕ)) → Cuts c t → IsCutting c → HasZeros t steps → KeepsCounts t c steps lists →
     IsTerrain t → IsFilled t t.cells → length steps ≡ t.cols * t.rows → AreSteps t steps
@@ -157,8 +104,7 @@ counts_are_steps t c steps lists cuts cutting zeros quiet lawful filled size =
     (λ p. if_some (entry_at t.cols t.rows steps p) (IsWalked (DrainsAtOnce t) t p) (λ n e.
     let here = in_own_tile t c p cuts (inside_from_entry t.cols t.rows steps p n e) in
     MatchOption-at_some _ _ n (quiet.same (tile_of_place c p) p here ∙ e)
-    ((quiet.rounds (tile_of_place c p) (tile_of_place_below c p cutting here.0)).inside.walked p
-    here)))
+    ((quiet.rounds (tile_of_place c p) (tile_of_place_below c p cutting here.0)).walked p here)))
     (λ p q next level m e less.
     let here = in_own_tile t c p cuts (data_inside t p next.from_data) in
     let near = (quiet.rounds (tile_of_place c p)

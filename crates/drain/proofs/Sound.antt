@@ -16,17 +16,17 @@ use Rattle.drainage.proofs.Reach.{data_inside}
 use Rattle.tiles.specs.Cutting.{AreTileLists, Cutting, Cuts, IsCutting, IsPutBack, IsWithin, tile_count, tile_entry, tile_of_place}
 use Rattle.tiles.proofs.Cut.{tile_of_place_below}
 use Rattle.tiles.proofs.PutBack.{entry_at-put_back}
-use Rattle.drain.specs.Beginning.{AreInitialCounts}
+use Rattle.drain.specs.Beginning.{AreSoundInTile}
 use Rattle.tile_maps.specs.Maps.{IsMadeTile}
 use Rattle.tile_maps.proofs.TileLists.{entry_of_tile}
 use Rattle.drainage.specs.Filled.{IsFilled}
-use Rattle.drain.specs.Counts.{AreChanges, AreCoded, AreCounts, IsChange, IsCheckedCode, IsCounted, IsStill, count_of, count_sum}
-use Rattle.drain.specs.Rounds.{IsAtMostOneAbove, IsRoundInside, IsWalked}
+use Rattle.drain.specs.Counts.{AreChanges, AreCoded, AreSoundCounts, IsChange, IsCheckedCode, IsCounted, IsStill, count_of, count_sum}
+use Rattle.drain.specs.Rounds.{IsAtMostOneAbove, IsWalked}
 use Rattle.drain.specs.Steps.{AreSteps, DrainsAtOnce}
 use Rattle.drain.specs.declared.changes.Change.{Change}
 use Rattle.drain.proofs.Few.{data_on_walk, drains_data}
 use Rattle.drain.proofs.Quiet.{if_some, still_is_steps}
-use Rattle.drain.proofs.TileRound.{some_of_known}
+use Rattle.drain.proofs.TileRound.{some_of_known, walked_on}
 use Rattle.drain.proofs.Unique.{at_place}
 
 small_walk : (t : Terrain) (p : Place) (o : Option ℕ) → IfSome o (IsWalked (DrainsAtOnce t) t p) →
@@ -34,7 +34,7 @@ small_walk : (t : Terrain) (p : Place) (o : Option ℕ) → IfSome o (IsWalked (
 small_walk t p None walked = omega arith
 small_walk t p (Some n) walked = omega (arith, walked.0)
 
-pub small : (t : Terrain) (steps : List (Option ℕ)) (k : ℕ) → AreCounts t steps →
+pub small : (t : Terrain) (steps : List (Option ℕ)) (k : ℕ) → AreSoundCounts t steps →
     count_of steps k ≤ 2 ^ 24
 small t steps k counts = elim (cases_lt k (t.cols * t.rows)) [
   | inl below ↦ at_place (λ (i : ℕ). count_of steps i ≤ 2 ^ 24) t.cols t.rows (λ p row col.
@@ -46,7 +46,7 @@ small t steps k counts = elim (cases_lt k (t.cols * t.rows)) [
 ]
 
 -- a known count is the length of a flat walk
-pub known_counted : (t : Terrain) (steps : List (Option ℕ)) (p : Place) (n : ℕ) → AreCounts t steps →
+pub known_counted : (t : Terrain) (steps : List (Option ℕ)) (p : Place) (n : ℕ) → AreSoundCounts t steps →
     IsInside t p → n ≡ count_of steps (index_of t.cols p) → n < 2 ^ 24 →
     IsCounted t (record { place = p; count = n })
 known_counted t steps p n counts inside is few =
@@ -55,33 +55,29 @@ known_counted t steps p n counts inside is few =
     let known = some_of_known (entry_at t.cols t.rows steps p) n (is ∙ same) few in
     record { inside = inside; walked = MatchOption-at_some _ _ n known (counts.walked p) }
 
-pub walked_next : (t : Terrain) (from : Change) (to : Place) → IsCounted t from → Touches to from.place →
-    to ≢ from.place → height_at t from.place ≡ height_at t to → from.count + 1 < 2 ^ 24 →
-    IsWalked (DrainsAtOnce t) t to (from.count + 1)
-walked_next t from to counted touch differ level few =
-    let walk = counted.walked in
-    let is_data = data_on_walk t from.place walk.1 walk.2 in
+-- a neighbour of equal height has a walk of one move more
+pub lower_change : (t : Terrain) (steps : List (Option ℕ)) (from : Change) (to : Place) →
+    AreSoundCounts t steps → IsCounted t from → IsInside t to → Touches to from.place → to ≢ from.place →
+    height_at t from.place ≡ height_at t to → from.count + 1 < count_of steps (index_of t.cols to) →
+    IsChange t steps (record { place = to; count = from.count + 1 })
+lower_change t steps from to counts counted inside touch differ level less =
+    let few : from.count + 1 < 2 ^ 24 = omega (arith, less, small t steps (index_of t.cols to) counts) in
+    let is_data = data_on_walk t from.place counted.walked.1 counted.walked.2 in
     let next : IsNeighbour t to from.place = record {
       different = differ;
       touches = touch;
       from_data = ap is_some (sym level) ∙ is_data;
       to_data = is_data;
     } in
-    (few, from.place ∷ walk.1, (next, level, walk.2), omega (arith, walk.3))
-
--- a neighbour of equal height has a walk of one move more
-pub lower_change : (t : Terrain) (steps : List (Option ℕ)) (from : Change) (to : Place) →
-    AreCounts t steps → IsCounted t from → IsInside t to → Touches to from.place → to ≢ from.place →
-    height_at t from.place ≡ height_at t to → from.count + 1 < count_of steps (index_of t.cols to) →
-    IsChange t steps (record { place = to; count = from.count + 1 })
-lower_change t steps from to counts counted inside touch differ level less =
-    let few : from.count + 1 < 2 ^ 24 = omega (arith, less, small t steps (index_of t.cols to) counts) in
     record {
-      counted = record { inside = inside; walked = walked_next t from to counted touch differ level few };
+      counted = record {
+        inside = inside;
+        walked = walked_on t from.place to from.count next level counted.walked few;
+      };
       less = less;
     }
 
-module _ (t : Terrain) (steps : List (Option ℕ)) (counts : AreCounts t steps) (x : Change)
+module _ (t : Terrain) (steps : List (Option ℕ)) (counts : AreSoundCounts t steps) (x : Change)
     (counted : IsCounted t x) (v : Option ℕ) (is : v ≡ Some x.count)
     (less : x.count < count_of steps (index_of t.cols x.place)) where
   abbrev index : ℕ
@@ -127,7 +123,7 @@ module _ (t : Terrain) (steps : List (Option ℕ)) (counts : AreCounts t steps) 
             (λ same. ne (index_injective t.cols p x.place within.1 counted.inside.1 same)) ∙ sym before,
       )
 
-  pub set_counts : AreCounts t after
+  pub set_counts : AreSoundCounts t after
   set_counts = record {
     size = length-set steps index v ∙ counts.size;
     zeros = λ p drains.
@@ -165,45 +161,44 @@ list_of c lists p lawful count within = elim (slice_get_cases lists (tile_of_pla
 ]
 
 -- The tiles' lists of the first round, put together, are counts of the terrain.
-module _ (t : Terrain) (c : Cutting) (begun : List (Option ℕ)) (lists : List (Vec (Option ℕ) Global))
-    (cuts : Cuts c t) (first : AreInitialCounts t begun) (count : length lists ≡ tile_count c)
+module _ (t : Terrain) (c : Cutting) (lists : List (Vec (Option ℕ) Global))
+    (cuts : Cuts c t) (count : length lists ≡ tile_count c)
     (given : (tile : ℕ) (list : Vec (Option ℕ) Global) → tile < tile_count c →
-    IsRoundInside (DrainsAtOnce t) t c tile begun (get_or lists tile list).items) where
-  round_at : (tile : ℕ) (list : Vec (Option ℕ) Global) → slice_get lists tile ≡ Some list →
-      IsRoundInside (DrainsAtOnce t) t c tile begun list.items
-  round_at tile list at =
+    AreSoundInTile t c tile (get_or lists tile list).items) where
+  sound_at : (tile : ℕ) (list : Vec (Option ℕ) Global) → slice_get lists tile ≡ Some list →
+      AreSoundInTile t c tile list.items
+  sound_at tile list at =
       let below : tile < tile_count c =
       subst (λ (k : ℕ). tile < k) count (slice_get_within lists tile list at) in
-      subst (λ (v : Vec (Option ℕ) Global). IsRoundInside (DrainsAtOnce t) t c tile begun v.items)
+      subst (λ (v : Vec (Option ℕ) Global). AreSoundInTile t c tile v.items)
       (get_or_from_slice_get lists tile list list at) (given tile list below)
 
   pub first_lists : AreTileLists c lists
-  first_lists = record { count = count; each = λ tile list at. (round_at tile list at).size }
+  first_lists = record { count = count; each = λ tile list at. (sound_at tile list at).size }
 
   module _ (whole : List (Option ℕ)) (lawful : IsCutting c) (put : IsPutBack c lists whole) where
     within : (p : Place) → IsInside t p → IsWithin c p
     within p inside = (omega (arith, inside.0, cuts.1), omega (arith, inside.1, cuts.0))
 
-    -- the place's count is that of its tile's list, after a round
-    counted_at : (p : Place) → IsInside t p → (list : Vec (Option ℕ) Global)
-        × IsRoundInside (DrainsAtOnce t) t c (tile_of_place c p) begun list.items
-        × (entry_at t.cols t.rows whole p ≡ tile_entry c (tile_of_place c p) list.items p)
+    -- the place's count is that of its tile's list
+    counted_at : (p : Place) → IsInside t p → (list : List (Option ℕ))
+        × AreSoundInTile t c (tile_of_place c p) list
+        × (entry_at t.cols t.rows whole p ≡ tile_entry c (tile_of_place c p) list p)
     counted_at p inside =
         let list = list_of c lists p lawful count (within p inside) in
         let here = entry_at-put_back c lists whole (tile_of_place c p) list.0 p put
         (within p inside, refl) list.1 in
         let same : entry_at t.cols t.rows whole p ≡ entry_at c.cols c.rows whole p =
         rw (sym cuts.0, sym cuts.1) refl in
-        (list.0, round_at (tile_of_place c p) list.0 list.1, same ∙ here)
+        (list.0.items, sound_at (tile_of_place c p) list.0 list.1, same ∙ here)
 
-    pub first_counts : AreCounts t whole
+    pub first_counts : AreSoundCounts t whole
     first_counts = record {
       size = put.size ∙ (let same : c.cols * c.rows ≡ t.cols * t.rows = rw (cuts.0, cuts.1) refl in same);
       zeros = λ p drains.
           let inside = data_inside t p (drains_data t p drains) in
           let at = counted_at p inside in
-          let kept = at.1.kept p 0 (within p inside, refl) ((first.each p inside).zero drains) in
-          at.2 ∙ kept.1 ∙ ap Some (let none : kept.0 ≡ 0 = omega (arith, kept.2) in none);
+          at.2 ∙ at.1.zeros p (within p inside, refl) drains;
       walked = λ p. if_some (entry_at t.cols t.rows whole p) (IsWalked (DrainsAtOnce t) t p) (λ n e.
           let inside = inside_from_entry t.cols t.rows whole p n e in
           let at = counted_at p inside in
@@ -239,7 +234,7 @@ module _ (t : Terrain) (c : Cutting) (steps : List (Option ℕ)) (lists : List (
       (each (tile_of_place c p) list.0 list.1) p (within, refl)).0
 
   -- the counts are the steps
-  pub certified : AreCounts t steps → IsTerrain t → IsFilled t t.cells → AreSteps t steps
+  pub certified : AreSoundCounts t steps → IsTerrain t → IsFilled t t.cells → AreSteps t steps
   certified counts terrain filled = still_is_steps t steps counts.zeros counts.walked
       (λ p q next level.
       let at_p = data_inside t p next.from_data in

@@ -1,5 +1,5 @@
--- A search over a tile's window gives the counts of a round over the tile. The window has one row
--- and one column more on each side.
+-- A search over a tile's window keeps counts lengths of flat walks, and searches until none lowers a
+-- count give those of a round over the tile. The window has one row and one column more on each side.
 use Rattle.std.proofs.Common.{◌≡◌, ◌≢◌, ℕ, ◌+◌, ◌-◌, ◌*◌, ◌^◌, ◌<◌, ◌≤◌, inl, inr, List, ◌∷◌, length, get_or, set, Option, None, Some, is_some, unwrap_or, IfSome, ℤ, sym, ap, subst, refl, ◌∙◌, arith}
 use Rattle.std.proofs.lemmas.Bool.{cases_eq, cases_lt}
 use Rattle.std.proofs.lemmas.List.{get_or-map, get_or-set_same, get_or-set_other, get_or_past, length-map}
@@ -9,9 +9,10 @@ use Rattle.terrain.specs.Raster.{Terrain}
 use Rattle.terrain.specs.Neighbours.{entry_or, height_at, entry_at, Touches, IsNeighbour, height_of}
 use Rattle.terrain.specs.declared.place.Place.{Place}
 use Rattle.tiles.specs.declared.bounds.Bounds.{Bounds}
-use Rattle.tiles.specs.Cutting.{Cutting, IsCutting, IsInBounds, IsInTile, bounds_of, tile_entry, View, terrain_of}
+use Rattle.tiles.specs.Cutting.{Cutting, IsCutting, IsInBounds, IsInTile, View, bounds_of, cell_count, tile_entry}
 use Rattle.tiles.proofs.Cut.{in_bounds}
-use Rattle.drain.specs.Rounds.{HasCountZero, IsWalked, AreWalked, IsAtMostOneAbove, IsRound}
+use Rattle.drain.specs.Rounds.{IsWalked, AreWalked, IsRound}
+use Rattle.drain.specs.Steps.{DrainsAtOnce}
 use Rattle.tile_maps.specs.Maps.{IsMadeUpTo, IsMadeTile}
 use Rattle.tile_maps.proofs.TileLists.{made_tile, entry_of_tile}
 use Rattle.drainage.specs.StepCounts.{known, no_count}
@@ -23,7 +24,7 @@ use Rattle.drain.proofs.Spreading.{spread_not_above, spread_counts, spread-lengt
 use Rattle.drain.proofs.Counted.{height_is}
 use Rattle.tiles.proofs.Spots.{shows_same}
 use Rattle.drain.proofs.Unique.{at_place}
-use Rattle.drain.proofs.Few.{data_on_level_walk}
+use Rattle.drain.proofs.Few.{data_on_walk}
 
 -- a spot with a value shows a place that has this value in the list
 is_on : {X : Type 0} (cols rows : ℕ) (entries : List (Option X)) (b : Bounds) (s : Place)
@@ -44,11 +45,10 @@ is_on {X = X} cols rows entries b s o x shown is =
       ]
     ]
 
--- Each known count is the length of a walk at one height from the place of its spot to a cell of
--- count 0.
-IsSound : Terrain → List (Option ℕ) → Bounds → List ℕ → Type 0
-IsSound t steps b counts = (s : Place) → IsSpot b s → count_on b counts s < no_count →
-    (p : Place) × Shows b s p × IsWalked (HasCountZero t steps) t p (count_on b counts s)
+-- Each known count is the length of a flat walk from the place of its spot.
+abbrev pub AreSoundSpots : Terrain → Bounds → List ℕ → Type 0
+AreSoundSpots t b counts = (s : Place) → IsSpot b s → count_on b counts s < no_count →
+    (p : Place) × Shows b s p × IsWalked (DrainsAtOnce t) t p (count_on b counts s)
 
 count-known : (b : Bounds) (shown : List (Option ℕ)) (s : Place) →
     length shown ≡ area_of b → IsSpot b s →
@@ -62,8 +62,7 @@ some_of_known (Some m) n e less = ap Some (sym e)
 
 sound_begin : (t : Terrain) (b : Bounds) (steps shown : List (Option ℕ)) →
     length shown ≡ area_of b → AreEntriesShown t steps b shown →
-    AreWalked (HasCountZero t steps) t steps → IsSound t steps b (known_counts shown)
-unfolding IsSound
+    AreWalked (DrainsAtOnce t) t steps → AreSoundSpots t b (known_counts shown)
 sound_begin t b steps shown size on walked = λ s spot less.
     let n = count_on b (known_counts shown) s in
     let some =
@@ -87,83 +86,70 @@ apart_places b s r p q f g ne e =
     let col : q.col ≡ p.col = ap (λ (x : Place). x.col) e in
     ne (same_place s r (omega (arith, f.0, g.0, row)) (omega (arith, f.1, g.1, col)))
 
--- a walk of m moves from a neighbour of equal height gives one of m + 1, if that is below 2^24
-pub walked_on : (t : Terrain) (steps : List (Option ℕ)) (p q : Place) (m n : ℕ) →
-    IsNeighbour t q p → height_at t p ≡ height_at t q → IsWalked (HasCountZero t steps) t p m →
-    n ≡ m + 1 → n < 2 ^ 24 → IsWalked (HasCountZero t steps) t q n
-walked_on t steps p q m n next level walk is less =
-    (less, p ∷ walk.1, (next, level, walk.2), omega (arith, walk.3, is))
+-- a walk from a neighbour of equal height gives one of one move more, if that is below 2^24
+pub walked_on : (t : Terrain) (p q : Place) (m : ℕ) → IsNeighbour t q p → height_at t p ≡ height_at t q →
+    IsWalked (DrainsAtOnce t) t p m → m + 1 < 2 ^ 24 → IsWalked (DrainsAtOnce t) t q (m + 1)
+walked_on t p q m next level walk less = (less, p ∷ walk.1, (next, level, walk.2), omega (arith, walk.3))
 
-sound_moved : (t : Terrain) (steps : List (Option ℕ)) (b : Bounds) (levels : List (Option ℤ))
-    (some : List ℕ) (s r : Place) (n : ℕ) →
-    AreEntriesShown t t.cells b levels → IsSound t steps b some →
-    IsSpot b s → IsSpot b r → Touches s r → s ≢ r → level_on b levels s ≡ level_on b levels r →
-    n ≡ count_on b some s + 1 → n < no_count → (q : Place) × Shows b r q
-    × IsWalked (HasCountZero t steps) t q n
-unfolding IsSound
-sound_moved t steps b levels some s r n on sound spot other touch differ level is less =
-    let from = sound s spot (omega (arith, is)) in
-    let known_place =
-    data_on_level_walk (HasCountZero t steps) t (λ z input. input.0) from.0 from.2.1 from.2.2 in
-    let height = height_is t from.0 known_place in
-    let here : level_on b levels s ≡ Some (height_of t from.0) = (on s spot).0 from.0 from.1
-    ∙ height in
-    let to = is_on t.cols t.rows t.cells b r (level_on b levels r) (height_of t from.0) (on r other)
-    (sym level ∙ here) in (
-      to.0,
-      to.1,
-      walked_on t steps from.0 to.0 (count_on b some s) n
-          (record {
-            different = apart_places b s r from.0 to.0 from.1 to.1 differ;
-            touches = touching_places b s r from.0 to.0 from.1 to.1 touch;
-            from_data = ap is_some to.2;
-            to_data = known_place;
-          })
-          (height ∙ sym to.2) from.2 is less,
-    )
+module _ (t : Terrain) (b : Bounds) (levels : List (Option ℤ)) (on : AreEntriesShown t t.cells b levels) where
+  sound_moved : (some : List ℕ) (s r : Place) (n : ℕ) → AreSoundSpots t b some → IsSpot b s → IsSpot b r →
+      Touches s r → s ≢ r → level_on b levels s ≡ level_on b levels r → n ≡ count_on b some s + 1 →
+      n < no_count → (q : Place) × Shows b r q × IsWalked (DrainsAtOnce t) t q n
+  sound_moved some s r n sound spot other touch differ level is less =
+      let from = sound s spot (omega (arith, is)) in
+      let is_data = data_on_walk t from.0 from.2.1 from.2.2 in
+      let height = height_is t from.0 is_data in
+      let here : level_on b levels s ≡ Some (height_of t from.0) = (on s spot).0 from.0 from.1 ∙ height in
+      let to = is_on t.cols t.rows t.cells b r (level_on b levels r) (height_of t from.0) (on r other)
+      (sym level ∙ here) in
+      let next : IsNeighbour t to.0 from.0 = record {
+        different = apart_places b s r from.0 to.0 from.1 to.1 differ;
+        touches = touching_places b s r from.0 to.0 from.1 to.1 touch;
+        from_data = ap is_some to.2;
+        to_data = is_data;
+      } in (
+        to.0,
+        to.1,
+        subst (λ (k : ℕ). IsWalked (DrainsAtOnce t) t to.0 k) (sym is)
+            (walked_on t from.0 to.0 (count_on b some s) next (height ∙ sym to.2) from.2 (omega (arith, is, less))),
+      )
 
-sound_set : (t : Terrain) (steps : List (Option ℕ))
-    (b : Bounds) (counts : List ℕ) (r : Place) (n : ℕ) → length counts ≡ area_of b → IsSpot b r →
-    IsSound t steps b counts → ((q : Place) × Shows b r q × IsWalked (HasCountZero t steps) t q n) →
-    IsSound t steps b (set counts (spot_index b r) n)
-unfolding IsSound
-sound_set t steps b counts r n size spot sound moved_to = λ s inside less. elim (cases_place s r) [
-  | inl e ↦ (let at : count_on b (set counts (spot_index b r) n) r ≡ n =
-      get_or-set_same counts (spot_index b r) n 0 (omega (arith, size, spot_below b r spot)) in
-      subst (λ (x : Place). (p : Place) × Shows b x p
-      × IsWalked (HasCountZero t steps) t p (count_on b (set counts (spot_index b r) n) x))
-      (sym e) (
-        moved_to.0,
-        moved_to.1,
-        subst (λ m. IsWalked (HasCountZero t steps) t moved_to.0 m) (sym at) moved_to.2,
-      ))
-  | inr ne ↦ (let apart : spot_index b s ≢ spot_index b r =
-      λ i. ne (index_injective (b.cols + 2) s r inside.1 spot.1 i) in
-      let at : count_on b (set counts (spot_index b r) n) s ≡ count_on b counts s =
-      get_or-set_other counts (spot_index b r) (spot_index b s) n 0 apart in
-      let was = sound s inside (omega (arith, at)) in
-      (was.0, was.1, subst (λ m. IsWalked (HasCountZero t steps) t was.0 m) (sym at) was.2))
-]
+  sound_set : (counts : List ℕ) (r : Place) (n : ℕ) → length counts ≡ area_of b → IsSpot b r →
+      AreSoundSpots t b counts → ((q : Place) × Shows b r q × IsWalked (DrainsAtOnce t) t q n) →
+      AreSoundSpots t b (set counts (spot_index b r) n)
+  sound_set counts r n size spot sound moved_to = λ s inside less. elim (cases_place s r) [
+    | inl e ↦ (let at : count_on b (set counts (spot_index b r) n) r ≡ n =
+        get_or-set_same counts (spot_index b r) n 0 (omega (arith, size, spot_below b r spot)) in
+        subst (λ (x : Place). (p : Place) × Shows b x p
+        × IsWalked (DrainsAtOnce t) t p (count_on b (set counts (spot_index b r) n) x))
+        (sym e) (
+          moved_to.0,
+          moved_to.1,
+          subst (λ m. IsWalked (DrainsAtOnce t) t moved_to.0 m) (sym at) moved_to.2,
+        ))
+    | inr ne ↦ (let apart : spot_index b s ≢ spot_index b r =
+        λ i. ne (index_injective (b.cols + 2) s r inside.1 spot.1 i) in
+        let at : count_on b (set counts (spot_index b r) n) s ≡ count_on b counts s =
+        get_or-set_other counts (spot_index b r) (spot_index b s) n 0 apart in
+        let was = sound s inside (omega (arith, at)) in
+        (was.0, was.1, subst (λ m. IsWalked (DrainsAtOnce t) t was.0 m) (sym at) was.2))
+  ]
 
-sound_after : (t : Terrain) (steps : List (Option ℕ)) (b : Bounds) (levels : List (Option ℤ))
-    (old new : List ℕ) →
-    AreEntriesShown t t.cells b levels → length old ≡ area_of b →
-    AreAtMostNoCount old → IsSound t steps b old → IsSpread b levels old new → IsSound t steps b new
-sound_after t steps b levels old new on size small sound same = sound
-sound_after t steps b levels old new on size small sound
-    (moved counts some s r n before earlier spot other touch differ level from less) =
-    sound_set t steps b counts r n (spread-length b levels old counts before
-    ∙ size) other (sound_after t steps b levels old counts on size small sound before)
-    (sound_moved t steps b levels some s r n on (sound_after t steps b levels old some on size small
-    sound earlier) spot other touch differ level from
-    (omega (arith, less, spread_counts b levels old counts small before (spot_index b r))))
+  pub sound_after : (old new : List ℕ) → length old ≡ area_of b → AreAtMostNoCount old →
+      AreSoundSpots t b old → IsSpread b levels old new → AreSoundSpots t b new
+  sound_after old new size small sound same = sound
+  sound_after old new size small sound
+      (moved counts some s r n before earlier spot other touch differ level from less) =
+      sound_set counts r n (spread-length b levels old counts before ∙ size) other
+      (sound_after old counts size small sound before)
+      (sound_moved some s r n (sound_after old some size small sound earlier) spot other touch differ level from
+      (omega (arith, less, spread_counts b levels old counts small before (spot_index b r))))
 
-spot_of : Bounds → Place → Place
+abbrev pub spot_of : Bounds → Place → Place
 spot_of b p = make_place (p.row + 1 - b.top) (p.col + 1 - b.left)
 
-spot_inner : (b : Bounds) (p : Place) → IsInBounds b p → IsInner b (spot_of b p)
+pub spot_inner : (b : Bounds) (p : Place) → IsInBounds b p → IsInner b (spot_of b p)
     × Shows b (spot_of b p) p
-unfolding spot_of
 spot_inner b p i = (
   record {
     first_row = omega (arith, i.0);
@@ -176,9 +162,8 @@ spot_inner b p i = (
 
 -- a place that touches a place of the tile has a spot in the window
 spot_beside : (b : Bounds) (p q s : Place) → IsInner b s → Shows b s p → Touches p q →
-    (r : Place) × IsSpot b r × Shows b r q × Touches s r
+    IsSpot b (spot_of b q) × Shows b (spot_of b q) q × Touches s (spot_of b q)
 spot_beside b p q s i f t = (
-  make_place (q.row + 1 - b.top) (q.col + 1 - b.left),
   (omega (arith, f.0, t.row_down, i.last_row), omega (arith, f.1, t.col_right, i.last_col)),
   (omega (arith, f.0, t.row_up, i.first_row), omega (arith, f.1, t.col_left, i.first_col)),
   record {
@@ -189,16 +174,7 @@ spot_beside b p q s i f t = (
   },
 )
 
-touching_spots : (b : Bounds) (p q s r : Place) → Shows b s p → Shows b r q → Touches p q →
-    Touches r s
-touching_spots b p q s r f g t = record {
-  row_down = omega (arith, f.0, g.0, t.row_up);
-  row_up = omega (arith, f.0, g.0, t.row_down);
-  col_right = omega (arith, f.1, g.1, t.col_left);
-  col_left = omega (arith, f.1, g.1, t.col_right);
-}
-
-known_is : (n m : ℕ) → known n ≡ Some m → n ≡ m
+pub known_is : (n m : ℕ) → known n ≡ Some m → n ≡ m
 known_is n m e = elim (cases_lt n no_count) [
   | inl less ↦ same_Some n m (sym (known-some n less) ∙ e)
   | inr more ↦ absurd (none-some m (sym (known-none n more) ∙ e))
@@ -212,7 +188,7 @@ known-if n P h = elim (cases_lt n no_count) [
 
 count_small : (t : Terrain) (b : Bounds) (s : Place) (steps : List (Option ℕ)) (o : Option ℕ) →
     IsShown (entry_or t.cols t.rows steps None) None b s o →
-    AreWalked (HasCountZero t steps) t steps → unwrap_or o no_count ≤ no_count
+    AreWalked (DrainsAtOnce t) t steps → unwrap_or o no_count ≤ no_count
 count_small t b s steps None on walks = omega arith
 count_small t b s steps (Some n) on walks =
     let place = is_on t.cols t.rows steps b s (Some n) n on refl in
@@ -220,7 +196,7 @@ count_small t b s steps (Some n) on walks =
 
 pub counts_small : (t : Terrain) (b : Bounds) (steps shown : List (Option ℕ)) →
     length shown ≡ area_of b → AreEntriesShown t steps b shown →
-    AreWalked (HasCountZero t steps) t steps → AreAtMostNoCount (known_counts shown)
+    AreWalked (DrainsAtOnce t) t steps → AreAtMostNoCount (known_counts shown)
 counts_small t b steps shown size seen walks k = elim (cases_lt k (area_of b)) [
   | inl less ↦ at_place (λ i. get_or (known_counts shown) i 0 ≤ no_count) (b.cols + 2) (b.rows + 2)
       (λ s row col. omega (
@@ -235,114 +211,42 @@ counts_small t b steps shown size seen walks k = elim (cases_lt k (area_of b)) [
   )
 ]
 
-module _ (t : Terrain) (c : Cutting) (tile : ℕ) (b : Bounds) (steps shown : List (Option ℕ))
-    (levels : List (Option ℤ)) (new : List ℕ) (list : List (Option ℕ))
+-- the tile's list of counts, copied from sound counts of its window
+module _ (t : Terrain) (c : Cutting) (tile : ℕ) (b : Bounds) (new : List ℕ) (list : List (Option ℕ))
     (cutting : IsCutting c) (bounds : b ≡ bounds_of c tile)
-    (on : AreEntriesShown t t.cells b levels)
-    (size : length shown ≡ area_of b)
-    (seen : AreEntriesShown t steps b shown) (walks : AreWalked (HasCountZero t steps) t steps)
-    (finished : IsSearched b levels (known_counts shown) new)
     (out : IsMadeUpTo b (IsCopied b new) (b.rows * b.cols) list) where
-  in_bounds_of : (p : Place) → IsInTile c tile p → IsInBounds b p
-  in_bounds_of p i =
-      subst (λ (z : Bounds). IsInBounds z p) (sym bounds) (in_bounds c tile p cutting i)
+  pub inner_of : (p : Place) → IsInTile c tile p → IsInner b (spot_of b p) × Shows b (spot_of b p) p
+  inner_of p i = spot_inner b p
+      (subst (λ (z : Bounds). IsInBounds z p) (sym bounds) (in_bounds c tile p cutting i))
 
-  small : AreAtMostNoCount (known_counts shown)
-  small = counts_small t b steps shown size seen walks
+  copied : IsMadeTile c tile (IsCopied b new) list
+  copied = made_tile c tile b (IsCopied b new) list cutting bounds out
 
-  handed : IsMadeTile c tile (IsCopied b new) list
-  handed = made_tile c tile b (IsCopied b new) list cutting bounds out
+  pub tile_size : length list ≡ cell_count c tile
+  tile_size = copied.size
 
   -- the tile's list has the count of each place's spot
-  entry_is : (p : Place) → IsInTile c tile p →
-      tile_entry c tile list p ≡ known (count_on b new (spot_of b p))
-  entry_is p i = entry_of_tile c tile (IsCopied b new) list cutting handed p i (spot_of b p)
-      (spot_inner b p (in_bounds_of p i)).1
+  pub entry_is : (p : Place) → IsInTile c tile p → tile_entry c tile list p ≡ known (count_on b new (spot_of b p))
+  entry_is p i = entry_of_tile c tile (IsCopied b new) list cutting copied p i (spot_of b p) (inner_of p i).1
 
-  -- the old count of a place, if known, is that of the spot that shows the place
-  input_is : (s q : Place) (m : ℕ) → IsSpot b s → Shows b s q →
-      entry_at t.cols t.rows steps q ≡ Some m → count_on b (known_counts shown) s ≡ m
-  input_is s q m spot f e =
-      count-known b shown s size spot
-      ∙ ap (λ (o : Option ℕ). unwrap_or o no_count) ((seen s spot).0 q f ∙ e)
-
-  walked_here : (p : Place) → IsInTile c tile p →
-      IfSome (tile_entry c tile list p) (IsWalked (HasCountZero t steps) t p)
-  unfolding IsSound
-  walked_here p i =
-      let inner = spot_inner b p (in_bounds_of p i) in
-      let sound = sound_after t steps b levels
-      (known_counts shown) new on (length-map shown (λ (o : Option ℕ). unwrap_or o no_count)
-      ∙ size) small (sound_begin t b steps shown size seen walks) finished.spread in
-      subst (λ (o : Option ℕ). IfSome o (IsWalked (HasCountZero t steps) t p)) (sym (entry_is p i))
-      (known-if (count_on b new (spot_of b p)) (IsWalked (HasCountZero t steps) t p) (λ less.
-      place_one p inner.1 (sound (spot_of b p) (spot_from_inner b (spot_of b p) inner.0) less)))
-    where
-      place_one : (p : Place) → Shows b (spot_of b p) p → (q : Place) × Shows b (spot_of b p) q
-          × IsWalked (HasCountZero t steps) t q (count_on b new (spot_of b p)) →
-          IsWalked (HasCountZero t steps) t p (count_on b new (spot_of b p))
-      place_one p f h = subst (λ (x : Place). IsWalked (HasCountZero t steps) t x
-          (count_on b new (spot_of b p))) (shows_same b (spot_of b p) h.0 p h.1 f) h.2
-
-  near_here : (p q : Place) → IsInTile c tile p → IsNeighbour t p q → height_at t q
-      ≡ height_at t p → IsAtMostOneAbove (tile_entry c tile list p) (entry_at t.cols t.rows steps q)
-  near_here p q i next level m e less =
-      let inner = spot_inner b p (in_bounds_of p i) in
-      let s = spot_of b p in
-      let r = spot_beside b p q s inner.0 inner.1 next.touches in
-      let levels_are : level_on b levels r.0 ≡ level_on b levels s =
-      (on r.0 r.1).0 q r.2 ∙ level ∙ sym ((on s (spot_from_inner b s inner.0)).0 p inner.1) in
-      let near : count_on b new s ≤ count_on b (known_counts shown) r.0 + 1 =
-      (finished.near s inner.0).each r.0 r.3 levels_are in
-      let was = input_is r.0 q m r.1 r.2 e in
-      let few : count_on b new s < no_count = omega (arith, near, was) in
-      (count_on b new s, entry_is p i ∙ known-some (count_on b new s) few, omega (arith, near, was))
-
-  within_here : (p q : Place) → IsInTile c tile p → IsInTile c tile q →
-      IsNeighbour t p q → height_at t q ≡ height_at t p →
-      IsAtMostOneAbove (tile_entry c tile list p) (tile_entry c tile list q)
-  within_here p q i j next level m e less =
-      let to = spot_inner b p (in_bounds_of p i) in
-      let from = spot_inner b q (in_bounds_of q j) in
-      let touch = touching_spots b p q (spot_of b p) (spot_of b q) to.1 from.1 next.touches in
-      let levels_are : level_on b levels (spot_of b p) ≡ level_on b levels (spot_of b q) =
-      (on (spot_of b p) (spot_from_inner b (spot_of b p) to.0)).0 p to.1 ∙ sym level
-      ∙ sym ((on (spot_of b q) (spot_from_inner b (spot_of b q) from.0)).0 q from.1) in
-      let near : count_on b new (spot_of b p) ≤ count_on b new (spot_of b q) + 1 =
-      finished.even.each (spot_of b q) (spot_of b p) from.0 to.0 touch levels_are in
-      let was : count_on b new (spot_of b q) ≡ m =
-      known_is (count_on b new (spot_of b q)) m (sym (entry_is q j) ∙ e) in
-      let few : count_on b new (spot_of b p) < no_count = omega (arith, near, was) in (
-        count_on b new (spot_of b p),
-        entry_is p i ∙ known-some (count_on b new (spot_of b p)) few,
-        omega (arith, near, was),
-      )
-
-  kept_here : (p : Place) (m : ℕ) → IsInTile c tile p → entry_at t.cols t.rows steps p ≡ Some m →
+  pub at_most : (p : Place) (m : ℕ) → IsInTile c tile p → count_on b new (spot_of b p) ≤ m → m < no_count →
       (n : ℕ) × (tile_entry c tile list p ≡ Some n) × (n ≤ m)
-  kept_here p m i e =
-      let inner = spot_inner b p (in_bounds_of p i) in
-      let s = spot_of b p in
-      let was = input_is s p m (spot_from_inner b s inner.0) inner.1 e in
-      let real = MatchOption-at_some _ _ m e (walks p) in
-      let fewer =
-      (spread_not_above b levels (known_counts shown) new finished.spread).each (spot_index b s) in
-      let few : count_on b new s < no_count = omega (arith, fewer, was, real.0) in (
-        count_on b new s,
-        entry_is p i ∙ known-some (count_on b new s) few,
-        omega (arith, fewer, was),
-      )
+  at_most p m i le few = (
+    count_on b new (spot_of b p),
+    entry_is p i ∙ known-some (count_on b new (spot_of b p)) (omega (arith, le, few)),
+    le,
+  )
 
-  pub is_round : IsRound (HasCountZero t steps) t c tile steps list
-  is_round = record {
-    inside = record {
-      size = handed.size;
-      walked = walked_here;
-      within = within_here;
-      kept = kept_here;
-    };
-    near = near_here;
-  }
+  pub tile_walked : AreSoundSpots t b new → (p : Place) → IsInTile c tile p →
+      IfSome (tile_entry c tile list p) (IsWalked (DrainsAtOnce t) t p)
+  tile_walked sound p i =
+      let s = spot_of b p in
+      let inner = inner_of p i in
+      subst (λ (o : Option ℕ). IfSome o (IsWalked (DrainsAtOnce t) t p)) (sym (entry_is p i))
+      (known-if (count_on b new s) (IsWalked (DrainsAtOnce t) t p) (λ less.
+      let at = sound s (spot_from_inner b s inner.0) less in
+      subst (λ (x : Place). IsWalked (DrainsAtOnce t) t x (count_on b new s))
+      (shows_same b s at.0 p at.1 inner.1) at.2))
 
 -- window counts by w's cutting and tile are those by v's, if cuttings and tiles are equal
 pub input_to : (v : View (Option ℤ)) (w : View (Option ℕ)) (b : Bounds) (old : List ℕ) →
@@ -356,23 +260,65 @@ input_to v w b old cutting tile bounds input =
     (subst (λ (z : Cutting). AreWindowCounts z.cols z.rows w.cells (bounds_of z w.tile) old)
     cutting input))
 
-pub input_small : (t : Terrain) (b : Bounds) (steps : List (Option ℕ)) (old : List ℕ) →
-    AreWindowCounts t.cols t.rows steps b old → AreWalked (HasCountZero t steps) t steps →
-    AreAtMostNoCount old
-input_small t b steps old input walks =
-    subst (λ (xs : List ℕ). AreAtMostNoCount xs) (sym input.value)
-    (counts_small t b steps input.shown input.size input.seen walks)
+-- searches from the counts of a window give the counts of a round over its tile
+module _ (t : Terrain) (b : Bounds) (steps : List (Option ℕ)) (old : List ℕ)
+    (input : AreWindowCounts t.cols t.rows steps b old) where
+  pub input_small : AreWalked (DrainsAtOnce t) t steps → AreAtMostNoCount old
+  input_small walks = subst (λ (xs : List ℕ). AreAtMostNoCount xs) (sym input.value)
+      (counts_small t b steps input.shown input.size input.seen walks)
 
-pub round_from : (v : View (Option ℤ)) (w : View (Option ℕ)) (b : Bounds) (levels : List (Option ℤ))
-    (old new : List ℕ) (list : List (Option ℕ)) →
-    IsCutting v.cutting →
-    b ≡ bounds_of v.cutting v.tile →
-    AreEntriesShown (terrain_of v) v.cells b levels →
-    AreWindowCounts v.cutting.cols v.cutting.rows w.cells b old →
-    AreWalked (HasCountZero (terrain_of v) w.cells) (terrain_of v) w.cells →
-    IsSearched b levels old new → IsMadeUpTo b (IsCopied b new) (b.rows * b.cols) list →
-    IsRound (HasCountZero (terrain_of v) w.cells) (terrain_of v) v.cutting v.tile w.cells list
-round_from v w b levels old new list cutting bounds on input walks finished out =
-    is_round (terrain_of v) v.cutting v.tile b w.cells input.shown levels new list cutting bounds on
-    input.size input.seen walks
-    (subst (λ (xs : List ℕ). IsSearched b levels xs new) input.value finished) out
+  pub input_size : length old ≡ area_of b
+  input_size = ap (λ (xs : List ℕ). length xs) input.value
+      ∙ length-map input.shown (λ (o : Option ℕ). unwrap_or o no_count) ∙ input.size
+
+  -- the old count of a place, if known, is that of the spot that shows the place
+  input_is : (s q : Place) (m : ℕ) → IsSpot b s → Shows b s q → entry_at t.cols t.rows steps q ≡ Some m →
+      count_on b old s ≡ m
+  input_is s q m spot f e =
+      ap (λ (xs : List ℕ). count_on b xs s) input.value ∙ count-known b input.shown s input.size spot
+      ∙ ap (λ (o : Option ℕ). unwrap_or o no_count) ((input.seen s spot).0 q f ∙ e)
+
+  module _ (walks : AreWalked (DrainsAtOnce t) t steps) (levels : List (Option ℤ))
+      (on : AreEntriesShown t t.cells b levels) (c : Cutting) (tile : ℕ) (new : List ℕ) (list : List (Option ℕ))
+      (cutting : IsCutting c) (bounds : b ≡ bounds_of c tile) (searched : IsSearched b levels old new)
+      (out : IsMadeUpTo b (IsCopied b new) (b.rows * b.cols) list) where
+    fewer : (s : Place) → count_on b new s ≤ count_on b old s
+    fewer s = (spread_not_above b levels old new searched.spread).each (spot_index b s)
+
+    -- a new count is at most one above that of a neighbour of equal height
+    beside : (p q : Place) → IsInTile c tile p → IsNeighbour t p q → height_at t q ≡ height_at t p →
+        IsSpot b (spot_of b q) × Shows b (spot_of b q) q
+        × (count_on b new (spot_of b p) ≤ count_on b new (spot_of b q) + 1)
+    beside p q i next level =
+        let s = spot_of b p in
+        let r = spot_of b q in
+        let inner = inner_of t c tile b new list cutting bounds out p i in
+        let there = spot_beside b p q s inner.0 inner.1 next.touches in
+        let levels_are : level_on b levels r ≡ level_on b levels s = (on r there.0).0 q there.1 ∙ level
+        ∙ sym ((on s (spot_from_inner b s inner.0)).0 p inner.1) in
+        (there.0, there.1, (searched.settled s inner.0).each r there.2 levels_are)
+
+    pub is_round : IsRound (DrainsAtOnce t) t c tile steps list
+    is_round = record {
+      size = tile_size t c tile b new list cutting bounds out;
+      walked = tile_walked t c tile b new list cutting bounds out
+          (sound_after t b levels on old new input_size (input_small walks)
+          (subst (λ (xs : List ℕ). AreSoundSpots t b xs) (sym input.value)
+          (sound_begin t b steps input.shown input.size input.seen walks)) searched.spread);
+      kept = λ p m i e.
+          let inner = inner_of t c tile b new list cutting bounds out p i in
+          let was = input_is (spot_of b p) p m (spot_from_inner b (spot_of b p) inner.0) inner.1 e in
+          let real = MatchOption-at_some _ _ m e (walks p) in
+          at_most t c tile b new list cutting bounds out p m i (omega (arith, fewer (spot_of b p), was)) real.0;
+      near = λ p q i next level m e less.
+          let there = beside p q i next level in
+          let was = input_is (spot_of b q) q m there.0 there.1 e in
+          at_most t c tile b new list cutting bounds out p (m + 1) i
+          (omega (arith, there.2, fewer (spot_of b q), was)) (omega (arith, less));
+      within = λ p q i j next level m e less.
+          let there = beside p q i next level in
+          let was = known_is (count_on b new (spot_of b q)) m
+          (sym (entry_is t c tile b new list cutting bounds out q j) ∙ e) in
+          at_most t c tile b new list cutting bounds out p (m + 1) i (omega (arith, there.2, was))
+          (omega (arith, less));
+    }

@@ -1,15 +1,15 @@
 -- Counts before the first round, and counts that a round over all tiles leaves as they are. A count
 -- is the fewest moves found so far from a cell to one that drains at once, or unknown.
 -- Public.
-use Rattle.std.specs.Prelude.{◌≡◌, ◌⊎◌, ◌≤◌, ◌<◌, ℕ, ◌+◌, ◌*◌, ℤ, ◌<ℤ◌, List, length, Option, None, Some, slice_index_or}
+use Rattle.std.specs.Prelude.{◌≡◌, ◌⊎◌, ◌≤◌, ◌<◌, ℕ, ◌+◌, ◌*◌, ℤ, ◌<ℤ◌, List, length, Option, None, Some, IfSome, slice_index_or}
 use Rattle.terrain.specs.Neighbours.{IsInside, entry_at, IsEdge}
 use Rattle.terrain.specs.Raster.{Terrain}
 use Rattle.terrain.specs.Ways.{around_index}
 use Rattle.terrain.specs.declared.place.Place.{Place}
 use Rattle.tiles.specs.declared.bounds.Bounds.{Bounds}
-use Rattle.tiles.specs.Cutting.{Cutting, IsInTile, tile_count, tile_entry}
+use Rattle.tiles.specs.Cutting.{Cutting, IsInTile, cell_count, tile_count, tile_entry}
 use Rattle.drain.specs.Steps.{HasLower, DrainsAtOnce}
-use Rattle.drain.specs.Rounds.{IsRound}
+use Rattle.drain.specs.Rounds.{IsRound, IsWalked}
 use Rattle.drain.specs.Search.{level_on}
 use Rattle.tiles.specs.Windows.{AreMadeSpots, IsInner, Shows, area_of, spot_index}
 use Rattle.drainage.specs.StepCounts.{known, no_count}
@@ -60,6 +60,16 @@ AreBegunSpots Drains b counts = AreBegunUpTo Drains b (area_of b) counts
 -- Each cell that drains at once has the count 0.
 abbrev pub HasZeros : Terrain → List (Option ℕ) → Type 0
 HasZeros t counts = (p : Place) → DrainsAtOnce t p → entry_at t.cols t.rows counts p ≡ Some 0
+
+-- `counts` has the counts of a tile in row order: 0 at each cell that drains at once, and each known
+-- one the length of a flat walk.
+pub record AreSoundInTile (t : Terrain) (c : Cutting) (tile : ℕ) (counts : List (Option ℕ))
+    : Type 0 where
+  pub size : length counts ≡ cell_count c tile
+  pub zeros : (p : Place) → IsInTile c tile p → DrainsAtOnce t p →
+      tile_entry c tile counts p ≡ Some 0
+  pub walked : (p : Place) → IsInTile c tile p →
+      IfSome (tile_entry c tile counts p) (IsWalked (DrainsAtOnce t) t p)
 
 -- A round over all tiles changes no count; `lists` has the counts of each tile after that round.
 pub record KeepsCounts (t : Terrain) (c : Cutting) (steps : List (Option ℕ))

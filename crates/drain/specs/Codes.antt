@@ -12,7 +12,7 @@ use Rattle.tiles.specs.Windows.{spot_index}
 use Rattle.tiles.specs.Cutting.{tile_count}
 use Rattle.tile_maps.specs.Maps.{IsMadeTile, IsMadeUpTo}
 use Rattle.drainage.specs.StepCounts.{no_count}
-use Rattle.drain.specs.Counts.{AreCounts, Counted, IsChange, IsCheckedCode}
+use Rattle.drain.specs.Counts.{AreSoundCounts, Counted, IsChange, IsCheckedCode}
 use Rattle.drain.specs.Search.{AreEntriesShown}
 use Rattle.drain.specs.Steepness.{leads_on}
 use Rattle.drain.specs.declared.around.Around.{Around}
@@ -33,7 +33,7 @@ pub record CountedSpots : Type 0 where
 -- At each spot these are the height and the count of the terrain's cell there; `None` off the grid.
 pub record AreCountedSpots (w : CountedSpots) : Type 0 where
   pub lawful : IsTerrain w.terrain
-  pub counts : AreCounts w.terrain w.all
+  pub counts : AreSoundCounts w.terrain w.all
   pub levels : AreEntriesShown w.terrain w.terrain.cells w.bounds w.levels
   pub steps : AreEntriesShown w.terrain w.all w.bounds w.steps
 

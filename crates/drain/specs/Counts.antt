@@ -20,7 +20,7 @@ use Rattle.drain.specs.declared.lowering.Found.{Found}
 use Rattle.drain.specs.declared.changes.TileEntry.{TileEntry}
 
 -- Each cell that drains at once has the count 0. Each known count is the length of a flat walk.
-pub record AreCounts (t : Terrain) (steps : List (Option ℕ)) : Type 0 where
+pub record AreSoundCounts (t : Terrain) (steps : List (Option ℕ)) : Type 0 where
   pub size : length steps ≡ t.cols * t.rows
   pub zeros : HasZeros t steps
   pub walked : AreWalked (DrainsAtOnce t) t steps
@@ -56,15 +56,15 @@ pub record Counted : Type 0 where
   pub cutting : Cutting
   pub steps : List (Option ℕ)
 
--- The cutting is of the terrain's grid, and the counts are counts of the terrain (`AreCounts`).
+-- The cutting is of the terrain's grid, and the counts are counts of the terrain (`AreSoundCounts`).
 pub record IsCountedTerrain (c : Counted) : Type 0 where
   pub lawful : IsTerrain c.terrain
   pub cuts : Cuts c.cutting c.terrain
-  pub counts : AreCounts c.terrain c.steps
+  pub counts : AreSoundCounts c.terrain c.steps
 
 -- The bounds lie in the terrain's grid, which is within limits.
-abbrev pub IsBlock : Terrain → Bounds → Type 0
-IsBlock t b = (b.top + b.rows ≤ t.rows) × (b.left + b.cols ≤ t.cols) × (t.rows ≤ longest_axis)
+abbrev pub IsWithinGrid : Terrain → Bounds → Type 0
+IsWithinGrid t b = (b.top + b.rows ≤ t.rows) × (b.left + b.cols ≤ t.cols) × (t.rows ≤ longest_axis)
     × (t.cols ≤ longest_axis)
 
 -- The jobs of a round: what they read, and for each job the range of its entries in their list.

@@ -2,13 +2,12 @@
 -- lowers them. A spot is a place in the window. A count is the fewest moves at one filled height,
 -- found so far, from a cell to one that drains at once, or unknown.
 -- Private.
-use Rattle.std.specs.Prelude.{◌≡◌, ◌≢◌, ℕ, ◌+◌, ◌*◌, ◌<◌, ◌≤◌, ◌⊎◌, ℤ, List, All, map, sum, length, Option, None, Some, slice_get, slice_index_or, slice_set, unwrap_or}
+use Rattle.std.specs.Prelude.{◌≡◌, ◌≢◌, ℕ, ◌+◌, ◌<◌, ◌≤◌, ◌⊎◌, ℤ, List, All, map, sum, length, Option, None, [], slice_index_or, slice_set, unwrap_or}
 use Rattle.terrain.specs.Raster.{Terrain}
 use Rattle.terrain.specs.Neighbours.{entry_or, Touches}
 use Rattle.terrain.specs.declared.place.Place.{Place}
 use Rattle.tiles.specs.declared.bounds.Bounds.{Bounds}
 use Rattle.tiles.specs.Windows.{area_of, spot_index, IsSpot, IsInner, Shows, AreShown}
-use Rattle.tile_maps.specs.Maps.{IsMadeUpTo}
 use Rattle.drainage.specs.StepCounts.{known, no_count}
 
 -- At each spot of the window, the list has the entry of the grid's cell there; `None` off the grid.
@@ -52,48 +51,32 @@ pub record IsLeastAlong (b : Bounds) (levels : List (Option ℤ)) (counts : List
 pub record IsNotAbove (new old : List ℕ) : Type 0 where
   pub each : (k : ℕ) → slice_index_or new k 0 ≤ slice_index_or old k 0
 
--- The spot's new count is at most one above the old counts of adjacent spots of its height.
-pub record IsNear (b : Bounds) (levels : List (Option ℤ)) (old new : List ℕ)
+-- The spot's count is at most one above those of adjacent spots of its height.
+pub record IsNear (b : Bounds) (levels : List (Option ℤ)) (counts : List ℕ)
     (s : Place) : Type 0 where
   pub each : (r : Place) → Touches s r → level_on b levels r ≡ level_on b levels s →
-      count_on b new s ≤ count_on b old r + 1
+      count_on b counts s ≤ count_on b counts r + 1
 
--- The list `after` begins with `before`. Each spot of the tile whose count changed is in the rest
--- of `after`.
-pub record NotesChanges (b : Bounds) (old new : List ℕ) (before after : List Place) : Type 0 where
-  pub longer : length before ≤ length after
-  pub kept : (k : ℕ) → k < length before → slice_get after k ≡ slice_get before k
-  pub each : (s : Place) → IsInner b s → (count_on b new s ≡ count_on b old s)
-      ⊎ ((k : ℕ) × (length before ≤ k) × (slice_get after k ≡ Some s))
-
--- A search has spread from `spot` to the spots in `Done`. Those as high as `spot` now have at most
--- its count plus 1. The count of `spot` itself is unchanged.
-pub record IsReached (b : Bounds) (levels : List (Option ℤ)) (spot : Place) (Done : Place → Type 0)
-    (old new : List ℕ) (before after : List Place) : Type 0 where
+-- The counts come from the old ones by relaxations. `after` has more spots of the tile than
+-- `before`, at most as many as the sum of the counts fell.
+pub record IsLowering (b : Bounds) (levels : List (Option ℤ)) (old new : List ℕ)
+    (before after : List Place) : Type 0 where
   pub spread : IsSpread b levels old new
-  pub near : (r : Place) → Done r → level_on b levels spot ≡ level_on b levels r →
-      count_on b new r ≤ count_on b old spot + 1
-  pub own : count_on b new spot ≡ count_on b old spot
-  pub noted : NotesChanges b old new before after
   pub inner : All (IsInner b) before → All (IsInner b) after
-  -- for each added spot, the sum of the counts fell by at least 1
   pub left : length after + sum new ≤ length before + sum old
 
--- Each spot of the tile has a count at most one above that of each adjacent spot of the tile of
--- equal height. Adjacent spots in the list `waiting`, at index `from` or above, are excepted.
-pub record IsRelaxedBut (b : Bounds) (levels : List (Option ℤ)) (counts : List ℕ)
-    (waiting : List Place) (from : ℕ) : Type 0 where
-  pub each : (s r : Place) → IsInner b s → IsInner b r → Touches s r →
-      level_on b levels r ≡ level_on b levels s →
-      (count_on b counts r ≤ count_on b counts s + 1)
-      ⊎ ((k : ℕ) × (from ≤ k) × (slice_get waiting k ≡ Some s))
+-- A look at some spots has lowered the counts `old` to `counts`, and listed the spots of the tile
+-- whose counts fell.
+pub record IsPulled (b : Bounds) (levels : List (Option ℤ)) (old counts : List ℕ)
+    (reached : List Place) : Type 0 where
+  pub spread : IsSpread b levels old counts
+  pub inner : All (IsInner b) reached
+  pub left : length reached + sum counts ≤ sum old
+  pub still : reached ≡ [] → counts ≡ old
 
--- Each spot of the tile has a count at most one above that of each adjacent spot of the tile of
--- equal height.
-pub record IsRelaxed (b : Bounds) (levels : List (Option ℤ)) (counts : List ℕ) : Type 0 where
-  pub each : (s r : Place) → IsInner b s → IsInner b r → Touches s r →
-      level_on b levels r ≡ level_on b levels s →
-      count_on b counts r ≤ count_on b counts s + 1
+-- In the tile each count is at most one above those of adjacent spots of its height.
+abbrev pub AreSettled : Bounds → List (Option ℤ) → List ℕ → Type 0
+AreSettled b levels counts = (s : Place) → IsInner b s → IsNear b levels counts s
 
 -- The counts as numbers, `no_count` for an unknown one.
 abbrev pub known_counts : List (Option ℕ) → List ℕ
@@ -103,18 +86,11 @@ known_counts shown = map (λ o. unwrap_or o no_count) shown
 abbrev pub IsCopied : Bounds → List ℕ → Place → Option ℕ → Type 0
 IsCopied b counts p x = (s : Place) → Shows b s p → x ≡ known (count_on b counts s)
 
--- A search has ended: relaxations lead from the old counts to the new. In the tile each new count
--- is at most one above the old counts of adjacent spots of equal height (`IsNear`). No relaxation
--- is left inside the tile.
+-- Searches have ended: relaxations lead from the old counts to the new, and none is left in the
+-- tile.
 pub record IsSearched (b : Bounds) (levels : List (Option ℤ)) (old new : List ℕ) : Type 0 where
   pub spread : IsSpread b levels old new
-  pub near : (s : Place) → IsInner b s → IsNear b levels old new s
-  pub even : IsRelaxed b levels new
-
--- `list` has the counts of a tile after a round from the counts `old` of its window.
-abbrev pub IsRoundOf : Bounds → List (Option ℤ) → List ℕ → List (Option ℕ) → Type 0
-IsRoundOf b levels old list = (new : List ℕ) × IsSearched b levels old new
-    × IsMadeUpTo b (IsCopied b new) (b.rows * b.cols) list
+  pub settled : AreSettled b levels new
 
 -- The counts of the window are the values of `entries` at the places that its spots show, as
 -- numbers.

@@ -7,7 +7,7 @@ ghost use Rattle.std.specs.Prelude.{◌≡◌, ◌+◌, ◌<◌, ◌≤◌, leng
 ghost use Rattle.terrain.specs.Neighbours.{IsInside};
 ghost use Rattle.std.specs.List.Sorted.{IsPermutation};
 ghost use Rattle.tiles.specs.Cutting.{IsCutting, IsWithin, tile_count};
-ghost use Rattle.drain.specs.Counts.{AreChanges, IsBlock, IsChange, IsRun};
+ghost use Rattle.drain.specs.Counts.{AreChanges, IsWithinGrid, IsChange, IsRun};
 ghost use Rattle.drain.specs.declared.changes.TileEntry.{TileEntry};
 
 use crate::changes::{Change, Run, TileEntry};

@@ -1,14 +1,12 @@
 //! Finds the steps and then the directions of a filled grid, tile by tile: [`directions`].
 //! [`flat_steps`] runs one round of counting over one tile.
-ghost use Rattle.std.specs.Prelude.{◌≡◌, [], IfOk, OnOk, length};
+ghost use Rattle.std.specs.Prelude.{◌≡◌, [], IfOk, OnOk};
 ghost use Rattle.terrain.specs.Raster.{Terrain, IsTerrain};
 ghost use Rattle.terrain.specs.Sinks.{with_sinks};
 ghost use Rattle.tiles.specs.Cutting.{Cuts, IsCutting, terrain_of};
 ghost use Rattle.tile_jobs.specs.Fault.{RefusesWorkers};
 ghost use Rattle.drain.specs.Beginning.{HasZeros};
 ghost use Rattle.drain.specs.Rounds.{AreWalked, IsRound};
-ghost use Rattle.tiles.specs.Windows.{area_of};
-ghost use Rattle.drain.specs.Search.{AreAtMostNoCount, IsRoundOf};
 ghost use Rattle.drain.specs.Counts.{AreCoded};
 ghost use Rattle.drain.specs.Steps.{AreSteps, DrainsAtOnce};
 ghost use Rattle.drain.specs.Directions.{AreDirections};
@@ -20,7 +18,7 @@ use crate::input::RoundInput;
 use crate::rounds::{changes_at_rims, put, run_rounds};
 use crate::{loading, search};
 use drainage::{Code, Directions, Filled, StepCount};
-use std::alloc::{AllocError, Global};
+use std::alloc::Global;
 use std::snapshot::Snapshot;
 use std::sync::Wait;
 use std::thread::Threads;
@@ -34,23 +32,6 @@ use tiles::{TileView, Tiling, Window};
 struct StepsAndCodes {
     steps: Vec<StepCount>,
     codes: Vec<Vec<Option<Code>>>,
-}
-
-/// Returns a tile's counts after one round, in row order.
-/// `window` has the tile and the places around it; `old` has a count for each of these.
-pub(crate) fn round(
-    alloc: Global,
-    window: &Window<Cell>,
-    old: &[u32],
-) -> Result<Vec<StepCount>, AllocError>
-    requires size { length old.now ≡ area_of window.now.bounds }
-    requires counts { AreAtMostNoCount old.now }
-    ensures { IfOk result
-        (λ v. IsRoundOf window.now.bounds window.now.values.items old.now v.items) }
-{
-    let counts = search::searched_counts(alloc, window, old)?;
-    let list = loading::copy_counts(alloc, window, &counts)?;
-    Ok(list)
 }
 
 /// Returns a tile's step counts after one round of counting, in row order.
@@ -79,8 +60,9 @@ pub fn flat_steps(
 {
     let window = Window::of_view(alloc, levels, Cell::no_data())?;
     let old = loading::counts(alloc, steps)?;
-    let counts = round(alloc, &window, &old)?;
-    Ok(loading::step_numbers(alloc, &counts)?)
+    let counts = search::settled(alloc, &window, old)?;
+    let list = loading::copy_counts(alloc, &window, &counts)?;
+    Ok(loading::step_numbers(alloc, &list)?)
 }
 
 /// Counts steps by rounds until one changes no count; returns them with the codes of each tile.

@@ -1,14 +1,15 @@
 //! The first round: a job for each tile counts steps inside that tile.
 //!
-//! Module `beginning` finds the tile's cells that drain at once.
-//! `draining::round` searches from them, by module `search`.
+//! Module `beginning` finds the tile's cells that drain at once, and module `search` searches from
+//! them.
 ghost use Rattle.std.specs.Prelude.{IfOk};
 ghost use Rattle.tile_jobs.specs.Fault.{RefusesWorkers};
 ghost use Rattle.tiles.specs.Cutting.{Cuts, IsCutting};
-ghost use Rattle.drain.specs.Counts.{AreCounts};
+ghost use Rattle.drain.specs.Counts.{AreSoundCounts};
 
 use crate::beginning::begun_counts;
-use crate::draining::round;
+use crate::loading::copy_counts;
+use crate::search::searched;
 use drainage::StepCount;
 use std::alloc::Global;
 use std::sync::Wait;
@@ -27,25 +28,21 @@ struct FirstRound<'a> {
 }
 
 impl<'a> Work for FirstRound<'a> {
-    ghost use Rattle.std.specs.Prelude.{ℕ, List, Option};
     ghost use Rattle.tiles.specs.Cutting.{tile_count};
-    ghost use Rattle.drain.specs.Beginning.{AreInitialCounts};
-    ghost use Rattle.drain.specs.Rounds.{IsRoundInside};
-    ghost use Rattle.drain.specs.Steps.{DrainsAtOnce};
+    ghost use Rattle.drain.specs.Beginning.{AreSoundInTile};
 
     type Out = Vec<StepCount>;
 
     ghost most = { λ f. tile_count f.tiling.now };
 
-    ghost gives = { λ f tile out. let t = f.grid.now.terrain in
-        (begun : List (Option ℕ)) → AreInitialCounts t begun →
-        IsRoundInside (DrainsAtOnce t) t f.tiling.now tile begun out.items };
+    ghost gives = { λ f tile out. AreSoundInTile f.grid.now.terrain f.tiling.now tile out.items };
 
     fn run(&self, alloc: Global, job: u32) -> Result<Vec<StepCount>, JobFault> {
         let levels = self.tiling.view(self.grid.cells(), job);
         let window = Window::of_view(alloc, &levels, Cell::no_data())?;
         let begun = begun_counts(alloc, self.grid, &window)?;
-        let list = round(alloc, &window, &begun)?;
+        let counts = searched(alloc, &window, begun)?;
+        let list = copy_counts(alloc, &window, &counts)?;
         Ok(list)
     }
 }
@@ -58,7 +55,7 @@ pub(crate) fn first_round<R: Threads + Wait + Sync, G: Gate + Sync>(
 ) -> Result<Vec<StepCount>, JobFault>
     requires { Cuts tiling.now grid.now.terrain }
     ensures lawful { IfOk result (λ _. IsCutting tiling.now) }
-    ensures counts { IfOk result (λ v. AreCounts grid.now.terrain v.items) }
+    ensures counts { IfOk result (λ v. AreSoundCounts grid.now.terrain v.items) }
     ensures workers { RefusesWorkers runner.now.workers result }
 {
     let lists = runner.run(&FirstRound { grid, tiling }, tiling.tiles())?;

@@ -6,7 +6,7 @@ ghost use Rattle.std.specs.Prelude.{◌≡◌, ◌+◌, ◌*◌, ◌<◌, ◌≤
 ghost use Rattle.terrain.specs.Raster.{IsTerrain};
 ghost use Rattle.terrain.specs.Neighbours.{IsInside, Touches, height_at, index_of};
 ghost use Rattle.tiles.specs.Cutting.{Cuts, IsCutting, longest_axis, tile_count};
-ghost use Rattle.drain.specs.Counts.{AreChanges, AreCounts, IsBlock, IsChange, IsCounted, count_of};
+ghost use Rattle.drain.specs.Counts.{AreChanges, AreSoundCounts, IsWithinGrid, IsChange, IsCounted, count_of};
 
 use crate::blocks::Blocks;
 use crate::changes::Change;
@@ -48,7 +48,7 @@ impl<'a> RoundInput<'a> {
     /// Makes the input of a round.
     pub(crate) fn new(grid: &'a Grid, tiling: &'a Tiling, steps: &'a [StepCount]) -> Self
         requires cuts { Cuts tiling.now grid.now.terrain }
-        requires counts { AreCounts grid.now.terrain steps.now }
+        requires counts { AreSoundCounts grid.now.terrain steps.now }
         ensures value { result ≡ record {
           terrain = grid.now.terrain;
           cutting = tiling.now;
@@ -87,7 +87,7 @@ impl<'a> RoundInput<'a> {
     /// Returns the bounds of the block that holds a cell.
     pub(crate) fn block(&self, blocks: Blocks, place: Place) -> Bounds
         requires { IsInside self.now.terrain place }
-        ensures { IsBlock self.now.terrain result }
+        ensures { IsWithinGrid self.now.terrain result }
     {
         blocks.bounds(self.tiling, place)
     }

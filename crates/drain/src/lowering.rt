@@ -5,7 +5,7 @@ ghost use Rattle.std.specs.Prelude.{◌≡◌, ◌⊎◌, ◌+◌, ◌<◌, ◌�
 ghost use Rattle.std.specs.Bool.{OnFalse};
 ghost use Rattle.terrain.specs.Neighbours.{IsInside};
 ghost use Rattle.tiles.specs.Cutting.{IsInBounds};
-ghost use Rattle.drain.specs.Counts.{AreChanges, IsBlock, IsChange, IsCounted, IsRun};
+ghost use Rattle.drain.specs.Counts.{AreChanges, IsWithinGrid, IsChange, IsCounted, IsRun};
 ghost use Rattle.drain.specs.declared.changes.TileEntry.{TileEntry};
 
 use crate::changes::{Change, Run, TileEntry};
@@ -82,7 +82,7 @@ impl Lowered {
         from: Change,
         row: u32,
     ) -> Result<(), AllocError>
-        requires block { IsBlock input.now.terrain self.old.bounds }
+        requires block { IsWithinGrid input.now.terrain self.old.bounds }
         requires from { IsCounted input.now.terrain from }
         requires row { (self.old.bounds.top ≤ row)
             × (row < self.old.bounds.top + self.old.bounds.rows)
@@ -104,7 +104,7 @@ impl Lowered {
 
     /// Records the changes of the block's cells that follow from `from`.
     fn spread(&mut self, input: &RoundInput<'_>, from: Change) -> Result<(), AllocError>
-        requires block { IsBlock input.now.terrain self.old.bounds }
+        requires block { IsWithinGrid input.now.terrain self.old.bounds }
         requires from { IsCounted input.now.terrain from }
         requires old { AreChanges input.now.terrain input.now.steps self.old.changes.items }
         ensures bounds { self.new.bounds ≡ self.old.bounds }
@@ -142,7 +142,7 @@ pub(crate) fn search(
     entries: &[TileEntry],
     run: Run,
 ) -> Result<Found, AllocError>
-    requires block { IsBlock input.now.terrain bounds }
+    requires block { IsWithinGrid input.now.terrain bounds }
     requires run { IsRun (length entries.now) run }
     requires entries { All (λ (e : TileEntry).
         IsChange input.now.terrain input.now.steps e.change) entries.now }

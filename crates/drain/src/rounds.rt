@@ -6,7 +6,7 @@ ghost use Rattle.std.specs.Prelude.{◌≡◌, ◌<◌, ◌≤◌, ℕ, true, Al
 ghost use Rattle.terrain.specs.Raster.{Terrain};
 ghost use Rattle.tile_jobs.specs.Fault.{RefusesWorkers};
 ghost use Rattle.tiles.specs.Cutting.{Cuts, IsCutting};
-ghost use Rattle.drain.specs.Counts.{AreChanges, AreCounts, AreFound, IsChange, IsCounted, count_sum};
+ghost use Rattle.drain.specs.Counts.{AreChanges, AreSoundCounts, AreFound, IsChange, IsCounted, count_sum};
 
 use crate::blocks::{Blocks, Shares};
 use crate::changes::{Change, Run, TileEntry};
@@ -77,9 +77,9 @@ impl<'a> Work for Round<'a> {
 /// Lowers the count at `change.place` to `change.count` if that is less; returns whether it was.
 #[inline(always)]
 pub(crate) fn put(grid: &Grid, steps: &mut [StepCount], change: Change) -> bool
-    requires counts { AreCounts grid.now.terrain steps.old }
+    requires counts { AreSoundCounts grid.now.terrain steps.old }
     requires change { IsCounted grid.now.terrain change }
-    ensures counts { AreCounts grid.now.terrain steps.new }
+    ensures counts { AreSoundCounts grid.now.terrain steps.new }
     ensures low { count_sum steps.new ≤ count_sum steps.old }
     ensures put { result ≡ true → count_sum steps.new < count_sum steps.old }
     ensures less { IsChange grid.now.terrain steps.old change →
@@ -95,9 +95,9 @@ pub(crate) fn put(grid: &Grid, steps: &mut [StepCount], change: Change) -> bool
 
 /// Puts the changes of one job; returns whether one lowered a count.
 fn put_changes(grid: &Grid, steps: &mut [StepCount], changes: &[Change]) -> bool
-    requires counts { AreCounts grid.now.terrain steps.old }
+    requires counts { AreSoundCounts grid.now.terrain steps.old }
     requires changes { All (IsCounted grid.now.terrain) changes.now }
-    ensures counts { AreCounts grid.now.terrain steps.new }
+    ensures counts { AreSoundCounts grid.now.terrain steps.new }
     ensures low { count_sum steps.new ≤ count_sum steps.old }
     ensures put { result ≡ true → count_sum steps.new < count_sum steps.old }
 {
@@ -112,9 +112,9 @@ fn put_changes(grid: &Grid, steps: &mut [StepCount], changes: &[Change]) -> bool
 
 /// Puts the changes of all jobs, of each cell the least; returns whether one lowered a count.
 fn put_all(grid: &Grid, steps: &mut [StepCount], outs: &[Found]) -> bool
-    requires counts { AreCounts grid.now.terrain steps.old }
+    requires counts { AreSoundCounts grid.now.terrain steps.old }
     requires changes { AreFound grid.now.terrain outs.now }
-    ensures counts { AreCounts grid.now.terrain steps.new }
+    ensures counts { AreSoundCounts grid.now.terrain steps.new }
     ensures low { count_sum steps.new ≤ count_sum steps.old }
     ensures put { result ≡ true → count_sum steps.new < count_sum steps.old }
 {
@@ -211,10 +211,10 @@ pub(crate) fn run_rounds<R: Threads + Wait + Sync, G: Gate + Sync>(
     mut changes: Vec<Change>,
 ) -> Result<Vec<StepCount>, JobFault>
     requires cuts { Cuts tiling.now grid.now.terrain }
-    requires counts { AreCounts grid.now.terrain steps.items }
+    requires counts { AreSoundCounts grid.now.terrain steps.items }
     requires changes { AreChanges grid.now.terrain steps.items changes.items }
     requires workers { (1 ≤ runner.now.workers) × (runner.now.workers ≤ 64) }
-    ensures counts { IfOk result (λ s. AreCounts grid.now.terrain s.items) }
+    ensures counts { IfOk result (λ s. AreSoundCounts grid.now.terrain s.items) }
     ensures low { IfOk result (λ s. count_sum s.items ≤ count_sum steps.items) }
     ensures workers { RefusesWorkers runner.now.workers result }
 {

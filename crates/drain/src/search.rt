@@ -1,9 +1,13 @@
 //! The search of a tile: counts in the tile and around it lower the tile's counts of steps.
-ghost use Rattle.std.specs.Prelude.{◌≡◌, ◌+◌, ◌<◌, ◌≤◌, ◌⊎◌, ◌↔◌, IsTrue, [], All, length, OnOk, IfOk};
+//!
+//! A spot is a place of the tile's window: the tile and a border of one cell around it. Of a search
+//! only soundness is proved: each lower count follows from another. A look at all spots that lowers
+//! none shows that the counts are settled.
+ghost use Rattle.std.specs.Prelude.{◌≡◌, ◌+◌, ◌<◌, ◌≤◌, ◌⊎◌, ◌↔◌, IsTrue, None, [], All, length, sum, OnOk, IfOk, IfSome};
 ghost use Rattle.terrain.specs.Neighbours.{Touches};
 ghost use Rattle.terrain.specs.declared.place.Place.{Place};
 ghost use Rattle.tiles.specs.Windows.{area_of, spot_index, IsSpot, IsInner};
-ghost use Rattle.drain.specs.Search.{AreAtMostNoCount, level_on, count_on, IsLeastAlong, IsSpread, IsNotAbove, IsNear, NotesChanges, IsReached, IsRelaxedBut, IsRelaxed, IsSearched};
+ghost use Rattle.drain.specs.Search.{AreAtMostNoCount, AreSettled, level_on, count_on, IsLeastAlong, IsLowering, IsNear, IsPulled, IsSearched, IsSpread};
 
 use std::alloc::{AllocError, Global};
 use terrain::{Cell, Place};
@@ -110,7 +114,7 @@ fn reach(
     requires counts { AreAtMostNoCount counts.old }
     requires from { IsSpot window.now.bounds from }
     requires to { IsSpot window.now.bounds to × Touches from to }
-    ensures { OnOk result (IsReached window.now.bounds window.now.values.items from (λ r. r ≡ to)
+    ensures { OnOk result (IsLowering window.now.bounds window.now.values.items
         counts.old counts.new reached.old.items reached.new.items) }
 {
     let next = counts[window.index(from)] + 1;
@@ -140,9 +144,8 @@ fn spread_along(
     requires counts { AreAtMostNoCount counts.old }
     requires spot { IsInner window.now.bounds spot }
     requires row { (row ≤ spot.row + 1) × (spot.row ≤ row + 1) }
-    ensures { OnOk result (IsReached window.now.bounds window.now.values.items spot
-        (λ r. Touches spot r × (r.row ≡ row)) counts.old counts.new reached.old.items
-        reached.new.items) }
+    ensures { OnOk result (IsLowering window.now.bounds window.now.values.items
+        counts.old counts.new reached.old.items reached.new.items) }
 {
     for col in spot.col - 1..spot.col + 2 {
         reach(window, counts, reached, spot, Place { row, col })?;
@@ -163,7 +166,7 @@ fn spread(
     requires size { length counts.old ≡ area_of window.now.bounds }
     requires counts { AreAtMostNoCount counts.old }
     requires spot { IsInner window.now.bounds spot }
-    ensures { OnOk result (IsReached window.now.bounds window.now.values.items spot (Touches spot)
+    ensures { OnOk result (IsLowering window.now.bounds window.now.values.items
         counts.old counts.new reached.old.items reached.new.items) }
 {
     for row in spot.row - 1..spot.row + 2 {
@@ -173,7 +176,7 @@ fn spread(
 }
 
 /// Spreads from each queued spot in order, also from spots queued meanwhile.
-#[tactic(auto, using(crate::proofs::Spreading::spread_none, crate::proofs::Spreading::spread_on, crate::proofs::Spreading::spread_counts, crate::proofs::Spreading::sum_spread, crate::proofs::Noted::even_end))]
+#[tactic(auto, using(crate::proofs::Spreading::spread_none, crate::proofs::Spreading::spread_counts, crate::proofs::Spreading::sum_spread))]
 fn search(
     window: &Window<Cell>,
     counts: &mut [u32],
@@ -182,11 +185,8 @@ fn search(
     requires size { length counts.old ≡ area_of window.now.bounds }
     requires counts { AreAtMostNoCount counts.old }
     requires inner { All (IsInner window.now.bounds) reached.items }
-    requires even { IsRelaxedBut window.now.bounds window.now.values.items counts.old
-        reached.items 0 }
-    ensures spread { OnOk result
+    ensures { OnOk result
         (IsSpread window.now.bounds window.now.values.items counts.old counts.new) }
-    ensures even { OnOk result (IsRelaxed window.now.bounds window.now.values.items counts.new) }
 {
     let mut done = 0;
     while done < reached.len() {
@@ -201,7 +201,7 @@ fn search(
 /// Spots of another height than `spot` are left out.
 /// Appends `spot` to `reached`, if its count falls.
 #[inline(always)]
-#[tactic(auto, using(crate::proofs::Spreading::pulled, crate::proofs::Spreading::spot_from_inner))]
+#[tactic(auto, using(crate::proofs::Spreading::spot_from_inner))]
 fn pull_at(
     window: &Window<Cell>,
     old: &[u32],
@@ -213,16 +213,12 @@ fn pull_at(
         × (length counts.old ≡ area_of window.now.bounds) }
     requires counts { AreAtMostNoCount old.now }
     requires spot { IsInner window.now.bounds spot }
-    requires spread { IsSpread window.now.bounds window.now.values.items old.now counts.old }
-    requires inner { All (IsInner window.now.bounds) reached.old.items }
-    ensures spread { OnOk result
-        (IsSpread window.now.bounds window.now.values.items old.now counts.new) }
-    ensures kept { OnOk result (IsNotAbove counts.new counts.old) }
-    ensures near { OnOk result
-        (IsNear window.now.bounds window.now.values.items old.now counts.new spot) }
-    ensures noted { OnOk result
-        (NotesChanges window.now.bounds counts.old counts.new reached.old.items reached.new.items) }
-    ensures inner { OnOk result (All (IsInner window.now.bounds) reached.new.items) }
+    requires before { IsPulled window.now.bounds window.now.values.items old.now counts.old
+        reached.old.items }
+    ensures pulled { OnOk result (IsPulled window.now.bounds window.now.values.items old.now
+        counts.new reached.new.items) }
+    ensures near { OnOk result (reached.new.items ≡ [] → (reached.old.items ≡ [])
+        × IsNear window.now.bounds window.now.values.items old.now spot) }
 {
     let index = window.index(spot);
     let own = counts[index];
@@ -238,7 +234,6 @@ fn pull_at(
 }
 
 /// Applies [`pull_at`] to each spot of one row of the tile.
-#[tactic(auto, using(crate::proofs::Spreading::not_above_itself, crate::proofs::Noted::noted_none))]
 fn pull_along(
     window: &Window<Cell>,
     old: &[u32],
@@ -250,16 +245,13 @@ fn pull_along(
         × (length counts.old ≡ area_of window.now.bounds) }
     requires counts { AreAtMostNoCount old.now }
     requires row { (1 ≤ row) × (row ≤ window.now.bounds.rows) }
-    requires spread { IsSpread window.now.bounds window.now.values.items old.now counts.old }
-    requires inner { All (IsInner window.now.bounds) reached.old.items }
-    ensures spread { OnOk result
-        (IsSpread window.now.bounds window.now.values.items old.now counts.new) }
-    ensures kept { OnOk result (IsNotAbove counts.new counts.old) }
-    ensures near { OnOk result ((s : Place) → IsInner window.now.bounds s → s.row ≡ row →
-        IsNear window.now.bounds window.now.values.items old.now counts.new s) }
-    ensures noted { OnOk result
-        (NotesChanges window.now.bounds counts.old counts.new reached.old.items reached.new.items) }
-    ensures inner { OnOk result (All (IsInner window.now.bounds) reached.new.items) }
+    requires before { IsPulled window.now.bounds window.now.values.items old.now counts.old
+        reached.old.items }
+    ensures pulled { OnOk result (IsPulled window.now.bounds window.now.values.items old.now
+        counts.new reached.new.items) }
+    ensures near { OnOk result (reached.new.items ≡ [] → (reached.old.items ≡ [])
+        × ((s : Place) → IsInner window.now.bounds s → s.row ≡ row →
+        IsNear window.now.bounds window.now.values.items old.now s)) }
 {
     for col in 1..window.bounds.cols + 1 {
         pull_at(window, old, counts, reached, Place { row, col })?;
@@ -268,7 +260,6 @@ fn pull_along(
 }
 
 /// Applies [`pull_at`] to each spot of the tile; returns those whose counts fell.
-#[tactic(auto, using(crate::proofs::Spreading::spread_none, crate::proofs::Spreading::near_after, crate::proofs::Noted::noted_none, crate::proofs::Noted::noted_then))]
 fn pull(
     alloc: Global,
     window: &Window<Cell>,
@@ -278,13 +269,10 @@ fn pull(
     requires size { length old.now ≡ area_of window.now.bounds }
     requires counts { AreAtMostNoCount old.now }
     requires same { counts.old ≡ old.now }
-    ensures spread { OnOk result
-        (IsSpread window.now.bounds window.now.values.items old.now counts.new) }
-    ensures near { OnOk result ((s : Place) → IsInner window.now.bounds s →
-        IsNear window.now.bounds window.now.values.items old.now counts.new s) }
-    ensures noted { IfOk result
-        (λ reached. NotesChanges window.now.bounds old.now counts.new [] reached.items) }
-    ensures inner { IfOk result (λ reached. All (IsInner window.now.bounds) reached.items) }
+    ensures pulled { IfOk result (λ reached. IsPulled window.now.bounds window.now.values.items
+        old.now counts.new reached.items) }
+    ensures settled { IfOk result (λ reached. reached.items ≡ [] →
+        AreSettled window.now.bounds window.now.values.items old.now) }
 {
     let mut reached = Vec::new(alloc);
     for row in 1..window.bounds.rows + 1 {
@@ -293,38 +281,62 @@ fn pull(
     Ok(reached)
 }
 
-/// Searches from all known counts until no count in the tile falls.
-#[tactic(auto, using(crate::proofs::Spreading::spread_counts))]
-fn search_window(
+/// Returns the lower counts of a window after a search from the counts `old`.
+/// Returns `None` if in the tile each count is at most one above those around it at its height.
+fn lowered(
     alloc: Global,
     window: &Window<Cell>,
     old: &[u32],
-    counts: &mut [u32],
-) -> Result<(), AllocError>
+) -> Result<Option<Vec<u32>>, AllocError>
     requires size { length old.now ≡ area_of window.now.bounds }
     requires counts { AreAtMostNoCount old.now }
-    requires same { counts.old ≡ old.now }
-    ensures { OnOk result
-        (IsSearched window.now.bounds window.now.values.items old.now counts.new) }
-{
-    let reached = pull(alloc, window, old, counts)?;
-    search(window, counts, reached)?;
-    Ok(())
-}
-
-/// Returns the counts of a window after a search from the counts `old`.
-pub(crate) fn searched_counts(
-    alloc: Global,
-    window: &Window<Cell>,
-    old: &[u32],
-) -> Result<Vec<u32>, AllocError>
-    requires size { length old.now ≡ area_of window.now.bounds }
-    requires counts { AreAtMostNoCount old.now }
-    ensures finished { IfOk result
-        (λ new. IsSearched window.now.bounds window.now.values.items old.now new.items) }
-    ensures size { IfOk result (λ new. length new.items ≡ length old.now) }
+    ensures lower { IfOk result (λ found. IfSome found (λ new.
+        IsSpread window.now.bounds window.now.values.items old.now new.items
+        × (sum new.items < sum old.now))) }
+    ensures settled { IfOk result (λ found. found ≡ None →
+        AreSettled window.now.bounds window.now.values.items old.now) }
 {
     let mut counts = Vec::from_slice(alloc, old)?;
-    search_window(alloc, window, old, &mut counts)?;
-    Ok(counts)
+    let reached = pull(alloc, window, old, &mut counts)?;
+    if reached.is_empty() {
+        return Ok(None);
+    }
+    search(window, &mut counts, reached)?;
+    Ok(Some(counts))
+}
+
+/// Returns the counts of a window after one search.
+pub(crate) fn searched(
+    alloc: Global,
+    window: &Window<Cell>,
+    counts: Vec<u32>,
+) -> Result<Vec<u32>, AllocError>
+    requires size { length counts.items ≡ area_of window.now.bounds }
+    requires counts { AreAtMostNoCount counts.items }
+    ensures { IfOk result (λ new.
+        IsSpread window.now.bounds window.now.values.items counts.items new.items) }
+{
+    match lowered(alloc, window, &counts)? {
+        Some(lower) => Ok(lower),
+        None => Ok(counts),
+    }
+}
+
+/// Returns the counts of a window after searches until none finds a lower count in the tile.
+pub(crate) fn settled(
+    alloc: Global,
+    window: &Window<Cell>,
+    mut counts: Vec<u32>,
+) -> Result<Vec<u32>, AllocError>
+    requires size { length counts.items ≡ area_of window.now.bounds }
+    requires counts { AreAtMostNoCount counts.items }
+    ensures { IfOk result (λ new.
+        IsSearched window.now.bounds window.now.values.items counts.items new.items) }
+{
+    loop {
+        match lowered(alloc, window, &counts)? {
+            Some(lower) => counts = lower,
+            None => return Ok(counts),
+        }
+    }
 }

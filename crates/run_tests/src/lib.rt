@@ -6,6 +6,7 @@
 //! - `reading`: how far a run reads ahead in a long text
 //! - `meeting`: two jobs at once, at each stage of each map
 //! - `crowding`: as many jobs at once as workers
+//! - `rounds`: the jobs of each round of directions
 //! - `words`: command line, fault lines and progress
 #![tactic(auto)]
 
@@ -15,6 +16,8 @@ mod crowding;
 mod meeting;
 #[cfg(test)]
 mod reading;
+#[cfg(test)]
+mod rounds;
 #[cfg(test)]
 mod runs;
 #[cfg(test)]

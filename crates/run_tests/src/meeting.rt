@@ -107,7 +107,7 @@ const CORNER: Observer = Observer {
     eye: 0,
 };
 
-fn cut(rt: &impl Abort, alloc: Global, text: &[u8], side: u32) -> (Grid, Tiling)
+pub(crate) fn cut(rt: &impl Abort, alloc: Global, text: &[u8], side: u32) -> (Grid, Tiling)
     ensures { Cuts result.1 result.0.terrain }
 {
     let grid = read_text(alloc, 0, text).expect(rt, "a grid");

@@ -4,7 +4,7 @@ use Rattle.terrain.specs.Raster.{Raster}
 use Rattle.tiles.specs.Cutting.{Cuts}
 use Rattle.drainage.specs.Filled.{IsFilled}
 use Rattle.drain.specs.Codes.{IsChecked}
-use Rattle.drain.specs.Counts.{AreChanges, AreCoded, AreCounts, Counted}
+use Rattle.drain.specs.Counts.{AreChanges, AreCoded, AreSoundCounts, Counted}
 use Rattle.drain.specs.Steps.{AreSteps}
 use Rattle.drain.specs.declared.codes.Checked.{Checked}
 use Rattle.drain.specs.declared.codes.Checked.TheVariants.{Codes}
@@ -69,7 +69,7 @@ loop-steps-preserved g c =
     (omega (arith, put.counts.size, c.in_ok-steps-2.ensures.counts.size, steps.ok.0)) in
     let xs = c.push_around.new.changes.items in
     record {
-      counts = subst (λ (ss : List (Option ℕ)). AreCounts t ss) (sym whole) put.counts;
+      counts = subst (λ (ss : List (Option ℕ)). AreSoundCounts t ss) (sym whole) put.counts;
       changes = subst (λ (ss : List (Option ℕ)). AreChanges t ss xs) c.deref-in-loop-steps-2.ensures.value
           (subst (λ (v : Counted). AreChanges v.terrain v.steps xs) c.new-in-loop-steps-2.ensures.value
           c.in_ok-push_around.ensures);

@@ -1,9 +1,9 @@
-use Rattle.drain.specs.Counts.{AreChanges, AreCounts, count_sum}
+use Rattle.drain.specs.Counts.{AreChanges, AreSoundCounts, count_sum}
 use Rattle.drain.proofs.draining.count_steps.Given as goal
 
 abbrev pub invariant-loop-steps : goal.invariant-loop-steps
 invariant-loop-steps g l = record {
-  counts : AreCounts l.grid.terrain l.steps.items;
+  counts : AreSoundCounts l.grid.terrain l.steps.items;
   changes : AreChanges l.grid.terrain l.steps.items l.changes.items;
 }
 

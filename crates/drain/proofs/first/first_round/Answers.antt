@@ -1,33 +1,24 @@
 use Rattle.std.proofs.Common.{◌≡◌, ℕ, ◌<◌, ◌∙◌, List, Option, Vec, Global, length, sym, subst, arith}
 use Rattle.tiles.specs.Cutting.{AreTileLists, tile_count}
-use Rattle.drain.proofs.Begun.{some_begun}
 use Rattle.drain.proofs.Sound.{first_counts, first_lists}
 use Rattle.drain.proofs.first.first_round.Goals as goal
 
 pub put_back-requires : goal.put_back-requires
 put_back-requires g c =
     let v = c.args.tiling.now in
-    let t = c.args.grid.now.terrain in
     let lists = c.in_ok-lists.lists in
     let count : length lists.items ≡ tile_count v =
     omega (arith, lists.ok.0, c.in_ok-lists.ensures.len) ∙ c.tiles.ensures.value in
-    let first = some_begun t in
-    let given = λ (j : ℕ) (d : Vec (Option ℕ) Global) (below : j < tile_count v).
-    c.in_ok-lists.ensures.given j d (subst (λ (n : ℕ). j < n) (sym c.tiles.ensures.value) below)
-    first.0 first.1 in
     subst (λ (xs : List (Vec (Option ℕ) Global)). AreTileLists v xs) (sym c.deref.ensures.value)
-    (first_lists t v first.0 lists.items c.requires first.1 count given)
+    (first_lists c.args.grid.now.terrain v lists.items c.requires count (λ j d below.
+    c.in_ok-lists.ensures.given j d (subst (λ (n : ℕ). j < n) (sym c.tiles.ensures.value) below)))
 
 pub returns-in-Ok-clause-counts : goal.returns-in-Ok-clause-counts
 returns-in-Ok-clause-counts g c =
     let v = c.args.tiling.now in
-    let t = c.args.grid.now.terrain in
     let lists = c.in_ok-lists.lists in
     let count : length lists.items ≡ tile_count v =
     omega (arith, lists.ok.0, c.in_ok-lists.ensures.len) ∙ c.tiles.ensures.value in
-    let first = some_begun t in
-    let given = λ (j : ℕ) (d : Vec (Option ℕ) Global) (below : j < tile_count v).
-    c.in_ok-lists.ensures.given j d (subst (λ (n : ℕ). j < n) (sym c.tiles.ensures.value) below)
-    first.0 first.1 in
-    first_counts t v first.0 lists.items c.requires first.1 count given _ c.tiles.ensures.lawful
-    (rw c.deref.ensures.value at c.in-Ok.ensures)
+    first_counts c.args.grid.now.terrain v lists.items c.requires count (λ j d below.
+    c.in_ok-lists.ensures.given j d (subst (λ (n : ℕ). j < n) (sym c.tiles.ensures.value) below))
+    _ c.tiles.ensures.lawful (rw c.deref.ensures.value at c.in-Ok.ensures)

@@ -2,7 +2,7 @@ use Rattle.std.proofs.Common.{◌≡◌, ◌<◌, ◌^◌, ℕ, List, Option, No
 use Rattle.std.proofs.lemmas.List.{get_or_default}
 use Rattle.terrain.proofs.Places.{index_below}
 use Rattle.terrain.specs.Neighbours.{index_of}
-use Rattle.drain.specs.Counts.{AreCounts, count_of, count_sum}
+use Rattle.drain.specs.Counts.{AreSoundCounts, count_of, count_sum}
 use Rattle.drain.proofs.Sound.{set_counts, set_less}
 use Rattle.drain.proofs.rounds.put.Goals as goal
 use Rattle.drain.proofs.rounds.put.Goals.{After-of}
@@ -46,7 +46,7 @@ module _ (c : After-of) where
 pub returns-clause-counts : goal.returns-clause-counts
 returns-clause-counts c =
     let t = c.args.grid.now.terrain in
-    subst (λ (k : ℕ). AreCounts t (slice_set c.args.steps.now k c.of.result)) (sym (index_is c))
+    subst (λ (k : ℕ). AreSoundCounts t (slice_set c.args.steps.now k c.of.result)) (sym (index_is c))
     (set_counts t c.args.steps.now c.requires.counts c.args.change c.requires.change c.of.result (stored c)
     (less c))
 

@@ -1,6 +1,6 @@
 use Rattle.std.proofs.Common.{ℕ, List, Option, sym, ap, subst, arith}
 use Rattle.std.proofs.lemmas.List.{with_items_is}
-use Rattle.drain.specs.Counts.{AreChanges, AreCounts, AreFound, Counted, count_sum}
+use Rattle.drain.specs.Counts.{AreChanges, AreSoundCounts, AreFound, Counted, count_sum}
 use Rattle.drain.specs.declared.changes.Change.{Change}
 use Rattle.drain.specs.declared.lowering.Found.{Found}
 use Rattle.drain.proofs.rounds.run_rounds.Goals as goal
@@ -38,7 +38,7 @@ loop-changes-preserved g c =
     let sum = ap (λ (ss : List (Option ℕ)). count_sum ss) whole in
     let before = ap (λ (ss : List (Option ℕ)). count_sum ss) c.deref_mut.ensures.value in
     record {
-      counts = subst (λ (ss : List (Option ℕ)). AreCounts t ss) (sym whole) put.counts;
+      counts = subst (λ (ss : List (Option ℕ)). AreSoundCounts t ss) (sym whole) put.counts;
       changes = subst (λ (ss : List (Option ℕ)). AreChanges t ss c.in_ok-changes.changes.items)
           c.deref-in-loop-changes-3.ensures.value
           (subst (λ (v : Counted). AreChanges v.terrain v.steps c.in_ok-changes.changes.items)

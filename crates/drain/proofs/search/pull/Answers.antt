@@ -1,22 +1,22 @@
-use Rattle.std.proofs.Common.{inl, inr, [], arith}
+use Rattle.std.proofs.Common.{inl, inr, arith}
 use Rattle.std.proofs.lemmas.Bool.{cases_eq}
-use Rattle.drain.proofs.Spreading.{near_after}
-use Rattle.drain.proofs.Noted.{noted_then}
+use Rattle.drain.proofs.Spreading.{pulled_none}
 use Rattle.drain.proofs.search.pull.Goals as goal
 
+pub loop-row-init : goal.loop-row-init
+loop-row-init c = record {
+  pulled = pulled_none c.args.window.now.bounds c.args.window.now.values.items c.args.old.now
+      c.args.counts.now c.new-reached.result.items c.requires.same c.new-reached.ensures.items;
+  near = λ none s inner below. absurd (omega (arith, inner.first_row, below));
+}
+
 pub loop-row-preserved : goal.loop-row-preserved
-loop-row-preserved c =
-    let b = c.args.window.now.bounds in
-    let levels = c.args.window.now.values.items in
-    record {
-      spread = c.in_ok-pull_along.ensures.spread;
-      near = λ s inner below. elim (cases_eq s.row c.loop-row.row) [
-        | inl e ↦ c.in_ok-pull_along.ensures.near s inner e
-        | inr ne ↦ near_after b levels c.args.old.now c.loop-row.counts c.pull_along.new.counts s
-            (c.loop-row.invariant.near s inner (omega arith)) c.in_ok-pull_along.ensures.kept
+loop-row-preserved c = record {
+  pulled = c.in_ok-pull_along.ensures.pulled;
+  near = λ none s inner below.
+      let here = c.in_ok-pull_along.ensures.near none in
+      elim (cases_eq s.row c.loop-row.row) [
+        | inl e ↦ here.1 s inner e
+        | inr ne ↦ c.loop-row.invariant.near here.0 s inner (omega arith)
       ];
-      noted = noted_then b c.args.old.now c.loop-row.counts c.pull_along.new.counts []
-          c.loop-row.reached.items c.pull_along.new.reached.items c.loop-row.invariant.noted
-          c.in_ok-pull_along.ensures.noted;
-      inner = c.in_ok-pull_along.ensures.inner;
-    }
+}

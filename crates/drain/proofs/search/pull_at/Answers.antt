@@ -1,11 +1,9 @@
-use Rattle.std.proofs.Common.{inl}
-use Rattle.drain.proofs.Noted.{noted_set}
-use Rattle.drain.proofs.Spreading.{spot_from_inner}
+use Rattle.drain.proofs.Spreading.{pulled_set}
 use Rattle.drain.proofs.search.pull_at.Goals as goal
 
-pub returns-in_ok-push-clause-noted : goal.returns-in_ok-push-clause-noted
-returns-in_ok-push-clause-noted c =
-    noted_set c.args.window.now.bounds c.args.counts.now c.args.spot c.index-index.result
-    c.least_around-least.result c.args.reached.now.items _
-    c.index-index.ensures.value (spot_from_inner c.args.window.now.bounds c.args.spot
-    c.requires.spot) (inl (c.requires.spot, c.in_ok-push.ensures.items))
+pub returns-in_ok-push-clause-pulled : goal.returns-in_ok-push-clause-pulled
+returns-in_ok-push-clause-pulled c =
+    pulled_set c.args.window.now.bounds c.args.window.now.values.items c.args.old.now c.args.counts.now
+    c.args.spot c.index-index.result c.least_around-least.result c.args.reached.now.items _
+    c.index-index.ensures.value c.requires.spot c.requires.before c.least_around-least.ensures.one
+    c.if-least-own.true c.in_ok-push.ensures.items

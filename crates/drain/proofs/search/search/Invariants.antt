@@ -1,12 +1,11 @@
 use Rattle.std.proofs.Common.{◌+◌, ◌-◌, All, sum, vec_len}
 use Rattle.tiles.specs.Windows.{IsInner}
-use Rattle.drain.specs.Search.{IsSpread, IsRelaxedBut}
+use Rattle.drain.specs.Search.{IsSpread}
 use Rattle.drain.proofs.search.search.Given as goal
 
 abbrev pub invariant-loop-done : goal.invariant-loop-done
 invariant-loop-done l = record {
   spread : IsSpread l.window.bounds l.window.values.items l.initial.counts l.counts;
-  even : IsRelaxedBut l.window.bounds l.window.values.items l.counts l.reached.items l.done;
   inner : All (IsInner l.window.bounds) l.reached.items;
 }
 

@@ -1,8 +1,7 @@
-use Rattle.std.proofs.Common.{◌<◌}
-use Rattle.terrain.specs.Neighbours.{Touches}
-use Rattle.drain.specs.Search.{IsReached}
+use Rattle.drain.specs.Search.{IsLowering}
 use Rattle.drain.proofs.search.spread.Given as goal
 
 abbrev pub invariant-loop-row : goal.invariant-loop-row
-invariant-loop-row l = IsReached l.window.bounds l.window.values.items l.spot (λ r. Touches l.spot r
-    × (r.row < l.row)) l.initial.counts l.counts l.initial.reached.items l.reached.items
+invariant-loop-row l =
+    IsLowering l.window.bounds l.window.values.items l.initial.counts l.counts l.initial.reached.items
+    l.reached.items

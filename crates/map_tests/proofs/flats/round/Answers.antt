@@ -24,7 +24,7 @@ flat_steps-requires g c =
           ap (λ (v : View (Option ℕ)). v.tile) c.view-steps.ensures
               ∙ sym (ap (λ (v : View (Option ℤ)). v.tile) c.view-levels.ensures),
           (
-            λ p drains. (begun_zeros t counts begun p drains).1,
+            begun_zeros t counts begun,
             begun_walked (DrainsAtOnce t) t counts begun (λ p drains. drains),
           ),
         ),

@@ -1,6 +1,7 @@
-use Rattle.std.proofs.Common.{ℕ, ℤ, List, Option, sym, ap, subst, ◌∙◌}
-use Rattle.drain.specs.Search.{AreAtMostNoCount, IsSearched}
-use Rattle.drain.proofs.Begun.{begun_round, begun_small}
+use Rattle.std.proofs.Common.{◌∙◌, ℕ, List, ap, length, subst}
+use Rattle.tiles.specs.Cutting.{Cutting, View, IsCutting}
+use Rattle.drain.proofs.Begun.{begun_small, begun_tile}
+use Rattle.drain.proofs.Spreading.{spread-length}
 use Rattle.drain.proofs.first.FirstRoundWork.run.Goals as goal
 
 pub begun_counts-requires : goal.begun_counts-requires
@@ -13,24 +14,33 @@ begun_counts-requires c =
       c.args.self.now.cuts.1,
     ) at c.in_ok-window.ensures.shown
 
-pub round-requires-clause-counts : goal.round-requires-clause-counts
-round-requires-clause-counts c =
-    subst (λ (xs : List ℕ). AreAtMostNoCount xs) (sym c.deref.ensures.value)
-    (begun_small c.args.self.now.grid.now.terrain c.in_ok-window.window.bounds
-    c.in_ok-begun.begun.items c.in_ok-begun.ensures)
+pub searched-requires : goal.searched-requires
+searched-requires c = record {
+  size = c.in_ok-begun.ensures.size;
+  counts = begun_small c.args.self.now.grid.now.terrain c.in_ok-window.window.bounds c.in_ok-begun.begun.items
+      c.in_ok-begun.ensures;
+}
+
+pub copy_counts-requires : goal.copy_counts-requires
+copy_counts-requires c =
+    ap (λ (ns : List ℕ). length ns) c.deref.ensures.value
+    ∙ spread-length c.in_ok-window.window.bounds c.in_ok-window.window.values.items c.in_ok-begun.begun.items
+    c.in_ok-counts.counts.items c.in_ok-counts.ensures ∙ c.in_ok-begun.ensures.size
 
 pub returns-clause-given : goal.returns-clause-given
-returns-clause-given c = λ begun first.
-    let t = c.args.self.now.grid.now.terrain in
-    let cut = c.args.self.now.tiling.now in
+returns-clause-given c =
     let window = c.in_ok-window.window in
-    let round = c.in_ok-list.ensures in
-    let finished = subst (λ (xs : List ℕ).
-    IsSearched window.bounds window.values.items xs round.0) c.deref.ensures.value round.1 in
-    begun_round t c.view-levels.result cut c.args.job window.bounds window.values.items
-    c.in_ok-begun.begun.items round.0 c.in_ok-list.list.items begun
-    (c.view-levels.ensures ∙ ap (λ (xs : List (Option ℤ)).
-    record { cutting = cut; tile = c.args.job; cells = xs }) c.cells.ensures.value)
-    c.args.self.now.cuts c.in_ok-window.ensures.lawful.cutting c.in_ok-window.ensures.bounds
-    (rw c.no_data.ensures at c.in_ok-window.ensures.shown) c.in_ok-begun.ensures first finished
-    round.2
+    let cut = ap (λ (v : View _). v.cutting) c.view-levels.ensures in
+    let tile = ap (λ (v : View _). v.tile) c.view-levels.ensures in
+    let on = rw (
+      c.view-levels.ensures,
+      c.cells.ensures.value,
+      c.no_data.ensures,
+      c.args.self.now.cuts.0,
+      c.args.self.now.cuts.1,
+    ) at c.in_ok-window.ensures.shown in
+    begun_tile c.args.self.now.grid.now.terrain window.bounds c.in_ok-begun.begun.items c.in_ok-begun.ensures
+    c.args.self.now.tiling.now c.args.job window.values.items c.in_ok-counts.counts.items c.in_ok-list.list.items
+    (subst (λ (z : Cutting). IsCutting z) cut c.in_ok-window.ensures.lawful.cutting)
+    (rw c.view-levels.ensures at c.in_ok-window.ensures.bounds) on c.in_ok-counts.ensures
+    (rw c.deref.ensures.value at c.in_ok-list.ensures)
