@@ -79,14 +79,12 @@ fn onward_code(
     for turn in 0..8 {
         let way = 7 - turn;
         let index = at[way];
-        if cells[index].is_level_with(level) {
-            let count = steps[index].number() + 1;
+        let count = steps[index].number() + 1;
+        if count <= own && cells[index].is_level_with(level) {
             if count < own {
                 return Err(count);
             }
-            if count == own {
-                code = Code::of_way(way);
-            }
+            code = Code::of_way(way);
         }
     }
     Ok(code)

@@ -74,8 +74,8 @@ fn count_steps<R: Threads + Wait + Sync, G: Gate + Sync>(
     tiling: &Tiling,
 ) -> Result<StepsAndCodes, JobFault>
     requires { Cuts tiling.now filled.now.terrain }
-    ensures steps { IfOk result (λ s. AreSteps filled.now.terrain s.steps.items) }
-    ensures codes { IfOk result (λ s. AreCoded filled.now.terrain tiling.now s.codes.items) }
+    ensures counted { IfOk result (λ s. AreSteps filled.now.terrain s.steps.items
+        × AreCoded filled.now.terrain tiling.now s.codes.items) }
     ensures lawful { OnOk result (IsTerrain filled.now.terrain × IsCutting tiling.now) }
     ensures workers { RefusesWorkers runner.now.workers result }
 {

@@ -22,8 +22,8 @@ loop-steps-init g c =
           c.new.ensures.value c.in_ok-changes.ensures);
     }
 
-pub returns-in-Codes-clause-steps : goal.returns-in-Codes-clause-steps
-returns-in-Codes-clause-steps g c =
+pub returns-in-Codes-clause-counted : goal.returns-in-Codes-clause-counted
+returns-in-Codes-clause-counted g c =
     let cut = c.args.tiling.now in
     let steps = c.in_ok-steps-2.steps.items in
     let grid = c.grid-grid.result.now in
@@ -38,27 +38,11 @@ returns-in-Codes-clause-steps g c =
     (subst (λ (v : Counted). IsChecked v (Codes c.in-Codes.codes)) c.new-in-loop-steps.ensures.value found) in
     let are = certified grid.terrain cut steps c.in-Codes.codes.items cuts c.in_ok-steps.ensures.lawful
     checked.0 checked.1 c.in_ok-steps-2.ensures.counts c.new.ensures.lawful filled in
-    subst (λ (x : Raster). AreSteps x.terrain steps) c.grid-grid.ensures.value are
-
-pub returns-in-Codes-clause-codes : goal.returns-in-Codes-clause-codes
-returns-in-Codes-clause-codes g c =
-    let cut = c.args.tiling.now in
-    let steps = c.in_ok-steps-2.steps.items in
-    let grid = c.grid-grid.result.now in
-    let same = sym c.grid-grid.ensures.value in
-    let cuts = subst (λ (x : Raster). Cuts cut x.terrain) same c.requires in
-    let filled = subst (λ (x : Raster). IsFilled x.terrain x.terrain.cells) same c.grid-grid.ensures.own in
-    let found = subst (λ (f : Checked). IsChecked c.new-in-loop-steps.result f) c.in-Codes.is
-    c.in_ok-codes.ensures.checked in
-    let checked = subst (λ (ss : List (Option ℕ)). IsChecked
-    (let v : Counted = record { terrain = grid.terrain; cutting = cut; steps = ss } in v)
-    (Codes c.in-Codes.codes)) c.deref-in-loop-steps.ensures.value
-    (subst (λ (v : Counted). IsChecked v (Codes c.in-Codes.codes)) c.new-in-loop-steps.ensures.value found) in
-    let are = certified grid.terrain cut steps c.in-Codes.codes.items cuts c.in_ok-steps.ensures.lawful
-    checked.0 checked.1 c.in_ok-steps-2.ensures.counts c.new.ensures.lawful filled in
-    subst (λ (x : Raster). AreCoded x.terrain cut c.in-Codes.codes.items) c.grid-grid.ensures.value
-    (coded grid.terrain cut steps c.in-Codes.codes.items cuts c.in_ok-steps.ensures.lawful checked.0 checked.1
-    are)
+    subst (λ (x : Raster). AreSteps x.terrain steps × AreCoded x.terrain cut c.in-Codes.codes.items)
+    c.grid-grid.ensures.value (
+      are,
+      coded grid.terrain cut steps c.in-Codes.codes.items cuts c.in_ok-steps.ensures.lawful checked.0 checked.1 are,
+    )
 
 pub loop-steps-preserved : goal.loop-steps-preserved
 loop-steps-preserved g c =

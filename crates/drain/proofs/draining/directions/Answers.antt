@@ -11,7 +11,7 @@ use Rattle.drain.proofs.draining.directions.Goals as goal
 
 pub put_back-requires : goal.put_back-requires
 put_back-requires g c =
-    let coded = c.in_ok-steps.ensures.codes in
+    let coded = c.in_ok-steps.ensures.counted.1 in
     subst (λ (ls : List (Vec (Option _) Global)). AreTileLists c.args.tiling.now ls) (sym c.deref.ensures.value)
     (record { count = coded.size; each = λ tile list at. (coded.each tile list at).size })
 
@@ -20,10 +20,10 @@ new-requires g c =
     let t = c.args.filled.now.terrain in
     let made = c.in_ok-steps in
     let steps = c.of-reported.result.value.items in
-    let stepped = subst (λ v. AreSteps t v.items) (sym c.of-reported.ensures) made.ensures.steps in
+    let stepped = subst (λ v. AreSteps t v.items) (sym c.of-reported.ensures) made.ensures.counted.0 in
     let codes = c.in-Ok.codes.items in
     let all = coded_whole t c.args.tiling.now made.field-0.codes codes c.requires made.ensures.lawful.1
-    made.ensures.codes (rw c.deref.ensures.value at c.in-Ok.ensures) in
+    made.ensures.counted.1 (rw c.deref.ensures.value at c.in-Ok.ensures) in
     subst (λ (x : Raster). IsDraining (record { terrain = x.terrain; steps = steps; codes = codes }))
     (sym c.grid.ensures.value) (are_draining t steps codes stepped all)
 
@@ -32,7 +32,7 @@ returns-in-Ok-clause-codes g c =
     let t = c.args.filled.now.terrain in
     let made = c.in_ok-steps in
     let all = coded_whole t c.args.tiling.now made.field-0.codes c.in-Ok.codes.items c.requires
-    made.ensures.lawful.1 made.ensures.codes (rw c.deref.ensures.value at c.in-Ok.ensures) in
+    made.ensures.lawful.1 made.ensures.counted.1 (rw c.deref.ensures.value at c.in-Ok.ensures) in
     subst (λ (x : Drained). AreDirections t x.codes) (sym c.new.ensures) all
 
 pub returns-in-Ok-clause-ends : goal.returns-in-Ok-clause-ends
@@ -40,10 +40,10 @@ returns-in-Ok-clause-ends g c =
     let t = c.args.filled.now.terrain in
     let made = c.in_ok-steps in
     let steps = c.of-reported.result.value.items in
-    let stepped = subst (λ v. AreSteps t v.items) (sym c.of-reported.ensures) made.ensures.steps in
+    let stepped = subst (λ v. AreSteps t v.items) (sym c.of-reported.ensures) made.ensures.counted.0 in
     let codes = c.in-Ok.codes.items in
     let all = coded_whole t c.args.tiling.now made.field-0.codes codes c.requires made.ensures.lawful.1
-    made.ensures.codes (rw c.deref.ensures.value at c.in-Ok.ensures) in
+    made.ensures.counted.1 (rw c.deref.ensures.value at c.in-Ok.ensures) in
     let d : Drained = record { terrain = c.grid.result.now.terrain; steps = steps; codes = codes } in
     let draining = subst (λ (x : Raster). IsDraining (record { terrain = x.terrain; steps = steps; codes = codes }))
     (sym c.grid.ensures.value) (are_draining t steps codes stepped all) in
