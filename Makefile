@@ -20,10 +20,10 @@ gate: test
 	rt ci
 
 # The longest first. tests/progress looks at the clock, and so runs alone.
-PROGRAM_TESTS = refusals gis limits sights texts install recipes run catchments pictures tools
+PROGRAM_TESTS = refusals gis certificate limits sights texts install recipes run catchments pictures tools
 .PHONY: test-program $(PROGRAM_TESTS:%=test-%)
 test-program: $(PROGRAM_TESTS:%=test-%)
-test-run test-texts test-catchments test-sights test-limits test-install: test-%:
+test-run test-texts test-catchments test-certificate test-sights test-limits test-install: test-%:
 	tests/$* ./relief
 test-pictures test-tools: test-%:
 	tests/$*

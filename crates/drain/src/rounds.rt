@@ -1,7 +1,7 @@
 //! Later rounds: they carry counts of steps over rims while that lowers any.
 //!
 //! Each round is one job of each tile. Only soundness is proved of them: each count is the length
-//! of a walk. That no count is too high shows the round that finds the codes (module `codes`).
+//! of a walk. The round that finds the codes shows that no count is too high (module `codes`).
 ghost use Rattle.std.specs.Prelude.{◌≡◌, ◌<◌, ◌≤◌, ℕ, true, All, length, IfOk, OnOk};
 ghost use Rattle.terrain.specs.Raster.{Terrain};
 ghost use Rattle.tile_jobs.specs.Fault.{RefusesWorkers};
