@@ -61,8 +61,8 @@ AreBegunSpots Drains b counts = AreBegunUpTo Drains b (area_of b) counts
 abbrev pub HasZeros : Terrain → List (Option ℕ) → Type 0
 HasZeros t counts = (p : Place) → DrainsAtOnce t p → entry_at t.cols t.rows counts p ≡ Some 0
 
--- `counts` has the counts of a tile in row order: 0 at each cell that drains at once, and each known
--- one the length of a flat walk.
+-- `counts` has the counts of a tile in row order: 0 at each cell that drains at once, each other
+-- unknown or the length of a flat walk.
 pub record AreSoundInTile (t : Terrain) (c : Cutting) (tile : ℕ) (counts : List (Option ℕ))
     : Type 0 where
   pub size : length counts ≡ cell_count c tile

@@ -56,7 +56,7 @@ pub record Counted : Type 0 where
   pub cutting : Cutting
   pub steps : List (Option ℕ)
 
--- The cutting is of the terrain's grid, and the counts are counts of the terrain (`AreSoundCounts`).
+-- The cutting is of the terrain's grid, and the counts are sound (`AreSoundCounts`).
 pub record IsCountedTerrain (c : Counted) : Type 0 where
   pub lawful : IsTerrain c.terrain
   pub cuts : Cuts c.cutting c.terrain

@@ -21,7 +21,8 @@ loop-turn-preserved c =
     let left = c.loop-turn-test.true in
     let count : c.number-count.result ≡ stored_at steps at (7 - turn) = c.number-count.ensures.value
     ∙ ap (λ (o : Option ℕ). unwrap_or o (2 ^ 24)) (c.index-steps-index.is
-    ∙ get_or_default steps (get_or at (7 - turn) 0) c.index-steps-index.result None (c.requires.steps (7 - turn) below)) in
+    ∙ get_or_default steps (get_or at (7 - turn) 0) c.index-steps-index.result None
+    (c.requires.steps (7 - turn) below)) in
     elim c.if-count-own.branch [
       | then-count-own+then-is_level_with+else-count-own-2 w ↦
           (let cell = w.index-cells-index.is ∙ get_or_default cells (get_or at (7 - turn) 0)
