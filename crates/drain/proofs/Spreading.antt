@@ -159,8 +159,8 @@ pulled_none b levels old counts xs is none =
 
 pub pulled_set : (b : Bounds) (levels : List (Option ℤ)) (old counts : List ℕ) (s : Place) (i n : ℕ)
     (xs ys : List Place) → i ≡ spot_index b s → IsInner b s → IsPulled b levels old counts xs →
-    ((n ≡ get_or counts i 0) ⊎ ((r : Place) × IsSpot b r × Touches r s × (level_on b levels r
-    ≡ level_on b levels s) × (n ≡ count_on b old r + 1) × (n < get_or counts i 0))) →
+    ((n ≡ get_or counts i 0) ⊎ ((r : Place) × IsSpot b r × Touches r s ×
+    (level_on b levels r ≡ level_on b levels s) × (n ≡ count_on b old r + 1) × (n < get_or counts i 0))) →
     n < get_or counts i 0 → ys ≡ xs ++ s ∷ [] → IsPulled b levels old (set counts i n) ys
 pulled_set b levels old counts s i n xs ys e inner before one less is =
     let longer = ap (λ (zs : List Place). length zs) is in

@@ -1,6 +1,6 @@
 -- A search over a tile's window keeps counts lengths of flat walks, and searches until none lowers a
 -- count give those of a round over the tile. The window has one row and one column more on each side.
-use Rattle.std.proofs.Common.{◌≡◌, ◌≢◌, ℕ, ◌+◌, ◌-◌, ◌*◌, ◌^◌, ◌<◌, ◌≤◌, inl, inr, List, ◌∷◌, length, get_or, set, Option, None, Some, is_some, unwrap_or, IfSome, ℤ, sym, ap, subst, refl, ◌∙◌, arith}
+use Rattle.std.proofs.Common.{◌≡◌, ◌≢◌, ℕ, ◌+◌, ◌-◌, ◌*◌, ◌^◌, ◌<◌, ◌≤◌, inl, inr, List, [], ◌∷◌, length, get_or, set, Option, None, Some, is_some, unwrap_or, IfSome, ℤ, sym, ap, subst, refl, ◌∙◌, arith}
 use Rattle.std.proofs.lemmas.Bool.{cases_eq, cases_lt}
 use Rattle.std.proofs.lemmas.List.{get_or-map, get_or-set_same, get_or-set_other, get_or_past, length-map}
 use Rattle.std.proofs.lemmas.Option.{MatchOption-at_some, none-some, same_Some}
@@ -9,7 +9,8 @@ use Rattle.terrain.specs.Raster.{Terrain}
 use Rattle.terrain.specs.Neighbours.{entry_or, height_at, entry_at, Touches, IsNeighbour, height_of}
 use Rattle.terrain.specs.declared.place.Place.{Place}
 use Rattle.tiles.specs.declared.bounds.Bounds.{Bounds}
-use Rattle.tiles.specs.Cutting.{Cutting, IsCutting, IsInBounds, IsInTile, View, bounds_of, cell_count, tile_entry}
+use Rattle.terrain.specs.Sinks.{with_sinks}
+use Rattle.tiles.specs.Cutting.{Cutting, IsCutting, IsInBounds, IsInTile, View, bounds_of, cell_count, terrain_of, tile_entry}
 use Rattle.tiles.proofs.Cut.{in_bounds}
 use Rattle.drain.specs.Rounds.{IsWalked, AreWalked, IsRound}
 use Rattle.drain.specs.Steps.{DrainsAtOnce}
@@ -248,17 +249,16 @@ module _ (t : Terrain) (c : Cutting) (tile : ℕ) (b : Bounds) (new : List ℕ) 
       subst (λ (x : Place). IsWalked (DrainsAtOnce t) t x (count_on b new s))
       (shows_same b s at.0 p at.1 inner.1) at.2))
 
--- window counts by w's cutting and tile are those by v's, if cuttings and tiles are equal
-pub input_to : (v : View (Option ℤ)) (w : View (Option ℕ)) (b : Bounds) (old : List ℕ) →
-    w.cutting ≡ v.cutting → w.tile ≡ v.tile → b ≡ bounds_of v.cutting v.tile →
+-- The window counts of a tile of w are those of a tile of the terrain that v shows.
+pub input_to : (t : Terrain) (v : View (Option ℤ)) (w : View (Option ℕ)) (b : Bounds) (old : List ℕ) →
+    terrain_of v ≡ with_sinks t [] → w.cutting ≡ v.cutting → w.tile ≡ v.tile → b ≡ bounds_of v.cutting v.tile →
     AreWindowCounts w.cutting.cols w.cutting.rows w.cells (bounds_of w.cutting w.tile) old →
-    AreWindowCounts v.cutting.cols v.cutting.rows w.cells b old
-input_to v w b old cutting tile bounds input =
-    subst (λ (z : Bounds). AreWindowCounts v.cutting.cols v.cutting.rows w.cells z old) (sym bounds)
-    (subst (λ (k : ℕ).
-    AreWindowCounts v.cutting.cols v.cutting.rows w.cells (bounds_of v.cutting k) old) tile
-    (subst (λ (z : Cutting). AreWindowCounts z.cols z.rows w.cells (bounds_of z w.tile) old)
-    cutting input))
+    AreWindowCounts t.cols t.rows w.cells b old
+input_to t v w b old shown cutting tile bounds input =
+    subst (λ (x : Terrain). AreWindowCounts x.cols x.rows w.cells b old) shown
+    (subst (λ (z : Bounds). AreWindowCounts v.cutting.cols v.cutting.rows w.cells z old) (sym bounds)
+    (subst (λ (k : ℕ). AreWindowCounts v.cutting.cols v.cutting.rows w.cells (bounds_of v.cutting k) old) tile
+    (subst (λ (z : Cutting). AreWindowCounts z.cols z.rows w.cells (bounds_of z w.tile) old) cutting input)))
 
 -- searches from the counts of a window give the counts of a round over its tile
 module _ (t : Terrain) (b : Bounds) (steps : List (Option ℕ)) (old : List ℕ)

@@ -72,10 +72,22 @@ fits_on t None lawful = tt
 fits_on t (Some q) lawful =
     if_some (height_at t q) IsHeight (λ h e. height_in t q h lawful e)
 
+-- The lists are the heights and counts of the window, and the indexes of the eight spots around one.
+pub record AreRead (w : CountedSpots) (s : Place) (cells : List (Option ℤ)) (steps : List (Option ℕ))
+    (at : List ℕ) : Type 0 where
+  pub cells_are : cells ≡ w.levels
+  pub steps_are : steps ≡ w.steps
+  pub at_is : at ≡ around_index (w.bounds.cols + 2) (spot_index w.bounds s)
+
+pub read_of : (v w : CountedSpots) (s : Place) (cells : List (Option ℤ)) (steps : List (Option ℕ)) (at : List ℕ) →
+    v ≡ w → cells ≡ v.levels → steps ≡ v.steps → at ≡ around_index (v.bounds.cols + 2) (spot_index v.bounds s) →
+    AreRead w s cells steps at
+read_of v w s cells steps at same cells_are steps_are at_is =
+    subst (λ (x : CountedSpots). AreRead x s cells steps at) same
+    (record { cells_are = cells_are; steps_are = steps_are; at_is = at_is })
+
 module _ (w : CountedSpots) (s : Place) (cells : List (Option ℤ)) (steps : List (Option ℕ))
-    (at : List ℕ) (are : AreCountedSpots w) (inner : IsInner w.bounds s) (cells_are : cells ≡ w.levels)
-    (steps_are : steps ≡ w.steps)
-    (at_is : at ≡ around_index (w.bounds.cols + 2) (spot_index w.bounds s)) where
+    (at : List ℕ) (are : AreCountedSpots w) (inner : IsInner w.bounds s) (read : AreRead w s cells steps at) where
   abbrev t : Terrain
   t = w.terrain
 
@@ -89,10 +101,10 @@ module _ (w : CountedSpots) (s : Place) (cells : List (Option ℤ)) (steps : Lis
   count_of_place o = option_and_then (λ q. entry_at t.cols t.rows all q) o
 
   heights_shown : AreEntriesShown t t.cells w.bounds cells
-  heights_shown = subst (AreEntriesShown t t.cells w.bounds) (sym cells_are) are.levels
+  heights_shown = subst (AreEntriesShown t t.cells w.bounds) (sym read.cells_are) are.levels
 
   steps_shown : AreEntriesShown t all w.bounds steps
-  steps_shown = subst (AreEntriesShown t all w.bounds) (sym steps_are) are.steps
+  steps_shown = subst (AreEntriesShown t all w.bounds) (sym read.steps_are) are.steps
 
   stored_is : (q : Place) → IsDataCell t q →
       unwrap_or (entry_at t.cols t.rows all q) no_count ≡ count_of all (index_of t.cols q)
@@ -103,11 +115,11 @@ module _ (w : CountedSpots) (s : Place) (cells : List (Option ℤ)) (steps : Lis
     way_levels : (way : ℕ) → way < 8 →
         get_or cells (get_or at way 0) None ≡ entry_on t.cols t.rows t.cells way p
     way_levels =
-        value_on_way w.bounds s p inner shows t.cols t.rows t.cells cells at heights_shown at_is
+        value_on_way w.bounds s p inner shows t.cols t.rows t.cells cells at heights_shown read.at_is
 
     way_steps : (way : ℕ) → way < 8 →
         get_or steps (get_or at way 0) None ≡ entry_on t.cols t.rows all way p
-    way_steps = value_on_way w.bounds s p inner shows t.cols t.rows all steps at steps_shown at_is
+    way_steps = value_on_way w.bounds s p inner shows t.cols t.rows all steps at steps_shown read.at_is
 
     pub heights_within : (way : ℕ) → way < 8 → IfSome (get_or cells (get_or at way 0) None) IsHeight
     heights_within way below = subst (λ (o : Option ℤ). IfSome o IsHeight) (sym (way_levels way below))
@@ -217,20 +229,16 @@ code_none t p none = subst (λ (o : Option ℤ). MatchOption o (let c : Option �
 
 -- the code of the cell that a spot shows is checked
 pub checked : (w : CountedSpots) (s : Place) (cells : List (Option ℤ)) (steps : List (Option ℕ))
-    (at : List ℕ) (are : AreCountedSpots w) (inner : IsInner w.bounds s) (cells_are : cells ≡ w.levels)
-    (steps_are : steps ≡ w.steps)
-    (at_is : at ≡ around_index (w.bounds.cols + 2) (spot_index w.bounds s)) (level : ℤ) (own : ℕ) →
+    (at : List ℕ) → AreCountedSpots w → IsInner w.bounds s → AreRead w s cells steps at → (level : ℤ) (own : ℕ) →
     level_on w.bounds w.levels s ≡ Some level → own ≡ stored_on w s → (code : ℕ) →
     IsStillAround cells steps at (Some level) own →
     ((q : Terrain) (r : Place) (a : Around) → AreSurroundings q r cells steps at level own a →
     IsDirection q r code) → (p : Place) → Shows w.bounds s p →
     IsCheckedCode w.terrain w.all p (Some code)
-checked w s cells steps at are inner cells_are steps_are at_is level own high count code around direction p
-    shows = (
-      still w s cells steps at are inner cells_are steps_are at_is p shows level own high count around,
-      λ is. code_shown w s cells steps at are inner cells_are steps_are at_is p shows level own high count is code
-          direction,
-    )
+checked w s cells steps at are inner read level own high count code around direction p shows = (
+  still w s cells steps at are inner read p shows level own high count around,
+  λ is. code_shown w s cells steps at are inner read p shows level own high count is code direction,
+)
 
 module _ (t : Terrain) (p : Place) (cells : List (Option ℤ)) (steps : List (Option ℕ))
     (at : List ℕ) (level : ℤ) (own : ℕ) (a : Around)

@@ -23,14 +23,19 @@ struct Crowd {
     missed: AtomicU64,
 }
 
+/// Returns a count of 0 for each job.
+pub(crate) fn counts_of(alloc: Global, jobs: u32) -> Result<Vec<AtomicU64>, AllocError> {
+    let mut counts = Vec::new(alloc);
+    for _ in 0..jobs {
+        counts.push(AtomicU64::new(0)).map_err(AllocError::from)?;
+    }
+    Ok(counts)
+}
+
 impl Crowd {
     fn new(alloc: Global, jobs: u32) -> Result<Crowd, AllocError> {
-        let mut entered = Vec::new(alloc);
-        for _ in 0..jobs {
-            entered.push(AtomicU64::new(0)).map_err(AllocError::from)?;
-        }
         Ok(Crowd {
-            entered,
+            entered: counts_of(alloc, jobs)?,
             missed: AtomicU64::new(0),
         })
     }

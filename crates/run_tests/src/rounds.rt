@@ -1,8 +1,9 @@
 //! In each round of `directions`, each tile has a job, also where few tiles get lower counts.
+use crate::crowding::counts_of;
 use crate::meeting::cut;
 use drain::directions;
 use fill::filled;
-use std::alloc::{AllocError, Global};
+use std::alloc::Global;
 use std::sync::atomic::{AtomicU64, Ordering};
 use std::test::Fail;
 use tile_jobs::{Gate, NoGate};
@@ -28,19 +29,6 @@ struct Roll {
     jobs: Vec<AtomicU64>,
 }
 
-impl Roll {
-    fn new(alloc: Global, tiles: u32) -> Result<Roll, AllocError> {
-        let mut jobs = Vec::new(alloc);
-        for _ in 0..tiles {
-            jobs.push(AtomicU64::new(0)).map_err(AllocError::from)?;
-        }
-        Ok(Roll {
-            rounds: AtomicU64::new(0),
-            jobs,
-        })
-    }
-}
-
 impl Gate for Roll {
     fn enter(&self, job: u32) {
         if let Some(jobs) = self.jobs.get(job as usize) {
@@ -55,9 +43,17 @@ impl Gate for Roll {
 
 /// Height of a corridor one cell wide that winds through walls, its outlet in the last row.
 fn serpentine(row: u32, col: u32) -> u32 {
-    let is_turn = if row % 4 == 0 { col == 1 } else { col == SIDE - 2 };
+    let is_turn = if row % 4 == 0 {
+        col == 1
+    } else {
+        col == SIDE - 2
+    };
     let is_border = col == 0 || col == SIDE - 1 || row == 0;
-    if !is_border && (row % 2 == 1 || is_turn) { 1 } else { 9 }
+    if !is_border && (row % 2 == 1 || is_turn) {
+        1
+    } else {
+        9
+    }
 }
 
 /// Height of hills in steps, with flats on them.
@@ -92,7 +88,10 @@ fn each_tile_has_a_job_in_each_round(rt: HostRuntime) -> Result<(), Fail> {
     ] {
         let (grid, tiling) = cut(&rt, alloc, &text, side);
         let level = filled(&rt, alloc, &grid, &tiling, 2, &NoGate).ok_or("levels")?;
-        let roll = Roll::new(alloc, tiling.tiles())?;
+        let roll = Roll {
+            rounds: AtomicU64::new(0),
+            jobs: counts_of(alloc, tiling.tiles())?,
+        };
         assert!(rt; directions(&rt, alloc, &level, &tiling, 2, &roll).is_ok());
         let rounds = roll.rounds.load(Ordering::SeqCst);
         assert!(rt; least <= rounds, "{rounds} rounds");

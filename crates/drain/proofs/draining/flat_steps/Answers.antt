@@ -1,7 +1,7 @@
 use Rattle.std.proofs.Common.{◌≡◌, [], ◌∷◌, map, ℕ, List, Option, length, sym, ap, subst, refl, ◌∙◌}
 use Rattle.terrain.specs.Raster.{Terrain}
 use Rattle.drain.specs.Rounds.{IsRound}
-use Rattle.drain.specs.Search.{AreEntriesShown, AreWindowCounts}
+use Rattle.drain.specs.Search.{AreEntriesShown}
 use Rattle.drain.specs.Steps.{DrainsAtOnce}
 use Rattle.drain.proofs.Spreading.{spread-length}
 use Rattle.drain.proofs.TileRound.{input_small, input_size, input_to, is_round}
@@ -17,8 +17,8 @@ settled-requires g c =
     let w = c.args.steps.now in
     let b = c.in_ok-window.window.bounds in
     let old = c.in_ok-old.old.items in
-    let input = subst (λ (x : Terrain). AreWindowCounts x.cols x.rows w.cells b old) c.requires.0
-    (input_to v w b old c.requires.1.0 c.requires.1.1.0 c.in_ok-window.ensures.bounds c.in_ok-old.ensures) in
+    let input = input_to g.terrain v w b old c.requires.0 c.requires.1.0 c.requires.1.1.0
+    c.in_ok-window.ensures.bounds c.in_ok-old.ensures in
     record {
       size = input_size g.terrain b w.cells old input;
       counts = input_small g.terrain b w.cells old input c.requires.1.1.1.1;
@@ -31,8 +31,8 @@ copy_counts-requires g c =
     let b = c.in_ok-window.window.bounds in
     let old = c.in_ok-old.old.items in
     let levels = c.in_ok-window.window.values.items in
-    let input = subst (λ (x : Terrain). AreWindowCounts x.cols x.rows w.cells b old) c.requires.0
-    (input_to v w b old c.requires.1.0 c.requires.1.1.0 c.in_ok-window.ensures.bounds c.in_ok-old.ensures) in
+    let input = input_to g.terrain v w b old c.requires.0 c.requires.1.0 c.requires.1.1.0
+    c.in_ok-window.ensures.bounds c.in_ok-old.ensures in
     ap (λ (ns : List ℕ). length ns) c.deref.ensures.value
     ∙ spread-length b levels old c.in_ok-counts.counts.items c.in_ok-counts.ensures.spread
     ∙ input_size g.terrain b w.cells old input
@@ -47,8 +47,8 @@ returns g c =
     let old = c.in_ok-old.old.items in
     let on = subst (λ (x : Terrain). AreEntriesShown x x.cells b window.values.items) c.requires.0
     (rw c.no_data.ensures at c.in_ok-window.ensures.shown) in
-    let input = subst (λ (x : Terrain). AreWindowCounts x.cols x.rows w.cells b old) c.requires.0
-    (input_to v w b old c.requires.1.0 c.requires.1.1.0 c.in_ok-window.ensures.bounds c.in_ok-old.ensures) in
+    let input = input_to g.terrain v w b old c.requires.0 c.requires.1.0 c.requires.1.1.0
+    c.in_ok-window.ensures.bounds c.in_ok-old.ensures in
     subst (λ (xs : List (Option ℕ)). IsRound (DrainsAtOnce t) t v.cutting v.tile w.cells xs)
     (sym (c.in_ok-step_numbers.ensures ∙ each_is c.deref-2.result.now ∙ c.deref-2.ensures.value))
     (is_round t b w.cells old input c.requires.1.1.1.1 window.values.items on v.cutting v.tile

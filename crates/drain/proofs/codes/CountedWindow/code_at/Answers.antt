@@ -1,13 +1,11 @@
-use Rattle.std.proofs.Common.{◌≡◌, ◌+◌, is_some, sym, ap, subst, ◌∙◌, arith, rules, to_z-of_z}
+use Rattle.std.proofs.Common.{is_some, sym, ap, subst, ◌∙◌, arith, rules, to_z-of_z}
 use mir.Val.{SFits}
 use Rattle.std.proofs.lemmas.Bool.{false≢true}
 use Rattle.terrain.proofs.Heights.{height_width}
-use Rattle.terrain.specs.Ways.{around_index}
-use Rattle.tiles.specs.Windows.{spot_index}
 use Rattle.tiles.proofs.SpotWays.{inner_shows}
 use Rattle.drain.specs.Codes.{CountedSpots, AreCountedSpots}
 use Rattle.terrain.proofs.Heights.{height_in}
-use Rattle.drain.proofs.WindowCodes.{checked, code_none, heights_within, lower}
+use Rattle.drain.proofs.WindowCodes.{checked, code_none, heights_within, lower, read_of}
 use Rattle.drain.proofs.codes.CountedWindow.code_at.Goals as goal
 
 pub returns-in_default-clause-code : goal.returns-in_default-clause-code
@@ -29,44 +27,35 @@ pub data_code-requires-clause-heights : goal.data_code-requires-clause-heights
 data_code-requires-clause-heights c =
     let w = c.args.self.now in
     let are = subst AreCountedSpots c.self.view_is c.self.invariant.1 in
-    let cells = c.deref.ensures.value ∙ ap (λ (v : CountedSpots). v.levels) c.self.view_is in
-    let steps = c.deref-2.ensures.value ∙ ap (λ (v : CountedSpots). v.steps) c.self.view_is in
-    let at = subst (λ (v : CountedSpots). c.around-at.result
-    ≡ around_index (v.bounds.cols + 2) (spot_index v.bounds c.args.spot)) c.self.view_is
-    c.around-at.ensures.value in
+    let read = read_of _ w c.args.spot c.deref.result.now c.deref-2.result.now c.around-at.result c.self.view_is
+    c.deref.ensures.value c.deref-2.ensures.value c.around-at.ensures.value in
     let shown = inner_shows w.bounds c.args.spot c.requires in
-    heights_within w c.args.spot c.deref.result.now c.deref-2.result.now c.around-at.result are c.requires cells
-    steps at shown.0 shown.1
+    heights_within w c.args.spot c.deref.result.now c.deref-2.result.now c.around-at.result are c.requires read
+    shown.0 shown.1
 
 pub returns-in-Ok-clause-code : goal.returns-in-Ok-clause-code
 returns-in-Ok-clause-code c =
     let w = c.args.self.now in
     let are = subst AreCountedSpots c.self.view_is c.self.invariant.1 in
-    let cells = c.deref.ensures.value ∙ ap (λ (v : CountedSpots). v.levels) c.self.view_is in
-    let steps = c.deref-2.ensures.value ∙ ap (λ (v : CountedSpots). v.steps) c.self.view_is in
-    let at = subst (λ (v : CountedSpots). c.around-at.result
-    ≡ around_index (v.bounds.cols + 2) (spot_index v.bounds c.args.spot)) c.self.view_is
-    c.around-at.ensures.value in
+    let read = read_of _ w c.args.spot c.deref.result.now c.deref-2.result.now c.around-at.result c.self.view_is
+    c.deref.ensures.value c.deref-2.ensures.value c.around-at.ensures.value in
     let fits : SFits height_width c.in-Some.level = search rules in
     let around = rw (to_z-of_z fits) at c.in-Ok.ensures.still in
     let direction = rw (to_z-of_z fits) at c.in-Ok.ensures.code in
-    checked w c.args.spot c.deref.result.now c.deref-2.result.now c.around-at.result are c.requires cells steps
-    at c.in-Some.level c.count-own.result (sym c.level.ensures.spot ∙ c.in-Some.is) c.count-own.ensures.value
+    checked w c.args.spot c.deref.result.now c.deref-2.result.now c.around-at.result are c.requires read
+    c.in-Some.level c.count-own.result (sym c.level.ensures.spot ∙ c.in-Some.is) c.count-own.ensures.value
     c.in-Ok.code around direction
 
 pub returns-in-Err-clause-lower : goal.returns-in-Err-clause-lower
 returns-in-Err-clause-lower c =
     let w = c.args.self.now in
     let are = subst AreCountedSpots c.self.view_is c.self.invariant.1 in
-    let cells = c.deref.ensures.value ∙ ap (λ (v : CountedSpots). v.levels) c.self.view_is in
-    let steps = c.deref-2.ensures.value ∙ ap (λ (v : CountedSpots). v.steps) c.self.view_is in
-    let at = subst (λ (v : CountedSpots). c.around-at.result
-    ≡ around_index (v.bounds.cols + 2) (spot_index v.bounds c.args.spot)) c.self.view_is
-    c.around-at.ensures.value in
+    let read = read_of _ w c.args.spot c.deref.result.now c.deref-2.result.now c.around-at.result c.self.view_is
+    c.deref.ensures.value c.deref-2.ensures.value c.around-at.ensures.value in
     let fits : SFits height_width c.in-Some.level = search rules in
     let high = rw (to_z-of_z fits) at c.in-Err.ensures.lower in
     let top = ap (λ (v : CountedSpots). v.bounds.top) c.self.view_is in
     let left = ap (λ (v : CountedSpots). v.bounds.left) c.self.view_is in
-    lower w c.args.spot c.deref.result.now c.deref-2.result.now c.around-at.result are c.requires cells steps
-    at _ (omega (arith, top, c.requires.first_row), omega (arith, left, c.requires.first_col)) c.in-Some.level
+    lower w c.args.spot c.deref.result.now c.deref-2.result.now c.around-at.result are c.requires read _
+    (omega (arith, top, c.requires.first_row), omega (arith, left, c.requires.first_col)) c.in-Some.level
     c.count-own.result (sym c.level.ensures.spot ∙ c.in-Some.is) c.count-own.ensures.value c.in-Err.count high
