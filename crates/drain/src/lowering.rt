@@ -54,6 +54,18 @@ impl Lowered {
         })
     }
 
+    /// Returns whether the search has lowered the count of a cell of the block as far as `count`.
+    #[inline(always)]
+    fn has_lowered(&self, place: Place, count: u32) -> bool
+        requires { IsInBounds self.now.bounds place }
+    {
+        let row = &self.rows[(place.row - self.bounds.top) as usize];
+        match row.get((place.col - self.bounds.left) as usize) {
+            Some(lowered) => *lowered <= count,
+            None => false,
+        }
+    }
+
     /// Records a change, unless the search has lowered the cell's count as far already.
     #[inline(always)]
     fn record(&mut self, change: Change) -> Result<(), AllocError>
@@ -95,7 +107,11 @@ impl Lowered {
         let first = from.place.col.max(self.bounds.left + 1) - 1;
         let end = (from.place.col + 2).min(self.bounds.left + self.bounds.cols);
         for col in first..end {
-            if let Some(change) = input.lower(from, Place { row, col }) {
+            let to = Place { row, col };
+            if self.has_lowered(to, from.count + 1) {
+                continue;
+            }
+            if let Some(change) = input.lower(from, to) {
                 self.record(change)?;
             }
         }
