@@ -15,7 +15,7 @@ from .errors import InputError
 HEADER_LINES = 6
 ZERO, MINUS, SPACE, LINE_FEED = b"0- \n"
 # What is read at once, in bytes.
-PIECE = 1 << 17
+PIECE = 1 << 19
 # No word of the program is longer, and no line of its header.
 MOST_WORD, MOST_LINE = 64, 200
 NO_NUMBERS = "relief wrote words that are no whole numbers"

@@ -1,6 +1,8 @@
 """The program `relief`: where it is, what it offers, and a run of it."""
 from __future__ import annotations
 
+import contextlib
+import fcntl
 import functools
 import os
 import queue
@@ -24,6 +26,10 @@ CLEARED = "\x1b[K"
 # The numbers of faults whose detail is the place of a sink.
 SINK_FAULTS = range(46, 49)
 SECONDS_BETWEEN_LOOKS = 0.1
+# What a pipe is to hold, in bytes: through the system's 64 KiB both ends mostly wait for each other. Python names the
+# request from 3.10 on.
+PIPE_BYTES = 1 << 20
+F_SETPIPE_SZ = 1031
 VARIABLE = "RELIEF"
 
 
@@ -153,7 +159,15 @@ class Program:
             raise DeviceError(f"{self.path} could not be started: {error.strerror}") from error
         finally:
             os.close(errors)
+        _widen(process.stdin, process.stdout)
         return process, open(ours, "rb", 0)
+
+
+def _widen(*pipes: Optional[IO[bytes]]) -> None:
+    """Lets pipes hold more, where the system allows it."""
+    for pipe in pipes:
+        with contextlib.suppress(OSError):
+            fcntl.fcntl(pipe, F_SETPIPE_SZ, PIPE_BYTES)
 
 
 def _feed(units: np.ndarray, valid: Optional[np.ndarray], file: IO[bytes]) -> None:
