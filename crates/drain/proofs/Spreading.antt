@@ -18,7 +18,7 @@ not_above_itself xs = record { each = λ k. omega arith }
 not_above_then : (xs ys zs : List ℕ) → IsNotAbove xs ys → IsNotAbove ys zs → IsNotAbove xs zs
 not_above_then xs ys zs a b = record { each = λ k. omega (arith, a.each k, b.each k) }
 
-not_above-set : (xs : List ℕ) (i n : ℕ) → n ≤ get_or xs i 0 → IsNotAbove (set xs i n) xs
+pub not_above-set : (xs : List ℕ) (i n : ℕ) → n ≤ get_or xs i 0 → IsNotAbove (set xs i n) xs
 not_above-set xs i n le = record {
   each = λ k. elim (cases_eq k i) [
     | inl e ↦ elim (cases_lt i (length xs)) [

@@ -12,6 +12,7 @@ use Rattle.tiles.specs.declared.bounds.Bounds.{Bounds}
 use Rattle.terrain.specs.Sinks.{with_sinks}
 use Rattle.tiles.specs.Cutting.{Cutting, IsCutting, IsInBounds, IsInTile, View, bounds_of, cell_count, terrain_of, tile_entry}
 use Rattle.tiles.proofs.Cut.{in_bounds}
+use Rattle.drain.specs.Beginning.{AreSoundSpots}
 use Rattle.drain.specs.Rounds.{IsWalked, AreWalked, IsRound}
 use Rattle.drain.specs.Steps.{DrainsAtOnce}
 use Rattle.tile_maps.specs.Maps.{IsMadeUpTo, IsMadeTile}
@@ -45,11 +46,6 @@ is_on {X = X} cols rows entries b s o x shown is =
             ))
       ]
     ]
-
--- Each known count is the length of a flat walk from the place of its spot.
-abbrev pub AreSoundSpots : Terrain → Bounds → List ℕ → Type 0
-AreSoundSpots t b counts = (s : Place) → IsSpot b s → count_on b counts s < no_count →
-    (p : Place) × Shows b s p × IsWalked (DrainsAtOnce t) t p (count_on b counts s)
 
 count-known : (b : Bounds) (shown : List (Option ℕ)) (s : Place) →
     length shown ≡ area_of b → IsSpot b s →
@@ -92,6 +88,27 @@ pub walked_on : (t : Terrain) (p q : Place) (m : ℕ) → IsNeighbour t q p → 
     IsWalked (DrainsAtOnce t) t p m → m + 1 < 2 ^ 24 → IsWalked (DrainsAtOnce t) t q (m + 1)
 walked_on t p q m next level walk less = (less, p ∷ walk.1, (next, level, walk.2), omega (arith, walk.3))
 
+pub sound_set : (t : Terrain) (b : Bounds) (counts : List ℕ) (r : Place) (n : ℕ) → length counts ≡ area_of b →
+    IsSpot b r → AreSoundSpots t b counts → ((q : Place) × Shows b r q × IsWalked (DrainsAtOnce t) t q n) →
+    AreSoundSpots t b (set counts (spot_index b r) n)
+sound_set t b counts r n size spot sound moved_to = λ s inside less. elim (cases_place s r) [
+  | inl e ↦ (let at : count_on b (set counts (spot_index b r) n) r ≡ n =
+      get_or-set_same counts (spot_index b r) n 0 (omega (arith, size, spot_below b r spot)) in
+      subst (λ (x : Place). (p : Place) × Shows b x p
+      × IsWalked (DrainsAtOnce t) t p (count_on b (set counts (spot_index b r) n) x))
+      (sym e) (
+        moved_to.0,
+        moved_to.1,
+        subst (λ m. IsWalked (DrainsAtOnce t) t moved_to.0 m) (sym at) moved_to.2,
+      ))
+  | inr ne ↦ (let apart : spot_index b s ≢ spot_index b r =
+      λ i. ne (index_injective (b.cols + 2) s r inside.1 spot.1 i) in
+      let at : count_on b (set counts (spot_index b r) n) s ≡ count_on b counts s =
+      get_or-set_other counts (spot_index b r) (spot_index b s) n 0 apart in
+      let was = sound s inside (omega (arith, at)) in
+      (was.0, was.1, subst (λ m. IsWalked (DrainsAtOnce t) t was.0 m) (sym at) was.2))
+]
+
 module _ (t : Terrain) (b : Bounds) (levels : List (Option ℤ)) (on : AreEntriesShown t t.cells b levels) where
   sound_moved : (some : List ℕ) (s r : Place) (n : ℕ) → AreSoundSpots t b some → IsSpot b s → IsSpot b r →
       Touches s r → s ≢ r → level_on b levels s ≡ level_on b levels r → n ≡ count_on b some s + 1 →
@@ -115,33 +132,12 @@ module _ (t : Terrain) (b : Bounds) (levels : List (Option ℤ)) (on : AreEntrie
             (walked_on t from.0 to.0 (count_on b some s) next (height ∙ sym to.2) from.2 (omega (arith, is, less))),
       )
 
-  sound_set : (counts : List ℕ) (r : Place) (n : ℕ) → length counts ≡ area_of b → IsSpot b r →
-      AreSoundSpots t b counts → ((q : Place) × Shows b r q × IsWalked (DrainsAtOnce t) t q n) →
-      AreSoundSpots t b (set counts (spot_index b r) n)
-  sound_set counts r n size spot sound moved_to = λ s inside less. elim (cases_place s r) [
-    | inl e ↦ (let at : count_on b (set counts (spot_index b r) n) r ≡ n =
-        get_or-set_same counts (spot_index b r) n 0 (omega (arith, size, spot_below b r spot)) in
-        subst (λ (x : Place). (p : Place) × Shows b x p
-        × IsWalked (DrainsAtOnce t) t p (count_on b (set counts (spot_index b r) n) x))
-        (sym e) (
-          moved_to.0,
-          moved_to.1,
-          subst (λ m. IsWalked (DrainsAtOnce t) t moved_to.0 m) (sym at) moved_to.2,
-        ))
-    | inr ne ↦ (let apart : spot_index b s ≢ spot_index b r =
-        λ i. ne (index_injective (b.cols + 2) s r inside.1 spot.1 i) in
-        let at : count_on b (set counts (spot_index b r) n) s ≡ count_on b counts s =
-        get_or-set_other counts (spot_index b r) (spot_index b s) n 0 apart in
-        let was = sound s inside (omega (arith, at)) in
-        (was.0, was.1, subst (λ m. IsWalked (DrainsAtOnce t) t was.0 m) (sym at) was.2))
-  ]
-
   pub sound_after : (old new : List ℕ) → length old ≡ area_of b → AreAtMostNoCount old →
       AreSoundSpots t b old → IsSpread b levels old new → AreSoundSpots t b new
   sound_after old new size small sound same = sound
   sound_after old new size small sound
       (moved counts some s r n before earlier spot other touch differ level from less) =
-      sound_set counts r n (spread-length b levels old counts before ∙ size) other
+      sound_set t b counts r n (spread-length b levels old counts before ∙ size) other
       (sound_after old counts size small sound before)
       (sound_moved some s r n (sound_after old some size small sound earlier) spot other touch differ level from
       (omega (arith, less, spread_counts b levels old counts small before (spot_index b r))))

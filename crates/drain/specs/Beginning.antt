@@ -10,8 +10,8 @@ use Rattle.tiles.specs.declared.bounds.Bounds.{Bounds}
 use Rattle.tiles.specs.Cutting.{Cutting, IsInTile, cell_count, tile_count, tile_entry}
 use Rattle.drain.specs.Steps.{HasLower, DrainsAtOnce}
 use Rattle.drain.specs.Rounds.{IsRound, IsWalked}
-use Rattle.drain.specs.Search.{level_on}
-use Rattle.tiles.specs.Windows.{AreMadeSpots, IsInner, Shows, area_of, spot_index}
+use Rattle.drain.specs.Search.{AreAtMostNoCount, count_on, level_on}
+use Rattle.tiles.specs.Windows.{AreMadeSpots, IsInner, IsSpot, Shows, area_of, spot_index}
 use Rattle.drainage.specs.StepCounts.{known, no_count}
 
 -- The cell has no data or lies below height `level`.
@@ -40,10 +40,6 @@ HasGapOrLower b levels s = IsInner b s × (level : ℤ) × (level_on b levels s 
     × (way : ℕ) × (way < 8) × IsGapOrLower level (slice_index_or levels
     (slice_index_or (around_index (b.cols + 2) (spot_index b s)) way 0) None)
 
--- The spot lies in the tile and shows a cell for which `Drains` holds.
-abbrev pub ShowsDraining : (Place → Type 0) → Bounds → Place → Type 0
-ShowsDraining Drains b s = IsInner b s × (p : Place) × Shows b s p × Drains p
-
 -- `count` is the initial count at spot s: 0 if `Drains` holds for the spot, else unknown. Spots are
 -- the places of a tile's window: the tile and one row or column on each side.
 abbrev pub IsBegunSpot : (Place → Type 0) → Place → ℕ → Type 0
@@ -56,6 +52,20 @@ AreBegunUpTo Drains b end counts = AreMadeSpots (IsBegunSpot Drains) b end 0 cou
 -- The initial counts at all spots.
 abbrev pub AreBegunSpots : (Place → Type 0) → Bounds → List ℕ → Type 0
 AreBegunSpots Drains b counts = AreBegunUpTo Drains b (area_of b) counts
+
+-- Each known count is the length of a flat walk from the place of its spot.
+abbrev pub AreSoundSpots : Terrain → Bounds → List ℕ → Type 0
+AreSoundSpots t b counts = (s : Place) → IsSpot b s → count_on b counts s < no_count →
+    (p : Place) × Shows b s p × IsWalked (DrainsAtOnce t) t p (count_on b counts s)
+
+-- Counts at the spots of a tile's window: sound, and 0 at each cell of the tile for which `Zero`
+-- holds.
+pub record AreBegun (t : Terrain) (b : Bounds) (Zero : Place → Type 0) (counts : List ℕ)
+    : Type 0 where
+  pub size : length counts ≡ area_of b
+  pub few : AreAtMostNoCount counts
+  pub sound : AreSoundSpots t b counts
+  pub zeros : (s p : Place) → IsInner b s → Shows b s p → Zero p → count_on b counts s ≡ 0
 
 -- Each cell that drains at once has the count 0.
 abbrev pub HasZeros : Terrain → List (Option ℕ) → Type 0

@@ -5,7 +5,7 @@
 ghost use Rattle.std.specs.Prelude.{ℕ, ◌+◌, ◌*◌, ◌<◌, ◌↔◌, None, length, IsTrue, OnOk, IfOk, slice_index_or};
 ghost use Rattle.std.specs.Bool.{MatchBool};
 ghost use Rattle.terrain.specs.Neighbours.{entry_or};
-ghost use Rattle.drain.specs.Beginning.{IsEdgeOrHasLower, IsGapOrLower, HasGapOrLower, IsBegunSpot, AreBegunUpTo, AreBegunSpots, ShowsDraining};
+ghost use Rattle.drain.specs.Beginning.{AreBegun, AreBegunUpTo, HasGapOrLower, IsBegunSpot, IsEdgeOrHasLower, IsGapOrLower};
 ghost use Rattle.drain.specs.Steps.{DrainsAtOnce};
 ghost use Rattle.tiles.specs.Windows.{IsSpot};
 ghost use Rattle.drain.specs.Search.{AreEntriesShown};
@@ -81,10 +81,10 @@ fn begin_along(window: &Window<Cell>, row: u32, counts: &mut Vec<u32>) -> Result
 
 /// Sets the count of each named sink with data in the tile to 0.
 fn begin_at_sinks(grid: &Grid, window: &Window<Cell>, counts: &mut [u32])
-    requires { AreBegunSpots (ShowsDraining (IsEdgeOrHasLower grid.now.terrain) window.now.bounds)
-        window.now.bounds counts.old }
-    ensures { AreBegunSpots (ShowsDraining (DrainsAtOnce grid.now.terrain) window.now.bounds)
-        window.now.bounds counts.new }
+    requires { AreBegun grid.now.terrain window.now.bounds (IsEdgeOrHasLower grid.now.terrain)
+        counts.old }
+    ensures { AreBegun grid.now.terrain window.now.bounds (DrainsAtOnce grid.now.terrain)
+        counts.new }
 {
     for sink in grid.sinks() {
         let Some(spot) = spot_of(window.bounds, *sink) else {
@@ -105,8 +105,8 @@ pub(crate) fn begun_counts(
 ) -> Result<Vec<u32>, AllocError>
     requires { AreEntriesShown grid.now.terrain grid.now.terrain.cells window.now.bounds
         window.now.values.items }
-    ensures { IfOk result (λ counts. AreBegunSpots (ShowsDraining
-        (DrainsAtOnce grid.now.terrain) window.now.bounds) window.now.bounds counts.items) }
+    ensures { IfOk result (λ counts. AreBegun grid.now.terrain window.now.bounds
+        (DrainsAtOnce grid.now.terrain) counts.items) }
 {
     let bounds = window.bounds;
     let mut counts = Vec::with_capacity(

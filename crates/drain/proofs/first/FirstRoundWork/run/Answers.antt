@@ -1,6 +1,6 @@
 use Rattle.std.proofs.Common.{◌∙◌, ℕ, List, ap, length, subst}
 use Rattle.tiles.specs.Cutting.{Cutting, View, IsCutting}
-use Rattle.drain.proofs.Begun.{begun_small, begun_tile}
+use Rattle.drain.proofs.Begun.{begun_tile}
 use Rattle.drain.proofs.Spreading.{spread-length}
 use Rattle.drain.proofs.first.FirstRoundWork.run.Goals as goal
 
@@ -17,8 +17,7 @@ begun_counts-requires c =
 pub searched-requires : goal.searched-requires
 searched-requires c = record {
   size = c.in_ok-begun.ensures.size;
-  counts = begun_small c.args.self.now.grid.now.terrain c.in_ok-window.window.bounds c.in_ok-begun.begun.items
-      c.in_ok-begun.ensures;
+  counts = c.in_ok-begun.ensures.few;
 }
 
 pub copy_counts-requires : goal.copy_counts-requires
