@@ -41,60 +41,69 @@ impl Gate for Roll {
     }
 }
 
-/// Height of a corridor one cell wide that winds through walls, its outlet in the last row.
-fn serpentine(row: u32, col: u32) -> u32 {
-    let is_turn = if row % 4 == 0 {
-        col == 1
-    } else {
-        col == SIDE - 2
-    };
-    let is_border = col == 0 || col == SIDE - 1 || row == 0;
-    if !is_border && (row % 2 == 1 || is_turn) {
-        1
-    } else {
-        9
+/// The larger terrains.
+#[derive(Clone, Copy)]
+enum Ground {
+    /// A corridor one cell wide that winds through walls; its outlet lies in the last row.
+    Serpentine,
+    /// Hills in steps, with flats on them.
+    Hills,
+}
+
+impl Ground {
+    fn height(self, row: u32, col: u32) -> u32 {
+        match self {
+            Ground::Serpentine => {
+                let is_turn = if row % 4 == 0 {
+                    col == 1
+                } else {
+                    col == SIDE - 2
+                };
+                let is_border = col == 0 || col == SIDE - 1 || row == 0;
+                if !is_border && (row % 2 == 1 || is_turn) {
+                    1
+                } else {
+                    9
+                }
+            }
+            Ground::Hills => (row % 100).abs_diff(50).max((col % 70).abs_diff(35)) / 5,
+        }
+    }
+
+    /// Returns the text of the terrain, of [`SIDE`] rows and columns.
+    fn text(self, alloc: Global) -> Result<Vec<u8>, Fail> {
+        let header = format!(in alloc;
+            "ncols {SIDE}\nnrows {SIDE}\nxllcorner 0\nyllcorner 0\ncellsize 1\n"
+        )?;
+        let mut text = Vec::from_slice(alloc, header.as_bytes())?;
+        for index in 0..SIDE * SIDE {
+            let height = self.height(index / SIDE, index % SIDE);
+            let word = format!(in alloc; "{height} ")?;
+            text.extend_from_slice(word.as_bytes())?;
+        }
+        Ok(text)
     }
 }
 
-/// Height of hills in steps, with flats on them.
-fn hills(row: u32, col: u32) -> u32 {
-    let north = (row % 100).abs_diff(50);
-    let west = (col % 70).abs_diff(35);
-    (north * north + west * west) / 200
-}
-
-/// Returns the text of a terrain of [`SIDE`] rows and columns.
-fn text_of(alloc: Global, height: impl Fn(u32, u32) -> u32) -> Result<Vec<u8>, Fail> {
-    let header = format!(in alloc;
-        "ncols {SIDE}\nnrows {SIDE}\nxllcorner 0\nyllcorner 0\ncellsize 1\n"
-    )?;
-    let mut text = Vec::from_slice(alloc, header.as_bytes())?;
-    for index in 0..SIDE * SIDE {
-        let height = height(index / SIDE, index % SIDE);
-        let word = format!(in alloc; "{height} ")?;
-        text.extend_from_slice(word.as_bytes())?;
-    }
-    Ok(text)
-}
-
+/// At least three rounds: one inside the tiles, one over their rims, one that changes nothing.
 #[test]
 fn each_tile_has_a_job_in_each_round(rt: HostRuntime) -> Result<(), Fail> {
     let alloc = rt.alloc();
     let winding = Vec::from_slice(alloc, WINDING)?;
-    for (text, side, least) in [
-        (winding, 2, 4),
-        (text_of(alloc, serpentine)?, 64, 4),
-        (text_of(alloc, hills)?, 64, 3),
+    for (text, side) in [
+        (winding, 2),
+        (Ground::Serpentine.text(alloc)?, 64),
+        (Ground::Hills.text(alloc)?, 64),
     ] {
         let (grid, tiling) = cut(&rt, alloc, &text, side);
-        let level = filled(&rt, alloc, &grid, &tiling, 2, &NoGate).ok_or("levels")?;
+        let level = filled(&rt, alloc, &grid, &tiling, 2, &NoGate).expect(&rt, "levels");
         let roll = Roll {
             rounds: AtomicU64::new(0),
             jobs: counts_of(alloc, tiling.tiles())?,
         };
         assert!(rt; directions(&rt, alloc, &level, &tiling, 2, &roll).is_ok());
         let rounds = roll.rounds.load(Ordering::SeqCst);
-        assert!(rt; least <= rounds, "{rounds} rounds");
+        assert!(rt; 3 <= rounds, "{rounds} rounds");
         for jobs in &roll.jobs {
             assert_eq!(rt; jobs.load(Ordering::SeqCst), rounds);
         }
