@@ -1,24 +1,14 @@
 -- A data cell's arcs lead to exactly the data cells around it, each at the greater height of the
--- two: these are the cell's joins in the net. An arc needs no new entry in the queue if it does not
--- lower the crest noted for its end.
-use Rattle.std.proofs.Common.{◌≡◌, ℕ, pos, map, ◌+◌, ◌-◌, ◌<◌, ◌⊎◌, inl, inr, ℤ, List, [], ◌∷◌, ◌++◌, length, get_or, take, Option, None, Some, ◌∙◌, sym, ap, subst, refl, arith}
+-- two: these are the cell's joins in the net.
+use Rattle.std.proofs.Common.{◌≡◌, ℕ, ◌+◌, ◌-◌, ◌<◌, ◌⊎◌, inl, inr, ℤ, List, [], ◌∷◌, ◌++◌, length, get_or, take, Option, None, Some, ◌∙◌, sym, ap, subst, refl, arith}
 use Rattle.std.specs.Int.{int_max}
 use Rattle.std.specs.List.{Contains, All, filter_map, cons_option}
 use Rattle.std.proofs.lemmas.Option.{same_Some}
-use Rattle.std.proofs.lemmas.List.{take_more, get_or-map}
+use Rattle.std.proofs.lemmas.List.{take_more}
 use Rattle.std.proofs.lemmas.List.Elements.{filter_map-append, All-cons, All-nil, All-contains}
 use Rattle.floods.specs.declared.net.Spill.{Spill}
 use Rattle.floods.specs.Walk.{HasJust}
-use Rattle.cell_floods.specs.Cells.{Cells, cell_at, IsBeside, IsCellJoin, IsPassed, cells_around, arc_to}
-use Rattle.std.specs.Prelude.{◌≤ℤ◌}
-use Rattle.std.proofs.lemmas.Int.{ints, clamps}
-use Rattle.floods.specs.declared.queue.Candidate.{Candidate}
-use Rattle.floods.specs.Flood.{entry_of, Queues, AreNoted, Relaxes}
-use Rattle.floods.specs.Notes.{height_or_lack}
-use Rattle.floods.specs.declared.queue.Queue.{Queue}
-use Rattle.floods.proofs.Noting.{no_entry_if_low, more_relaxed}
-use Rattle.floods.proofs.Noting.{no_arcs as no_arcs_yet}
-use Rattle.terrain.proofs.Orders.{trans, le_of_same}
+use Rattle.cell_floods.specs.Cells.{Cells, cell_at, IsBeside, IsCellJoin, cells_around, arc_to}
 use Rattle.terrain.proofs.Options.{cases_option}
 use Rattle.floods.proofs.Heaps.{cons_head, cons_tail, cons_cases, all_by_contains}
 
@@ -60,17 +50,6 @@ pub filter_map_more : {X Y : Type 0} (f : X → Option Y) (xs : List X) (i : ℕ
     filter_map f (take (i + 1) xs) ≡ filter_map f (take i xs) ++ cons_option (f (get_or xs i d)) []
 filter_map_more f xs i d below = ap (filter_map f) (take_more xs i d below)
     ∙ filter_map-append f (take i xs) (get_or xs i d ∷ [])
-
--- Relaxing the arcs to the cells xs and then the arcs to ys relaxes the arcs to xs ++ ys.
-pub more_cells : (f : ℕ → Option Spill) (labels : List (Option ℕ)) (from : Candidate)
-    (xs ys : List ℕ) (levels between after : List (Option ℤ)) (old now new : Queue)
-    → Relaxes labels from (filter_map f xs) levels between old now →
-    Relaxes labels from (filter_map f ys) between after now new →
-    Relaxes labels from (filter_map f (xs ++ ys)) levels after old new
-more_cells f labels from xs ys levels between after old now new s t =
-    subst (λ (arcs : List Spill). Relaxes labels from arcs levels after old new)
-    (sym (filter_map-append f xs ys)) (more_relaxed labels from (filter_map f xs)
-    (filter_map f ys) levels between after old now new s t)
 
 pub arc_some : (cells : List (Option ℤ)) (height : ℤ) (b : ℕ) (other : ℤ) → get_or cells b None
     ≡ Some other → arc_to cells height b ≡ Some (record { to = b; height = int_max other height })
@@ -152,60 +131,3 @@ just_arcs n a x here above = record {
       (arc_some n.cells x b j.to_height j.to_cell ∙ ap (λ z. Some (record { to = b; height = z }))
       (ap (λ z. int_max j.to_height z) (sym same) ∙ j.greater));
 }
-
-pub no_arcs : (n : Cells) (a : ℕ) → cell_at n a ≡ None → HasJust (IsCellJoin n a) []
-no_arcs n a none = record {
-  only = All-nil (λ arc. IsCellJoin n a arc.to arc.height);
-  every = λ b h j. let some = j.from_cell in absurd (cc);
-}
-
-pub crest_by : (other height level : ℤ) →
-    int_max other (int_max height level) ≡ int_max (int_max other height) level
-crest_by other height level = omega (arith, ints, clamps)
-
--- If the level noted for cell `to` is at most its crest by an arc, the arc needs no new entry in
--- the queue.
-no_higher_arc : (cells : List (Option ℤ)) (labels : List (Option ℕ)) (levels : List (Option ℤ))
-    (from : Candidate) (to : ℕ) (height crest : ℤ) (waiting : List Candidate) →
-    AreNoted labels levels waiting → ((h : ℤ) → get_or cells to None ≡ Some h →
-    crest ≡ int_max h (int_max height from.height.0)) → (l : ℤ) × (entry_of levels to ≡ Some l)
-    × (l ≤ℤ crest) → Queues labels from (cons_option (arc_to cells height to) []) waiting waiting
-no_higher_arc cells labels levels from to height crest waiting noted is low =
-    elim (cases_option (get_or cells to None)) [
-      | inl none ↦ subst (λ o. Queues labels from (cons_option o []) waiting waiting)
-          (sym (arc_none cells height to none)) (no_arcs_yet labels from waiting)
-      | inr found ↦ subst (λ o. Queues labels from (cons_option o []) waiting waiting)
-          (sym (arc_some cells height to found.0 found.1))
-          (no_entry_if_low labels levels from (record { to = to; height = int_max found.0 height })
-          waiting low.0 noted low.1 (trans _ _ _ low.2
-          (le_of_same _ _ (is found.0 found.1 ∙ crest_by found.0 height from.height.0))))
-    ]
-
--- An arc needs no new entry if its end has no data, or has a noted crest at most its crest by the
--- arc (`IsPassed`).
-pub passed_arc : (cells : List (Option ℤ)) (labels : List (Option ℕ)) (levels : List (Option ℤ))
-    (heights : List ℤ) (from : Candidate) (to : ℕ) (height : ℤ) (waiting : List Candidate)
-    → AreNoted labels levels waiting → heights ≡ map height_or_lack levels → to < length levels
-    → IsPassed (get_or cells to None) (int_max height from.height.0) (get_or heights to (pos 0)) →
-    Queues labels from (cons_option (arc_to cells height to) []) waiting waiting
-passed_arc cells labels levels heights from to height waiting noted stand inside passed =
-    elim (cases_option (get_or cells to None)) [
-      | inl none ↦ subst (λ o. Queues labels from (cons_option o []) waiting waiting)
-          (sym (arc_none cells height to none)) (no_arcs_yet labels from waiting)
-      | inr found ↦
-          let p = passed found.0 found.1 in
-          let here : get_or heights to (pos 0) ≡ height_or_lack (entry_of levels to) = ap (λ l.
-          get_or l to (pos 0)) stand ∙ get_or-map height_or_lack levels to None (pos 0) inside in
-          elim (cases_option (entry_of levels to)) [
-            | inl lacking ↦ absurd (p.1 (here ∙ ap height_or_lack lacking))
-            | inr level ↦ no_higher_arc cells labels levels from to height
-                (int_max found.0 (int_max height from.height.0)) waiting noted
-                (λ other same. ap (λ z. int_max z (int_max height from.height.0))
-                (same_Some found.0 other (sym found.1 ∙ same))) (
-                  level.0,
-                  level.1,
-                  subst (λ z. z ≤ℤ int_max found.0 (int_max height from.height.0)) (here
-                      ∙ ap height_or_lack level.1) p.0,
-                )
-          ]
-    ]

@@ -9,5 +9,7 @@ mod InnerRows
 mod LabelTables
 pub mod TileRectangles
 pub mod Where
+-- The flood of a net by height.
+mod SpreadSteps
 -- End cells among the labels of a tile.
 mod EndCells

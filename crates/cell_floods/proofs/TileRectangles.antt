@@ -199,7 +199,7 @@ pub tile_flood_is : (t : Terrain)
 tile_flood_is t c tile n b levels levels_in labels labels_in h l cuts net flooded same x y =
     rw (y, x, same) (tile_flooded t c tile n levels labels h l cuts net flooded)
 
-walk_end_below : (n : Cells) (a : ℕ) (walk : List Spill) → a < length n.cells →
+pub walk_end_below : (n : Cells) (a : ℕ) (walk : List Spill) → a < length n.cells →
     IsWalk (IsCellJoin n) (source_of n) a walk → last_node a walk < length n.cells
 walk_end_below n a [] low walk = low
 walk_end_below n a (step ∷ rest) low walk = walk_end_below n step.to rest

@@ -2,7 +2,7 @@
 -- cells. Neighbouring data cells are joined, at the greater of their heights. Sources are the data
 -- cells that are sinks or beside a cell without data.
 -- Public.
-use Rattle.std.specs.Prelude.{◌≡◌, ◌≢◌, ◌≤ℤ◌, ℕ, zero, suc, ◌+◌, ◌-◌, ◌*◌, ◌/◌, ◌%◌, ◌<◌, ◌≤◌, ◌⊎◌, ◌↔◌, ◌||◌, ℤ, Bool, true, false, List, [], ◌∷◌, ◌++◌, length, Option, None, Some, IsSome, is_none, if◌then◌else◌, slice_index_or, slice_range}
+use Rattle.std.specs.Prelude.{◌≡◌, ℕ, zero, suc, ◌+◌, ◌-◌, ◌*◌, ◌/◌, ◌%◌, ◌<◌, ◌≤◌, ◌⊎◌, ◌↔◌, ◌||◌, ℤ, Bool, true, false, List, [], ◌∷◌, ◌++◌, length, Option, None, Some, IsSome, is_none, if◌then◌else◌, slice_index_or, slice_range}
 use Rattle.std.specs.List.{list_any, Contains}
 use Rattle.std.specs.Int.{int_max}
 use Rattle.terrain.specs.Raster.{Terrain}
@@ -11,7 +11,6 @@ use Rattle.terrain.specs.declared.place.Place.{Place}
 use Rattle.tiles.specs.declared.bounds.Bounds.{Bounds}
 use Rattle.tiles.specs.Cutting.{IsInBounds}
 use Rattle.floods.specs.declared.net.Spill.{Spill}
-use Rattle.floods.specs.Notes.{lack}
 
 -- The cells of a rectangle in row order, within a border of cells without data. A row of the list
 -- has `stride` cells, its two border cells included. A node is a cell, numbered by its index in the
@@ -115,8 +114,3 @@ place_of_node top left cols node =
 abbrev pub last_cell : Place → List Place → Place
 last_cell p [] = p
 last_cell p (q ∷ rest) = last_cell q rest
-
--- The cell has no data, or a crest is noted for it, at most the greater of its height and `top`.
-abbrev pub IsPassed : Option ℤ → ℤ → ℤ → Type 0
-IsPassed cell top noted =
-    (height : ℤ) → cell ≡ Some height → (noted ≤ℤ int_max height top) × (noted ≢ lack)

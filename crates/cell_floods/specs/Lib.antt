@@ -1,3 +1,4 @@
 pub mod Cells
 pub mod TileFlood
 pub mod Labels
+pub mod Spreading

@@ -7,18 +7,16 @@ ghost use Rattle.std.specs.Prelude.{◌≡◌, None, ◌+◌, ◌-◌, ◌*◌, 
 ghost use Rattle.std.specs.List.{list_any, filter_map, cons_option};
 ghost use Rattle.std.specs.Bool.{OnTrue};
 ghost use Rattle.floods.specs.Walk.{HasNoSource};
-ghost use Rattle.floods.specs.Flood.{candidates_in, InOrder, Relaxes, AreNoted};
 ghost use Rattle.terrain.specs.Sinks.{with_sinks};
-ghost use Rattle.cell_floods.specs.Cells.{Cells, cells_around, arc_to, whole, IsNetOf, IsCellJoin, IsPassed, source_of, HaveData, inner_rows};
+ghost use Rattle.cell_floods.specs.Cells.{Cells, IsBordered, cell_at, cells_around, arc_to, whole, IsNetOf, IsCellJoin, source_of, HaveData, inner_rows};
 ghost use Rattle.tiles.specs.Cutting.{bounds_of, terrain_of};
 
 use crate::sinks::{is_sink, rectangle_sinks};
-use floods::{Candidate, HeightList, Net, NodeLabels, Queue, Spill, queue_neighbour};
+use floods::{Net, Spill};
 use smallvec::SmallVec;
 use std::alloc::{AllocError, Global};
-use std::cmp::Reverse;
 use std::marker::Model;
-use terrain::{Cell, Grid, Height, NO_DATA, NoMemory, Place};
+use terrain::{Cell, Grid, Height, NoMemory, Place};
 use tiles::{TileView, Tiling, Window};
 
 /// A rectangle of cells as a net, with a border of cells without data.
@@ -115,126 +113,6 @@ fn arcs_to(alloc: Global, cells: &[Cell], height: Height, around: [u32; 8]) -> S
     arcs
 }
 
-/// Out-of-line copy of [`queue_neighbour`], to keep the hot path small.
-#[inline(never)]
-fn queue_neighbour_out_of_line(
-    queue: &mut Queue,
-    arc: Spill,
-    from: &Candidate,
-    labels: &NodeLabels,
-    levels: &mut HeightList,
-) -> Result<(), AllocError>
-    requires order { InOrder queue.old }
-    requires inside { arc.to < length labels.now }
-    requires noted { AreNoted labels.now levels.old (candidates_in queue.old) }
-    ensures { OnOk result
-        (Relaxes labels.now from.now (arc ∷ []) levels.old levels.new queue.old queue.new) }
-{
-    queue_neighbour(queue, arc, from, labels, levels)
-}
-
-/// Returns whether the neighbour `cell` need not be queued.
-/// It has no data, or `noted`, its least crest so far (`NO_DATA` if none), is at most the greater
-/// of its height and `top`. `top` is the level of the cell from which `cell` would be queued.
-#[inline(always)]
-fn is_passed(cell: Cell, top: Height, noted: Height) -> bool
-    ensures { OnTrue result (IsPassed cell top noted) }
-{
-    let number = cell.number();
-    // `NO_DATA` is above all heights, so the last comparison covers both cases. The other two
-    // always hold: they give the prover that no height is `NO_DATA`.
-    top < NO_DATA && Cell::of(number) == cell && noted <= number.max(top)
-}
-
-/// Queues cell `to` at its crest by way of `from`, if it has data and no label.
-/// Does nothing if a crest as low as that is noted for the cell.
-/// `height` is the height of the cell `from.node`, at most that cell's level.
-#[inline(always)]
-fn push_cell(
-    queue: &mut Queue,
-    cells: &[Cell],
-    to: u32,
-    height: Height,
-    from: &Candidate,
-    labels: &NodeLabels,
-    levels: &mut HeightList,
-) -> Result<(), AllocError>
-    requires order { InOrder queue.old }
-    requires cell { to < length cells.now }
-    requires inside { to < length labels.now }
-    requires noted { AreNoted labels.now levels.old (candidates_in queue.old) }
-    ensures { OnOk result (Relaxes labels.now from.now (cons_option (arc_to cells.now height to) [])
-        levels.old levels.new queue.old queue.new) }
-{
-    let Reverse(level) = from.height;
-    let noted = levels.heights()[to as usize];
-    // Most calls return here. No premise says that `height` is at most `level`, hence the `max`.
-    if is_passed(cells[to as usize], height.max(level), noted) {
-        return Ok(());
-    }
-    let Some(arc) = arc_to(cells, height, to) else {
-        return Ok(());
-    };
-    queue_neighbour_out_of_line(queue, arc, from, labels, levels)
-}
-
-/// Queues `middle` and the cells west and east of it, each as [`push_cell`] does.
-#[inline(always)]
-fn push_three(
-    queue: &mut Queue,
-    cells: &[Cell],
-    middle: u32,
-    height: Height,
-    from: &Candidate,
-    labels: &NodeLabels,
-    levels: &mut HeightList,
-) -> Result<(), AllocError>
-    requires order { InOrder queue.old }
-    requires some { 0 < middle }
-    requires cells { middle + 1 < length cells.now }
-    requires inside { length labels.now ≡ length cells.now }
-    requires few { length cells.now < 2 ^ 32 }
-    requires noted { AreNoted labels.now levels.old (candidates_in queue.old) }
-    ensures { OnOk result (Relaxes labels.now from.now
-        (filter_map (arc_to cells.now height) ((middle - 1) ∷ middle ∷ (middle + 1) ∷ []))
-        levels.old levels.new queue.old queue.new) }
-{
-    push_cell(queue, cells, middle - 1, height, from, labels, levels)?;
-    push_cell(queue, cells, middle, height, from, labels, levels)?;
-    push_cell(queue, cells, middle + 1, height, from, labels, levels)?;
-    Ok(())
-}
-
-/// Queues the eight cells around `from.node`, each as [`push_cell`] does.
-/// Eight calls, not a loop, so that the processor predicts the branch of each call separately.
-#[inline(always)]
-fn push_around(
-    queue: &mut Queue,
-    cells: &[Cell],
-    stride: u32,
-    height: Height,
-    from: &Candidate,
-    labels: &NodeLabels,
-    levels: &mut HeightList,
-) -> Result<(), AllocError>
-    requires order { InOrder queue.old }
-    requires above { stride < from.now.node }
-    requires below { from.now.node + stride + 1 < length cells.now }
-    requires few { length cells.now < 2 ^ 32 }
-    requires inside { length labels.now ≡ length cells.now }
-    requires noted { AreNoted labels.now levels.old (candidates_in queue.old) }
-    ensures { OnOk result (Relaxes labels.now from.now
-        (filter_map (arc_to cells.now height) (cells_around stride from.now.node)) levels.old
-        levels.new queue.old queue.new) }
-{
-    let node = from.node;
-    push_three(queue, cells, node - stride, height, from, labels, levels)?;
-    push_cell(queue, cells, node - 1, height, from, labels, levels)?;
-    push_cell(queue, cells, node + 1, height, from, labels, levels)?;
-    push_three(queue, cells, node + stride, height, from, labels, levels)?;
-    Ok(())
-}
-
 #[inline(always)]
 pub(crate) fn have_data(cells: &[Cell]) -> bool
     ensures { IsTrue result ↔ EachIndex cells.now (λ k. IsSome (slice_index_or cells.now k None)) }
@@ -309,30 +187,6 @@ impl Net for CellNet {
     }
 
     #[inline]
-    fn spread(
-        &self,
-        _alloc: Global,
-        queue: &mut Queue,
-        from: &Candidate,
-        labels: &NodeLabels,
-        levels: &mut HeightList,
-    ) -> Result<(), NoMemory> {
-        let Some(height) = self.cells[from.node as usize].height() else {
-            return Ok(());
-        };
-        push_around(
-            queue,
-            &self.cells,
-            self.stride,
-            height,
-            from,
-            labels,
-            levels,
-        )?;
-        Ok(())
-    }
-
-    #[inline]
     fn source(&self, node: u32) -> Option<Height> {
         let height = self.cells[node as usize].height()?;
         if any_gap(&self.cells, &around(self.stride, node)) || is_sink(&self.sinks, node) {
@@ -340,17 +194,6 @@ impl Net for CellNet {
         } else {
             None
         }
-    }
-
-    /// Tests only runs that begin at a multiple of [`RUN`].
-    /// So a cell without data makes few tests fail.
-    #[inline]
-    fn next_candidate(&self, from: u32) -> u32 {
-        let mut node = from;
-        while node % RUN == 0 && self.is_run_with_data(node) {
-            node += RUN;
-        }
-        node
     }
 }
 
@@ -398,6 +241,43 @@ impl CellNet {
 }
 
 impl CellNet {
+    /// Returns the cells of all nodes.
+    #[inline(always)]
+    pub(crate) fn cells(&self) -> &[Cell]
+        ensures value { result.now ≡ self.now.cells }
+        ensures bordered { IsBordered self.now }
+        ensures few { length result.now ≤ 16793604 }
+    {
+        &self.cells
+    }
+
+    /// Returns the eight nodes around a data cell.
+    #[inline(always)]
+    pub(crate) fn around(&self, node: u32) -> [u32; 8]
+        requires { IsSome (cell_at self.now node) }
+        ensures value { result ≡ cells_around self.now.stride node }
+        ensures inside { All (λ b. b < length self.now.cells) result }
+        ensures above { self.now.stride < node }
+    {
+        around(self.stride, node)
+    }
+
+    /// Returns a node from `from` on, or the node count.
+    /// No node from `from` on and before the returned number is a source. Tests only runs that
+    /// begin at a multiple of [`RUN`], so a cell without data makes few tests fail.
+    pub(crate) fn next_candidate(&self, from: u32) -> u32
+        requires { from ≤ length self.now.cells }
+        ensures from { from ≤ result }
+        ensures inside { result ≤ length self.now.cells }
+        ensures passed { HasNoSource (source_of self.now) from result }
+    {
+        let mut node = from;
+        while node % RUN == 0 && self.is_run_with_data(node) {
+            node += RUN;
+        }
+        node
+    }
+
     /// Frees the net but for the list of its sinks, and returns that list.
     pub(crate) fn into_sinks(self) -> Vec<bool>
         ensures { result.items ≡ self.sinks }

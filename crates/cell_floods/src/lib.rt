@@ -11,6 +11,8 @@
 //! - `whole`: the flood of a whole grid
 //! - `labels`: the table of a tile's labels
 //! - `ends`: which labels are end cells
+//! - `spreading`: the flood of a net from its lowest cells up
+//! - `node_order`: the nodes of a net by height
 //! - `cell_net`: a rectangle of cells as a net
 //! - `sinks`: the sinks in a rectangle of cells
 #![tactic(auto)]
@@ -18,7 +20,9 @@
 mod cell_net;
 mod ends;
 mod labels;
+mod node_order;
 mod sinks;
+mod spreading;
 mod tile;
 mod whole;
 

@@ -1,15 +1,18 @@
 //! Finds the level and the label of each data cell of one tile: [`tile_flood`].
-ghost use Rattle.std.specs.Prelude.{◌≡◌, IfOk, length, true, false, MatchOption, None, is_none, slice_index_or, ◌<◌};
+ghost use Rattle.std.specs.Prelude.{◌≡◌, IfOk, length, map, true, false, MatchOption, None, is_none, slice_index_or, ◌<◌};
 ghost use Rattle.terrain.specs.Sinks.{with_sinks};
 ghost use Rattle.tiles.specs.Cutting.{terrain_of, is_in_bounds, index_in};
+ghost use Rattle.floods.specs.Notes.{height_or_lack};
 ghost use Rattle.cell_floods.specs.Labels.{labels_by};
+ghost use Rattle.cell_floods.specs.Spreading.{AreFlooded, HasSizeOf};
 ghost use Rattle.cell_floods.specs.TileFlood.{IsFlood, IsTileFlood, level_in, label_in, levels_where};
 
 use crate::cell_net::{CellNet, without_border};
 use crate::ends::end_heights;
 use crate::labels::{Labels, labels_of};
+use crate::spreading::flood_by_height;
 use floods::{FloodedNet, flood_net};
-use std::alloc::Global;
+use std::alloc::{AllocError, Global};
 use std::marker::Model;
 use terrain::{Cell, Height, NoMemory, Place};
 use tiles::{Bounds, TileView};
@@ -136,6 +139,53 @@ impl TileFlood {
     }
 }
 
+/// The levels and labels of a net's nodes inside its border.
+#[derive(Drop)]
+struct InnerFlood {
+    heights: Vec<Height>,
+    /// The number that stores each cell's label, a node of the net.
+    nodes: Vec<u32>,
+}
+
+/// Returns the number of each cell, [`NO_DATA`](terrain::NO_DATA) for one without data.
+fn numbers(alloc: Global, cells: &[Cell]) -> Result<Vec<Height>, AllocError>
+    ensures { IfOk result (λ v. v.items ≡ map height_or_lack cells.now) }
+{
+    let mut numbers = Vec::with_capacity(alloc, cells.len())?;
+    for cell in cells {
+        numbers.push(cell.number())?;
+    }
+    Ok(numbers)
+}
+
+/// Floods a tile's net by the queue of [`flood_net`], which needs no certificate.
+#[inline(never)]
+fn flood_by_queue(alloc: Global, net: &CellNet, bounds: Bounds) -> Result<InnerFlood, NoMemory>
+    requires { HasSizeOf bounds net.now }
+    ensures { IfOk result (λ f. AreFlooded net.now bounds f.heights.items f.nodes.items) }
+{
+    let FloodedNet { levels, labels } = flood_net(alloc, net)?;
+    Ok(InnerFlood {
+        heights: without_border(alloc, levels.heights(), bounds.cols, bounds.rows)?,
+        nodes: without_border(alloc, labels.numbers(), bounds.cols, bounds.rows)?,
+    })
+}
+
+/// Floods the net of a tile with these bounds: by height, or by the queue if that has no result.
+fn inner_flood(alloc: Global, net: &CellNet, bounds: Bounds) -> Result<InnerFlood, NoMemory>
+    requires { HasSizeOf bounds net.now }
+    ensures { IfOk result (λ f. AreFlooded net.now bounds f.heights.items f.nodes.items) }
+{
+    let Some(found) = flood_by_height(alloc, net)? else {
+        return flood_by_queue(alloc, net, bounds);
+    };
+    let levels = without_border(alloc, &found.levels, bounds.cols, bounds.rows)?;
+    Ok(InnerFlood {
+        heights: numbers(alloc, &levels)?,
+        nodes: without_border(alloc, &found.labels, bounds.cols, bounds.rows)?,
+    })
+}
+
 /// Finds the level and the label of each data cell of a tile.
 ///
 /// Paths end on the rim, at edge cells, and at those of `sinks` that lie in the tile.
@@ -161,16 +211,13 @@ pub fn tile_flood(
 {
     let bounds = view.bounds();
     let net = CellNet::of_view(alloc, view, sinks)?;
-    let FloodedNet { levels, labels } = flood_net(alloc, &net)?;
+    let inner = inner_flood(alloc, &net, bounds)?;
+    let labels = labels_of(alloc, bounds, &inner.nodes)?;
     let sinks = net.into_sinks();
-    let heights = without_border(alloc, levels.heights(), bounds.cols, bounds.rows)?;
-    drop(levels);
-    let nodes = without_border(alloc, labels.numbers(), bounds.cols, bounds.rows)?;
-    let labels = labels_of(alloc, bounds, &nodes)?;
     let ends = end_heights(alloc, view, &sinks, labels.places())?;
     Ok(TileFlood {
         bounds,
-        heights,
+        heights: inner.heights,
         labels,
         ends,
     })

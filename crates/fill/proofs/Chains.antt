@@ -403,12 +403,6 @@ module _ (lasts : List ℕ) (joins : List Join) (previous : List PreviousJoins) 
     arcs = append_assoc done (link.arc ∷ []) (chain links (length previous) link.before) ∙ step;
   }
 
-  pub chain_has : Contains (get_or (arcs_by lasts joins previous) label []) link.arc
-  chain_has =
-      subst (λ (z : List Spill). Contains z link.arc) step
-      (Contains-append_right done (link.arc ∷ chain links (length previous) link.before) link.arc
-      (cons_head link.arc (chain links (length previous) link.before)))
-
 pub chain_done : (lasts : List ℕ) (joins : List Join) (previous : List PreviousJoins) (label at : ℕ)
     (done : List Spill) → at ≡ 0 → IsOnChain lasts joins previous label done at
     → done ≡ get_or (arcs_by lasts joins previous) label []

@@ -2,13 +2,12 @@
 //!
 //! Each join gives an arc from each of its two labels. An arc is a [`Spill`]: the label that the
 //! arc leads to, and the height of the join. Labels are given by number.
-ghost use Rattle.std.specs.Prelude.{◌≡◌, ◌<◌, ◌≤◌, ◌-◌, [], All, IfOk, OnOk, length, replicate, slice_index_or};
-ghost use Rattle.floods.specs.Flood.{candidates_in, InOrder, AreNoted, Relaxes};
+ghost use Rattle.std.specs.Prelude.{◌≡◌, ◌<◌, ◌≤◌, ◌-◌, [], All, IfOk, length, replicate, slice_index_or};
 ghost use Rattle.fill.specs.LabelNet.{AddsArcs};
 ghost use Rattle.fill.specs.Arcs.{has_arcs, link_at};
 
 use crate::spill_graph::Join;
-use floods::{Candidate, HeightList, NodeLabels, Queue, Spill, queue_neighbour};
+use floods::Spill;
 use smallvec::SmallVec;
 use std::alloc::{AllocError, Global};
 use std::marker::Model;
@@ -130,35 +129,5 @@ impl ArcLists {
             at = link.before;
         }
         Ok(arcs)
-    }
-
-    /// Queues each label to which an arc leads from `from.node`, if the arc lowers its level.
-    /// The level by an arc is the greater of the arc's height and `from.height`. It is noted in
-    /// `levels` if no level or a greater one is noted there. A label that the flood has labelled,
-    /// which has an entry in `labels`, is not queued and keeps its level.
-    #[inline]
-    pub(crate) fn spread(
-        &self,
-        queue: &mut Queue,
-        from: &Candidate,
-        labels: &NodeLabels,
-        levels: &mut HeightList,
-    ) -> Result<(), AllocError>
-        requires label { from.now.node < length self.now }
-        requires order { InOrder queue.old }
-        requires inside { All (λ arc. arc.to < length labels.now)
-            (slice_index_or self.now from.now.node []) }
-        requires noted { AreNoted labels.now levels.old (candidates_in queue.old) }
-        ensures { OnOk result
-            (Relaxes labels.now from.now (slice_index_or self.now from.now.node [])
-            levels.old levels.new queue.old queue.new) }
-    {
-        let mut at = self.lasts[from.node as usize];
-        while at != NO_JOIN {
-            let link = link_at(&self.joins, &self.previous, from.node, at);
-            queue_neighbour(queue, link.arc, from, labels, levels)?;
-            at = link.before;
-        }
-        Ok(())
     }
 }

@@ -8,7 +8,7 @@ ghost use Rattle.fill.specs.LabelNet.{AreNumberLevels, HasArcsOf};
 
 use crate::arcs::ArcLists;
 use crate::spill_graph::Join;
-use floods::{Candidate, FloodedNet, HeightList, Net, NodeLabels, Queue, Spill, flood_net};
+use floods::{FloodedNet, HeightList, Net, Spill, flood_net};
 use smallvec::SmallVec;
 use std::alloc::{AllocError, Global};
 use std::marker::Model;
@@ -54,19 +54,6 @@ impl Net for LabelGraph {
 
     fn neighbours(&self, alloc: Global, node: u32) -> Result<SmallVec<Spill, 8>, NoMemory> {
         Ok(self.arcs.arcs(alloc, node)?)
-    }
-
-    #[inline]
-    fn spread(
-        &self,
-        _alloc: Global,
-        queue: &mut Queue,
-        from: &Candidate,
-        labels: &NodeLabels,
-        levels: &mut HeightList,
-    ) -> Result<(), NoMemory> {
-        self.arcs.spread(queue, from, labels, levels)?;
-        Ok(())
     }
 
     #[inline]

@@ -151,17 +151,6 @@ source_passed source n waiting s none = record {
   ];
 }
 
-pub sources_passed : (source : Sources) (n m : ℕ) (waiting : List Candidate) →
-    AreSourcesQueued n source waiting → n ≤ m → HasNoSource source n m →
-    AreSourcesQueued m source waiting
-sources_passed source n m waiting s up none = record {
-  only = λ k d below. let o = s.only k d below in (omega (arith, o.0, up), o.1, o.2);
-  every = λ a h below e. elim (cases_lt a n) [
-    | inl early ↦ s.every a h early e
-    | inr late ↦ let no = none a late below in absurd (cc)
-  ];
-}
-
 -- If `now` has the entries of the sources below n, `new` has those of the sources below n + 1. Here
 -- w is the entry of source n, and `new` is `now` with w added.
 pub source_more : (source : Sources) (n : ℕ) (h : ℤ) (now new : List Candidate) (w : Candidate) →
@@ -204,17 +193,6 @@ noted_past source n levels s none = record {
     | inr other ↦ s.each a (omega arith)
   ];
   rest = λ a past. s.rest a (omega (arith, past));
-}
-
-pub noted_passed : (source : Sources) (n m : ℕ) (levels : List (Option ℤ)) →
-    HasSourcesNoted n source levels → n ≤ m → HasNoSource source n m →
-    HasSourcesNoted m source levels
-noted_passed source n m levels s up none = record {
-  each = λ a below. elim (cases_lt a n) [
-    | inl early ↦ s.each a early
-    | inr late ↦ s.rest a late ∙ sym (none a late below)
-  ];
-  rest = λ a past. s.rest a (omega (arith, past, up));
 }
 
 pub noted_more : (source : Sources) (n : ℕ) (h : ℤ) (levels : List (Option ℤ)) →

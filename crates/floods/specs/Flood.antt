@@ -2,17 +2,16 @@
 -- lowest entry of an unlabelled node and labels the node. An unlabelled neighbour is queued if its
 -- crest, the greater of the entry's and the arc's heights, is below its level, if any. An arc is a
 -- join seen from a node. A walk follows joins from a node to a source (`Walk`).
--- Public.
-use Rattle.std.specs.Prelude.{◌≡◌, ℕ, ◌<◌, ◌≤◌, ◌⊎◌, ℤ, pos, ◌+ℤ◌, ◌≤ℤ◌, List, [], ◌∷◌, ◌++◌, map, length, Option, None, Some, IsSome, slice_index_or}
+-- Private.
+use Rattle.std.specs.Prelude.{◌≡◌, ℕ, ◌<◌, ◌≤◌, ◌⊎◌, ℤ, ◌≤ℤ◌, List, ◌∷◌, length, Option, None, Some, IsSome, slice_index_or}
 use Rattle.std.specs.Ordering.{int_cmp}
 use Rattle.std.specs.declared.cmp.Ordering.{Ordering}
 use Rattle.floods.specs.declared.queue.Candidate.{Candidate}
 use Rattle.floods.specs.declared.queue.Queue.{Queue}
-use Rattle.std.specs.declared.vec.Vec.{Vec}
 use Rattle.std.specs.BinaryHeap.{IsHeap, heap_items}
 use Rattle.std.specs.Int.{int_max}
 use Rattle.std.specs.List.Sorted.{IsPermutation}
-use Rattle.std.specs.List.{Contains, All, flat_map}
+use Rattle.std.specs.List.{Contains, All}
 use Rattle.floods.specs.Walk.{Joins, Sources, HasJust}
 use Rattle.floods.specs.declared.net.Spill.{Spill}
 
@@ -20,35 +19,13 @@ use Rattle.floods.specs.declared.net.Spill.{Spill}
 abbrev pub candidate_order : Candidate → Candidate → Ordering
 candidate_order x y = int_cmp y.height.0 x.height.0
 
--- The entries of each list.
-abbrev pub entries_of : {Z : Type 0} → List (Vec Candidate Z) → List (List Candidate)
-entries_of lists = map (λ l. l.items) lists
-
--- All entries, of the lists and of the heap.
-abbrev pub all_entries : List (List Candidate) → List Candidate → List Candidate
-all_entries lists others = flat_map (λ entries. entries) lists ++ others
-
 -- All entries of a queue.
 abbrev pub candidates_in : Queue → List Candidate
-candidates_in w = all_entries (entries_of w.lists.items) (heap_items w.others)
+candidates_in w = heap_items w.heap
 
--- Entry w has height `base + k`, the height of list k, and k is in `first..end`.
-pub record IsListed (base : ℤ) (first end k : ℕ) (w : Candidate) : Type 0 where
-  pub level : w.height.0 ≡ base +ℤ pos k
-  pub from : first ≤ k
-  pub below : k < end
-
--- The heap is in order, and there are at least `end` lists. Those outside `first..end` are empty,
--- and list k has entries at height `base + k` alone.
-pub record AreOrdered (base : ℤ) (first end : ℕ) (lists : List (List Candidate))
-    (others : List Candidate) : Type 0 where
-  pub heap : IsHeap candidate_order others
-  pub end_inside : end ≤ length lists
-  pub listed : (k : ℕ) → All (IsListed base first end k) (slice_index_or lists k [])
-
--- `AreOrdered` holds for the lists and the heap of the queue.
+-- The queue's heap is in order.
 abbrev pub InOrder : Queue → Type 0
-InOrder w = AreOrdered w.base w.first w.end (entries_of w.lists.items) (heap_items w.others)
+InOrder w = IsHeap candidate_order (candidates_in w)
 
 -- The new entries are the old ones and w, in any order.
 abbrev pub PutsIn : Candidate → List Candidate → List Candidate → Type 0

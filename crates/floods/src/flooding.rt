@@ -4,14 +4,14 @@
 //! [`flood_net`] labels the unlabelled node queued at the least height, again and again. It queues
 //! each unlabelled neighbour of this node at the greater of the node's height in the queue and the
 //! join's height, unless the neighbour was queued before at that height or a lower one.
-ghost use Rattle.std.specs.Prelude.{◌≡◌, IfOk, length, replicate, None};
+ghost use Rattle.std.specs.Prelude.{◌≡◌, ◌<◌, IfOk, OnOk, length, replicate, None};
 ghost use Rattle.floods.specs.Walk.{IsFlooded};
-ghost use Rattle.floods.specs.Flood.{candidates_in, InOrder, AreSourcesQueued, HasSourcesNoted};
+ghost use Rattle.floods.specs.Flood.{candidates_in, InOrder, AreNoted, AreSourcesQueued, HasSourcesNoted, Spreads};
 
 use crate::heights::HeightList;
 use crate::net::Net;
 use crate::node_labels::{NodeLabels, label_of};
-use crate::queue::{Candidate, Queue, next_unlabelled};
+use crate::queue::{Candidate, Queue, next_unlabelled, queue_neighbours};
 use std::alloc::{AllocError, Global};
 use std::cmp::Reverse;
 use terrain::{Height, NoMemory};
@@ -46,10 +46,8 @@ fn queue_sources<N: Net>(
         (λ _. HasSourcesNoted (N.node_count net.now) (N.source_height net.now) levels.new) }
     ensures size { length levels.new ≡ length levels.old }
 {
-    let mut queue = Queue::new(alloc, levels.len())?;
-    let count = net.nodes();
-    let mut node = net.next_candidate(0);
-    while node < count {
+    let mut queue = Queue::new(alloc)?;
+    for node in 0..net.nodes() {
         if let Some(height) = net.source(node) {
             let waiting = Candidate {
                 height: Reverse(height),
@@ -59,9 +57,32 @@ fn queue_sources<N: Net>(
             queue.put(waiting)?;
             levels.put(node, height);
         }
-        node = net.next_candidate(node + 1);
     }
     Ok(queue)
+}
+
+/// Queues each unlabelled neighbour of `from` whose crest is below its level, if any.
+/// A neighbour's crest is the greater of the join's height and `from.height`.
+/// The crest of a queued neighbour becomes its level in `levels`.
+#[inline]
+fn spread<N: Net>(
+    alloc: Global,
+    net: &N,
+    queue: &mut Queue,
+    from: &Candidate,
+    labels: &NodeLabels,
+    levels: &mut HeightList,
+) -> Result<(), NoMemory>
+    requires order { InOrder queue.old }
+    requires inside { from.now.node < N.node_count net.now }
+    requires size { length labels.now ≡ N.node_count net.now }
+    requires noted { AreNoted labels.now levels.old (candidates_in queue.old) }
+    ensures { OnOk result (Spreads (N.joins net.now) labels.now from.now levels.old levels.new
+        queue.old queue.new) }
+{
+    let arcs = net.neighbours(alloc, from.node)?;
+    queue_neighbours(queue, arcs.as_slice(), from, labels, levels)?;
+    Ok(())
 }
 
 /// Returns the level and the label of each node, in 13 bytes a node.
@@ -80,10 +101,10 @@ pub fn flood_net<N: Net>(alloc: Global, net: &N) -> Result<FloodedNet, NoMemory>
     let mut queue = queue_sources(alloc, net, &mut levels)?;
     while let Some(waiting) = next_unlabelled(&mut queue, &labels) {
         let Reverse(height) = waiting.height;
-        // The level was set when the node was queued, but `Net::spread` does not promise that.
+        // The level was set when the node was queued, but no contract says so.
         levels.put(waiting.node, height);
         labels.put(waiting.node, waiting.label);
-        net.spread(alloc, &mut queue, &waiting, &labels, &mut levels)?;
+        spread(alloc, net, &mut queue, &waiting, &labels, &mut levels)?;
     }
     Ok(FloodedNet { levels, labels })
 }

@@ -26,4 +26,3 @@ pub use flooding::{Flooded, FloodedNet, flood, flood_net};
 pub use heights::HeightList;
 pub use net::{Net, Spill};
 pub use node_labels::{NodeLabels, label_of};
-pub use queue::{Candidate, Queue, queue_neighbour};

@@ -3,57 +3,46 @@ use mir.Val.{SFits}
 use Rattle.std.proofs.lemmas.Int.{to_z-of_z}
 use Rattle.std.proofs.lemmas.List.{length-set, length-replicate}
 use Rattle.terrain.proofs.Heights.{height_width}
-use Rattle.floods.proofs.Heaps.{no_sources, source_passed, sources_passed, source_more, none_noted, noted_past, noted_passed, noted_more}
+use Rattle.floods.proofs.Heaps.{no_sources, source_passed, source_more, none_noted, noted_past, noted_more}
 use Rattle.floods.proofs.flooding.queue_sources.Goals as goal
 use Rattle.floods.proofs.flooding.queue_sources.Goals.{in-Some+in_ok-put, in_default}
-
-pub loop-node-preserved : goal.loop-node-preserved
-loop-node-preserved g c = let next = c.next_candidate-node-in-loop-node.ensures in
-    elim c.match-source.branch [
-      | in-Some+in_ok-put w ↦
-          let fits : SFits height_width w.in-Some.height = search rules in
-          let pushed =
-          rw (to_z-of_z height_width w.in-Some.height fits) at w.in_ok-put.ensures.puts in
-          let put = rw (to_z-of_z height_width w.in-Some.height fits) at w.put-in-Some.ensures in
-          let source : g.N.Net.source_height c.args.net.now c.loop-node.node
-          ≡ Some w.in-Some.height =
-          sym c.source.ensures ∙ w.in-Some.is in
-          let count : length c.loop-node.levels ≡ g.N.Net.node_count c.args.net.now =
-          c.loop-node.invariant.size ∙ ap length c.requires ∙ length-replicate _ None in
-          let inside : c.loop-node.node < length c.loop-node.levels =
-          omega (arith, count, c.nodes-count.ensures, c.loop-node-test.true) in
-          rw (w.queue-is, w.levels-is) (record {
-            order = w.in_ok-put.ensures.order;
-            inside = next.inside;
-            sources = sources_passed _ _ _ _ (source_more _ c.loop-node.node w.in-Some.height _ _ _
-                c.loop-node.invariant.sources source refl refl refl pushed) next.from next.passed;
-            noted = rw put (noted_passed _ _ _ _ (noted_more _ c.loop-node.node w.in-Some.height _
-                inside c.loop-node.invariant.noted source) next.from next.passed);
-            size = ap length put ∙ length-set c.loop-node.levels c.loop-node.node _
-                ∙ c.loop-node.invariant.size;
-          })
-      | in_default w ↦
-          let source : g.N.Net.source_height c.args.net.now c.loop-node.node ≡ None =
-          sym c.source.ensures ∙ w.in_default.is in
-          rw (w.queue-is, w.levels-is) (record {
-            order = c.loop-node.invariant.order;
-            inside = next.inside;
-            sources = sources_passed _ _ _ _
-                (source_passed _ _ _ c.loop-node.invariant.sources source) next.from next.passed;
-            noted =
-                noted_passed _ _ _ _ (noted_past _ c.loop-node.node _ c.loop-node.invariant.noted
-                source) next.from next.passed;
-            size = c.loop-node.invariant.size;
-          })
-    ]
 
 pub loop-node-init : goal.loop-node-init
 loop-node-init g c = record {
   order = c.in_ok-queue.ensures.order;
-  inside = c.next_candidate-node.ensures.inside;
-  sources = sources_passed _ _ _ _ (no_sources _ _ c.in_ok-queue.ensures.none)
-      c.next_candidate-node.ensures.from c.next_candidate-node.ensures.passed;
-  noted = noted_passed _ _ _ _ (rw c.requires
-      (none_noted _ _)) c.next_candidate-node.ensures.from c.next_candidate-node.ensures.passed;
+  sources = no_sources _ _ c.in_ok-queue.ensures.none;
+  noted = rw c.requires (none_noted _ _);
   size = refl;
 }
+
+pub loop-node-preserved : goal.loop-node-preserved
+loop-node-preserved g c = elim c.match-source.branch [
+  | in-Some+in_ok-put w ↦
+      let fits : SFits height_width w.in-Some.height = search rules in
+      let pushed = rw (to_z-of_z height_width w.in-Some.height fits) at w.in_ok-put.ensures.puts in
+      let put = rw (to_z-of_z height_width w.in-Some.height fits) at w.put-in-Some.ensures in
+      let source : g.N.Net.source_height c.args.net.now c.loop-node.node ≡ Some w.in-Some.height =
+      sym c.source.ensures ∙ w.in-Some.is in
+      let count : length c.loop-node.levels ≡ g.N.Net.node_count c.args.net.now =
+      c.loop-node.invariant.size ∙ ap length c.requires ∙ length-replicate _ None in
+      let inside : c.loop-node.node < length c.loop-node.levels =
+      omega (arith, count, c.nodes-node-end.ensures, c.loop-node-test.true) in
+      rw (w.queue-is, w.levels-is) (record {
+        order = w.in_ok-put.ensures.order;
+        sources = source_more _ c.loop-node.node w.in-Some.height _ _ _
+            c.loop-node.invariant.sources source refl refl refl pushed;
+        noted = rw put (noted_more _ c.loop-node.node w.in-Some.height _
+            inside c.loop-node.invariant.noted source);
+        size = ap length put ∙ length-set c.loop-node.levels c.loop-node.node _
+            ∙ c.loop-node.invariant.size;
+      })
+  | in_default w ↦
+      let source : g.N.Net.source_height c.args.net.now c.loop-node.node ≡ None =
+      sym c.source.ensures ∙ w.in_default.is in
+      rw (w.queue-is, w.levels-is) (record {
+        order = c.loop-node.invariant.order;
+        sources = source_passed _ _ _ c.loop-node.invariant.sources source;
+        noted = noted_past _ c.loop-node.node _ c.loop-node.invariant.noted source;
+        size = c.loop-node.invariant.size;
+      })
+]

@@ -1,15 +1,11 @@
-use Rattle.std.proofs.Common.{◌≡◌, ◌≤◌, ◌-◌, length}
+use Rattle.std.proofs.Common.{◌≡◌, length}
 use Rattle.floods.specs.Flood.{InOrder, candidates_in, AreSourcesQueued, HasSourcesNoted}
 use Rattle.floods.proofs.flooding.queue_sources.Given as goal
 
 abbrev pub invariant-loop-node : goal.invariant-loop-node
 invariant-loop-node g l = record {
   order : InOrder l.queue;
-  inside : l.node ≤ g.N.Net.node_count l.net;
   sources : AreSourcesQueued l.node (g.N.Net.source_height l.net) (candidates_in l.queue);
   noted : HasSourcesNoted l.node (g.N.Net.source_height l.net) l.levels;
   size : length l.levels ≡ length l.initial.levels;
 }
-
-abbrev pub decreases-loop-node : goal.decreases-loop-node
-decreases-loop-node g l = l.count - l.node

@@ -1,0 +1,56 @@
+use Rattle.std.proofs.Common.{rules, ◌≡◌, ◌≤ℤ◌, Some, subst, sym, true, unwrap_or, ◌∙◌}
+use mir.Val.{SFits}
+use Rattle.std.proofs.lemmas.Bool.{OnTrue_at}
+use Rattle.std.proofs.lemmas.Int.{to_z-of_z}
+use Rattle.terrain.proofs.Heights.{height_width}
+use Rattle.terrain.specs.StoredCells.{no_data}
+use Rattle.cell_floods.specs.Cells.{source_of}
+use Rattle.cell_floods.specs.Spreading.{IsPart, IsPartFlood, Spreads}
+use Rattle.cell_floods.proofs.SpreadSteps.{begun, flooded, later, sources_are, sources_kept}
+use Rattle.cell_floods.proofs.spreading.flood_by_height.Goals as goal
+
+pub loop-node-init : goal.loop-node-init
+loop-node-init c =
+    let x = c.in_ok-spreading.spreading in
+    let is = c.in_ok-spreading.ensures in
+    record {
+      net = is.net;
+      part = subst (λ n. IsPart _ n x.levels.items x.labels.items x.has_spread.items) (sym is.net)
+          (begun _ _ c.args.net.now _ _ _ is.sources);
+      sources = λ a h source. sources_are c.args.net.now _ _ _ is.sources a h
+          (subst (λ n. source_of n a ≡ Some h) is.net source);
+    }
+
+pub spread_from-requires-clause-part : goal.spread_from-requires-clause-part
+spread_from-requires-clause-part c =
+    let up : c.loop-node.now ≤ℤ c.in-Some.level = search rules in
+    subst (λ o. IsPartFlood (unwrap_or o no_data) c.loop-node.spreading) (sym c.in-Some.ensures)
+    (later c.loop-node.now c.in-Some.level _ _ _ _ up
+    (subst (λ z. IsPartFlood z c.loop-node.spreading) c.loop-node.now-is c.loop-node.invariant.part))
+
+pub loop-node-preserved : goal.loop-node-preserved
+loop-node-preserved c =
+    let fits : SFits height_width c.in-Some.level = search rules in
+    let before = c.loop-node.invariant in
+    let spread = subst (λ o. Spreads (unwrap_or o no_data) c.loop-node.spreading
+    c.spread_from.new.self) c.in-Some.ensures c.in_ok-spread_from.ensures in
+    rw (to_z-of_z height_width c.in-Some.level fits) (record {
+      net = spread.net ∙ before.net;
+      part = spread.part;
+      sources = sources_kept c.loop-node.spreading c.spread_from.new.self spread.net spread.kept
+          before.sources;
+    })
+
+pub returns : goal.returns
+returns c =
+    let n = c.args.net.now in
+    let x = c.loop-node.spreading in
+    let end = c.loop-node.invariant in
+    let complete : c.is_complete.result ≡ true = search rules in
+    let part = subst (λ z. IsPartFlood z x) c.loop-node.now-is end.part in
+    flooded c.loop-node.now n x.levels.items x.labels.items x.has_spread.items
+    c.cells.ensures.bordered
+    (subst (λ m. IsPart c.loop-node.now m x.levels.items x.labels.items x.has_spread.items)
+    end.net part)
+    (λ a h source. end.sources a h (subst (λ m. source_of m a ≡ Some h) (sym end.net) source))
+    (OnTrue_at complete c.is_complete.ensures)

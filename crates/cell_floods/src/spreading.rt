@@ -1,0 +1,221 @@
+//! Floods a [`CellNet`] from its lowest cells up: [`flood_by_height`].
+//!
+//! First each source gets its height as level, and itself as label. Then labelled nodes spread, the
+//! lowest first: a node gives its label to each unlabelled data cell around it. The cell's level is
+//! the greater of its height and the node's level. Cells at the node's level spread next, higher
+//! ones in their turn.
+//!
+//! The order of the nodes carries no promise. So the end certifies the flood: there is none where a
+//! node was taken below the level that the flood had come to, or where a labelled one did not
+//! spread.
+ghost use Rattle.std.specs.Prelude.{◌≡◌, ◌<◌, ℕ, ℤ, IfOk, IfSome, IsSome, OnOk, Some, false, length, slice_index_or, true, unwrap_or};
+ghost use Rattle.std.specs.Bool.{OnTrue};
+ghost use Rattle.std.specs.Int.{int_max};
+ghost use Rattle.terrain.specs.StoredCells.{no_data};
+ghost use Rattle.floods.specs.Flood.{entry_of};
+ghost use Rattle.floods.specs.Notes.{numbered_labels};
+ghost use Rattle.floods.specs.Walk.{IsFlooded};
+ghost use Rattle.cell_floods.specs.Cells.{IsCellJoin, source_of};
+ghost use Rattle.cell_floods.specs.Spreading.{HasSources, IsPartFlood, Reaches, Spreads, level_of};
+
+use crate::cell_net::CellNet;
+use crate::node_order::nodes_by_height;
+use floods::Net;
+use std::alloc::{AllocError, Global};
+use terrain::{Cell, Height};
+
+/// The number stored for a node without a label; [`floods::label_of`] decodes labels.
+const NO_LABEL: u32 = u32::MAX;
+
+/// The level of each node of a net, and the number that stores its label.
+#[derive(Drop)]
+pub(crate) struct NodeFlood {
+    pub(crate) levels: Vec<Cell>,
+    pub(crate) labels: Vec<u32>,
+}
+
+/// The levels and labels of a net's nodes while the labelled ones spread.
+#[derive(Drop)]
+struct Spreading<'a> {
+    net: &'a CellNet,
+    levels: Vec<Cell>,
+    labels: Vec<u32>,
+    has_spread: Vec<bool>,
+    /// Nodes at the level that the flood has come to, which are to spread.
+    waiting: Vec<u32>,
+}
+
+/// Returns the higher of two cells with data.
+#[inline(always)]
+fn higher(cell: Cell, level: Cell) -> Cell
+    ensures { (height : ℤ) → cell ≡ Some height → IsSome level →
+        result ≡ Some (int_max height (unwrap_or level no_data)) }
+{
+    if cell.number() > level.number() {
+        cell
+    } else {
+        level
+    }
+}
+
+impl<'a> Spreading<'a> {
+    /// Makes the state before any node is labelled.
+    fn of_unlabelled(alloc: Global, net: &'a CellNet) -> Result<Self, AllocError>
+        ensures net { IfOk result (λ x. x.net.now ≡ net.now) }
+        ensures sources { IfOk result (λ x.
+            HasSources 0 net.now x.levels.items x.labels.items x.has_spread.items) }
+    {
+        let count = net.cells().len();
+        Ok(Spreading {
+            net,
+            levels: vec![in alloc; Cell::no_data(); count]?,
+            labels: vec![in alloc; NO_LABEL; count]?,
+            has_spread: vec![in alloc; false; count]?,
+            waiting: Vec::new(alloc),
+        })
+    }
+
+    /// Makes the state in which the sources are labelled, and no other node.
+    fn of_sources(alloc: Global, net: &'a CellNet) -> Result<Self, AllocError>
+        ensures net { IfOk result (λ x. x.net.now ≡ net.now) }
+        ensures sources { IfOk result (λ x. HasSources (length net.now.cells) net.now
+            x.levels.items x.labels.items x.has_spread.items) }
+    {
+        let mut spreading = Self::of_unlabelled(alloc, net)?;
+        let count = net.nodes();
+        let mut node = net.next_candidate(0);
+        while node < count {
+            if net.source(node).is_some() {
+                spreading.levels[node as usize] = net.cells()[node as usize];
+                spreading.labels[node as usize] = node;
+            }
+            node = net.next_candidate(node + 1);
+        }
+        Ok(spreading)
+    }
+
+    /// Labels node `to` from a node of this label and level, if it is an unlabelled data cell.
+    /// Opens it where its level is that of the other node.
+    #[inline(always)]
+    fn reach(&mut self, to: u32, label: u32, level: Cell) -> Result<(), AllocError>
+        requires to { to < length self.old.net.now.cells }
+        requires sizes { (now : ℤ) × IsPartFlood now self.old }
+        requires level { IsSome level }
+        ensures { OnOk result (Reaches (unwrap_or level no_data) label to self.old self.new) }
+    {
+        if self.levels[to as usize].height().is_some() {
+            return Ok(());
+        }
+        let cell = self.net.cells()[to as usize];
+        let Some(height) = cell.height() else {
+            return Ok(());
+        };
+        self.labels[to as usize] = label;
+        self.levels[to as usize] = higher(cell, level);
+        if height <= level.number() {
+            self.waiting.push(to)?;
+        }
+        Ok(())
+    }
+
+    /// Lets a labelled node spread.
+    fn spread(&mut self, node: u32) -> Result<(), AllocError>
+        requires labelled { IsSome (entry_of self.old.levels.items node) }
+        requires part { IsPartFlood (level_of self.old node) self.old }
+        ensures { OnOk result (Spreads (level_of self.old node) self.old self.new) }
+    {
+        let level = self.levels[node as usize];
+        let label = self.labels[node as usize];
+        for to in self.net.around(node) {
+            self.reach(to, label, level)?;
+        }
+        self.has_spread[node as usize] = true;
+        Ok(())
+    }
+
+    /// Returns whether a node has this level.
+    #[inline(always)]
+    fn is_at(&self, node: u32, level: Cell) -> bool
+        ensures { OnTrue result (IsSome level →
+            entry_of self.now.levels.items node ≡ level) }
+    {
+        match self.levels.get(node as usize) {
+            Some(own) => own.is_level_with(level),
+            None => false,
+        }
+    }
+
+    /// Lets a labelled node spread, and then all nodes that this opens.
+    fn spread_from(&mut self, first: u32) -> Result<(), AllocError>
+        requires labelled { IsSome (entry_of self.old.levels.items first) }
+        requires part { IsPartFlood (level_of self.old first) self.old }
+        ensures { OnOk result (Spreads (level_of self.old first) self.old self.new) }
+    {
+        let level = self.levels[first as usize];
+        self.spread(first)?;
+        while let Some(node) = self.waiting.pop() {
+            if self.is_at(node, level) {
+                self.spread(node)?;
+            }
+        }
+        Ok(())
+    }
+
+    /// Returns the level of a labelled node that has not spread.
+    #[inline(always)]
+    fn waiting_level(&self, node: u32) -> Option<Height>
+        ensures { IfSome result (λ level. entry_of self.now.levels.items node ≡ Some level) }
+    {
+        let level = self.levels.get(node as usize)?;
+        if *self.has_spread.get(node as usize)? {
+            return None;
+        }
+        level.height()
+    }
+
+    /// Returns whether all labelled nodes have spread.
+    fn is_complete(&self) -> bool
+        requires { length self.now.has_spread.items ≡ length self.now.levels.items }
+        ensures { OnTrue result ((a : ℕ) → IsSome (entry_of self.now.levels.items a) →
+            slice_index_or self.now.has_spread.items a false ≡ true) }
+    {
+        for index in 0..self.levels.len() {
+            if self.levels[index].height().is_some() && !self.has_spread[index] {
+                return false;
+            }
+        }
+        true
+    }
+}
+
+/// Finds the level and the label of each node; `None` where its certificate fails.
+///
+/// # Errors
+///
+/// [`AllocError`] if an allocation fails.
+pub(crate) fn flood_by_height(alloc: Global, net: &CellNet) -> Result<Option<NodeFlood>, AllocError>
+    ensures { IfOk result (λ found. IfSome found (λ f.
+        IsFlooded (IsCellJoin net.now) (source_of net.now) (length net.now.cells) f.levels.items
+        (numbered_labels f.labels.items))) }
+{
+    let order = nodes_by_height(alloc, net.cells())?;
+    let mut spreading = Spreading::of_sources(alloc, net)?;
+    let mut now = Height::MIN;
+    for node in &order {
+        let Some(level) = spreading.waiting_level(*node) else {
+            continue;
+        };
+        if level < now {
+            return Ok(None);
+        }
+        now = level;
+        spreading.spread_from(*node)?;
+    }
+    if !spreading.is_complete() {
+        return Ok(None);
+    }
+    Ok(Some(NodeFlood {
+        levels: spreading.levels,
+        labels: spreading.labels,
+    }))
+}
