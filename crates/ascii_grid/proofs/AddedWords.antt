@@ -1,12 +1,12 @@
 -- After one more word is added, a `GridBuilder` has read all words so far, or returns a fault that
 -- may be reported for them.
-use Rattle.std.proofs.Common.{◌≡◌, ℕ, ◌+◌, ◌<◌, ◌≤◌, Bool, true, false, cond, List, [], ◌∷◌, ◌++◌, length, take, Option, None, Some, arith, refl, ap, sym, ◌∙◌, subst, inl, inr, nat_lt, ◌⊎◌, Result, MatchResult}
+use Rattle.std.proofs.Common.{◌≡◌, ℕ, ◌+◌, ◌<◌, ◌≤◌, Bool, true, false, cond, List, [], ◌∷◌, ◌++◌, length, map, take, Option, None, Some, ℤ, arith, refl, ap, sym, ◌∙◌, subst, inl, inr, nat_lt, ◌⊎◌, Result, MatchResult}
 use Rattle.std.specs.Prelude.{MatchOption, option_map}
 use Rattle.std.specs.Option.{option_or, option_map_or}
 use Rattle.std.specs.List.{list_any}
 use Rattle.std.proofs.Math.Bool.{or-false}
 use Rattle.std.proofs.lemmas.Bool.{cases_Bool, lt-ltb, le-ltb}
-use Rattle.std.proofs.lemmas.List.{append-nil, append_assoc, length-append, length-map}
+use Rattle.std.proofs.lemmas.List.{append-nil, append_assoc, length-append, length-map, map_push}
 use Rattle.terrain.specs.Words.{Word}
 use Rattle.ascii_grid.specs.Header.{fills, slot_of, is_long, is_value, bad_value, begins_with_letter, header_words, height_words, key_left, nodata_for, header_fault, key_fault, value_fault, missing_fault}
 use Rattle.ascii_grid.specs.GridText.{AsksForCells, is_cell, spelled_cell, cells_wanted, words_fault, heights_fault, height_fault, AsksAtHeight, IsReported}
@@ -239,6 +239,32 @@ height_fault-none d header place w short whole room ok =
 pub place_of : (j : GridBuilder) (ps : Pairs) (hs : List Word) → HasReadHeights j ps hs →
     length j.cells.items ≡ length hs
 place_of j ps hs h = ap length h.cells ∙ length-map hs (spelled_cell j.scale j.nodata)
+
+-- after the cell of one more height is added, the height has been read
+pub HasReadHeights-push : (j j' : GridBuilder) (ps : Pairs) (hs : List Word) (w : Word)
+    (cell : Option ℤ) → HasReadHeights j ps hs → length w ≤ 64 →
+    is_cell j.scale j.nodata w ≡ true → spelled_cell j.scale j.nodata w ≡ cell →
+    length j.cells.items < j.wanted → j' ≡ record j { cells = j'.cells } →
+    j'.cells.items ≡ j.cells.items ++ cell ∷ [] → HasReadHeights j' ps (hs ++ w ∷ [])
+HasReadHeights-push j j' ps hs w cell h short is value room kept all =
+    let none : height_fault j.scale (flat ps) (0 + length hs) w ≡ None =
+    height_fault-none j.scale (flat ps) (0 + length hs) w short h.whole
+    (omega (arith, place_of j ps hs h, h.wanted, room)) (subst (λ n. is_cell j.scale n w ≡ true)
+    h.nodata is) in
+    let scale : j'.scale ≡ j.scale = ap (λ (k : GridBuilder). k.scale) kept in
+    let nodata : j'.nodata ≡ j.nodata = ap (λ (k : GridBuilder). k.nodata) kept in
+    record {
+      whole = h.whole;
+      wanted = ap (λ (k : GridBuilder). k.wanted) kept ∙ h.wanted;
+      nodata = nodata ∙ h.nodata;
+      value = ap (λ (k : GridBuilder). k.nodata_value) kept ∙ h.value ∙ rw (scale, nodata) refl;
+      faultless = rw scale (heights_fault-push j.scale (flat ps) 0 hs w
+          ∙ ap (λ o. option_or o (height_fault j.scale (flat ps) (0 + length hs) w)) h.faultless
+          ∙ none);
+      cells = all ∙ rw (scale, nodata) (ap (λ z. z ++ cell ∷ []) h.cells
+          ∙ ap (λ x. map (spelled_cell j.scale j.nodata) hs ++ x ∷ []) (sym value)
+          ∙ sym (map_push (spelled_cell j.scale j.nodata) hs w));
+    }
 
 pub judged_none : (j : GridBuilder) (ws : List Word) → HasAdded j ws →
     words_fault j.scale ws ≡ None

@@ -1,25 +1,24 @@
 -- The words that a `Tokenizer` has read after one more byte, a word's end, or a whole word, or the
 -- fault that may be reported for them.
-use Rattle.std.proofs.Common.{◌≡◌, ℕ, ◌+◌, ◌<◌, ◌≤◌, true, false, List, [], ◌∷◌, ◌++◌, length, take, drop, get_or, Some, ℤ, Result, MatchResult, ◌⊎◌, arith, refl, ap, sym, ◌∙◌, subst, inl, inr}
+use Rattle.std.proofs.Common.{◌≡◌, ℕ, ◌+◌, ◌<◌, ◌≤◌, true, false, List, [], ◌∷◌, ◌++◌, length, take, drop, get_or, Some, ℤ, arith, refl, ap, sym, ◌∙◌, subst, inl, inr}
 use Rattle.std.specs.Prelude.{filter}
 use Rattle.std.specs.List.{list_any}
-use Rattle.std.proofs.lemmas.Result.{MatchResult-weaker}
 use Rattle.std.proofs.lemmas.Bool.{cases_lt, or_parts}
-use Rattle.std.proofs.lemmas.List.{append-nil, length-append, length-take, length-drop, take_all, take_more, append_assoc, take-append-le, nil_from_length}
+use Rattle.std.proofs.lemmas.List.{append-nil, length-append, length-take, take_all, take_more, append_assoc, take-append-le, take-append-drop, nil_from_length}
 use Rattle.std.proofs.Math.Seq.{take-add}
 use Rattle.terrain.specs.Words.{Word, is_word, is_separator, words, ended_words}
 use Rattle.terrain.specs.Decimal.{scaled_value}
-use Rattle.ascii_grid.specs.GridText.{words_fault, height_fault}
-use Rattle.ascii_grid.specs.Reading.{flat, IsParted, HasWords, HasAdded, HasReadHeights, IsWordFault}
+use Rattle.ascii_grid.specs.GridText.{AsksAtHeight, words_fault}
+use Rattle.ascii_grid.specs.Reading.{IsParted, HasWords, HasAdded, HasReadHeights, IsBetweenHeights, IsWordFault}
 use Rattle.decimals.specs.Plain.{IsPlain}
 use Rattle.ascii_grid.specs.declared.fault.GridFault.{GridFault}
-use Rattle.ascii_grid.specs.declared.fault.GridFault.TheVariants.{TooLong, Memory}
+use Rattle.ascii_grid.specs.declared.fault.GridFault.TheVariants.{TooLong}
 use Rattle.ascii_grid.specs.declared.builder.GridBuilder.{GridBuilder}
-use Rattle.ascii_grid.specs.declared.builder.Expected.TheVariants.{AtHeights}
 use Rattle.ascii_grid.specs.declared.tokenizer.Tokenizer.{Tokenizer}
 use Rattle.ascii_grid.proofs.Parting.{words-parted, IsParted-byte, IsParted-separator}
 use Rattle.ascii_grid.proofs.Judging.{Pairs, HasBegun-more}
-use Rattle.ascii_grid.proofs.AddedWords.{at_heights, is_memory, word_fault, long_fault, height_word}
+use Rattle.ascii_grid.proofs.AddedWords.{at_heights, is_memory, judged-heights, word_fault, long_fault, reported_further}
+use Rattle.ascii_grid.proofs.Stays.{ended-more, words_fault-more, asks-more}
 
 -- ---- the bytes kept
 
@@ -107,15 +106,15 @@ more_bytes text bytes i b inside at =
     append_assoc text (take i bytes) (b ∷ []) ∙ ap (λ x. text ++ (take i bytes ++ x ∷ [])) at
     ∙ ap (λ z. text ++ z) (sym (take_more bytes i 0 inside))
 
-pub fault_at : (d d' : ℕ) (text bytes : List ℕ) (i b : ℕ) (f : GridFault) → d' ≡ d → i
-    < length bytes → b ≡ get_or bytes i 0 → IsWordFault d' (ended_words ((text ++ take i bytes) ++ b
-    ∷ [])) f → (n : ℕ) × (n ≤ length bytes) × IsWordFault d (ended_words (text ++ take n bytes)) f
-fault_at d d' text bytes i b f same inside at k = (
-  i + 1,
-  omega arith,
-  subst (λ e. IsWordFault e (ended_words (text ++ take (i + 1) bytes)) f) same
-      (subst (λ z. IsWordFault d' (ended_words z) f) (more_bytes text bytes i b inside at) k),
-)
+-- a fault that may be reported for the words of a text may be reported, whatever bytes follow
+pub fault_further : (d : ℕ) (text more : List ℕ) (f : GridFault) →
+    IsWordFault d (ended_words text) f → IsWordFault d (ended_words (text ++ more)) f
+fault_further d text more f h =
+    let next = ended-more text more in
+    reported_further _ _ (words_fault d (ended_words text))
+    (words_fault d (ended_words (text ++ more))) f
+    (λ asks. subst AsksAtHeight (sym next.1) (asks-more (ended_words text) next.0 asks))
+    (λ g e. ap (words_fault d) next.1 ∙ words_fault-more d (ended_words text) next.0 g e) h
 
 -- ---- a whole word within a piece
 
@@ -133,7 +132,7 @@ IsParted-bytes text ws w (b ∷ more) h none =
 
 -- where no word is unfinished, the first `len` bytes, none a separator, are one more ended word if
 -- the separator `b` follows them
-pub parted_word : (text bytes : List ℕ) (ws : List Word) (len b : ℕ) →
+parted_word : (text bytes : List ℕ) (ws : List Word) (len b : ℕ) →
     IsParted text ws [] → list_any is_separator (take len bytes) ≡ false →
     0 < len → len < length bytes → b ≡ get_or bytes len 0 → is_separator b ≡ true →
     IsParted (text ++ take (len + 1) bytes) (ws ++ take len bytes ∷ []) []
@@ -148,7 +147,7 @@ parted_word text bytes ws len b begun none some inside at ends =
     subst (λ t. IsParted t (ws ++ w ∷ []) []) bytes_are (subst (λ z.
     IsParted ((text ++ w) ++ b ∷ []) z []) all (IsParted-separator (text ++ w) ws w b whole ends))
 
-pub parted_ended : (p : Tokenizer) (text : List ℕ) (h : HasWords p text) → p.word ≡ [] →
+parted_ended : (p : Tokenizer) (text : List ℕ) (h : HasWords p text) → p.word ≡ [] →
     IsParted text h.ended []
 parted_ended p text h e =
     let last : h.last ≡ [] =
@@ -156,34 +155,33 @@ parted_ended p text h e =
     subst (λ z. IsParted text h.ended z) last h.parted
 
 -- let the first `len` bytes after a height spell `value` (`IsPlain`), and the separator `b` follow.
--- If `r` meets the clause `word` of `add_height_value`, it meets `words` of `take_plain`.
-pub plain_word : {T : Type 0} (p : Tokenizer) (j : GridBuilder) (text bytes : List ℕ)
-    (len b : ℕ) (value : ℤ) (r : Result T GridFault) → HasWords p text → p.word ≡ [] →
-    p.builder.expected ≡ AtHeights → IsPlain p.builder.scale bytes len value → len < length bytes →
-    b ≡ get_or bytes len 0 → is_separator b ≡ true → j.header ≡ p.builder.header →
-    j.expected ≡ p.builder.expected
-    → ((ps : Pairs) (hs : List Word) (w : Word) → HasReadHeights p.builder ps hs → length w ≤ 64 →
-    scaled_value p.builder.scale w ≡ Some value → MatchResult r (λ _. HasReadHeights j ps (hs ++ w
-    ∷ [])) (λ f. (f ≡ Memory) ⊎ (height_fault p.builder.scale (flat ps) (length hs) w ≡ Some f)))
-    → MatchResult r (λ _. HasWords (record p { builder = j }) (text ++ take (len + 1) bytes)) (λ f.
-    (n : ℕ) × (n ≤ length bytes)
-    × IsWordFault p.builder.scale (ended_words (text ++ take n bytes)) f)
-plain_word p j text bytes len b value r h none expected plain inside at ends header same judged =
+-- If `j` has added the cell of `value`, the height and the separator have been read
+pub plain_word : (p : Tokenizer) (j : GridBuilder) (text bytes : List ℕ) (len b : ℕ) (value : ℤ) →
+    HasWords p text → IsBetweenHeights p → IsPlain p.builder.scale bytes len value →
+    len < length bytes → b ≡ get_or bytes len 0 → is_separator b ≡ true →
+    j ≡ record p.builder { cells = j.cells } →
+    ((ps : Pairs) (hs : List Word) (w : Word) → HasReadHeights p.builder ps hs → length w ≤ 64 →
+    scaled_value p.builder.scale w ≡ Some value → HasReadHeights j ps (hs ++ w ∷ [])) →
+    HasWords (record p { builder = j }) (text ++ take (len + 1) bytes)
+plain_word p j text bytes len b value h between plain inside at ends kept added =
     let w = take len bytes in
     let short : length w ≤ 64 = omega (arith, plain.short, length-take len bytes) in
-    let there = at_heights p.builder h.ended h.judged expected in
-    let parted = parted_word text bytes h.ended len b
-    (parted_ended p text h none) plain.whole plain.some inside at ends in
+    let there = at_heights p.builder h.ended h.judged between.0 in
     let ps = h.judged.pairs in
     let hs = h.judged.rest in
-    MatchResult-weaker r
-    (height_word p.builder j h.ended ps hs w r h.judged.header h.judged.words (HasBegun-more hs (w
-    ∷ []) there.0) there.1 short header (same ∙ expected)
-    (judged ps hs w there.1 short plain.scaled))
-    (λ _ more.
-    record { ended = h.ended ++ w ∷ []; last = []; parted = parted; judged = more; front = none })
-    (λ f fault.
-    (len + 1, omega arith, subst (λ ws. IsWordFault p.builder.scale ws f) (sym parted.ended) fault))
+    record {
+      ended = h.ended ++ w ∷ [];
+      last = [];
+      parted = parted_word text bytes h.ended len b
+          (parted_ended p text h between.1) plain.whole plain.some inside at ends;
+      judged = judged-heights p.builder j h.ended ps hs (w ∷ []) h.judged.header h.judged.words
+          (HasBegun-more hs (w ∷ []) there.0) (added ps hs w there.1 short plain.scaled)
+          (ap (λ (k : GridBuilder). k.header) kept)
+          (ap (λ (k : GridBuilder). k.expected) kept ∙ between.0);
+      front = between.1;
+    }
+
+-- ---- the next bytes of a piece
 
 pub same_front : (text bytes rest : List ℕ) (at n : ℕ) → rest ≡ drop at bytes →
     (text ++ take at bytes) ++ take n rest ≡ text ++ take (at + n) bytes
@@ -191,14 +189,20 @@ same_front text bytes rest at n e =
     append_assoc text (take at bytes) (take n rest)
     ∙ ap (λ z. text ++ z) (ap (λ z. take at bytes ++ take n z) e ∙ sym (take-add at n bytes))
 
-pub fault_further : (d d' : ℕ) (text bytes rest : List ℕ) (at : ℕ) (f : GridFault) →
-    d' ≡ d → rest ≡ drop at bytes → at ≤ length bytes → (n : ℕ)
-    × (n ≤ length rest) × IsWordFault d' (ended_words ((text ++ take at bytes) ++ take n rest)) f →
-    (n : ℕ) × (n ≤ length bytes) × IsWordFault d (ended_words (text ++ take n bytes)) f
-fault_further d d' text bytes rest at f same e within k =
-    let size = ap length e in (
-      at + k.0,
-      omega (arith, size, k.1, length-drop at bytes),
-      subst (λ x. IsWordFault x (ended_words (text ++ take (at + k.0) bytes)) f) same
-          (subst (λ z. IsWordFault d' (ended_words z) f) (same_front text bytes rest at k.0 e) k.2),
-    )
+pub same_whole : (text bytes rest : List ℕ) (at : ℕ) → rest ≡ drop at bytes →
+    (text ++ take at bytes) ++ rest ≡ text ++ bytes
+same_whole text bytes rest at e =
+    append_assoc text (take at bytes) rest
+    ∙ ap (λ z. text ++ z) (ap (λ z. take at bytes ++ z) e ∙ take-append-drop at bytes)
+
+-- a fault that may be reported when the first byte of `bytes` has been read
+pub fault_at : (d d' : ℕ) (text bytes : List ℕ) (b : ℕ) (f : GridFault) → d' ≡ d →
+    0 < length bytes → b ≡ get_or bytes 0 0 →
+    IsWordFault d' (ended_words ((text ++ take 0 bytes) ++ b ∷ [])) f →
+    IsWordFault d (ended_words (text ++ bytes)) f
+fault_at d d' text bytes b f same some at k =
+    let first = subst (λ z. IsWordFault d' (ended_words z) f) (more_bytes text bytes 0 b some at) k
+    in
+    subst (λ e. IsWordFault e (ended_words (text ++ bytes)) f) same
+    (subst (λ z. IsWordFault d' (ended_words z) f) (same_whole text bytes (drop 1 bytes) 1 refl)
+    (fault_further d' (text ++ take 1 bytes) (drop 1 bytes) f first))

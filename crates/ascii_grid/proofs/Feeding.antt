@@ -7,7 +7,7 @@ use Rattle.std.specs.Option.{option_or}
 use Rattle.std.proofs.lemmas.Bool.{cases_lt, le-leb, lt-leb}
 use Rattle.std.proofs.lemmas.Option.{MatchOption-at_none, MatchOption-at_some}
 use Rattle.std.proofs.lemmas.Result.{MatchResult-weaker}
-use Rattle.std.proofs.lemmas.List.{append-nil, append_assoc, length-append, length-take, take_all, take-append-le, take-append-drop}
+use Rattle.std.proofs.lemmas.List.{append-nil, length-append, length-take, take_all, take-append-le}
 use Rattle.std.proofs.Math.Seq.{take-append-add}
 use Rattle.terrain.specs.Words.{Word, words, ended_words}
 use Rattle.terrain.specs.Raster.{Raster, IsLawful}
@@ -21,6 +21,7 @@ use Rattle.ascii_grid.specs.declared.tokenizer.Tokenizer.{Tokenizer}
 use Rattle.ascii_grid.proofs.Judging.{option_or-none, or_none}
 use Rattle.ascii_grid.proofs.AddedWords.{judged_none, reported_further}
 use Rattle.ascii_grid.proofs.Stays.{ended-more, ended-words, words_fault-more, asks-more}
+use Rattle.ascii_grid.proofs.Ending.{same_whole}
 use Rattle.ascii_grid.proofs.Spelled.{lawful_words}
 
 -- ---- texts of few and of many bytes, and faults that stay
@@ -219,32 +220,25 @@ answered_more r text more f e h =
 
 pub fed_fault : (r : Reader) (text piece : List ℕ) (within : ℕ) (f : GridFault) →
     within ≡ min (length piece) (most_bytes - r.count) → r.fault ≡ None → WasFed r text →
-    ((t : List ℕ) → HasWords r.words t → (n : ℕ) × (n ≤ length (take within piece))
-    × IsWordFault r.words.builder.scale (ended_words (t ++ take n (take within piece))) f) →
+    ((t : List ℕ) → HasWords r.words t →
+    IsWordFault r.words.builder.scale (ended_words (t ++ take within piece)) f) →
     IsRefusalSoFar r.words.builder.scale (text ++ piece) f
 fed_fault r text piece within f cut none h fault =
     let k = reading r text none h in
-    let part = take within piece in
-    let at = fault text k.words_of in
-    let size : length (text ++ take at.0 part) ≤ most_bytes = omega (
+    let front = text ++ take within piece in
+    let short : length front ≤ most_bytes = omega (
       arith,
       cut,
       k.size,
       k.short,
-      at.1,
-      length-append text (take at.0 part),
-      length-take at.0 part,
+      length-append text (take within piece),
       length-take within piece,
     ) in
-    let whole : piece ≡ take at.0 part ++ (drop at.0 part ++ drop within piece) =
-    sym (take-append-drop within piece)
-    ∙ ap (λ z. z ++ drop within piece) (sym (take-append-drop at.0 part))
-    ∙ append_assoc (take at.0 part) (drop at.0 part) (drop within piece) in
-    let more = ap (λ z. text ++ z) whole
-    ∙ sym (append_assoc text (take at.0 part) (drop at.0 part ++ drop within piece)) in
-    subst (λ t. IsRefusalSoFar r.words.builder.scale t f) (sym more)
-    (refusal_stays r.words.builder.scale (text ++ take at.0 part) (drop at.0 part
-    ++ drop within piece) f (refused r.words.builder.scale (text ++ take at.0 part) f size at.2))
+    let whole : front ++ drop within piece ≡ text ++ piece =
+    same_whole text piece (drop within piece) within refl in
+    subst (λ t. IsRefusalSoFar r.words.builder.scale t f) whole (refusal_stays
+    r.words.builder.scale front (drop within piece) f
+    (refused r.words.builder.scale front f short (fault text k.words_of)))
 
 -- a text that a piece makes too long has the fault `TooLong`, if its first 2^29 bytes have none
 pub fed_long : (r : Reader) (p : Tokenizer) (text piece : List ℕ) (within : ℕ) →
@@ -263,27 +257,20 @@ fed_long r p text piece within cut none h over next =
     in_time ∙ read_none p (text ++ take within piece) (next text k.words_of))
 
 -- after a piece that fits and has no fault, the reader has read the text and the piece
-pub fed_all : (r r' : Reader) (text piece : List ℕ) →
-    r.fault ≡ None → WasFed r text → length piece ≤ most_bytes - r.count →
-    ((t : List ℕ) → HasWords r.words t → HasWords r'.words (t ++ piece)) → r'.words.builder.scale
-    ≡ r'.scale → r'.count ≡ r.count + length piece → IsReading r' (text ++ piece)
-fed_all r r' text piece none h few next scale count =
-    let k = reading r text none h in
-    let size : length (text ++ piece) ≡ length text + length piece = length-append text piece in
-    record {
-      words_of = next text k.words_of;
-      same_scale = scale;
-      size = omega (arith, size, count, k.size);
-      short = omega (arith, size, k.size, k.short, few);
-    }
-
 pub fed_whole : (r r' : Reader) (text piece : List ℕ) (within : ℕ) → within
     ≡ min (length piece) (most_bytes - r.count) → r.fault ≡ None → WasFed r text → length piece
     ≤ within → ((t : List ℕ) → HasWords r.words t → HasWords r'.words (t ++ take within piece)) →
     r'.words.builder.scale ≡ r'.scale → r'.count ≡ r.count + within → IsReading r' (text ++ piece)
 fed_whole r r' text piece within cut none h all next scale count =
-    fed_all r r' text piece none h (omega (arith, cut, all)) (λ t was. subst (λ z. HasWords r'.words
-    (t ++ z)) (take_all within piece all) (next t was)) scale (omega (arith, cut, all, count))
+    let k = reading r text none h in
+    let size : length (text ++ piece) ≡ length text + length piece = length-append text piece in
+    record {
+      words_of =
+          subst (λ z. HasWords r'.words (text ++ z)) (take_all within piece all) (next text k.words_of);
+      same_scale = scale;
+      size = omega (arith, size, cut, all, count, k.size);
+      short = omega (arith, size, cut, all, k.size, k.short);
+    }
 
 pub faultless : (r : Reader) (text : List ℕ) → IsReading r text → fault_so_far r.scale text ≡ None
 faultless r text h = rw (← h.same_scale) (few_so_far r.words.builder.scale text h.short
@@ -311,19 +298,3 @@ Feeds-taken a b piece r scale taken fault again = record {
   fault = fault;
   again = again;
 }
-
-pub Feeds-none : (r : Reader) → r.fault ≡ None → Feeds r r [] (Ok (tt {0}))
-Feeds-none r none = Feeds-taken r r [] (Ok tt) refl (λ text h. rw append-nil h) none
-    (λ f e. absurd (let no : None ≡ Some f = sym none ∙ e in cc))
-
-pub Feeds-more : {T : Type 0} (a b c : Reader) (front piece : List ℕ) (r : Result T GridFault) →
-    Feeds a b front (Ok (tt {0})) → Feeds b c piece r → Feeds a c (front ++ piece) r
-Feeds-more a b c front piece r h k = Feeds-taken a c (front ++ piece) r (k.scale ∙ h.scale)
-    (λ text was. rw (← append_assoc text front piece) (k.taken (text ++ front) (h.taken text was)))
-    k.fault (λ f e. absurd (let no = h.again f e in cc))
-
-pub Feeds-stopped : {T : Type 0} (a b : Reader) (front more : List ℕ) (f : GridFault) →
-    Feeds {T = T} a b front (Err f) → Feeds {T = T} a b (front ++ more) (Err f)
-Feeds-stopped a b front more f h = Feeds-taken a b (front ++ more) (Err f) h.scale (λ text was.
-    rw (← append_assoc text front more)
-    (answered_more b (text ++ front) more f h.fault (h.taken text was))) h.fault h.again

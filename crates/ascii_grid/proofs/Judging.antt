@@ -1,6 +1,6 @@
 -- Finds the header, heights and first fault of words that begin with pairs of key and value, and
 -- the slots that the pairs fill.
-use Rattle.std.proofs.Common.{◌≡◌, ℕ, ◌+◌, Bool, true, false, ◌||◌, cond, List, [], ◌∷◌, ◌++◌, length, Option, None, Some, arith, refl, ap, sym, ◌∙◌}
+use Rattle.std.proofs.Common.{◌≡◌, ℕ, ◌+◌, Bool, true, false, ◌||◌, cond, List, [], ◌∷◌, ◌++◌, length, Option, None, Some, arith, refl, ap, sym, suc, ◌∙◌}
 use Rattle.std.specs.Prelude.{find, is_some, unwrap_or, option_map}
 use Rattle.std.specs.Option.{option_or}
 use Rattle.std.specs.List.{list_any, list_all}
@@ -255,22 +255,16 @@ words_fault-heights d ps hs keys none h =
     words_fault-flat d ps hs [] hs keys none (words-begun hs h).0 (words-begun hs h).1
     ∙ ap (λ z. heights_fault d z 0 hs) (append-nil (flat ps))
 
-pub heights_fault-append : (d : ℕ) (header : List Word) (place : ℕ) (hs more : List Word) →
-    heights_fault d header place (hs ++ more)
-    ≡ option_or (heights_fault d header place hs) (heights_fault d header (place + length hs) more)
-heights_fault-append d header place [] more = ap (λ n. heights_fault d header n more) (omega arith)
-heights_fault-append d header place (x ∷ hs) more =
-    ap (option_or (height_fault d header place x))
-    (heights_fault-append d header (place + 1) hs more)
-    ∙ sym (option_or-assoc (height_fault d header place x) (heights_fault d header (place + 1) hs)
-    (heights_fault d header (place + 1 + length hs) more))
-    ∙ ap (λ n. option_or (option_or (height_fault d header place x)
-    (heights_fault d header (place + 1) hs)) (heights_fault d header n more)) (omega arith)
-
 pub heights_fault-push : (d : ℕ) (header : List Word) (place : ℕ) (hs : List Word) (w : Word) →
     heights_fault d header place (hs ++ w ∷ [])
     ≡ option_or (heights_fault d header place hs) (height_fault d header (place + length hs) w)
-heights_fault-push d header place hs w =
-    heights_fault-append d header place hs (w ∷ [])
-    ∙ ap (option_or (heights_fault d header place hs))
-    (option_or-none (height_fault d header (place + length hs) w))
+heights_fault-push d header place [] w =
+    option_or-none (height_fault d header place w)
+    ∙ ap (λ n. height_fault d header n w) (omega arith)
+heights_fault-push d header place (x ∷ hs) w =
+    ap (option_or (height_fault d header place x))
+    (heights_fault-push d header (place + 1) hs w
+    ∙ ap (λ n. option_or (heights_fault d header (place + 1) hs) (height_fault d header n w))
+    (let e : place + 1 + length hs ≡ place + (suc (length hs)) = omega arith in e))
+    ∙ sym (option_or-assoc (height_fault d header place x) (heights_fault d header (place + 1) hs)
+    (height_fault d header (place + suc (length hs)) w))

@@ -13,9 +13,7 @@ pub mod Ending
 pub mod Spelled
 pub mod Feeding
 pub mod Moved
-pub mod Taking
 pub mod Pieces
-pub mod HeightLists
 -- the written text, and its length
 pub mod Writing
 pub mod Decimals

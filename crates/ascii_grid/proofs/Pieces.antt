@@ -1,144 +1,154 @@
--- If the pieces of a text are read from a device and fed to a reader (`ReadsPiece`), the result for
--- all pieces together is that of reading the grid (`ReadsGrid`).
-use Rattle.std.proofs.Common.{arith, ◌≡◌, ◌≢◌, ◌≤◌, ◌-◌, ◌+◌, ◌++◌, ℕ, List, Option, None, Some, Ok, Err, Result, refl, sym, subst, ◌∙◌}
+-- A grid is read from a device in pieces. Before each piece (`HasFedSoFar`), the reader was fed all
+-- bytes read so far. The result for all pieces together is that of reading the grid (`ReadsGrid`).
+use Rattle.std.proofs.Common.{arith, ◌≡◌, ◌≢◌, ◌≤◌, ◌+◌, ◌++◌, ℕ, List, Option, None, Some, Ok, Err, Result, length, take, refl, sym, ap, subst, ◌∙◌, inl, inr}
 use Rattle.std.specs.Prelude.{IfOk}
-use Rattle.std.proofs.lemmas.List.{length-append}
+use Rattle.std.specs.Io.KnownBytes.{Consumes, IsAtEnd, Keeps}
+use Rattle.std.proofs.lemmas.Bool.{cases_lt}
+use Rattle.std.proofs.lemmas.List.{append-nil, length-append, length-take-le}
+use Rattle.std.proofs.lemmas.Option.{same_Some}
 use Rattle.std.proofs.lemmas.Result.{IfOk-weaker}
 use Rattle.terrain.specs.Raster.{Raster}
-use Rattle.ascii_grid.specs.Device.{Device}
-use Rattle.ascii_grid.specs.GridText.{IsGridText, IsRefusal, fault_so_far}
-use Rattle.ascii_grid.specs.Input.{ReadsGrid, ReadsPiece, Takes}
+use Rattle.terrain.specs.Words.{ended_words}
+use Rattle.ascii_grid.specs.Device.{Device, HasRead, Moves}
+use Rattle.ascii_grid.specs.GridText.{IsGridText, IsRefusal, fault_so_far, most_bytes, words_fault}
+use Rattle.ascii_grid.specs.Input.{ReadsGrid}
 use Rattle.ascii_grid.specs.Reader.{Reader, WasFed, Feeds}
 use Rattle.ascii_grid.specs.declared.fault.GridFault.{GridFault}
+use Rattle.ascii_grid.specs.declared.fault.GridFault.TheVariants.{TooLong}
 use Rattle.ascii_grid.specs.declared.input.InputFault.{InputFault}
 use Rattle.ascii_grid.specs.declared.input.InputFault.TheVariants.{Grid, Read}
-use Rattle.ascii_grid.proofs.Feeding.{stays}
-use Rattle.ascii_grid.proofs.Moved.{read_more}
-use Rattle.ascii_grid.proofs.Taking.{HasFedSoFar, not_too_long, consumed_front, consumed_end}
+use Rattle.ascii_grid.proofs.Judging.{or_none}
+use Rattle.ascii_grid.proofs.Feeding.{many_so_far, stays}
+use Rattle.ascii_grid.proofs.Moved.{read_more, read_some, read_kept}
+
+-- `taken` bytes were read and fed to the reader, without a fault or a failure so far
+pub record HasFedSoFar {R : Type 0} (remaining : R → Option (List ℕ)) (first now : Device R)
+    (scale : ℕ) (r : Reader) (taken : ℕ) : Type 0 where
+  pub text : List ℕ
+  pub fed : WasFed r text
+  pub faultless : fault_so_far scale text ≡ None
+  pub scale_kept : r.scale ≡ scale
+  pub size : length text ≡ taken
+  pub room : taken ≤ 536870912
+  pub count : now.failures ≡ first.failures
+  pub read : HasRead remaining first now text
+
+not_too_long : (d : ℕ) (text : List ℕ) → fault_so_far d text ≡ None → length text ≤ most_bytes
+not_too_long d text none =
+    elim (cases_lt most_bytes (length text)) [
+      | inl far ↦ let long = (or_none (words_fault d (ended_words (take most_bytes text)))
+          (Some TooLong) (sym (many_so_far d text far) ∙ none)).1 in absurd (cc)
+      | inr near ↦ near
+    ]
+
+consumed_front : (a b : Option (List ℕ)) (text front : List ℕ) → a ≡ Some text →
+    Consumes a b front → (rest : List ℕ) × (text ≡ front ++ rest)
+consumed_front None b text front e h = absurd (cc)
+consumed_front (Some xs) None text front e h = absurd h
+consumed_front (Some xs) (Some ys) text front e h = (ys, sym (same_Some xs text e) ∙ h)
+
+pub consumed_end : (a b : Option (List ℕ)) (text front : List ℕ) → a ≡ Some text →
+    Consumes a b front → IsAtEnd b → front ≡ text
+consumed_end None b text front e h end = absurd (cc)
+consumed_end (Some xs) None text front e h end = absurd h
+consumed_end (Some xs) (Some ys) text front e h end =
+    sym (sym (same_Some xs text e) ∙ h ∙ ap (λ z. front ++ z) end ∙ append-nil front)
 
 same_grid_fault : (f g : GridFault) →
     ◌≡◌ {A = Result Raster InputFault} (Err (Grid f)) (Err (Grid g)) → f ≡ g
 same_grid_fault f g e = cc
 
-still_faultless :
-    {R : Type 0} (remaining : R → Option (List ℕ)) (first old : Device R) (scale taken : ℕ)
-    (r r' : Reader) (bytes : List ℕ) (held : HasFedSoFar remaining first old scale r taken) →
-    Feeds r r' bytes (Ok (tt {0})) → fault_so_far scale (held.text ++ bytes) ≡ None
-still_faultless remaining first old scale taken r r' bytes held feeds =
-    subst (λ (d : ℕ). fault_so_far d (held.text ++ bytes) ≡ None) held.scale_kept
-    (feeds.ok held.text held.fed)
+module _ {R : Type 0} (remaining : R → Option (List ℕ)) (first old new : Device R) (scale taken : ℕ)
+    (r : Reader) (held : HasFedSoFar remaining first old scale r taken) where
+  module _ (r' : Reader) (piece : List ℕ) (n : ℕ) (within : n ≤ length piece)
+      (known : Consumes (remaining old.device) (remaining new.device) (take n piece))
+      (moved : Moves old.moved new.moved n) (same : new.failures ≡ old.failures) where
+    abbrev text : List ℕ
+    text = held.text ++ take n piece
 
-pub piece_taken : {R : Type 0} (remaining : R → Option (List ℕ)) (first old new : Device R)
-    (scale taken room n : ℕ) (r r' : Reader) → HasFedSoFar remaining first old scale r taken →
-    ReadsPiece remaining old new r r' room (Ok (Some n)) →
-    HasFedSoFar remaining first new scale r' (taken + n)
-piece_taken remaining first old new scale taken room n r r' held step =
-    let feeds = subst (λ (z : Result (Unit {0}) GridFault).
-    Feeds r r' step.bytes z) step.answered.0 step.feeds in
-    let text : List ℕ = held.text ++ step.bytes in
-    let faultless = still_faultless remaining first old scale taken r r' step.bytes held feeds in
-    let short = not_too_long scale text faultless in
-    let sizes = length-append held.text step.bytes in
-    record {
-      text = text;
-      fed = feeds.taken held.text held.fed;
-      faultless = faultless;
-      scale_kept = feeds.scale ∙ held.scale_kept;
-      size = omega (arith, sizes, held.size, step.answered.2);
-      room = omega (arith, sizes, held.size, step.answered.2, short);
-      count = step.answered.1 ∙ held.count;
-      read = read_more _ _ _ _ _ _ held.read step.read;
-    }
+    read : HasRead remaining first new text
+    read = read_more remaining first old new held.text (take n piece) held.read
+        (read_some remaining old new n piece within known moved)
 
-pub piece_sound : {R : Type 0} (remaining : R → Option (List ℕ)) (old new : Device R) (room n : ℕ)
-    (r r' : Reader) → ReadsPiece remaining old new r r' room (Ok (Some n)) → r'.fault ≡ None
-piece_sound remaining old new room n r r' step =
-    (subst (λ (z : Result (Unit {0}) GridFault). Feeds r r' step.bytes z)
-    step.answered.0 step.feeds).fault
+    size : length text ≡ taken + n
+    size = omega (
+      arith,
+      length-append held.text (take n piece),
+      length-take-le n piece within,
+      held.size,
+    )
 
--- let `taken` bytes be read before. If the room for one more piece is at most 2^29 + 1 - `taken`,
--- all bytes with the piece are at most 2^29 + 1 (`Takes`)
-abbrev takes : {R : Type 0} (remaining : R → Option (List ℕ)) (first old new : Device R)
-    (scale taken room : ℕ) (r r' : Reader) (result : Result (Option ℕ) InputFault) →
-    HasFedSoFar remaining first old scale r taken → ReadsPiece remaining old new r r' room result →
-    room ≤ 536870913 - taken → Takes remaining first new
-takes remaining first old new scale taken room r r' result held step fits = record {
-  bytes = held.text ++ step.bytes;
-  read = read_more remaining first old new held.text step.bytes held.read step.read;
-  few = omega (arith, length-append held.text step.bytes, held.size, held.room, step.within, fits);
-}
+    -- the first `n` bytes of `piece` were read and fed without a fault
+    pub piece_fed : Feeds r r' (take n piece) (Ok (tt {0})) →
+        HasFedSoFar remaining first new scale r' (taken + n)
+    piece_fed feeds =
+        let faultless : fault_so_far scale text ≡ None =
+        rw held.scale_kept at (feeds.ok held.text held.fed) in
+        record {
+          text = text;
+          fed = feeds.taken held.text held.fed;
+          faultless = faultless;
+          scale_kept = feeds.scale ∙ held.scale_kept;
+          size = size;
+          room = omega (arith, size, not_too_long scale text faultless);
+          count = same ∙ held.count;
+          read = read;
+        }
 
--- at the end of the text, a result that meets what `finish_grid` ensures meets `ReadsGrid`
-pub pieces_ended : {R : Type 0} (remaining : R → Option (List ℕ)) (first old new : Device R)
-    (scale taken room : ℕ) (r r' : Reader) (result : Result Raster InputFault) →
-    HasFedSoFar remaining first old scale r taken →
-    ReadsPiece remaining old new r r' room (Ok None) → room ≤ 536870913 - taken →
-    ((text : List ℕ) → WasFed r' text → IfOk result (λ g. IsGridText r'.scale text g)) →
-    ((text : List ℕ) (f : GridFault) → WasFed r' text → result ≡ Err (Grid f) →
-    IsRefusal r'.scale text f) → result ≢ Err Read → ReadsGrid remaining scale first new result
-pieces_ended remaining first old new scale taken room r r' result held step fits grid fault sound =
-    let feeds = subst (λ (z : Result (Unit {0}) GridFault).
-    Feeds r r' step.bytes z) step.answered.0 step.feeds in
-    let took = takes remaining first old new scale taken room r r' (Ok None) held step fits in
-    let scale_kept : r'.scale ≡ scale = feeds.scale ∙ held.scale_kept in
-    let all : WasFed r' took.bytes = feeds.taken held.text held.fed in
-    let made : IfOk result (λ g. IsGridText scale took.bytes g) =
-    rw scale_kept at (grid took.bytes all) in
-    record {
-      taken = took;
-      grid = IfOk-weaker result (λ g. IsGridText scale took.bytes g) _ (λ g is.
-          (is, step.answered.2)) made;
-      fault = λ text f reported is.
-          let whole = subst (λ (z : List ℕ). WasFed r' z)
-          (consumed_end _ _ text took.bytes reported took.read.known step.answered.2) all in
-          rw scale_kept at (fault text f whole is);
-      read = λ bad. absurd (sound bad);
-      sound = λ not. step.answered.1 ∙ held.count;
-      clean = λ bad. absurd (sound bad);
-    }
-
-pub piece_refused : {R : Type 0} (remaining : R → Option (List ℕ))
-    (first old new : Device R) (scale taken room : ℕ) (r r' : Reader) (f : GridFault) →
-    HasFedSoFar remaining first old scale r taken → ReadsPiece remaining old new r r' room
-    (Err (Grid f)) → room ≤ 536870913 - taken → ReadsGrid remaining scale first new (Err (Grid f))
-piece_refused remaining first old new scale taken room r r' f held step fits =
-    let feeds = subst (λ (z : Result (Unit {0}) GridFault).
-    Feeds r r' step.bytes z) step.answered.0 step.feeds in
-    let took = takes remaining first old new scale taken room r r' (Err (Grid f)) held step fits in
-    record {
-      taken = took;
+    -- they were read, and the fault `f` was found
+    pub piece_refused : (f : GridFault) → Feeds {T = Unit {0}} r r' (take n piece) (Err f) →
+        taken + n ≤ 536870913 → ReadsGrid remaining scale first new (Err (Grid f))
+    piece_refused f feeds few = record {
+      taken = record { bytes = text; read = read; few = omega (arith, size, few) };
       grid = tt;
-      fault = λ text g reported is.
-          let more = consumed_front _ _ text took.bytes reported took.read.known in
-          let whole = subst (λ (z : List ℕ). IsRefusal r.scale z f) (sym more.1)
-          (stays _ took.bytes more.0 f (feeds.err held.text held.fed)) in
-          rw (held.scale_kept, same_grid_fault _ _ is) at whole;
+      fault = λ whole g reported is.
+          let more = consumed_front _ _ whole text reported read.known in
+          let refused = subst (λ (z : List ℕ). IsRefusal r.scale z f) (sym more.1)
+          (stays _ text more.0 f (feeds.err held.text held.fed)) in
+          rw (held.scale_kept, same_grid_fault _ _ is) at refused;
       read = λ bad. absurd (cc);
-      sound = λ not. step.answered.1 ∙ held.count;
+      sound = λ not. same ∙ held.count;
       clean = λ bad. absurd (cc);
     }
 
-pub piece_failed : {R : Type 0} (remaining : R → Option (List ℕ)) (first old new : Device R)
-    (scale taken room : ℕ) (r r' : Reader) → HasFedSoFar remaining first old scale r taken →
-    ReadsPiece remaining old new r r' room (Err Read) → room ≤ 536870913 - taken →
-    ReadsGrid remaining scale first new (Err Read)
-piece_failed remaining first old new scale taken room r r' held step fits =
-    let feeds = subst (λ (z : Result (Unit {0}) GridFault).
-    Feeds r r' step.bytes z) step.answered.0 step.feeds in
-    record {
-      taken = takes remaining first old new scale taken room r r' (Err Read) held step fits;
-      grid = tt;
-      fault = λ text g reported is. absurd (cc);
-      read = λ bad. omega (arith, step.answered.1, held.count);
-      sound = λ not. absurd (not refl);
-      clean = λ bad. still_faultless remaining first old scale taken r r' step.bytes held feeds;
-    }
+  -- a read failed
+  pub read_failed : Keeps (remaining old.device) (remaining new.device) → new.moved ≡ old.moved →
+      new.failures ≡ old.failures + 1 → ReadsGrid remaining scale first new (Err Read)
+  read_failed kept same more = record {
+    taken = record {
+      bytes = held.text;
+      read = read_kept _ _ _ _ _ held.read kept same;
+      few = omega (arith, held.size, held.room);
+    };
+    grid = tt;
+    fault = λ text g reported is. absurd (cc);
+    read = λ bad. omega (arith, more, held.count);
+    sound = λ not. absurd (not refl);
+    clean = λ bad. held.faultless;
+  }
 
-pub piece_stopped : {R : Type 0} (remaining : R → Option (List ℕ))
-    (first old new : Device R) (scale taken room : ℕ) (r r' : Reader) (e : InputFault) →
-    HasFedSoFar remaining first old scale r taken → ReadsPiece remaining old new r r' room (Err e) →
-    room ≤ 536870913 - taken → ReadsGrid remaining scale first new (Err e)
-piece_stopped remaining first old new scale taken room r r' (Grid f) held step fits =
-    piece_refused remaining first old new scale taken room r r' f held step fits
-piece_stopped remaining first old new scale taken room r r' Read held step fits =
-    piece_failed remaining first old new scale taken room r r' held step fits
+-- at the end of the text, a result that meets what `finish_grid` ensures meets `ReadsGrid`
+pub pieces_ended : {R : Type 0} (remaining : R → Option (List ℕ)) (first now : Device R)
+    (scale taken : ℕ) (r : Reader) (result : Result Raster InputFault) →
+    HasFedSoFar remaining first now scale r taken → IsAtEnd (remaining now.device) →
+    ((text : List ℕ) → WasFed r text → IfOk result (λ g. IsGridText r.scale text g)) →
+    ((text : List ℕ) (f : GridFault) → WasFed r text → result ≡ Err (Grid f) →
+    IsRefusal r.scale text f) → result ≢ Err Read → ReadsGrid remaining scale first now result
+pieces_ended remaining first now scale taken r result held end grid fault sound =
+    let made : IfOk result (λ g. IsGridText scale held.text g) =
+    rw held.scale_kept at (grid held.text held.fed) in
+    record {
+      taken = record {
+        bytes = held.text;
+        read = held.read;
+        few = omega (arith, held.size, held.room);
+      };
+      grid = IfOk-weaker result (λ g. IsGridText scale held.text g) _ (λ g is. (is, end)) made;
+      fault = λ text f reported is.
+          let whole = subst (λ (z : List ℕ). WasFed r z)
+          (consumed_end _ _ text held.text reported held.read.known end) held.fed in
+          rw held.scale_kept at (fault text f whole is);
+      read = λ bad. absurd (sound bad);
+      sound = λ not. held.count;
+      clean = λ bad. absurd (sound bad);
+    }

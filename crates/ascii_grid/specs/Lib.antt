@@ -1,7 +1,6 @@
 pub mod Device
 pub mod GridText
 pub mod Header
-pub mod HeightList
 pub mod Input
 pub mod Meaning
 pub mod Reader

@@ -2,7 +2,7 @@
 -- Also the faults that may be reported for words.
 -- Source: this project.
 -- Public.
-use Rattle.std.specs.Prelude.{◌≡◌, ℕ, Bool, true, false, List, [], ◌∷◌, ◌++◌, map, filter, find, take, Option, None, Some, option_map}
+use Rattle.std.specs.Prelude.{◌≡◌, ◌≤◌, ℕ, Bool, true, false, List, [], ◌∷◌, ◌++◌, map, filter, find, take, Option, None, Some, option_map}
 use Rattle.std.specs.List.{slice_split, list_all}
 use Rattle.terrain.specs.Words.{Word, is_word, is_separator, ended_words}
 use Rattle.terrain.specs.Decimal.{number_of, scaled_value}
@@ -119,3 +119,11 @@ pub record HasWords (p : Tokenizer) (text : List ℕ) : Type 0 where
   pub parted : IsParted text ended last
   pub judged : HasAdded p.builder ended
   pub front : p.word ≡ take KEPT_BYTES last
+
+-- A height has ended, and no byte of the next word was read.
+abbrev pub IsBetweenHeights : Tokenizer → Type 0
+IsBetweenHeights p = (p.builder.expected ≡ AtHeights) × (p.word ≡ [])
+
+-- `scale` is the scale of the heights, and at most 6.
+abbrev pub IsScaled : ℕ → Tokenizer → Type 0
+IsScaled scale p = (scale ≡ p.builder.scale) × (scale ≤ 6)

@@ -1,22 +1,19 @@
 //! Checks the words of a text in their order, and stores the header and the cells that they give.
 //!
 //! `GridBuilder::add_word` takes the next word. A key names a slot, which is the room for one of
-//! six header values; a value fills the slot; a height adds a cell. `add_height_value` takes a
-//! height's parsed value, `add_cells` the cells that a job parsed; `finish` returns the grid.
-ghost use Rattle.std.specs.Prelude.{◌↔◌, IsTrue, ◌≡◌, ◌≤◌, ◌<◌, ◌⊎◌, ◌++◌, [], ◌∷◌, List, map, length, false, Option, Some, None, Err, IfOk, MatchResult};
+//! six header values; a value fills the slot; a height adds a cell, by `add_cell`. `finish`
+//! returns the grid.
+ghost use Rattle.std.specs.Prelude.{◌↔◌, IsTrue, ◌≡◌, ◌≤◌, ◌<◌, ◌⊎◌, ◌++◌, [], ◌∷◌, List, length, Option, None, Err, IfOk, IfErr, MatchResult};
 ghost use Rattle.terrain.specs.Words.{Word};
 ghost use Rattle.terrain.specs.Decimal.{scaled_value};
 ghost use Rattle.ascii_grid.specs.Header.{missing_fault};
-ghost use Rattle.ascii_grid.specs.HeightList.{IsHeightWord};
-ghost use Rattle.std.specs.List.{All};
-ghost use Rattle.ascii_grid.specs.GridText.{spelled_cell, height_fault, end_fault, grid_of};
+ghost use Rattle.ascii_grid.specs.GridText.{height_fault, end_fault, grid_of};
 ghost use Rattle.ascii_grid.specs.Meaning.{meaning_of};
 ghost use Rattle.ascii_grid.specs.Reading.{flat, IsHeaderOf, HasReadHeights, HasAdded, IsWordFault, IsEndFault};
 
-use crate::cell::{Meaning, cell, value_cell};
+use crate::cell::{Meaning, cell};
 use crate::fault::{GridFault, Key};
 use crate::header::Header;
-use crate::heights::HeightParser;
 use crate::key::{begins_with_letter, names_centre};
 use decimals::scaled_value;
 use std::alloc::Global;
@@ -43,7 +40,7 @@ pub(crate) struct GridBuilder {
     // Set when the heights begin. `nodata_value` is the scaled value of `nodata`.
     wanted: u32,
     nodata: Word,
-    nodata_value: Option<i64>,
+    pub(crate) nodata_value: Option<i64>,
     cells: Vec<Cell>,
 }
 
@@ -163,24 +160,11 @@ impl GridBuilder {
         self.add_cell(meaning)
     }
 
-    /// Adds the cell of a word with the scaled value `value`, or returns the word's fault.
+    /// Adds the cell that a word means, or returns the word's fault and changes nothing.
     #[inline(always)]
-    pub(crate) fn add_height_value(&mut self, value: i64) -> Result<(), GridFault>
+    pub(crate) fn add_cell(&mut self, meaning: Meaning) -> Result<(), GridFault>
         ensures kept { self.new ≡ record self.old { cells = self.new.cells } }
-        ensures word { (ps : List (Word × Word)) (hs : List Word) (word : Word) →
-            HasReadHeights self.old ps hs →
-            length word ≤ MOST_WORD_BYTES → scaled_value self.old.scale word ≡ Some value →
-            MatchResult result (λ _. HasReadHeights self.new ps (hs ++ word ∷ []))
-            (λ f. (f ≡ GridFault.Memory)
-            ⊎ (height_fault self.old.scale (flat ps) (length hs) word ≡ Some f)) }
-    {
-        let meaning = value_cell(value, self.nodata_value);
-        self.add_cell(meaning)
-    }
-
-    #[inline(always)]
-    fn add_cell(&mut self, meaning: Meaning) -> Result<(), GridFault>
-        ensures kept { self.new ≡ record self.old { cells = self.new.cells } }
+        ensures refused { IfErr result (λ _. self.new ≡ self.old) }
         ensures word { (ps : List (Word × Word)) (hs : List Word) (word : Word) →
             HasReadHeights self.old ps hs →
             length word ≤ MOST_WORD_BYTES →
@@ -196,44 +180,12 @@ impl GridBuilder {
         let Meaning::Cell(cell) = meaning else {
             return Err(GridFault::BadHeight(place as u32));
         };
-        // Never fails, since the capacity is at least `wanted`; that is not proved here.
-        if self.cells.push(cell).is_err() {
+        // Never true, since the capacity is at least `wanted`; that is not proved here.
+        if place >= self.cells.capacity() {
             return Err(GridFault::Memory);
         }
+        self.cells.push_reserved(cell);
         Ok(())
-    }
-
-    /// Returns the scale and the NODATA word, for jobs that parse heights.
-    pub(crate) fn height_parser(&self) -> HeightParser
-        requires { self.now.scale ≤ 6 }
-        ensures { result ≡ record { scale = self.now.scale; nodata = self.now.nodata } }
-    {
-        HeightParser::new(self.scale, self.nodata.copy())
-    }
-
-    /// Adds the cells of the next heights. Returns whether it added them.
-    ///
-    /// It adds none if `parser` has another scale or NODATA word, or if the cells are too many.
-    pub(crate) fn add_cells(&mut self, parser: &HeightParser, cells: &[Cell]) -> bool
-        ensures kept { self.new ≡ record self.old { cells = self.new.cells } }
-        ensures refused { result ≡ false → self.new ≡ self.old }
-        ensures added { (ps : List (Word × Word)) (hs more : List Word) →
-            HasReadHeights self.old ps hs →
-            All (IsHeightWord parser.now) more →
-            cells.now ≡ map (spelled_cell parser.now.scale parser.now.nodata) more →
-            IsTrue result → HasReadHeights self.new ps (hs ++ more) }
-    {
-        // The capacity is at least `wanted`, but that is not proved here. The `min` shows that
-        // adding the cells cannot fail.
-        let most = (self.wanted as usize).min(self.cells.capacity());
-        let place = self.cells.len();
-        if place > most || cells.len() > most - place {
-            return false;
-        }
-        if !parser.has_settings(self.scale, self.nodata.as_bytes()) {
-            return false;
-        }
-        self.cells.extend_from_slice(cells).is_ok()
     }
 
     #[inline(always)]

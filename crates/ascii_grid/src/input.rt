@@ -1,6 +1,6 @@
 //! Reads a grid from a device, which is any reader of bytes, piece by piece.
-ghost use Rattle.std.specs.Prelude.{◌≡◌, ◌≢◌, ◌≤◌, ◌-◌, ◌^◌, ◌<◌, ℕ, List, length, None, Err, IfOk};
-ghost use Rattle.ascii_grid.specs.Input.{ReadsGrid, ReadsPiece, CanRead};
+ghost use Rattle.std.specs.Prelude.{◌≡◌, ◌≢◌, ◌≤◌, ◌-◌, ◌^◌, ◌<◌, ℕ, List, Err, IfOk};
+ghost use Rattle.ascii_grid.specs.Input.{ReadsGrid};
 ghost use Rattle.ascii_grid.specs.Reader.{WasFed};
 ghost use Rattle.ascii_grid.specs.GridText.{IsGridText, IsRefusal};
 
@@ -12,7 +12,7 @@ use std::io::Read;
 use terrain::Grid;
 
 /// The most bytes that one read of [`read_grid`] asks for.
-pub const PIECE_BYTES: usize = 4_096;
+const PIECE_BYTES: usize = 4_096;
 
 /// Why no grid was read.
 #[derive(Clone, Copy, Debug, PartialEq, Eq)]
@@ -25,7 +25,8 @@ pub enum InputFault {
 
 /// Reads a grid from a device, its heights in units of 10^-scale.
 ///
-/// Reads at most 2^29 + 1 bytes, in pieces of at most [`PIECE_BYTES`].
+/// Reads at most 2^29 + 1 bytes, in pieces of at most 4,096. Checks the words that end in a piece
+/// before it reads the next one.
 ///
 /// # Memory
 ///
@@ -44,82 +45,24 @@ pub fn read_grid<R: Read>(
     requires few { reader.old.failures < 2 ^ 64 - 1 }
     ensures { ReadsGrid R.remaining scale reader.old reader.new result }
 {
-    let mut piece = [0; PIECE_BYTES];
-    read_grid_by(
-        alloc,
-        scale,
-        reader,
-        &mut piece,
-        |grid_reader: &mut GridReader, reader: &mut Counted<R>, piece: &mut [u8]|
-            requires { CanRead grid_reader.now reader.now piece.now }
-            ensures { ReadsPiece R.remaining reader.old reader.new grid_reader.old grid_reader.new
-                (length piece.old) result }
-        { read_piece(grid_reader, reader, piece) },
-    )
-}
-
-/// Reads a grid from a device by calls of `read_next`, which reads into the buffer.
-///
-/// `read_next` feeds the bytes that it read to the [`GridReader`]. It returns how many it read, or
-/// `None` at the end of the text.
-///
-/// # Errors
-///
-/// Those of [`read_grid`].
-pub fn read_grid_by<
-    R: Read,
-    F: Fn(&mut GridReader, &mut Counted<R>, &mut [u8]) -> Result<Option<usize>, InputFault>,
->(
-    alloc: Global,
-    scale: u8,
-    reader: &mut Counted<R>,
-    buffer: &mut [u8],
-    read_next: F,
-) -> Result<Grid, InputFault>
-    requires scale { scale ≤ 6 }
-    requires few { reader.old.failures < 2 ^ 64 - 1 }
-    requires room { 0 < length buffer.old }
-    requires callable { (before : _) (device : _) (piece : _) →
-        CanRead before.now device.now piece.now → F.pre read_next before device piece }
-    requires reads { (before : _) (device : _) (piece : _) (r : _) (after : _) (left : _)
-        (full : _) →
-        F.post read_next before device piece r after left full →
-        ReadsPiece R.remaining device.now left.now before.now after.now (length piece.now) r }
-    ensures { ReadsGrid R.remaining scale reader.old reader.new result }
-{
     let mut grid_reader = GridReader::new(alloc, scale);
+    let mut buffer = [0; PIECE_BYTES];
     let mut taken = 0;
-    loop {
+    'pieces: loop {
         // One byte past the limit shows that a text is too long.
-        let room = buffer.len().min(MOST_TEXT_BYTES + 1 - taken);
-        match read_next(&mut grid_reader, reader, &mut buffer[..room]) {
-            Ok(Some(count)) => taken += count,
-            Ok(None) => return finish_grid(grid_reader),
-            Err(fault) => return Err(fault),
+        let room = PIECE_BYTES.min(MOST_TEXT_BYTES + 1 - taken);
+        let piece = &mut buffer[..room];
+        let Ok(count) = reader.read(piece) else {
+            return Err(InputFault::Read);
+        };
+        if let Err(fault) = grid_reader.feed(&piece[..count]) {
+            return Err(InputFault::Grid(fault));
         }
+        if count == 0 {
+            return finish_grid(grid_reader);
+        }
+        taken += count;
     }
-}
-
-/// Reads and feeds a piece. Returns its length, or `None` at the text's end.
-fn read_piece<R: Read>(
-    grid_reader: &mut GridReader,
-    reader: &mut Counted<R>,
-    piece: &mut [u8],
-) -> Result<Option<usize>, InputFault>
-    requires { CanRead grid_reader.old reader.old piece.old }
-    ensures { ReadsPiece R.remaining reader.old reader.new grid_reader.old grid_reader.new
-        (length piece.old) result }
-{
-    let Ok(count) = reader.read(piece) else {
-        return Err(InputFault::Read);
-    };
-    if let Err(fault) = grid_reader.feed(&piece[..count]) {
-        return Err(InputFault::Grid(fault));
-    }
-    if count == 0 {
-        return Ok(None);
-    }
-    Ok(Some(count))
 }
 
 fn finish_grid(grid_reader: GridReader) -> Result<Grid, InputFault>

@@ -13,7 +13,6 @@
 //! - `key`: the slot that a key word fills
 //! - `header`: the slots of a header
 //! - `cell`: the cell that a word spells
-//! - `heights`: parses heights without the text before them, for jobs
 //! - `write`: writes a map as text
 //! - `cell_text`: the text of one value
 //! - `page`: a byte buffer on the stack
@@ -28,7 +27,6 @@ mod cell_text;
 mod counted;
 mod fault;
 mod header;
-mod heights;
 mod input;
 mod key;
 pub mod laws;
@@ -38,11 +36,10 @@ mod reader;
 mod tokenizer;
 pub mod write;
 
-pub use counted::{Counted, ReadFailed, UncountedFailure, WriteFailed};
+pub use counted::{Counted, ReadFailed, WriteFailed};
 pub use drainage::Code;
 pub use fault::{GridFault, Key};
-pub use heights::HeightParser;
-pub use input::{InputFault, PIECE_BYTES, read_grid, read_grid_by};
+pub use input::{InputFault, read_grid};
 pub use page::Page;
 pub use read::read_text;
 pub use reader::{GridReader, MOST_TEXT_BYTES};
@@ -50,5 +47,4 @@ pub use terrain::{
     Anchor, Cell, Count, Frame, Grid, GridHeader, HIGHEST, Height, LOWEST, NoMemory, Place,
     SinkFault, Word,
 };
-pub use tokenizer::is_separator;
 pub use write::{write_codes, write_counts, write_framed_counts, write_heights};

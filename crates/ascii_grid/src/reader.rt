@@ -2,19 +2,15 @@
 //!
 //! A word's fault is returned once the word has ended, and again by later feeds and by `finish`.
 //! `tokenizer` splits the text into words.
-ghost use Rattle.std.specs.Prelude.{◌≡◌, ◌≤◌, [], ℕ, List, None, Some, Ok, Err, IfOk, IfErr, IfSome, OnSome, IsTrue, false};
-ghost use Rattle.terrain.specs.Words.{ended_words};
-ghost use Rattle.ascii_grid.specs.Header.{header_words, nodata_for};
+ghost use Rattle.std.specs.Prelude.{◌≡◌, ◌≤◌, [], ℕ, List, None, Some, Err, IfOk, IfErr};
 ghost use Rattle.ascii_grid.specs.GridText.{IsGridText, IsRefusal};
-ghost use Rattle.ascii_grid.specs.HeightList.{AreCells};
 ghost use Rattle.ascii_grid.specs.Reader.{WasFed, Feeds};
 
 use crate::fault::GridFault;
-use crate::heights::HeightParser;
 use crate::tokenizer::Tokenizer;
 use std::alloc::Global;
 use std::marker::Model;
-use terrain::{Cell, Grid};
+use terrain::Grid;
 
 /// The most bytes that a text may have: 2^29.
 pub const MOST_TEXT_BYTES: usize = 536_870_912;
@@ -98,60 +94,6 @@ impl GridReader {
             return Err(GridFault::TooLong);
         }
         Ok(())
-    }
-
-    /// Returns the parser with which jobs parse the next heights.
-    ///
-    /// `None` until the first height has ended, within a word, and after a fault.
-    pub fn height_parser(&self) -> Option<HeightParser>
-        ensures sound { OnSome result (self.now.fault ≡ None) }
-        ensures scale { IfSome result (λ parser. parser.scale ≡ self.now.scale) }
-        ensures nodata { (text : List ℕ) → WasFed self.now text →
-            IfSome result (λ parser. parser.nodata ≡ nodata_for (header_words (ended_words text))) }
-    {
-        if let Some(_) = self.fault {
-            return None;
-        }
-        self.words.height_parser()
-    }
-
-    /// Reads a piece of the text, which [`HeightParser::cells`] parsed into `cells`.
-    ///
-    /// Adds `cells` if the text's bytes and cells stay within their limits, and `parser` equals the
-    /// parser that [`height_parser`](Self::height_parser) returns now. Otherwise parses the piece.
-    ///
-    /// # Errors
-    ///
-    /// Those of [`feed`](Self::feed).
-    pub fn feed_cells(
-        &mut self,
-        parser: &HeightParser,
-        piece: &[u8],
-        cells: &[Cell],
-    ) -> Result<(), GridFault>
-        requires { AreCells parser.now piece.now cells.now }
-        ensures { Feeds self.old self.new piece.now result }
-    {
-        if self.take_cells(parser, piece, cells) {
-            return Ok(());
-        }
-        self.feed(piece)
-    }
-
-    /// Adds the cells of a piece, or returns false and changes nothing.
-    fn take_cells(&mut self, parser: &HeightParser, piece: &[u8], cells: &[Cell]) -> bool
-        requires { AreCells parser.now piece.now cells.now }
-        ensures taken { IsTrue result → Feeds self.old self.new piece.now (Ok (tt {0})) }
-        ensures refused { result ≡ false → self.new ≡ self.old }
-    {
-        if let Some(_) = self.fault {
-            return false;
-        }
-        if piece.len() > MOST_TEXT_BYTES - self.taken || !self.words.take_cells(parser, cells) {
-            return false;
-        }
-        self.taken += piece.len();
-        true
     }
 
     /// Returns the grid that the pieces spell together.

@@ -1,21 +1,18 @@
-//! Splits a text into words, and passes each word, or a height's value, to `GridBuilder`. Passes on
-//! the cells of a piece that a job parsed, without splitting the piece.
+//! Splits a text into words, and passes each word, or the cell that it means, to `GridBuilder`.
 //!
 //! `GridBuilder` checks a word once a separator or the text's end follows it. Therefore the result
 //! does not depend on where the text is cut into pieces.
-ghost use Rattle.std.specs.Prelude.{◌≡◌, ℕ, ◌≤◌, ◌++◌, [], ◌∷◌, ◌<◌, List, length, take, IfOk, IfSome, IsTrue, ◌↔◌, false, MatchResult};
+ghost use Rattle.std.specs.Prelude.{◌≡◌, ℕ, ◌≤◌, ◌++◌, [], ◌∷◌, ◌<◌, List, length, take, IfOk, IsTrue, ◌↔◌, MatchResult};
 ghost use Rattle.terrain.specs.Words.{is_separator, words, ended_words};
-ghost use Rattle.ascii_grid.specs.Header.{header_words, nodata_for};
-ghost use Rattle.ascii_grid.specs.HeightList.{AreCells};
-ghost use Rattle.ascii_grid.specs.Reading.{HasAdded, HasWords, IsWordFault};
+ghost use Rattle.ascii_grid.specs.Reading.{HasAdded, HasWords, IsBetweenHeights, IsScaled, IsWordFault};
 
-use crate::builder::{Expected, GridBuilder};
+use crate::builder::GridBuilder;
+use crate::cell::value_cell;
 use crate::fault::GridFault;
-use crate::heights::HeightParser;
 use crate::page::Buffer;
 use decimals::plain_number;
 use std::alloc::Global;
-use terrain::{Cell, MOST_WORD_BYTES};
+use terrain::{HIGHEST, LOWEST, MOST_WORD_BYTES};
 
 /// The most bytes kept of an unfinished word: enough to show that it is too long.
 const KEPT_BYTES: usize = MOST_WORD_BYTES + 1;
@@ -44,8 +41,7 @@ impl Tokenizer {
         ensures scale { self.new.builder.scale ≡ self.old.builder.scale }
         ensures words { (text : List ℕ) → HasWords self.old text → MatchResult result
             (λ _. HasWords self.new (text ++ bytes.now))
-            (λ f. (n : ℕ) × (n ≤ length bytes.now)
-            × IsWordFault self.old.builder.scale (ended_words (text ++ take n bytes.now)) f) }
+            (IsWordFault self.old.builder.scale (ended_words (text ++ bytes.now))) }
     {
         let mut at = 0;
         while at < bytes.len() {
@@ -54,7 +50,7 @@ impl Tokenizer {
         Ok(())
     }
 
-    /// Reads a height by the fast path, else one byte. Returns the count of bytes read.
+    /// Reads heights by the fast path, else one byte. Returns the count of bytes read.
     #[inline(always)]
     fn take_some(&mut self, rest: &[u8]) -> Result<usize, GridFault>
         requires some { 0 < length rest.now }
@@ -63,10 +59,9 @@ impl Tokenizer {
         ensures taken { IfOk result (λ n. (0 < n) × (n ≤ length rest.now)) }
         ensures words { (text : List ℕ) → HasWords self.old text → MatchResult result
             (λ n. HasWords self.new (text ++ take n rest.now))
-            (λ f. (n : ℕ) × (n ≤ length rest.now)
-            × IsWordFault self.old.builder.scale (ended_words (text ++ take n rest.now)) f) }
+            (IsWordFault self.old.builder.scale (ended_words (text ++ rest.now))) }
     {
-        let taken = self.take_plain(rest)?;
+        let taken = self.take_heights(rest);
         if taken != 0 {
             return Ok(taken);
         }
@@ -74,31 +69,76 @@ impl Tokenizer {
         Ok(1)
     }
 
-    /// Fast path: reads a height that [`plain_number`] parses, and the separator after it.
+    /// Fast path: reads heights that [`plain_number`] parses, each with the separator after it.
     ///
-    /// Returns the number of bytes read. It is 0 for anything else, within a word, and until the
-    /// first height has ended.
-    #[inline(always)]
-    fn take_plain(&mut self, rest: &[u8]) -> Result<usize, GridFault>
+    /// Stops at anything else, also at a height with a fault. Returns the number of bytes read. It
+    /// is 0 within a word, and until the first height has ended.
+    fn take_heights(&mut self, bytes: &[u8]) -> usize
         requires { self.old.builder.scale ≤ 6 }
         ensures scale { self.new.builder.scale ≡ self.old.builder.scale }
-        ensures taken { IfOk result (λ n. n ≤ length rest.now) }
-        ensures words { (text : List ℕ) → HasWords self.old text → MatchResult result
-            (λ n. HasWords self.new (text ++ take n rest.now))
-            (λ f. (n : ℕ) × (n ≤ length rest.now)
-            × IsWordFault self.old.builder.scale (ended_words (text ++ take n rest.now)) f) }
+        ensures taken { result ≤ length bytes.now }
+        ensures words { (text : List ℕ) → HasWords self.old text →
+            HasWords self.new (text ++ take result bytes.now) }
     {
         if !self.is_between_heights() {
-            return Ok(0);
+            return 0;
         }
-        let Some((len, value)) = plain_number(self.builder.scale, rest) else {
-            return Ok(0);
+        // Two copies of the loop: at scale 0 a height is not multiplied.
+        match self.builder.scale {
+            0 => self.take_scaled(0, bytes),
+            scale => self.take_scaled(scale, bytes),
+        }
+    }
+
+    /// Loop of [`take_heights`](Self::take_heights), for this scale.
+    #[inline(always)]
+    fn take_scaled(&mut self, scale: u8, bytes: &[u8]) -> usize
+        requires scale { IsScaled scale self.old }
+        requires between { IsBetweenHeights self.old }
+        ensures scale { self.new.builder.scale ≡ self.old.builder.scale }
+        ensures taken { result ≤ length bytes.now }
+        ensures words { (text : List ℕ) → HasWords self.old text →
+            HasWords self.new (text ++ take result bytes.now) }
+    {
+        let mut at = 0;
+        while at < bytes.len() {
+            let count = self.take_height(scale, &bytes[at..]);
+            if count == 0 {
+                return at;
+            }
+            at += count;
+        }
+        at
+    }
+
+    /// Reads a height that [`plain_number`] parses, and the separator after it.
+    ///
+    /// Returns the number of bytes read. It is 0 for anything else, also for a height with a fault.
+    #[inline(always)]
+    fn take_height(&mut self, scale: u8, rest: &[u8]) -> usize
+        requires scale { IsScaled scale self.old }
+        requires between { IsBetweenHeights self.old }
+        ensures scale { self.new.builder.scale ≡ self.old.builder.scale }
+        ensures between { IsBetweenHeights self.new }
+        ensures taken { result ≤ length rest.now }
+        ensures words { (text : List ℕ) → HasWords self.old text →
+            HasWords self.new (text ++ take result rest.now) }
+    {
+        let Some((len, value)) = plain_number(scale, rest) else {
+            return 0;
         };
         if len == rest.len() || !is_separator(rest[len]) {
-            return Ok(0);
+            return 0;
         }
-        self.builder.add_height_value(value)?;
-        Ok(len + 1)
+        // Tested first, so that `value_cell` needs no branch.
+        if value < LOWEST || HIGHEST < value {
+            return 0;
+        }
+        let meaning = value_cell(value, self.builder.nodata_value);
+        let Ok(()) = self.builder.add_cell(meaning) else {
+            return 0;
+        };
+        len + 1
     }
 
     #[inline(never)]
@@ -117,39 +157,9 @@ impl Tokenizer {
         Ok(())
     }
 
-    /// Returns the parser for jobs; `None` within a word and until the first height has ended.
-    pub(crate) fn height_parser(&self) -> Option<HeightParser>
-        requires { self.now.builder.scale ≤ 6 }
-        ensures scale { IfSome result (λ parser. parser.scale ≡ self.now.builder.scale) }
-        ensures nodata { (text : List ℕ) → HasWords self.now text →
-            IfSome result (λ parser. parser.nodata ≡ nodata_for (header_words (ended_words text))) }
-    {
-        if self.is_between_heights() {
-            Some(self.builder.height_parser())
-        } else {
-            None
-        }
-    }
-
-    /// Adds the cells of bytes that a job parsed, or returns false and changes nothing.
-    pub(crate) fn take_cells(&mut self, parser: &HeightParser, cells: &[Cell]) -> bool
-        ensures scale { self.new.builder.scale ≡ self.old.builder.scale }
-        ensures refused { result ≡ false → self.new ≡ self.old }
-        ensures words { (text piece : List ℕ) → HasWords self.old text →
-            AreCells parser.now piece cells.now →
-            IsTrue result → HasWords self.new (text ++ piece) }
-    {
-        if !self.is_between_heights() {
-            return false;
-        }
-        self.builder.add_cells(parser, cells)
-    }
-
     /// Whether a height has ended, and no byte of the next word has been read.
-    #[inline(always)]
     fn is_between_heights(&self) -> bool
-        ensures { IsTrue result
-            ↔ ((self.now.builder.expected ≡ Expected.AtHeights) × (self.now.word ≡ [])) }
+        ensures { IsTrue result ↔ IsBetweenHeights self.now }
     {
         self.builder.is_at_heights() && self.word.as_bytes().is_empty()
     }
@@ -172,7 +182,7 @@ impl Tokenizer {
 
 /// Whether a byte is a separator: space, tab, line feed or carriage return.
 #[inline(always)]
-pub fn is_separator(byte: u8) -> bool
+fn is_separator(byte: u8) -> bool
     ensures { result ≡ is_separator byte }
 {
     byte == b' ' || byte == b'\t' || byte == b'\n' || byte == b'\r'

@@ -16,7 +16,7 @@ use Rattle.relief.specs.MadeMap.{grid_with_sinks}
 use Rattle.relief.specs.MapText.{IsMapText}
 use Rattle.relief.specs.Refusals.{request_fault, IsFaultOnGrid}
 use Rattle.relief.specs.Runs.{Runs}
-use Rattle.ascii_grid.proofs.Taking.{consumed_end}
+use Rattle.ascii_grid.proofs.Pieces.{consumed_end}
 use Rattle.relief.proofs.Draining.{request_fault_without_sinks, map_of_text}
 use Rattle.relief.proofs.Viewing.{fault_on_grid_is_on_text, fault_on_grid_is_no_device}
 

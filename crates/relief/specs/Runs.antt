@@ -32,8 +32,7 @@ pub record Runs {R W T : Type 0} (remaining : R → Option (List ℕ)) (contents
   pub part : result ≡ Err Write → (map : List ℕ) × IsMapOfText w.scale w.map w.sinks taken.bytes map
       × HasWrittenPart contents writer grown map × IsAtEnd (remaining left.device)
   -- The result is `Read` exactly if a failure of the reader was counted, and `Write` exactly if one
-  -- of the writer was. With several workers a failed read is not counted if the bytes read before
-  -- it end a faulty word, or memory for the grid's cells was refused.
+  -- of the writer was.
   pub read : (result ≡ Err Read) ↔ (reader.failures < left.failures)
   pub write : (result ≡ Err Write) ↔ (writer.failures < grown.failures)
   pub sound : OnOk result ((left.failures ≡ reader.failures) × (grown.failures ≡ writer.failures))

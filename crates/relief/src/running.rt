@@ -8,21 +8,21 @@ ghost use Rattle.relief.specs.Runs.{Runs};
 
 use crate::fault::RunFault;
 use crate::making::{MadeMap, make_map, prepare};
-use ascii_grid::{Counted, WriteFailed};
+use ascii_grid::{Counted, WriteFailed, read_grid};
 use request::Options;
 use std::alloc::Global;
 use std::io::{Read, Write};
 use std::sync::Wait;
 use std::thread::Threads;
-use text_jobs::{read_grid, write_codes, write_framed_counts, write_heights};
+use text_jobs::{write_codes, write_framed_counts, write_heights};
 use tile_jobs::{Gate, NoGate};
 use tile_maps::Runner;
 
 /// Reads a grid, adds the requested sinks, and writes the requested map.
 ///
 /// Tile side, number of workers and schedule do not change the map. At most 2^29 + 1 bytes are
-/// read. Nothing is written before the map is complete, and nothing is allocated after the first
-/// byte written.
+/// read, in pieces of at most 4,096. Nothing is written before the map is complete, and nothing is
+/// allocated after the first byte written.
 ///
 /// The contract does not model the bytes of standard input and output. For these two streams it
 /// gives only the counts of failures and of bytes moved, and that a fault other than a failed write
@@ -80,15 +80,15 @@ pub fn run_gated<H: Threads + Wait + Sync, R: Read, W: Write, G: Gate + Sync>(
     ensures { Runs R.remaining W.contents options.now reader.old reader.new writer.old writer.new
         result }
 {
+    let grid = read_grid(alloc, options.scale(), reader)?;
+    let (grid, tiling) = prepare(alloc, options, grid)?;
+    let made = make_map(rt, alloc, options, grid, &tiling, gate)?;
     let runner = Runner {
         rt,
         alloc,
         workers: options.workers(),
         gate: &NoGate,
     };
-    let grid = read_grid(&runner, options.scale(), reader)?;
-    let (grid, tiling) = prepare(alloc, options, grid)?;
-    let made = make_map(rt, alloc, options, grid, &tiling, gate)?;
     write_map(&runner, &made, writer)?;
     Ok(())
 }

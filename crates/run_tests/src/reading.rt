@@ -1,5 +1,7 @@
-//! On a long text of short words, each read requests at most 4,096 bytes. A run parses each word
-//! before it reads over 1 MiB past the word's first byte.
+//! On a long text of short words, each read requests at most 4,096 bytes. A run checks the words of
+//! a piece before it reads the next piece, whatever the number of workers.
+ghost use Rattle.std.specs.Prelude.{◌<◌, length, IfSome};
+
 use relief::{Counted, GridFault, Map, Options, RunFault, run};
 use std::alloc::{AllocError, Global};
 use std::io;
@@ -9,11 +11,8 @@ use std::sync::Wait;
 use std::test::Fail;
 use std::thread::Threads;
 
-/// The most bytes that one read may request.
-const MOST_ASKED: usize = 4_096;
-
-/// The most bytes that may be read ahead of the cells: 1 MiB.
-const MOST_AHEAD: usize = 1_048_576;
+/// The most bytes that one read may request, and that may be read past a bad word.
+const PIECE_BYTES: usize = 4_096;
 
 /// A header of a thousand rows and columns.
 const HEADER: &[u8] = b"ncols 1000 nrows 1000 xllcorner 0 yllcorner 0 cellsize 1";
@@ -29,6 +28,14 @@ fn long_text(alloc: Global, bad_cell: u32) -> Result<Vec<u8>, AllocError> {
         text.extend_from_slice(word)?;
     }
     Ok(text)
+}
+
+/// Returns the index after the word `/7`, that of its separator.
+fn end_of_bad_word(text: &[u8]) -> Option<usize>
+    ensures { IfSome result (λ end. end < length text.now) }
+{
+    let end = text.iter().position(|b| *b == b'/')? + 2;
+    (end < text.len()).then_some(end)
 }
 
 /// A reader that fails at the end of a text, and counts the bytes that it gave.
@@ -52,7 +59,7 @@ impl Read for WatchedReader<'_> {
 }
 
 /// Runs `fill` on a [`WatchedReader`], and returns how many bytes the reader gave.
-/// Asserts the run's fault, the failures, and that no read requests over [`MOST_ASKED`] bytes.
+/// Asserts the run's fault, the failures, and that no read requests over [`PIECE_BYTES`] bytes.
 fn bytes_given(
     rt: &(impl Abort + Threads + Wait + Sync),
     alloc: Global,
@@ -77,28 +84,34 @@ fn bytes_given(
     drop(reader);
     drop(writer);
     assert!(rt; out.is_empty());
-    assert!(rt; watched.longest <= MOST_ASKED, "{} bytes", watched.longest);
+    assert!(rt; watched.longest <= PIECE_BYTES, "{} bytes", watched.longest);
     assert_eq!(rt; watched.given as u64, moved);
     Ok(watched.given)
 }
 
-/// A run refuses the bad word `/7` before it reads over 1 MiB past the word's first byte.
-/// A run cannot foresee which word is bad, so each good word too is parsed within 1 MiB.
+/// A run refuses the bad word `/7` when at most 4,096 bytes past the word have been read.
+///
+/// It also does where the reader fails behind the word's separator, which is not noticed. Where the
+/// reader fails before the separator, the failed read is the run's fault.
 #[test]
 fn little_is_read_ahead(rt: HostRuntime) -> Result<(), Fail> {
     let alloc = rt.alloc();
     for part in 0..46 {
         let cell = part * 21_739;
         let text = long_text(alloc, cell)?;
-        let start = text.iter().position(|b| *b == b'/').ok_or("a bad word")?;
+        let end = end_of_bad_word(&text).ok_or("a bad word")?;
         let fault = RunFault::Grid(GridFault::BadHeight(cell));
         for workers in [1, 2, 8] {
             let given = bytes_given(&rt, alloc, workers, &text, fault, 0)?;
-            let ahead = given.saturating_sub(start);
+            let ahead = given.saturating_sub(end);
             assert!(rt;
-                ahead <= MOST_AHEAD,
+                ahead <= PIECE_BYTES,
                 "{ahead} bytes, {workers} workers, cell {cell}"
             );
+            let given = bytes_given(&rt, alloc, workers, &text[..end + 1], fault, 0)?;
+            assert_eq!(rt; given, end + 1);
+            let given = bytes_given(&rt, alloc, workers, &text[..end], RunFault::Read, 1)?;
+            assert_eq!(rt; given, end);
         }
     }
     Ok(())

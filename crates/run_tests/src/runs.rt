@@ -93,7 +93,7 @@ impl Write for Short {
     }
 }
 
-/// Numbers of workers. With several, a run reads in batches and writes by jobs; with one, neither.
+/// Numbers of workers. With several, a run writes by jobs.
 const WORKERS: [u32; 3] = [1, 2, 8];
 
 /// Runs `fill` on the bowl, and asserts the bytes written and the failures.

@@ -1,12 +1,9 @@
-use Rattle.std.proofs.Common.{◌≡◌, ◌+◌, ◌<◌, ◌≤◌, ◌++◌, ◌∷◌, [], length, arith, rules, ap, refl, sym, ◌∙◌, inr}
+use Rattle.std.proofs.Common.{◌≡◌, ◌<◌, ◌≤◌, length, arith, ap, refl, sym, ◌∙◌, inr}
 use Rattle.std.proofs.lemmas.Bool.{lt-ltb, le-ltb}
 use Rattle.ascii_grid.specs.GridText.{is_cell, cells_wanted}
 use Rattle.ascii_grid.specs.Reading.{flat}
 use Rattle.ascii_grid.proofs.Cells.{meaning_cell, meaning_nothing}
-use Rattle.std.proofs.lemmas.List.Elements.{All-push}
-use Rattle.ascii_grid.specs.HeightList.{ParserSettings, IsHeightWord}
-use Rattle.ascii_grid.proofs.HeightLists.{AreHeights-more}
-use Rattle.ascii_grid.proofs.AddedWords.{is_short, place_of}
+use Rattle.ascii_grid.proofs.AddedWords.{is_short, place_of, HasReadHeights-push}
 use Rattle.ascii_grid.proofs.builder.GridBuilder.add_cell.Goals as goal
 
 pub returns-then-place-self-clause-word : goal.returns-then-place-self-clause-word
@@ -35,10 +32,5 @@ returns-clause-word c = λ ps hs word h short e.
     let j = c.args.self.now in
     let x = c.in-Cell.cell in
     let is = meaning_cell (is_cell j.scale j.nodata word) _ x (sym e ∙ c.in-Cell.is) in
-    let room : length j.cells.items + 1 ≤ j.wanted = omega (arith, j.cells.ok.0) in
-    let pushed : c.push.new.self.items ≡ j.cells.items ++ x ∷ [] = search rules in
-    let parser : ParserSettings = record { scale = j.scale; nodata = j.nodata } in
-    let height : IsHeightWord parser word = record { short = short; cell = is.0 } in
-    AreHeights-more j _ ps hs (word ∷ []) parser (x ∷ []) h refl refl
-    (All-push (IsHeightWord parser) [] word (λ k d low. absurd (omega arith)) height)
-    (ap (λ y. y ∷ []) (sym is.1)) room refl refl refl refl pushed
+    let room : length j.cells.items < j.wanted = omega (arith, j.cells.ok.0) in
+    HasReadHeights-push j _ ps hs word x h short is.0 is.1 room refl c.push_reserved.ensures.items
