@@ -16,14 +16,20 @@ value.
 """
 from __future__ import annotations
 
+from dataclasses import replace
 from typing import Any, Optional, Sequence, Tuple
+
+import numpy as np
 
 from .arguments import MOST_WORKERS, needed, radius_of, units_of, whole_number
 from .edges import uncertain_cells, uncertain_map
+from .errors import UsageError
 from .given import Given, given_of
-from .maps import Place, Request, make
+from .heights import MOST_SIDE
+from .maps import NODATA_CODE, NODATA_COUNT, Place, Request, make
 from .program import Program
-from .units import Number
+from .sightline import Profile, profile_of
+from .units import Number, decimal_of, side_of
 from .words import PYTHON, spoken_in
 
 Cell = Tuple[int, int]
@@ -157,11 +163,110 @@ def uncertain(heights: Any, nodata: Optional[float] = None, scale: Optional[int]
         return given.counted(uncertain_map(uncertain_cells(codes, valid), valid), "uncertain")
 
 
+def depth(heights: Any, nodata: Optional[float] = None, scale: Optional[int] = None, *,
+          sinks: Sequence[Cell] = (), workers: int = 1, program: Optional[Program] = None) -> Map:
+    """How deep each cell lies below its filled height, as `fill` has it.
+
+    Returns:
+        (rows, cols) in the unit of `heights`: int64 if they are integers and `scale` is 0, else float64; NODATA_COUNT
+        (-9999) where there is no data.
+
+    Raises:
+        InputError, ReliefError, MissingError: as in `fill`.
+    """
+    with spoken_in(PYTHON):
+        given = given_of(heights, nodata, scale)
+        request = Request("fill", given.places(sinks, "sinks"), workers=_threads(workers))
+        below = make(request, given.heights, program or Program.find()).astype(np.int64) - given.heights.units
+        dtype = np.dtype(np.int64 if given.is_whole else np.float64)
+        return given.counted(_with_nodata(given, given.heights.values(below, dtype)), "depth")
+
+
+def area(heights: Any, cell: Number, nodata: Optional[float] = None, scale: Optional[int] = None, *,
+         sinks: Sequence[Cell] = (), workers: int = 1, program: Optional[Program] = None) -> Map:
+    """The area that drains through each cell, its own with it.
+
+    Args:
+        cell: the side of a cell, in any unit of length; a float stands for the simplest fraction within one part in
+            10^9 of it.
+
+    Returns:
+        (rows, cols) float64 in the square of that unit, NODATA_COUNT (-9999) where there is no data.
+
+    Raises:
+        UsageError: the side is no number above 0.
+        InputError, ReliefError, MissingError: as in `fill`.
+    """
+    with spoken_in(PYTHON):
+        side = float(decimal_of(cell, "cell"))
+        if side <= 0:
+            raise UsageError(f"cell={cell} is not above 0")
+        given = given_of(heights, nodata, scale)
+        counts = _made("accumulate", given, given.places(sinks, "sinks"), workers, program)
+        # One rounding: the area is the float that is nearest to it.
+        by, part = map(float, (side_of(side) ** 2).as_integer_ratio())
+        return given.counted(_with_nodata(given, (counts + 1.0) * by / part), "area")
+
+
+def streams(heights: Any, threshold: int, nodata: Optional[float] = None, scale: Optional[int] = None, *,
+            sinks: Sequence[Cell] = (), workers: int = 1, program: Optional[Program] = None) -> Map:
+    """Where more than so many other cells drain through a cell.
+
+    Args:
+        threshold: so many, from 0.
+
+    Returns:
+        (rows, cols) uint8, 1 or 0, NODATA_CODE (255) where there is no data.
+
+    Raises:
+        InputError, ReliefError, MissingError: as in `fill`.
+    """
+    with spoken_in(PYTHON):
+        most = whole_number(threshold, "threshold", 0, MOST_SIDE**2)
+        given = given_of(heights, nodata, scale)
+        counts = _made("accumulate", given, given.places(sinks, "sinks"), workers, program)
+        return given.counted(np.where(given.heights.valid, counts > most, NODATA_CODE).astype(np.uint8), "streams")
+
+
+def profile(heights: Any, start: Cell, end: Cell, eye: Number, nodata: Optional[float] = None,
+            scale: Optional[int] = None, *, target: Number = 0) -> Profile:
+    """The ground under the line of sight between two cells, what blocks it, and the least eye and target that clear it.
+
+    Args:
+        start, end: (row, column) of the observer and of the target, with data.
+        eye, target: their heights above the ground in the unit of the heights, whole numbers of 10^-scale.
+
+    Returns:
+        A `Profile`, of which heights are exact fractions in the unit of `heights`.
+
+    Raises:
+        UsageError: the eye or the target is no whole number of units.
+        InputError: the heights or a place have no line of sight.
+    """
+    with spoken_in(PYTHON):
+        given = given_of(heights, nodata, scale)
+        places = [given.place(cell, name) for cell, name in ((start, "start"), (end, "end"))]
+        units = [units_of(height, given.heights.decimals, name) for height, name in ((eye, "eye"), (target, "target"))]
+        found = profile_of(given.heights, *((place.row, place.col) for place in places), *units)
+        return found if found.worst is None else replace(
+            found, worst=replace(found.worst, cell=given.cell(*found.worst.cell)))
+
+
+def _with_nodata(given: Given, values: np.ndarray) -> np.ndarray:
+    return np.where(given.heights.valid, values, values.dtype.type(NODATA_COUNT))
+
+
 def _counted(name: str, given: Given, places: Sequence[Place], workers: Any, program: Optional[Program],
              **more: Any) -> Map:
     """A map of codes or counts."""
+    return given.counted(_made(name, given, places, workers, program, **more), name)
+
+
+def _made(name: str, given: Given, places: Sequence[Place], workers: Any, program: Optional[Program],
+          **more: Any) -> np.ndarray:
+    """A map of codes or counts, north up."""
     request = Request(name, places, workers=_threads(workers), **more)
-    return given.counted(make(request, given.heights, program or Program.find()), name)
+    return make(request, given.heights, program or Program.find())
 
 
 def _threads(workers: Any) -> int:

@@ -9,6 +9,7 @@ from typing import IO, Optional
 from .errors import DeviceError
 from .program import Progress
 
+NAME = "relief-gis"
 MOST_BAR_CELLS = 40
 
 
@@ -47,6 +48,19 @@ def write(text: str, stream: Optional[IO[str]] = None) -> None:
     except OSError as error:
         _discard(stream)
         raise StreamError(f"a line could not be written: {error.strerror}") from error
+
+
+def say(line: str, name: str = NAME) -> None:
+    """Writes a line for the user to standard error."""
+    write(f"{name}: {line}\n")
+
+
+def say_if_heard(line: str, name: str = NAME) -> None:
+    """Says why a run ends, where there is a stream for it; the status tells the rest."""
+    try:
+        say(line, name)
+    except StreamError:
+        pass
 
 
 def _discard(stream: IO[str]) -> None:

@@ -6,7 +6,7 @@ from typing import List, Optional, Tuple
 from osgeo import osr
 
 from .errors import InputError
-from .raster import Frame, reference_of
+from .frame import Frame, reference_of
 
 
 def change_between(reference: Optional[osr.SpatialReference], frame: Frame, path: str,

@@ -6,7 +6,7 @@ from typing import Dict, Iterator, Sequence, Tuple
 
 import numpy as np
 
-from .blocks import row_blocks
+from .blocks import for_rows, row_blocks
 from .maps import NODATA_CODE, Place, edge_cells
 from .units import plain
 
@@ -36,18 +36,18 @@ def uncertain_cells(codes: np.ndarray, valid: np.ndarray) -> np.ndarray:
     Some 12 bytes a cell.
     """
     found = edge_cells(valid)
-    ways = _targets(codes)
+    ways = targets_of(codes)
     before, count = 0, np.count_nonzero(found)
     # After n rounds ways lead 2^n cells on, and all cells less than 2^n cells below an edge cell are found. So the
     # first round that finds none is the last.
     while count > before:
         _mark_targets(found, ways)
-        ways = _twice(ways)
+        ways = further(ways)
         before, count = count, np.count_nonzero(found)
     return found
 
 
-def _targets(codes: np.ndarray) -> np.ndarray:
+def targets_of(codes: np.ndarray) -> np.ndarray:
     """The place to which each cell drains, in row order; its own where its flow path ends."""
     rows, cols = codes.shape
     offsets = np.zeros(256, np.int32)
@@ -66,12 +66,12 @@ def _mark_targets(found: np.ndarray, ways: np.ndarray) -> None:
         flat[ways[block][found[block]]] = True
 
 
-def _twice(ways: np.ndarray) -> np.ndarray:
+def further(ways: np.ndarray) -> np.ndarray:
     """The ways that lead twice as far."""
-    further, flat = np.empty_like(ways), ways.reshape(-1)
+    longer, flat = np.empty_like(ways), ways.reshape(-1)
     for block in row_blocks(ways.shape):
-        np.take(flat, ways[block], out=further[block])
-    return further
+        np.take(flat, ways[block], out=longer[block])
+    return longer
 
 
 def uncertain_map(cells: np.ndarray, valid: np.ndarray) -> np.ndarray:
@@ -101,7 +101,14 @@ def catchment_lines(gauges: Sequence[Place], valid: np.ndarray, found: np.ndarra
     for gauge in gauges:
         # Where the data ends at the gauge itself, its water runs out and none runs in.
         edges[gauge.row, gauge.col] = False
-    sizes, cut = (np.bincount(numbers[numbers > 0], minlength=len(gauges) + 1) for numbers in (found, found[edges]))
+    most = len(gauges) + 1
+
+    def count(rows: slice) -> np.ndarray:
+        numbers = np.maximum(found[rows], 0)
+        return np.stack([np.bincount(it.ravel(), minlength=most) for it in (numbers, numbers[edges[rows]])])
+
+    sizes, cut = sum(for_rows(count, found.shape))
+    sizes[0] = cut[0] = 0
     first: Dict[Tuple[int, int], int] = {}
     for number, gauge in enumerate(gauges, 1):
         same = first.setdefault((gauge.row, gauge.col), number)

@@ -1,102 +1,115 @@
-"""Maps as GeoTIFFs: compressed, tiled, with a NODATA value that no datum has."""
+"""Maps as GeoTIFFs: compressed, tiled, written while the program is at work."""
 from __future__ import annotations
 
 import os
 import uuid
-from typing import Dict, Mapping, Optional, Tuple
+from typing import Dict, Mapping, Optional, Sequence, Tuple
 
 import numpy as np
 from osgeo import gdal
 
 from .errors import DeviceError
+from .frame import Frame
 from .gdal_errors import raised_errors
-from .raster import Frame
-from .voids import fits, limits
+from .grid_text import STRIP
 
 SIDECARS = (".aux.xml", ".ovr", ".msk")
 # Level 6 takes two to five times as long as 1 and saves at most a sixth of the bytes.
 LAYOUT = ["TILED=YES", "COMPRESS=DEFLATE", "ZLEVEL=1", "BIGTIFF=IF_SAFER"]
-# The side of GDAL's tiles, and how many bytes are copied at once.
-TILE = 256
+# How many bytes are copied at once. GDAL's tiles have a side of STRIP.
 PIECE = 1 << 20
 
 Color = Tuple[int, int, int, int]
 
 
-def nodata_for(dtype: np.dtype, wanted: Optional[float], data: np.ndarray) -> Optional[float]:
-    """A NODATA value that a type has and no datum is: the wanted one if it can be, else -9999, else an end of the type.
+class GeoTiff:
+    """A compressed, tiled GeoTIFF that is written in memory by strips of rows, and to the disk when it is whole.
 
-    Where all these are data, the greatest integer that is none; None: there is no such value.
-
-    Args:
-        dtype: the type of the raster to be written.
-        wanted: the NODATA value of the raster that was read, or None.
-        data: the values that are data, of that type.
-    """
-    least, most = limits(dtype)
-    for value in (wanted, -9999.0, least, most):
-        # No datum is NaN.
-        if value is not None and fits(value, dtype) and not np.any(data == dtype.type(value)):
-            return value
-    return _greatest_free(data) if dtype.kind in "iu" else None
-
-
-def _greatest_free(data: np.ndarray) -> Optional[int]:
-    """The greatest integer of a type that is none of the data, which has the type's ends."""
-    least, most = limits(data.dtype)
-    used = np.unique(data)[::-1]
-    gaps = np.flatnonzero(used != most - np.arange(used.size))
-    free = most - (int(gaps[0]) if gaps.size else used.size)
-    return free if free >= least else None
-
-
-def write_geotiff(path: str, array: np.ndarray, frame: Frame, nodata: Optional[float], unit: str, description: str,
-                  metadata: Mapping[str, str], colors: Optional[Mapping[int, Color]] = None) -> None:
-    """Writes a map as a compressed, tiled GeoTIFF.
+    GDAL writes to memory and Python to the disk: a disk that is full is one error, and not one of a destructor.
 
     Args:
-        path: the file, which must not be there.
-        array: (rows, cols), of a type that GeoTIFF has.
+        dtype: a type that GeoTIFF has.
+        frame: where it lies, with its columns and rows.
         nodata: the NODATA value, or None.
         unit: the unit of the values, or "".
-        description: what the values are.
+        descriptions: what the values are, of each band.
         metadata: texts by name.
         colors: of bytes, the colour of each value.
+    """
+
+    def __init__(self, dtype: np.dtype, frame: Frame, nodata: Optional[float], unit: str, descriptions: Sequence[str],
+                 metadata: Mapping[str, str], colors: Optional[Mapping[int, Color]] = None) -> None:
+        self.memory = f"/vsimem/{uuid.uuid4().hex}.tif"
+        options = [*LAYOUT, f"PREDICTOR={_predictor(dtype)}", "NUM_THREADS=ALL_CPUS"]
+        with raised_errors():
+            driver = gdal.GetDriverByName("GTiff")
+            self.dataset = driver.Create(self.memory, frame.cols, frame.rows, len(descriptions), _gdal_type(dtype),
+                                         options)
+            self.dataset.SetGeoTransform(frame.geotransform)
+            if frame.projection:
+                self.dataset.SetProjection(frame.projection)
+            _describe(self.dataset, nodata, unit, descriptions, metadata, frame.is_point)
+            if colors is not None:
+                self.dataset.GetRasterBand(1).SetColorTable(_color_table(colors))
+
+    def put(self, row: int, array: np.ndarray, band: int = 1) -> None:
+        """Writes rows from a multiple of STRIP to another one, or to the last.
+
+        Raises:
+            DeviceError: there is no memory for them.
+        """
+        try:
+            with raised_errors():
+                written = self.dataset.GetRasterBand(band)
+                for first in range(0, len(array), STRIP):
+                    written.WriteArray(array[first:first + STRIP], 0, row + first)
+                    # Tiles that GDAL keeps would need as much memory as the map.
+                    written.FlushCache()
+        except RuntimeError as error:
+            raise DeviceError(f"the map could not be kept: {error}") from error
+
+    def save(self, path: str) -> None:
+        """Writes the file, which must not be there.
+
+        Raises:
+            DeviceError, OSError: it could not be written.
+        """
+        try:
+            with raised_errors():
+                self.dataset.FlushCache()
+                self.dataset = None
+            copy_to_disk(self.memory, path)
+        except RuntimeError as error:
+            raise DeviceError(f"{path} could not be written: {error}") from error
+
+    def close(self) -> None:
+        """Frees the memory."""
+        self.dataset = None
+        gdal.Unlink(self.memory)
+
+
+def _predictor(dtype: np.dtype) -> int:
+    """How values are prepared for compression: 1 not at all, 2 as differences, 3 by the bytes of floats."""
+    if dtype.itemsize == 1:
+        # Differences of codes compress worse than codes.
+        return 1
+    # Heights with few decimals as 32-bit floats: an eighth fewer bytes than by 3, in six tenths of the time.
+    return 3 if dtype.kind == "f" and dtype.itemsize > 4 else 2
+
+
+def write_geotiff(path: str, array: np.ndarray, frame: Frame, nodata: Optional[float], description: str,
+                  metadata: Mapping[str, str], colors: Optional[Mapping[int, Color]] = None) -> None:
+    """Writes an array as a GeoTIFF of one band without unit, as `GeoTiff`.
 
     Raises:
         DeviceError, OSError: the file could not be written.
     """
-    # GDAL writes to memory and Python to the disk: a disk that is full is one error, and not one of a destructor.
-    memory = f"/vsimem/{uuid.uuid4().hex}.tif"
+    file = GeoTiff(array.dtype, frame, nodata, "", [description], metadata, colors)
     try:
-        with raised_errors():
-            _write_dataset(memory, array, frame, nodata, unit, description, metadata, colors)
-        copy_to_disk(memory, path)
-    except RuntimeError as error:
-        raise DeviceError(f"{path} could not be written: {error}") from error
+        file.put(0, array)
+        file.save(path)
     finally:
-        gdal.Unlink(memory)
-
-
-def _write_dataset(path: str, array: np.ndarray, frame: Frame, nodata: Optional[float], unit: str, description: str,
-                   metadata: Mapping[str, str], colors: Optional[Mapping[int, Color]]) -> None:
-    # Differences of codes compress worse than codes.
-    predictor = "PREDICTOR=3" if array.dtype.kind == "f" else f"PREDICTOR={1 if array.dtype.itemsize == 1 else 2}"
-    options = [*LAYOUT, predictor, "NUM_THREADS=ALL_CPUS"]
-    driver = gdal.GetDriverByName("GTiff")
-    dataset = driver.Create(path, frame.cols, frame.rows, 1, _gdal_type(array.dtype), options)
-    dataset.SetGeoTransform(frame.geotransform)
-    if frame.projection:
-        dataset.SetProjection(frame.projection)
-    _describe(dataset, nodata, unit, description, metadata, frame.is_point)
-    if colors is not None:
-        dataset.GetRasterBand(1).SetColorTable(_color_table(colors))
-    band = dataset.GetRasterBand(1)
-    for row in range(0, frame.rows, TILE):
-        band.WriteArray(array[row:row + TILE], 0, row)
-        # Tiles that GDAL keeps would need as much memory as the map.
-        band.FlushCache()
-    dataset.FlushCache()
+        file.close()
 
 
 def copy_to_disk(memory: str, path: str) -> None:
@@ -114,18 +127,19 @@ def copy_to_disk(memory: str, path: str) -> None:
         gdal.VSIFCloseL(source)
 
 
-def _describe(dataset: gdal.Dataset, nodata: Optional[float], unit: str, description: str,
+def _describe(dataset: gdal.Dataset, nodata: Optional[float], unit: str, descriptions: Sequence[str],
               metadata: Mapping[str, str], is_point: bool) -> None:
     words: Dict[str, str] = dict(metadata)
     if is_point:
         words["AREA_OR_POINT"] = "Point"
     dataset.SetMetadata(words)
-    band = dataset.GetRasterBand(1)
-    band.SetDescription(description)
-    if unit:
-        band.SetUnitType(unit)
-    if nodata is not None:
-        band.SetNoDataValue(nodata)
+    for number, description in enumerate(descriptions, 1):
+        band = dataset.GetRasterBand(number)
+        band.SetDescription(description)
+        if unit:
+            band.SetUnitType(unit)
+        if nodata is not None:
+            band.SetNoDataValue(nodata)
 
 
 def _color_table(colors: Mapping[int, Color]) -> gdal.ColorTable:

@@ -1,12 +1,12 @@
 """Heights that a caller of Python gives, as an array, a masked array or a DataArray, and maps of the same kind."""
 from __future__ import annotations
 
-from dataclasses import dataclass
-from typing import Any, Iterable, List, Optional
+from dataclasses import dataclass, replace
+from typing import Any, Iterable, List, Optional, Tuple
 
 import numpy as np
 
-from .arguments import cells_named, number_of, observers_named, whole_number
+from .arguments import cells_named, number_of, observers_named, shown, whole_number
 from .errors import InputError
 from .heights import Heights, check_shape, default_decimals, heights_of
 from .labelled import Labels, is_labelled, labels_of, nodata_of
@@ -41,18 +41,39 @@ class Given:
         """The places of observers with their eyes, north up."""
         return [self._turned(place) for place in observers_named(observers, self.heights.decimals)]
 
+    def place(self, cell: Any, name: str) -> Place:
+        """The place of an argument that is one cell, north up.
+
+        Raises:
+            InputError: it is no cell with data.
+        """
+        place = replace(self.places([cell], name)[0], name=name)
+        rows, cols = self.values.shape
+        if place.row >= rows or place.col >= cols:
+            raise InputError(f"{name}={shown(cell)} lies outside the grid")
+        if not self.heights.valid[place.row, place.col]:
+            raise InputError(f"{name}={shown(cell)} lies where there is no data")
+        return place
+
+    def cell(self, row: int, col: int) -> Tuple[int, int]:
+        """A cell of a map, north up, as a cell of what was given."""
+        return (row, col) if self.labels is None else self.labels.cell(row, col)
+
+    @property
+    def is_whole(self) -> bool:
+        """Whether heights are integers without decimals."""
+        return self.dtype.kind in "iu" and self.heights.decimals == 0
+
     def _turned(self, place: Place) -> Place:
-        if self.labels is None:
-            return place
         rows, cols = self.values.shape
         if place.row >= rows or place.col >= cols:
             return place
-        return Place(place.name, *self.labels.cell(place.row, place.col), place.eye)
+        return Place(place.name, *self.cell(place.row, place.col), place.eye)
 
     def filled(self, units: np.ndarray) -> Any:
         """Filled heights as what was given: their own type if they are integers without decimals, else float64."""
         valid = self.heights.valid
-        dtype = self.dtype if self.dtype.kind in "iu" and self.heights.decimals == 0 else np.dtype(np.float64)
+        dtype = self.dtype if self.is_whole else np.dtype(np.float64)
         with np.errstate(over="ignore"):
             array = np.where(valid, self.heights.values(units, dtype), self.values.astype(dtype))
         # Of two types numpy makes one of this machine's byte order.

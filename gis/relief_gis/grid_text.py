@@ -5,7 +5,7 @@ written or read. All is computed for the cells of a block at once.
 """
 from __future__ import annotations
 
-from typing import IO, Iterable, Iterator, Optional, Tuple
+from typing import IO, Callable, Iterable, Iterator, Optional, Tuple
 
 import numpy as np
 
@@ -14,11 +14,13 @@ from .errors import InputError
 
 HEADER_LINES = 6
 ZERO, MINUS, SPACE, LINE_FEED = b"0- \n"
-# What is read at once, in bytes.
+# What is read at once, in bytes, and how many rows are given on at once.
 PIECE = 1 << 19
+STRIP = 256
 # No word of the program is longer, and no line of its header.
 MOST_WORD, MOST_LINE = 64, 200
 NO_NUMBERS = "relief wrote words that are no whole numbers"
+TakeRows = Callable[[np.ndarray, int], None]
 # Words of so many digits are computed with half the bytes.
 NARROW_DIGITS = 9
 
@@ -83,29 +85,44 @@ def _words(units: np.ndarray, digits: int, is_signed: bool) -> np.ndarray:
     return letters
 
 
-def read_grid(file: IO[bytes], dtype: "np.typing.DTypeLike" = np.int64) -> np.ndarray:
+def read_grid(file: IO[bytes], dtype: "np.typing.DTypeLike" = np.int64, wanted: Optional[Tuple[int, ...]] = None,
+              on_rows: Optional[TakeRows] = None, keeps: bool = True) -> np.ndarray:
     """Reads the numbers of a grid text that `relief` wrote with a scale of 0.
 
     Args:
         file: a binary file at its start.
         dtype: an integer type that has all numbers.
+        wanted: the rows and columns that the grid has to have.
+        on_rows: called with strips of STRIP rows, and the row of the first one, as soon as they are read.
+        keeps: whether the grid is kept.
 
     Returns:
-        (rows, cols) of that type, with the NODATA value of the text where there is no data.
+        (rows, cols) of that type, with the NODATA value of the text where there is no data; no rows if it is not kept.
 
     Raises:
-        InputError: the text is cut off, or no grid text.
+        InputError: the text is cut off, no grid text, or that of another grid.
     """
-    shape = _shape(file)
-    numbers = np.empty(shape[0] * shape[1], dtype)
-    count = 0
+    rows, cols = shape = _shape(file)
+    if wanted is not None and shape != wanted:
+        raise InputError(f"relief wrote {shape} rows and columns of {wanted}")
+    whole = np.empty((rows if keeps else 0, cols), dtype)
+    strip, filled, count = np.empty((0, cols), dtype), 0, 0
     for part in in_order(_numbers, _pieces(file)):
-        kept = numbers[count:count + part.size]
-        kept[:] = part[:kept.size]
         count += part.size
-    if count != numbers.size:
-        raise InputError(f"relief wrote {count} values of {numbers.size}")
-    return numbers.reshape(shape)
+        while part.size and filled < rows * cols:
+            first = filled // (STRIP * cols) * STRIP
+            if filled == first * cols:
+                last = min(first + STRIP, rows)
+                strip = whole[first:last] if keeps else np.empty((last - first, cols), dtype)
+            room = strip.reshape(-1)[filled - first * cols:]
+            room[:part.size] = part[:room.size]
+            filled += min(part.size, room.size)
+            if on_rows is not None and part.size >= room.size:
+                on_rows(strip, first)
+            part = part[room.size:]
+    if count != rows * cols:
+        raise InputError(f"relief wrote {count} values of {rows * cols}")
+    return whole
 
 
 def _shape(file: IO[bytes]) -> Tuple[int, int]:

@@ -7,6 +7,7 @@ from typing import List, Optional, Sequence, Tuple
 import numpy as np
 
 from .blocks import array_of
+from .grid_text import TakeRows
 from .heights import Heights
 from .program import Program, Question, Report
 from .units import MOST_RADIUS_CELLS
@@ -80,8 +81,14 @@ def _reach(request: Request, shape: Tuple[int, ...]) -> Optional[Tuple[slice, sl
 
 
 def make(request: Request, heights: Heights, program: Program, on_progress: Optional[Report] = None,
-         is_cancelled: Optional[Question] = None, by_percent: bool = False) -> np.ndarray:
+         is_cancelled: Optional[Question] = None, by_percent: bool = False,
+         on_rows: Optional[TakeRows] = None, keeps: bool = True) -> np.ndarray:
     """Makes a map with the program, which reports its progress and is cancelled as in `Program.run`.
+
+    Args:
+        on_rows: called on another thread with strips of the map, as the program writes them, and their first rows; not
+            where it gets a part of the heights.
+        keeps: whether a map that goes to `on_rows` is kept; else what is returned has no rows.
 
     Returns:
         (rows, cols): of `fill` in units, of their type, any number where there is no data; of `flow` uint8 with
@@ -105,8 +112,8 @@ def make(request: Request, heights: Heights, program: Program, on_progress: Opti
     names, sinks = ([place.name for place in places] for places in (request.places, request.sinks))
     dtype = heights.units.dtype if request.map == "fill" else np.dtype(np.int32)
     found = program.run(request.words(), heights.units, heights.valid, names, sinks, on_progress, is_cancelled,
-                        by_percent, dtype)
-    if request.map == "flow":
+                        by_percent, dtype, on_rows, keeps)
+    if request.map == "flow" and keeps:
         return array_of(lambda rows: np.where(heights.valid[rows], found[rows], NODATA_CODE), found.shape, np.uint8)
     return found
 

@@ -2,7 +2,6 @@
 from __future__ import annotations
 
 import shlex
-import uuid
 from dataclasses import dataclass, replace
 from decimal import Decimal
 from fractions import Fraction
@@ -13,12 +12,12 @@ from osgeo import gdal, ogr, osr
 
 from .datums import change_between
 from .errors import DeviceError, InputError, UsageError
+from .frame import Frame, reference_of
 from .gdal_errors import raised_errors
-from .geotiff import copy_to_disk
+from .layers import write_layer
 from .maps import Place
-from .raster import Frame, reference_of
 from .tables import Columns, columns_of, degrees_of, number_of, reference_of_table
-from .units import decimal_of, plain, whole_units
+from .units import Reach, decimal_of, plain, whole_units
 
 LAYER_MARK = "|layername="
 WGS_84 = "EPSG:4326"
@@ -34,6 +33,7 @@ class Point:
         name: its name in messages.
         x, y: its coordinates.
         eye, above, radius: of an observer, as in `Job`; None: those of the job.
+        label: the name that the user gave it, or "".
     """
 
     name: str
@@ -41,7 +41,8 @@ class Point:
     y: Decimal
     eye: Optional[Decimal] = None
     above: Optional[Decimal] = None
-    radius: Optional[Decimal] = None
+    radius: Optional[Reach] = None
+    label: str = ""
 
     def __str__(self) -> str:
         return f"{self.name} ({plain(self.x)}, {plain(self.y)})"
@@ -49,10 +50,13 @@ class Point:
 
 @dataclass(frozen=True)
 class Layer:
-    """A vector layer of points: PATH or PATH|layername=NAME, and the field of eyes."""
+    """A vector layer of points: PATH or PATH|layername=NAME, and its fields of eyes, targets, radii and names."""
 
     path: str
     eye_field: Optional[str] = None
+    above_field: Optional[str] = None
+    radius_field: Optional[str] = None
+    name_field: Optional[str] = None
 
     @property
     def file(self) -> str:
@@ -104,12 +108,13 @@ def _points_of_layer(source: Layer, frame: Frame, notes: List[str], faults: List
         with raised_errors():
             dataset = gdal.OpenEx(path, gdal.OF_VECTOR)
             layer = _layer_of(dataset, path, name)
-            if source.eye_field and layer.GetLayerDefn().GetFieldIndex(source.eye_field) < 0:
-                raise UsageError(f"{path} has no field {source.eye_field}")
+            for field in (source.eye_field, source.above_field, source.radius_field, source.name_field):
+                if field and layer.GetLayerDefn().GetFieldIndex(field) < 0:
+                    raise UsageError(f"{path} has no field {field}")
             coordinates = _coordinates_of(dataset, layer, frame, path, notes)
             for feature in _features_of(layer):
                 try:
-                    points.append(_point_of_feature(feature, path, source.eye_field, coordinates))
+                    points.append(_point_of_feature(feature, path, source, coordinates))
                 except InputError as error:
                     faults.append(str(error))
     except RuntimeError as error:
@@ -188,21 +193,25 @@ def _changed(numbers: Sequence[Decimal], change: Optional[osr.CoordinateTransfor
     return decimal_of(moved[0]), decimal_of(moved[1])
 
 
-def _point_of_feature(feature: ogr.Feature, path: str, eye_field: Optional[str],
+def _point_of_feature(feature: ogr.Feature, path: str, source: Layer,
                       coordinates: Callable[[ogr.Feature, str], Coordinates]) -> Point:
     name = f"feature {feature.GetFID()} of {path}"
     x, y = coordinates(feature, name)
-    return Point(name, x, y, number_of(feature, eye_field, name) if eye_field else None)
+    eye, above, radius = (number_of(feature, field, name) if field else None
+                          for field in (source.eye_field, source.above_field, source.radius_field))
+    label = feature.GetFieldAsString(source.name_field) if source.name_field else ""
+    return Point(name, x, y, eye, above, radius, label)
 
 
-def points_on_data(points: Sequence[Point], frame: Frame, valid: np.ndarray, faults: List[str]) -> List[Point]:
+def points_on_data(points: Sequence[Point], frame: Frame, has_data: Callable[[int, int], bool],
+                   faults: List[str]) -> List[Point]:
     """The points that lie in cells with data; what is wrong with the others is added to the faults."""
     found = []
     for point in points:
         row, col = frame.cell_at(Fraction(point.x), Fraction(point.y))
         if not frame.has(row, col):
             faults.append(f"{point} lies outside the raster")
-        elif not valid[row, col]:
+        elif not has_data(row, col):
             faults.append(f"{point} lies where there is no data, at row {row} and column {col}")
         else:
             found.append(point)
@@ -255,30 +264,13 @@ def write_points(path: str, places: Sequence[Place], counts: np.ndarray, frame: 
     Raises:
         DeviceError, OSError: the file could not be written.
     """
-    # As a map: a disk that is full is one error, and not one of a destructor.
-    memory = f"/vsimem/{uuid.uuid4().hex}.gpkg"
-    try:
-        with raised_errors():
-            _write_layer(memory, places, counts, frame)
-        copy_to_disk(memory, path)
-    except RuntimeError as error:
-        raise DeviceError(f"{path} could not be written: {error}") from error
-    finally:
-        gdal.Unlink(memory)
+    fields = (("number", int), ("name", str), ("row", int), ("col", int), ("accumulation", int))
+    features = ((_centre(frame, place), (number, place.name, place.row, place.col, int(counts[place.row, place.col])))
+                for number, place in enumerate(places, 1))
+    write_layer(path, "gauges", ogr.wkbPoint, fields, features, frame)
 
 
-def _write_layer(path: str, places: Sequence[Place], counts: np.ndarray, frame: Frame) -> None:
-    dataset = gdal.GetDriverByName("GPKG").Create(path, 0, 0, 0, gdal.GDT_Unknown)
-    layer = dataset.CreateLayer("gauges", frame.spatial_reference(), ogr.wkbPoint)
-    for name, kind in (("number", ogr.OFTInteger), ("name", ogr.OFTString), ("row", ogr.OFTInteger),
-                       ("col", ogr.OFTInteger), ("accumulation", ogr.OFTInteger)):
-        layer.CreateField(ogr.FieldDefn(name, kind))
-    for number, place in enumerate(places, 1):
-        feature = ogr.Feature(layer.GetLayerDefn())
-        values = number, place.name, place.row, place.col, int(counts[place.row, place.col])
-        for at, value in enumerate(values):
-            feature.SetField(at, value)
-        point = ogr.Geometry(ogr.wkbPoint)
-        point.AddPoint_2D(*frame.centre(place.row, place.col))
-        feature.SetGeometry(point)
-        layer.CreateFeature(feature)
+def _centre(frame: Frame, place: Place) -> ogr.Geometry:
+    point = ogr.Geometry(ogr.wkbPoint)
+    point.AddPoint_2D(*frame.centre(place.row, place.col))
+    return point

@@ -15,8 +15,8 @@ from typing import IO, Callable, Iterator, List, Optional, Sequence, Set, Tuple
 
 import numpy as np
 
-from .errors import Cancelled, DeviceError, InputError, MissingError, ReliefError
-from .grid_text import PIECE, read_grid, write_grid
+from .errors import Cancelled, DeviceError, MissingError, ReliefError
+from .grid_text import PIECE, TakeRows, read_grid, write_grid
 
 FAULT = re.compile(r"relief: (?:(\d+) )?(\S.*?)(?: (\d+))?")
 STAGE = re.compile(r"relief: stage (\d+): (\d{1,3}) %")
@@ -91,7 +91,8 @@ class Program:
     def run(self, words: Sequence[str], units: np.ndarray, valid: Optional[np.ndarray],
             subjects: Sequence[str] = (), sinks: Sequence[str] = (), on_progress: Optional[Report] = None,
             is_cancelled: Optional[Question] = None, by_percent: bool = False,
-            dtype: "np.typing.DTypeLike" = np.int64) -> np.ndarray:
+            dtype: "np.typing.DTypeLike" = np.int64, on_rows: Optional[TakeRows] = None,
+            keeps: bool = True) -> np.ndarray:
         """Makes a map of heights.
 
         Args:
@@ -104,6 +105,8 @@ class Program:
             is_cancelled: asked ten times a second; the run ends when it says so.
             by_percent: call on_progress at each percent, where a tenth of a second has passed, and not at tenths.
             dtype: an integer type that has all numbers of the map.
+            on_rows: called on another thread with strips of the map, and their first rows, as soon as they are read.
+            keeps: whether the map is kept; else what is returned has no rows.
 
         Returns:
             (rows, cols) of that type, the map as the program wrote it.
@@ -133,7 +136,7 @@ class Program:
             try:
                 listening = pool.submit(_listen, words[0], errors.fileno(), steps)
                 feeding = pool.submit(_feed, units, valid, process.stdin)
-                reading = pool.submit(_collect, process.stdout, dtype)
+                reading = pool.submit(_collect, process.stdout, dtype, units.shape, on_rows, keeps)
                 _wait({listening, feeding, reading}, report)
                 status = process.wait()
             except BaseException:
@@ -143,10 +146,7 @@ class Program:
         feeding.result()
         if status != 0:
             raise _refusal(status, listening.result(), subjects, sinks or subjects)
-        found = reading.result()
-        if found.shape != units.shape:
-            raise InputError(f"relief wrote {found.shape} rows and columns of {units.shape}")
-        return found
+        return reading.result()
 
     def _start(self, words: Sequence[str], on_terminal: bool) -> Tuple["subprocess.Popen[bytes]", IO[bytes]]:
         """Starts the program; its process, with pipes in and out, and where its errors are read."""
@@ -179,10 +179,11 @@ def _feed(units: np.ndarray, valid: Optional[np.ndarray], file: IO[bytes]) -> No
         pass
 
 
-def _collect(file: IO[bytes], dtype: "np.typing.DTypeLike") -> np.ndarray:
+def _collect(file: IO[bytes], dtype: "np.typing.DTypeLike", shape: Tuple[int, ...],
+             on_rows: Optional[TakeRows], keeps: bool) -> np.ndarray:
     """Reads the map that the program writes; to the end in any case, so that the program ends too."""
     try:
-        return read_grid(file, dtype)
+        return read_grid(file, dtype, shape, on_rows, keeps)
     finally:
         while file.read(PIECE):
             pass

@@ -2,102 +2,29 @@
 from __future__ import annotations
 
 import math
-from dataclasses import dataclass, replace
+import os
+from concurrent.futures import ThreadPoolExecutor
+from dataclasses import dataclass
 from fractions import Fraction
-from functools import cached_property
-from typing import Optional, Tuple, cast
+from typing import Optional, Sequence, Tuple, cast
 
 import numpy as np
 from osgeo import gdal, osr
 
 from . import cures
-from .blocks import for_rows
+from .blocks import THREADS, for_rows
 from .errors import DeviceError, InputError, UsageError
+from .frame import Bounds, Frame, Geotransform, Window, reference_of
 from .gdal_errors import raised_errors
 from .ground import GroundCell, conformal_code, degrees_of, ground_cell, worst_cell
 from .heights import MOST_SIDE
-from .units import origin_of, plain, side_of
+from .units import plain
 from .voids import alpha_bands, data_cells, has_own_mask
 
 # How far the last column may drift from its place where cells are a little oblong by rounding, in cells.
 MOST_DRIFT = Fraction(1, 100)
 # How many rows are read at once, at least.
 ROWS_AT_ONCE = 512
-
-Geotransform = Tuple[float, float, float, float, float, float]
-Window = Tuple[int, int, int, int]
-Bounds = Tuple[Fraction, Fraction, Fraction, Fraction]
-
-
-@dataclass(frozen=True)
-class Frame:
-    """Where a raster lies: its geotransform and projection (WKT, empty: none), columns and rows.
-
-    Sides and origin of its cells are taken as the simplest fractions that their floats stand for.
-    """
-
-    geotransform: Geotransform
-    projection: str
-    cols: int
-    rows: int
-    is_point: bool = False
-    # The exact origin of a part, which its rounded float need not stand for.
-    origin: Optional[Tuple[Fraction, Fraction]] = None
-
-    @cached_property
-    def across(self) -> Fraction:
-        """The width of a cell."""
-        return side_of(self.geotransform[1])
-
-    @cached_property
-    def down(self) -> Fraction:
-        """The height of a cell, below 0 where rows run from north to south."""
-        return side_of(self.geotransform[5])
-
-    @cached_property
-    def corner(self) -> Tuple[Fraction, Fraction]:
-        """The coordinates of the first cell's outer corner."""
-        if self.origin is not None:
-            return self.origin
-        return origin_of(self.geotransform[0], self.across), origin_of(self.geotransform[3], self.down)
-
-    @property
-    def cell(self) -> Fraction:
-        """The side of a cell."""
-        return self.across
-
-    def columns_to(self, x: Fraction) -> Fraction:
-        """How many cells lie between the first column's outer side and a coordinate."""
-        return (x - self.corner[0]) / self.across
-
-    def rows_to(self, y: Fraction) -> Fraction:
-        """How many cells lie between the first row's outer side and a coordinate."""
-        return (y - self.corner[1]) / self.down
-
-    def cell_at(self, x: Fraction, y: Fraction) -> Tuple[int, int]:
-        """Row and column of the cell that holds a point; of a border the cell in the east or the south."""
-        return math.floor(self.rows_to(y)), math.floor(self.columns_to(x))
-
-    def centre(self, row: int, col: int) -> Tuple[float, float]:
-        """The coordinates of a cell's centre."""
-        half = Fraction(1, 2)
-        return float(self.corner[0] + (col + half) * self.across), float(self.corner[1] + (row + half) * self.down)
-
-    def has(self, row: int, col: int) -> bool:
-        """Whether a cell lies in the raster."""
-        return 0 <= row < self.rows and 0 <= col < self.cols
-
-    def part(self, window: Window) -> Frame:
-        """The frame of a window of the raster."""
-        left, top, cols, rows = window
-        x, y = self.corner[0] + left * self.across, self.corner[1] + top * self.down
-        west, across, turn, north, tilt, down = self.geotransform
-        moved = (float(x) if left else west, across, turn, float(y) if top else north, tilt, down)
-        return replace(self, geotransform=moved, cols=cols, rows=rows, origin=(x, y))
-
-    def spatial_reference(self) -> Optional[osr.SpatialReference]:
-        """The projection with x before y, or None."""
-        return reference_of(self.projection) if self.projection else None
 
 
 @dataclass(frozen=True)
@@ -125,25 +52,75 @@ class Terrain:
     is_part: bool = False
 
 
-def reference_of(words: str) -> osr.SpatialReference:
-    """A projection by any words that GDAL takes, as EPSG:32632, with x before y.
+@dataclass(frozen=True)
+class Raster:
+    """A raster that is open, of which all or a part is to be read.
 
-    Raises:
-        UsageError: GDAL knows no such projection.
+    Attributes:
+        dataset: what GDAL reads.
+        source: the raster as commands of GDAL read it.
+        whole: where all of it lies.
+        window: the part to be read: column, row, columns, rows.
     """
-    reference = osr.SpatialReference()
-    try:
-        with raised_errors():
-            reference.SetFromUserInput(words)
-    except RuntimeError as error:
-        raise UsageError(f"no projection {words}: {error}") from None
-    reference.SetAxisMappingStrategy(osr.OAMS_TRADITIONAL_GIS_ORDER)
-    return reference
+
+    dataset: gdal.Dataset
+    source: cures.Source
+    whole: Frame
+    window: Window
+
+    @property
+    def frame(self) -> Frame:
+        """Where the part to be read lies."""
+        return self.whole.part(self.window)
+
+    @property
+    def unit(self) -> str:
+        """The unit of heights that the band names, or ""."""
+        return self.dataset.GetRasterBand(self.source.band).GetUnitType() or ""
+
+    @property
+    def is_wide(self) -> bool:
+        """Whether the part to be read is larger than what the program takes."""
+        return max(self.window[2:]) > MOST_SIDE
+
+    def size_words(self) -> str:
+        """How many columns and rows the part to be read has, and how many it may have."""
+        return _size_words(self.window, self.source)
+
+    def coarsening(self, longest: int) -> str:
+        """The command that makes cells so large that a side of so many of them is not too long."""
+        return _coarsening(self.whole, self.source, longest)
+
+    def has_data(self, row: int, col: int) -> bool:
+        """Whether a cell of the part to be read has data."""
+        left, top = self.window[:2]
+        try:
+            with raised_errors():
+                return bool(_read(self.dataset, self.source, self.whole, (left + col, top + row, 1, 1)).valid[0, 0])
+        except RuntimeError as error:
+            raise DeviceError(f"{self.source.path} could not be read: {error}") from error
+
+    def read(self, part: Optional[Window] = None) -> Terrain:
+        """Reads heights: those of a window within the part to be read, or all of it.
+
+        Raises:
+            InputError: cells are too many, or not square on the ground.
+            DeviceError: GDAL could not read them.
+        """
+        left, top = self.window[:2]
+        window = self.window if part is None else (left + part[0], top + part[1], part[2], part[3])
+        try:
+            with raised_errors():
+                _check_size(window, self.whole, self.source)
+                _check_ground(self.whole.part(window), self.source)
+                return _read(self.dataset, self.source, self.whole, window)
+        except (RuntimeError, MemoryError) as error:
+            raise DeviceError(f"{self.source.path} could not be read: {error}") from error
 
 
-def read_terrain(path: str, band: int = 1, window: Optional[Window] = None, bounds: Optional[Bounds] = None,
-                 projection: Optional[str] = None, needs_projection: bool = True) -> Terrain:
-    """Reads heights from a raster, or from a window of it.
+def open_raster(path: str, band: int = 1, window: Optional[Window] = None, bounds: Optional[Bounds] = None,
+                projection: Optional[str] = None, needs_projection: bool = True) -> Raster:
+    """Opens a raster of heights, and finds which part of it is to be read.
 
     Args:
         path: what GDAL opens.
@@ -155,7 +132,7 @@ def read_terrain(path: str, band: int = 1, window: Optional[Window] = None, boun
 
     Raises:
         UsageError: the band, window, bounds or projection is none.
-        InputError: cells are turned, not square, in degrees, too many or not placed.
+        InputError: cells are turned, not square, in degrees or not placed.
         DeviceError: GDAL could not read it.
     """
     try:
@@ -165,10 +142,7 @@ def read_terrain(path: str, band: int = 1, window: Optional[Window] = None, boun
             source = _source_of(dataset, path, band, projection)
             whole = _frame_of(dataset, source, projection)
             _check_frame(whole, source, needs_projection)
-            part = _window_of(whole, window, bounds)
-            _check_size(part, whole, source)
-            _check_ground(whole.part(part), source)
-            return _read(dataset, source, whole, part)
+            return Raster(dataset, source, whole, _window_of(whole, window, bounds))
     except (RuntimeError, MemoryError) as error:
         raise DeviceError(f"{path} could not be read: {error}") from error
 
@@ -295,15 +269,23 @@ def _check_size(window: Window, frame: Frame, source: cures.Source) -> None:
     _, _, cols, rows = window
     longest = max(cols, rows)
     if longest > MOST_SIDE:
-        coarser = cures.coarsen(source, frame.cell, -(-longest // MOST_SIDE))
-        raise InputError(f"{source.path} has {cols:,} columns and {rows:,} rows, and {MOST_SIDE:,} of each is the "
-                         "most: cut a part out by --window COL,ROW,COLS,ROWS or --bounds WEST,SOUTH,EAST,NORTH, "
-                         f"with a margin round the catchment, or make the cells larger: {coarser}")
+        raise InputError(f"{_size_words(window, source)}: cut a part out by --window COL,ROW,COLS,ROWS or --bounds "
+                         "WEST,SOUTH,EAST,NORTH, with a margin round the catchment, or make the cells larger: "
+                         f"{_coarsening(frame, source, longest)}")
+
+
+def _size_words(window: Window, source: cures.Source) -> str:
+    return f"{source.path} has {window[2]:,} columns and {window[3]:,} rows, and {MOST_SIDE:,} of each is the most"
+
+
+def _coarsening(frame: Frame, source: cures.Source, longest: int) -> str:
+    """The command that makes cells so large that a side of so many of them is not too long."""
+    return cures.coarsen(source, frame.cell, -(-longest // MOST_SIDE))
 
 
 def _read(dataset: gdal.Dataset, source: cures.Source, whole: Frame, window: Window) -> Terrain:
     band = dataset.GetRasterBand(source.band)
-    values = _signed(band, _values_of(band, window))
+    values = _signed(band, _values_of(dataset, source, window))
     if values.dtype.kind not in "iuf":
         raise InputError(f"heights of type {values.dtype} are neither integers nor floats")
     valid = data_cells(dataset, source.band, window, values, for_rows)
@@ -313,17 +295,31 @@ def _read(dataset: gdal.Dataset, source: cures.Source, whole: Frame, window: Win
                    band.GetUnitType() or "", whole.part(window), source, is_part)
 
 
-def _values_of(band: gdal.Band, window: Window) -> np.ndarray:
+def _values_of(dataset: gdal.Dataset, source: cures.Source, window: Window) -> np.ndarray:
     """What a band has in a window."""
     left, top, cols, rows = window
+    band = dataset.GetRasterBand(source.band)
     values = np.empty((rows, cols), band.ReadAsArray(left, top, 1, 1).dtype)
     height = band.GetBlockSize()[1]
     step = -(-ROWS_AT_ONCE // height) * height
-    for row in range(0, rows, step):
-        part = values[row:row + step]
-        band.ReadAsArray(left, top + row, cols, len(part), buf_obj=part)
-        # Blocks that GDAL keeps would need as much memory as the values.
-        band.FlushCache()
+    # Blocks end at multiples of their height.
+    firsts = [0, *range(step - top % height, rows, step)] if rows > step else [0]
+    parts = [(first, values[first:after]) for first, after in zip(firsts, [*firsts[1:], rows])]
+
+    def read(share: Sequence[Tuple[int, np.ndarray]], own: gdal.Dataset) -> None:
+        with raised_errors():
+            chosen = own.GetRasterBand(source.band)
+            for first, part in share:
+                chosen.ReadAsArray(left, top + first, cols, len(part), buf_obj=part)
+                # Blocks that GDAL keeps would need as much memory as the values.
+                chosen.FlushCache()
+
+    # A dataset is read by one thread at a time, and files of GeoTIFF are opened again for others.
+    count = min(THREADS, len(parts)) if dataset.GetDriver().ShortName == "GTiff" and os.path.isfile(source.path) else 1
+    shares = [parts[len(parts) * at // count:len(parts) * (at + 1) // count] for at in range(count)]
+    datasets = [dataset, *(gdal.OpenEx(source.path, gdal.OF_RASTER) for _ in shares[1:])]
+    with ThreadPoolExecutor(count) as pool:
+        list(pool.map(read, shares, datasets))
     return values
 
 

@@ -2,17 +2,18 @@
 from __future__ import annotations
 
 from decimal import Decimal
-from typing import TYPE_CHECKING, Callable, Dict, List, Optional, Sequence, Tuple
+from typing import TYPE_CHECKING, Callable, Dict, List, Mapping, Optional, Sequence, Tuple
 
 import numpy as np
 
 from .errors import InputError, UsageError
+from .frame import Frame
+from .grid_text import TakeRows
 from .heights import Heights
 from .maps import Place, Request, lower_neighbour
 from .points import Point, Source, places_of, points_of, points_on_data, snap
 from .program import Program
-from .raster import Frame
-from .units import fraction_of, plain, radius_in_cells, whole_units
+from .units import Reach, fraction_of, plain, radius_in_cells, whole_units
 
 if TYPE_CHECKING:
     from .job import Caller, Job
@@ -37,16 +38,19 @@ def check_count(job: Job, places: Sequence[object]) -> None:
 def requests_of(job: Job, frame: Frame, heights: Heights, program: Program,
                 caller: Caller) -> Tuple[List[Request], Optional[Tuple[List[Place], np.ndarray]]]:
     """What the program is asked for, and of snapped gauges their places and the accumulation."""
-    points = _points(job, job.places, frame, heights, caller.say)
+    def has_data(row: int, col: int) -> bool:
+        return bool(heights.valid[row, col])
+
+    points = points_in(job, job.places, frame, has_data, caller.say)
     # A layer may have no points.
     check_count(job, points)
     if job.map == "view":
-        return _views(job, points, frame, heights, caller.say), None
+        return views(job, points, frame, heights.decimals, radii(job, points, frame, caller.say)), None
     places = places_of(points, frame)
     if job.map != "catchments":
         _tell_sinks(places, frame, heights, caller.say)
         return [Request(SOURCES[job.map], places, workers=job.workers, tile=job.tile)], None
-    sinks = places_of(_points(job, job.sinks, frame, heights, caller.say), frame)
+    sinks = places_of(points_in(job, job.sinks, frame, has_data, caller.say), frame)
     _tell_sinks(sinks, frame, heights, caller.say)
     gauges = None
     if job.snap is not None:
@@ -57,12 +61,13 @@ def requests_of(job: Job, frame: Frame, heights: Heights, program: Program,
     return [Request("catchments", places, sinks, workers=job.workers, tile=job.tile)], gauges
 
 
-def _points(job: Job, sources: Sequence[Source], frame: Frame, heights: Heights, say: Say) -> List[Point]:
+def points_in(job: Job, sources: Sequence[Source], frame: Frame, has_data: Callable[[int, int], bool],
+              say: Say) -> List[Point]:
     """The points that lie in cells with data; others are refused, or left out where the job says so."""
     notes: List[str] = []
     faults: List[str] = []
     points = points_of(sources, frame, notes, faults)
-    points = points_on_data(points, frame, heights.valid, faults)
+    points = points_on_data(points, frame, has_data, faults)
     for note in notes + [f"left out: {fault}" for fault in faults if job.skip]:
         say(note)
     if faults and not job.skip:
@@ -77,24 +82,50 @@ def _words_of_faults(faults: Sequence[str]) -> str:
     return f"{len(faults):,} points have no place: {'; '.join(faults[:MOST_NAMED])}{more}: --skip leaves them out"
 
 
-def _views(job: Job, points: Sequence[Point], frame: Frame, heights: Heights, say: Say) -> List[Request]:
-    """A request for each target height and radius: the program takes one of each."""
-    groups: Dict[Tuple[Decimal, Optional[Decimal]], List[Point]] = {}
+def radii(job: Job, points: Sequence[Point], frame: Frame, say: Say) -> Dict[Reach, int]:
+    """How many whole cells each radius of observers has, which is told."""
+    found = {}
+    for point in points:
+        radius = radius_of(job, point)
+        if radius is not None and radius not in found:
+            found[radius] = radius_in_cells(radius, frame.cell)
+    for radius, count in found.items():
+        say(f"radius {plain(radius)}: {count} whole cells of {plain(frame.cell)}")
+    return found
+
+
+def radius_of(job: Job, point: Point) -> Optional[Reach]:
+    """How far an observer sees, in the unit of the projection; None: over all that is read."""
+    return job.radius if point.radius is None else point.radius
+
+
+def views(job: Job, points: Sequence[Point], frame: Frame, decimals: int,
+          cells: Mapping[Reach, int]) -> List[Request]:
+    """A request for each target height and radius, of which the program takes one each.
+
+    Args:
+        cells: of each radius, how many it has.
+    """
+    groups: Dict[Tuple[Decimal, Optional[Reach]], List[Point]] = {}
     for point in points:
         above = job.above if point.above is None else point.above
-        radius = job.radius if point.radius is None else point.radius
-        groups.setdefault((above, radius), []).append(point)
-    cells = {radius: radius_in_cells(radius, frame.cell) for _, radius in groups if radius is not None}
-    for radius, count in cells.items():
-        say(f"radius {plain(radius)}: {count} whole cells of {plain(frame.cell)}")
-    return [Request("view", places_of(group, frame, heights.decimals, job.eye),
-                    target=whole_units(above, heights.decimals, "the target"),
+        groups.setdefault((above, radius_of(job, point)), []).append(point)
+    return [Request("view", places_of(group, frame, decimals, job.eye),
+                    target=whole_units(above, decimals, "the target"),
                     radius=None if radius is None else cells[radius], workers=job.workers, tile=job.tile)
             for (above, radius), group in groups.items()]
 
 
-def made(requests: Sequence[Request], heights: Heights, program: Program, caller: Caller) -> np.ndarray:
-    """The map of one request; of several, which are views, how many observers of all of them see each cell."""
+def made(requests: Sequence[Request], heights: Heights, program: Program, caller: Caller,
+         on_rows: TakeRows, keeps: bool) -> np.ndarray:
+    """The map of one request; of several, which are views, how many observers of all of them see each cell.
+
+    Args:
+        on_rows: called with strips of the map, and their first rows, where they are written one after the other.
+        keeps: whether such a map is kept.
+    """
+    if len(requests) == 1:
+        return caller.make(requests[0], heights, program, on_rows, keeps)
     found = caller.make(requests[0], heights, program)
     for request in requests[1:]:
         found = np.where(heights.valid, found + caller.make(request, heights, program), found)

@@ -1,78 +1,158 @@
 """A map as it is written: its values, their type, the NODATA value, the unit."""
 from __future__ import annotations
 
-from typing import Optional, Tuple
+import math
+from dataclasses import dataclass
+from typing import Callable, Optional
 
 import numpy as np
 
-from .blocks import array_of, data_ends, for_rows
+from .blocks import data_ends, for_rows
 from .errors import InputError
-from .geotiff import nodata_for
 from .heights import Heights
 from .maps import NODATA_CODE, NODATA_COUNT
 from .raster import Terrain
+from .voids import fits, limits
 
 # A float32 tells apart all whole numbers of units up to this one.
 MOST_FLOAT32_UNITS = 1 << 23
 
 
-def result_of(name: str, terrain: Terrain, heights: Heights, found: np.ndarray,
-              threshold: int = 0) -> Tuple[np.ndarray, Optional[float], str]:
-    """A map as it is written, with its NODATA value and unit.
+@dataclass(frozen=True)
+class Result:
+    """How a map is written.
+
+    Attributes:
+        dtype: the type of its values.
+        nodata: the NODATA value, or None.
+        unit: that of the values, or "".
+        values: of rows of what the program wrote, and their slice, what is written.
+    """
+
+    dtype: np.dtype
+    nodata: Optional[float]
+    unit: str
+    values: Callable[[np.ndarray, slice], np.ndarray]
+
+    def rows(self, strip: np.ndarray, row: int) -> np.ndarray:
+        """Rows of the map as they are written, of what the program wrote from a row on, by threads."""
+        array = np.empty(strip.shape, self.dtype)
+
+        def put(block: slice) -> None:
+            array[block] = self.values(strip[block], slice(row + block.start, row + block.stop))
+
+        for_rows(put, array.shape)
+        return array
+
+
+def result_of(name: str, terrain: Terrain, heights: Heights, found: Optional[np.ndarray] = None,
+              threshold: int = 0) -> Optional[Result]:
+    """How a map is written; None: what the program writes has to be known, which was not given.
 
     Args:
         name: of the map.
         terrain: of which its values may be left out.
-        found: (rows, cols), what the program wrote for the map; of `depth` it is written over.
+        found: (rows, cols), what the program wrote for the map.
         threshold: of `streams`.
 
     Raises:
         InputError: each value of the heights' type is a height, and none is left for NODATA.
     """
-    valid, shape = heights.valid, found.shape
+    valid = heights.valid
     if name == "fill":
-        values, nodata = _filled(terrain, heights, found)
-        return values, nodata, terrain.unit
+        return _filled(terrain, heights, found)
     if name == "depth":
-        return _depth(heights, found), NODATA_COUNT, terrain.unit
+        return _depth(terrain, heights, found)
     if name == "area":
         # One rounding: the area is the float that is nearest to it.
-        by, part = (terrain.frame.cell ** 2).as_integer_ratio()
-        return array_of(lambda rows: np.where(valid[rows], (found[rows] + 1.0) * by / part, NODATA_COUNT), shape,
-                        np.float64), NODATA_COUNT, ""
+        by, part = map(float, (terrain.frame.cell ** 2).as_integer_ratio())
+        return Result(np.dtype(np.float64), NODATA_COUNT, "",
+                      lambda cells, rows: np.where(valid[rows], (cells + 1.0) * by / part, NODATA_COUNT))
     if name == "streams":
-        return array_of(lambda rows: np.where(valid[rows], found[rows] > threshold, NODATA_CODE), shape,
-                        np.uint8), NODATA_CODE, ""
-    return found, NODATA_CODE if name == "flow" else NODATA_COUNT, ""
+        return Result(np.dtype(np.uint8), NODATA_CODE, "",
+                      lambda cells, rows: np.where(valid[rows], cells > threshold, NODATA_CODE))
+    if name == "flow":
+        return Result(np.dtype(np.uint8), NODATA_CODE, "",
+                      lambda cells, rows: np.where(valid[rows], cells, NODATA_CODE))
+    return Result(np.dtype(np.int32), NODATA_COUNT, "", lambda cells, rows: cells)
 
 
-def _filled(terrain: Terrain, heights: Heights, found: np.ndarray) -> Tuple[np.ndarray, Optional[float]]:
-    """Filled heights and their NODATA value."""
-    valid = heights.valid
-    values = heights.values(found, _height_type(terrain, heights))
-    if valid.all():
-        return values, nodata_for(values.dtype, terrain.nodata, values)
-    # So that each value is a height.
-    _put_where_no_data(values, valid, values.flat[valid.argmax()])
-    nodata = nodata_for(values.dtype, terrain.nodata, values)
-    if nodata is None:
+def _filled(terrain: Terrain, heights: Heights, found: Optional[np.ndarray]) -> Optional[Result]:
+    """Filled heights, each of which is the height of some cell: what no height has is no filled height either."""
+    dtype = _height_type(terrain, heights)
+    units = heights.units if found is None else found
+    nodata = _nodata_for(dtype, terrain.nodata, heights, units)
+    if nodata is None and found is None:
+        return None
+    if nodata is None and not heights.valid.all():
         raise InputError("each value of the heights' type is a height, and none is left for NODATA")
-    _put_where_no_data(values, valid, values.dtype.type(nodata))
-    return values, nodata
+    return Result(dtype, nodata, terrain.unit, _values_of_units(heights, dtype, nodata))
 
 
-def _depth(heights: Heights, found: np.ndarray) -> np.ndarray:
-    def subtract(rows: slice) -> int:
-        found[rows] = np.where(heights.valid[rows], found[rows] - heights.units[rows], 0)
-        return int(found[rows].max())
+def _depth(terrain: Terrain, heights: Heights, found: Optional[np.ndarray]) -> Optional[Result]:
+    if found is None:
+        low, high = data_ends(heights.units, heights.valid) or (0, 0)
+        dtype = _least_type(heights.decimals, int(high) - int(low))
+        if dtype == np.float64:
+            # The deepest cell may lie less deep than the lowest height below the highest one.
+            return None
+    else:
+        dtype = _least_type(heights.decimals, max(for_rows(lambda rows: _deepest(heights, found, rows), found.shape)))
+    values = _values_of_units(heights, dtype, NODATA_COUNT)
+    return Result(dtype, NODATA_COUNT, terrain.unit, lambda cells, rows: values(cells - heights.units[rows], rows))
 
-    depth = heights.values(found, _least_type(heights.decimals, max(for_rows(subtract, found.shape))))
-    _put_where_no_data(depth, heights.valid, depth.dtype.type(NODATA_COUNT))
-    return depth
+
+def _deepest(heights: Heights, found: np.ndarray, rows: slice) -> int:
+    return int(np.where(heights.valid[rows], found[rows] - heights.units[rows], 0).max())
 
 
-def _put_where_no_data(values: np.ndarray, valid: np.ndarray, value: np.generic) -> None:
-    for_rows(lambda rows: np.copyto(values[rows], value, where=~valid[rows]), values.shape)
+def _values_of_units(heights: Heights, dtype: np.dtype, nodata: Optional[float]) -> Callable[..., np.ndarray]:
+    """Rows of units as heights of a type, with NODATA."""
+    missing = dtype.type(0 if nodata is None else nodata)
+
+    def values(cells: np.ndarray, rows: slice) -> np.ndarray:
+        plain = (cells if heights.decimals == 0 else cells / 10.0**heights.decimals).astype(dtype, copy=False)
+        return plain if heights.valid[rows].all() else np.where(heights.valid[rows], plain, missing)
+
+    return values
+
+
+def _nodata_for(dtype: np.dtype, wanted: Optional[float], heights: Heights, units: np.ndarray) -> Optional[float]:
+    """A NODATA value that a type has and no datum is: the wanted one if it can be, else -9999, else an end of the type.
+
+    Where all these are data, the greatest integer that is none; None: there is no such value.
+
+    Args:
+        dtype: the type of the raster to be written, which tells all units apart.
+        wanted: the NODATA value of the raster that was read, or None.
+        units: (rows, cols), the data in units where there is data.
+    """
+    least, most = limits(dtype)
+    for value in (wanted, -9999.0, least, most):
+        # No datum is NaN.
+        if value is not None and fits(value, dtype) and not _is_datum(value, dtype, heights, units):
+            return value
+    return _greatest_free(units[heights.valid].astype(dtype)) if dtype.kind in "iu" else None
+
+
+def _is_datum(value: float, dtype: np.dtype, heights: Heights, units: np.ndarray) -> bool:
+    """Whether a datum, in units, is a value of a type."""
+    scaled = float(dtype.type(value)) * 10.0**heights.decimals
+    if not abs(scaled) <= np.iinfo(units.dtype).max:
+        return False
+    near = [unit for unit in {math.floor(scaled), math.ceil(scaled)}
+            if dtype.type(unit / 10.0**heights.decimals) == dtype.type(value)]
+    return bool(near) and any(for_rows(lambda rows: bool(np.any(np.isin(units[rows], near) & heights.valid[rows])),
+                                       units.shape))
+
+
+def _greatest_free(data: np.ndarray) -> Optional[int]:
+    """The greatest integer of a type that is none of the data, which has the type's ends."""
+    least, most = limits(data.dtype)
+    used = np.unique(data)[::-1]
+    gaps = np.flatnonzero(used != most - np.arange(used.size))
+    free = most - (int(gaps[0]) if gaps.size else used.size)
+    return free if free >= least else None
 
 
 def _height_type(terrain: Terrain, heights: Heights) -> np.dtype:

@@ -34,25 +34,28 @@ def color_table(name: str) -> Optional[Dict[int, Color]]:
     return None
 
 
-def style(name: str, values: np.ndarray, decimals: int = 0) -> Optional[str]:
+def needs_most(name: str) -> bool:
+    """Whether the style of a map takes its greatest value."""
+    return name in ("view", "accumulate", "depth")
+
+
+def style(name: str, found: np.ndarray, most: float, decimals: int = 0) -> Optional[str]:
     """A QGIS style (QML) for a map; None: QGIS's own is as good.
 
     Args:
         name: the map.
-        values: (rows, cols), the map as it is written.
+        found: (rows, cols), what the program wrote for the map.
+        most: the greatest value as it is written, where `needs_most`.
         decimals: those of heights.
     """
-    if values.size == 0:
-        return None
     if name == "flow":
         table = color_table(name) or {}
         return _palette([(code, table[code], label) for code, label in DIRECTIONS])
     if name == "streams":
         return _palette([(1, (8, 81, 156, 255), "stream")])
     if name in ("basins", "catchments"):
-        numbers = _numbers(values)
+        numbers = _numbers(found)
         return None if numbers is None else _palette([(it, _hue(it * GOLDEN_TURN), str(it)) for it in numbers])
-    most = float(values.max())
     if name == "view":
         return _palette(_seen(int(most)))
     if name == "accumulate":

@@ -34,6 +34,8 @@ class Kind:
 
 RASTER = Kind("a GeoTIFF", "raster", (".tif", ".tiff"), gdal.OF_RASTER, SIDECARS)
 VECTOR = Kind("a GeoPackage", "layer of points", (".gpkg",), gdal.OF_VECTOR)
+TABLE = Kind("a table", "table", (".csv",), gdal.OF_VECTOR)
+PICTURE = Kind("a picture", "picture", (".png",), gdal.OF_RASTER, (".aux.xml",))
 
 
 def check_targets(targets: Sequence[Tuple[Optional[str], Kind]], sources: Mapping[str, str]) -> None:

@@ -8,6 +8,7 @@ from typing import Iterator, List, Optional, Sequence, Tuple, Union
 
 from .job import Job, Source
 from .points import Layer, Point
+from .units import Measure
 
 # More digits than an exact decimal of a float's shortest text has.
 MOST_DIGITS = 400
@@ -26,12 +27,14 @@ def typed_command(job: Job) -> str:
 
 def _options(job: Job) -> List[Option]:
     """The options that have one value; those at their defaults have none, but for threads."""
-    return [("--band", job.band if job.band != 1 else None), ("--window", job.window), ("--bounds", job.bounds),
-            ("--projection", job.projection), ("--no-projection", None if job.needs_projection else ""),
-            ("--decimals", job.decimals), ("--voids", job.voids if job.voids != "refuse" else None),
-            ("--skip", "" if job.skip else None), ("--threshold", job.threshold), ("--snap", job.snap),
-            ("--snapped", job.snapped), ("--uncertain", job.uncertain), ("--workers", job.workers),
-            ("--tile", job.tile)]
+    return [("--band", job.band if job.band != 1 else None),
+            ("--around", None if job.around is None else (job.around.x, job.around.y)), ("--window", job.window),
+            ("--bounds", job.bounds), ("--projection", job.projection),
+            ("--no-projection", None if job.needs_projection else ""), ("--decimals", job.decimals),
+            ("--voids", job.voids if job.voids != "refuse" else None), ("--skip", "" if job.skip else None),
+            ("--threshold", job.threshold), ("--lines", job.lines), ("--least", job.least), ("--snap", job.snap),
+            ("--snapped", job.snapped), ("--polygons", job.polygons), ("--uncertain", job.uncertain),
+            ("--workers", job.workers), ("--tile", job.tile)]
 
 
 def _places(word: str, layer: str, sources: Sequence[Source]) -> Iterator[Option]:
@@ -47,8 +50,13 @@ def _observers(job: Job) -> Iterator[Option]:
     if job.map != "view":
         return
     points = [source for source in job.places if isinstance(source, Point)]
-    fields = [source.eye_field for source in job.places if isinstance(source, Layer)]
-    yield "--eye-field", fields[0] if fields else None
+    layers = [source for source in job.places if isinstance(source, Layer)]
+    for option, name in (("--eye-field", "eye_field"), ("--target-field", "above_field"),
+                         ("--radius-field", "radius_field"), ("--name-field", "name_field")):
+        yield option, getattr(layers[0], name) if layers else None
+    yield from (("--each", "" if job.each else None), ("--visibility", job.visibility),
+                ("--curvature", "" if job.curvature else None),
+                ("--refraction", job.refraction if job.curvature else None))
     for option, name, common in (("--eye", "eye", job.eye), ("--target", "above", job.above or None),
                                  ("--radius", "radius", job.radius)):
         own = [getattr(point, name) for point in points]
@@ -58,6 +66,8 @@ def _observers(job: Job) -> Iterator[Option]:
 
 def _text(value: object) -> str:
     """A value as a word; numbers are exact and without exponent."""
+    if isinstance(value, Measure):
+        return value.word
     if isinstance(value, tuple):
         return ",".join(map(_text, value))
     if isinstance(value, (Decimal, Fraction)):

@@ -2,13 +2,18 @@
 from __future__ import annotations
 
 import math
+import re
+from dataclasses import dataclass
 from decimal import Decimal, InvalidOperation, ROUND_UP
 from fractions import Fraction
-from typing import Union
+from typing import Mapping, Union
 
 from .errors import UsageError
 
 Number = Union[int, float, str, Decimal]
+# Units of lengths and areas in words, in metres and square metres.
+LENGTHS = {"m": 1, "km": 1000}
+AREAS = {"m2": 1, "ha": 10_000, "km2": 1_000_000}
 
 # The program's limits.
 MOST_DECIMALS = 6
@@ -32,6 +37,30 @@ def decimal_of(value: Number, what: str = "number") -> Decimal:
     if not number.is_finite():
         raise UsageError(f"{what} {value} is no number")
     return number
+
+
+@dataclass(frozen=True)
+class Measure:
+    """A length in metres, or an area in square metres, and the word that gave it."""
+
+    metres: Decimal
+    word: str
+
+
+# A length as a user gives it, and as it is reckoned with.
+Reach = Union[Decimal, Fraction, Measure]
+
+
+def measure_of(word: str, units: Mapping[str, int], what: str) -> Union[Decimal, Measure]:
+    """The number, or the number with a unit, that a word stands for, as 5km.
+
+    Raises:
+        UsageError: it is neither.
+    """
+    found = re.fullmatch(rf"(.*\d)\s*({'|'.join(units)})", word.strip()) if units else None
+    if found is None:
+        return decimal_of(word, what)
+    return Measure(decimal_of(found[1], what) * units[found[2]], word)
 
 
 def decimals_of(value: Decimal) -> int:
@@ -58,7 +87,7 @@ def whole_units(value: Decimal, decimals: int, what: str) -> int:
     return int(scaled)
 
 
-def radius_in_cells(radius: Decimal, cell: Fraction) -> int:
+def radius_in_cells(radius: Union[Decimal, Fraction], cell: Fraction) -> int:
     """How many whole cells fit into a radius, at most 8,192, which reaches over any grid.
 
     Raises:
@@ -66,7 +95,7 @@ def radius_in_cells(radius: Decimal, cell: Fraction) -> int:
     """
     cells = math.floor(Fraction(radius) / cell)
     if cells < 1:
-        raise UsageError(f"the radius {radius} is less than a cell of {plain(cell)}")
+        raise UsageError(f"the radius {plain(radius)} is less than a cell of {plain(cell)}")
     return min(cells, MOST_RADIUS_CELLS)
 
 

@@ -9,7 +9,7 @@ import judge
 KINDS = (numpy.int8, numpy.uint8, numpy.int16, numpy.uint16, numpy.int32, numpy.uint32, numpy.int64, numpy.uint64,
          numpy.float16, numpy.float32, numpy.float64, numpy.longdouble)
 LAYOUTS = ("C", "Fortran", "strided", "reversed", "masked", "read-only", "swapped")
-MAPS = ("fill", "flow", "accumulate", "basins", "catchments", "view")
+MAPS = ("fill", "flow", "accumulate", "basins", "catchments", "view", "depth", "area", "streams")
 NO_COUNT, NO_CODE = -9999, 255
 
 
@@ -90,6 +90,10 @@ class Call:
         """Sinks, gauges or observers."""
         if self.map != "view" and self.chance.randrange(3) == 0:
             self.arguments["sinks"] = [self.draw_place() for _ in range(self.chance.randint(1, 3))]
+        if self.map == "area":
+            self.arguments["cell"] = self.chance.choice((1, 30, 0.5, "0.1", 1 / 3, self.chance.choice((0, 7, 7, 7))))
+        if self.map == "streams":
+            self.arguments["threshold"] = self.chance.choice((0, 1, 5, 30, -1 if self.chance.randrange(8) == 0 else 2))
         if self.map == "catchments":
             self.arguments["gauges"] = [self.draw_place() for _ in range(self.chance.randint(1, 4))]
         if self.map == "view":
@@ -157,8 +161,18 @@ def expected_map(call, land, decimals):
     drainage = judge.Drainage(land, [tuple(map(int, sink)) for sink in call.arguments.get("sinks", ())])
     if call.map == "catchments":
         return drainage.catchments([tuple(map(int, gauge)) for gauge in call.arguments["gauges"]])
-    if call.map == "fill":
-        return {cell: Fraction(units, 10 ** decimals) for cell, units in drainage.filled.items()}
+    if call.map in ("fill", "depth"):
+        found = drainage.filled if call.map == "fill" else drainage.depth()
+        return {cell: Fraction(units, 10 ** decimals) for cell, units in found.items()}
+    if call.map == "area":
+        side = Fraction(str(call.arguments["cell"])).limit_denominator(1000)
+        if side <= 0:
+            raise Refused("no side")
+        return {cell: (count + 1) * side ** 2 for cell, count in drainage.accumulation().items()}
+    if call.map == "streams":
+        if call.arguments["threshold"] < 0:
+            raise Refused("below 0")
+        return {cell: int(count > call.arguments["threshold"]) for cell, count in drainage.accumulation().items()}
     return {"flow": lambda: drainage.codes, "accumulate": drainage.accumulation, "basins": drainage.basins}[call.map]()
 
 
@@ -196,8 +210,9 @@ def outcome(seed, number):
 
 def difference(call, land, decimals, values, result):
     """How a result differs from the map; none where it does not."""
-    is_own = call.map == "fill" and call.heights.dtype.kind != "f" and decimals == 0
-    kind = {"fill": call.kind if is_own else numpy.float64, "flow": numpy.uint8}.get(call.map, numpy.int32)
+    is_own = call.map in ("fill", "depth") and call.heights.dtype.kind != "f" and decimals == 0
+    kind = {"fill": call.kind if is_own else numpy.float64, "depth": numpy.int64 if is_own else numpy.float64,
+            "area": numpy.float64, "flow": numpy.uint8, "streams": numpy.uint8}.get(call.map, numpy.int32)
     if result.shape != call.heights.shape or result.dtype.newbyteorder("=") != numpy.dtype(kind).newbyteorder("="):
         return f"{result.dtype} of {result.shape}"
     if isinstance(result, numpy.ma.MaskedArray) != isinstance(call.heights, numpy.ma.MaskedArray):
@@ -219,4 +234,4 @@ def is_empty(call, written, height):
     """Whether a value stands for no data in a map."""
     if call.map == "fill":
         return written == numpy.float64(height) or written != written and height != height
-    return written == (NO_CODE if call.map == "flow" else NO_COUNT)
+    return written == (NO_CODE if call.map in ("flow", "streams") else NO_COUNT)

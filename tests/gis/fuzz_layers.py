@@ -18,24 +18,26 @@ def moved(source, target, points):
     return [ways.TransformPoint(x, y)[:2] for x, y in points]
 
 
-def write_package(path, code, source, points, eyes):
-    """Writes a GeoPackage in one projection of points in another one, with their eyes."""
+def write_package(path, code, source, points, values):
+    """Writes a GeoPackage in one projection of points in another one, with lists of values by the names of fields."""
     package = ogr.GetDriverByName("GPKG").CreateDataSource(str(path))
     layer = package.CreateLayer("places", system_of(code), ogr.wkbPoint)
-    layer.CreateField(ogr.FieldDefn("height", ogr.OFTReal))
-    for (x, y), eye in zip(moved(source, code, points), eyes):
+    for name in values:
+        layer.CreateField(ogr.FieldDefn(name, ogr.OFTReal))
+    for index, (x, y) in enumerate(moved(source, code, points)):
         feature = ogr.Feature(layer.GetLayerDefn())
         feature.SetGeometry(ogr.CreateGeometryFromWkt(f"POINT ({x!r} {y!r})"))
-        feature.SetField("height", eye)
+        for name, column in values.items():
+            feature.SetField(name, column[index])
         layer.CreateFeature(feature)
 
 
-def write_table(path, pair, points, eyes, separator):
-    """Writes a table of points with their eyes; after semicolons decimals have a comma where they are not three."""
-    lines = [separator.join([*pair.split(","), "height"])]
-    for point, eye in zip(points, eyes):
+def write_table(path, pair, points, values, separator):
+    """Writes a table of points with their values; after semicolons decimals have a comma where they are not three."""
+    lines = [separator.join([*pair.split(","), *values])]
+    for index, point in enumerate(points):
         texts = [repr(value) if value != "" else "" for value in point]
         if separator == ";":
             texts = [text if len(text.partition(".")[2]) == 3 else text.replace(".", ",") for text in texts]
-        lines.append(separator.join([*texts, str(eye)]))
+        lines.append(separator.join([*texts, *(str(column[index]) for column in values.values())]))
     path.write_text("\n".join([*lines, ""]))

@@ -23,7 +23,10 @@ class Case(fuzz_rasters.Raster):
         self.options, self.written = [], []
         self.draw_reading()
         if self.map == "streams":
-            self.options += ["--threshold", str(self.chance.choice((0, 1, 1, 2, 5, 20, -5 if self.is_rare(5) else 3)))]
+            self.options += ["--threshold", str(self.chance.choice((0, 1, 1, 2, 5, 20, -5 if self.is_rare(5) else 3,
+                                                                    "0.3ha", "900m2", "1e-5km2")))]
+        if self.map == "basins" and self.is_rare(3):
+            self.options += ["--least", str(self.chance.choice((0, 1, 2, 5, 30)))]
         if self.map == "view":
             self.draw_view_points()
         elif self.map == "catchments":
@@ -118,22 +121,24 @@ class Case(fuzz_rasters.Raster):
     def write_layer(self, name):
         """A layer of points: a table or a GeoPackage, in the projection of the raster or another one."""
         points = [self.draw_point(is_inside=True) for _ in range(self.chance.choice((1, 1, 2, 3)))]
-        eyes = [self.chance.choice((0, 2, 12.5, 1.7, 20)) for _ in points]
+        values = {name: [self.chance.choice(choices) for _ in points] for name, choices in (
+            ("height", (0, 2, 12.5, 1.7, 20)), ("top", (0, 0, 1, 2.5, 30)),
+            ("reach", [self.side * part for part in (1, 2, 3.5, 8)]))}
         if not self.is_rare(2):
             path = self.folder / f"{name}.gpkg"
-            fuzz_layers.write_package(path, self.draw_system(), self.code, points, eyes)
+            fuzz_layers.write_package(path, self.draw_system(), self.code, points, values)
             return f"{path}|layername=places" if self.is_rare(3) else str(path)
         path = self.folder / f"{name}.csv"
         if self.is_rare(6) and self.code in DEGREES_OF:
             points = fuzz_layers.moved(self.code, 4326, points)
-            fuzz_layers.write_table(path, self.chance.choice(("lon,lat", "Longitude,Latitude")), points, eyes, ",")
+            fuzz_layers.write_table(path, self.chance.choice(("lon,lat", "Longitude,Latitude")), points, values, ",")
             return str(path)
         points = [self.draw_point() for _ in points]
         if self.is_rare(25):
             points[0] = ("", points[0][1])
         pair = self.chance.choice(("x,y", "x,y", "X,Y", "Easting,Northing", "Rechtswert,Hochwert", "e,n",
                                    "Coord X,Coord-Y"))
-        fuzz_layers.write_table(path, pair, points, eyes, self.chance.choice(",,;"))
+        fuzz_layers.write_table(path, pair, points, values, self.chance.choice(",,;"))
         return str(path)
 
     def draw_system(self):
@@ -158,10 +163,17 @@ class Case(fuzz_rasters.Raster):
         has_field = "--points" in self.options and self.is_rare(2)
         if has_field:
             self.options += ["--eye-field", "height"]
+        if "--points" in self.options:
+            self.options += [word for name, field in (("--target-field", "top"), ("--radius-field", "reach"))
+                             if self.is_rare(4) for word in (name, field)]
+        if self.is_rare(4):
+            self.options += ["--curvature", *self.chance.choice(([], ["--refraction", "0"], ["--refraction=0.2"]))]
+        elif self.is_rare(40):
+            self.options += ["--refraction", "0.1"]
         heights = ("0", "2", "3", "20", "0.5", "1.25", "1000000")
         reach = [str(self.side * part) for part in (1, 2.5, 3, 8)]
         for option, texts, is_needed in (("--eye", heights, not has_field), ("--target", heights, False),
-                                         ("--radius", [*reach, "90", "3", "0.25"], False)):
+                                         ("--radius", [*reach, "90", "3", "0.25", "0.1km", "60m"], False)):
             count = given if given > 1 and self.is_rare(3) else 1
             count += self.is_rare(40)
             if is_needed or self.is_rare(2 if not has_field else 3):

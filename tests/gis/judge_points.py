@@ -1,6 +1,7 @@
 """Which cells the points of a command are, by a plain reading of docs/gis.md.
 
-It shares no line with `relief_gis`. A point is its cell, None where it has none that is read, and the text of its eye.
+It shares no line with `relief_gis`. A point is its cell, None where it has none that is read, and the texts of some of
+its fields, None where they have none.
 """
 import csv
 import pathlib
@@ -25,17 +26,17 @@ def at_points(scene, texts):
         parts = text.split(",")
         if len(parts) != 2:
             raise Refused("not two numbers")
-        points.append((scene.cell(number(parts[0]), number(parts[1])), None))
+        points.append((scene.cell(number(parts[0]), number(parts[1])), []))
     return points
 
 
-def layer_points(scene, words, field=None):
-    """The points of layers, with the texts of a field of theirs."""
+def layer_points(scene, words, fields=()):
+    """The points of layers, with the texts of some fields of theirs; a field that is None has none."""
     return [point for word in words for point in
-            (table_points if word.endswith(".csv") else package_points)(scene, word, field)]
+            (table_points if word.endswith(".csv") else package_points)(scene, word, fields)]
 
 
-def table_points(scene, path, field):
+def table_points(scene, path, fields):
     """The points of a table."""
     lines = pathlib.Path(path).read_text().splitlines()
     rows = list(csv.reader(lines, delimiter=";" if ";" in lines[0] else ","))
@@ -43,15 +44,15 @@ def table_points(scene, path, field):
     pairs = [pair for pair in (*PAIRS, *DEGREES) if set(pair.split(",")) <= set(names)]
     if len(pairs) != 1:
         raise Refused("no pair of columns, or two")
-    if field and field not in rows[0]:
+    if any(field and field not in rows[0] for field in fields):
         raise Refused("no such field")
     first, second = map(names.index, pairs[0].split(","))
     system = None
     if pairs[0] in DEGREES:
         system = osr.SpatialReference()
         system.ImportFromEPSG(4326)
-    return [(table_cell(scene, system, row[first], row[second]), row[rows[0].index(field)] if field else None)
-            for row in rows[1:]]
+    return [(table_cell(scene, system, row[first], row[second]),
+             [row[rows[0].index(field)] if field else None for field in fields]) for row in rows[1:]]
 
 
 def table_cell(scene, system, x, y):
@@ -74,18 +75,19 @@ def plain_cell(scene, x, y):
     return cell
 
 
-def package_points(scene, word, field):
+def package_points(scene, word, fields):
     """The points of a layer that OGR opens."""
     path, _, name = word.partition("|layername=")
     source = ogr.Open(path)
     layer = source.GetLayerByName(name) if name else source.GetLayer(0)
-    if field and layer.GetLayerDefn().GetFieldIndex(field) < 0:
+    if any(field and layer.GetLayerDefn().GetFieldIndex(field) < 0 for field in fields):
         raise Refused("no such field")
     points = []
     for feature in layer:
         x, y = feature.GetGeometryRef().GetPoint_2D()
-        value = feature.GetField(field) if field else None
-        points.append((layer_cell(scene, layer.GetSpatialRef(), x, y), None if value is None else repr(float(value))))
+        values = [feature.GetField(field) if field else None for field in fields]
+        points.append((layer_cell(scene, layer.GetSpatialRef(), x, y),
+                       [None if value is None else repr(float(value)) for value in values]))
     return points
 
 

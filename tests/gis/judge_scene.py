@@ -13,6 +13,8 @@ from osgeo import gdal, osr
 import judge
 
 SINGLE = 10 ** 9
+# Units of heights in metres.
+FEET = {"ft": Fraction("0.3048"), "US survey foot": Fraction(1200, 3937)}
 
 
 class Refused(Exception):
@@ -294,6 +296,26 @@ class Scene:
         """The cell of a point, of a border the one in the east or the south; None outside of what is read."""
         row, col = math.floor((self.north - y) / self.side), math.floor((x - self.west) / self.side)
         return (row, col) if 0 <= row < self.rows and 0 <= col < self.cols else None
+
+    def metre(self):
+        """The length of the projection's unit in metres."""
+        if self.projection is None:
+            raise Refused("metres without a projection")
+        return near(self.projection.GetLinearUnits(), Fraction(self.projection.GetLinearUnits()) / SINGLE)
+
+    def square_of_cell(self):
+        """The square of a cell's side over the radius of the earth, in metres."""
+        if self.projection is None:
+            raise Refused("a curvature without a projection")
+        unit = Fraction(self.projection.GetLinearUnits())
+        return (self.side * unit) ** 2 / Fraction(self.projection.GetSemiMajor())
+
+    def height_unit(self):
+        """The length of the unit of heights in metres."""
+        unit = self.band.GetUnitType() or "m"
+        if unit not in FEET and unit != "m":
+            raise Unknown("a unit of heights")
+        return FEET.get(unit, Fraction(1))
 
     def height_in_units(self, text):
         """An eye or a target in units."""

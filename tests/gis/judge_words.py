@@ -2,6 +2,7 @@
 
 It shares no line with `relief_gis`.
 """
+import collections
 import itertools
 import math
 import pathlib
@@ -15,9 +16,10 @@ from judge_scene import Refused, Scene, Unknown, number, whole
 
 GIVEN_AGAIN = ("at", "points", "sink-at", "sinks", "eye", "target", "radius")
 VALUED = ("band", "decimals", "voids", "window", "bounds", "projection", "workers", "tile", "at", "points", "eye",
-          "eye-field", "target", "radius", "threshold", "snap", "snapped", "sink-at", "sinks", "uncertain")
-OWN = {"streams": ("threshold",), "catchments": ("snap", "snapped", "sink-at", "sinks"),
-       "view": ("eye", "eye-field", "target", "radius")}
+          "eye-field", "target", "radius", "threshold", "snap", "snapped", "sink-at", "sinks", "uncertain",
+          "target-field", "radius-field", "refraction", "least")
+OWN = {"streams": ("threshold",), "catchments": ("snap", "snapped", "sink-at", "sinks"), "basins": ("least",),
+       "view": ("eye", "eye-field", "target", "radius", "target-field", "radius-field", "curvature", "refraction")}
 NOT_BELOW = ("fill", "depth", "view")
 
 
@@ -51,39 +53,94 @@ def subjects(scene, options, at="at", layer="points"):
 def observers(scene, options):
     """The observers: cell, eye, target height and radius of each."""
     given = at_points(scene, options.get("at", []))
-    found = layer_points(scene, options.get("points", []), options.get("eye-field", [None])[-1])
-    if "eye-field" in options and not found:
-        raise Refused("a field of eyes without a layer")
-    columns = []
-    for name, default in (("eye", None), ("target", "0"), ("radius", None)):
-        texts = options.get(name, [default])
-        if len(texts) > 1 and (found or len(texts) != len(given)):
-            raise Refused(f"{name} is given too often")
-        columns.append(texts * len(given + found) if len(texts) == 1 else texts)
-    if "eye-field" in options:
-        if "eye" in options and not given:
-            scene.doubts.append("an eye and a field of eyes")
-        columns[0] = columns[0][:len(given)] + [eye for _, eye in found]
+    fields = [options.get(f"{name}-field", [None])[-1] for name in ("eye", "target", "radius")]
+    found = layer_points(scene, options.get("points", []), fields)
+    columns = [column(scene, options, given, found, index, *which)
+               for index, which in enumerate((("eye", None), ("target", "0"), ("radius", None)))]
     if not all(columns[0][:len(given)]):
         raise Refused("a point of --at without an eye")
     entries = list(zip([cell for cell, _ in given + found], *columns))
+    # A feature lacks what its field does not tell.
+    is_whole = [True] * len(given) + [all(text for field, text in zip(fields, texts) if field) for _, texts in found]
     if "skip" in options:
-        entries = [entry for entry in entries if entry[0] in scene.land and entry[1]]
+        entries = [entry for entry, whole in zip(entries, is_whole) if entry[0] in scene.land and entry[1] and whole]
+        is_whole = [True] * len(entries)
         if not entries:
             scene.doubts.append("all points are left out")
     if any(cell not in scene.land for cell, *_ in entries):
         raise Refused("a point outside, or without data")
-    if not all(entry[1] for entry in entries):
+    if not all(is_whole) or not all(entry[1] for entry in entries):
         raise Refused("a point without an eye")
     return [(cell, scene.height_in_units(eye), scene.height_in_units(target), cells_of_radius(scene, radius))
             for cell, eye, target, radius in entries]
+
+
+def column(scene, options, given, found, index, name, default):
+    """What each observer has of eyes, targets or radii."""
+    texts, field = options.get(name, [default]), options.get(f"{name}-field")
+    if field and not found:
+        raise Refused("a field without a layer")
+    if len(texts) > 1 and (found or len(texts) != len(given)):
+        raise Refused(f"{name} is given too often")
+    texts = texts * len(given + found) if len(texts) == 1 else texts
+    if not field:
+        return texts
+    if name in options and not given:
+        scene.doubts.append("a number and a field of it")
+    return texts[:len(given)] + [values[index] for _, values in found]
+
+
+def view_of(scene, options):
+    """How many observers see each cell, with the earth's curvature where it counts."""
+    found = observers(scene, options)
+    if "curvature" not in options:
+        if "refraction" in options:
+            raise Refused("refraction of no curvature")
+        return judge.view(scene.land, found)
+    refraction = number(options.get("refraction", ["0.13"])[-1])
+    if not 0 <= refraction <= 1:
+        raise Refused("no share")
+    drop = (1 - refraction) * scene.square_of_cell() / (2 * scene.height_unit()) * 10 ** scene.decimals
+    counts = dict.fromkeys(scene.land, 0)
+    for cell, *rest in found:
+        land = {place: height - nearest(drop * ((place[0] - cell[0]) ** 2 + (place[1] - cell[1]) ** 2))
+                for place, height in scene.land.items()}
+        for place, seen in judge.view(land, [(cell, *rest)]).items():
+            counts[place] += seen
+    return counts
+
+
+def nearest(units):
+    """The nearest whole number, where floats do not hide it."""
+    if abs(units - math.floor(units) - Fraction(1, 2)) < Fraction(1, 10 ** 6):
+        raise Unknown("a drop of half a unit")
+    return round(units)
+
+
+def length(scene, text):
+    """A length in the unit of the projection."""
+    for unit, metres in (("km", 1000), ("m", 1)):
+        if text.endswith(unit):
+            return number(text[:-len(unit)]) * metres / scene.metre()
+    return number(text)
+
+
+def cells_of_area(scene, text):
+    """A threshold in cells: more than an area is more than so many cells."""
+    for unit, square in (("km2", 10 ** 6), ("m2", 1), ("ha", 10 ** 4)):
+        if text.endswith(unit):
+            area = number(text[:-len(unit)])
+            if area < 0:
+                raise Refused("an area below 0")
+            return math.floor(area * square / (scene.side * scene.metre()) ** 2)
+    return whole(text, 0)
 
 
 def cells_of_radius(scene, text):
     """A radius in whole cells; None without one."""
     if text is None:
         return None
-    cells = math.floor(number(text) / scene.side)
+    cells = math.floor(length(scene, text) / scene.side)
     if cells < 1:
         raise Refused("a radius of no cell")
     if cells > judge.FARTHEST:
@@ -162,17 +219,16 @@ def verdict(words):
     options = options_of(rest)
     refuse_words(name, options)
     refuse_outputs(pathlib.Path(output), source, options)
-    threshold = whole(options["threshold"][-1], 0) if "threshold" in options else None
-    if name == "streams" and threshold is None:
+    if name == "streams" and "threshold" not in options:
         raise Refused("no threshold")
     scene = Scene(source, options)
     if name == "view":
-        return scene, [judge.view(scene.land, observers(scene, options))]
+        return scene, [view_of(scene, options)]
     if name == "catchments":
         return scene, catchments(scene, options)
     drainage = judge.Drainage(scene.land, subjects(scene, options))
     scene.uncertain = drainage.below_rim()
-    return scene, [map_of(name, drainage, scene, threshold)]
+    return scene, [map_of(name, drainage, scene, options)]
 
 
 def catchments(scene, options):
@@ -187,7 +243,7 @@ def catchments(scene, options):
     return [drainage.catchments(gauges) for gauges in scene.moved]
 
 
-def map_of(name, drainage, scene, threshold):
+def map_of(name, drainage, scene, options):
     """One of the maps that take sinks alone."""
     unit = Fraction(1, 10 ** scene.decimals)
     if name in ("fill", "depth"):
@@ -196,10 +252,17 @@ def map_of(name, drainage, scene, threshold):
     if name == "flow":
         return drainage.codes
     if name == "basins":
-        return drainage.basins()
+        return without_small(drainage.basins(), whole(options.get("least", ["0"])[-1], 0))
     counts = drainage.accumulation()
     if name == "area":
         return {cell: (count + 1) * scene.side ** 2 for cell, count in counts.items()}
     if name == "streams":
+        threshold = cells_of_area(scene, options["threshold"][-1])
         return {cell: int(count > threshold) for cell, count in counts.items()}
     return counts
+
+
+def without_small(basins, least):
+    """Basins of at least so many cells, 0 in smaller ones."""
+    sizes = collections.Counter(basins.values())
+    return {cell: basin if sizes[basin] >= least else 0 for cell, basin in basins.items()}

@@ -114,7 +114,8 @@ class Arrays(Case):
         self.assertEqual((done.stdout, done.stderr), ("5\n", ""))
 
     def test_every_public_function_is_typed_and_told(self):
-        for name in ("fill", "flow", "accumulate", "basins", "catchments", "view", "uncertain"):
+        for name in ("fill", "flow", "accumulate", "basins", "catchments", "view", "uncertain", "depth", "area",
+                     "streams", "profile"):
             function = getattr(relief_gis, name)
             self.assertIn("Returns:", function.__doc__)
             self.assertIn("Raises:", function.__doc__)

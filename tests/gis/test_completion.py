@@ -5,7 +5,7 @@ import subprocess
 import unittest
 
 from fixtures import GIS, TOP, Case, environment
-from relief_gis.command import ABOUT
+from relief_gis.parser import ABOUT, TASKS
 from relief_gis.job import VOIDS
 
 COMPLETION = TOP / "tools" / "completion"
@@ -39,7 +39,7 @@ class Completion(Case):
 
     def check(self, offers):
         """Compares the offers of a shell, which a function gives for words."""
-        self.assertEqual(offers(""), sorted([*ABOUT, "--help", "--version"]))
+        self.assertEqual(offers(""), sorted([*ABOUT, *TASKS, "--help", "--version"]))
         for name in ("view", "streams"):
             wanted = self.listed(name)
             self.assertGreater(len(wanted), 12)

@@ -6,8 +6,8 @@ import numpy as np
 from osgeo import osr
 
 from fixtures import Case, at, hills, make_raster
+from relief_gis.frame import reference_of
 from relief_gis.ground import conformal_code, ground_cell
-from relief_gis.raster import reference_of
 
 # WGS 84.
 MAJOR, FLATTENING = 6378137.0, 1 / 298.257223563

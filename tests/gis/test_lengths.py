@@ -6,7 +6,7 @@ from fractions import Fraction
 import numpy as np
 
 from fixtures import Case, by_hand, hills, info, make_raster, read
-from relief_gis.raster import Frame
+from relief_gis.frame import Frame
 from relief_gis.units import origin_of, plain, side_of, simplest_fraction
 
 

@@ -1,4 +1,7 @@
 """The QGIS provider, headless: every algorithm by `qgis_process`, and errors in plain words."""
+import contextlib
+import csv
+import io
 import json
 import os
 import time
@@ -6,6 +9,7 @@ import unittest
 from concurrent.futures import ThreadPoolExecutor
 
 import numpy as np
+from osgeo import gdal, ogr
 
 from fixtures import HERE, UTM, Case, centre, hills, info, make_points, make_raster, read
 from qgis_profile import Profile
@@ -20,6 +24,12 @@ def setUpModule():
     done = PROFILE.run("plugins", "enable", "relief")
     if "Enabled relief" not in done.stdout:
         raise RuntimeError(done.stdout + done.stderr)
+
+
+def features_of(path):
+    """The fields and the outline of each feature of a file."""
+    source = ogr.Open(str(path))
+    return [{**feature.items(), "outline": feature.GetGeometryRef().ExportToWkt()} for feature in source.GetLayer(0)]
 
 
 class Algorithms(Case):
@@ -42,8 +52,9 @@ class Algorithms(Case):
         if done.returncode != 0:
             return f"{name}: {done.stdout}{done.stderr}"
         ours, theirs = self.folder / f"qgis_{name}.tif", self.folder / f"{name}.tif"
-        if not np.array_equal(read(ours), read(theirs)):
-            return f"{name}: not the map of the command"
+        for band in range(1, gdal.Open(str(theirs)).RasterCount + 1):
+            if not np.array_equal(read(ours, band), read(theirs, band)):
+                return f"{name}: not the map of the command"
         for key in ("geoTransform", "coordinateSystem", "size"):
             if info(ours).get(key) != info(theirs).get(key):
                 return f"{name}: {key}"
@@ -69,6 +80,46 @@ class Algorithms(Case):
             wrong = [fault for fault in pool.map(self.check, cases) if fault is not None]
         self.assertEqual(wrong, [])
         self.assertTrue((self.folder / "moved.gpkg").exists())
+
+    def test_what_lies_beside_maps(self):
+        """Bands, tables and layers, and a profile, are those of the command."""
+        folder = self.folder
+        make_points(folder / "places.gpkg", [(*centre(10, 20), 12.5, 1, 300), (*centre(25, 33), 3.0, 0, 450)],
+                    fields=["height", "top", "reach"])
+        ends = ["500165,5199865", "501005,5199235"]
+        cases = [
+            ("view", [*self.points, "--EYE_FIELD=height", "--TARGET_FIELD=top", "--RADIUS_FIELD=reach",
+                      "--NAME_FIELD=top", "--EACH=true", "--CURVATURE=true", "--REFRACTION=0.2",
+                      f"--VISIBILITY={folder}/qgis_who.csv"],
+             ["--points", "places.gpkg", "--eye-field", "height", "--target-field", "top", "--radius-field", "reach",
+              "--name-field", "top", "--each", "--curvature", "--refraction", "0.2", "--visibility", "who.csv"]),
+            ("catchments", [*self.points, f"--POLYGONS={folder}/qgis_areas.gpkg"],
+             ["--points", "places.gpkg", "--polygons", "areas.gpkg"]),
+            ("streams", ["--THRESHOLD=20", f"--LINES={folder}/qgis_lines.gpkg"],
+             ["--threshold", "20", "--lines", "lines.gpkg"]),
+            ("basins", ["--LEAST=20", f"--AROUND={ends[0]} [{UTM}]"], ["--least", "20", "--around", ends[0]]),
+        ]
+        for name, _, command in cases:
+            self.make(name, "dem.tif", f"{name}.tif", *command)
+        with ThreadPoolExecutor(PARALLEL) as pool:
+            wrong = [fault for fault in pool.map(self.check, cases) if fault is not None]
+        self.assertEqual(wrong, [])
+        for name in ("areas.gpkg", "lines.gpkg"):
+            fields, features = features_of(folder / f"qgis_{name}"), features_of(folder / name)
+            # A feature's name in messages is not its name in QGIS.
+            self.assertEqual([{**one, "name": ""} for one in fields], [{**one, "name": ""} for one in features])
+            self.assertGreater(len(features), 0)
+        rows = [csv.DictReader((folder / name).read_text().splitlines()) for name in ("qgis_who.csv", "who.csv")]
+        self.assertEqual(*([{**row, "name": "", "other_name": ""} for row in table] for table in rows))
+        done = PROFILE.run("run", "relief:profile", f"--INPUT={folder}/dem.tif", f"--FROM={ends[0]} [{UTM}]",
+                           f"--TO={ends[1]} [{UTM}]", "--EYE=2", "--TARGET=1", f"--OUTPUT={folder}/qgis_profile.csv")
+        self.assertEqual(done.returncode, 0, done.stdout + done.stderr)
+        with contextlib.redirect_stdout(io.StringIO()) as told:
+            self.make("profile", "dem.tif", "--from", ends[0], "--to", ends[1], "--eye", "2", "--target", "1", "--out",
+                      "profile.csv")
+        self.assertEqual((folder / "qgis_profile.csv").read_text(), (folder / "profile.csv").read_text())
+        for line in told.getvalue().splitlines():
+            self.assertIn(line, done.stdout + done.stderr)
 
     def test_errors_in_plain_words(self):
         array = hills().astype(np.float32)

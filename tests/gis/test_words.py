@@ -5,13 +5,13 @@ import re
 import unittest
 
 from fixtures import GIS
-from relief_gis.command import _parser
+from relief_gis.parser import new_parser
 from relief_gis.words import PYTHON, in_words
 
 PACKAGE = GIS / "relief_gis"
 # What the functions on arrays reach; the command's own module speaks to its users alone.
 OF_ARRAYS = ("arguments", "errors", "given", "grid_text", "heights", "labelled", "maps", "nodata", "program", "units")
-OF_THE_COMMAND = ("command", "typed", "words")
+OF_THE_COMMAND = ("command", "parser", "typed", "words")
 
 
 def options_of(parser):
@@ -24,7 +24,7 @@ def options_of(parser):
     return found
 
 
-OPTION = re.compile(rf"(?<![\w-])(?:{'|'.join(map(re.escape, sorted(options_of(_parser()))))})(?![\w-])")
+OPTION = re.compile(rf"(?<![\w-])(?:{'|'.join(map(re.escape, sorted(options_of(new_parser()))))})(?![\w-])")
 
 
 def text_of(node):

@@ -17,6 +17,17 @@ TARGET = "Height of the targets above the ground"
 RADIUS = "Radius"
 UNCERTAIN = "Uncertain cells, downstream of where the data ends"
 THRESHOLD = "Streams drain more cells than"
+EACH = "A band for each observer"
+VISIBILITY = "Who sees whom"
+CURVATURE = "Let the earth curve"
+REFRACTION = "Share of the curvature that refraction takes away"
+TARGET_FIELD = "Field with the height of each target"
+RADIUS_FIELD = "Field with the radius of each"
+NAME_FIELD = "Field with the name of each"
+AROUND = "Read only what has the catchment of this place"
+POLYGONS = "Whole upstream areas"
+LINES = "Streams as lines"
+LEAST = "Basins of fewer cells are none"
 SKIP = "Leave out points that lie where there is no data"
 PROPERTIES = "the layer's properties"
 
@@ -28,6 +39,11 @@ VOCABULARY = (
     (r"--window COL,ROW,COLS,ROWS or --bounds WEST,SOUTH,EAST,NORTH", f"'{EXTENT}'"),
     (r"--bounds lie (.*): give WEST,SOUTH,EAST,NORTH in its projection", rf"'{EXTENT}' lies \1"),
     (r"--window \d\S*", f"'{EXTENT}'"),
+    (r"--curvature takes", f"'{CURVATURE}' takes"),
+    (r"the raster has no projection: give --projection", f"the raster has no projection: set it in {PROPERTIES}"),
+    (r"give --codes \S+", "choose others"),
+    (r"give a smaller --radius", f"give a smaller '{RADIUS}'"),
+    (r"give --radius\b", f"give '{RADIUS}'"),
     (r"--at X,Y or --points LAYER", "a layer of points or a click"),
     (r"--eye or --eye-field", f"'{EYE}' or '{EYE_FIELD}'"),
     (r"leave it out by --skip", f"choose '{SKIP}'"),

@@ -9,6 +9,9 @@ from qgis.core import (QgsCoordinateReferenceSystem, QgsCoordinateTransform, Qgs
 
 from .library import errors, points, units
 
+# What the numbers of points are called in messages.
+WORDS = {"eye": "eye", "above": "target", "radius": "radius"}
+
 
 def check_change(reference: QgsCoordinateReferenceSystem, layer: QgsRasterLayer, context: QgsProcessingContext,
                  name: str) -> None:
@@ -23,9 +26,12 @@ def check_change(reference: QgsCoordinateReferenceSystem, layer: QgsRasterLayer,
                                 "the grids of shifts (package proj-data)")
 
 
-def points_of(source: QgsProcessingFeatureSource, field: str, layer: QgsRasterLayer,
+def points_of(source: QgsProcessingFeatureSource, fields: Dict[str, str], layer: QgsRasterLayer,
               context: QgsProcessingContext) -> Iterator[Any]:
-    """The points of a layer in the projection of a raster layer, with eyes from a field, if one is named.
+    """The points of a layer in the projection of a raster layer, with numbers and names from its fields.
+
+    Args:
+        fields: by what they are in `points.Point`; an empty one is none.
 
     Raises:
         InputError: a feature is no point, or the layer cannot be projected.
@@ -34,7 +40,7 @@ def points_of(source: QgsProcessingFeatureSource, field: str, layer: QgsRasterLa
     check_change(source.sourceCrs(), layer, context, source.sourceName())
     request = QgsFeatureRequest().setDestinationCrs(layer.crs(), context.transformContext())
     for feature in source.getFeatures(request):
-        yield _point_of(feature, field)
+        yield _point_of(feature, fields)
 
 
 def files_of(algorithm: QgsProcessingAlgorithm, parameters: Dict[str, Any], name: str,
@@ -49,12 +55,14 @@ def files_of(algorithm: QgsProcessingAlgorithm, parameters: Dict[str, Any], name
     return [QgsProviderRegistry.instance().decodeUri("ogr", layer.source())["path"]]
 
 
-def _point_of(feature: Any, field: str) -> Any:
+def _point_of(feature: Any, fields: Dict[str, str]) -> Any:
     name = f"feature {feature.id()}"
     geometry = feature.geometry()
     if geometry.isEmpty() or QgsWkbTypes.geometryType(geometry.wkbType()) != QgsWkbTypes.PointGeometry \
             or geometry.constGet().partCount() != 1:
         raise errors.InputError(f"{name} is no point")
     point = next(geometry.vertices())
-    eye = units.decimal_of(feature[field], f"the eye of {name}, {field}") if field else None
-    return points.Point(name, units.decimal_of(point.x()), units.decimal_of(point.y()), eye)
+    numbers = {what: units.decimal_of(feature[field], f"the {WORDS[what]} of {name}, {field}")
+               for what, field in fields.items() if field and what != "label"}
+    label = str(feature[fields["label"]]) if fields.get("label") else ""
+    return points.Point(name, units.decimal_of(point.x()), units.decimal_of(point.y()), label=label, **numbers)

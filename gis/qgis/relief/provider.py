@@ -32,7 +32,7 @@ class ReliefProvider(QgsProcessingProvider):
         return ["tif", "tiff"]
 
     def supportedOutputVectorLayerExtensions(self) -> List[str]:  # noqa: N802
-        """What moved gauges are written as: GeoPackages."""
+        """What gauges, areas and streams are written as: GeoPackages."""
         return ["gpkg"]
 
     def loadAlgorithms(self) -> None:  # noqa: N802
