@@ -19,3 +19,5 @@ pub mod Gathered
 mod EndSources
 -- Raised heights are filled heights, in a tile and in the grid.
 pub mod Raised
+-- Runs of cells that rise.
+mod RaisedRuns

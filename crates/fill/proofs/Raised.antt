@@ -1,6 +1,6 @@
 -- A cell's raised height is the greater of its level and its label's least crest. It is the cell's
 -- filled height, and all tiles together give the filled grid.
-use Rattle.std.proofs.Common.{◌≡◌, ℕ, ◌+◌, ◌*◌, ◌<◌, ◌≤◌, ◌⊎◌, inl, inr, ℤ, List, [], ◌∷◌, ◌++◌, length, get_or, map, Option, None, Some, is_some, ◌∙◌, sym, ap, subst, refl, arith, zero, suc, ◌/◌, ◌%◌, IfSome, MatchOption, mul_comm, pos}
+use Rattle.std.proofs.Common.{◌≡◌, ℕ, ◌+◌, ◌*◌, ◌<◌, ◌≤◌, ◌⊎◌, inl, inr, ℤ, List, [], ◌∷◌, ◌++◌, length, get_or, map, Option, None, Some, is_some, ◌∙◌, sym, ap, subst, refl, arith, zero, suc, ◌/◌, ◌%◌, IfSome, MatchOption, mul_comm, pos, Vec, Global}
 use Rattle.std.specs.Prelude.{slice_get, option_and_then, option_map}
 use Rattle.std.specs.Int.{int_max}
 use Rattle.std.specs.Ordering.{int_eq}
@@ -16,15 +16,17 @@ use Rattle.terrain.specs.Sinks.{with_sinks}
 use Rattle.terrain.specs.Neighbours.{height_at, index_of, entry_at, IsDataCell, IsInside}
 use Rattle.drainage.specs.Filled.{IsFilledHeight, IsFilled, IsFilledGrid, IsOwnFilled}
 use Rattle.terrain.specs.declared.place.Place.{Place}
-use Rattle.terrain.proofs.Places.{entry-inside, index_injective, index_below}
+use Rattle.terrain.proofs.Places.{entry-inside, index_injective, index_below, same_place}
 use Rattle.drainage.proofs.Heights.{filled_height_occurs}
 use Rattle.tiles.specs.declared.bounds.Bounds.{Bounds}
 use Rattle.tiles.specs.Cutting.{Cutting, IsCutting, IsInBounds, IsInTile, IsWithin, bounds_of, cell_count, tile_count, tile_entry, tile_of_place, Cuts, View, terrain_of, index_in}
-use Rattle.tiles.proofs.Cut.{in_bounds, tile_of_place_below}
+use Rattle.tiles.proofs.Cut.{bounds_inside, in_bounds, in_tile, tile_of_place_below}
 use Rattle.tiles.proofs.TileOrder.{tile_entry-in, entry_in-inside, index_in_below}
 use Rattle.cell_floods.specs.TileFlood.{Flood, level_in, label_in, IsTileFlood, levels_where}
 use Rattle.fill.specs.SpillGraph.{IsListOf, AreFloods, level_among, label_among, AreLeastCrests, crest_of, greater_of, raised_by, AreGreater, IsRaised, IsFilledTile, IsGraphOf, IsPass, Graph, HasJoin, source_in}
-use Rattle.fill.specs.RaisedTiles.{IsRaisedTile, AreRaisedCells, raised_among, crest_with, crest_at}
+use Rattle.fill.specs.RaisedTiles.{AreTileRuns, HasTile, IsRaisedTile, raised_among, raised_cell, crest_with, crest_at}
+use Rattle.fill.specs.RaisedRuns.{AreAllRaised, IsInTiles, IsPatched}
+use Rattle.fill.specs.declared.raised_runs.RaisedRun.{RaisedRun}
 use Rattle.fill.specs.LabelNet.{HasArc, source_number, IsNumberGraph, AreNumberLevels}
 use Rattle.fill.specs.Numbers.{first_of}
 use Rattle.fill.specs.declared.cell_labels.CellLabel.{CellLabel}
@@ -40,11 +42,12 @@ use Rattle.cell_floods.proofs.TileRectangles.{data_within}
 use Rattle.terrain.proofs.Options.{cases_option, match_of, none_some}
 use Rattle.fill.proofs.LabelNets.{HasTileLevel, IsLabelNet, has_tile_level, among_is, filled_height_is, list_there}
 use Rattle.std.specs.List.{Contains, All}
-use Rattle.std.proofs.lemmas.Option.{MatchOption-at_some, MatchOption-at_none, slice_get_within, same_Some}
+use Rattle.std.proofs.lemmas.Option.{MatchOption-at_some, MatchOption-at_none, get_or_from_slice_get, slice_get_within, same_Some}
 use Rattle.std.proofs.lemmas.List.Elements.{All-contains, All-from_get_or}
-use Rattle.std.proofs.lemmas.Nat.{div-add-mod', mod_below, div_below}
-use Rattle.tile_maps.specs.Maps.{IsMadeMap, IsMadeTile}
-use Rattle.tile_maps.proofs.Whole.{map_of_size, tile_of_entries}
+use Rattle.std.proofs.lemmas.Nat.{div-add-mod', div-mul-add, mod-mul-add, mod_below, div_below}
+use Rattle.tile_jobs.specs.Results.{AreResults}
+use Rattle.tile_maps.specs.Maps.{IsMadeMap}
+use Rattle.tile_maps.proofs.Whole.{map_of_size}
 use Rattle.drainage.proofs.FilledTwice.{filled_twice}
 
 pub no_entries : (entry : ℕ → Option ℤ) (list : List (Option ℤ)) → list ≡ [] →
@@ -261,23 +264,62 @@ raised_tile c floods tile f levels raised h fit there is =
           ∙ raised_here c floods tile k f levels p h fit there i refl,
     )
 
--- If `cells` has the raised heights by index in the tile (`AreRaisedCells`), it has those of the
--- tile's places.
-pub raised_cells : (c : Cutting) (floods : List Flood) (tile : ℕ) (f : Flood)
-    (levels cells : List (Option ℤ)) → IsCutting c → Fit c floods → slice_get floods tile ≡ Some f
-    → AreRaisedCells (first_of floods tile) f levels cells
-    → IsMadeTile c tile (λ p cell. cell ≡ cell_of (raised_among c floods levels p)) cells
-raised_cells c floods tile f levels cells h fit there are =
-    let area : length f.labels ≡ cell_count c tile =
-    fit.sizes tile f there ∙ ap (λ (x : Bounds). x.rows * x.cols) (fit.bounds tile f there) in
-    tile_of_entries c tile (λ p cell. cell ≡ cell_of (raised_among c floods levels p)) cells
-    (are.size ∙ area) (λ p i.
+-- A tile's lists give its places their raised cells.
+pub raised_places : (c : Cutting) (floods : List Flood) (tile : ℕ) (f : Flood) (levels : List (Option ℤ))
+    (x : RaisedTile) → IsCutting c → Fit c floods → slice_get floods tile ≡ Some f → tile < tile_count c →
+    IsRaisedTile (first_of floods tile) f levels x → HasTile x (raised_cell c floods levels) c tile
+raised_places c floods tile f levels x h fit there low by p inside stored =
     let b = bounds_of c tile in
     let k = index_in b p in
-    let low : k < length f.labels =
-    omega (arith, index_in_below b p (in_bounds c tile p h i), area) in
-    tile_entry-in c tile cells p i ∙ are.each k low
-    ∙ ap cell_of (number_here c floods tile k f levels p h fit there i refl))
+    let i = index_of c.cols p in
+    let area : length f.labels ≡ cell_count c tile =
+    fit.sizes tile f there ∙ ap (λ (x : Bounds). x.rows * x.cols) (fit.bounds tile f there) in
+    let below : k < length f.labels = omega (arith, index_in_below b p inside, area) in
+    let col : p.col < c.cols = omega (arith, inside, (bounds_inside c tile h low).cols_inside) in
+    let place : record { row = i / c.cols; col = i % c.cols } ≡ p =
+    same_place _ p (div-mul-add p.row c.cols p.col col) (mod-mul-add p.row c.cols p.col col) in
+    ap (λ q. cell_of (raised_among c floods levels q)) place
+    ∙ sym (ap cell_of (number_here c floods tile k f levels p h fit there (in_tile c tile p h low inside) refl))
+    ∙ sym (raised_stored (first_of floods tile) f levels x k by below stored)
+
+-- The cells read, with the runs of all tiles in their places, are the raised cells.
+pub patched_map : (c : Cutting) (floods : List Flood) (levels cells whole : List (Option ℤ))
+    (tiles : List (Vec RaisedRun Global)) → IsCutting c → length cells ≡ c.cols * c.rows →
+    length tiles ≡ tile_count c → AreResults (λ tile (runs : Vec RaisedRun Global).
+    AreTileRuns (raised_cell c floods levels) (record { cutting = c; tile = tile; cells = cells }) runs.items)
+    (tile_count c) tiles → ((raised : ℕ → Option ℤ) → AreAllRaised raised tiles →
+    IsPatched raised cells (IsInTiles tiles) whole) →
+    IsMadeMap c (λ p cell. cell ≡ cell_of (raised_among c floods levels p)) whole
+patched_map c floods levels cells whole tiles h size count given patched =
+    let raised = raised_cell c floods levels in
+    let all = patched raised (λ runs at.
+    (subst (λ (z : Vec RaisedRun Global). AreTileRuns raised
+    (record { cutting = c; tile = at.0; cells = cells }) z.items) at.2
+    (given at.0 runs (omega (arith, at.1, count)))).sound) in
+    record {
+      size = all.size ∙ size;
+      each = λ p within entry is.
+          let tile = tile_of_place c p in
+          let i = index_of c.cols p in
+          let low : tile < tile_count c = tile_of_place_below c p h within in
+          let below : i < length cells = omega (arith, index_below c.cols c.rows p within.0 within.1, size) in
+          let place : record { row = i / c.cols; col = i % c.cols } ≡ p = same_place _ p
+          (div-mul-add p.row c.cols p.col within.1) (mod-mul-add p.row c.cols p.col within.1) in
+          let runs = list_there tiles tile (omega (arith, low, count)) in
+          let same = get_or_from_slice_get tiles tile runs.0 runs.0 runs.1 in
+          let are : AreTileRuns raised (record { cutting = c; tile = tile; cells = cells }) runs.0.items =
+          subst (λ (z : Vec RaisedRun Global). AreTileRuns raised
+          (record { cutting = c; tile = tile; cells = cells }) z.items) same (given tile runs.0 low) in
+          let value : get_or whole i None ≡ raised i = elim (all.each i below) [
+            | inl found ↦ found
+            | inr as_read ↦ elim (are.each p (in_bounds c tile p h (within, refl))) [
+              | inl there ↦ absurd (as_read.1 (runs.0, (tile, omega (arith, low, count), same), there))
+              | inr level ↦ as_read.0 ∙ level
+            ]
+          ] in
+          sym (get_or_from_slice_get whole i entry None is) ∙ value
+          ∙ ap (λ q. cell_of (raised_among c floods levels q)) place;
+    }
 
 label_inside : (t : Terrain) (c : Cutting) (floods : List Flood) (p label : Place) →
     AreFloods t c floods → label_among c floods p ≡ Some label → IsWithin c label

@@ -7,3 +7,4 @@ pub mod Placing
 pub mod Arcs
 pub mod LabelNet
 pub mod RaisedTiles
+pub mod RaisedRuns

@@ -1,14 +1,17 @@
 -- Tiles whose cells are raised: each data cell gets the greater of its level and the least crest of
 -- its label in the spill graph.
 -- Private.
-use Rattle.std.specs.Prelude.{◌≡◌, ℕ, ◌+◌, ℤ, List, length, Option, None, slice_index_or, option_and_then}
-use Rattle.terrain.specs.StoredCells.{cell_of}
+use Rattle.std.specs.Prelude.{◌≡◌, ℕ, ◌+◌, ◌/◌, ◌%◌, ◌<◌, ◌≤ℤ◌, ℤ, pos, List, length, Option, None, Some, slice_index_or, option_and_then}
+use Rattle.terrain.specs.StoredCells.{cell_of, no_data}
 use Rattle.terrain.specs.declared.place.Place.{Place}
-use Rattle.tiles.specs.Cutting.{Cutting}
+use Rattle.terrain.specs.Neighbours.{index_of}
+use Rattle.tiles.specs.Cutting.{Cutting, IsInBounds, View, bounds_of, index_in}
 use Rattle.cell_floods.specs.TileFlood.{Flood, IsFlood, levels_where}
 use Rattle.fill.specs.Gathering.{cell_label_among, cell_label_with}
 use Rattle.fill.specs.SpillGraph.{IsListOf, greater_of, level_among}
 use Rattle.fill.specs.declared.cell_labels.CellLabel.{CellLabel}
+use Rattle.fill.specs.RaisedRuns.{AreRaised, IsFound}
+use Rattle.fill.specs.declared.raised_runs.RaisedRun.{RaisedRun}
 use Rattle.fill.specs.declared.raised_tiles.RaisedTile.{RaisedTile}
 
 -- The least crest of the label in a cell label, which is a cell's level and the number of its
@@ -46,7 +49,37 @@ abbrev pub raised_at : ℕ → Flood → List (Option ℤ) → ℕ → Option �
 raised_at first f levels k =
     greater_of (slice_index_or f.levels k None) (crest_with levels (cell_label_with first f k))
 
--- The list has the raised heights of a tile's cells, in the stored form of a cell.
-abbrev pub AreRaisedCells : ℕ → Flood → List (Option ℤ) → List (Option ℤ) → Type 0
-AreRaisedCells first f levels cells =
-    IsListOf (λ k. cell_of (raised_at first f levels k)) (length f.labels) cells
+-- The cell that the lists of a tile give the cell at index k in the tile's row order.
+abbrev pub cell_at : RaisedTile → ℕ → Option ℤ
+cell_at x k = cell_of (greater_of (Some (slice_index_or x.heights.now k (pos 0)))
+    (slice_index_or x.crests.items (slice_index_or x.labels.now k 0) None))
+
+-- The number at index k of the tile's levels is at most that of NODATA, as each stored number is.
+abbrev pub IsStored : RaisedTile → ℕ → Type 0
+IsStored x k = slice_index_or x.heights.now k (pos 0) ≤ℤ no_data
+
+-- `raised` gives these cells to `count` cells of the grid. The first of them has index `start` in
+-- the tile's row order, and `first` in the grid's.
+abbrev pub HasRow : RaisedTile → (ℕ → Option ℤ) → ℕ → ℕ → ℕ → Type 0
+HasRow x raised start first count =
+    (k : ℕ) → k < count → IsStored x (start + k) → raised (first + k) ≡ cell_at x (start + k)
+
+-- `raised` gives these cells to all cells of the tile.
+abbrev pub HasTile : RaisedTile → (ℕ → Option ℤ) → Cutting → ℕ → Type 0
+HasTile x raised c tile =
+    (p : Place) → IsInBounds (bounds_of c tile) p →
+    let k = index_in (bounds_of c tile) p in
+    IsStored x k → raised (index_of c.cols p) ≡ cell_at x k
+
+-- The runs have raised cells, and each cell of the tile that rises above the cell read is in one.
+pub record AreTileRuns (raised : ℕ → Option ℤ) (v : View (Option ℤ)) (runs : List RaisedRun)
+    : Type 0 where
+  pub sound : AreRaised raised runs
+  pub each : (p : Place) → IsInBounds (bounds_of v.cutting v.tile) p →
+      let i = index_of v.cutting.cols p in
+      IsFound raised runs (slice_index_or v.cells i None) i
+
+-- The raised cell of index i in row order of the grid.
+abbrev pub raised_cell : Cutting → List Flood → List (Option ℤ) → ℕ → Option ℤ
+raised_cell c floods levels i =
+    cell_of (raised_among c floods levels (record { row = i / c.cols; col = i % c.cols }))

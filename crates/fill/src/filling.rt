@@ -2,7 +2,8 @@
 //!
 //! A first job for each tile floods the tile, which gives its cells levels and labels. Then the
 //! caller's thread floods the spill graph, which gives each label its least crest. A second job for
-//! each tile raises each level to the greater of the level and its label's least crest.
+//! each tile lists the cells that rise, to the greater of level and least crest of the label. The
+//! other cells keep the heights read.
 ghost use Rattle.std.proofs.Props.{props};
 ghost use Rattle.std.specs.Prelude.{◌≡◌, ◌<◌, ◌≤◌, true, length, map, IfOk};
 ghost use Rattle.terrain.specs.Raster.{Terrain, IsTerrain};
@@ -20,6 +21,7 @@ use crate::inner_joins::inner_joins;
 use crate::label_graph::{LabelGraph, LabelLevels};
 use crate::left_out::LeftOut;
 use crate::numbers::{first_numbers, label_ends};
+use crate::raised_runs::with_runs;
 use crate::raised_tiles::RaisedTiles;
 use crate::spill_graph::Join;
 use cell_floods::{TileFlood, tile_flood};
@@ -156,19 +158,20 @@ fn label_levels(
 }
 
 /// Returns the filled height of each data cell, no data elsewhere, in row order.
-/// Floods the spill graph on the caller's thread, then raises each tile in a job.
+/// Floods the spill graph on the caller's thread, then raises each tile in a job. Frees the floods
+/// before it makes the list of all cells.
 /// `inner` has the joins inside each tile, except those that [`LeftOut`] describes.
 fn filled_cells<R: Threads + Wait + Sync, G: Gate + Sync>(
     runner: &Runner<'_, R, G>,
+    grid: &Grid,
     tiling: &Tiling,
     floods: Vec<TileFlood>,
     inner: Vec<Vec<Join>>,
 ) -> Result<Vec<Cell>, JobFault>
-    requires floods { (t : Terrain) × AreFloods t tiling.now floods.items }
+    requires floods { AreFloods grid.now.terrain tiling.now floods.items }
     requires inner { AreInner floods.items true inner.items }
     requires workers { (0 < runner.now.workers) × (runner.now.workers ≤ 64) }
-    ensures filled { IfOk result (λ v. (t : Terrain) → IsTerrain t
-        → AreFloods t tiling.now floods.items → IsFilled t v.items) }
+    ensures filled { IfOk result (λ v. IsFilled grid.now.terrain v.items) }
     ensures workers { RefusesWorkers runner.now.workers result }
 {
     let firsts = first_numbers(runner.alloc, tiling, &floods)?;
@@ -182,12 +185,17 @@ fn filled_cells<R: Threads + Wait + Sync, G: Gate + Sync>(
     };
     drop(tiles);
     drop(inner);
-    let cells = runner.map_tiles(RaisedTiles {
+    let read = grid.cells();
+    let raised = RaisedTiles {
+        read,
         tiling: *tiling,
         floods,
         firsts,
         levels,
-    })?;
+    };
+    let runs = runner.run(&raised, tiling.tiles())?;
+    drop(raised);
+    let cells = with_runs(runner.alloc, read, &runs)?;
     Ok(cells)
 }
 
@@ -226,7 +234,7 @@ pub fn filled<R: Threads + Wait + Sync, G: Gate + Sync>(
         gate,
     };
     let (floods, inner) = tile_floods(&runner, grid, tiling)?;
-    let cells = filled_cells(&runner, tiling, floods, inner)?;
+    let cells = filled_cells(&runner, grid, tiling, floods, inner)?;
     let Ok(filled) = grid.frame().with_cells(alloc, cells) else {
         return Err(JobFault::Memory);
     };

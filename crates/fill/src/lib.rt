@@ -21,7 +21,8 @@
 //! - `gathering`: the joins of all tiles
 //! - `arcs`: the arcs from each label, as linked lists over one list of joins
 //! - `label_graph`: the spill graph by numbers of labels, and its least crests
-//! - `raised_tiles`: the filled heights of all tiles, by the graph of `label_graph`
+//! - `raised_tiles`: the cells of a tile that rise, by the graph of `label_graph`
+//! - `raised_runs`: runs of cells that rise to one height, and the list of cells with them
 //! - `placing`: joins by the places of their labels
 //! - `sources`: the heights of end cells by place
 //! - `spill_graph`: the spill graph by places of labels
@@ -38,6 +39,7 @@ mod label_graph;
 mod left_out;
 mod numbers;
 mod placing;
+mod raised_runs;
 mod raised_tiles;
 mod raising;
 mod rim_cells;

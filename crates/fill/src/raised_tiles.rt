@@ -1,22 +1,22 @@
-//! Makes the map of filled heights, each tile by a job of its own: [`RaisedTiles`].
+//! Lists the cells that rise to their filled heights, each tile's by a job: [`RaisedTiles`].
 //!
 //! A filled height is the greater of a cell's level and its label's least crest in the spill graph.
 ghost use Rattle.std.proofs.Props.{props};
-ghost use Rattle.std.specs.Prelude.{◌≡◌, ℕ, ℤ, List, Option, ◌+◌, ◌<◌, ◌≤◌, ◌≤ℤ◌, pos, length, slice_index_or, option_and_then, None, Some, All, IfOk};
-ghost use Rattle.terrain.specs.StoredCells.{cell_of, no_data};
-ghost use Rattle.tiles.specs.Cutting.{IsCutting};
-ghost use Rattle.cell_floods.specs.TileFlood.{Flood};
+ghost use Rattle.std.specs.Prelude.{◌≡◌, ℕ, ℤ, Option, ◌+◌, ◌*◌, ◌^◌, ◌<◌, ◌≤◌, length, slice_index_or, option_and_then, None, All, IfOk, OnOk};
+ghost use Rattle.terrain.specs.StoredCells.{cell_of};
+ghost use Rattle.tiles.specs.Cutting.{IsCutting, cell_count};
 ghost use Rattle.fill.specs.Gathering.{Fit};
 ghost use Rattle.fill.specs.Numbers.{AreFirsts, places_of};
-ghost use Rattle.fill.specs.SpillGraph.{greater_of};
-ghost use Rattle.fill.specs.RaisedTiles.{AreRaisedCells, AreCrestCells, IsRaisedTile, raised_among};
+ghost use Rattle.fill.specs.RaisedRuns.{AddsRow, runs_of};
+ghost use Rattle.fill.specs.RaisedTiles.{AreCrestCells, AreTileRuns, HasRow, HasTile, IsRaisedTile, IsStored, cell_at};
 
 use crate::label_graph::LabelLevels;
+use crate::raised_runs::{RaisedRun, RunList};
 use cell_floods::TileFlood;
 use std::alloc::{AllocError, Global};
-use terrain::{Cell, Height, NoMemory, Place};
-use tile_maps::TileMap;
-use tiles::Tiling;
+use terrain::{Cell, Height, Place};
+use tile_jobs::{JobFault, Work};
+use tiles::{Bounds, TileView, Tiling};
 
 /// The levels and label indexes of a tile's cells, and the labels' least crests.
 #[derive(Drop)]
@@ -97,60 +97,106 @@ impl<'a> RaisedTile<'a> {
         requires height { index < length self.now.heights.now }
         requires label { index < length self.now.labels.now }
         requires inside { All (λ k. k < length self.now.crests.items) self.now.labels.now }
-        ensures low { slice_index_or self.now.heights.now index (pos 0) ≤ℤ no_data }
-        ensures value { result ≡ cell_of (greater_of
-            (Some (slice_index_or self.now.heights.now index (pos 0)))
-            (slice_index_or self.now.crests.items (slice_index_or self.now.labels.now index 0)
-            None)) }
+        ensures low { IsStored self.now index }
+        ensures value { result ≡ cell_at self.now index }
     {
         // The number of NODATA is above all heights, so the maximum stays NODATA.
         let crest = self.crests[self.labels[index] as usize];
         Cell::of(self.heights[index].max(crest.number()))
     }
 
-    /// Returns the filled heights of the tile, in its row order.
-    fn cells(&self, alloc: Global) -> Result<Vec<Cell>, AllocError>
+    /// Adds the cells of a row that rise above the heights read.
+    ///
+    /// `read` has the row's cells as read. The first of them has index `start` in the tile's row
+    /// order, and index `first` in the grid's.
+    fn push_row(
+        &self,
+        runs: &mut RunList,
+        read: &[Cell],
+        start: usize,
+        first: u32,
+    ) -> Result<(), AllocError>
+        requires height { start + length read.now ≤ length self.now.heights.now }
+        requires label { length self.now.heights.now ≤ length self.now.labels.now }
+        requires inside { All (λ k. k < length self.now.crests.items) self.now.labels.now }
+        requires small { first + length read.now ≤ 2 ^ 24 }
+        ensures { OnOk result ((raised : ℕ → Option ℤ) →
+            HasRow self.now raised start first (length read.now) → AddsRow raised read.now first
+            (length read.now) (runs_of runs.old) (runs_of runs.new)) }
+    {
+        for index in 0..read.len() {
+            let cell = self.at(start + index);
+            if !cell.is_level_with(read[index]) {
+                runs.add(first + index as u32, cell)?;
+            }
+        }
+        Ok(())
+    }
+
+    /// Returns the runs of the tile's cells that rise above the heights read.
+    /// The grid has `cols` columns.
+    fn runs(
+        &self,
+        alloc: Global,
+        view: &TileView<'_, Cell>,
+        cols: u32,
+    ) -> Result<Vec<RaisedRun>, AllocError>
         requires size { length self.now.labels.now ≡ length self.now.heights.now }
         requires inside { All (λ k. k < length self.now.crests.items) self.now.labels.now }
-        ensures { IfOk result (λ v. (first : ℕ) (f : Flood) (levels : List (Option ℤ))
-            → IsRaisedTile first f levels self.now → AreRaisedCells first f levels v.items) }
+        requires cells { length self.now.heights.now ≡ cell_count view.now.cutting view.now.tile }
+        requires cols { cols ≡ view.now.cutting.cols }
+        ensures { IfOk result (λ v. (raised : ℕ → Option ℤ) →
+            HasTile self.now raised view.now.cutting view.now.tile →
+            AreTileRuns raised view.now v.items) }
     {
-        let mut cells = Vec::with_capacity(alloc, self.heights.len())?;
-        for index in 0..self.heights.len() {
-            cells.push(self.at(index))?;
+        let Bounds {
+            top,
+            left,
+            rows,
+            cols: width,
+        } = view.bounds();
+        let mut runs = RunList::new(alloc);
+        for row in 0..rows {
+            let start = row as usize * width as usize;
+            self.push_row(&mut runs, view.row(row), start, (top + row) * cols + left)?;
         }
-        Ok(cells)
+        runs.into_runs()
     }
 }
 
-/// The map of filled heights, made from tile floods and the least crests of labels.
+/// The jobs of the second stage: each lists the cells of a tile that rise, by the tile's flood and
+/// the least crests of labels.
 #[derive(Drop)]
-pub(crate) struct RaisedTiles {
+pub(crate) struct RaisedTiles<'a> {
+    /// The cells of the grid as read.
+    pub(crate) read: &'a [Cell],
     pub(crate) tiling: Tiling,
     pub(crate) floods: Vec<TileFlood>,
     pub(crate) firsts: Vec<u32>,
     pub(crate) levels: LabelLevels,
+    ghost size: { length read.now ≡ tiling.cols * tiling.rows },
     ghost lawful: { IsCutting tiling } by { Prim.hlevel props },
     ghost fit: { Fit tiling floods.items } by { Prim.hlevel props },
     ghost numbers: { AreFirsts floods.items firsts.items } by { Prim.hlevel props },
     ghost levels_size: { length (places_of floods.items) ≤ length levels },
 }
 
-impl TileMap for RaisedTiles {
-    type Entry = Cell;
+impl<'a> Work for RaisedTiles<'a> {
+    ghost use Rattle.tiles.specs.Cutting.{tile_count};
+    ghost use Rattle.fill.specs.RaisedTiles.{AreTileRuns, raised_cell};
 
-    ghost cutting = { λ m. m.tiling };
+    type Out = Vec<RaisedRun>;
 
-    ghost has = { λ m p cell. cell ≡ cell_of (raised_among m.tiling m.floods.items m.levels p) };
+    ghost most = { λ w. tile_count w.tiling };
 
-    fn tiling(&self) -> Tiling {
-        self.tiling
-    }
+    ghost gives = { λ w job out. AreTileRuns (raised_cell w.tiling w.floods.items w.levels)
+        (record { cutting = w.tiling; tile = job; cells = w.read.now }) out.items };
 
-    fn tile(&self, alloc: Global, tile: u32) -> Result<Vec<Cell>, NoMemory> {
-        let index = tile as usize;
+    fn run(&self, alloc: Global, job: u32) -> Result<Vec<RaisedRun>, JobFault> {
+        let index = job as usize;
+        let view = self.tiling.view(self.read, job);
         let first = self.firsts[index];
         let raised = RaisedTile::new(alloc, &self.floods[index], first, &self.levels)?;
-        Ok(raised.cells(alloc)?)
+        Ok(raised.runs(alloc, &view, self.tiling.cols())?)
     }
 }
