@@ -14,7 +14,7 @@ use Rattle.tiles.specs.Cutting.{most_tiles}
 use Rattle.tiles.specs.declared.tiling.TilingFault.TheVariants.{TooManyTiles}
 use Rattle.request.specs.Request.{IsViewshedMap, Request}
 use Rattle.request.specs.declared.map.Map.{Map}
-use Rattle.request.specs.declared.map.Map.TheVariants.{Fill, Flow, Accumulate, Basins, Catchments, View}
+use Rattle.request.specs.declared.map.Map.TheVariants.{Fill, Flow, Accumulate, Basins, Catchments, View, Several}
 use Rattle.flow.specs.declared.gauges.GaugeFault.{GaugeFault}
 use Rattle.relief.specs.declared.fault.RunFault.{RunFault}
 use Rattle.relief.specs.declared.fault.RunFault.TheVariants.{Tiling, Sight, Sinks, Gauges}
@@ -103,6 +103,7 @@ unseen g Flow drains = refl
 unseen g Accumulate drains = refl
 unseen g Basins drains = refl
 unseen g (Catchments gauges) drains = refl
+unseen g (Several maps gauges) drains = refl
 unseen g (View observers target radius) drains = absurd (drains tt)
 
 -- Let tiles, sinks and gauges have no fault, and let no viewshed have sinks. If giving the grid one

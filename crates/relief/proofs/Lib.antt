@@ -4,3 +4,4 @@ mod Ran
 mod Viewing
 mod Maps
 mod Unread
+mod Together

@@ -1,6 +1,6 @@
 -- Two texts of the same map, of the same grid text at the same scale with the same sinks, are
 -- equal.
-use Rattle.std.proofs.Common.{◌≡◌, ℕ, List, Option, Some, ℤ, sym, ap, subst, ◌∙◌, inl, inr}
+use Rattle.std.proofs.Common.{◌≡◌, ℕ, List, [], ◌∷◌, ◌++◌, Option, Some, ℤ, sym, ap, ap₂, subst, ◌∙◌, inl, inr}
 use Rattle.std.proofs.lemmas.Option.{MatchOption-at_none, MatchOption-at_some}
 use Rattle.terrain.specs.Raster.{Raster, Terrain}
 use Rattle.terrain.specs.Neighbours.{height_at}
@@ -17,9 +17,11 @@ use Rattle.flow.specs.Counts.{IsMapOf, accumulation, basin}
 use Rattle.flow.specs.Catchments.{AreCatchments, catchment}
 use Rattle.sight.proofs.Uniqueness.{viewsheds_are_one}
 use Rattle.request.specs.declared.map.Map.{Map}
-use Rattle.request.specs.declared.map.Map.TheVariants.{Fill, Flow, Accumulate, Basins, Catchments, View}
+use Rattle.request.specs.declared.map.Map.TheVariants.{Fill, Flow, Accumulate, Basins, Catchments, View, Several}
+use Rattle.request.specs.declared.map.DrainageMap.{DrainageMap}
+use Rattle.request.specs.declared.map.DrainageMap.TheVariants as drainage
 use Rattle.request.specs.Laws.{AreSame}
-use Rattle.relief.specs.MapText.{IsDrainage, IsMapText, IsMapOfText}
+use Rattle.relief.specs.MapText.{IsDrainage, IsDrainageText, IsMapText, IsMapOfText, JoinsTexts}
 
 one_list_of_heights : (t : Terrain) (xs ys : List (Option ℤ)) → IsFilled t xs → IsFilled t ys →
     xs ≡ ys
@@ -80,23 +82,44 @@ one_map_of_values g value text other a b =
     (subst (λ (d : Directed). IsMapOf d (value d) a.1) same a.3) b.3 in
     a.4 ∙ ap (λ vs. counts_text g vs) values ∙ sym b.4
 
+one_drainage_text : (g : Raster) (gauges : List Place) (m : DrainageMap) (text other : List ℕ) →
+    IsDrainageText g gauges m text → IsDrainageText g gauges m other → text ≡ other
+one_drainage_text g gauges drainage.Fill text other a b =
+    a.2 ∙ ap heights_text (one_filled_grid g a.0 b.0 a.1 b.1) ∙ sym b.2
+one_drainage_text g gauges drainage.Flow text other a b =
+    a.2 ∙ ap (λ (d : Directed). counts_text g d.codes) (one_drainage g a.0 b.0 a.1 b.1) ∙ sym b.2
+one_drainage_text g gauges drainage.Accumulate text other a b =
+    one_map_of_values g (λ d. accumulation d) text other a b
+one_drainage_text g gauges drainage.Basins text other a b =
+    one_map_of_values g (λ d. basin d) text other a b
+one_drainage_text g gauges drainage.Catchments text other a b =
+    one_map_of_values g (λ d. catchment d gauges) text other a b
+
+one_joined_text : (g : Raster) (gauges : List Place) (maps : List DrainageMap)
+    (text other : List ℕ) → JoinsTexts (IsDrainageText g gauges) maps text →
+    JoinsTexts (IsDrainageText g gauges) maps other → text ≡ other
+one_joined_text g gauges [] text other a b = a ∙ sym b
+one_joined_text g gauges (m ∷ maps) text other a b =
+    a.4 ∙ ap₂ (λ (x y : List ℕ). x ++ y) (one_drainage_text g gauges m a.0 b.0 a.2 b.2)
+    (one_joined_text g gauges maps a.1 b.1 a.3 b.3) ∙ sym b.4
+
 one_map_of_grid : (g : Raster) (m : Map) (text other : List ℕ) → IsMapText g m text →
     IsMapText g m other → text ≡ other
-one_map_of_grid g Fill text other a b = a.2 ∙ ap heights_text (one_filled_grid g a.0 b.0 a.1 b.1)
-    ∙ sym b.2
-one_map_of_grid g Flow text other a b =
-    a.2 ∙ ap (λ (d : Directed). counts_text g d.codes) (one_drainage g a.0 b.0 a.1 b.1) ∙ sym b.2
+one_map_of_grid g Fill text other a b = one_drainage_text g [] drainage.Fill text other a b
+one_map_of_grid g Flow text other a b = one_drainage_text g [] drainage.Flow text other a b
 one_map_of_grid g Accumulate text other a b =
-    one_map_of_values g (λ d. accumulation d) text other a b
-one_map_of_grid g Basins text other a b = one_map_of_values g (λ d. basin d) text other a b
+    one_drainage_text g [] drainage.Accumulate text other a b
+one_map_of_grid g Basins text other a b = one_drainage_text g [] drainage.Basins text other a b
 one_map_of_grid g (Catchments gauges) text other a b =
-    one_map_of_values g (λ d. catchment d gauges.items) text other a b
+    one_drainage_text g gauges.items drainage.Catchments text other a b
 one_map_of_grid g (View observers target radius) text other a b =
     a.2 ∙ ap (λ vs. counts_text g vs)
     (viewsheds_are_one g.terrain observers.items target radius a.0 b.0 a.1 b.1) ∙ sym b.2
+one_map_of_grid g (Several maps gauges) text other a b =
+    one_joined_text g gauges.items maps.items text other a b
 
--- if the maps `m` and `n` have the same kind, gauges, observers, target and radius (`AreSame`), a
--- text of `n` is a text of `m`
+-- if the maps `m` and `n` have the same kind, gauges, observers, target, radius and list of maps
+-- (`AreSame`), a text of `n` is a text of `m`
 same_text : (g : Raster) (m n : Map) (text : List ℕ) → AreSame m n → IsMapText g n text →
     IsMapText g m text
 same_text g Fill n text same h = subst (λ (k : Map). IsMapText g k text) (sym same) h
@@ -120,6 +143,8 @@ same_text g (Catchments gauges) (Catchments others) text same h = (
 )
 same_text g (Catchments gauges) (View observers target radius) text same h =
     subst (λ (k : Map). IsMapText g k text) (sym same) h
+same_text g (Catchments gauges) (Several maps places) text same h =
+    subst (λ (k : Map). IsMapText g k text) (sym same) h
 same_text g (View observers target radius) Fill text same h =
     subst (λ (k : Map). IsMapText g k text) (sym same) h
 same_text g (View observers target radius) Flow text same h =
@@ -132,6 +157,24 @@ same_text g (View observers target radius) (Catchments gauges) text same h =
     subst (λ (k : Map). IsMapText g k text) (sym same) h
 same_text g (View observers target radius) (View others height reach) text same h =
     (h.0, rw (same.0, same.1, same.2) h.1, h.2)
+same_text g (View observers target radius) (Several maps gauges) text same h =
+    subst (λ (k : Map). IsMapText g k text) (sym same) h
+same_text g (Several maps gauges) Fill text same h =
+    subst (λ (k : Map). IsMapText g k text) (sym same) h
+same_text g (Several maps gauges) Flow text same h =
+    subst (λ (k : Map). IsMapText g k text) (sym same) h
+same_text g (Several maps gauges) Accumulate text same h =
+    subst (λ (k : Map). IsMapText g k text) (sym same) h
+same_text g (Several maps gauges) Basins text same h =
+    subst (λ (k : Map). IsMapText g k text) (sym same) h
+same_text g (Several maps gauges) (Catchments places) text same h =
+    subst (λ (k : Map). IsMapText g k text) (sym same) h
+same_text g (Several maps gauges) (View observers target radius) text same h =
+    subst (λ (k : Map). IsMapText g k text) (sym same) h
+same_text g (Several maps gauges) (Several others places) text same h =
+    subst (λ (ps : List Place). JoinsTexts (IsDrainageText g ps) maps.items text) (sym same.1)
+    (subst (λ (ms : List DrainageMap). JoinsTexts (IsDrainageText g places.items) ms text)
+    (sym same.0) h)
 
 pub one_map : (scale : ℕ) (m n : Map) (sinks : List Place) (input text other : List ℕ) →
     AreSame m n → IsMapOfText scale m sinks input text → IsMapOfText scale n sinks input other →

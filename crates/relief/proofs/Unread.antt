@@ -9,11 +9,13 @@ use Rattle.clap.specs.declared.error.Error.{Error}
 use Rattle.clap.specs.declared.error.kind.ErrorKind.{ErrorKind}
 use Rattle.clap.specs.declared.error.kind.ErrorKind.TheVariants.{OutOfMemory}
 use Rattle.ascii_grid.specs.Device.{Device}
-use Rattle.request.specs.CommandLine.{HasBadGauge, HasBadObserver, HasBadSink, IsHelp, program_app}
-use Rattle.relief.specs.Ends.{EndsLine, EndsShowing, EndsUnread, IsRefusalText, WritesLine}
+use Rattle.request.specs.CommandLine.{HasBadGauge, HasBadObserver, HasBadSink, HasMapsFault, IsHelp, program_app}
+use Rattle.relief.specs.Ends.{EndsLine, EndsShowing, EndsUnread, IsRefusalText, WritesLine, maps_fault_line}
 use Rattle.request.specs.WordsFaults.{IsFaultOf}
 use Rattle.request.specs.declared.words.WordsFault.TheVariants.{NoMap}
-use Rattle.request.proofs.Requested.{bad_alone, bad_gauge_alone, bad_gauge_requests_none, bad_sink_requests_none, bad_requests_none, no_gauge_observed, one_bad, one_bad_gauge, one_bad_sink}
+use Rattle.request.specs.declared.map_words.MapsFault.{MapsFault}
+use Rattle.request.specs.declared.map_words.MapsFault.TheVariants.{UnknownMap, RepeatedMap, NoGauge, NoCatchments}
+use Rattle.request.proofs.Requested.{bad_alone, bad_gauge_alone, bad_gauge_requests_none, bad_sink_requests_none, bad_requests_none, maps_fault_alone, maps_fault_requests_none, maps_fault_without_bad_gauge, no_gauge_observed, no_maps_observed, one_bad, one_bad_gauge, one_bad_sink, one_maps_fault}
 
 any_among : (P : ErrorKind → Type 0) (k : ErrorKind) (ks : Kinds) → P k → IsAmong k ks → Any P ks
 any_among P k [] p among = absurd among
@@ -54,11 +56,18 @@ module _ {R W E : Type 0} (contents : W → Option (List ℕ)) (lines : E → Op
     bad_observer = λ place bad. absurd (none_among (kind_of e) _ bad.command.accepted among);
     bad_gauge = λ place bad. absurd (none_among (kind_of e) _ bad.command.accepted among);
     bad_sink = λ place bad. absurd (none_among (kind_of e) _ bad.command.accepted among);
+    bad_maps = λ fault bad. absurd (none_among (kind_of e) _ bad.command.accepted among);
   }) refused.1.2 refused.3 refused.2
   shown e (inr (inr want)) kind = record { unread = refl; reason = inr (inr want) }
 
 ends_line : (front : List ℕ) (place : ℕ) → EndsLine (front ++ decimal place ++ codes "\n")
 ends_line front place = (front ++ decimal place, refl)
+
+ends_maps_line : (fault : MapsFault) → EndsLine (maps_fault_line fault)
+ends_maps_line (UnknownMap place) = ends_line (codes "relief: bad map word ") place
+ends_maps_line RepeatedMap = (codes "relief: a map is named twice", refl)
+ends_maps_line NoGauge = (codes "relief: catchments without a gauge", refl)
+ends_maps_line NoCatchments = (codes "relief: a gauge without catchments", refl)
 
 module _ (words : List Text) where
   pub bad_observer_refused : (place : ℕ) → HasBadObserver words place → IsRefusalText words (codes "relief: bad observer word " ++ decimal place ++ codes "\n")
@@ -73,6 +82,8 @@ module _ (words : List Text) where
         (no_gauge_observed words bad.command.accepted _ _ bad.command.found other place b bad);
     bad_sink = λ other b.
         absurd (bad_alone words bad.command.accepted _ _ bad.command.found place other bad b);
+    bad_maps = λ fault b. absurd
+        (no_maps_observed words bad.command.accepted _ _ bad.command.found fault place b bad);
   }
 
   pub bad_gauge_refused : (place : ℕ) → HasBadGauge words place → IsRefusalText words (codes "relief: bad gauge word " ++ decimal place ++ codes "\n")
@@ -87,6 +98,8 @@ module _ (words : List Text) where
     bad_gauge = λ other b. ap (λ k. codes "relief: bad gauge word " ++ decimal k ++ codes "\n") (one_bad_gauge words bad.command.accepted _ _ bad.command.found place other bad b);
     bad_sink = λ other b.
         absurd (bad_gauge_alone words bad.command.accepted _ _ bad.command.found place other bad b);
+    bad_maps = λ fault b. absurd (maps_fault_without_bad_gauge words bad.command.accepted _ _
+        bad.command.found fault place b bad);
   }
 
   pub bad_sink_refused : (place : ℕ) → HasBadSink words place → IsRefusalText words (codes "relief: bad sink word " ++ decimal place ++ codes "\n")
@@ -101,6 +114,26 @@ module _ (words : List Text) where
     bad_gauge = λ other b.
         absurd (bad_gauge_alone words bad.command.accepted _ _ bad.command.found other place b bad);
     bad_sink = λ other b. ap (λ k. codes "relief: bad sink word " ++ decimal k ++ codes "\n") (one_bad_sink words bad.command.accepted _ _ bad.command.found place other bad b);
+    bad_maps = λ fault b. absurd
+        (maps_fault_alone words bad.command.accepted _ _ bad.command.found fault place b bad);
+  }
+
+  pub maps_refused : (fault : MapsFault) → HasMapsFault words fault →
+      IsRefusalText words (maps_fault_line fault)
+  maps_refused fault bad = record {
+    refused = inr (
+      bad.command.accepted,
+      maps_fault_requests_none words bad.command.accepted _ _ bad.command.found fault bad,
+    );
+    line = ends_maps_line fault;
+    bad_observer = λ place b. absurd
+        (no_maps_observed words bad.command.accepted _ _ bad.command.found fault place bad b);
+    bad_gauge = λ place b. absurd (maps_fault_without_bad_gauge words bad.command.accepted _ _
+        bad.command.found fault place bad b);
+    bad_sink = λ place b. absurd
+        (maps_fault_alone words bad.command.accepted _ _ bad.command.found fault place bad b);
+    bad_maps = λ other b. ap maps_fault_line
+        (one_maps_fault words bad.command.accepted _ _ bad.command.found fault other bad b);
   }
 
   pub no_map_refused : (text : List ℕ) → IsFaultOf words NoMap → EndsLine text →
@@ -111,4 +144,5 @@ module _ (words : List Text) where
     bad_observer = λ place bad. absurd (fault.2 place bad);
     bad_gauge = λ place bad. absurd (fault.4 place bad);
     bad_sink = λ place bad. absurd (fault.3 place bad);
+    bad_maps = λ other bad. absurd (fault.5 other bad);
   }

@@ -14,6 +14,7 @@ use Rattle.flow.specs.declared.gauges.GaugeFault.{GaugeFault}
 use Rattle.flow.specs.declared.gauges.GaugeFault.TheVariants as gauges
 use Rattle.relief.specs.Faults.{of_gauges, of_sight}
 use Rattle.request.specs.Request.{Request}
+use Rattle.relief.specs.MadeMap.{IsOfJobs}
 use Rattle.relief.specs.Refusals.{gauge_fault, view_fault, named_place_fault, request_fault, IsFaultOnGrid, tiles_of, IsFaultOnText}
 use Rattle.std.specs.Prelude.{⊤, nat_lt}
 use Rattle.terrain.specs.Sinks.{sinks_fault}
@@ -46,6 +47,19 @@ module _ (w : Request) (g : Raster) (some : 1 ≤ w.workers) (few : w.workers �
   job_refused jobs.BadWorkers bad_workers no_thread =
       absurd (elim (bad_workers refl) [ inl none ↦ omega arith | inr many ↦ omega arith ])
   job_refused jobs.NoThread bad_workers no_thread = (ready, no_thread refl)
+
+  pub of_jobs_refused : (f : RunFault) → IsOfJobs w.workers f → IsFaultOnGrid w g f
+  of_jobs_refused (Jobs jobs.Memory) h = ready
+  of_jobs_refused (Jobs jobs.BadWorkers) h =
+      absurd (elim h [ inl none ↦ omega arith | inr many ↦ omega arith ])
+  of_jobs_refused (Jobs jobs.NoThread) h = (ready, h)
+  of_jobs_refused (Tiling fault) h = absurd h
+  of_jobs_refused (Sight fault) h = absurd h
+  of_jobs_refused (Sinks fault) h = absurd h
+  of_jobs_refused (Gauges fault) h = absurd h
+  of_jobs_refused (Grid fault) h = absurd h
+  of_jobs_refused Read h = absurd h
+  of_jobs_refused Write h = absurd h
 
 of_jobs : {F : Type 0} (fault : JobFault → F) (f : F) → (f ≡ fault jobs.Memory)
     ⊎ (f ≡ fault jobs.BadWorkers) ⊎ (f ≡ fault jobs.NoThread) → (x : JobFault) × (f ≡ fault x)

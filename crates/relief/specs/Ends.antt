@@ -10,7 +10,9 @@ use Rattle.relief.specs.declared.fault.RunFault.{RunFault}
 use Rattle.relief.specs.FaultLine.{fault_line, fault_status}
 use Rattle.request.specs.Request.{Request}
 use Rattle.relief.specs.Runs.{Runs}
-use Rattle.request.specs.CommandLine.{AskForHelp, AreRefused, HasBadGauge, HasBadObserver, HasBadSink, IsHelp, RequestFor}
+use Rattle.request.specs.CommandLine.{AskForHelp, AreRefused, HasBadGauge, HasBadObserver, HasBadSink, HasMapsFault, IsHelp, RequestFor}
+use Rattle.request.specs.declared.map_words.MapsFault.{MapsFault}
+use Rattle.request.specs.declared.map_words.MapsFault.TheVariants.{UnknownMap, RepeatedMap, NoGauge, NoCatchments}
 
 -- `text` was written to the device, or a front part of it, perhaps none or all, if the write
 -- failed.
@@ -39,9 +41,16 @@ pub record EndsRun {R W E : Type 0} (remaining : R → Option (List ℕ))
 abbrev pub EndsLine : List ℕ → Type 0
 EndsLine text = (front : List ℕ) × (text ≡ front ++ codes "\n")
 
+-- The line for a fault of map words. A bad word's number counts from 0 among the map words.
+abbrev pub maps_fault_line : MapsFault → List ℕ
+maps_fault_line (UnknownMap place) = codes "relief: bad map word " ++ decimal place ++ codes "\n"
+maps_fault_line RepeatedMap = codes "relief: a map is named twice\n"
+maps_fault_line NoGauge = codes "relief: catchments without a gauge\n"
+maps_fault_line NoCatchments = codes "relief: a gauge without catchments\n"
+
 -- A message for refused words, with a line feed last. For a bad observer, gauge or sink word it
--- gives the first such word's number, from 0 among the words for observers, gauges or sinks. The
--- text of other messages is left open.
+-- gives the first such word's number, from 0 among the words for observers, gauges or sinks; for
+-- map words it names their fault. The text of other messages is left open.
 pub record IsRefusalText (words : List Text) (text : List ℕ) : Type 0 where
   pub refused : AreRefused words
   pub line : EndsLine text
@@ -51,6 +60,7 @@ pub record IsRefusalText (words : List Text) (text : List ℕ) : Type 0 where
       text ≡ codes "relief: bad gauge word " ++ decimal place ++ codes "\n"
   pub bad_sink : (place : ℕ) → HasBadSink words place →
       text ≡ codes "relief: bad sink word " ++ decimal place ++ codes "\n"
+  pub bad_maps : (fault : MapsFault) → HasMapsFault words fault → text ≡ maps_fault_line fault
 
 -- Nothing was read. Status 0: the words ask for help or the version, and a text that ends with a
 -- line feed was written to the writer as `WritesLine` says. Status 1: the words are refused, and a

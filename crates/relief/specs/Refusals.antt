@@ -15,7 +15,7 @@ use Rattle.flow.specs.declared.gauges.GaugeFault.{GaugeFault}
 use Rattle.sight.specs.declared.fault.SightFault.{SightFault}
 use Rattle.sight.specs.Refusals.{observers_fault}
 use Rattle.request.specs.declared.map.Map.{Map}
-use Rattle.request.specs.declared.map.Map.TheVariants.{Catchments, View}
+use Rattle.request.specs.declared.map.Map.TheVariants.{Catchments, View, Several}
 use Rattle.relief.specs.declared.fault.RunFault.{RunFault}
 use Rattle.relief.specs.declared.fault.RunFault.TheVariants.{Grid, Tiling, Jobs, Sight, Sinks, Gauges, Read, Write}
 use Rattle.request.specs.Request.{Request}
@@ -30,9 +30,10 @@ view_fault g (View observers target radius) =
     observers_fault g.terrain observers.items target radius
 view_fault g map = None
 
--- The fault of the gauges of catchments; other maps have none.
+-- The fault of the gauges of catchments, or of several maps; other maps have none.
 abbrev pub gauge_fault : Raster → Map → Option GaugeFault
 gauge_fault g (Catchments gauges) = gauges_fault g.terrain gauges.items
+gauge_fault g (Several maps gauges) = gauges_fault g.terrain gauges.items
 gauge_fault g map = None
 
 -- The fault of the sinks or, if they have none, of the gauges.

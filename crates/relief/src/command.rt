@@ -8,7 +8,7 @@ ghost use Rattle.relief.specs.FaultLine.{fault_line, fault_status};
 ghost use Rattle.relief.specs.Runs.{Runs};
 
 use crate::fault::RunFault;
-use crate::fault_line::{tell, write_bad_word};
+use crate::fault_line::{tell, write_bad_word, write_maps_fault};
 use crate::running::{run, run_gated};
 use ascii_grid::{Counted, WriteFailed};
 use clap::Error;
@@ -90,8 +90,8 @@ fn show_error<W: Write, E: Write>(
 /// An empty list counts as the program's name alone.
 ///
 /// Help and the version go to `writer`. `errors` gets the line of a fault, the number of the first
-/// bad observer, gauge or sink word, or the message of `clap`. That number counts from 0 among the
-/// words of its kind. If memory is refused before the run, nothing is written. A failed write of
+/// bad observer, gauge, sink or map word, another fault of map words, or the message of `clap`. That
+/// number counts from 0 among the words of its kind. If memory is refused before the run, nothing is written. A failed write of
 /// one of these texts does not change the status. `--progress` has no effect: see
 /// [`run_words_reported`].
 ///
@@ -160,6 +160,10 @@ pub fn run_words_reported<
         }
         Err(WordsFault::BadSink(place)) => {
             let _ = write_bad_word(b"relief: bad sink word ", place, errors);
+            WORDS_REFUSED
+        }
+        Err(WordsFault::BadMaps(fault)) => {
+            let _ = write_maps_fault(&fault, errors);
             WORDS_REFUSED
         }
         Err(WordsFault::NoMap) => show("relief: the words name no map", errors, WORDS_REFUSED),

@@ -12,25 +12,29 @@ ghost use Rattle.relief.specs.MapText.{IsMapText, IsDrainage};
 ghost use Rattle.relief.specs.Refusals.{IsFaultOnGrid, gauge_fault, view_fault, named_place_fault, request_fault, tiles_of};
 
 use crate::fault::RunFault;
+use crate::several::{MadeMaps, make_several};
 use drain::directions;
 use drainage::Directions;
 use fill::filled;
 use flow::{accumulation, basins, catchments, gauges_fault};
-use request::{Map, Options};
+use request::{DrainageMap, Map, Options};
 use sight::viewshed;
 use std::alloc::Global;
 use std::sync::Wait;
 use std::thread::Threads;
 use terrain::{Count, Frame, Grid, sinks_fault};
 use tile_jobs::{Gate, JobFault};
+use tile_maps::Runner;
 use tiles::{Tiling, TilingFault};
 
 /// A finished map with its header. Direction codes and counts are kept without the heights.
 #[derive(Drop)]
-pub(crate) enum MadeMap {
+pub(crate) enum MadeMap<'a> {
     Heights(Grid),
     Codes(Frame, Directions),
     Counts(Frame, Vec<Count>),
+    /// Several maps, in the order in which they are written.
+    Several(&'a [DrainageMap], MadeMaps),
 }
 
 /// Fills a grid and finds its directions. Frees all heights, and returns header and directions.
@@ -75,7 +79,7 @@ fn named_place_fault(options: &Options, grid: &Grid) -> Option<RunFault>
     if let Some(fault) = sinks_fault(grid, options.sinks()) {
         return Some(RunFault::Sinks(fault));
     }
-    if let Map::Catchments { gauges } = options.map() {
+    if let Map::Catchments { gauges } | Map::Several { gauges, .. } = options.map() {
         if let Some(fault) = gauges_fault(grid, gauges) {
             return Some(RunFault::Gauges(fault));
         }
@@ -109,15 +113,15 @@ pub(crate) fn prepare(
     Ok((grid, tiling))
 }
 
-/// Makes the requested map. For a view, first checks observers, target and radius.
-pub(crate) fn make_map<H: Threads + Wait + Sync, G: Gate + Sync>(
+/// Makes the requested map or maps. For a view, first checks observers, target and radius.
+pub(crate) fn make_map<'a, H: Threads + Wait + Sync, G: Gate + Sync>(
     rt: &H,
     alloc: Global,
-    options: &Options,
+    options: &'a Options,
     grid: Grid,
     tiling: &Tiling,
     gate: &G,
-) -> Result<MadeMap, RunFault>
+) -> Result<MadeMap<'a>, RunFault>
     requires cuts { Cuts tiling.now grid.terrain }
     requires sound { request_fault options.now grid
         ≡ option_map RunFault.Sight (view_fault grid options.now.map) }
@@ -161,6 +165,17 @@ pub(crate) fn make_map<H: Threads + Wait + Sync, G: Gate + Sync>(
                 rt, alloc, &grid, observers, *target, *radius, tiling, workers, gate,
             )?;
             Ok(MadeMap::Counts(grid.into_frame(), counts))
+        }
+        Map::Several { maps, gauges } => {
+            let maps = maps.as_slice();
+            let runner = Runner {
+                rt,
+                alloc,
+                workers,
+                gate,
+            };
+            let made = make_several(&runner, maps, gauges, grid, tiling)?;
+            Ok(MadeMap::Several(maps, made))
         }
     }
 }

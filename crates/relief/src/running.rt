@@ -1,6 +1,6 @@
-//! [`run`] reads a grid and writes a map; [`run_gated`] also calls a [`Gate`].
+//! [`run`] reads a grid and writes a map or several; [`run_gated`] also calls a [`Gate`].
 //!
-//! Both read the whole grid, cut it into tiles, and write only when the map is complete.
+//! Both read the whole grid, cut it into tiles, and write only when each map is complete.
 ghost use Rattle.std.specs.Prelude.{◌<◌, ◌-◌, ◌^◌};
 ghost use Rattle.ascii_grid.specs.Device.{Writes};
 ghost use Rattle.relief.specs.MadeMap.{made_text, FitsGrid};
@@ -8,6 +8,7 @@ ghost use Rattle.relief.specs.Runs.{Runs};
 
 use crate::fault::RunFault;
 use crate::making::{MadeMap, make_map, prepare};
+use crate::several::write_several;
 use ascii_grid::{Counted, WriteFailed, read_grid};
 use request::Options;
 use std::alloc::Global;
@@ -19,9 +20,10 @@ use tile_jobs::{Gate, NoGate};
 use tile_maps::Runner;
 
 /// Reads a grid, adds the requested sinks, and writes the requested map.
+/// Several maps are written one after the other, in the order requested.
 ///
 /// Tile side, number of workers and schedule do not change the map. At most 2^29 + 1 bytes are
-/// read, in pieces of at most 4,096. Nothing is written before the map is complete, and nothing is
+/// read, in pieces of at most 4,096. Nothing is written before each map is complete, and nothing is
 /// allocated after the first byte written.
 ///
 /// The contract does not model the bytes of standard input and output. For these two streams it
@@ -93,7 +95,7 @@ pub fn run_gated<H: Threads + Wait + Sync, R: Read, W: Write, G: Gate + Sync>(
     Ok(())
 }
 
-/// Writes a map with its header. Allocates nothing after the first byte written.
+/// Writes a map with its header, or several. Allocates nothing after the first byte written.
 fn write_map<H: Threads + Wait + Sync, W: Write>(
     runner: &Runner<H, NoGate>,
     made: &MadeMap,
@@ -107,5 +109,6 @@ fn write_map<H: Threads + Wait + Sync, W: Write>(
         MadeMap::Heights(grid) => write_heights(runner, grid, writer),
         MadeMap::Codes(frame, directions) => write_codes(runner, frame, directions.codes(), writer),
         MadeMap::Counts(frame, values) => write_framed_counts(runner, frame, values, writer),
+        MadeMap::Several(maps, made) => write_several(runner, maps, made, writer),
     }
 }

@@ -1,9 +1,10 @@
 -- An option's value spells at most one number: the one read from it, or none if none is read. The
 -- first word that spells nothing is the bad word. If a command line names a map, none of its
--- observer or gauge words is bad; if it names a viewshed, it has no sink words.
-use Rattle.std.proofs.Common.{◌≡◌, ◌<◌, ◌^◌, ℕ, zero, suc, Bool, false, List, [], ◌∷◌, length, map, take, drop, get_or, slice_index, slice_index_or, codes, arith, Bor, Option, Some, None, Result, IfSome, IfNone, sym, ap, refl, ◌∙◌, subst}
+-- observer or gauge words is bad and its map words have no fault; if it names a viewshed, it has no
+-- sink words.
+use Rattle.std.proofs.Common.{◌≡◌, ◌<◌, ◌^◌, ℕ, zero, suc, Bool, false, List, [], ◌∷◌, length, map, take, drop, get_or, slice_index, slice_index_or, codes, arith, Bor, Option, Some, None, Result, IfSome, IfNone, sym, ap, refl, ◌∙◌, subst, inl, inr}
 use Rattle.std.specs.Prelude.{is_none, option_map, unwrap_or}
-use Rattle.std.specs.List.{position_or_len}
+use Rattle.std.specs.List.{position, position_or_len}
 use Rattle.std.proofs.lemmas.Bool.{lt-ltb}
 use Rattle.std.proofs.lemmas.Option.{none-some, same_Some}
 use Rattle.std.proofs.lemmas.List.{get_or-take, length-map, length-take}
@@ -17,14 +18,15 @@ use Rattle.clap.specs.Matches.{ReadsOne}
 use Rattle.clap.specs.declared.parser.matches.Found.{Found}
 use Rattle.clap.proofs.WalkLemmas.{raw_values-rows}
 use Rattle.terrain.specs.declared.observer.Observer.{Observer}
-use Rattle.request.specs.CommandLine.{HasNumber, HasObservers, IsFirstBad, Names, Spell, sink_words, words_of}
+use Rattle.request.specs.CommandLine.{HasNumber, HasObservers, IsFirstBad, Names, Spell, TakesGauges, sink_words, words_of}
 use Rattle.request.specs.PlaceWords.{observer_of, place_of_word}
 use Rattle.request.specs.Request.{IsViewshedMap}
-use Rattle.request.specs.WordsFaults.{IsBadObserverAfter, IsBadGaugeAfter, IsFaultWith}
+use Rattle.request.specs.WordsFaults.{IsBadObserverAfter, IsBadGaugeAfter, IsFaultWith, IsMapsFaultAfter}
 use Rattle.request.specs.declared.words.WordsFault.{WordsFault}
-use Rattle.request.specs.declared.words.WordsFault.TheVariants.{Clap, BadObserver, BadGauge, BadSink, NoMap}
+use Rattle.request.specs.declared.words.WordsFault.TheVariants.{Clap, BadObserver, BadGauge, BadSink, BadMaps, NoMap}
 use Rattle.request.specs.declared.map.Map.{Map}
-use Rattle.request.specs.declared.map.Map.TheVariants.{Fill, Flow, Accumulate, Basins, Catchments, View}
+use Rattle.request.specs.declared.map.Map.TheVariants.{Fill, Flow, Accumulate, Basins, Catchments, View, Several}
+use Rattle.request.specs.declared.map_words.MapsFault.{MapsFault}
 
 pub same_number : (rows : List Row) (id : Text) (m n : ℕ) → HasNumber rows id m →
     HasNumber rows id n → m ≡ n
@@ -90,6 +92,8 @@ only_view rows never Basins e = let bad : ◌≡◌ {A = ℕ} 118 98 =
 only_view rows never (Catchments gauges) e = let bad : ◌≡◌ {A = ℕ} 118 99 =
     ap (λ (t : Text). slice_index t 0) e.0 in absurd (omega arith)
 only_view rows never (View os t r) n = never os.items t r n.1 n.2 n.3
+only_view rows never (Several maps gauges) n = let bad : ◌≡◌ {A = ℕ} 118 109 =
+    ap (λ (t : Text). slice_index t 0) n.0 in absurd (omega arith)
 
 module _ {X : Type 0} (of : Text → Option X) where
   spelled : (words : List Text) (items : List X) (i : ℕ) (d : Text) → Spell of words items →
@@ -146,30 +150,74 @@ map_without_bad name rows Basins place n bad = let no : ◌≡◌ {A = ℕ} 118 
 map_without_bad name rows (Catchments gauges) place n bad = let no : ◌≡◌ {A = ℕ} 118 99 =
     ap (λ (t : Text). slice_index t 0) (sym bad.0 ∙ n.0) in absurd (omega arith)
 map_without_bad name rows (View os t r) place n bad = no_bad name rows os.items place n.1 bad
+map_without_bad name rows (Several maps gauges) place n bad = let no : ◌≡◌ {A = ℕ} 118 109 =
+    ap (λ (t : Text). slice_index t 0) (sym bad.0 ∙ n.0) in absurd (omega arith)
 
-named_catchments : (name : Text) (letter : ℕ) → name ≡ codes "catchments" →
-    slice_index name 0 ≡ letter → ◌≡◌ {A = ℕ} 99 letter
-named_catchments name letter is first = ap (λ (t : Text). slice_index t 0) (sym is) ∙ first
+-- a name that begins with none of the letters c and m takes no gauges
+takes_no_gauges : (name : Text) (letter : ℕ) → slice_index name 0 ≡ letter → (99 ≡ letter → ⊥) →
+    (109 ≡ letter → ⊥) → ¬ TakesGauges name
+takes_no_gauges name letter first c m takes = elim takes [
+  | inl is ↦ c (ap (λ (t : Text). slice_index t 0) (sym is) ∙ first)
+  | inr is ↦ m (ap (λ (t : Text). slice_index t 0) (sym is) ∙ first)
+]
 
 pub view_without_gauges : (rows : List Row) (place : ℕ) →
     ¬ IsBadGaugeAfter (codes "view") rows place
-view_without_gauges rows place bad = let no = named_catchments (codes "view") 118 bad.0 refl in
-    absurd (omega arith)
+view_without_gauges rows place bad = takes_no_gauges (codes "view") 118 refl (λ e. omega arith)
+    (λ e. omega arith) bad.0
 
 pub map_without_bad_gauge : (name : Text) (rows : List Row) (m : Map) (place : ℕ) →
     Names name rows m → ¬ IsBadGaugeAfter name rows place
-map_without_bad_gauge name rows Fill place n bad = let no =
-    named_catchments name 102 bad.0 (ap (λ (t : Text). slice_index t 0) n) in absurd (omega arith)
-map_without_bad_gauge name rows Flow place n bad = let no =
-    named_catchments name 102 bad.0 (ap (λ (t : Text). slice_index t 0) n) in absurd (omega arith)
-map_without_bad_gauge name rows Accumulate place n bad = let no =
-    named_catchments name 97 bad.0 (ap (λ (t : Text). slice_index t 0) n) in absurd (omega arith)
-map_without_bad_gauge name rows Basins place n bad = let no =
-    named_catchments name 98 bad.0 (ap (λ (t : Text). slice_index t 0) n) in absurd (omega arith)
+map_without_bad_gauge name rows Fill place n bad = takes_no_gauges name 102
+    (ap (λ (t : Text). slice_index t 0) n) (λ e. omega arith) (λ e. omega arith) bad.0
+map_without_bad_gauge name rows Flow place n bad = takes_no_gauges name 102
+    (ap (λ (t : Text). slice_index t 0) n) (λ e. omega arith) (λ e. omega arith) bad.0
+map_without_bad_gauge name rows Accumulate place n bad = takes_no_gauges name 97
+    (ap (λ (t : Text). slice_index t 0) n) (λ e. omega arith) (λ e. omega arith) bad.0
+map_without_bad_gauge name rows Basins place n bad = takes_no_gauges name 98
+    (ap (λ (t : Text). slice_index t 0) n) (λ e. omega arith) (λ e. omega arith) bad.0
 map_without_bad_gauge name rows (Catchments gauges) place n bad =
     none_bad place_of_word _ gauges.items place n.1 bad.1
-map_without_bad_gauge name rows (View os t r) place n bad = let no =
-    named_catchments name 118 bad.0 (ap (λ (t : Text). slice_index t 0) n.0) in absurd (omega arith)
+map_without_bad_gauge name rows (View os t r) place n bad = takes_no_gauges name 118
+    (ap (λ (t : Text). slice_index t 0) n.0) (λ e. omega arith) (λ e. omega arith) bad.0
+map_without_bad_gauge name rows (Several maps gauges) place n bad =
+    none_bad place_of_word _ gauges.items place n.1 bad.1
+
+-- a name that does not begin with m is not `maps`
+not_maps : (name : Text) (letter : ℕ) → slice_index name 0 ≡ letter → (109 ≡ letter → ⊥) →
+    ¬ (name ≡ codes "maps")
+not_maps name letter first m is = m (ap (λ (t : Text). slice_index t 0) (sym is) ∙ first)
+
+pub map_without_maps_fault : (name : Text) (rows : List Row) (m : Map) (fault : MapsFault) →
+    Names name rows m → ¬ IsMapsFaultAfter name rows fault
+map_without_maps_fault name rows Fill fault n bad =
+    not_maps name 102 (ap (λ (t : Text). slice_index t 0) n) (λ e. omega arith) bad.0
+map_without_maps_fault name rows Flow fault n bad =
+    not_maps name 102 (ap (λ (t : Text). slice_index t 0) n) (λ e. omega arith) bad.0
+map_without_maps_fault name rows Accumulate fault n bad =
+    not_maps name 97 (ap (λ (t : Text). slice_index t 0) n) (λ e. omega arith) bad.0
+map_without_maps_fault name rows Basins fault n bad =
+    not_maps name 98 (ap (λ (t : Text). slice_index t 0) n) (λ e. omega arith) bad.0
+map_without_maps_fault name rows (Catchments gauges) fault n bad =
+    not_maps name 99 (ap (λ (t : Text). slice_index t 0) n.0) (λ e. omega arith) bad.0
+map_without_maps_fault name rows (View os t r) fault n bad =
+    not_maps name 118 (ap (λ (t : Text). slice_index t 0) n.0) (λ e. omega arith) bad.0
+map_without_maps_fault name rows (Several maps gauges) fault n bad =
+    none-some fault (sym n.3 ∙ bad.2)
+
+pub view_without_maps_fault : (rows : List Row) (fault : MapsFault) →
+    ¬ IsMapsFaultAfter (codes "view") rows fault
+view_without_maps_fault rows fault bad =
+    not_maps (codes "view") 118 refl (λ e. omega arith) bad.0
+
+-- words that each spell an item have no bad one among them
+pub no_first_bad : {X : Type 0} (of : Text → Option X) (words : List Text) (items : List X) →
+    Spell of words items → position (λ word. is_none (of word)) words ≡ None
+no_first_bad of words items all = go (position (λ word. is_none (of word)) words) refl where
+  go : (o : Option ℕ) → position (λ word. is_none (of word)) words ≡ o →
+      position (λ word. is_none (of word)) words ≡ None
+  go None e = e
+  go (Some place) e = absurd (none_bad of words items place all e)
 
 pub view_without_sinks : (name : Text) (rows : List Row) (m : Map) → Names name rows m →
     IsViewshedMap m →
@@ -179,16 +227,20 @@ view_without_sinks name rows Flow named view = absurd view
 view_without_sinks name rows Accumulate named view = absurd view
 view_without_sinks name rows Basins named view = absurd view
 view_without_sinks name rows (Catchments gauges) named view = absurd view
+view_without_sinks name rows (Several maps gauges) named view = absurd view
 view_without_sinks name rows (View os t r) named view =
     subst (λ (n : Text). Spell place_of_word (sink_words n rows) []) (sym named.0) refl
 
-module _ {Observer Gauge Bad WrongGauge : ℕ → Type 0} {Missing NoMapThen : Type 0} where
+module _ {Observer Gauge Bad WrongGauge : ℕ → Type 0} {Maps BadMap : MapsFault → Type 0}
+    {Missing NoMapThen : Type 0} where
   pub fault_weaker : (f : WordsFault) → ((place : ℕ) → Observer place → Bad place) →
-      ((place : ℕ) → Gauge place → WrongGauge place) → (Missing → NoMapThen)
-      → IsFaultWith Observer Gauge (λ _. ⊥) Missing f →
-      IsFaultWith Bad WrongGauge (λ _. ⊥) NoMapThen f
-  fault_weaker (Clap e) observer gauge missing h = h
-  fault_weaker (BadObserver place) observer gauge missing h = observer place h
-  fault_weaker (BadGauge place) observer gauge missing h = gauge place h
-  fault_weaker (BadSink place) observer gauge missing h = h
-  fault_weaker NoMap observer gauge missing h = missing h
+      ((place : ℕ) → Gauge place → WrongGauge place) → ((fault : MapsFault) → Maps fault →
+      BadMap fault) → (Missing → NoMapThen)
+      → IsFaultWith Observer Gauge (λ _. ⊥) Maps Missing f →
+      IsFaultWith Bad WrongGauge (λ _. ⊥) BadMap NoMapThen f
+  fault_weaker (Clap e) observer gauge maps missing h = h
+  fault_weaker (BadObserver place) observer gauge maps missing h = observer place h
+  fault_weaker (BadGauge place) observer gauge maps missing h = gauge place h
+  fault_weaker (BadSink place) observer gauge maps missing h = h
+  fault_weaker (BadMaps fault) observer gauge maps missing h = maps fault h
+  fault_weaker NoMap observer gauge maps missing h = missing h

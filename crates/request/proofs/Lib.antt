@@ -3,3 +3,4 @@ mod Commands
 mod Given
 pub mod Requested
 mod Requests
+mod MapLists

@@ -1,6 +1,6 @@
 -- The subcommand that `clap` finds, with its values, decides what a command line requests, or which
 -- fault the command line has.
-use Rattle.std.proofs.Common.{◌≡◌, ℕ, List, [], ◌∷◌, length, map, eqb, Option, Some, None, true, false, slice_index, codes, arith, sym, ap, ap₂, subst, refl, inl, ◌∙◌, Bor, Box}
+use Rattle.std.proofs.Common.{◌≡◌, ℕ, List, [], ◌∷◌, length, map, eqb, Option, Some, None, true, false, codes, sym, ap, ap₂, subst, refl, inl, ◌∙◌, Bor, Box}
 use Rattle.std.specs.Prelude.{option_map}
 use Rattle.std.specs.Box.{box_value}
 use Rattle.std.proofs.lemmas.Option.{none-some, same_Some}
@@ -11,15 +11,16 @@ use Rattle.clap.specs.declared.parser.matches.ArgMatches.{ArgMatches}
 use Rattle.clap.specs.declared.parser.matches.ArgMatches.TheViews.{out-SubCommand}
 use Rattle.clap.specs.declared.parser.matches.SubCommand.{SubCommand}
 use Rattle.clap.proofs.OnLiterals.{clap_on_literals}
-use Rattle.request.specs.CommandLine.{HasBadGauge, HasBadObserver, HasBadSink, HasOptions, IsFirstBad, Names, Spell, RequestFor, is_flag_given, program_app, sink_words, words_given}
+use Rattle.request.specs.CommandLine.{HasBadGauge, HasBadObserver, HasBadSink, HasMapsFault, HasOptions, IsFirstBad, Names, Spell, RequestFor, is_flag_given, program_app, sink_words, words_given}
 use Rattle.request.specs.PlaceWords.{place_of_word}
 use Rattle.request.specs.Request.{AreLimits, IsViewshedMap, Request}
-use Rattle.request.specs.WordsFaults.{IsBadObserverAfter, IsBadGaugeAfter, IsFaultWith, IsFaultOf, IsMapFault}
+use Rattle.request.specs.WordsFaults.{IsBadObserverAfter, IsBadGaugeAfter, IsFaultWith, IsFaultOf, IsMapFault, IsMapsFaultAfter}
 use Rattle.request.specs.declared.words.WordsFault.{WordsFault}
-use Rattle.request.specs.declared.words.WordsFault.TheVariants.{Clap, BadObserver, BadGauge, BadSink, NoMap}
+use Rattle.request.specs.declared.words.WordsFault.TheVariants.{Clap, BadObserver, BadGauge, BadSink, BadMaps, NoMap}
 use Rattle.request.specs.declared.map.Map.{Map}
+use Rattle.request.specs.declared.map_words.MapsFault.{MapsFault}
 use Rattle.terrain.specs.declared.place.Place.{Place}
-use Rattle.request.proofs.Given.{map_without_bad, map_without_bad_gauge, none_bad}
+use Rattle.request.proofs.Given.{map_without_bad, map_without_bad_gauge, map_without_maps_fault, none_bad, view_without_gauges, view_without_maps_fault}
 
 program_simple : is_simple program_app ≡ true
 unfolding clap_on_literals
@@ -60,6 +61,7 @@ module _ (words : List Text) (accepted : fault_of program_app words ≡ []) wher
     λ place bad. none-some _ (sym none ∙ bad.command.found),
     λ place bad. none-some _ (sym none ∙ bad.command.found),
     λ place bad. none-some _ (sym none ∙ bad.command.found),
+    λ fault bad. none-some _ (sym none ∙ bad.command.found),
   )
 
   module _ (n : Text) (rs : List Row) (found : subcommand_of program_app words ≡ Some (n, rs)) where
@@ -76,7 +78,11 @@ module _ (words : List Text) (accepted : fault_of program_app words ≡ []) wher
 
     bad_gauge_after : (place : ℕ) → HasBadGauge words place → IsBadGaugeAfter n rs place
     bad_gauge_after place bad = subst (λ (p : Text × List Row). IsBadGaugeAfter p.0 p.1 place)
-        (same_found _ bad.command.found) (refl, bad.first)
+        (same_found _ bad.command.found) (bad.takes, bad.first)
+
+    maps_fault_after : (fault : MapsFault) → HasMapsFault words fault → IsMapsFaultAfter n rs fault
+    maps_fault_after fault bad = subst (λ (p : Text × List Row). IsMapsFaultAfter p.0 p.1 fault)
+        (same_found _ bad.command.found) (refl, (bad.gauges, bad.spelled), bad.faulty)
 
     pub requested : (map : Map) (request : Request) →
         Names n rs map → request.map ≡ map → Spell place_of_word (sink_words n rs) request.sinks →
@@ -107,9 +113,18 @@ module _ (words : List Text) (accepted : fault_of program_app words ≡ []) wher
       first = h.1;
     }
     map_refused (BadGauge place) h = record {
+      name = n;
+      rows = rs;
+      command = record { accepted = accepted; found = found };
+      takes = h.0;
+      first = h.1;
+    }
+    map_refused (BadMaps fault) h = record {
       rows = rs;
       command = record { accepted = accepted; found = found ∙ ap (λ name. Some (name, rs)) h.0 };
-      first = h.1;
+      gauges = h.1.0;
+      spelled = h.1.1;
+      faulty = h.2;
     }
     map_refused (BadSink place) h = absurd h
     map_refused NoMap h = (
@@ -118,6 +133,7 @@ module _ (words : List Text) (accepted : fault_of program_app words ≡ []) wher
       λ place bad. h.1 place (bad_after place bad),
       λ place bad. h.0 bad.map (named_of_bad place bad),
       λ place bad. h.2 place (bad_gauge_after place bad),
+      λ fault bad. h.3 fault (maps_fault_after fault bad),
     )
 
     words_of_bad : (place : ℕ) → HasBadSink words place →
@@ -127,11 +143,12 @@ module _ (words : List Text) (accepted : fault_of program_app words ≡ []) wher
         (same_found _ bad.command.found) bad.first
 
     pub sinks_refused : (map : Map) → Names n rs map → (f : WordsFault) →
-        IsFaultWith (λ _. ⊥) (λ _. ⊥) (IsFirstBad place_of_word (sink_words n rs)) ⊥ f →
+        IsFaultWith (λ _. ⊥) (λ _. ⊥) (IsFirstBad place_of_word (sink_words n rs)) (λ _. ⊥) ⊥ f →
         IsFaultOf words f
     sinks_refused map named (Clap e) h = inl h
     sinks_refused map named (BadObserver place) h = absurd h
     sinks_refused map named (BadGauge place) h = absurd h
+    sinks_refused map named (BadMaps fault) h = absurd h
     sinks_refused map named (BadSink place) h = record {
       name = n;
       rows = rs;
@@ -154,6 +171,7 @@ module _ (words : List Text) (accepted : fault_of program_app words ≡ []) wher
       λ place bad. map_without_bad n rs map place named (bad_after place bad),
       λ place bad. none_bad place_of_word _ sinks place spelled (words_of_bad place bad),
       λ place bad. map_without_bad_gauge n rs map place named (bad_gauge_after place bad),
+      λ fault bad. map_without_maps_fault n rs map fault named (maps_fault_after fault bad),
     )
 
     pub bad_requests_none : (place : ℕ) → HasBadObserver words place → (request : Request) →
@@ -189,10 +207,36 @@ module _ (words : List Text) (accepted : fault_of program_app words ≡ []) wher
 
     pub no_gauge_observed : (place other : ℕ) → HasBadGauge words place →
         HasBadObserver words other → ⊥
-    no_gauge_observed place other bad b =
-        let same : ◌≡◌ {A = ℕ} 99 118 = ap (λ (t : Text).
-        slice_index t 0) (sym (bad_gauge_after place bad).0 ∙ (bad_after other b).0) in
-        absurd (omega arith)
+    no_gauge_observed place other bad b = view_without_gauges rs place
+        (subst (λ (name : Text). IsBadGaugeAfter name rs place) (bad_after other b).0
+        (bad_gauge_after place bad))
+
+    pub maps_fault_requests_none : (fault : MapsFault) → HasMapsFault words fault →
+        (request : Request) → ¬ RequestFor words request
+    maps_fault_requests_none fault bad request w = map_without_maps_fault n rs request.map fault
+        (map_of_request request w) (maps_fault_after fault bad)
+
+    pub no_maps_observed : (fault : MapsFault) (place : ℕ) → HasMapsFault words fault →
+        HasBadObserver words place → ⊥
+    no_maps_observed fault place bad b = view_without_maps_fault rs fault
+        (subst (λ (name : Text). IsMapsFaultAfter name rs fault) (bad_after place b).0
+        (maps_fault_after fault bad))
+
+    pub maps_fault_without_bad_gauge : (fault : MapsFault) (place : ℕ) → HasMapsFault words fault →
+        HasBadGauge words place → ⊥
+    maps_fault_without_bad_gauge fault place bad b =
+        let m = maps_fault_after fault bad in
+        none_bad place_of_word _ m.1.0 place m.1.1 (bad_gauge_after place b).1
+
+    pub maps_fault_alone : (fault : MapsFault) (place : ℕ) → HasMapsFault words fault →
+        HasBadSink words place → ⊥
+    maps_fault_alone fault place bad b = map_without_maps_fault n rs b.map fault
+        (named_of_bad place b) (maps_fault_after fault bad)
+
+    pub one_maps_fault : (fault other : MapsFault) → HasMapsFault words fault →
+        HasMapsFault words other → fault ≡ other
+    one_maps_fault fault other bad b =
+        same_Some _ _ (sym (maps_fault_after fault bad).2 ∙ (maps_fault_after other b).2)
 
     pub one_bad_gauge : (place other : ℕ) → HasBadGauge words place → HasBadGauge words other →
         place ≡ other

@@ -17,10 +17,10 @@ use Rattle.request.specs.Laws.{AreSame, BasinsOfSinks, CatchmentsOfAGauge, FillA
 use Rattle.request.specs.PlaceWords.{place_of_word}
 use Rattle.request.specs.Request.{Request}
 use Rattle.request.specs.declared.map.Map.{Map}
-use Rattle.request.specs.declared.map.Map.TheVariants.{Fill, Flow, Accumulate, Basins, Catchments, View}
+use Rattle.request.specs.declared.map.Map.TheVariants.{Fill, Flow, Accumulate, Basins, Catchments, View, Several}
 use Rattle.request.proofs.Given.{same_number}
 
--- the third letter of a map's name, which differs for all six
+-- the third letter of a map's name, which differs for all six and for `maps`
 abbrev letter : Map → ℕ
 letter Fill = 108
 letter Flow = 111
@@ -28,6 +28,7 @@ letter Accumulate = 99
 letter Basins = 115
 letter (Catchments gauges) = 116
 letter (View observers target radius) = 101
+letter (Several maps gauges) = 112
 
 name_letter : (name : Text) (rows : List Row) (m : Map) → Names name rows m →
     slice_index name 2 ≡ letter m
@@ -37,6 +38,7 @@ name_letter name rows Accumulate n = ap (λ (t : Text). slice_index t 2) n
 name_letter name rows Basins n = ap (λ (t : Text). slice_index t 2) n
 name_letter name rows (Catchments gauges) n = ap (λ (t : Text). slice_index t 2) n.0
 name_letter name rows (View observers target radius) n = ap (λ (t : Text). slice_index t 2) n.0
+name_letter name rows (Several maps gauges) n = ap (λ (t : Text). slice_index t 2) n.0
 
 same_somes : {X : Type 0} (xs ys : List X) → map Some xs ≡ map Some ys → xs ≡ ys
 same_somes [] [] e = refl
@@ -53,24 +55,28 @@ one_letter name rows Fill Accumulate a b e = absurd (omega arith)
 one_letter name rows Fill Basins a b e = absurd (omega arith)
 one_letter name rows Fill (Catchments gauges) a b e = absurd (omega arith)
 one_letter name rows Fill (View observers target radius) a b e = absurd (omega arith)
+one_letter name rows Fill (Several maps gauges) a b e = absurd (omega arith)
 one_letter name rows Flow Fill a b e = absurd (omega arith)
 one_letter name rows Flow Flow a b e = refl
 one_letter name rows Flow Accumulate a b e = absurd (omega arith)
 one_letter name rows Flow Basins a b e = absurd (omega arith)
 one_letter name rows Flow (Catchments gauges) a b e = absurd (omega arith)
 one_letter name rows Flow (View observers target radius) a b e = absurd (omega arith)
+one_letter name rows Flow (Several maps gauges) a b e = absurd (omega arith)
 one_letter name rows Accumulate Fill a b e = absurd (omega arith)
 one_letter name rows Accumulate Flow a b e = absurd (omega arith)
 one_letter name rows Accumulate Accumulate a b e = refl
 one_letter name rows Accumulate Basins a b e = absurd (omega arith)
 one_letter name rows Accumulate (Catchments gauges) a b e = absurd (omega arith)
 one_letter name rows Accumulate (View observers target radius) a b e = absurd (omega arith)
+one_letter name rows Accumulate (Several maps gauges) a b e = absurd (omega arith)
 one_letter name rows Basins Fill a b e = absurd (omega arith)
 one_letter name rows Basins Flow a b e = absurd (omega arith)
 one_letter name rows Basins Accumulate a b e = absurd (omega arith)
 one_letter name rows Basins Basins a b e = refl
 one_letter name rows Basins (Catchments gauges) a b e = absurd (omega arith)
 one_letter name rows Basins (View observers target radius) a b e = absurd (omega arith)
+one_letter name rows Basins (Several maps gauges) a b e = absurd (omega arith)
 one_letter name rows (Catchments gauges) Fill a b e = absurd (omega arith)
 one_letter name rows (Catchments gauges) Flow a b e = absurd (omega arith)
 one_letter name rows (Catchments gauges) Accumulate a b e = absurd (omega arith)
@@ -78,6 +84,7 @@ one_letter name rows (Catchments gauges) Basins a b e = absurd (omega arith)
 one_letter name rows (Catchments gauges) (Catchments others) a b e =
     same_somes gauges.items others.items (sym a.1 ∙ b.1)
 one_letter name rows (Catchments gauges) (View observers target radius) a b e = absurd (omega arith)
+one_letter name rows (Catchments gauges) (Several maps places) a b e = absurd (omega arith)
 one_letter name rows (View observers target radius) Fill a b e = absurd (omega arith)
 one_letter name rows (View observers target radius) Flow a b e = absurd (omega arith)
 one_letter name rows (View observers target radius) Accumulate a b e = absurd (omega arith)
@@ -87,6 +94,17 @@ one_letter name rows (View observers target radius) (View others height reach) a
   same_somes observers.items others.items (sym a.1 ∙ b.1),
   same_number rows (codes "target") target height a.2 b.2,
   same_number rows (codes "radius") radius reach a.3 b.3,
+)
+one_letter name rows (View observers target radius) (Several maps gauges) a b e = absurd (omega arith)
+one_letter name rows (Several maps gauges) Fill a b e = absurd (omega arith)
+one_letter name rows (Several maps gauges) Flow a b e = absurd (omega arith)
+one_letter name rows (Several maps gauges) Accumulate a b e = absurd (omega arith)
+one_letter name rows (Several maps gauges) Basins a b e = absurd (omega arith)
+one_letter name rows (Several maps gauges) (Catchments places) a b e = absurd (omega arith)
+one_letter name rows (Several maps gauges) (View observers target radius) a b e = absurd (omega arith)
+one_letter name rows (Several maps gauges) (Several others places) a b e = (
+  same_somes maps.items others.items (sym a.2 ∙ b.2),
+  same_somes gauges.items places.items (sym a.1 ∙ b.1),
 )
 
 pub one_request : (words : List Text) (request other : Request) → RequestFor words request →

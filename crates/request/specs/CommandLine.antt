@@ -1,6 +1,6 @@
 -- Subcommands and options for `clap`, and what a command line means: a request, help or refusal.
 -- Trust base.
-use Rattle.std.specs.Prelude.{◌≡◌, ◌⊎◌, ℕ, Bool, ◌<◌, ◌^◌, pos, true, false, List, [], ◌∷◌, map, Option, Some, codes, Any, is_none, unwrap_or, if◌then◌else◌}
+use Rattle.std.specs.Prelude.{◌≡◌, ◌⊎◌, ℕ, Bool, ◌<◌, ◌^◌, pos, true, false, List, [], ◌∷◌, map, Option, Some, None, codes, Any, is_none, unwrap_or, if◌then◌else◌}
 use Rattle.std.specs.List.{position}
 use Rattle.std.specs.Option.{option_map_or}
 use Rattle.std.specs.Str.{bytes_eq}
@@ -17,7 +17,9 @@ use Rattle.clap.specs.declared.error.kind.ErrorKind.TheVariants.{DisplayHelp, Di
 use Rattle.terrain.specs.declared.observer.Observer.{Observer}
 use Rattle.terrain.specs.declared.place.Place.{Place}
 use Rattle.request.specs.declared.map.Map.{Map}
-use Rattle.request.specs.declared.map.Map.TheVariants.{Fill, Flow, Accumulate, Basins, Catchments, View}
+use Rattle.request.specs.declared.map.Map.TheVariants.{Fill, Flow, Accumulate, Basins, Catchments, View, Several}
+use Rattle.request.specs.declared.map_words.MapsFault.{MapsFault}
+use Rattle.request.specs.MapWords.{drainage_map_of, maps_fault}
 use Rattle.request.specs.PlaceWords.{observer_of, place_of_word}
 use Rattle.request.specs.Request.{Request, IsRequest}
 
@@ -90,6 +92,14 @@ sink_rule = record (new_rule (codes "sinks")) {
   value_names = 1;
 }
 
+-- `--gauge ROW,COL`: an option that may be repeated.
+abbrev pub gauge_rule : Rule
+gauge_rule = record (new_rule (codes "gauges")) {
+  long = Some (codes "gauge");
+  action = Some Append;
+  value_names = 1;
+}
+
 -- Positional sink words `ROW,COL`, any number of them.
 abbrev pub sinks_rule : Rule
 sinks_rule = record (new_rule (codes "sinks")) {
@@ -122,6 +132,13 @@ view_shape = record (new_shape (codes "view")) {
       ∷ observers_rule ∷ [];
 }
 
+-- The subcommand of several maps. It takes map words, sinks by `--sink` and gauges by `--gauge`.
+abbrev pub maps_shape : Shape
+maps_shape = record (new_shape (codes "maps")) {
+  rules = tile_rule ∷ workers_rule ∷ scale_rule ∷ progress_rule ∷ sink_rule ∷ gauge_rule
+      ∷ words_rule (codes "maps") ∷ [];
+}
+
 -- The program, which has a version and requires one of these subcommands.
 abbrev pub program_app : App
 program_app = record {
@@ -133,7 +150,7 @@ program_app = record {
   };
   subs = drainage_shape (codes "fill") ∷ drainage_shape (codes "flow")
       ∷ drainage_shape (codes "accumulate")
-      ∷ drainage_shape (codes "basins") ∷ catchments_shape ∷ view_shape ∷ [];
+      ∷ drainage_shape (codes "basins") ∷ catchments_shape ∷ view_shape ∷ maps_shape ∷ [];
 }
 
 -- ---- what a command line requests
@@ -184,6 +201,10 @@ HasObservers rows observers = Spell observer_of (words_of (codes "observers") ro
 abbrev pub HasGauges : List Row → List Place → Type 0
 HasGauges rows gauges = Spell place_of_word (words_of (codes "gauges") rows) gauges
 
+-- The map words beside the gauge words have this fault, or none.
+abbrev pub fault_of_maps : List Row → Option MapsFault
+fault_of_maps rows = maps_fault (words_of (codes "maps") rows) (words_of (codes "gauges") rows)
+
 -- Subcommand `name`, with the argument values `rows`, requests this map.
 abbrev pub Names : Text → List Row → Map → Type 0
 Names name rows Fill = name ≡ codes "fill"
@@ -194,6 +215,10 @@ Names name rows (Catchments gauges) = (name ≡ codes "catchments") × HasGauges
 Names name rows (View observers target radius) =
     (name ≡ codes "view") × HasObservers rows observers.items
     × HasNumber rows (codes "target") target × HasNumber rows (codes "radius") radius
+Names name rows (Several maps gauges) =
+    (name ≡ codes "maps") × HasGauges rows gauges.items
+    × Spell drainage_map_of (words_of (codes "maps") rows) maps.items
+    × (fault_of_maps rows ≡ None)
 
 -- The words given for sinks; none for subcommand `view`.
 abbrev pub sink_words : Text → List Row → List Text
@@ -229,12 +254,27 @@ pub record HasBadObserver (words : List Text) (place : ℕ) : Type 0 where
   pub command : AreCommand words (codes "view") rows
   pub first : IsFirstBad observer_of (words_of (codes "observers") rows) place
 
--- The subcommand is `catchments`, and the first gauge word that spells no gauge is number `place`
--- of the gauge words, counted from 0.
+-- The subcommand takes gauges.
+abbrev pub TakesGauges : Text → Type 0
+TakesGauges name = (name ≡ codes "catchments") ⊎ (name ≡ codes "maps")
+
+-- The subcommand is `catchments` or `maps`, and the first gauge word that spells no gauge is number
+-- `place` of the gauge words, counted from 0.
 pub record HasBadGauge (words : List Text) (place : ℕ) : Type 0 where
+  pub name : Text
   pub rows : List Row
-  pub command : AreCommand words (codes "catchments") rows
+  pub command : AreCommand words name rows
+  pub takes : TakesGauges name
   pub first : IsFirstBad place_of_word (words_of (codes "gauges") rows) place
+
+-- The subcommand is `maps`, no gauge word is bad, and the map words beside the gauge words have this
+-- fault.
+pub record HasMapsFault (words : List Text) (fault : MapsFault) : Type 0 where
+  pub rows : List Row
+  pub command : AreCommand words (codes "maps") rows
+  pub gauges : List Place
+  pub spelled : HasGauges rows gauges
+  pub faulty : fault_of_maps rows ≡ Some fault
 
 -- The words name a map, and the first sink word that spells no sink is number `place` of the sink
 -- words, counted from 0.

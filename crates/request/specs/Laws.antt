@@ -11,14 +11,16 @@ use Rattle.terrain.specs.declared.place.Place.{Place}
 use Rattle.request.specs.CommandLine.{AreRefused, AskForHelp, RequestFor, program_app}
 use Rattle.request.specs.Request.{Request}
 use Rattle.request.specs.declared.map.Map.{Map}
-use Rattle.request.specs.declared.map.Map.TheVariants.{Fill, Basins, Catchments, View}
+use Rattle.request.specs.declared.map.Map.TheVariants.{Fill, Basins, Catchments, View, Several}
 
--- Two maps have the same kind. Two maps of catchments also have the same gauges, and two viewsheds
--- the same observers, target and radius.
+-- Two maps have the same kind. Two maps of catchments also have the same gauges, two viewsheds the
+-- same observers, target and radius, and two lists of maps the same maps in order and gauges.
 abbrev pub AreSame : Map → Map → Type 0
 AreSame (View observers target radius) (View others height reach) =
     (observers.items ≡ others.items) × (target ≡ height) × (radius ≡ reach)
 AreSame (Catchments gauges) (Catchments others) = gauges.items ≡ others.items
+AreSame (Several maps gauges) (Several others places) =
+    (maps.items ≡ others.items) × (gauges.items ≡ places.items)
 AreSame map other = map ≡ other
 
 -- Two requests of one command line have the same map, options and sinks.

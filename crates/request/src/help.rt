@@ -10,12 +10,13 @@ pub(crate) struct MapHelp {
 
 pub(crate) const ABOUT: &str = "Maps drainage and visibility of a terrain grid.\n\n\
 Reads one grid of heights in the Esri ASCII raster form (GDAL's AAIGrid) from standard input, and writes one\n\
-map of it in the same form to standard output. It writes nothing before the map is whole.";
+map of it, or several, in the same form to standard output. It writes nothing before each map is whole.";
 
 pub(crate) const USAGE: &str = "\
 relief fill|flow|accumulate|basins [OPTIONS] [ROW,COL...] < dem.asc > map.asc
        relief catchments [OPTIONS] ROW,COL... < dem.asc > map.asc
-       relief view [OPTIONS] ROW,COL,EYE... < dem.asc > map.asc";
+       relief view [OPTIONS] ROW,COL,EYE... < dem.asc > map.asc
+       relief maps [OPTIONS] MAP... < dem.asc > maps.asc";
 
 pub(crate) const FILL: MapHelp = MapHelp {
     about: "Filled heights: the spill height of each cell, at which its water reaches the data's edge or a sink",
@@ -79,6 +80,16 @@ relief view --scale 2 --radius 500 --target 150 120,340,2000 < dem.asc > view.as
     usage: "relief view [OPTIONS] ROW,COL,EYE... < dem.asc > map.asc",
 };
 
+pub(crate) const MAPS: MapHelp = MapHelp {
+    about: "Several maps of drainage from one run, one after the other",
+    details: "Several maps of drainage from one run: the heights are read and filled and the directions searched for once.\n\n\
+Out: the grids of the maps in the order of the command line, each as its own subcommand writes it, one after\n\
+the other. Each has six header lines, and then as many lines as its nrows says.\n\n\
+Example, accumulation and the catchments of a gauge at row 170 and column 102:\n  \
+relief maps --gauge 170,102 accumulate catchments < dem.asc > maps.asc",
+    usage: "relief maps [OPTIONS] MAP... < dem.asc > maps.asc",
+};
+
 pub(crate) const SINK_WORDS: &str = "\
 Named sinks, up to 1024, each two whole numbers: the row from 0 at the north, the column from 0 at the west.
 A sink keeps the water that reaches it where no neighbour lies below: name the lowest cell of a pit, as of a
@@ -86,12 +97,19 @@ quarry, and the pit does not fill up. Where a neighbour lies below, the water fl
 as without the sink. A gauge is no sink";
 
 pub(crate) const SINK_OPTION: &str = "\
-A named sink, two whole numbers; give the option again for each, up to 1024. Words without it are gauges. A sink
-keeps the water that reaches it where no neighbour lies below";
+A named sink, two whole numbers; give the option again for each, up to 1024. Words without it are no sinks. A
+sink keeps the water that reaches it where no neighbour lies below";
 
 pub(crate) const GAUGE_WORDS: &str = "\
 Gauges, 1 to 1024, each two whole numbers: the row from 0 at the north, the column from 0 at the west. Of
 gauges in one cell the first counts";
+
+pub(crate) const GAUGE_OPTION: &str = "\
+A gauge of the catchments, two whole numbers; give the option again for each, up to 1024. It goes with the map
+`catchments`, which takes at least one";
+
+pub(crate) const MAP_WORDS: &str = "\
+Maps, each at most once: fill, flow, accumulate, basins or catchments";
 
 pub(crate) const VIEW_WORDS: &str = "\
 Observers, 1 to 1024, each three whole numbers: the row from 0 at the north, the column from 0 at the west,
@@ -123,6 +141,7 @@ Examples:
   relief basins 120,340 < dem.asc > basins.asc
   relief catchments 170,102 120,88 < dem.asc > catchments.asc
   relief view --scale 2 --radius 500 --target 150 120,340,2000 < dem.asc > view.asc
+  relief maps --gauge 170,102 accumulate catchments < dem.asc > maps.asc
 
 Without < the program waits for a grid from the terminal. `relief fill --help` tells what goes in and comes out,
 the units and limits, and the exit status.
@@ -137,6 +156,15 @@ relief: bad gauge word K
 relief: bad observer word K
       A file name stands where observers belong: give the grid by <. Or the word is not three whole numbers
       ROW,COL,EYE, as 120,340,2000: it has decimals, a sign, a number too large, two or four.
+relief: bad map word K
+      A file name or a place stands where maps belong: give the grid by <, sinks by --sink, gauges by --gauge. Or
+      the word is not fill, flow, accumulate, basins or catchments.
+relief: a map is named twice
+      Each map is written once: leave the second word out.
+relief: catchments without a gauge
+      `relief maps` takes the gauges of the catchments by --gauge ROW,COL.
+relief: a gauge without catchments
+      A gauge is for the map `catchments`: add this word, or leave --gauge out.
 relief: NUMBER NAME [DETAIL]
    1 UnknownKey          a header word that is no key (dx, north:), a cut header, a height that is a word (nan), or
                          a GeoTIFF: write a grid text with square cells (gdal_translate -of AAIGrid)
@@ -173,5 +201,5 @@ relief: NUMBER NAME [DETAIL]
   62 GaugeOnNodata PLACE this gauge is on a cell without data: move it
   63 TooManyGauges       more than 1024: make several maps
 KEY is ncols, nrows, xll, yll (a corner or a centre), cellsize or nodata. PLACE and K count from 0: cells in row
-order, so PLACE is row PLACE / ncols, rounded down, and column PLACE % ncols; observers, gauges and sinks in the
-order of the command line. `relief-cells` turns coordinates into ROW,COL and ROW,COL,EYE.";
+order, so PLACE is row PLACE / ncols, rounded down, and column PLACE % ncols; observers, gauges, sinks and maps in
+the order of the command line. `relief-cells` turns coordinates into ROW,COL and ROW,COL,EYE.";

@@ -8,7 +8,8 @@
 //! - `program`: declares subcommands and options
 //! - `help`: the long texts of `--help`
 //! - `options`: a map and its options, with tile side, workers and scale within limits
-//! - `map`: the six maps
+//! - `map`: the six maps, and several of them together
+//! - `map_words`: parses the words that name several maps
 //! - `place_words`: parses observer, gauge and sink words
 //! - `laws`: theorems about the definitions
 #![tactic(auto)]
@@ -16,12 +17,14 @@
 mod help;
 pub mod laws;
 mod map;
+mod map_words;
 mod options;
 mod place_words;
 mod program;
 mod words;
 
-pub use map::Map;
+pub use map::{DrainageMap, Map};
+pub use map_words::MapsFault;
 pub use options::Options;
 pub use place_words::{parse_observer, parse_sink};
 pub use words::{WordsFault, parse};

@@ -1,7 +1,28 @@
-//! [`Map`]: which of the six maps is requested, with its gauges or observers.
+//! [`Map`]: which map is requested, with its gauges or observers, or which [`DrainageMap`]s.
+ghost use Rattle.std.specs.Prelude.{◌↔◌, Contains, IsTrue};
+
 use terrain::{Observer, Place};
 
-/// A requested map, with its gauges or observers.
+/// A drainage map that may be requested together with others.
+#[derive(Clone, Copy, Debug, PartialEq, Eq)]
+pub enum DrainageMap {
+    Fill,
+    Flow,
+    Accumulate,
+    Basins,
+    Catchments,
+}
+
+impl DrainageMap {
+    /// Returns whether the map is one of `maps`.
+    pub fn is_one_of(self, maps: &[DrainageMap]) -> bool
+        ensures { IsTrue result ↔ Contains maps.now self }
+    {
+        maps.contains(&self)
+    }
+}
+
+/// A requested map, with its gauges or observers, or several.
 #[derive(Drop)]
 pub enum Map {
     /// Filled heights.
@@ -23,5 +44,13 @@ pub enum Map {
         observers: Vec<Observer>,
         target: u32,
         radius: u32,
+    },
+    /// Drainage maps made together, each as [`Map`] defines it, and written in this order.
+    ///
+    /// `gauges` are those of the catchments. The command line refuses an empty list, a map named
+    /// twice, catchments without a gauge, and gauges without catchments.
+    Several {
+        maps: Vec<DrainageMap>,
+        gauges: Vec<Place>,
     },
 }

@@ -1,13 +1,13 @@
 //! Declares the command line for `clap`: its subcommands, options and other words.
 ghost use Rattle.std.specs.Prelude.{◌≡◌, IfOk};
 ghost use Rattle.clap.specs.Words.{app_of, with_subcommand};
-ghost use Rattle.request.specs.CommandLine.{catchments_shape, drainage_shape, map_shape, number_rule, program_app, progress_rule, radius_rule, scale_rule, sink_rule, sinks_rule, target_rule, tile_rule, view_shape, words_rule, workers_rule};
+ghost use Rattle.request.specs.CommandLine.{catchments_shape, drainage_shape, gauge_rule, map_shape, maps_shape, number_rule, program_app, progress_rule, radius_rule, scale_rule, sink_rule, sinks_rule, target_rule, tile_rule, view_shape, words_rule, workers_rule};
 ghost use Rattle.request.specs.Commands.{IsArg, IsLeaf, bare_app};
 
 use crate::VERSION;
 use crate::help::{
-    ABOUT, ACCUMULATE, BASINS, CATCHMENTS, COMMON, EXAMPLES_AND_FAULTS, FILL, FLOW, GAUGE_WORDS,
-    MapHelp, SINK_OPTION, SINK_WORDS, USAGE, VIEW, VIEW_WORDS,
+    ABOUT, ACCUMULATE, BASINS, CATCHMENTS, COMMON, EXAMPLES_AND_FAULTS, FILL, FLOW, GAUGE_OPTION,
+    GAUGE_WORDS, MAP_WORDS, MAPS, MapHelp, SINK_OPTION, SINK_WORDS, USAGE, VIEW, VIEW_WORDS,
 };
 use crate::options::{LONGEST_SIDE, MOST_DECIMALS, MOST_WORKERS};
 use clap::builder::ValueParser;
@@ -96,7 +96,7 @@ fn required_words<'a>(alloc: Global, name: &'a str, value: &'a str, help: &'a st
         .help(help)
 }
 
-/// Returns `--sink ROW,COL`, for catchments, whose positional words are gauges.
+/// Returns `--sink ROW,COL`, for subcommands whose positional words are gauges or maps.
 fn sink_option<'a>(alloc: Global) -> Arg<'a>
     ensures { IsArg sink_rule result }
 {
@@ -105,6 +105,17 @@ fn sink_option<'a>(alloc: Global) -> Arg<'a>
         .value_name("ROW,COL")
         .action(ArgAction::Append)
         .help(SINK_OPTION)
+}
+
+/// Returns `--gauge ROW,COL`, for several maps, whose positional words are maps.
+fn gauge_option<'a>(alloc: Global) -> Arg<'a>
+    ensures { IsArg gauge_rule result }
+{
+    Arg::new(alloc, "gauges")
+        .long("gauge")
+        .value_name("ROW,COL")
+        .action(ArgAction::Append)
+        .help(GAUGE_OPTION)
 }
 
 /// Returns the positional sink words, which `fill`, `flow`, `accumulate` and `basins` take.
@@ -173,6 +184,15 @@ fn view_command<'a>(alloc: Global) -> Result<Command<'a>, AllocError>
         .arg(required_words(alloc, "observers", "ROW,COL,EYE", VIEW_WORDS))
 }
 
+fn maps_command<'a>(alloc: Global) -> Result<Command<'a>, AllocError>
+    ensures { IfOk result (IsLeaf maps_shape) }
+{
+    map_command(alloc, "maps", MAPS)?
+        .arg(sink_option(alloc))?
+        .arg(gauge_option(alloc))?
+        .arg(required_words(alloc, "maps", "MAP", MAP_WORDS))
+}
+
 /// Returns the program without its subcommands.
 fn bare_program<'a>(alloc: Global) -> Command<'a>
     ensures { app_of result ≡ bare_app }
@@ -186,7 +206,7 @@ fn bare_program<'a>(alloc: Global) -> Command<'a>
         .disable_help_subcommand(true)
 }
 
-/// Returns the program with one subcommand for each map.
+/// Returns the program with one subcommand for each map, and one for several.
 pub(crate) fn program<'a>(alloc: Global) -> Result<Command<'a>, AllocError>
     ensures { IfOk result (λ c. app_of c ≡ program_app) }
 {
@@ -195,5 +215,6 @@ pub(crate) fn program<'a>(alloc: Global) -> Result<Command<'a>, AllocError>
     let program = with_drainage(alloc, program, "accumulate", ACCUMULATE)?;
     let program = with_drainage(alloc, program, "basins", BASINS)?;
     let program = program.subcommand(catchments_command(alloc)?)?;
-    program.subcommand(view_command(alloc)?)
+    let program = program.subcommand(view_command(alloc)?)?;
+    program.subcommand(maps_command(alloc)?)
 }

@@ -1,14 +1,16 @@
 //! [`parse`] returns the [`Options`] that a command line requests, or a fault.
-ghost use Rattle.std.specs.Prelude.{◌≡◌, ℕ, [], map, codes, IfOk, IfErr, IfSome, IfNone};
+ghost use Rattle.std.specs.Prelude.{◌≡◌, ℕ, [], map, codes, Some, None, IfOk, IfErr, IfSome, IfNone};
 ghost use Rattle.clap.specs.Words.{found_of, rows_of};
 ghost use Rattle.request.specs.CommandLine.{HasNumber, HasOptions, IsFirstBad, Names, Spell, RequestFor, is_flag_given, sink_words, words_given};
+ghost use Rattle.request.specs.MapWords.{drainage_map_of, maps_fault};
 ghost use Rattle.request.specs.PlaceWords.{observer_of, place_of_word};
 ghost use Rattle.request.specs.Request.{AreLimits};
 ghost use Rattle.request.specs.WordsFaults.{IsBadWord, IsFaultWith, IsFaultOf, IsMapFault, IsNoMemory};
 ghost use Rattle.request.specs.declared.words.BadWord.TheVariants.{NoMemory};
 ghost use Rattle.request.specs.declared.words.WordsFault.TheVariants.{Clap};
 
-use crate::map::Map;
+use crate::map::{DrainageMap, Map};
+use crate::map_words::{MapsFault, list_fault};
 use crate::options::Options;
 use crate::place_words::FromWord;
 use crate::program::program;
@@ -29,6 +31,8 @@ pub enum WordsFault {
     BadGauge(usize),
     /// The number of the first word that is no sink, from 0 among sink words.
     BadSink(usize),
+    /// The map words of `relief maps` request nothing.
+    BadMaps(MapsFault),
     /// The words name no map, or a number is missing or outside its limits. `clap` refuses such
     /// words first.
     NoMap,
@@ -93,7 +97,8 @@ fn read_words<T: FromWord + Drop>(alloc: Global, words: &[&str]) -> Result<Vec<T
 fn observers_of(alloc: Global, words: &[&str]) -> Result<Vec<Observer>, WordsFault>
     ensures some { IfOk result (λ v. Spell observer_of (map (λ w. w.now) words.now) v.items) }
     ensures none { IfErr result
-        (IsFaultWith (IsFirstBad observer_of (map (λ w. w.now) words.now)) (λ _. ⊥) (λ _. ⊥) ⊥) }
+        (IsFaultWith (IsFirstBad observer_of (map (λ w. w.now) words.now)) (λ _. ⊥) (λ _. ⊥)
+        (λ _. ⊥) ⊥) }
 {
     match read_words(alloc, words) {
         Ok(observers) => Ok(observers),
@@ -105,7 +110,8 @@ fn observers_of(alloc: Global, words: &[&str]) -> Result<Vec<Observer>, WordsFau
 fn gauges_of(alloc: Global, words: &[&str]) -> Result<Vec<Place>, WordsFault>
     ensures some { IfOk result (λ v. Spell place_of_word (map (λ w. w.now) words.now) v.items) }
     ensures none { IfErr result
-        (IsFaultWith (λ _. ⊥) (IsFirstBad place_of_word (map (λ w. w.now) words.now)) (λ _. ⊥) ⊥) }
+        (IsFaultWith (λ _. ⊥) (IsFirstBad place_of_word (map (λ w. w.now) words.now)) (λ _. ⊥)
+        (λ _. ⊥) ⊥) }
 {
     match read_words(alloc, words) {
         Ok(gauges) => Ok(gauges),
@@ -117,11 +123,35 @@ fn gauges_of(alloc: Global, words: &[&str]) -> Result<Vec<Place>, WordsFault>
 fn sinks_of(alloc: Global, words: &[&str]) -> Result<Vec<Place>, WordsFault>
     ensures some { IfOk result (λ v. Spell place_of_word (map (λ w. w.now) words.now) v.items) }
     ensures none { IfErr result
-        (IsFaultWith (λ _. ⊥) (λ _. ⊥) (IsFirstBad place_of_word (map (λ w. w.now) words.now)) ⊥) }
+        (IsFaultWith (λ _. ⊥) (λ _. ⊥) (IsFirstBad place_of_word (map (λ w. w.now) words.now))
+        (λ _. ⊥) ⊥) }
 {
     match read_words(alloc, words) {
         Ok(sinks) => Ok(sinks),
         Err(BadWord::At(place)) => Err(WordsFault::BadSink(place)),
+        Err(BadWord::NoMemory(error)) => Err(WordsFault::from(error)),
+    }
+}
+
+/// Returns the maps that map words name. `Err` has the fault of these words beside the gauge words.
+fn drainage_maps_of(
+    alloc: Global,
+    words: &[&str],
+    gauges: &[&str],
+) -> Result<Vec<DrainageMap>, WordsFault>
+    ensures some { IfOk result
+        (λ v. Spell drainage_map_of (map (λ w. w.now) words.now) v.items) }
+    ensures sound { IfOk result
+        (λ _. maps_fault (map (λ w. w.now) words.now) (map (λ w. w.now) gauges.now) ≡ None) }
+    ensures none { IfErr result (IsFaultWith (λ _. ⊥) (λ _. ⊥) (λ _. ⊥)
+        (λ f. maps_fault (map (λ w. w.now) words.now) (map (λ w. w.now) gauges.now) ≡ Some f) ⊥) }
+{
+    match read_words(alloc, words) {
+        Ok(maps) => match list_fault(words, gauges) {
+            Some(fault) => Err(WordsFault::BadMaps(fault)),
+            None => Ok(maps),
+        },
+        Err(BadWord::At(place)) => Err(WordsFault::BadMaps(MapsFault::UnknownMap(place))),
         Err(BadWord::NoMemory(error)) => Err(WordsFault::from(error)),
     }
 }
@@ -154,6 +184,17 @@ fn catchments_of(alloc: Global, found: &ArgMatches<'_>) -> Result<Map, WordsFaul
     Ok(Map::Catchments { gauges })
 }
 
+fn several_of(alloc: Global, found: &ArgMatches<'_>) -> Result<Map, WordsFault>
+    ensures some { IfOk result (Names (codes "maps") (rows_of (found_of found.now))) }
+    ensures none { IfErr result (IsMapFault (codes "maps") (rows_of (found_of found.now))) }
+{
+    let gauge_words: &[&str] = found.get_strs("gauges").unwrap_or(&[]);
+    let gauges = gauges_of(alloc, gauge_words)?;
+    let map_words: &[&str] = found.get_strs("maps").unwrap_or(&[]);
+    let maps = drainage_maps_of(alloc, map_words, gauge_words)?;
+    Ok(Map::Several { maps, gauges })
+}
+
 /// Returns the map that the subcommand of this name requests.
 fn map_of(alloc: Global, name: &str, found: &ArgMatches<'_>) -> Result<Map, WordsFault>
     ensures some { IfOk result (Names name.now (rows_of (found_of found.now))) }
@@ -166,6 +207,7 @@ fn map_of(alloc: Global, name: &str, found: &ArgMatches<'_>) -> Result<Map, Word
         "basins" => Ok(Map::Basins),
         "catchments" => catchments_of(alloc, found),
         "view" => view_of(alloc, found),
+        "maps" => several_of(alloc, found),
         _ => Err(WordsFault::NoMap),
     }
 }
@@ -175,7 +217,8 @@ fn sinks_given(alloc: Global, name: &str, found: &ArgMatches<'_>) -> Result<Vec<
     ensures some { IfOk result
         (λ v. Spell place_of_word (sink_words name.now (rows_of (found_of found.now))) v.items) }
     ensures none { IfErr result (IsFaultWith (λ _. ⊥) (λ _. ⊥)
-        (IsFirstBad place_of_word (sink_words name.now (rows_of (found_of found.now)))) ⊥) }
+        (IsFirstBad place_of_word (sink_words name.now (rows_of (found_of found.now)))) (λ _. ⊥)
+        ⊥) }
 {
     if name == "view" {
         return Ok(Vec::new(alloc));
@@ -244,6 +287,7 @@ fn requested_options<'a>(alloc: Global, words: &'a [&'a str]) -> Result<Options,
 ///   memory is refused
 /// - [`WordsFault::BadObserver`], [`WordsFault::BadGauge`] or [`WordsFault::BadSink`] with the
 ///   number, from 0, of the first bad word of its kind; a bad gauge is reported before a bad sink
+/// - [`WordsFault::BadMaps`], reported after a bad gauge and before a bad sink
 ///
 /// # Examples
 ///

@@ -2,7 +2,7 @@ use Rattle.std.proofs.Common.{List, inl, map, subst, refl}
 use Rattle.clap.specs.Words.{Text}
 use Rattle.request.specs.CommandLine.{words_given}
 use Rattle.request.specs.WordsFaults.{IsFaultOf}
-use Rattle.relief.proofs.Unread.{bad_gauge_refused, bad_observer_refused, bad_sink_refused, no_map_refused, words_refused, shown}
+use Rattle.relief.proofs.Unread.{bad_gauge_refused, bad_observer_refused, bad_sink_refused, maps_refused, no_map_refused, words_refused, shown}
 use Rattle.relief.proofs.command.run_words_reported.Goals as goal
 
 pub returns-in-Err-Clap-clause-ends : goal.returns-in-Err-Clap-clause-ends
@@ -38,6 +38,15 @@ returns-in-Err-BadSink-clause-ends g c =
     (bad_sink_refused words c.in-Err-BadSink.place
     (subst (IsFaultOf words) c.in-Err-BadSink.field-0-is c.in-Err-BadSink.ensures.fault))
     (c.write_bad_word-in-Err-BadSink.result, c.write_bad_word-in-Err-BadSink.ensures) refl refl)
+
+pub returns-in-Err-BadMaps-clause-ends : goal.returns-in-Err-BadMaps-clause-ends
+returns-in-Err-BadMaps-clause-ends g c =
+    let words : List Text = words_given (map (λ w. w.now) c.args.words.now) in
+    inl (words_refused g.W.Write.contents g.E.Write.contents words c.args.reader.now
+    c.args.writer.now _ c.args.errors.now _ _ _
+    (maps_refused words c.in-Err-BadMaps.fault
+    (subst (IsFaultOf words) c.in-Err-BadMaps.field-0-is c.in-Err-BadMaps.ensures.fault))
+    (c.write_maps_fault.result, c.write_maps_fault.ensures) refl refl)
 
 pub returns-in-Err-NoMap-clause-ends : goal.returns-in-Err-NoMap-clause-ends
 returns-in-Err-NoMap-clause-ends g c =

@@ -1,28 +1,26 @@
-use Rattle.std.proofs.Common.{◌≡◌, ℕ, List, Option, None, ap, refl, subst, sym, ◌∙◌}
+use Rattle.std.proofs.Common.{◌≡◌, None, ap, refl, subst, sym, ◌∙◌}
 use Rattle.std.specs.Option.{option_map}
 use Rattle.std.proofs.lemmas.Result.{err_from_is_err_and}
 use Rattle.relief.specs.declared.fault.RunFault.TheVariants.{Sight}
 use Rattle.relief.specs.Refusals.{gauge_fault, view_fault}
 use Rattle.sight.specs.Refusals.{observers_fault}
 use Rattle.sight.proofs.Refused.{not_jobs}
-use Rattle.relief.proofs.Viewing.{catchments_refused, no_fault, view_refused}
+use Rattle.relief.proofs.Viewing.{catchments_refused, no_fault, of_jobs_refused, view_refused}
 use Rattle.terrain.specs.Raster.{Raster}
 use Rattle.ascii_grid.specs.Text.{counts_text, heights_text}
 use Rattle.drainage.specs.Drained.{directed_of}
 use Rattle.drainage.specs.Filled.{IsFilledGrid}
+use Rattle.std.specs.List.{flat_map}
 use Rattle.request.specs.declared.map.Map.{Map}
-use Rattle.request.specs.declared.map.Map.TheVariants.{Catchments}
+use Rattle.request.specs.declared.map.Map.TheVariants.{Catchments, Several}
 use Rattle.flow.specs.Catchments.{gauges_fault}
 use Rattle.relief.specs.MapText.{IsMapText}
+use Rattle.relief.specs.MadeMap.{layer_text}
+use Rattle.relief.proofs.Together.{joined, same_text}
 use Rattle.relief.proofs.making.make_map.Goals as goal
 
--- a list of values has the same text with the header of a grid and with that of the filled grid
-same_text : (g f : Raster) (values : List (Option ℕ)) → IsFilledGrid g f →
-    counts_text f values ≡ counts_text g values
-same_text g f values is = ap (λ (r : Raster). counts_text r values) is.rest
-
-pub returns-in_ok-filled-in-Fill-clause-map : goal.returns-in_ok-filled-in-Fill-clause-map
-returns-in_ok-filled-in-Fill-clause-map g c =
+pub returns-in-Fill-clause-map : goal.returns-in-Fill-clause-map
+returns-in-Fill-clause-map g c =
     subst (λ (m : Map). IsMapText c.args.grid m (heights_text c.into_grid.result))
     (sym (sym c.map.ensures ∙ c.in-Fill.is)) (
       c.into_grid.result,
@@ -31,8 +29,8 @@ returns-in_ok-filled-in-Fill-clause-map g c =
       refl,
     )
 
-pub returns-in_ok-frame-in-Flow-clause-map : goal.returns-in_ok-frame-in-Flow-clause-map
-returns-in_ok-frame-in-Flow-clause-map g c =
+pub returns-in-Flow-clause-map : goal.returns-in-Flow-clause-map
+returns-in-Flow-clause-map g c =
     let grid = c.in_ok-frame-in-Flow.frame in
     let d = c.in_ok-frame-in-Flow.directions in
     subst (λ (m : Map). IsMapText c.args.grid m (counts_text grid d.codes))
@@ -42,9 +40,8 @@ returns-in_ok-frame-in-Flow-clause-map g c =
       same_text c.args.grid grid d.codes c.in_ok-frame-in-Flow.ensures.filled,
     )
 
-pub returns-in_ok-counts-in-Accumulate-clause-map :
-    goal.returns-in_ok-counts-in-Accumulate-clause-map
-returns-in_ok-counts-in-Accumulate-clause-map g c =
+pub returns-in-Accumulate-clause-map : goal.returns-in-Accumulate-clause-map
+returns-in-Accumulate-clause-map g c =
     let grid = c.in_ok-frame-in-Accumulate.frame in
     let values = c.in_ok-counts-in-Accumulate.counts.items in
     subst (λ (m : Map). IsMapText c.args.grid m (counts_text grid values))
@@ -56,8 +53,8 @@ returns-in_ok-counts-in-Accumulate-clause-map g c =
       same_text c.args.grid grid values c.in_ok-frame-in-Accumulate.ensures.filled,
     )
 
-pub returns-in_ok-numbers-in-Basins-clause-map : goal.returns-in_ok-numbers-in-Basins-clause-map
-returns-in_ok-numbers-in-Basins-clause-map g c =
+pub returns-in-Basins-clause-map : goal.returns-in-Basins-clause-map
+returns-in-Basins-clause-map g c =
     let grid = c.in_ok-frame-in-Basins.frame in
     let values = c.in_ok-numbers-in-Basins.numbers.items in
     subst (λ (m : Map). IsMapText c.args.grid m (counts_text grid values))
@@ -69,9 +66,8 @@ returns-in_ok-numbers-in-Basins-clause-map g c =
       same_text c.args.grid grid values c.in_ok-frame-in-Basins.ensures.filled,
     )
 
-pub returns-in_ok-numbers-in-Catchments-clause-map :
-    goal.returns-in_ok-numbers-in-Catchments-clause-map
-returns-in_ok-numbers-in-Catchments-clause-map g c =
+pub returns-in-Catchments-clause-map : goal.returns-in-Catchments-clause-map
+returns-in-Catchments-clause-map g c =
     let grid = c.in_ok-frame-in-Catchments.frame in
     let values = c.in_ok-numbers-in-Catchments.numbers.items in
     subst (λ (m : Map). IsMapText c.args.grid m (counts_text grid values))
@@ -102,8 +98,8 @@ returns-in_err-numbers-in-Catchments-clause-fault g c =
     c.workers-workers.ensures.limits.2 c.workers-workers.ensures.limits.3 sound
     (c.requires.sound ∙ ap (λ o. option_map Sight o) unseen) refusals)
 
-pub returns-in_ok-counts-in-View-clause-map : goal.returns-in_ok-counts-in-View-clause-map
-returns-in_ok-counts-in-View-clause-map g c =
+pub returns-in-View-clause-map : goal.returns-in-View-clause-map
+returns-in-View-clause-map g c =
     let values = c.in_ok-counts-in-View.counts.items in
     subst (λ (m : Map). IsMapText c.args.grid m (counts_text c.into_frame.result values))
     (sym (sym c.map.ensures ∙ c.in-View.is)) (
@@ -128,8 +124,8 @@ returns-in_err-counts-in-View-clause-fault g c =
     (λ x. not_jobs x grid.terrain c.in-View.observers.items c.in-View.target c.in-View.radius)
     (c.requires.sound ∙ ap (λ o. option_map Sight o) asked) refusals)
 
-pub returns-in_ok-counts-in-View-clause-ready : goal.returns-in_ok-counts-in-View-clause-ready
-returns-in_ok-counts-in-View-clause-ready g c =
+pub returns-in-View-clause-ready : goal.returns-in-View-clause-ready
+returns-in-View-clause-ready g c =
     let w = c.args.options.now in
     let grid = c.args.grid in
     let asked : view_fault grid w.map
@@ -137,3 +133,36 @@ returns-in_ok-counts-in-View-clause-ready g c =
     ap (λ m. view_fault grid m) (sym c.map.ensures ∙ c.in-View.is) in
     c.requires.sound ∙ ap (λ o. option_map Sight o) (asked
     ∙ no_fault _ _ _ (rw c.deref-in-View.ensures.value at c.in_ok-counts-in-View.ensures.refusals))
+
+pub make_several-requires-clause-sound : goal.make_several-requires-clause-sound
+make_several-requires-clause-sound g c κs within =
+    let is = sym c.map.ensures ∙ c.in-Several.is in
+    rw c.deref-in-Several.ensures.value (sym (ap (λ m. gauge_fault c.args.grid m) is)
+    ∙ c.requires.gauges)
+
+pub returns-clause-map : goal.returns-clause-map
+returns-clause-map g c =
+    let grid = c.args.grid in
+    let maps = c.in-Several.maps.items in
+    let gauges = c.in-Several.gauges.items in
+    let made = c.in_ok-made-in-Several.made in
+    subst (λ (m : Map). IsMapText grid m (flat_map (layer_text made) c.as_slice-maps.result.now))
+    (sym (sym c.map.ensures ∙ c.in-Several.is)) (rw c.as_slice-maps.ensures.value
+    (joined grid gauges maps made (rw (
+      c.deref-in-Several.ensures.value,
+      c.as_slice-maps.ensures.value,
+    ) at c.in_ok-made-in-Several.ensures.made)))
+
+pub returns-in_err-made-in-Several-clause-fault : goal.returns-in_err-made-in-Several-clause-fault
+returns-in_err-made-in-Several-clause-fault g c =
+    let p = err_from_is_err_and c.from_residual-in_err-made-in-Several.result
+    c.from_residual-in_err-made-in-Several.ensures.1 in
+    let w = c.args.options.now in
+    let grid = c.args.grid in
+    let is : w.map ≡ Several c.in-Several.maps c.in-Several.gauges =
+    sym c.map.ensures ∙ c.in-Several.is in
+    let unseen : view_fault grid w.map ≡ None = ap (λ m. view_fault grid m) is in
+    rw (p.1, p.2) (of_jobs_refused w grid c.workers-workers.ensures.limits.2
+    c.workers-workers.ensures.limits.3 (c.requires.sound ∙ ap (λ o. option_map Sight o) unseen)
+    c.in_err-made-in-Several.field-0.0
+    (rw c.workers-workers.ensures.value at c.in_err-made-in-Several.ensures.fault))

@@ -17,5 +17,7 @@ returns c =
     ∙ ap (λ a. with_subcommand a (drainage_shape (codes "basins"))) with_accumulate in
     let with_catchments =
     app_with _ _ _ _ _ with_basins c.in_ok-catchments_command.ensures c.in_ok-program-5.ensures in
-    IfOk-weaker c.subcommand-2.result _ _ (λ r h.
-    app_with _ r _ _ _ with_catchments c.in_ok-view_command.ensures h) c.subcommand-2.ensures
+    let with_view =
+    app_with _ _ _ _ _ with_catchments c.in_ok-view_command.ensures c.in_ok-program-6.ensures in
+    IfOk-weaker c.subcommand-3.result _ _ (λ r h.
+    app_with _ r _ _ _ with_view c.in_ok-maps_command.ensures h) c.subcommand-3.ensures

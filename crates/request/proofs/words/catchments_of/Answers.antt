@@ -1,4 +1,4 @@
-use Rattle.std.proofs.Common.{rules, ◌≡◌, IfErr, refl, sym, subst, codes}
+use Rattle.std.proofs.Common.{rules, ◌≡◌, IfErr, refl, sym, subst, codes, inl}
 use Rattle.std.proofs.lemmas.Result.{IfErr-weaker}
 use Rattle.clap.specs.Words.{found_of, rows_of}
 use Rattle.request.specs.CommandLine.{IsFirstBad}
@@ -15,7 +15,8 @@ returns-in_err-gauges-clause-none c =
     IfErr-weaker c.from_residual.result _ _ (λ y e. subst (IsMapFault (codes "catchments")
     (rows_of (found_of c.args.found.now))) (sym e) (fault_weaker c.in_err-gauges.field-0.0
     (λ place never. absurd never) (λ place bad.
-    (refl, subst (λ ws. IsFirstBad place_of_word ws place) words bad)) (λ never. absurd never)
+    (inl refl, subst (λ ws. IsFirstBad place_of_word ws place) words bad)) (λ fault never.
+    absurd never) (λ never. absurd never)
     c.in_err-gauges.ensures.none)) same
 
 pub returns-clause-some : goal.returns-clause-some

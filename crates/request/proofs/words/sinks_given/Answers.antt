@@ -23,5 +23,5 @@ returns-clause-some c = subst (λ (words : List Text).
 
 pub returns-clause-none : goal.returns-clause-none
 returns-clause-none c = subst (λ (words : List Text). IfErr c.sinks_of.result
-    (IsFaultWith (λ _. ⊥) (λ _. ⊥) (IsFirstBad place_of_word words) ⊥))
+    (IsFaultWith (λ _. ⊥) (λ _. ⊥) (IsFirstBad place_of_word words) (λ _. ⊥) ⊥))
     (same c) c.sinks_of.ensures.none
