@@ -5,7 +5,8 @@ from typing import Dict, Tuple
 
 import numpy as np
 
-from .edges import STEPS, further, targets_of
+from .blocks import row_blocks
+from .edges import STEPS
 
 # The directions of other programs from 1 on, or 0, as they stand in their own order; each code of ours by theirs.
 CODES: Dict[str, Dict[int, int]] = {
@@ -138,6 +139,26 @@ def _steps(ours: np.ndarray, flats: np.ndarray) -> np.ndarray:
             return steps
         steps += more
         ways = further(ways)
+
+
+def targets_of(codes: np.ndarray) -> np.ndarray:
+    """The place to which each cell drains, in row order; its own where its flow path ends."""
+    rows, cols = codes.shape
+    offsets = np.zeros(256, np.int32)
+    for code, (down, right) in STEPS.items():
+        offsets[code] = down * cols + right
+    ways = np.arange(rows * cols, dtype=np.int32).reshape(rows, cols)
+    for block in row_blocks(codes.shape):
+        ways[block] += offsets[codes[block]]
+    return ways
+
+
+def further(ways: np.ndarray) -> np.ndarray:
+    """The ways that lead twice as far."""
+    longer, flat = np.empty_like(ways), ways.reshape(-1)
+    for block in row_blocks(ways.shape):
+        np.take(flat, ways[block], out=longer[block])
+    return longer
 
 
 def endless(codes: np.ndarray) -> np.ndarray:

@@ -14,8 +14,8 @@ from .errors import InputError
 
 HEADER_LINES = 6
 ZERO, MINUS, SPACE, LINE_FEED = b"0- \n"
-# What is read at once, in bytes, and how many rows are given on at once.
-PIECE = 1 << 19
+# What is read at once, in bytes, so that its numbers stay in a processor's cache; how many rows are given on at once.
+PIECE = 1 << 18
 STRIP = 256
 # No word of the program is longer, and no line of its header.
 MOST_WORD, MOST_LINE = 64, 200

@@ -12,11 +12,13 @@ import numpy as np
 from . import edges
 from .ahead import Ahead
 from .around import raster_around
+from .blocks import array_of
 from .catchment_areas import Basis, write_areas
 from .curvature import REFRACTION
 from .draft import Draft
 from .errors import Cancelled, UsageError
 from .frame import Bounds, Frame, Window
+from .grid_text import STRIP
 from .heights import Heights
 from .lands import checked, heights_in_units, tell_units
 from .maps import Request, TakeRows, make
@@ -147,19 +149,19 @@ def run(job: Job, program: Program, caller: Caller) -> None:
         terrain, check = checked(terrain, job, caller.say), _find_nothing
     with Ahead(check, caller) as ahead:
         del check
-        _run_on(terrain, job, program, ahead)
+        heights = heights_in_units(terrain, job.decimals, ahead.caller.say)
+        # They need as much memory as the map, and the check drops them as soon as it is done.
+        terrain = replace(terrain, values=np.empty((0, 0), terrain.values.dtype))
+        _run_on(terrain, heights, job, program, ahead)
 
 
 def _find_nothing(say: Say) -> None:
     """The check of a terrain that was checked before."""
 
 
-def _run_on(terrain: Terrain, job: Job, program: Program, ahead: Ahead) -> None:
-    """Makes a map of a terrain of which the check may still be at work."""
+def _run_on(terrain: Terrain, heights: Heights, job: Job, program: Program, ahead: Ahead) -> None:
+    """Makes a map of a terrain, of which the values may be left out and the check may still be at work."""
     caller = ahead.caller
-    heights = heights_in_units(terrain, job.decimals, caller.say)
-    # They need as much memory as the map.
-    terrain = replace(terrain, values=np.empty((0, 0), terrain.values.dtype))
     requests, gauges = requests_of(job, terrain.frame, heights, program, caller)
     with Draft(job, terrain, heights, requests[0].map, program.version) as draft:
         has_more = bool(job.uncertain or job.polygons or job.lines or (terrain.is_part and job.map in edges.TOLD_MAPS))
@@ -199,11 +201,15 @@ def _add_what_lies_below(job: Job, request: Request, terrain: Terrain, heights: 
 
 def _without_small(found: np.ndarray, least: int, say: Say) -> np.ndarray:
     """Basins of at least so many cells; smaller ones are 0."""
-    sizes = np.bincount(found[found > 0])
+    sizes = np.zeros(int(found.max()) + 1, np.int64)
+    for first in range(0, len(found), STRIP):
+        sizes += np.bincount(np.maximum(found[first:first + STRIP], 0).ravel(), minlength=sizes.size)
+    # Cells without data are no basin.
+    sizes[0] = 0
     is_small = (sizes > 0) & (sizes < least)
     say(f"{np.count_nonzero(sizes >= max(least, 1)):,} basins have at least {least:,} cells; "
         f"{np.count_nonzero(is_small):,} smaller ones are 0, with {int(sizes[is_small].sum()):,} cells")
-    return np.where((found > 0) & is_small[np.maximum(found, 0)], 0, found)
+    return array_of(lambda rows: np.where(is_small[np.maximum(found[rows], 0)], 0, found[rows]), found.shape, np.int32)
 
 
 def _cells(job: Job) -> int:

@@ -104,18 +104,37 @@ def make(request: Request, heights: Heights, program: Program, on_progress: Opti
         # Lines of sight lie between their ends, and farther off nothing is seen.
         places = [replace(place, row=place.row - part[0].start, col=place.col - part[1].start)
                   for place in request.places]
-        found = array_of(lambda rows: np.where(heights.valid[rows], 0, NODATA_COUNT), heights.units.shape, np.int32)
+        found = array_of(lambda rows: np.where(heights.valid[rows], np.int32(0), np.int32(NODATA_COUNT)),
+                         heights.units.shape, np.int32)
         found[part] = make(replace(request, places=places),
                            replace(heights, units=heights.units[part], valid=heights.valid[part]), program, on_progress,
                            is_cancelled, by_percent)
         return found
     names, sinks = ([place.name for place in places] for places in (request.places, request.sinks))
     dtype = heights.units.dtype if request.map == "fill" else np.dtype(np.int32)
+    codes = _Codes(heights.valid, on_rows) if request.map == "flow" and keeps else None
     found = program.run(request.words(), heights.units, heights.valid, names, sinks, on_progress, is_cancelled,
-                        by_percent, dtype, on_rows, keeps)
-    if request.map == "flow" and keeps:
-        return array_of(lambda rows: np.where(heights.valid[rows], found[rows], NODATA_CODE), found.shape, np.uint8)
-    return found
+                        by_percent, dtype, on_rows if codes is None else codes.put, keeps and codes is None)
+    return found if codes is None else codes.kept
+
+
+class _Codes:
+    """Directions in a byte each, of strips of what the program writes, which it gives on.
+
+    Args:
+        valid: (rows, cols) bool, where there is data.
+    """
+
+    def __init__(self, valid: np.ndarray, on_rows: Optional[TakeRows]) -> None:
+        self.kept = np.empty(valid.shape, np.uint8)
+        self.valid, self.on_rows = valid, on_rows
+
+    def put(self, strip: np.ndarray, row: int) -> None:
+        """Takes a strip from a row on."""
+        rows = slice(row, row + len(strip))
+        self.kept[rows] = np.where(self.valid[rows], strip, NODATA_CODE)
+        if self.on_rows is not None:
+            self.on_rows(strip, row)
 
 
 def edge_cells(valid: np.ndarray) -> np.ndarray:
@@ -127,8 +146,12 @@ def edge_cells(valid: np.ndarray) -> np.ndarray:
     Returns:
         (rows, cols) bool.
     """
-    around = np.pad(~valid, 1, constant_values=True)
-    return array_of(lambda rows: valid[rows] & any_of_nine(around[rows.start:rows.stop + 2]), valid.shape, bool)
+    def edges(rows: slice) -> np.ndarray:
+        top, bottom = max(rows.start - 1, 0), min(rows.stop + 1, len(valid))
+        beyond = (rows.start - 1 < top, bottom < rows.stop + 1), (1, 1)
+        return valid[rows] & any_of_nine(np.pad(~valid[top:bottom], beyond, constant_values=True))
+
+    return array_of(edges, valid.shape, bool)
 
 
 def lower_neighbour(heights: Heights, place: Place) -> Optional[Tuple[int, int]]:

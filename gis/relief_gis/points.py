@@ -258,15 +258,15 @@ def snap(places: Sequence[Place], counts: np.ndarray, cells: int) -> List[Place]
     return moved
 
 
-def write_points(path: str, places: Sequence[Place], counts: np.ndarray, frame: Frame) -> None:
-    """Writes places as a GeoPackage of points with their number, name, row, column and accumulation.
+def write_points(path: str, places: Sequence[Place], counts: Sequence[int], frame: Frame) -> None:
+    """Writes places as a GeoPackage of points with their number, name, row, column and accumulation, of `counts`.
 
     Raises:
         DeviceError, OSError: the file could not be written.
     """
     fields = (("number", int), ("name", str), ("row", int), ("col", int), ("accumulation", int))
-    features = ((_centre(frame, place), (number, place.name, place.row, place.col, int(counts[place.row, place.col])))
-                for number, place in enumerate(places, 1))
+    features = ((_centre(frame, place), (number, place.name, place.row, place.col, count))
+                for number, (place, count) in enumerate(zip(places, counts), 1))
     write_layer(path, "gauges", ogr.wkbPoint, fields, features, frame)
 
 

@@ -12,7 +12,7 @@ import numpy as np
 from osgeo import gdal, osr
 
 from . import cures
-from .blocks import THREADS, for_rows
+from .blocks import THREADS, for_rows, row_blocks
 from .errors import DeviceError, InputError, UsageError
 from .frame import Bounds, Frame, Geotransform, Window, reference_of
 from .gdal_errors import raised_errors
@@ -344,13 +344,16 @@ def fill_holes(values: np.ndarray, valid: np.ndarray, holes: np.ndarray, reach: 
         reach: how far GDAL looks for data, in cells: further than the holes are wide.
     """
     rows, cols = values.shape
+    found = values.copy()
     with raised_errors():
-        heights = gdal.GetDriverByName("MEM").Create("", cols, rows, 2, gdal.GDT_Float64)
-        grid, mask = heights.GetRasterBand(1), heights.GetRasterBand(2)
-        grid.WriteArray(np.where(valid, values, 0).astype(np.float64))
-        mask.WriteArray(valid.astype(np.uint8))
-        gdal.FillNodata(grid, mask, reach, 0)
-        filled = grid.ReadAsArray()
-    if values.dtype.kind in "iu":
-        filled = np.rint(filled)
-    return np.where(holes, filled, values).astype(values.dtype)
+        memory = gdal.GetDriverByName("MEM")
+        heights, mask = (memory.Create("", cols, rows, 1, kind) for kind in (gdal.GDT_Float64, gdal.GDT_Byte))
+        for part in row_blocks(values.shape):
+            heights.WriteArray(np.where(valid[part], values[part], 0).astype(np.float64), 0, part.start)
+            mask.WriteArray(valid[part].astype(np.uint8), 0, part.start)
+        gdal.FillNodata(heights.GetRasterBand(1), mask.GetRasterBand(1), reach, 0)
+        for part in row_blocks(values.shape):
+            filled = heights.ReadAsArray(0, part.start, cols, part.stop - part.start)
+            filled = np.rint(filled) if values.dtype.kind in "iu" else filled
+            found[part][holes[part]] = filled[holes[part]].astype(values.dtype)
+    return found

@@ -6,6 +6,7 @@ from typing import TYPE_CHECKING, Callable, Dict, List, Mapping, Optional, Seque
 
 import numpy as np
 
+from .blocks import row_blocks
 from .errors import InputError, UsageError
 from .frame import Frame
 from .grid_text import TakeRows
@@ -27,6 +28,8 @@ MOST_NAMED = 10
 NEEDED_PLACES = {"catchments": "gauges", "view": "observers"}
 
 Say = Callable[[str], None]
+# Moved gauges and the accumulation at each.
+Gauges = Tuple[List[Place], List[int]]
 
 
 def check_count(job: Job, places: Sequence[object]) -> None:
@@ -36,8 +39,8 @@ def check_count(job: Job, places: Sequence[object]) -> None:
 
 
 def requests_of(job: Job, frame: Frame, heights: Heights, program: Program,
-                caller: Caller) -> Tuple[List[Request], Optional[Tuple[List[Place], np.ndarray]]]:
-    """What the program is asked for, and of snapped gauges their places and the accumulation."""
+                caller: Caller) -> Tuple[List[Request], Optional[Gauges]]:
+    """What the program is asked for, and gauges that were moved."""
     def has_data(row: int, col: int) -> bool:
         return bool(heights.valid[row, col])
 
@@ -57,7 +60,7 @@ def requests_of(job: Job, frame: Frame, heights: Heights, program: Program,
         request = Request("accumulate", sinks, workers=job.workers, tile=job.tile)
         counts = caller.make(request, heights, program)
         places = _snapped(places, counts, job.snap, frame, caller.say)
-        gauges = places, counts
+        gauges = places, [int(counts[place.row, place.col]) for place in places]
     return [Request("catchments", places, sinks, workers=job.workers, tile=job.tile)], gauges
 
 
@@ -128,7 +131,9 @@ def made(requests: Sequence[Request], heights: Heights, program: Program, caller
         return caller.make(requests[0], heights, program, on_rows, keeps)
     found = caller.make(requests[0], heights, program)
     for request in requests[1:]:
-        found = np.where(heights.valid, found + caller.make(request, heights, program), found)
+        more = caller.make(request, heights, program)
+        for rows in row_blocks(found.shape):
+            np.add(found[rows], more[rows], out=found[rows], where=heights.valid[rows])
     return found
 
 

@@ -12,10 +12,12 @@ from typing import TYPE_CHECKING, Callable, List, Mapping, Sequence, Tuple
 
 import numpy as np
 
+from .blocks import row_blocks
 from .curvature import drop_of_a_cell, lowered
 from .draft import Draft, write_text
 from .errors import InputError
 from .frame import Window
+from .grid_text import STRIP
 from .heights import MOST_SIDE, Heights
 from .lands import checked, heights_in_units, tell_rounding, tell_units
 from .maps import NODATA_COUNT, Place
@@ -179,22 +181,7 @@ class _Run:
         self._begin_seen(heights)
         for observer in part.observers:
             cut = observer.box.within(part.box)
-            near = replace(heights, units=heights.units[cut], valid=heights.valid[cut])
-            request, = views(self.job, [observer.point], self.raster.frame.part(observer.box.window), heights.decimals,
-                             self.cells)
-            if self.job.curvature:
-                near = lowered(near, (request.places[0].row, request.places[0].col), self.drop)
-            found = self.caller.make(request, near, self.program)
-            if self.job.visibility is not None:
-                count = int(np.count_nonzero(found > 0))
-                self.rows += rows_of(observer.number, self.names, self.places, observer.box.corner, near,
-                                     request.radius, count, self.raster.frame)
-            if self.job.each:
-                band = self.seen.copy()
-                band[observer.box.within(self.box)] = found
-                draft.put(band, band=observer.number)
-            else:
-                self._add(observer.box, found)
+            self._map_one(observer, replace(heights, units=heights.units[cut], valid=heights.valid[cut]), draft)
 
     def end(self, draft: Draft) -> None:
         """Writes the map and the table."""
@@ -211,12 +198,38 @@ class _Run:
         if not self.raster.is_wide:
             self.seen[heights.valid] = 0
 
+    def _map_one(self, observer: Observer, near: Heights, draft: Draft) -> None:
+        """Maps what one observer sees, of the heights of its box."""
+        request, = views(self.job, [observer.point], self.raster.frame.part(observer.box.window), near.decimals,
+                         self.cells)
+        if self.job.curvature:
+            near = lowered(near, (request.places[0].row, request.places[0].col), self.drop)
+        found = self.caller.make(request, near, self.program)
+        if self.job.visibility is not None:
+            count = int(np.count_nonzero(found > 0))
+            self.rows += rows_of(observer.number, self.names, self.places, observer.box.corner, near,
+                                 request.radius, count, self.raster.frame)
+        if self.job.each:
+            self._put_band(observer, found, draft)
+        else:
+            self._add(observer.box, found)
+
+    def _put_band(self, observer: Observer, found: np.ndarray, draft: Draft) -> None:
+        """Writes what an observer sees of its box; elsewhere it sees nothing."""
+        rows, cols = observer.box.within(self.box)
+        for first in range(0, len(self.seen), STRIP):
+            band = self.seen[first:first + STRIP].copy()
+            top, bottom = (min(max(row, first), first + len(band)) for row in (rows.start, rows.stop))
+            band[top - first:bottom - first, cols] = found[top - rows.start:bottom - rows.start]
+            draft.put(band, first, observer.number)
+
     def _add(self, box: Box, found: np.ndarray) -> None:
         """Adds how many see the cells of a box; where there is data and nobody sees, it is 0."""
         seen = self.seen[box.within(self.box)]
-        has_data = found != NODATA_COUNT
-        seen[has_data & (seen == NODATA_COUNT)] = 0
-        seen[has_data] += found[has_data]
+        for rows in row_blocks(found.shape):
+            has_data = found[rows] != NODATA_COUNT
+            seen[rows][has_data & (seen[rows] == NODATA_COUNT)] = 0
+            np.add(seen[rows], found[rows], out=seen[rows], where=has_data)
 
 
 def _whole(raster: Raster) -> Box:

@@ -199,7 +199,8 @@ class OtherRasters(MapCase):
             heights[:2, :3] = number
             make_raster(self.folder / "dem.tif", heights)
             lines = self.make("fill", "dem.tif", "out.tif")
-            self.assertIn(f"6 cells have the height {number}, which often means no data, and are taken for terrain", lines)
+            self.assertIn(f"6 cells have the height {number}, which often means no data, and are taken for terrain",
+                          lines)
             command = lines.split("if it does, ")[1].split()
             subprocess.run(command, cwd=self.folder, check=True, stdout=subprocess.DEVNULL)
             self.assertEqual(self.make("fill", "dem.tif", "out.tif"), "")
