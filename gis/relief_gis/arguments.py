@@ -3,13 +3,15 @@ from __future__ import annotations
 
 import numbers
 from decimal import Decimal
+from fractions import Fraction
 from typing import Any, Iterable, List, Optional, Sequence, Tuple, Union
 
 import numpy as np
 
+from .curvature import drop_of
 from .errors import InputError, UsageError
 from .maps import Place
-from .units import MOST_RADIUS_CELLS, decimal_of, whole_units
+from .units import MOST_RADIUS_CELLS, decimal_of, plain, side_of, whole_units
 
 MOST_WORKERS = 64
 # Outside any grid, and still a number that the program takes.
@@ -80,6 +82,26 @@ def units_of(height: Any, decimals: int, name: str) -> int:
         UsageError: it is no whole number of units from 0.
     """
     return whole_units(decimal_of(height, name), decimals, name)
+
+
+def drop_of_arguments(cell: Any, curvature: bool, refraction: Any, earth: Any, decimals: int) -> Optional[Fraction]:
+    """By how many units of 10^-decimals ground drops over a cell; it grows with the square. None: it does not.
+
+    Raises:
+        UsageError: the side of a cell is missing where curvature counts, or a number is none.
+    """
+    if not curvature:
+        return None
+    if cell is None:
+        raise UsageError("curvature takes cell=, the side of a cell in the unit of the heights")
+    share = decimal_of(refraction, "refraction")
+    if not 0 <= share <= 1:
+        raise UsageError(f"refraction={shown(refraction)} is not 0 to 1")
+    side, radius = (side_of(float(decimal_of(length, name))) for length, name in ((cell, "cell"), (earth, "earth")))
+    for length, name in ((side, "cell"), (radius, "earth")):
+        if length <= 0:
+            raise UsageError(f"{name}={plain(length)} is not above 0")
+    return drop_of(side, radius, share) * 10**decimals
 
 
 def needed(places: Sequence[Place], name: str) -> Sequence[Place]:

@@ -17,18 +17,23 @@ value.
 from __future__ import annotations
 
 from dataclasses import replace
-from typing import Any, Optional, Sequence, Tuple
+from fractions import Fraction
+from typing import Any, List, NamedTuple, Optional, Sequence, Tuple
 
 import numpy as np
 
-from .arguments import MOST_WORKERS, needed, radius_of, units_of, whole_number
+from .arguments import MOST_WORKERS, drop_of_arguments, needed, radius_of, shown, units_of, whole_number
+from .curvature import EARTH, REFRACTION, lowered
+from .differences import COMPARED, Pair, differences_of
 from .edges import uncertain_cells, uncertain_map
-from .errors import UsageError
-from .given import Given, given_of
-from .heights import MOST_SIDE
+from .errors import InputError, UsageError
+from .foreign import CODES
+from .given import Given, given_of, other_map_of
+from .heights import MOST_SIDE, Heights
 from .maps import NODATA_CODE, NODATA_COUNT, Place, Request, make
 from .program import Program
 from .sightline import Profile, profile_of
+from .small_basins import without_small
 from .units import Number, decimal_of, side_of
 from .words import PYTHON, spoken_in
 
@@ -89,8 +94,11 @@ def accumulate(heights: Any, nodata: Optional[float] = None, scale: Optional[int
 
 
 def basins(heights: Any, nodata: Optional[float] = None, scale: Optional[int] = None, *,
-           sinks: Sequence[Cell] = (), workers: int = 1, program: Optional[Program] = None) -> Map:
+           sinks: Sequence[Cell] = (), least: int = 0, workers: int = 1, program: Optional[Program] = None) -> Map:
     """The number of the outlet to which each cell's water flows, from 1 in row order from the north.
+
+    Args:
+        least: how many cells a basin has at least; smaller ones are none, 0.
 
     Returns:
         (rows, cols) int32, NODATA_COUNT (-9999) where there is no data.
@@ -99,8 +107,10 @@ def basins(heights: Any, nodata: Optional[float] = None, scale: Optional[int] = 
         InputError, ReliefError, MissingError: as in `fill`.
     """
     with spoken_in(PYTHON):
+        fewest = whole_number(least, "least", 0, MOST_SIDE**2)
         given = given_of(heights, nodata, scale)
-        return _counted("basins", given, given.places(sinks, "sinks"), workers, program)
+        found = _made("basins", given, given.places(sinks, "sinks"), workers, program)
+        return given.counted(without_small(found, fewest, lambda line: None) if fewest else found, "basins")
 
 
 def catchments(heights: Any, gauges: Sequence[Cell], nodata: Optional[float] = None, scale: Optional[int] = None, *,
@@ -121,7 +131,8 @@ def catchments(heights: Any, gauges: Sequence[Cell], nodata: Optional[float] = N
 
 
 def view(heights: Any, observers: Sequence[Observer], nodata: Optional[float] = None, scale: Optional[int] = None, *,
-         target: Number = 0, radius: Optional[int] = None, workers: int = 1,
+         target: Number = 0, radius: Optional[int] = None, cell: Optional[Number] = None, curvature: bool = False,
+         refraction: Number = REFRACTION, earth: Number = EARTH, workers: int = 1,
          program: Optional[Program] = None) -> Map:
     """How many of the observers see each cell.
 
@@ -130,19 +141,27 @@ def view(heights: Any, observers: Sequence[Observer], nodata: Optional[float] = 
             10^-scale.
         target: height of the targets above the ground, likewise.
         radius: how far is seen, in cells, 1 to 8,192; None: over the whole grid.
+        cell: the side of a cell in the unit of the heights, which curvature takes.
+        curvature: whether the earth's curvature counts: ground at a distance d of an observer lies lower by
+            (1 - refraction) d^2 / (2 earth), rounded to whole numbers of 10^-scale. Each observer is a run then.
+        refraction: the share of the curvature that refraction takes away, 0 to 1.
+        earth: the earth's radius, in the unit of the heights.
 
     Returns:
         (rows, cols) int32, NODATA_COUNT (-9999) where there is no data.
 
     Raises:
-        UsageError: an eye or the target is no whole number of units.
+        UsageError: an eye or the target is no whole number of units, curvature lacks the side of a cell, or a side,
+            refraction or radius is none.
         InputError, ReliefError, MissingError: as in `fill`.
     """
     with spoken_in(PYTHON):
         given = given_of(heights, nodata, scale)
         places = needed(given.observers(observers), "observers")
-        above = units_of(target, given.heights.decimals, "target")
-        return _counted("view", given, places, workers, program, target=above, radius=radius_of(radius))
+        drop = drop_of_arguments(cell, curvature, refraction, earth, given.heights.decimals)
+        request = Request("view", places, target=units_of(target, given.heights.decimals, "target"),
+                          radius=radius_of(radius), workers=_threads(workers))
+        return given.counted(_seen(request, given.heights, drop, program or Program.find()), "view")
 
 
 def uncertain(heights: Any, nodata: Optional[float] = None, scale: Optional[int] = None, *,
@@ -229,27 +248,92 @@ def streams(heights: Any, threshold: int, nodata: Optional[float] = None, scale:
 
 
 def profile(heights: Any, start: Cell, end: Cell, eye: Number, nodata: Optional[float] = None,
-            scale: Optional[int] = None, *, target: Number = 0) -> Profile:
+            scale: Optional[int] = None, *, target: Number = 0, cell: Optional[Number] = None, curvature: bool = False,
+            refraction: Number = REFRACTION, earth: Number = EARTH) -> Profile:
     """The ground under the line of sight between two cells, what blocks it, and the least eye and target that clear it.
 
     Args:
         start, end: (row, column) of the observer and of the target, with data.
         eye, target: their heights above the ground in the unit of the heights, whole numbers of 10^-scale.
+        cell, curvature, refraction, earth: as in `view`; ground lies lower by its distance from the start.
 
     Returns:
         A `Profile`, of which heights are exact fractions in the unit of `heights`.
 
     Raises:
-        UsageError: the eye or the target is no whole number of units.
+        UsageError: the eye or the target is no whole number of units, or curvature as in `view`.
         InputError: the heights or a place have no line of sight.
     """
     with spoken_in(PYTHON):
         given = given_of(heights, nodata, scale)
         places = [given.place(cell, name) for cell, name in ((start, "start"), (end, "end"))]
         units = [units_of(height, given.heights.decimals, name) for height, name in ((eye, "eye"), (target, "target"))]
-        found = profile_of(given.heights, *((place.row, place.col) for place in places), *units)
+        ends = [(place.row, place.col) for place in places]
+        drop = drop_of_arguments(cell, curvature, refraction, earth, given.heights.decimals)
+        ground = given.heights if drop is None else lowered(given.heights, ends[0], drop)
+        found = profile_of(ground, *ends, *units)
         return found if found.worst is None else replace(
             found, worst=replace(found.worst, cell=given.cell(*found.worst.cell)))
+
+
+def compare(heights: Any, other: Any, map: str, nodata: Optional[float] = None, scale: Optional[int] = None, *,
+             codes: str = "arcgis", other_nodata: Optional[float] = None,
+            sinks: Sequence[Cell] = (), workers: int = 1, program: Optional[Program] = None) -> Differences:
+    """Where another program's map of the same cells differs from the definition, and by how much.
+
+    Args:
+        other: (rows, cols), the other map, of any kind that heights may have.
+        map: what it is: "fill" (in the unit of the heights), "flow", "accumulate" (in cells) or "basins".
+        codes: those of its directions: "arcgis" (and GDAL), "grass", "saga", "taudem" or "whitebox".
+        other_nodata: the value of the other map that means no data, as `nodata` of the heights.
+
+    Returns:
+        The lines that `relief-gis compare` tells, with cells as row,column; and of each cell (rows, cols) the other
+        map less the definition (`fill` and `accumulate`, float64, NaN where one of both has no data), the class of its
+        direction (`flow`, uint8: 0 the same, 1 another of equals, 2 neither, 3 no code, 4 a path without end), or 1
+        where its basin is another set of cells (`basins`, uint8); NODATA_CODE (255) where one of both has no data.
+
+    Raises:
+        UsageError: there is no such map, there are no such codes, or most directions are none of them.
+        InputError, ReliefError, MissingError: as in `fill`; the other map is no map of as many cells.
+    """
+    with spoken_in(PYTHON):
+        if map not in COMPARED:
+            raise UsageError(f"map={shown(map)} is none of {', '.join(COMPARED)}")
+        if codes not in CODES:
+            raise UsageError(f"codes={shown(codes)} is none of {', '.join(CODES)}")
+        given = given_of(heights, nodata, scale)
+        theirs, has_theirs = other_map_of(other, other_nodata, given.values.shape)
+        if not (given.heights.valid & has_theirs).any():
+            raise InputError("the other map has no data where the heights have")
+        places = given.places(sinks, "sinks")
+        ours = _made(map, given, places, workers, program)
+        filled = _made("fill", given, places, workers, program) if map == "flow" else None
+        pair = Pair(map, ours, theirs, has_theirs, given.heights, places, "the other map",
+                    lambda row, col: "{},{}".format(*given.cell(row, col)), codes, filled)
+        lines: List[str] = []
+        differences = differences_of(pair, lines.append)
+        return Differences(tuple(lines), given.compared(differences, f"differences of {map}"))
+
+
+class Differences(NamedTuple):
+    """How another program's map differs from the definition: the lines that tell it, and each cell's difference."""
+
+    lines: Tuple[str, ...]
+    cells: Map
+
+
+def _seen(request: Request, heights: Heights, drop: Optional[Fraction], program: Program) -> np.ndarray:
+    """How many of the observers of a request see each cell, each on ground that drops away from it."""
+    rows, cols = heights.units.shape
+    # The program refuses places outside the grid.
+    if drop is None or not all(place.row < rows and place.col < cols for place in request.places):
+        return make(request, heights, program)
+    found = np.where(heights.valid, np.int32(0), np.int32(NODATA_COUNT))
+    for place in request.places:
+        seen = make(replace(request, places=[place]), lowered(heights, (place.row, place.col), drop), program)
+        np.add(found, seen, out=found, where=heights.valid)
+    return found
 
 
 def _with_nodata(given: Given, values: np.ndarray) -> np.ndarray:

@@ -4,16 +4,20 @@ from __future__ import annotations
 from dataclasses import replace
 from decimal import Decimal
 from fractions import Fraction
-from typing import Tuple
+from typing import TYPE_CHECKING, Tuple
 
 import numpy as np
 
 from .blocks import array_of
 from .errors import InputError
-from .frame import Frame
 from .heights import Heights, unit_type
 
+if TYPE_CHECKING:
+    from .frame import Frame
+
 REFRACTION = Decimal("0.13")
+# The semi-major axis of WGS 84, in metres.
+EARTH = 6_378_137
 # Metres of the units of heights that rasters name.
 METRES = {"": Fraction(1), "m": Fraction(1), "metre": Fraction(1), "meter": Fraction(1), "metres": Fraction(1),
           "meters": Fraction(1), "ft": Fraction(3048, 10_000), "foot": Fraction(3048, 10_000),
@@ -38,8 +42,12 @@ def drop_of_a_cell(frame: Frame, unit: str, decimals: int, refraction: Decimal) 
     if unit.lower() not in METRES:
         raise InputError(f"--curvature takes heights in metres or feet, and those of the raster are in {unit}")
     side = frame.cell * Fraction(reference.GetLinearUnits())
-    radius = Fraction(reference.GetSemiMajor())
-    return (1 - Fraction(refraction)) * side**2 / (2 * radius) / METRES[unit.lower()] * 10**decimals
+    return drop_of(side, Fraction(reference.GetSemiMajor()), refraction) / METRES[unit.lower()] * 10**decimals
+
+
+def drop_of(distance: Fraction, radius: Fraction, refraction: Decimal) -> Fraction:
+    """By how much ground lies lower at a distance, in its unit, on an earth of a radius."""
+    return (1 - Fraction(refraction)) * distance**2 / (2 * radius)
 
 
 def lowered(heights: Heights, cell: Tuple[int, int], drop: Fraction) -> Heights:

@@ -85,6 +85,10 @@ class Given:
         """A map of codes or counts as what was given."""
         return self._wrapped(array, name, NODATA_CODE if array.dtype == np.uint8 else NODATA_COUNT)
 
+    def compared(self, array: np.ndarray, name: str) -> Any:
+        """Classes, or differences with NaN where there is none, as what was given."""
+        return self._wrapped(array, name, NODATA_CODE if array.dtype == np.uint8 else np.nan)
+
     def _wrapped(self, array: np.ndarray, name: str, missing: Any) -> Any:
         if self.labels is not None:
             return self.labels.wrapped(array, name, missing)
@@ -105,34 +109,60 @@ def given_of(heights: Any, nodata: Any, scale: Any) -> Given:
         InputError: the heights, nodata or scale have no map.
     """
     labels = labels_of(heights) if is_labelled(heights) else None
-    missing = [] if nodata is None else [number_of(nodata, "nodata")]
+    values, valid, dtype = _cells(heights, nodata, "nodata", labels)
+    decimals = default_decimals(dtype) if scale is None else whole_number(scale, "scale", 0, MOST_DECIMALS)
+    missing = heights.fill_value if isinstance(heights, np.ma.MaskedArray) else None
+    return Given(values, dtype, heights_of(values, valid, decimals), missing, labels)
+
+
+def other_map_of(array: Any, nodata: Any, shape: Tuple[int, ...]) -> Tuple[np.ndarray, np.ndarray]:
+    """Another program's map, north up, and where it has data, from what a caller gives as `other` and `other_nodata`.
+
+    Args:
+        array: as heights are given.
+        shape: that of the heights.
+
+    Raises:
+        InputError: it is no map of as many cells.
+    """
+    values, valid, dtype = _cells(array, nodata, "other_nodata", labels_of(array) if is_labelled(array) else None,
+                                  "other")
+    if values.shape != shape:
+        raise InputError(f"other has the shape {values.shape}, and the heights have {shape}")
+    return values, valid & ~np.isnan(values) if dtype.kind == "f" else valid
+
+
+def _cells(array: Any, nodata: Any, name: str, labels: Optional[Labels],
+           what: str = "heights") -> Tuple[np.ndarray, np.ndarray, np.dtype]:
+    """The values of a grid, north up, where it has data by mask and NODATA, and the type that was given."""
+    missing = [] if nodata is None else [number_of(nodata, name)]
     if labels is not None and nodata is None:
-        missing = nodata_of(heights)
-    is_masked = isinstance(heights, np.ma.MaskedArray)
-    given = _array_of(heights.values if labels is not None else heights)
-    dtype = given.dtype
+        missing = nodata_of(array)
+    given = _array_of(array.values if labels is not None else array, what)
     values = given if labels is None else given[labels.turns]
-    values = np.ascontiguousarray(values, dtype.newbyteorder("="))
-    valid = ~np.ma.getmaskarray(heights) if is_masked else np.ones(values.shape, bool)
+    values = np.ascontiguousarray(values, given.dtype.newbyteorder("="))
+    valid = ~np.ma.getmaskarray(array) if isinstance(array, np.ma.MaskedArray) else np.ones(values.shape, bool)
     for number in missing:
         valid &= ~cells_of(values, number)
-    decimals = default_decimals(dtype) if scale is None else whole_number(scale, "scale", 0, MOST_DECIMALS)
-    return Given(values, dtype, heights_of(values, valid, decimals), heights.fill_value if is_masked else None, labels)
+    return values, valid, given.dtype
 
 
-def _array_of(heights: Any) -> np.ndarray:
-    """The array of heights, without mask.
+def _array_of(given: Any, what: str) -> np.ndarray:
+    """The array of what is given, without mask.
+
+    Args:
+        what: it is, in messages.
 
     Raises:
         InputError: it is no grid of integers or floats.
     """
     try:
-        array = np.asarray(np.ma.getdata(heights))
+        array = np.asarray(np.ma.getdata(given))
     except (TypeError, ValueError) as error:
-        raise InputError(f"heights are no array: {error}") from None
+        raise InputError(f"{what} are no array: {error}") from None
     if array.ndim == 3:
-        raise InputError(f"an array of shape {array.shape} is no grid: choose one, as heights[0]")
+        raise InputError(f"an array of shape {array.shape} is no grid: choose one, as {what}[0]")
     if array.dtype.kind not in "iuf":
-        raise InputError(f"heights of type {array.dtype} are neither integers nor floats")
+        raise InputError(f"{what} of type {array.dtype} are neither integers nor floats")
     check_shape(array.shape)
     return array

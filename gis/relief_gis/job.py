@@ -12,13 +12,11 @@ import numpy as np
 from . import edges
 from .ahead import Ahead
 from .around import raster_around
-from .blocks import array_of
 from .catchment_areas import Basis, write_areas
 from .curvature import REFRACTION
 from .draft import Draft
 from .errors import Cancelled, UsageError
 from .frame import Bounds, Frame, Window
-from .grid_text import STRIP
 from .heights import Heights
 from .lands import checked, heights_in_units, tell_units
 from .maps import Request, TakeRows, make
@@ -27,6 +25,7 @@ from .points import Layer, Point, Source, write_points
 from .program import Program, Question, Report
 from .raster import Terrain, open_raster
 from .requests import check_count, made, requests_of
+from .small_basins import without_small
 from .stream_lines import write_lines
 from .targets import RASTER, TABLE, VECTOR, check_targets
 from .units import Measure, Reach, plain
@@ -168,7 +167,7 @@ def _run_on(terrain: Terrain, heights: Heights, job: Job, program: Program, ahea
         found = made(requests, heights, program, caller, draft.put, has_more or draft.needs_all)
         ahead.finish()
         if job.least is not None:
-            found = _without_small(found, job.least, caller.say)
+            found = without_small(found, job.least, caller.say)
         draft.end(found)
         _tell_sizes(job, requests[0], terrain.frame, heights.valid, found, caller.say)
         if job.snapped is not None and gauges is not None:
@@ -197,19 +196,6 @@ def _add_what_lies_below(job: Job, request: Request, terrain: Terrain, heights: 
     if job.lines is not None:
         draft.also[job.lines] = partial(write_lines, counts=found, codes=codes, threshold=_cells(job),
                                         frame=terrain.frame)
-
-
-def _without_small(found: np.ndarray, least: int, say: Say) -> np.ndarray:
-    """Basins of at least so many cells; smaller ones are 0."""
-    sizes = np.zeros(int(found.max()) + 1, np.int64)
-    for first in range(0, len(found), STRIP):
-        sizes += np.bincount(np.maximum(found[first:first + STRIP], 0).ravel(), minlength=sizes.size)
-    # Cells without data are no basin.
-    sizes[0] = 0
-    is_small = (sizes > 0) & (sizes < least)
-    say(f"{np.count_nonzero(sizes >= max(least, 1)):,} basins have at least {least:,} cells; "
-        f"{np.count_nonzero(is_small):,} smaller ones are 0, with {int(sizes[is_small].sum()):,} cells")
-    return array_of(lambda rows: np.where(is_small[np.maximum(found[rows], 0)], 0, found[rows]), found.shape, np.int32)
 
 
 def _cells(job: Job) -> int:

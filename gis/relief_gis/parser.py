@@ -9,8 +9,8 @@ from typing import IO, Any, List, NoReturn, Optional, Union
 from . import __version__
 from .arguments import MOST_WORKERS
 from .console import NAME, say_if_heard, write
-from .comparison import COMPARED
 from .curvature import REFRACTION
+from .differences import COMPARED
 from .edges import UNCERTAIN_MAPS
 from .errors import UsageError
 from .foreign import CODES

@@ -16,6 +16,7 @@ PYTHON: Vocabulary = (
     (r"fewer (--)?decimals, or name the NODATA value", "a smaller scale=, or name the value without data by nodata="),
     (r"fewer --decimals", "a smaller scale="),
     (r"--decimals (\d|N)", r"scale=\1"),
+    (r"give --codes \S+", "choose others by codes="),
     (r"fewer --workers", "fewer workers="),
     (r"give a larger --tile", "take a smaller array"),
     (r"take a larger window", "take a larger array"),

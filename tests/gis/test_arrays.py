@@ -10,7 +10,7 @@ import numpy as np
 
 import fixtures
 import relief_gis
-from fixtures import Case, by_hand, hills, make_raster
+from fixtures import Case, by_hand, hills, make_raster, read
 
 
 class Arrays(Case):
@@ -55,6 +55,44 @@ class Arrays(Case):
         found = relief_gis.view(self.heights, [(12, 20, 1.1), (3, 30, "2.25")], scale=2, target=1, radius=9)
         expected = self.expected("view", "--target", "100", "--radius", "9", "12,20,110", "3,30,225")
         np.testing.assert_array_equal(found, expected)
+
+    def test_view_of_a_curved_earth(self):
+        self.make("view", "dem.tif", "view.tif", "--at", "500615,5199625", "--eye", "1.1", "--at", "500915,5199895",
+                  "--eye", "2", "--curvature", "--refraction", "0.2", "--radius", "900")
+        found = relief_gis.view(self.heights, [(12, 20, 1.1), (3, 30, 2)], radius=30, cell=30, curvature=True,
+                                refraction=0.2)
+        np.testing.assert_array_equal(found, read(self.folder / "view.tif"))
+        # An earth that is as small as the grid hides what a flat one shows.
+        flat, small = (np.count_nonzero(relief_gis.view(self.heights, [(12, 20, 1.1)], cell=30, **more) > 0)
+                       for more in ({}, {"curvature": True, "earth": 2000}))
+        self.assertLess(small, flat)
+        with self.assertRaises(relief_gis.ReliefError) as caught:
+            relief_gis.view(self.heights, [(12, 20, 1), (2**40, 0, 1)], cell=30, curvature=True)
+        self.assertIn("observers[1]", str(caught.exception))
+
+    def test_profile_on_a_curved_earth(self):
+        start, end = (5, 7), (25, 38)
+        away = 900 * ((np.arange(30)[:, None] - 5)**2 + (np.arange(40) - 7)**2)
+        lowered = np.round(self.heights - np.round(0.87 * away / (2 * 6378137), 2), 2)
+        found = relief_gis.profile(self.heights, start, end, 3, target=2, cell=30, curvature=True)
+        self.assertEqual(found, relief_gis.profile(lowered, start, end, 3, target=2))
+
+    def test_refused_curvature(self):
+        for more, told in (({}, "curvature takes cell="), ({"cell": 0}, "cell=0 is not above 0"),
+                           ({"cell": 1, "refraction": 1.5}, "refraction=1.5 is not 0 to 1"),
+                           ({"cell": 1, "earth": -1}, "earth=-1 is not above 0"),
+                           ({"cell": "x"}, "cell x is no number")):
+            with self.assertRaises(relief_gis.UsageError, msg=told) as caught:
+                relief_gis.view(self.heights, [(12, 20, 1)], curvature=True, **more)
+            self.assertIn(told, str(caught.exception))
+
+    def test_small_basins(self):
+        plain = relief_gis.basins(self.heights)
+        sizes = np.bincount(plain[plain > 0])
+        expected = np.where((plain > 0) & (sizes[np.maximum(plain, 0)] < 20), 0, plain)
+        self.assertTrue((expected == 0).any() and (expected > 0).any())
+        np.testing.assert_array_equal(relief_gis.basins(self.heights, least=20), expected)
+        np.testing.assert_array_equal(relief_gis.basins(self.heights, least=0), plain)
 
     def test_catchments(self):
         gauges, sinks = [(20, 30), (12, 20), (20, 30)], [(7, 9)]
@@ -115,7 +153,7 @@ class Arrays(Case):
 
     def test_every_public_function_is_typed_and_told(self):
         for name in ("fill", "flow", "accumulate", "basins", "catchments", "view", "uncertain", "depth", "area",
-                     "streams", "profile"):
+                     "streams", "profile", "compare"):
             function = getattr(relief_gis, name)
             self.assertIn("Returns:", function.__doc__)
             self.assertIn("Raises:", function.__doc__)

@@ -7,7 +7,8 @@ import unittest
 import numpy as np
 
 import judge
-from fixtures import PLACED, Case, at, make_raster, read
+from fixtures import PLACED, RELIEF, Case, at, centre, make_raster, read
+import relief_gis
 
 NODATA = -9999
 # The numbers of E, SE, S, SW, W, NW, N, NE, and of an outlet, as the manuals of the programs have them.
@@ -163,6 +164,44 @@ class Compare(Case):
                     f"{len(numbers) - 2} basins of the same cells, of {len(numbers)} by the definition and "
                     f"{len(numbers) - 1} of the other map",
                     f"{len(basins) - joined} cells in them, {joined} in others"])
+
+    def test_arrays(self):
+        """What Python tells is what the command tells, with cells as row,column."""
+        chance = random.Random(27)
+        for number in range(12):
+            drainage = self.draw(chance)
+            for name, values in (("fill", drainage.filled), ("flow", drainage.codes), ("basins", drainage.basins()),
+                                 ("accumulate", drainage.accumulation())):
+                changed = {cell: chance.choice(WAYS) if name == "flow" and chance.randrange(3) == 0 else
+                           value + (name != "flow" and chance.randrange(5) == 0) for cell, value in values.items()}
+                self.write({cell: value for cell, value in changed.items() if chance.randrange(20)})
+                lines = self.tell(name, "--out", "kinds.tif")
+                heights, other = read(self.folder / "dem.tif"), read(self.folder / "other.tif")
+                found = relief_gis.compare(heights, other, name, NODATA, other_nodata=NODATA,
+                                           program=relief_gis.Program.find(RELIEF))
+                self.assertEqual([line.split(", at ")[0] for line in found.lines],
+                                 [line.split(", at ")[0] for line in lines], (number, name))
+                for ours, theirs in zip(found.lines, lines):
+                    if ", at " in theirs:
+                        row, col = ours.split(", at ")[1].split(",")
+                        self.assertEqual(theirs.split(", at ")[1], "{:g},{:.7g}".format(*centre(int(row), int(col))))
+                np.testing.assert_array_equal(found.cells, read(self.folder / "kinds.tif"))
+                self.assertEqual(found.cells.dtype, np.uint8 if name in ("flow", "basins") else np.float64)
+
+    def test_refused_arrays(self):
+        grid = np.arange(12).reshape(3, 4)
+        for error, told, arguments, more in (
+                (relief_gis.UsageError, "map='view' is none of fill, flow", (grid, grid, "view"), {}),
+                (relief_gis.UsageError, "codes='x' is none of arcgis", (grid, grid, "flow"), {"codes": "x"}),
+                (relief_gis.UsageError, "most numbers of the other map are no codes of arcgis: choose others by codes=",
+                 (grid, grid * 0 + 77, "flow"), {}),
+                (relief_gis.InputError, "other has the shape (4, 3)", (grid, grid.T, "fill"), {}),
+                (relief_gis.InputError, "other_nodata='x' is no number", (grid, grid, "fill"), {"other_nodata": "x"}),
+                (relief_gis.InputError, "the other map has no data where", (grid, grid * np.nan, "fill"), {}),
+                (relief_gis.InputError, "other are no array", (grid, [[1], [2, 3]], "fill"), {})):
+            with self.assertRaises(error, msg=told) as caught:
+                relief_gis.compare(*arguments, program=relief_gis.Program.find(RELIEF), **more)
+            self.assertIn(told, str(caught.exception))
 
     def test_other_cells(self):
         drainage = self.draw(random.Random(26))
