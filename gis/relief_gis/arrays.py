@@ -284,7 +284,8 @@ def compare(heights: Any, other: Any, map: str, nodata: Optional[float] = None, 
     Args:
         other: (rows, cols), the other map, of any kind that heights may have.
         map: what it is: "fill" (in the unit of the heights), "flow", "accumulate" (in cells) or "basins".
-        codes: those of its directions: "arcgis" (and GDAL), "grass", "saga", "taudem" or "whitebox".
+        codes: those of its directions: "arcgis" (and GDAL), "grass" (r.watershed), "saga", "taudem", "whitebox", or of
+            GRASS's r.fill.dir "degrees" or "agnps".
         other_nodata: the value of the other map that means no data, as `nodata` of the heights.
 
     Returns:

@@ -89,7 +89,11 @@ def _compare_heights(pair: Pair, tell: Say) -> np.ndarray:
 
 
 def _compare_counts(pair: Pair, tell: Say) -> np.ndarray:
-    differences = np.where(pair.chosen, pair.theirs.astype(np.float64) - pair.ours, 0)
+    theirs, below = pair.theirs.astype(np.float64), np.count_nonzero((pair.theirs < 0) & pair.chosen)
+    if below:
+        tell(f"{below:,} counts have a minus, as GRASS gives to cells into which land beyond may drain: it is left out")
+        theirs = np.abs(theirs)
+    differences = np.where(pair.chosen, theirs - pair.ours, 0)
     own = np.count_nonzero(differences[pair.chosen] == 1)
     if own > np.count_nonzero(differences[pair.chosen] == 0):
         tell("the other map counts the cell itself: 1 is taken off each of its counts")

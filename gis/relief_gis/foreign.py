@@ -15,9 +15,13 @@ CODES: Dict[str, Dict[int, int]] = {
     "saga": dict(zip(range(8), (64, 128, 1, 2, 4, 8, 16, 32))),
     "taudem": dict(zip(range(1, 9), (1, 128, 64, 32, 16, 8, 4, 2))),
     "whitebox": dict(zip((1, 2, 4, 8, 16, 32, 64, 128), (128, 1, 2, 4, 8, 16, 32, 64))),
+    # Of GRASS's r.fill.dir.
+    "degrees": dict(zip(range(45, 361, 45), (128, 64, 32, 16, 8, 4, 2, 1))),
+    "agnps": dict(zip(range(1, 9), (64, 128, 1, 2, 4, 8, 16, 32))),
 }
 # What stands for a cell that drains nowhere.
-OUTLETS = {"arcgis": (0,), "grass": (0,), "saga": (-1, 255), "taudem": (0, -1), "whitebox": (0,)}
+OUTLETS = {"arcgis": (0,), "grass": (0,), "saga": (-1, 255), "taudem": (0, -1), "whitebox": (0,), "degrees": (0,),
+           "agnps": (0,)}
 # Classes of directions, as `--out` has them.
 SAME, EQUAL, NEITHER, NO_CODE, ENDLESS = range(5)
 # Differences of squares that floats tell for sure, as a share of them.

@@ -15,10 +15,10 @@ def without_small(found: np.ndarray, least: int, say: Say) -> np.ndarray:
     """Basins of at least so many cells; smaller ones are 0.
 
     Args:
-        found: (rows, cols) int32, the map of basins, with a cell of one at least.
+        found: (rows, cols) int32, the map of basins.
         say: takes a line on how many there are of both.
     """
-    sizes = np.zeros(int(found.max()) + 1, np.int64)
+    sizes = np.zeros(max(int(found.max()), 0) + 1, np.int64)
     for first in range(0, len(found), STRIP):
         sizes += np.bincount(np.maximum(found[first:first + STRIP], 0).ravel(), minlength=sizes.size)
     # Cells without data are no basin.

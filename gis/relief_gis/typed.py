@@ -6,6 +6,7 @@ from decimal import Decimal, localcontext
 from fractions import Fraction
 from typing import Iterator, List, Optional, Sequence, Tuple, Union
 
+from .comparison import Comparison
 from .job import Job, Source
 from .points import Layer, Point
 from .units import Measure
@@ -17,12 +18,24 @@ Option = Tuple[str, Optional[object]]
 
 def typed_command(job: Job) -> str:
     """The command of a job, with all its parameters, for a shell."""
-    words = ["relief-gis", job.map, job.source, job.target]
+    return shlex.join(["relief-gis", job.map, job.source, job.target, *_words_of(job)])
+
+
+def typed_comparison(comparison: Comparison) -> str:
+    """The command of a comparison, likewise."""
+    job = comparison.job
+    words = ["relief-gis", "compare", job.source, comparison.other, "--map", job.map, "--codes", comparison.codes]
+    words += ["--other-band", str(comparison.band)] if comparison.band != 1 else []
+    words += ["--out", comparison.out] if comparison.out is not None else []
+    return shlex.join([*words, *_words_of(job)])
+
+
+def _words_of(job: Job) -> Iterator[str]:
+    """The words of a job's options."""
     for name, value in (*_options(job), *_places("--at", "--points", job.places), *_observers(job),
                         *_places("--sink-at", "--sinks", job.sinks)):
         if value is not None:
-            words += [name] if value == "" else [name, _text(value)]
-    return shlex.join(words)
+            yield from [name] if value == "" else [name, _text(value)]
 
 
 def _options(job: Job) -> List[Option]:

@@ -1,4 +1,5 @@
 """Random arrays of twelve types and all layouts through the Python functions, beside the judge's maps."""
+import collections
 import random
 from fractions import Fraction
 
@@ -15,6 +16,10 @@ NO_COUNT, NO_CODE = -9999, 255
 
 class Refused(Exception):
     """The call has to be refused."""
+
+
+class Unknown(Exception):
+    """The pages do not tell what the call has to give."""
 
 
 class Call:
@@ -101,6 +106,12 @@ class Call:
                                            for _ in range(self.chance.randint(1, 3))]
             self.arguments["target"] = self.chance.choice((0, 0, 2, 0.5))
             self.arguments["radius"] = self.chance.choice((None, None, 1, 3, 0 if self.chance.randrange(8) == 0 else 5))
+            if self.chance.randrange(3) == 0:
+                self.arguments.update(curvature=True, cell=self.chance.choice((1, 30, 0.5)),
+                                      refraction=self.chance.choice((0, 0.13, "0.2", 1)),
+                                      earth=self.chance.choice((6378137, 50, 1000)))
+        if self.map == "basins" and self.chance.randrange(3) == 0:
+            self.arguments["least"] = self.chance.choice((0, 1, 3, 12))
 
     def draw_place(self):
         """A cell, rarely outside or no cell at all."""
@@ -156,8 +167,9 @@ def expected_map(call, land, decimals):
         if radius is not None and radius < 1:
             raise Refused("radius")
         target = in_units(call.arguments["target"], decimals)
-        return judge.view(land, [((row, col), in_units(eye, decimals), target, radius)
-                                 for row, col, eye in call.arguments["observers"]])
+        found = [((row, col), in_units(eye, decimals), target, radius) for row, col, eye in call.arguments["observers"]]
+        return curved_view(call.arguments, land, found, decimals) if "curvature" in call.arguments \
+            else judge.view(land, found)
     drainage = judge.Drainage(land, [tuple(map(int, sink)) for sink in call.arguments.get("sinks", ())])
     if call.map == "catchments":
         return drainage.catchments([tuple(map(int, gauge)) for gauge in call.arguments["gauges"]])
@@ -173,7 +185,28 @@ def expected_map(call, land, decimals):
         if call.arguments["threshold"] < 0:
             raise Refused("below 0")
         return {cell: int(count > call.arguments["threshold"]) for cell, count in drainage.accumulation().items()}
+    if "least" in call.arguments:
+        basins = drainage.basins()
+        sizes = collections.Counter(basins.values())
+        return {cell: basin if sizes[basin] >= call.arguments["least"] else 0 for cell, basin in basins.items()}
     return {"flow": lambda: drainage.codes, "accumulate": drainage.accumulation, "basins": drainage.basins}[call.map]()
+
+
+def curved_view(arguments, land, observers, decimals):
+    """How many observers see each cell, where ground drops with the square of its distance from each."""
+    side, refraction = (Fraction(str(arguments[name])) for name in ("cell", "refraction"))
+    drop = (1 - refraction) * side ** 2 / (2 * arguments["earth"]) * 10 ** decimals
+    counts = dict.fromkeys(land, 0)
+    for observer in observers:
+        lowered = {}
+        for (row, col), height in land.items():
+            units = drop * ((row - observer[0][0]) ** 2 + (col - observer[0][1]) ** 2)
+            if abs(units % 1 - Fraction(1, 2)) < Fraction(1, 10 ** 6):
+                raise Unknown("a drop of half a unit")
+            lowered[row, col] = height - round(units)
+        for cell, seen in judge.view(lowered, [observer]).items():
+            counts[cell] += seen
+    return counts
 
 
 def in_units(height, decimals):
@@ -199,6 +232,8 @@ def outcome(seed, number):
         return "wrong", call, "the array was changed"
     try:
         land, decimals, values = expected(call)
+    except Unknown as reason:
+        return "unjudged", call, str(reason)
     except Refused as reason:
         is_refused = isinstance(result, relief_gis.GisError)
         return "refused" if is_refused else "wrong", call, f"{reason} is not refused"

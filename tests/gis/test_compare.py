@@ -15,7 +15,8 @@ NODATA = -9999
 WAYS = (1, 2, 4, 8, 16, 32, 64, 128)
 MANUALS = {"arcgis": ((1, 2, 4, 8, 16, 32, 64, 128), 0), "grass": ((8, 7, 6, 5, 4, 3, 2, 1), 0),
            "saga": ((2, 3, 4, 5, 6, 7, 0, 1), -1), "taudem": ((1, 8, 7, 6, 5, 4, 3, 2), 0),
-           "whitebox": ((2, 4, 8, 16, 32, 64, 128, 1), 0)}
+           "whitebox": ((2, 4, 8, 16, 32, 64, 128, 1), 0),
+           "degrees": ((360, 315, 270, 225, 180, 135, 90, 45), 0), "agnps": ((3, 4, 5, 6, 7, 8, 1, 2), 0)}
 KINDS = ("the direction of the definition", "another one of equals",
          "neither the steepest nor the shortest over a flat", "numbers that are no codes of", "on paths that never end")
 
@@ -83,7 +84,7 @@ class Compare(Case):
     def test_directions(self):
         chance = random.Random(21)
         seen = [0] * len(KINDS)
-        for number in range(80):
+        for number in range(110):
             drainage = self.draw(chance)
             program = chance.choice(sorted(MANUALS))
             ways, outlet = MANUALS[program]
@@ -144,6 +145,11 @@ class Compare(Case):
             self.assertEqual(told in lines, own == 1)
             self.assertEqual(self.counts(lines, ["equal", "above, by at most 7 cells, at 500015,5199985"]),
                              [len(counts) - 1, 1])
+            # GRASS marks cells by a minus.
+            marked = [cell for cell, count in changed.items() if count and chance.randrange(3) == 0]
+            self.write({cell: -count if cell in marked else count for cell, count in changed.items()})
+            lines = self.tell("accumulate")
+            self.assertEqual(self.counts(lines, ["counts have a minus", "equal"]), [len(marked), len(counts) - 1])
 
     def test_basins(self):
         chance = random.Random(25)

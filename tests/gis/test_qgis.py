@@ -4,6 +4,7 @@ import csv
 import io
 import json
 import os
+import shlex
 import time
 import unittest
 from concurrent.futures import ThreadPoolExecutor
@@ -95,7 +96,7 @@ class Algorithms(Case):
               "--name-field", "top", "--each", "--curvature", "--refraction", "0.2", "--visibility", "who.csv"]),
             ("catchments", [*self.points, f"--POLYGONS={folder}/qgis_areas.gpkg"],
              ["--points", "places.gpkg", "--polygons", "areas.gpkg"]),
-            ("streams", ["--THRESHOLD=20", f"--LINES={folder}/qgis_lines.gpkg"],
+            ("streams", ["--THRESHOLD_AREA=1.8", f"--LINES={folder}/qgis_lines.gpkg"],
              ["--threshold", "20", "--lines", "lines.gpkg"]),
             ("basins", ["--LEAST=20", f"--AROUND={ends[0]} [{UTM}]"], ["--least", "20", "--around", ends[0]]),
         ]
@@ -120,6 +121,33 @@ class Algorithms(Case):
         self.assertEqual((folder / "qgis_profile.csv").read_text(), (folder / "profile.csv").read_text())
         for line in told.getvalue().splitlines():
             self.assertIn(line, done.stdout + done.stderr)
+
+    def test_compare(self):
+        """The answer and the differences are those of the command."""
+        folder = self.folder
+        self.make("flow", "dem.tif", "flow.tif")
+        codes = read(folder / "flow.tif")
+        # Numbers from the north on, as one program has them.
+        numbers = np.where(codes == 0, -1, (np.log2(np.maximum(codes, 1)) + 2) % 8)
+        make_raster(folder / "other.tif", numbers.astype(np.int16))
+        done = PROFILE.run("run", "relief:compare", f"--INPUT={folder}/dem.tif", f"--OTHER={folder}/other.tif",
+                           "--MAP=1", "--CODES=2", f"--OUTPUT={folder}/kinds.tif", *self.points)
+        self.assertEqual(done.returncode, 0, done.stdout + done.stderr)
+        words = ["compare", "dem.tif", "other.tif", "--map", "flow", "--codes", "saga", "--points", "places.gpkg"]
+        with contextlib.redirect_stdout(io.StringIO()) as told:
+            self.make(*words, "--out", "expected.tif")
+        self.assertIn("the direction of the definition", told.getvalue())
+        for line in told.getvalue().splitlines():
+            self.assertIn(line, done.stdout)
+        np.testing.assert_array_equal(read(folder / "kinds.tif"), read(folder / "expected.tif"))
+        # The command among the metadata tells the same.
+        command = shlex.split(info(folder / "kinds.tif")["metadata"][""]["RELIEF_COMMAND"])
+        with contextlib.redirect_stdout(io.StringIO()) as again:
+            self.make(*command[1:])
+        self.assertEqual(again.getvalue(), told.getvalue())
+        done = PROFILE.run("run", "relief:compare", f"--INPUT={folder}/dem.tif", f"--OTHER={folder}/dem.tif", "--MAP=1")
+        self.assertNotEqual(done.returncode, 0)
+        self.assertIn("are no codes of arcgis: choose others for 'Codes of its directions'", done.stdout + done.stderr)
 
     def test_errors_in_plain_words(self):
         array = hills().astype(np.float32)

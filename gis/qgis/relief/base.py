@@ -2,10 +2,11 @@
 from __future__ import annotations
 
 import os
+from contextlib import contextmanager
 from dataclasses import replace
 from decimal import Decimal
 from fractions import Fraction
-from typing import Any, Dict, List, Optional, Tuple
+from typing import Any, Callable, Dict, Iterator, List, Optional, Tuple
 
 from qgis.core import (QgsProcessing, QgsProcessingAlgorithm, QgsProcessingContext, QgsProcessingException,
                        QgsProcessingFeedback, QgsProcessingLayerPostProcessorInterface, QgsProcessingParameterBand,
@@ -106,6 +107,10 @@ class MapAlgorithm(QgsProcessingAlgorithm):
         self.add_places()
         self.addParameter(QgsProcessingParameterEnum(self.VOIDS, tr(labels.HOLES), labels.VOIDS, defaultValue=0))
         self._add_advanced()
+        self.add_outputs()
+
+    def add_outputs(self) -> None:
+        """Defines what is written."""
         self.addParameter(QgsProcessingParameterRasterDestination(self.OUTPUT, tr(self.output)))
         if self.map in edges.UNCERTAIN_MAPS:
             self.addParameter(QgsProcessingParameterRasterDestination(
@@ -139,16 +144,10 @@ class MapAlgorithm(QgsProcessingAlgorithm):
         """Makes the map."""
         layer = self.parameterAsRasterLayer(parameters, self.INPUT, context)
         target = self.parameterAsOutputLayer(parameters, self.OUTPUT, context)
-        try:
+        with spoken_in_labels():
             asked = self._job(parameters, context, layer, target)
-            caller = job.Caller(lambda line: feedback.pushInfo(in_labels(line)), Bar(feedback), feedback.isCanceled,
-                                by_percent=True)
-            job.run(asked, program.Program.find(), caller)
-        except errors.Cancelled:
-            return {}
-        except errors.GisError as error:
-            raise QgsProcessingException(in_labels(str(error))) from None
-        feedback.setProgress(100)
+            if not is_done(lambda caller: job.run(asked, program.Program.find(), caller), feedback):
+                return {}
         self._ask_for_style(target, context)
         return self.results(asked)
 
@@ -222,6 +221,27 @@ class MapAlgorithm(QgsProcessingAlgorithm):
     def _ask_for_style(self, target: str, context: QgsProcessingContext) -> None:
         if context.willLoadLayerOnCompletion(target):
             context.layerToLoadOnCompletionDetails(target).setPostProcessor(Style(targets.style_path(target)))
+
+
+@contextmanager
+def spoken_in_labels() -> Iterator[None]:
+    """Raises errors of the package as those of Processing, in the words of the dialogue."""
+    try:
+        yield
+    except errors.GisError as error:
+        raise QgsProcessingException(in_labels(str(error))) from None
+
+
+def is_done(work: Callable[[Any], None], feedback: QgsProcessingFeedback) -> bool:
+    """Does work of the package with lines, progress and cancelling; False: it was cancelled."""
+    caller = job.Caller(lambda line: feedback.pushInfo(in_labels(line)), Bar(feedback), feedback.isCanceled,
+                        by_percent=True)
+    try:
+        work(caller)
+    except errors.Cancelled:
+        return False
+    feedback.setProgress(100)
+    return True
 
 
 def in_labels(text: str) -> str:

@@ -28,6 +28,10 @@ AROUND = "Read only what has the catchment of this place"
 POLYGONS = "Whole upstream areas"
 LINES = "Streams as lines"
 LEAST = "Basins of fewer cells are none"
+OTHER_BAND = "Band of the other map"
+CODES = "Codes of its directions"
+COMPARED = ["filled heights", "directions", "accumulation", "basins"]
+THRESHOLD_AREA = "Streams drain more hectares than (in place of cells)"
 SKIP = "Leave out points that lie where there is no data"
 PROPERTIES = "the layer's properties"
 
@@ -41,7 +45,7 @@ VOCABULARY = (
     (r"--window \d\S*", f"'{EXTENT}'"),
     (r"--curvature takes", f"'{CURVATURE}' takes"),
     (r"the raster has no projection: give --projection", f"the raster has no projection: set it in {PROPERTIES}"),
-    (r"give --codes \S+", "choose others"),
+    (r"give --codes \S+", f"choose others for '{CODES}'"),
     (r"give a smaller --radius", f"give a smaller '{RADIUS}'"),
     (r"give --radius\b", f"give '{RADIUS}'"),
     (r"--at X,Y or --points LAYER", "a layer of points or a click"),
