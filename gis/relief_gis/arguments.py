@@ -10,7 +10,7 @@ import numpy as np
 
 from .curvature import drop_of
 from .errors import InputError, UsageError
-from .maps import Place
+from .making import Place
 from .units import MOST_RADIUS_CELLS, decimal_of, plain, side_of, whole_units
 
 MOST_WORKERS = 64

@@ -11,7 +11,7 @@ from .errors import InputError
 from .frame import Window
 from .heights import MOST_SIDE
 from .lands import checked, heights_in_units
-from .maps import Place, Request
+from .making import Place, Request
 from .points import Point, points_on_data, snap
 from .program import Program
 from .raster import Raster

@@ -18,7 +18,8 @@ from __future__ import annotations
 
 from dataclasses import replace
 from fractions import Fraction
-from typing import Any, List, NamedTuple, Optional, Sequence, Tuple
+from functools import partial
+from typing import Any, Callable, Dict, List, NamedTuple, Optional, Sequence, Tuple
 
 import numpy as np
 
@@ -30,7 +31,7 @@ from .errors import InputError, UsageError
 from .foreign import CODES
 from .given import Given, given_of, other_map_of
 from .heights import MOST_SIDE, Heights
-from .maps import NODATA_CODE, NODATA_COUNT, Place, Request, make
+from .making import NODATA_CODE, NODATA_COUNT, SOURCES, Place, Request, Use, make, make_together
 from .program import Program
 from .sightline import Profile, profile_of
 from .small_basins import without_small
@@ -109,8 +110,7 @@ def basins(heights: Any, nodata: Optional[float] = None, scale: Optional[int] = 
     with spoken_in(PYTHON):
         fewest = whole_number(least, "least", 0, MOST_SIDE**2)
         given = given_of(heights, nodata, scale)
-        found = _made("basins", given, given.places(sinks, "sinks"), workers, program)
-        return given.counted(without_small(found, fewest, lambda line: None) if fewest else found, "basins")
+        return _basins(given, _made("basins", given, given.places(sinks, "sinks"), workers, program), fewest)
 
 
 def catchments(heights: Any, gauges: Sequence[Cell], nodata: Optional[float] = None, scale: Optional[int] = None, *,
@@ -196,9 +196,7 @@ def depth(heights: Any, nodata: Optional[float] = None, scale: Optional[int] = N
     with spoken_in(PYTHON):
         given = given_of(heights, nodata, scale)
         request = Request("fill", given.places(sinks, "sinks"), workers=_threads(workers))
-        below = make(request, given.heights, program or Program.find()).astype(np.int64) - given.heights.units
-        dtype = np.dtype(np.int64 if given.is_whole else np.float64)
-        return given.counted(_with_nodata(given, given.heights.values(below, dtype)), "depth")
+        return _depth(given, make(request, given.heights, program or Program.find()))
 
 
 def area(heights: Any, cell: Number, nodata: Optional[float] = None, scale: Optional[int] = None, *,
@@ -217,14 +215,9 @@ def area(heights: Any, cell: Number, nodata: Optional[float] = None, scale: Opti
         InputError, ReliefError, MissingError: as in `fill`.
     """
     with spoken_in(PYTHON):
-        side = float(decimal_of(cell, "cell"))
-        if side <= 0:
-            raise UsageError(f"cell={cell} is not above 0")
+        side = _side(cell)
         given = given_of(heights, nodata, scale)
-        counts = _made("accumulate", given, given.places(sinks, "sinks"), workers, program)
-        # One rounding: the area is the float that is nearest to it.
-        by, part = map(float, (side_of(side) ** 2).as_integer_ratio())
-        return given.counted(_with_nodata(given, (counts + 1.0) * by / part), "area")
+        return _area(given, _made("accumulate", given, given.places(sinks, "sinks"), workers, program), side)
 
 
 def streams(heights: Any, threshold: int, nodata: Optional[float] = None, scale: Optional[int] = None, *,
@@ -243,8 +236,7 @@ def streams(heights: Any, threshold: int, nodata: Optional[float] = None, scale:
     with spoken_in(PYTHON):
         most = whole_number(threshold, "threshold", 0, MOST_SIDE**2)
         given = given_of(heights, nodata, scale)
-        counts = _made("accumulate", given, given.places(sinks, "sinks"), workers, program)
-        return given.counted(np.where(given.heights.valid, counts > most, NODATA_CODE).astype(np.uint8), "streams")
+        return _streams(given, _made("accumulate", given, given.places(sinks, "sinks"), workers, program), most)
 
 
 def profile(heights: Any, start: Cell, end: Cell, eye: Number, nodata: Optional[float] = None,
@@ -315,6 +307,127 @@ def compare(heights: Any, other: Any, map: str, nodata: Optional[float] = None, 
         lines: List[str] = []
         differences = differences_of(pair, lines.append)
         return Differences(tuple(lines), given.compared(differences, f"differences of {map}"))
+
+
+class Maps(NamedTuple):
+    """Maps that were made together; None: not asked for."""
+
+    fill: Map = None
+    depth: Map = None
+    flow: Map = None
+    accumulate: Map = None
+    area: Map = None
+    streams: Map = None
+    basins: Map = None
+    catchments: Map = None
+
+
+def maps(heights: Any, wanted: Sequence[str], nodata: Optional[float] = None, scale: Optional[int] = None, *,
+         sinks: Sequence[Cell] = (), gauges: Sequence[Cell] = (), cell: Optional[Number] = None,
+         threshold: Optional[int] = None, least: int = 0, workers: int = 1,
+         program: Optional[Program] = None) -> Maps:
+    """Several maps of drainage by one run of the program, in the time of little more than one of them.
+
+    Args:
+        wanted: their names, fields of `Maps`.
+        gauges: those of "catchments", as in `catchments`.
+        cell: the side of a cell for "area", as in `area`.
+        threshold: that of "streams", as in `streams`; least: that of "basins", as in `basins`.
+
+    Returns:
+        A named tuple: each map as the function of its name returns it, and None for those that were not asked for.
+
+    Raises:
+        UsageError: a name is none or given twice, or a map lacks an argument.
+        MissingError: `relief` is not installed, or its version cannot make several maps by one run.
+        InputError, ReliefError: as in `fill`.
+    """
+    with spoken_in(PYTHON):
+        names = _names(wanted, gauges, cell, threshold)
+        sources = list(dict.fromkeys(SOURCES[name] for name in names))
+        program = program or Program.find()
+        if "catchments" in sources:
+            program.require("catchments")
+        if len(sources) > 1:
+            program.require("maps")
+        side = _side(cell) if "area" in names else Fraction(1)
+        most = whole_number(threshold, "threshold", 0, MOST_SIDE**2) if "streams" in names else 0
+        fewest = whole_number(least, "least", 0, MOST_SIDE**2)
+        given = given_of(heights, nodata, scale)
+        found = _made_together(sources, given, sinks, gauges, workers, program)
+        finish: Dict[str, Callable[[np.ndarray], Map]] = {
+            "fill": given.filled, "depth": partial(_depth, given), "area": partial(_area, given, side=side),
+            "streams": partial(_streams, given, most=most), "basins": partial(_basins, given, least=fewest),
+            **{name: partial(given.counted, name=name) for name in ("flow", "accumulate", "catchments")}}
+        return Maps(**{name: finish[name](found[SOURCES[name]]) for name in names})
+
+
+def _names(wanted: Sequence[str], gauges: Sequence[Cell], cell: Optional[Number],
+           threshold: Optional[int]) -> List[str]:
+    """The names of maps that are asked for.
+
+    Raises:
+        UsageError: one is none or given twice, or lacks an argument.
+    """
+    names = [wanted] if isinstance(wanted, str) else list(wanted)
+    for at, name in enumerate(names):
+        if name not in Maps._fields:
+            raise UsageError(f"wanted[{at}]={shown(name)} is none of {', '.join(Maps._fields)}")
+        if name in names[:at]:
+            raise UsageError(f"wanted names {name} twice")
+    if not names:
+        raise UsageError(f"wanted= is empty: name at least one of {', '.join(Maps._fields)}")
+    for name, value, argument in (("area", cell, "cell"), ("streams", threshold, "threshold"),
+                                  ("catchments", gauges or None, "gauges")):
+        if name in names and value is None:
+            raise UsageError(f"{name} takes {argument}=")
+    if gauges and "catchments" not in names:
+        raise UsageError("gauges= are those of catchments, which is not wanted")
+    return names
+
+
+def _made_together(sources: Sequence[str], given: Given, sinks: Sequence[Cell], gauges: Sequence[Cell], workers: Any,
+                   program: Program) -> Dict[str, np.ndarray]:
+    """Maps of the program, north up, by one run."""
+    places, gauge_places = given.places(sinks, "sinks"), given.places(gauges, "gauges")
+    request = Request("maps", gauge_places, places, sources, workers=_threads(workers))
+    if list(sources) == ["catchments"]:
+        request = replace(request, map="catchments")
+    elif len(sources) == 1:
+        request = replace(request, map=sources[0], places=places, sinks=())
+    return dict(zip(sources, make_together(request, given.heights, program, [Use(name) for name in sources])))
+
+
+def _side(cell: Any) -> Fraction:
+    """The side of a cell.
+
+    Raises:
+        UsageError: it is no number above 0.
+    """
+    side = float(decimal_of(cell, "cell"))
+    if side <= 0:
+        raise UsageError(f"cell={cell} is not above 0")
+    return side_of(side)
+
+
+def _depth(given: Given, filled: np.ndarray) -> Map:
+    below = filled.astype(np.int64) - given.heights.units
+    dtype = np.dtype(np.int64 if given.is_whole else np.float64)
+    return given.counted(_with_nodata(given, given.heights.values(below, dtype)), "depth")
+
+
+def _area(given: Given, counts: np.ndarray, side: Fraction) -> Map:
+    # One rounding: the area is the float that is nearest to it.
+    by, part = map(float, (side**2).as_integer_ratio())
+    return given.counted(_with_nodata(given, (counts + 1.0) * by / part), "area")
+
+
+def _streams(given: Given, counts: np.ndarray, most: int) -> Map:
+    return given.counted(np.where(given.heights.valid, counts > most, np.uint8(NODATA_CODE)), "streams")
+
+
+def _basins(given: Given, found: np.ndarray, least: int) -> Map:
+    return given.counted(without_small(found, least, lambda line: None) if least else found, "basins")
 
 
 class Differences(NamedTuple):

@@ -13,7 +13,7 @@ from .edges import STEPS
 from .frame import Frame
 from .heights import Heights
 from .layers import Feature, write_layer
-from .maps import Place, edge_cells
+from .making import Place, edge_cells
 
 FIELDS = (("number", int), ("name", str), ("below", int), ("cells", int), ("own_cells", int), ("area", float),
           ("area_km2", float), ("mean", float), ("least", float), ("greatest", float), ("edge_cells", int),

@@ -8,17 +8,19 @@ import signal
 import sys
 from dataclasses import replace
 from decimal import Decimal
-from typing import Any, Callable, List, Optional, Sequence, Tuple
+from typing import Any, Callable, List, Mapping, Optional, Sequence, Tuple
 
 from .comparison import Comparison, run_comparison
 from .console import NAME, Bar, open_streams, say, say_if_heard, write
 from .curvature import REFRACTION
+from .edges import UNCERTAIN_MAPS
 from .errors import GisError, UsageError
-from .job import Caller, Job, run
-from .parser import new_parser
+from .job import Caller, Job, run_all
+from .parser import TOGETHER, new_parser
 from .points import Layer, Point, point_of_word
 from .profiles import ProfileJob, run_profile
 from .program import Program
+from .typed import typed_command
 from .units import LENGTHS, decimal_of, measure_of
 
 NEGATIVE = re.compile(r"-[\d.]")
@@ -50,6 +52,43 @@ def _job(words: Sequence[str], asked: argparse.Namespace) -> Job:
         workers=asked.workers, tile=asked.tile,
         command=shlex.join([NAME, *words]),
     )
+
+
+# The options of single maps, as the names of their values.
+OWN = {"streams": ("threshold", "lines"), "basins": ("least",), "catchments": ("snap", "snapped", "polygons")}
+
+
+def _jobs(words: Sequence[str], asked: argparse.Namespace) -> List[Job]:
+    """The jobs of several maps, each with the command that makes it alone."""
+    targets = {name: getattr(asked, f"{name}_target") for name in TOGETHER}
+    targets = {name: target for name, target in targets.items() if target is not None}
+    _check_together(asked, targets)
+    jobs = []
+    for name, target in targets.items():
+        others = {option: None for other, options in OWN.items() if other != name for option in options}
+        # The first map that has them is written with the cells downstream of where the data ends.
+        if asked.uncertain is not None and name != next((it for it in targets if it in UNCERTAIN_MAPS), name):
+            others["uncertain"] = None
+        if name != "catchments":
+            others.update(at=asked.sink_at, points=asked.sinks, sink_at=[], sinks=[])
+        job = _job(words, argparse.Namespace(**{**vars(asked), "map": name, "target": target, **others}))
+        jobs.append(replace(job, command=typed_command(job, "workers" in asked.given_options)))
+    return jobs
+
+
+def _check_together(asked: argparse.Namespace, targets: Mapping[str, str]) -> None:
+    """Refuses several maps of which there is none, or that lack an option or have one of another map."""
+    if not targets:
+        raise UsageError(f"maps needs a map: give one or several of {', '.join(f'--{name} OUT' for name in TOGETHER)}")
+    for name, options in OWN.items():
+        given = next((option for option in options if getattr(asked, option) is not None), None)
+        if given is not None and name not in targets:
+            raise UsageError(f"--{given} is an option of {name}: give --{name} OUT too")
+    if "catchments" not in targets and (asked.at or asked.points):
+        raise UsageError("--at and --points are gauges of catchments: give --catchments OUT too, or name sinks by "
+                         "--sink-at X,Y or --sinks LAYER")
+    if "streams" in targets and asked.threshold is None:
+        raise UsageError("streams needs a threshold: give --threshold CELLS")
 
 
 def _around(asked: argparse.Namespace) -> Optional[Point]:
@@ -148,8 +187,8 @@ def _run(words: Sequence[str], asked: argparse.Namespace) -> None:
     if asked.map == "compare":
         comparison = _comparison(words, asked)
         return _with_progress(asked, program, lambda caller: run_comparison(comparison, program, caller, _tell))
-    job = _job(words, asked)
-    return _with_progress(asked, program, lambda caller: run(job, program, caller))
+    jobs = _jobs(words, asked) if asked.map == "maps" else [_job(words, asked)]
+    return _with_progress(asked, program, lambda caller: run_all(jobs, program, caller))
 
 
 def _tell(line: str) -> None:

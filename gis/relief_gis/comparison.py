@@ -13,7 +13,7 @@ from .errors import InputError
 from .frame import Frame
 from .geotiff import write_geotiff
 from .lands import checked, heights_in_units
-from .maps import NODATA_CODE, Request
+from .making import NODATA_CODE, Request
 from .program import Program
 from .raster import Raster, Terrain, open_raster
 from .requests import requests_of

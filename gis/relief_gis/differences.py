@@ -10,7 +10,7 @@ import numpy as np
 from .errors import UsageError
 from .foreign import (CODES, ENDLESS, EQUAL, NEITHER, NO_CODE, SAME, classes_of, directions_of, matched_basins)
 from .heights import Heights
-from .maps import NODATA_CODE, Place, edge_cells
+from .making import NODATA_CODE, Place, edge_cells
 from .units import plain
 
 COMPARED = ("fill", "flow", "accumulate", "basins")

@@ -7,7 +7,7 @@ import numpy as np
 
 from . import cures
 from .blocks import data_ends
-from .maps import edge_cells
+from .making import edge_cells
 from .raster import Terrain
 
 # Numbers that rasters use for "no data", and that are no heights on land.

@@ -2,6 +2,7 @@
 from __future__ import annotations
 
 import os
+from contextlib import ExitStack
 from types import TracebackType
 from typing import TYPE_CHECKING, Callable, Dict, Optional, Sequence, Type
 
@@ -11,7 +12,7 @@ from . import edges, styles
 from .geotiff import GeoTiff, remove_sidecars, write_geotiff
 from .grid_text import STRIP
 from .heights import Heights
-from .maps import NODATA_CODE
+from .making import NODATA_CODE
 from .raster import Terrain
 from .results import result_of
 from .targets import beside, has_foreign_style, style_path
@@ -57,6 +58,8 @@ class Draft:
         self.also: Dict[str, Callable[[str], None]] = {}
         self.file: Optional[GeoTiff] = None
         self.most, self.written = 0.0, 0
+        self.style: Optional[str] = None
+        self.keeps_style = False
         self.threshold = job.threshold if isinstance(job.threshold, int) else 0
         # Small basins are known when all are.
         self.result = None if job.least is not None else result_of(job.map, terrain, heights, None, self.threshold)
@@ -91,25 +94,31 @@ class Draft:
             self.result = result_of(self.job.map, self.terrain, self.heights, found, self.threshold)
             self._begin()
         self.put(found[self.written:], self.written)
+        self.end_style(found)
 
-    def save(self, found: np.ndarray, say: Say) -> None:
-        """Writes the map, its style and further files beside their names, and then renames them."""
-        job = self.job
+    def end_style(self, found: Optional[np.ndarray] = None) -> None:
+        """Works the style of the map out, of what the program wrote for it where its numbers are drawn."""
+        self.style = styles.style(self.job.map, found, self.most, self.heights.decimals)
+
+    def write(self, names: Callable[[str], str]) -> None:
+        """Writes the map, its style and further files, each under another name."""
         assert self.file is not None
-        style = styles.style(job.map, found, self.most, self.heights.decimals)
-        keeps_style = has_foreign_style(job.target)
-        with beside(job.target) as names:
-            self.file.save(names(job.target))
-            if style is not None and not keeps_style:
-                write_text(names(style_path(job.target)), style)
-            for path, write in self.also.items():
-                write(names(path))
-        for path in filter(None, (job.target, job.uncertain)):
+        self.keeps_style = has_foreign_style(self.job.target)
+        self.file.save(names(self.job.target))
+        if self.style is not None and not self.keeps_style:
+            write_text(names(style_path(self.job.target)), self.style)
+        for path, write in self.also.items():
+            write(names(path))
+
+    def settle(self, say: Say) -> None:
+        """Removes what lay beside an older map, once the map has its name."""
+        target = self.job.target
+        for path in filter(None, (target, self.job.uncertain)):
             remove_sidecars(path)
-        if keeps_style:
-            say(f"{style_path(job.target)} is no style of relief-gis, or write-protected, and was left alone")
-        elif style is None and os.path.exists(style_path(job.target)):
-            os.remove(style_path(job.target))
+        if self.keeps_style:
+            say(f"{style_path(target)} is no style of relief-gis, or write-protected, and was left alone")
+        elif self.style is None and os.path.exists(style_path(target)):
+            os.remove(style_path(target))
 
     def add_uncertain(self, path: str, cells: np.ndarray) -> None:
         """Adds the map of cells that are downstream of where the data ends."""
@@ -127,3 +136,12 @@ class Draft:
                  trace: Optional[TracebackType]) -> None:
         if self.file is not None:
             self.file.close()
+
+
+def save_drafts(drafts: Sequence[Draft], say: Say) -> None:
+    """Writes maps, their styles and further files beside their names, and renames them when all are written."""
+    with ExitStack() as stack:
+        for draft in drafts:
+            draft.write(stack.enter_context(beside(draft.job.target)))
+    for draft in drafts:
+        draft.settle(say)

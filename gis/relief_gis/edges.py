@@ -7,7 +7,7 @@ from typing import Dict, Iterator, List, Sequence, Tuple
 import numpy as np
 
 from .blocks import for_rows, row_blocks
-from .maps import NODATA_CODE, Place, edge_cells
+from .making import NODATA_CODE, Place, edge_cells
 from .units import plain
 
 # The maps of which it is told what lies downstream of a cut, and those of which a map of it can be made.

@@ -10,7 +10,7 @@ from .arguments import cells_named, number_of, observers_named, shown, whole_num
 from .errors import InputError
 from .heights import Heights, check_shape, default_decimals, heights_of
 from .labelled import Labels, is_labelled, labels_of, nodata_of
-from .maps import NODATA_CODE, NODATA_COUNT, Place
+from .making import NODATA_CODE, NODATA_COUNT, Place
 from .nodata import cells_of, free_value
 from .units import MOST_DECIMALS
 

@@ -5,7 +5,8 @@ written or read. All is computed for the cells of a block at once.
 """
 from __future__ import annotations
 
-from typing import IO, Callable, Iterable, Iterator, Optional, Tuple
+from dataclasses import dataclass
+from typing import IO, Callable, Iterable, Iterator, List, Optional, Sequence, Tuple, cast
 
 import numpy as np
 
@@ -17,6 +18,8 @@ ZERO, MINUS, SPACE, LINE_FEED = b"0- \n"
 # What is read at once, in bytes, so that its numbers stay in a processor's cache; how many rows are given on at once.
 PIECE = 1 << 18
 STRIP = 256
+# Of a header, whose first word is ncols.
+FIRST_LETTER = b"n"
 # No word of the program is longer, and no line of its header.
 MOST_WORD, MOST_LINE = 64, 200
 NO_NUMBERS = "relief wrote words that are no whole numbers"
@@ -123,6 +126,54 @@ def read_grid(file: IO[bytes], dtype: "np.typing.DTypeLike" = np.int64, wanted: 
     if count != rows * cols:
         raise InputError(f"relief wrote {count} values of {rows * cols}")
     return whole
+
+
+@dataclass(frozen=True)
+class Wanted:
+    """What becomes of a grid that is read: the arguments of `read_grid`."""
+
+    dtype: np.dtype
+    on_rows: Optional[TakeRows] = None
+    keeps: bool = True
+
+
+def read_grids(file: IO[bytes], wanted: Sequence[Wanted], shape: Tuple[int, ...]) -> List[np.ndarray]:
+    """Reads several grid texts, one after the other, each as `read_grid` does.
+
+    Raises:
+        InputError: one is cut off, no grid text or that of another grid, or there are more.
+    """
+    if len(wanted) == 1:
+        return [read_grid(file, wanted[0].dtype, shape, wanted[0].on_rows, wanted[0].keeps)]
+    stream = _Texts(file)
+    # A grid ends where a word of the next one's header begins.
+    found = [read_grid(cast(IO[bytes], stream), it.dtype, shape, it.on_rows, it.keeps) for it in wanted]
+    if stream.rest:
+        raise InputError(f"relief wrote more than {len(wanted)} maps")
+    return found
+
+
+class _Texts:
+    """Grid texts, one after the other, as files each of which ends before the next one's header."""
+
+    def __init__(self, file: IO[bytes]) -> None:
+        self.file = file
+        self.rest = b""
+
+    def readline(self, most: int) -> bytes:
+        """A line of a header."""
+        if b"\n" not in self.rest:
+            self.rest += self.file.readline(most)
+        line, end, self.rest = self.rest.partition(b"\n")
+        return line + end
+
+    def read(self, count: int) -> bytes:
+        """Bytes of rows; none at their end."""
+        text = self.rest or self.file.read(count)
+        end = text.find(FIRST_LETTER)
+        end = len(text) if end < 0 else end
+        self.rest = text[end:]
+        return text[:end]
 
 
 def _shape(file: IO[bytes]) -> Tuple[int, int]:

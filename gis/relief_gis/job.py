@@ -5,30 +5,27 @@ from dataclasses import dataclass, replace
 from decimal import Decimal
 from fractions import Fraction
 from functools import partial
-from typing import Callable, Optional, Sequence, Union
+from typing import Callable, List, Optional, Sequence, Union
 
 import numpy as np
 
 from . import edges
 from .ahead import Ahead
 from .around import raster_around
-from .catchment_areas import Basis, write_areas
 from .curvature import REFRACTION
-from .draft import Draft
 from .errors import Cancelled, UsageError
-from .frame import Bounds, Frame, Window
+from .frame import Bounds, Window
 from .heights import Heights
 from .lands import checked, heights_in_units, tell_units
-from .maps import Request, TakeRows, make
+from .making import Request, TakeRows, Use, make, make_together
 from .measures import in_units_of
-from .points import Layer, Point, Source, write_points
+from .points import Layer, Point, Source
 from .program import Program, Question, Report
-from .raster import Terrain, open_raster
-from .requests import check_count, made, requests_of
-from .small_basins import without_small
-from .stream_lines import write_lines
+from .raster import open_raster
+from .requests import check_count
 from .targets import RASTER, TABLE, VECTOR, check_targets
-from .units import Measure, Reach, plain
+from .together import chief_of, run_together, sources_of
+from .units import Measure, Reach
 from .views import is_by_parts, run_by_parts
 
 VOIDS = ("refuse", "drain", "fill")
@@ -118,6 +115,11 @@ class Caller:
         """Makes a map, and tells of its progress."""
         return make(request, heights, program, self.progress, self.is_cancelled, self.by_percent, on_rows, keeps)
 
+    def make_together(self, request: Request, heights: Heights, program: Program,
+                      uses: Sequence[Use]) -> List[np.ndarray]:
+        """Makes several maps by one run, and tells of its progress."""
+        return make_together(request, heights, program, uses, self.progress, self.is_cancelled, self.by_percent)
+
     def check(self) -> None:
         """Raises Cancelled where the run was cancelled."""
         if self.is_cancelled is not None and self.is_cancelled():
@@ -130,18 +132,31 @@ def run(job: Job, program: Program, caller: Caller) -> None:
     Raises:
         GisError: of the kind that says what is wrong.
     """
-    if job.map == "catchments" or job.around is not None:
-        program.require("catchments")
-    check_count(job, job.places)
-    _check_targets(job)
+    run_all([job], program, caller)
+
+
+def run_all(jobs: Sequence[Job], program: Program, caller: Caller) -> None:
+    """Makes maps of one raster by one run of the program; all targets are written whole, or none is.
+
+    Args:
+        jobs: one; or several of drainage, which differ in their maps, targets and what else is written of each alone.
+            Sinks are the places of all but `catchments`, and those of `catchments` are the same.
+
+    Raises:
+        GisError: of the kind that says what is wrong.
+    """
+    _check_jobs(jobs, program)
+    job = jobs[0]
     raster = open_raster(job.source, job.band, job.window, job.bounds, job.projection, job.needs_projection)
-    job = in_units_of(raster.frame, job)
+    jobs = [in_units_of(raster.frame, it) for it in jobs]
+    job = chief_of(jobs)
     if is_by_parts(job, raster):
         return run_by_parts(job, raster, program, caller)
     if job.around is not None:
         raster = raster_around(job, raster, job.around, program, caller)
     terrain = raster.read()
-    tell_units(terrain.frame, terrain.unit, job, caller.say)
+    for it in jobs:
+        tell_units(terrain.frame, terrain.unit, it, caller.say)
     check: Callable[[Say], object] = partial(checked, terrain, job)
     if job.voids == "fill":
         # The heights are those of the filled holes.
@@ -151,79 +166,30 @@ def run(job: Job, program: Program, caller: Caller) -> None:
         heights = heights_in_units(terrain, job.decimals, ahead.caller.say)
         # They need as much memory as the map, and the check drops them as soon as it is done.
         terrain = replace(terrain, values=np.empty((0, 0), terrain.values.dtype))
-        _run_on(terrain, heights, job, program, ahead)
+        run_together(terrain, heights, jobs, program, ahead)
 
 
 def _find_nothing(say: Say) -> None:
     """The check of a terrain that was checked before."""
 
 
-def _run_on(terrain: Terrain, heights: Heights, job: Job, program: Program, ahead: Ahead) -> None:
-    """Makes a map of a terrain, of which the values may be left out and the check may still be at work."""
-    caller = ahead.caller
-    requests, gauges = requests_of(job, terrain.frame, heights, program, caller)
-    with Draft(job, terrain, heights, requests[0].map, program.version) as draft:
-        has_more = bool(job.uncertain or job.polygons or job.lines or (terrain.is_part and job.map in edges.TOLD_MAPS))
-        found = made(requests, heights, program, caller, draft.put, has_more or draft.needs_all)
-        ahead.finish()
-        if job.least is not None:
-            found = without_small(found, job.least, caller.say)
-        draft.end(found)
-        _tell_sizes(job, requests[0], terrain.frame, heights.valid, found, caller.say)
-        if job.snapped is not None and gauges is not None:
-            draft.also[job.snapped] = partial(write_points, places=gauges[0], counts=gauges[1], frame=terrain.frame)
-        if has_more:
-            _add_what_lies_below(job, requests[0], terrain, heights, found, program, caller, draft)
-        caller.check()
-        draft.save(found, caller.say)
-
-
-def _add_what_lies_below(job: Job, request: Request, terrain: Terrain, heights: Heights, found: np.ndarray,
-                         program: Program, caller: Caller, draft: Draft) -> None:
-    """Tells and adds what takes directions: the cells downstream of where the data ends, and areas of gauges."""
-    codes = found
-    if job.map != "flow":
-        sinks = request.sinks if job.map == "catchments" else request.places
-        codes = caller.make(Request("flow", sinks, workers=job.workers, tile=job.tile), heights, program)
-    cells = edges.uncertain_cells(codes, heights.valid)
-    if job.uncertain is not None or (terrain.is_part and job.map in edges.TOLD_MAPS):
-        caller.say(edges.line_of(job.map, cells, found, terrain.frame.cell ** 2))
-    if job.uncertain is not None:
-        draft.add_uncertain(job.uncertain, cells)
-    if job.polygons is not None:
-        basis = Basis(request.places, found, codes, cells, heights, terrain.frame)
-        draft.also[job.polygons] = partial(write_areas, basis=basis)
-    if job.lines is not None:
-        draft.also[job.lines] = partial(write_lines, counts=found, codes=codes, threshold=_cells(job),
-                                        frame=terrain.frame)
-
-
-def _cells(job: Job) -> int:
-    """The threshold of streams in cells, which an area has become."""
-    return job.threshold if isinstance(job.threshold, int) else 0
-
-
-def _check_targets(job: Job) -> None:
-    """Refuses targets that cannot be, before anything is computed."""
-    if job.uncertain is not None and job.map not in edges.UNCERTAIN_MAPS:
-        raise UsageError(f"{job.map} has no uncertain cells: they are those of {', '.join(edges.UNCERTAIN_MAPS)}")
-    layers = {source.file: "a layer of points" for source in (*job.places, *job.sinks) if isinstance(source, Layer)}
-    sources = {**layers, job.source: "the raster", **{name: "a file" for name in job.also_read}}
-    targets = [(job.target, RASTER), (job.snapped, VECTOR), (job.uncertain, RASTER), (job.visibility, TABLE),
-               (job.polygons, VECTOR), (job.lines, VECTOR)]
-    check_targets(targets, sources)
-
-
-def _tell_sizes(job: Job, request: Request, frame: Frame, valid: np.ndarray, found: np.ndarray, say: Say) -> None:
-    """Says how large each gauge's catchment is, and what the threshold of streams is as an area."""
-    cell_area = frame.cell * frame.cell
-    if job.map == "streams":
-        threshold = _cells(job)
-        say(f"streams: more than {threshold:,} other cells, {plain(threshold * cell_area)} square units, drain through "
-            "them")
-    if job.map == "catchments":
-        for line in edges.catchment_lines(request.places, valid, found):
-            say(line)
+def _check_jobs(jobs: Sequence[Job], program: Program) -> None:
+    """Refuses, before anything is read, what this version lacks, missing places, and targets that cannot be."""
+    if any(job.map == "catchments" or job.around is not None for job in jobs):
+        program.require("catchments")
+    if len(sources_of(jobs)) > 1:
+        program.require("maps")
+    for job in jobs:
+        check_count(job, job.places)
+        if job.uncertain is not None and job.map not in edges.UNCERTAIN_MAPS:
+            raise UsageError(f"{job.map} has no uncertain cells: they are those of {', '.join(edges.UNCERTAIN_MAPS)}")
+    layers = {source.file: "a layer of points" for job in jobs for source in (*job.places, *job.sinks)
+              if isinstance(source, Layer)}
+    read = {name: "a file" for job in jobs for name in job.also_read}
+    targets = [target for job in jobs for target in (
+        (job.target, RASTER), (job.snapped, VECTOR), (job.uncertain, RASTER), (job.visibility, TABLE),
+        (job.polygons, VECTOR), (job.lines, VECTOR))]
+    check_targets(targets, {**layers, jobs[0].source: "the raster", **read})
 
 
 def bounds_of(numbers: Sequence[Decimal]) -> Bounds:

@@ -28,11 +28,14 @@ ABOUT = {
     "area": "the area that drains through each cell, in square units of the projection",
     "streams": "1 where more than so many cells drain through a cell, else 0",
 }
-# What is told, and is no map.
+# What is no single map.
 TASKS = {
+    "maps": "several maps of drainage, made by one run of the program",
     "compare": "where another program's map differs from the definition, and by how much",
     "profile": "the ground under a line of sight, what blocks it, and the least eye and target that clear it",
 }
+# The maps that one run makes.
+TOGETHER = tuple(name for name in ABOUT if name != "view")
 EPILOG = """\
 IN is any raster that GDAL opens, OUT a GeoTIFF, NAME.tif. Heights, eyes and targets are in the unit of the raster's
 heights, radius and coordinates in the unit of its projection: usually metres.
@@ -81,28 +84,53 @@ def new_parser() -> argparse.ArgumentParser:
         _add_common(one)
         _add_places(one, name)
         if name != "view":
-            one.add_argument("--around", metavar="X,Y",
-                             help="a place: of IN, of any size, only a window that has its catchment is read")
-        if name == "view":
-            _add_view(one)
-        if name == "catchments":
-            _add_gauges(one)
+            _add_around(one)
         if name in UNCERTAIN_MAPS:
-            one.add_argument("--uncertain", metavar="OUT",
-                             help="GeoTIFF of the cells downstream of where the data ends, NAME.tif: 1 in them, else 0")
-        if name == "streams":
-            one.add_argument("--threshold", type=_threshold, required=True, metavar="CELLS",
-                             help="a stream's cells are those through which more than so many other cells drain, or "
-                                  "more than an area, as 5ha or 0.5km2")
-            one.add_argument("--lines", metavar="OUT",
-                             help="GeoPackage of the streams as lines, from confluence to confluence, NAME.gpkg")
-        if name == "basins":
-            one.add_argument("--least", type=_whole, metavar="CELLS", help="basins of fewer cells are none, 0")
+            _add_uncertain(one)
+        if name in OWN:
+            OWN[name](one)
     for name, about in TASKS.items():
-        one = maps.add_parser(name, help=about, description=f"Tells {about}.", epilog=EPILOG,
-                              formatter_class=argparse.RawDescriptionHelpFormatter)
-        (_add_profile if name == "profile" else _add_comparison)(one)
+        one = maps.add_parser(name, help=about, description=f"{'Writes' if name == 'maps' else 'Tells'} {about}.",
+                              epilog=EPILOG, formatter_class=argparse.RawDescriptionHelpFormatter)
+        {"maps": _add_maps, "profile": _add_profile, "compare": _add_comparison}[name](one)
     return parser
+
+
+def _add_around(parser: argparse.ArgumentParser) -> None:
+    parser.add_argument("--around", metavar="X,Y",
+                        help="a place: of IN, of any size, only a window that has its catchment is read")
+
+
+def _add_uncertain(parser: argparse.ArgumentParser) -> None:
+    parser.add_argument("--uncertain", metavar="OUT",
+                        help="GeoTIFF of the cells downstream of where the data ends, NAME.tif: 1 in them, else 0")
+
+
+def _add_streams(parser: argparse.ArgumentParser, is_required: bool = True) -> None:
+    parser.add_argument("--threshold", type=_threshold, required=is_required, metavar="CELLS",
+                        help="a stream's cells are those through which more than so many other cells drain, or more "
+                             "than an area, as 5ha or 0.5km2")
+    parser.add_argument("--lines", metavar="OUT",
+                        help="GeoPackage of the streams as lines, from confluence to confluence, NAME.gpkg")
+
+
+def _add_basins(parser: argparse.ArgumentParser) -> None:
+    parser.add_argument("--least", type=_whole, metavar="CELLS", help="basins of fewer cells are none, 0")
+
+
+def _add_maps(parser: argparse.ArgumentParser) -> None:
+    """Adds a target for each map of drainage, and the options that these have."""
+    parser.add_argument("source", metavar="IN", help="raster of heights")
+    for name in TOGETHER:
+        parser.add_argument(f"--{name}", dest=f"{name}_target", metavar="OUT", help=f"GeoTIFF, NAME.tif: {ABOUT[name]}")
+    _add_reading(parser)
+    _add_making(parser)
+    _add_places(parser, "catchments")
+    _add_gauges(parser)
+    _add_around(parser)
+    _add_uncertain(parser)
+    _add_streams(parser, is_required=False)
+    _add_basins(parser)
 
 
 def _add_reading(parser: argparse.ArgumentParser) -> None:
@@ -214,6 +242,10 @@ def _add_gauges(parser: argparse.ArgumentParser) -> None:
     parser.add_argument("--polygons", metavar="OUT",
                         help="GeoPackage of the whole upstream area of each gauge, with the gauges above it, NAME.gpkg")
     parser.add_argument("--snapped", metavar="OUT", help="GeoPackage of the gauges where they were moved to, NAME.gpkg")
+
+
+# What a map has that others have not.
+OWN = {"view": _add_view, "catchments": _add_gauges, "streams": _add_streams, "basins": _add_basins}
 
 
 def _numbers(word: str, names: str) -> List[Decimal]:

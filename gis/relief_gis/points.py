@@ -15,7 +15,7 @@ from .errors import DeviceError, InputError, UsageError
 from .frame import Frame, reference_of
 from .gdal_errors import raised_errors
 from .layers import write_layer
-from .maps import Place
+from .making import Place
 from .tables import Columns, columns_of, degrees_of, number_of, reference_of_table
 from .units import Reach, decimal_of, plain, whole_units
 

@@ -16,7 +16,7 @@ from typing import IO, Callable, Iterator, List, Optional, Sequence, Set, Tuple
 import numpy as np
 
 from .errors import Cancelled, DeviceError, MissingError, ReliefError
-from .grid_text import PIECE, TakeRows, read_grid, write_grid
+from .grid_text import PIECE, TakeRows, Wanted, read_grids, write_grid
 
 FAULT = re.compile(r"relief: (?:(\d+) )?(\S.*?)(?: (\d+))?")
 STAGE = re.compile(r"relief: stage (\d+): (\d{1,3}) %")
@@ -93,23 +93,35 @@ class Program:
             is_cancelled: Optional[Question] = None, by_percent: bool = False,
             dtype: "np.typing.DTypeLike" = np.int64, on_rows: Optional[TakeRows] = None,
             keeps: bool = True) -> np.ndarray:
-        """Makes a map of heights.
+        """Makes a map of heights: `run_together` for one map.
 
         Args:
-            words: the map, its options and places.
+            dtype: an integer type that has all numbers of the map.
+            on_rows: called on another thread with strips of the map, and their first rows, as soon as they are read.
+            keeps: whether the map is kept; else what is returned has no rows.
+        """
+        wanted = [Wanted(np.dtype(dtype), on_rows, keeps)]
+        return self.run_together(words, units, valid, wanted, subjects, sinks, on_progress, is_cancelled, by_percent)[0]
+
+    def run_together(self, words: Sequence[str], units: np.ndarray, valid: Optional[np.ndarray],
+                     wanted: Sequence[Wanted], subjects: Sequence[str] = (), sinks: Sequence[str] = (),
+                     on_progress: Optional[Report] = None, is_cancelled: Optional[Question] = None,
+                     by_percent: bool = False) -> List[np.ndarray]:
+        """Makes maps of heights by one run.
+
+        Args:
+            words: the map, its options and places; or `maps`, its options and several of them.
             units: (rows, cols) integers, heights in units.
             valid: (rows, cols) bool, where there is data; None: everywhere.
+            wanted: what becomes of each map, in the order in which the program writes them.
             subjects: the names of the places among the words, for the text of a refusal.
             sinks: the names of the sinks that are given by options, likewise.
             on_progress: called at most once for each tenth of each stage, where the program reports how far it is.
             is_cancelled: asked ten times a second; the run ends when it says so.
             by_percent: call on_progress at each percent, where a tenth of a second has passed, and not at tenths.
-            dtype: an integer type that has all numbers of the map.
-            on_rows: called on another thread with strips of the map, and their first rows, as soon as they are read.
-            keeps: whether the map is kept; else what is returned has no rows.
 
         Returns:
-            (rows, cols) of that type, the map as the program wrote it.
+            each map (rows, cols) as the program wrote it.
 
         Raises:
             ReliefError: the program refused.
@@ -136,7 +148,7 @@ class Program:
             try:
                 listening = pool.submit(_listen, words[0], errors.fileno(), steps)
                 feeding = pool.submit(_feed, units, valid, process.stdin)
-                reading = pool.submit(_collect, process.stdout, dtype, units.shape, on_rows, keeps)
+                reading = pool.submit(_collect, process.stdout, wanted, units.shape)
                 _wait({listening, feeding, reading}, report)
                 status = process.wait()
             except BaseException:
@@ -179,11 +191,10 @@ def _feed(units: np.ndarray, valid: Optional[np.ndarray], file: IO[bytes]) -> No
         pass
 
 
-def _collect(file: IO[bytes], dtype: "np.typing.DTypeLike", shape: Tuple[int, ...],
-             on_rows: Optional[TakeRows], keeps: bool) -> np.ndarray:
-    """Reads the map that the program writes; to the end in any case, so that the program ends too."""
+def _collect(file: IO[bytes], wanted: Sequence[Wanted], shape: Tuple[int, ...]) -> List[np.ndarray]:
+    """Reads the maps that the program writes; to the end in any case, so that the program ends too."""
     try:
-        return read_grid(file, dtype, shape, on_rows, keeps)
+        return read_grids(file, wanted, shape)
     finally:
         while file.read(PIECE):
             pass

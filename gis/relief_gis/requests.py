@@ -11,7 +11,7 @@ from .errors import InputError, UsageError
 from .frame import Frame
 from .grid_text import TakeRows
 from .heights import Heights
-from .maps import Place, Request, lower_neighbour
+from .making import SOURCES, Place, Request, lower_neighbour
 from .points import Point, Source, places_of, points_of, points_on_data, snap
 from .program import Program
 from .units import Reach, fraction_of, plain, radius_in_cells, whole_units
@@ -19,9 +19,6 @@ from .units import Reach, fraction_of, plain, radius_in_cells, whole_units
 if TYPE_CHECKING:
     from .job import Caller, Job
 
-# The map of the program from which each map of the command comes.
-SOURCES = {"fill": "fill", "flow": "flow", "accumulate": "accumulate", "basins": "basins", "catchments": "catchments",
-           "view": "view", "depth": "fill", "area": "accumulate", "streams": "accumulate"}
 # How many points without a place a refusal names.
 MOST_NAMED = 10
 # The maps that need places, and what these are.

@@ -10,7 +10,7 @@ import numpy as np
 from .blocks import data_ends, for_rows
 from .errors import InputError
 from .heights import Heights
-from .maps import NODATA_CODE, NODATA_COUNT
+from .making import NODATA_CODE, NODATA_COUNT
 from .raster import Terrain
 from .voids import fits, limits
 

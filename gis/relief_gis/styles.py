@@ -8,7 +8,7 @@ from typing import Dict, Iterable, List, Optional, Sequence, Tuple
 import numpy as np
 
 from .blocks import for_rows
-from .maps import NODATA_CODE
+from .making import NODATA_CODE
 
 Color = Tuple[int, int, int, int]
 Entry = Tuple[float, Color, str]
@@ -39,12 +39,12 @@ def needs_most(name: str) -> bool:
     return name in ("view", "accumulate", "depth")
 
 
-def style(name: str, found: np.ndarray, most: float, decimals: int = 0) -> Optional[str]:
+def style(name: str, found: Optional[np.ndarray], most: float, decimals: int = 0) -> Optional[str]:
     """A QGIS style (QML) for a map; None: QGIS's own is as good.
 
     Args:
         name: the map.
-        found: (rows, cols), what the program wrote for the map.
+        found: (rows, cols), what the program wrote for basins and catchments.
         most: the greatest value as it is written, where `needs_most`.
         decimals: those of heights.
     """
@@ -54,6 +54,7 @@ def style(name: str, found: np.ndarray, most: float, decimals: int = 0) -> Optio
     if name == "streams":
         return _palette([(1, (8, 81, 156, 255), "stream")])
     if name in ("basins", "catchments"):
+        assert found is not None
         numbers = _numbers(found)
         return None if numbers is None else _palette([(it, _hue(it * GOLDEN_TURN), str(it)) for it in numbers])
     if name == "view":

@@ -16,9 +16,9 @@ MOST_DIGITS = 400
 Option = Tuple[str, Optional[object]]
 
 
-def typed_command(job: Job) -> str:
-    """The command of a job, with all its parameters, for a shell."""
-    return shlex.join(["relief-gis", job.map, job.source, job.target, *_words_of(job)])
+def typed_command(job: Job, has_workers: bool = True) -> str:
+    """The command of a job, with all its parameters, for a shell; those of threads where they were given."""
+    return shlex.join(["relief-gis", job.map, job.source, job.target, *_words_of(job, has_workers)])
 
 
 def typed_comparison(comparison: Comparison) -> str:
@@ -30,11 +30,11 @@ def typed_comparison(comparison: Comparison) -> str:
     return shlex.join([*words, *_words_of(job)])
 
 
-def _words_of(job: Job) -> Iterator[str]:
+def _words_of(job: Job, has_workers: bool = True) -> Iterator[str]:
     """The words of a job's options."""
     for name, value in (*_options(job), *_places("--at", "--points", job.places), *_observers(job),
                         *_places("--sink-at", "--sinks", job.sinks)):
-        if value is not None:
+        if value is not None and (has_workers or name != "--workers"):
             yield from [name] if value == "" else [name, _text(value)]
 
 

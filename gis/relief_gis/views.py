@@ -14,13 +14,13 @@ import numpy as np
 
 from .blocks import row_blocks
 from .curvature import drop_of_a_cell, lowered
-from .draft import Draft, write_text
+from .draft import Draft, save_drafts, write_text
 from .errors import InputError
 from .frame import Window
 from .grid_text import STRIP
 from .heights import MOST_SIDE, Heights
 from .lands import checked, heights_in_units, tell_rounding, tell_units
-from .maps import NODATA_COUNT, Place
+from .making import NODATA_COUNT, Place
 from .points import Point, places_of
 from .program import Program
 from .raster import Raster, Terrain
@@ -191,7 +191,8 @@ class _Run:
             draft.put(self.seen)
         if self.job.visibility is not None:
             draft.also[self.job.visibility] = partial(write_text, text=table_of(self.rows))
-        draft.save(np.empty((0, 0), np.int32), self.caller.say)
+        draft.end_style()
+        save_drafts([draft], self.caller.say)
 
     def _begin_seen(self, heights: Heights) -> None:
         """Of a raster that is read as a whole a cell with data that nobody sees has 0."""

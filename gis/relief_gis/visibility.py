@@ -9,7 +9,7 @@ from typing import Iterable, Iterator, List, Optional, Sequence, Tuple
 
 from .frame import Frame
 from .heights import Heights
-from .maps import Place
+from .making import Place
 from .sightline import Sightline
 
 COLUMNS = ("number", "name", "x", "y", "eye", "cells", "other", "other_name", "distance", "seen", "least_height")

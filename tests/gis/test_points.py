@@ -5,7 +5,7 @@ import numpy as np
 from osgeo import gdal, osr
 
 from fixtures import UTM, Case, at, by_hand, centre, hills, info, make_points, make_raster, read
-from relief_gis.maps import Place
+from relief_gis.making import Place
 from relief_gis.points import snap
 
 

@@ -11,7 +11,7 @@ import numpy as np
 from fixtures import GIS, RELIEF, Case, at, environment, hills, make_raster, read
 from relief_gis.errors import ReliefError
 from relief_gis.heights import heights_of
-from relief_gis.maps import Place, Request, make
+from relief_gis.making import Place, Request, make
 from relief_gis.program import Program
 
 LINE = re.compile(r"relief-gis: (\w+), stage (\d+): (\d+) %")

@@ -6,7 +6,7 @@ import numpy as np
 from fixtures import RELIEF
 from relief_gis.errors import ReliefError
 from relief_gis.heights import heights_of
-from relief_gis.maps import Place, Request, make
+from relief_gis.making import Place, Request, make
 from relief_gis.program import Program
 
 

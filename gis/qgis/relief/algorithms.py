@@ -9,7 +9,7 @@ from qgis.core import (QgsProcessing, QgsProcessingAlgorithm, QgsProcessingParam
 from . import labels
 from .base import MapAlgorithm, tr
 from .compare import Compare
-from .library import units
+from .several import Maps, add_threshold, threshold_of
 from .sight import Profile, View
 
 
@@ -40,15 +40,13 @@ class Area(MapAlgorithm):
 
 
 class Streams(MapAlgorithm):
-    THRESHOLD, THRESHOLD_AREA, LINES = "THRESHOLD", "THRESHOLD_AREA", "LINES"
+    LINES = "LINES"
     map, title, output = "streams", "Streams", "Streams"
     about = "1 where more than so many other cells drain through a cell, else 0."
 
     def add_places(self) -> None:
         """Adds the threshold, in cells or as an area."""
-        number = QgsProcessingParameterNumber
-        self.addParameter(number(self.THRESHOLD, tr(labels.THRESHOLD), number.Integer, 1000, False, 0))
-        self.addParameter(number(self.THRESHOLD_AREA, tr(labels.THRESHOLD_AREA), number.Double, None, True, 0))
+        add_threshold(self)
         super().add_places()
         self.addParameter(QgsProcessingParameterVectorDestination(
             self.LINES, tr(labels.LINES), QgsProcessing.TypeVectorLine, None, True, False))
@@ -56,11 +54,7 @@ class Streams(MapAlgorithm):
     def job_words(self, parameters, context, layer, target):
         """Adds the threshold and the lines."""
         words = super().job_words(parameters, context, layer, target)
-        threshold: Any = self.parameterAsInt(parameters, self.THRESHOLD, context)
-        if parameters.get(self.THRESHOLD_AREA) not in (None, ""):
-            hectares = self.number(parameters, self.THRESHOLD_AREA, context)
-            threshold = units.measure_of(f"{hectares:f}ha", units.AREAS, "the area")
-        return {**words, "threshold": threshold,
+        return {**words, "threshold": threshold_of(self, parameters, context),
                 "lines": self.parameterAsOutputLayer(parameters, self.LINES, context) or None}
 
     def results(self, asked: Any) -> Dict[str, Any]:
@@ -125,4 +119,4 @@ class Catchments(MapAlgorithm):
 
 
 ALGORITHMS: List[Type[QgsProcessingAlgorithm]] = [
-    Fill, Depth, Flow, Accumulate, Area, Streams, Basins, Catchments, View, Profile, Compare]
+    Fill, Depth, Flow, Accumulate, Area, Streams, Basins, Catchments, Maps, View, Profile, Compare]

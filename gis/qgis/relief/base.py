@@ -148,7 +148,7 @@ class MapAlgorithm(QgsProcessingAlgorithm):
             asked = self._job(parameters, context, layer, target)
             if not is_done(lambda caller: job.run(asked, program.Program.find(), caller), feedback):
                 return {}
-        self._ask_for_style(target, context)
+        self.ask_for_style(target, context)
         return self.results(asked)
 
     def results(self, asked: Any) -> Dict[str, Any]:
@@ -218,7 +218,8 @@ class MapAlgorithm(QgsProcessingAlgorithm):
         """A number of the dialogue as the decimal that was typed."""
         return units.decimal_of(self.parameterAsDouble(parameters, name, context))
 
-    def _ask_for_style(self, target: str, context: QgsProcessingContext) -> None:
+    def ask_for_style(self, target: str, context: QgsProcessingContext) -> None:
+        """Lets a map that is loaded have the style that lies beside it."""
         if context.willLoadLayerOnCompletion(target):
             context.layerToLoadOnCompletionDetails(target).setPostProcessor(Style(targets.style_path(target)))
 

@@ -32,6 +32,8 @@ OTHER_BAND = "Band of the other map"
 CODES = "Codes of its directions"
 COMPARED = ["filled heights", "directions", "accumulation", "basins"]
 THRESHOLD_AREA = "Streams drain more hectares than (in place of cells)"
+TOGETHER = {"fill": "Filled heights", "depth": "Depth", "flow": "Directions", "accumulate": "Accumulation",
+            "area": "Area", "streams": "Streams", "basins": "Basins", "catchments": "Catchments"}
 SKIP = "Leave out points that lie where there is no data"
 PROPERTIES = "the layer's properties"
 

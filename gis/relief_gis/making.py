@@ -7,7 +7,7 @@ from typing import List, Optional, Sequence, Tuple
 import numpy as np
 
 from .blocks import array_of
-from .grid_text import TakeRows
+from .grid_text import TakeRows, Wanted
 from .heights import Heights
 from .program import Program, Question, Report
 from .units import MOST_RADIUS_CELLS
@@ -16,6 +16,9 @@ from .voids import any_of_nine
 NODATA_CODE = 255
 NODATA_COUNT = -9999
 DRAINAGE = ("fill", "flow", "accumulate", "basins", "catchments")
+# The map of the program from which each map comes.
+SOURCES = {**{name: name for name in (*DRAINAGE, "view")}, "depth": "fill", "area": "accumulate",
+           "streams": "accumulate"}
 
 
 @dataclass(frozen=True)
@@ -36,12 +39,13 @@ class Place:
 
 @dataclass(frozen=True)
 class Request:
-    """One map of the program.
+    """One run of the program.
 
     Attributes:
-        map: fill, flow, accumulate, basins, catchments or view.
-        places: sinks; of `catchments` gauges; of `view` observers.
-        sinks: sinks of `catchments`.
+        map: fill, flow, accumulate, basins, catchments or view; or maps, for several by one run.
+        places: sinks; of `catchments` and `maps` gauges; of `view` observers.
+        sinks: sinks of `catchments` and `maps`.
+        maps: those of `maps`, of DRAINAGE, in their order.
         target: height of the targets of `view`, in units.
         radius: how far is seen in `view`, in cells; None: over the whole grid.
         workers: threads, 1 to 64.
@@ -51,6 +55,7 @@ class Request:
     map: str
     places: Sequence[Place] = ()
     sinks: Sequence[Place] = ()
+    maps: Sequence[str] = ()
     target: int = 0
     radius: Optional[int] = None
     workers: int = 1
@@ -66,6 +71,8 @@ class Request:
             words += ["--radius", str(self.radius)] if self.radius is not None else []
         for sink in self.sinks:
             words += ["--sink", sink.word]
+        if self.map == "maps":
+            return words + [word for gauge in self.places for word in ("--gauge", gauge.word)] + list(self.maps)
         return words + [place.word for place in self.places]
 
 
@@ -110,12 +117,35 @@ def make(request: Request, heights: Heights, program: Program, on_progress: Opti
                            replace(heights, units=heights.units[part], valid=heights.valid[part]), program, on_progress,
                            is_cancelled, by_percent)
         return found
+    return make_together(request, heights, program, [Use(request.map, on_rows, keeps)], on_progress, is_cancelled,
+                         by_percent)[0]
+
+
+@dataclass(frozen=True)
+class Use:
+    """What becomes of a map: its name, and `on_rows` and `keeps` of `make`."""
+
+    map: str
+    on_rows: Optional[TakeRows] = None
+    keeps: bool = True
+
+
+def make_together(request: Request, heights: Heights, program: Program, uses: Sequence[Use],
+                  on_progress: Optional[Report] = None, is_cancelled: Optional[Question] = None,
+                  by_percent: bool = False) -> List[np.ndarray]:
+    """Makes maps by one run of the program, each as `make` does.
+
+    Args:
+        uses: one for each map, in the order of the request.
+    """
     names, sinks = ([place.name for place in places] for places in (request.places, request.sinks))
-    dtype = heights.units.dtype if request.map == "fill" else np.dtype(np.int32)
-    codes = _Codes(heights.valid, on_rows) if request.map == "flow" and keeps else None
-    found = program.run(request.words(), heights.units, heights.valid, names, sinks, on_progress, is_cancelled,
-                        by_percent, dtype, on_rows if codes is None else codes.put, keeps and codes is None)
-    return found if codes is None else codes.kept
+    codes = [_Codes(heights.valid, use.on_rows) if use.map == "flow" and use.keeps else None for use in uses]
+    wanted = [Wanted(heights.units.dtype if use.map == "fill" else np.dtype(np.int32),
+                     use.on_rows if kept is None else kept.put, use.keeps and kept is None)
+              for use, kept in zip(uses, codes)]
+    found = program.run_together(request.words(), heights.units, heights.valid, wanted, names, sinks, on_progress,
+                                 is_cancelled, by_percent)
+    return [array if kept is None else kept.kept for array, kept in zip(found, codes)]
 
 
 class _Codes:
