@@ -7,7 +7,7 @@ use Rattle.terrain.specs.declared.place.Place.{Place}
 use Rattle.terrain.specs.Neighbours.{index_of}
 use Rattle.tiles.specs.Cutting.{Cutting, IsInBounds, View, bounds_of, index_in}
 use Rattle.cell_floods.specs.TileFlood.{Flood, IsFlood, levels_where}
-use Rattle.fill.specs.Gathering.{cell_label_among, cell_label_with}
+use Rattle.fill.specs.Gathering.{cell_label_among}
 use Rattle.fill.specs.SpillGraph.{IsListOf, greater_of, level_among}
 use Rattle.fill.specs.declared.cell_labels.CellLabel.{CellLabel}
 use Rattle.fill.specs.RaisedRuns.{AreRaised, IsFound}
@@ -43,11 +43,6 @@ pub record IsRaisedTile (first : ℕ) (f : Flood) (levels : List (Option ℤ))
   pub size : length x.heights.now ≡ length f.labels
   pub labels : x.labels.now ≡ f.table.indexes
   pub crests : AreCrestCells levels first f.table.places x.crests.items
-
--- The raised height of the cell at index k in the tile's row order.
-abbrev pub raised_at : ℕ → Flood → List (Option ℤ) → ℕ → Option ℤ
-raised_at first f levels k =
-    greater_of (slice_index_or f.levels k None) (crest_with levels (cell_label_with first f k))
 
 -- The cell that the lists of a tile give the cell at index k in the tile's row order.
 abbrev pub cell_at : RaisedTile → ℕ → Option ℤ

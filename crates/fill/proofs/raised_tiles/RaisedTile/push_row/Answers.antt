@@ -15,8 +15,8 @@ loop-index-preserved c raised all =
     let is = c.at-cell.ensures.value ∙ sym (all k c.loop-index-test.true c.at-cell.ensures.low) in
     elim c.if-not-is_level_with.branch [
       | then-not-is_level_with+in_ok-add w ↦
-          rw w.runs-is
-          (cell_rises raised read first k c.at-cell.result old now _ (c.loop-index.invariant raised all) w.in_ok-add.ensures is)
+          rw w.runs-is (cell_rises raised read first k c.at-cell.result old now _
+          (c.loop-index.invariant raised all) w.in_ok-add.ensures is)
       | else-not-is_level_with w ↦
           rw w.runs-is (cell_stays raised read first k old now (c.loop-index.invariant raised all)
           (sym (get_or_read read k c.index-read-index.result c.loop-index-test.true c.index-read-index.is None)

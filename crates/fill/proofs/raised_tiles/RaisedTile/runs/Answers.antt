@@ -29,7 +29,8 @@ loop-row-preserved c raised all =
 pub returns : goal.returns
 returns c = IfOk-weaker c.into_runs.result (λ (w : Vec RaisedRun Global). w.items ≡ runs_of c.loop-row.runs)
     (λ (w : Vec RaisedRun Global). (raised : ℕ → Option ℤ) →
-    HasTile c.args.self.now raised c.args.view.now.cutting c.args.view.now.tile → AreTileRuns raised c.args.view.now w.items)
+    HasTile c.args.self.now raised c.args.view.now.cutting c.args.view.now.tile →
+    AreTileRuns raised c.args.view.now w.items)
     (λ w is raised all.
     let are = c.loop-row.invariant raised all in
     rw is (record {
