@@ -3,6 +3,7 @@
 //!
 //!     rustc --edition 2021 -O main.rs -o twin
 //!     twin fill|flow|accumulate|basins [--workers N] [--scale D] < grid.asc > map.asc
+//!     twin maps [--workers N] [--scale D] MAP.. < grid.asc > maps.asc
 //!     twin view [--workers N] [--scale D] [--target N] [--radius N] ROW,COL,EYE.. < grid.asc > map.asc
 //!     twin terrain hills|coast|.. COLUMNS ROWS SEED [SCALE] > grid.asc
 
@@ -20,6 +21,7 @@ mod view;
 mod write;
 
 use frame::{Frame, Height, NO_NUMBER};
+use read::Header;
 use std::io::{self, Read};
 use std::process::ExitCode;
 use view::{Observer, Sight};
@@ -34,6 +36,8 @@ struct Wish {
     target: u32,
     radius: u32,
     observers: Vec<Observer>,
+    /// The words of `maps`.
+    several: Vec<String>,
 }
 
 fn number<T: std::str::FromStr>(word: Option<&String>) -> Result<T, String> {
@@ -53,6 +57,7 @@ impl Wish {
             target: 0,
             radius: DEFAULT_RADIUS,
             observers: Vec::new(),
+            several: Vec::new(),
         };
         while let Some(word) = words.next() {
             match word.as_str() {
@@ -62,6 +67,7 @@ impl Wish {
                 "--radius" => wish.radius = number(words.next())?,
                 // The twin cuts tiles of one side.
                 "--tile" => drop(number::<u32>(words.next())?),
+                _ if wish.map == "maps" => wish.several.push(word.clone()),
                 _ => wish.observers.push(word.parse()?),
             }
         }
@@ -77,38 +83,48 @@ fn make_map(wish: &Wish) -> Result<(), String> {
         .map_err(|error| error.to_string())?;
     let (header, terrain) = read::read_grid(&text, wish.scale, wish.workers)?;
     drop(text);
-    let written = if wish.map == "fill" {
-        let filled = fill::fill(&terrain, wish.workers);
-        drop(terrain);
-        write::write_map(&header, &filled, &header.nodata, wish.scale, wish.workers)
-    } else {
-        let numbers = numbers_of(wish, terrain)?;
-        write::write_map(&header, &numbers, "-9999", 0, wish.workers)
-    };
-    written.map_err(|error| error.to_string())
+    match wish.map.as_str() {
+        "view" => {
+            let sight = Sight {
+                terrain: &terrain,
+                target: wish.target,
+                radius: wish.radius,
+            };
+            write_numbers(wish, &header, &sight.viewshed(&wish.observers, wish.workers))
+        }
+        "maps" => write_drainage(wish, &wish.several, &header, terrain),
+        map => write_drainage(wish, &[map.to_string()], &header, terrain),
+    }
 }
 
-/// The asked map of whole numbers.
-fn numbers_of(wish: &Wish, terrain: Frame<Height>) -> Result<Frame<i32>, String> {
+fn write_numbers(wish: &Wish, header: &Header, numbers: &Frame<i32>) -> Result<(), String> {
+    write::write_map(header, numbers, "-9999", 0, wish.workers).map_err(|error| error.to_string())
+}
+
+/// Writes these maps one after the other, from one filling and one search for directions.
+fn write_drainage(wish: &Wish, maps: &[String], header: &Header, terrain: Frame<Height>) -> Result<(), String> {
     let workers = wish.workers;
-    if wish.map == "view" {
-        let sight = Sight {
-            terrain: &terrain,
-            target: wish.target,
-            radius: wish.radius,
-        };
-        return Ok(sight.viewshed(&wish.observers, workers));
-    }
     let filled = fill::fill(&terrain, workers);
     drop(terrain);
-    let ways = directions::directions(&filled, workers);
-    drop(filled);
-    match wish.map.as_str() {
-        "flow" => Ok(ways.map(NO_NUMBER, |way| way.code())),
-        "accumulate" => Ok(accumulate::accumulate(&ways)),
-        "basins" => Ok(basins::basins(&ways)),
-        other => Err(format!("there is no map {other}")),
+    let ways = if maps.iter().all(|map| map == "fill") {
+        None
+    } else {
+        Some(directions::directions(&filled, workers))
+    };
+    let filled = maps.iter().any(|map| map == "fill").then_some(filled);
+    for map in maps {
+        match (map.as_str(), &filled, &ways) {
+            ("fill", Some(filled), _) => {
+                write::write_map(header, filled, &header.nodata, wish.scale, workers)
+                    .map_err(|error| error.to_string())?
+            }
+            ("flow", _, Some(ways)) => write_numbers(wish, header, &ways.map(NO_NUMBER, |way| way.code()))?,
+            ("accumulate", _, Some(ways)) => write_numbers(wish, header, &accumulate::accumulate(ways))?,
+            ("basins", _, Some(ways)) => write_numbers(wish, header, &basins::basins(ways))?,
+            _ => return Err(format!("there is no map {map}")),
+        }
     }
+    Ok(())
 }
 
 fn main() -> ExitCode {

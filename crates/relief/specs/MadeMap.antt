@@ -1,6 +1,6 @@
 -- A grid with the requested sinks, if any, in place of its own (`grid_with_sinks`), the text of a
--- finished map (`made_text`) or of one of several (`layer_text`), and that its codes or counts are as
--- many as the grid's cells (`FitsGrid`). Faults of jobs (`IsOfJobs`).
+-- finished map (`made_text`) or of one of several (`layer_text`), and that its codes or counts are
+-- as many as the grid's cells (`FitsGrid`). Faults of jobs (`IsOfJobs`).
 -- Private.
 use Rattle.std.specs.Prelude.{◌≡◌, ◌⊎◌, ℕ, ◌*◌, ◌<◌, ⊤, List, [], ◌∷◌, length, Option, Some, Contains, IfSome, Vec}
 use Rattle.std.specs.List.{flat_map}

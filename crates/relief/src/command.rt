@@ -90,10 +90,10 @@ fn show_error<W: Write, E: Write>(
 /// An empty list counts as the program's name alone.
 ///
 /// Help and the version go to `writer`. `errors` gets the line of a fault, the number of the first
-/// bad observer, gauge, sink or map word, another fault of map words, or the message of `clap`. That
-/// number counts from 0 among the words of its kind. If memory is refused before the run, nothing is written. A failed write of
-/// one of these texts does not change the status. `--progress` has no effect: see
-/// [`run_words_reported`].
+/// bad observer, gauge, sink or map word, another fault of map words, or the message of `clap`.
+/// That number counts from 0 among the words of its kind. If memory is refused before the run,
+/// nothing is written. A failed write of one of these texts does not change the status.
+/// `--progress` has no effect: see [`run_words_reported`].
 ///
 /// # Examples
 ///

@@ -1,7 +1,8 @@
 //! Makes maps of terrain grids, from bytes to bytes, and runs the program `relief`.
 //!
-//! [`run`] reads a grid and writes one map, or several. Of its contract `Runs`, the field `written` is the
-//! headline of `docs/promises.md`. [`run_words`] parses a command line and runs what it requests.
+//! [`run`] reads a grid and writes one map, or several. Of its contract `Runs`, the field `written`
+//! is the headline of `docs/promises.md`. [`run_words`] parses a command line and runs what it
+//! requests.
 //!
 //! Modules, callers first:
 //!

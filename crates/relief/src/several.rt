@@ -1,6 +1,6 @@
 //! Makes several drainage maps from one filling and one search for directions.
 //!
-//! `make_several` makes each requested map once, `write_several` writes them in the order requested.
+//! `make_several` makes each requested map once, `write_several` writes them in their order.
 ghost use Rattle.std.specs.Prelude.{◌≡◌, ◌<◌, ◌-◌, ◌^◌, None, true, false, IfOk, IfErr, Contains};
 ghost use Rattle.std.specs.List.{flat_map};
 ghost use Rattle.tiles.specs.Cutting.{Cuts};
@@ -260,7 +260,8 @@ pub(crate) fn write_several<H: Threads + Wait + Sync, W: Write>(
 ) -> Result<(), WriteFailed>
     requires few { writer.old.failures < 2 ^ 64 - 1 }
     requires size { FitHeader made.now }
-    ensures { Writes W.contents writer.old writer.new (flat_map (layer_text made.now) maps.now) result }
+    ensures { Writes W.contents writer.old writer.new (flat_map (layer_text made.now) maps.now)
+        result }
 {
     for (index, map) in maps.iter().enumerate() {
         let runner = Runner {

@@ -13,9 +13,10 @@ use Rattle.clap.proofs.OnLiterals.{clap_on_literals}
 use Rattle.terrain.specs.declared.observer.Observer.{Observer}
 use Rattle.terrain.specs.declared.place.Place.{Place}
 use Rattle.request.specs.CommandLine.{AreRefused, AskForHelp, HasNumber, HasOptions, IsHelp, Names, Spell, RequestFor, is_flag_given, program_app, sink_words}
-use Rattle.request.specs.Laws.{AreSame, BasinsOfSinks, CatchmentsOfAGauge, FillAlone, HelpOfView, NoSideOfZero, VersionAlone, ViewWithRadius}
+use Rattle.request.specs.Laws.{AreSame, BasinsOfSinks, CatchmentsOfAGauge, FillAlone, HelpOfView, MapsInOrder, NoSideOfZero, VersionAlone, ViewWithRadius}
 use Rattle.request.specs.PlaceWords.{place_of_word}
 use Rattle.request.specs.Request.{Request}
+use Rattle.request.specs.declared.map.DrainageMap.{DrainageMap}
 use Rattle.request.specs.declared.map.Map.{Map}
 use Rattle.request.specs.declared.map.Map.TheVariants.{Fill, Flow, Accumulate, Basins, Catchments, View, Several}
 use Rattle.request.proofs.Given.{same_number}
@@ -206,6 +207,29 @@ catchments_of_a_gauge gauges one = record {
   map = (refl, ap (λ (ps : List Place). map Some ps) (sym one));
   sinks = refl;
   options = default_options (rows_in catchments_words) refl refl refl;
+  progress = refl;
+  limits = record { in_limits = search rules; view = λ v. absurd v };
+}
+
+abbrev maps_words : List Text
+maps_words =
+    codes "relief" ∷ codes "maps" ∷ codes "--gauge" ∷ codes "4,5" ∷ codes "flow"
+    ∷ codes "catchments" ∷ []
+
+pub maps_in_order : MapsInOrder
+unfolding clap_on_literals
+maps_in_order maps gauges these one = record {
+  name = codes "maps";
+  rows = rows_in maps_words;
+  command = record { accepted = refl; found = refl };
+  map = (
+    refl,
+    ap (λ (ps : List Place). map Some ps) (sym one),
+    ap (λ (ms : List DrainageMap). map Some ms) (sym these),
+    refl,
+  );
+  sinks = refl;
+  options = default_options (rows_in maps_words) refl refl refl;
   progress = refl;
   limits = record { in_limits = search rules; view = λ v. absurd v };
 }

@@ -267,8 +267,8 @@ pub record HasBadGauge (words : List Text) (place : ℕ) : Type 0 where
   pub takes : TakesGauges name
   pub first : IsFirstBad place_of_word (words_of (codes "gauges") rows) place
 
--- The subcommand is `maps`, no gauge word is bad, and the map words beside the gauge words have this
--- fault.
+-- The subcommand is `maps`, no gauge word is bad, and the map words beside the gauge words have
+-- this fault.
 pub record HasMapsFault (words : List Text) (fault : MapsFault) : Type 0 where
   pub rows : List Row
   pub command : AreCommand words (codes "maps") rows

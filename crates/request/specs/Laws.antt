@@ -1,5 +1,5 @@
 -- Statements that module `laws` proves. A command line has at most one request, and is accepted
--- if it has one. Seven examples of command lines have the meaning given here.
+-- if it has one. Eight examples of command lines have the meaning given here.
 -- Public.
 use Rattle.std.specs.Prelude.{◌≡◌, true, false, List, [], ◌∷◌, Vec, codes}
 use Rattle.std.specs.declared.alloc.Global.{Global}
@@ -10,6 +10,8 @@ use Rattle.terrain.specs.declared.observer.Observer.{Observer}
 use Rattle.terrain.specs.declared.place.Place.{Place}
 use Rattle.request.specs.CommandLine.{AreRefused, AskForHelp, RequestFor, program_app}
 use Rattle.request.specs.Request.{Request}
+use Rattle.request.specs.declared.map.DrainageMap.{DrainageMap}
+use Rattle.request.specs.declared.map.DrainageMap.TheVariants as drainage
 use Rattle.request.specs.declared.map.Map.{Map}
 use Rattle.request.specs.declared.map.Map.TheVariants.{Fill, Basins, Catchments, View, Several}
 
@@ -66,6 +68,22 @@ CatchmentsOfAGauge = (gauges : Vec Place Global) → gauges.items ≡ record { r
       scale = 0;
       sinks = record { row = 1; col = 2 } ∷ record { row = 0; col = 3 } ∷ [];
       progress = true;
+    })
+
+-- `relief maps --gauge 4,5 flow catchments` requests these two maps in this order, with one gauge.
+abbrev pub MapsInOrder : Type 0
+MapsInOrder = (maps : Vec DrainageMap Global) (gauges : Vec Place Global) →
+    maps.items ≡ drainage.Flow ∷ drainage.Catchments ∷ [] →
+    gauges.items ≡ record { row = 4; col = 5 } ∷ [] →
+    RequestFor (codes "relief" ∷ codes "maps" ∷ codes "--gauge" ∷ codes "4,5" ∷ codes "flow"
+    ∷ codes "catchments" ∷ [])
+    (record {
+      map = Several maps gauges;
+      tile = 256;
+      workers = 1;
+      scale = 0;
+      sinks = [];
+      progress = false;
     })
 
 -- `relief view --radius 5 1,2,3` requests the viewshed of one observer, within 5 cells.

@@ -24,8 +24,8 @@ IsBadWord Bad (NoMemory e) = ⊤
 -- If a word is bad, `Observer`, `Gauge` or `Sink`, by the word's kind, holds of the word's number
 -- `place`. For a fault of map words, `Maps` holds of the fault. If the fault is `NoMap`, `Missing`
 -- holds. Any other fault is refused memory.
-abbrev pub IsFaultWith : (ℕ → Type 0) → (ℕ → Type 0) → (ℕ → Type 0) → (MapsFault → Type 0) → Type 0 →
-    WordsFault → Type 0
+abbrev pub IsFaultWith : (ℕ → Type 0) → (ℕ → Type 0) → (ℕ → Type 0) → (MapsFault → Type 0) →
+    Type 0 → WordsFault → Type 0
 IsFaultWith Observer Gauge Sink Maps Missing (Clap e) = kind_of e ≡ OutOfMemory
 IsFaultWith Observer Gauge Sink Maps Missing (BadObserver place) = Observer place
 IsFaultWith Observer Gauge Sink Maps Missing (BadGauge place) = Gauge place

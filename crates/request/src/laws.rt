@@ -1,6 +1,6 @@
-//! A command line has at most one request, and is accepted if it has one. Seven examples mean
+//! A command line has at most one request, and is accepted if it has one. Eight examples mean
 //! what their theorems say. The functions have no code; their contracts are the theorems.
-ghost use Rattle.request.specs.Laws.{BasinsOfSinks, CatchmentsOfAGauge, FillAlone, HelpOfView, NoSideOfZero, VersionAlone, ViewWithRadius, RequestsAreAccepted, RequestsAreOne};
+ghost use Rattle.request.specs.Laws.{BasinsOfSinks, CatchmentsOfAGauge, FillAlone, HelpOfView, MapsInOrder, NoSideOfZero, VersionAlone, ViewWithRadius, RequestsAreAccepted, RequestsAreOne};
 
 /// Proves that requests of one command line have the same map, options and sinks.
 pub fn requests_are_one()
@@ -29,6 +29,12 @@ pub fn basins_of_sinks()
 #[tactic(auto, using(crate::proofs::Requests::catchments_of_a_gauge))]
 pub fn catchments_of_a_gauge()
     ensures { CatchmentsOfAGauge }
+{}
+
+/// Proves that `relief maps --gauge 4,5 flow catchments` requests these maps in this order.
+#[tactic(auto, using(crate::proofs::Requests::maps_in_order))]
+pub fn maps_in_order()
+    ensures { MapsInOrder }
 {}
 
 /// Proves that `relief view --radius 5 1,2,3` requests one observer and radius 5.

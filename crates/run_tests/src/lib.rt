@@ -3,6 +3,7 @@
 //! Modules:
 //!
 //! - `runs`: runs from bytes to bytes, also on failing devices
+//! - `several`: several maps from one run
 //! - `reading`: how far a run reads ahead in a long text
 //! - `meeting`: two jobs at once, at each stage of each map
 //! - `crowding`: as many jobs at once as workers
@@ -20,5 +21,7 @@ mod reading;
 mod rounds;
 #[cfg(test)]
 mod runs;
+#[cfg(test)]
+mod several;
 #[cfg(test)]
 mod words;

@@ -67,6 +67,26 @@ fn words_and_statuses(rt: HostRuntime) {
             1,
             b"relief: bad gauge word 1\n".as_slice(),
         ),
+        (
+            ["relief", "maps", "flow", "1,1"].as_slice(),
+            1,
+            b"relief: bad map word 1\n".as_slice(),
+        ),
+        (
+            ["relief", "maps", "fill", "flow", "fill"].as_slice(),
+            1,
+            b"relief: a map is named twice\n".as_slice(),
+        ),
+        (
+            ["relief", "maps", "fill", "catchments"].as_slice(),
+            1,
+            b"relief: catchments without a gauge\n".as_slice(),
+        ),
+        (
+            ["relief", "maps", "--gauge", "1,1", "fill"].as_slice(),
+            1,
+            b"relief: a gauge without catchments\n".as_slice(),
+        ),
         (["relief", "--help"].as_slice(), 0, b"".as_slice()),
     ] {
         let outcome = outcome_of(&rt, rt.alloc(), words);
@@ -90,19 +110,28 @@ fn no_words_and_refused_words(rt: HostRuntime) {
     assert!(rt; are_refused(&rt, alloc, &["relief", "fill", "--workers", "65"]));
     assert!(rt; are_refused(&rt, alloc, &["relief", "help"]));
     assert!(rt; are_refused(&rt, alloc, &["relief", "catchments"]));
+    assert!(rt; are_refused(&rt, alloc, &["relief", "maps"]));
 }
 
 /// The help of a map gives input, output, defaults, limits and exit statuses.
 #[test]
 fn help_of_each_map(rt: HostRuntime) -> Result<(), Fail> {
-    for name in ["fill", "flow", "accumulate", "basins", "catchments", "view"] {
+    for name in [
+        "fill",
+        "flow",
+        "accumulate",
+        "basins",
+        "catchments",
+        "view",
+        "maps",
+    ] {
         let outcome = outcome_of(&rt, rt.alloc(), ["relief", name, "--help"].as_slice());
         assert_eq!(rt; outcome.status, 0, "{name}");
         assert!(rt; outcome.errors.is_empty(), "{name}");
         let help = String::from_utf8_lossy(rt.alloc(), outcome.out.as_slice())?;
         for part in [
             "\nUsage: relief ",
-            " < dem.asc > map.asc\n",
+            " < dem.asc > map",
             "\nExample",
             "\nIn: ",
             "\nOut: ",
