@@ -2,9 +2,9 @@
 from __future__ import annotations
 
 from contextlib import ExitStack
-from dataclasses import dataclass
+from dataclasses import dataclass, field
 from functools import partial
-from typing import TYPE_CHECKING, Callable, Dict, List, Optional, Sequence
+from typing import TYPE_CHECKING, Callable, Dict, List, Optional, Sequence, Set
 
 import numpy as np
 
@@ -59,7 +59,7 @@ class _Run:
     """What a run has: the maps as far as they are written, requests of the job with gauges or of the first, the land.
 
     Attributes:
-        below: the cells downstream of where the data ends, once they are known.
+        below: the cells downstream of where the data ends, once they are known; told: lines that count them.
     """
 
     drafts: Sequence[Draft]
@@ -69,6 +69,7 @@ class _Run:
     program: Program
     caller: Caller
     below: Optional[np.ndarray] = None
+    told: Set[str] = field(default_factory=set)
 
     @property
     def gauges(self) -> Sequence[Place]:
@@ -138,7 +139,11 @@ class _Run:
         if self.below is None:
             self.below = edges.uncertain_cells(codes, self.heights.valid)
         if job.uncertain is not None or (self.terrain.is_part and job.map in edges.TOLD_MAPS):
-            self.caller.say(edges.line_of(job.map, self.below, array, frame.cell**2))
+            line = edges.line_of(job.map, self.below, array, frame.cell**2)
+            # Accumulations and streams have the same line.
+            if line not in self.told:
+                self.caller.say(line)
+            self.told.add(line)
         if job.uncertain is not None:
             draft.add_uncertain(job.uncertain, self.below)
         if job.polygons is not None:

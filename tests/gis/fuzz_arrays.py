@@ -33,6 +33,7 @@ class Call:
         self.nodata = self.draw_nodata(plain)
         self.heights = self.laid_out(plain)
         self.map = chance.choice(MAPS)
+        self.is_together = self.map != "view" and chance.randrange(4) == 0
         self.scale = chance.choice((None, 6, 7, -1, 1.5) if chance.randrange(12) == 0 else (None, 0, 1, 2))
         self.arguments = {"nodata": self.nodata, "scale": self.scale}
         if chance.randrange(4) == 0:
@@ -122,7 +123,8 @@ class Call:
 
     def __repr__(self):
         kind = numpy.dtype(self.kind).name
-        return f"{self.map}, {kind} {self.layout} of {self.rows} by {self.cols}, {self.arguments}"
+        name = f"maps with {self.map}" if self.is_together else self.map
+        return f"{name}, {kind} {self.layout} of {self.rows} by {self.cols}, {self.arguments}"
 
 
 def expected(call):
@@ -223,7 +225,7 @@ def outcome(seed, number):
     call = Call(random.Random(f"array {seed} {number}"))
     before = (numpy.ma.getdata(call.heights).tobytes(), numpy.ma.getmaskarray(call.heights).tobytes())
     try:
-        result = getattr(relief_gis, call.map)(call.heights, **call.arguments)
+        result = made(relief_gis, call)
     except relief_gis.GisError as refusal:
         result = refusal
     except BaseException as fault:
@@ -241,6 +243,14 @@ def outcome(seed, number):
         return ("refused in doubt" if not land else "wrong"), call, f"refused: {result!r}"
     reason = difference(call, land, decimals, values, result)
     return "wrong" if reason else "mapped", call, reason
+
+
+def made(package, call):
+    """The map of a call, by its own function or among others."""
+    if not call.is_together:
+        return getattr(package, call.map)(call.heights, **call.arguments)
+    names = {call.map, call.chance.choice(("fill", "flow", "accumulate", "basins"))}
+    return getattr(package.maps(call.heights, sorted(names), **call.arguments), call.map)
 
 
 def difference(call, land, decimals, values, result):

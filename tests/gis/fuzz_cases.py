@@ -12,9 +12,14 @@ from osgeo import gdal, ogr, osr
 
 import fuzz_arrays
 import fuzz_compare
+import fuzz_together
 import fuzz_words
 import judge_scene
+import judge_together
 import judge_words
+
+# One raster in so many is mapped by several maps at once.
+TOGETHER = 7
 
 
 @contextlib.contextmanager
@@ -84,7 +89,8 @@ def show_raster(seed, number):
 def raster_outcome(folder, seed, number):
     """Words, status and lines of a run, and what the judge says of it."""
     with plain_gdal():
-        case = fuzz_words.Case(folder, random.Random(f"{seed} {number}"))
+        kind = fuzz_together.Case if number % TOGETHER == 0 else fuzz_words.Case
+        case = kind(folder, random.Random(f"{seed} {number}"))
         wanted, verdict = expected(case.words)
     before = marks(folder)
     status, lines = run_command(case.words)
@@ -99,8 +105,9 @@ def raster_outcome(folder, seed, number):
 
 def expected(words):
     """What has to become of a command, and why, or scene and maps."""
+    judged_by = judge_together.verdicts if words[0] == "maps" else judge_words.verdict
     try:
-        return "mapped", judge_words.verdict(words)
+        return "mapped", judged_by(words)
     except judge_scene.Refused as reason:
         return "refused", str(reason)
     except judge_scene.Unknown as reason:
@@ -114,8 +121,8 @@ def harm(case, status, before, after):
     changed = {name for name in after if before.get(name) != after[name]} | before.keys() - after.keys()
     if status and changed:
         return f"a refusal changed {changed}"
-    style = case.output.with_suffix(".qml").name
-    if changed - {case.output.name, *case.written, style} or style in changed & before.keys():
+    styles = {path.with_suffix(".qml").name for path in case.targets}
+    if changed - {*(path.name for path in case.targets), *case.written, *styles} or styles & changed & before.keys():
         return f"files changed: {changed}"
     return ""
 
@@ -126,11 +133,13 @@ def judged(case, status, lines, wanted, verdict):
         return ("refused", verdict) if status else ("wrong", f"not refused: {verdict}")
     if wanted == "unjudged":
         return wanted, verdict
-    scene, maps = verdict
+    scenes = [scene for _, scene, _ in verdict.values()] if case.words[0] == "maps" else [verdict[0]]
     if status:
-        doubts = scene.doubts + ["a style of the user"] * case.output.with_suffix(".qml").exists()
+        doubts = [doubt for scene in scenes for doubt in scene.doubts]
+        doubts += ["a style of the user"] * any(path.with_suffix(".qml").exists() for path in case.targets)
         return ("refused in doubt", str(doubts)) if doubts else ("wrong", "refused")
-    difference = fuzz_compare.difference(case, scene, maps, lines)
+    difference = fuzz_together.difference(case, verdict, lines) if case.words[0] == "maps" \
+        else fuzz_compare.difference(case, *verdict, lines)
     return ("wrong", difference) if difference else ("mapped", "")
 
 

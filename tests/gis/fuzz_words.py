@@ -15,7 +15,16 @@ class Case(fuzz_rasters.Raster):
         super().__init__(folder, chance)
         self.draw_words()
         self.draw_output()
-        self.words = [self.map, str(self.source), str(self.output), *self.options]
+        self.words = self.joined_words()
+
+    def joined_words(self):
+        """The words of the command."""
+        return [self.map, str(self.source), str(self.output), *self.options]
+
+    @property
+    def targets(self):
+        """The maps that are written."""
+        return [self.output]
 
     def draw_words(self):
         """The words of the command."""
@@ -23,10 +32,9 @@ class Case(fuzz_rasters.Raster):
         self.options, self.written = [], []
         self.draw_reading()
         if self.map == "streams":
-            self.options += ["--threshold", str(self.chance.choice((0, 1, 1, 2, 5, 20, -5 if self.is_rare(5) else 3,
-                                                                    "0.3ha", "900m2", "1e-5km2")))]
+            self.draw_threshold()
         if self.map == "basins" and self.is_rare(3):
-            self.options += ["--least", str(self.chance.choice((0, 1, 2, 5, 30)))]
+            self.draw_least()
         if self.map == "view":
             self.draw_view_points()
         elif self.map == "catchments":
@@ -36,8 +44,25 @@ class Case(fuzz_rasters.Raster):
         if self.is_rare(20) and any(word.startswith(("--at", "--points")) for word in self.options):
             self.options += ["--skip"]
         if self.is_rare(6) and self.map not in ("fill", "depth", "view"):
-            self.written += ["uncertain.tif", "uncertain.qml"]
-            self.options += ["--uncertain", str(self.folder / "uncertain.tif")]
+            self.draw_uncertain()
+        self.draw_running()
+
+    def draw_threshold(self):
+        """The threshold of streams."""
+        self.options += ["--threshold", str(self.chance.choice((0, 1, 1, 2, 5, 20, -5 if self.is_rare(5) else 3,
+                                                                "0.3ha", "900m2", "1e-5km2")))]
+
+    def draw_least(self):
+        """The least size of basins."""
+        self.options += ["--least", str(self.chance.choice((0, 1, 2, 5, 30)))]
+
+    def draw_uncertain(self):
+        """Where the cells below the data's edge are written."""
+        self.written += ["uncertain.tif", "uncertain.qml"]
+        self.options += ["--uncertain", str(self.folder / "uncertain.tif")]
+
+    def draw_running(self):
+        """Workers and tiles."""
         if self.is_rare(8):
             self.options += ["--workers", str(self.chance.randint(1, 3))]
         if self.is_rare(4):

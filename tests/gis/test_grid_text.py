@@ -4,12 +4,14 @@ import os
 import subprocess
 import tempfile
 import unittest
+import unittest.mock
 
 import numpy as np
 
 from fixtures import RELIEF, hills
 from relief_gis.errors import InputError
-from relief_gis.grid_text import HEADER_LINES, read_grid, write_grid
+from relief_gis import grid_text
+from relief_gis.grid_text import HEADER_LINES, Wanted, read_grid, read_grids, write_grid
 
 HEADER = "ncols {1}\nnrows {0}\nxllcorner 0\nyllcorner 0\ncellsize 1\nNODATA_value -9999\n"
 MOST = 10**15
@@ -127,6 +129,40 @@ class Reading(unittest.TestCase):
         for text in (b"", b"no grid\n" * 9, b"ncols x\nnrows 1\n" * 3):
             with self.assertRaises(InputError, msg=text):
                 read_grid(io.BytesIO(text))
+
+
+class Several(unittest.TestCase):
+    """Grid texts one after the other, parted where a header begins."""
+
+    def test_parts(self):
+        random = np.random.default_rng(12)
+        for shape in ((1, 1), (1, 9), (7, 1), (40, 33), (300, 2)):
+            for count in (1, 2, 5):
+                grids = [random_units(random, shape, digits) for digits in (1, 3, 6, 2, 9)[:count]]
+                text = b"".join(map(plain_text, grids))
+                for piece in (1, 2, 7, 64, 65, 1000, len(text), 2 * len(text)):
+                    seen = [[] for _ in grids]
+                    wanted = [Wanted(np.dtype(np.int64), lambda rows, row, it=it: it.append(rows.copy()), at % 2 == 0)
+                              for at, it in enumerate(seen)]
+                    with unittest.mock.patch.object(grid_text, "PIECE", piece):
+                        found = read_grids(io.BytesIO(text), wanted, shape)
+                    for at, grid in enumerate(grids):
+                        np.testing.assert_array_equal(np.concatenate(seen[at]), grid)
+                        np.testing.assert_array_equal(found[at], grid if at % 2 == 0 else grid[:0])
+
+    def test_refused(self):
+        wanted = [Wanted(np.dtype(np.int64))] * 2
+        one, other = plain_text(np.arange(12).reshape(3, 4)), plain_text(np.arange(12).reshape(4, 3))
+        for text, told in ((one, "no map"), (b"", "no map"), (one + one[:-1], "cut off"), (one + one[:-3], "11 values"),
+                           (one[:-4] + b"\n" + one, "11 values"), (one[:-1] + one, "cut off"),
+                           (one + one + one, "more than 2 maps"), (one + one + b"n", "more than 2 maps"),
+                           (one + one + b"1 ", "13 values"), (one + other, "(4, 3) rows and columns of (3, 4)"),
+                           (one + one.replace(b" 5 ", b" x "), "no whole numbers"), (one + b"nothing", "no map")):
+            for piece in (1, 5, 1 << 18):
+                with self.subTest(text=text[-20:], piece=piece), self.assertRaises(InputError) as caught, \
+                        unittest.mock.patch.object(grid_text, "PIECE", piece):
+                    read_grids(io.BytesIO(text), wanted, (3, 4))
+                self.assertIn(told, str(caught.exception))
 
 
 if __name__ == "__main__":

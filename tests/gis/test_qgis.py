@@ -12,7 +12,8 @@ from concurrent.futures import ThreadPoolExecutor
 import numpy as np
 from osgeo import gdal, ogr
 
-from fixtures import HERE, UTM, Case, centre, hills, info, make_points, make_raster, read
+import programs
+from fixtures import HERE, RELIEF, UTM, Case, centre, hills, info, make_points, make_raster, read
 from qgis_profile import Profile
 
 PARALLEL = 3
@@ -121,6 +122,30 @@ class Algorithms(Case):
         self.assertEqual((folder / "qgis_profile.csv").read_text(), (folder / "profile.csv").read_text())
         for line in told.getvalue().splitlines():
             self.assertIn(line, done.stdout + done.stderr)
+
+    def test_maps(self):
+        """Several maps by one run, with their styles, are those of the command."""
+        folder = self.folder
+        PROFILE.program = programs.with_maps(RELIEF)
+        self.addCleanup(setattr, PROFILE, "program", RELIEF)
+        sinks = make_points(folder / "sinks.gpkg", [centre(7, 9)])
+        names = ("fill", "flow", "accumulate", "streams", "catchments")
+        done = PROFILE.run("run", "relief:maps", f"--INPUT={folder}/dem.tif", *self.points, f"--SINKS={sinks}",
+                           "--THRESHOLD=20", "--SNAP=2",
+                           *(f"--{name.upper()}={folder}/qgis_{name}.tif" for name in names))
+        self.assertEqual(done.returncode, 0, done.stdout + done.stderr)
+        layer = ["--points", "places.gpkg", "--snap", "2", "--sinks", "sinks.gpkg"]
+        for name in names:
+            own = {"streams": ["--threshold", "20"], "catchments": layer}.get(name, [])
+            self.make(name, "dem.tif", f"{name}.tif", *own, *([] if own is layer else ["--points", "sinks.gpkg"]))
+            np.testing.assert_array_equal(read(folder / f"qgis_{name}.tif"), read(folder / f"{name}.tif"))
+            self.assertEqual((folder / f"qgis_{name}.qml").exists(), (folder / f"{name}.qml").exists())
+        self.assertFalse((folder / "qgis_basins.tif").exists())
+        for words, told in (([], "choose a file for one of the maps"),
+                            ([f"--FLOW={folder}/no.tif", *self.points], "gauges are those of the catchments")):
+            done = PROFILE.run("run", "relief:maps", f"--INPUT={folder}/dem.tif", *words)
+            self.assertNotEqual(done.returncode, 0)
+            self.assertIn(told, done.stdout + done.stderr)
 
     def test_compare(self):
         """The answer and the differences are those of the command."""

@@ -19,8 +19,8 @@ class Maps(MapAlgorithm):
     SNAP, SINKS = "SNAP", "SINKS"
     map, title, kind = "maps", "Several maps of drainage", "Gauges"
     layers = (MapAlgorithm.POINTS, SINKS)
-    about = ("Maps of drainage by one run, in the time of little more than one of them. Choose a file for each map that "
-             "you want. Gauges are those of the catchments, the threshold is that of the streams.")
+    about = ("Maps of drainage by one run, in little more than the time of one. Choose a file for each map that you "
+             "want. Gauges are those of the catchments, the threshold is that of the streams.")
 
     def add_places(self) -> None:
         """Adds gauges, sinks and the threshold."""
