@@ -17,7 +17,6 @@ class Profile:
 
     def __init__(self):
         self.folder = pathlib.Path(tempfile.mkdtemp())
-        self.program = RELIEF
         self.plugins = self.folder / "plugins"
         subprocess.run([str(GIS / "plugin"), str(self.plugins / "relief")], check=True)
         (self.folder / "run").mkdir(mode=0o700)
@@ -34,7 +33,7 @@ class Profile:
     def run(self, *words, command=None):
         """Runs `qgis_process`, or another command, in the profile."""
         environment = {**os.environ, "HOME": str(self.folder), "XDG_RUNTIME_DIR": str(self.folder / "run"),
-                       "QT_QPA_PLATFORM": "offscreen", "QGIS_PLUGINPATH": str(self.plugins), "RELIEF": self.program,
+                       "QT_QPA_PLATFORM": "offscreen", "QGIS_PLUGINPATH": str(self.plugins), "RELIEF": RELIEF,
                        # QGIS takes its modules from the first python3: that has to be the distribution's.
                        "PATH": f"/usr/bin:/bin:{os.environ['PATH']}", "LC_ALL": "C.UTF-8"}
         environment.pop("PYTHONPATH", None)

@@ -12,8 +12,7 @@ from concurrent.futures import ThreadPoolExecutor
 import numpy as np
 from osgeo import gdal, ogr
 
-import programs
-from fixtures import HERE, RELIEF, UTM, Case, centre, hills, info, make_points, make_raster, read
+from fixtures import HERE, UTM, Case, centre, hills, info, make_points, make_raster, read
 from qgis_profile import Profile
 
 PARALLEL = 3
@@ -126,8 +125,6 @@ class Algorithms(Case):
     def test_maps(self):
         """Several maps by one run, with their styles, are those of the command."""
         folder = self.folder
-        PROFILE.program = programs.with_maps(RELIEF)
-        self.addCleanup(setattr, PROFILE, "program", RELIEF)
         sinks = make_points(folder / "sinks.gpkg", [centre(7, 9)])
         names = ("fill", "flow", "accumulate", "streams", "catchments")
         done = PROFILE.run("run", "relief:maps", f"--INPUT={folder}/dem.tif", *self.points, f"--SINKS={sinks}",

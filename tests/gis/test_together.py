@@ -6,7 +6,6 @@ import unittest.mock
 import numpy as np
 
 from fixtures import RELIEF, Case, centre, hills, make_points, make_raster, read
-import programs
 import relief_gis
 from relief_gis import geotiff
 
@@ -37,7 +36,6 @@ case $1 in --help) {program} "$@" | grep -v '^  maps ';; *) exec {program} "$@";
 class Together(Case):
     def setUp(self):
         super().setUp()
-        self.program = programs.with_maps(RELIEF)
         heights = hills().astype(np.float32)
         heights[:6, :9] = -9999
         make_raster(self.folder / "dem.tif", heights, -9999.0)
@@ -46,7 +44,7 @@ class Together(Case):
     def single(self, name, *words):
         """Makes one map by its own command and moves it; the lines."""
         places = [*GAUGES, *SINKS] if name == "catchments" else at(*SINK)
-        lines = self.make(name, "dem.tif", f"{name}.tif", *words, *OWN.get(name, []), *places, program=self.program)
+        lines = self.make(name, "dem.tif", f"{name}.tif", *words, *OWN.get(name, []), *places)
         for ending in (".tif", ".qml"):
             if (self.folder / f"{name}{ending}").exists():
                 os.rename(self.folder / f"{name}{ending}", self.folder / "alone" / f"{name}{ending}")
@@ -67,14 +65,14 @@ class Together(Case):
     def script(self, text, **names):
         """A program of a text."""
         path = self.folder / "program"
-        path.write_text(text.format(program=self.program, **names))
+        path.write_text(text.format(program=RELIEF, **names))
         path.chmod(0o755)
         return str(path)
 
     def test_every_map_is_that_of_its_own_command(self):
         for common in ([], ["--decimals", "1"], ["--window", "3,2,34,25"]):
             lines = [self.single(name, *common).splitlines() for name in MAPS]
-            found = self.make(*self.together(*MAPS), *common, program=self.program).splitlines()
+            found = self.make(*self.together(*MAPS), *common).splitlines()
             self.assertEqual(self.files(self.folder), self.files(self.folder / "alone"), common)
             # What is told of all maps is told once.
             self.assertEqual(set(found), {line for told in lines for line in told})
@@ -107,31 +105,29 @@ class Together(Case):
             found = read(self.folder / "uncertain.tif")
             heights = read(self.folder / "dem.tif")
             expected = relief_gis.uncertain(heights, -9999, sinks=[SINK],
-                                            program=relief_gis.Program.find(self.program))
+                                            program=relief_gis.Program.find(RELIEF))
             np.testing.assert_array_equal(found, expected)
 
     def test_moved_gauges_and_a_part_round_a_place(self):
         place = "{},{}".format(*centre(9, 20))
         words = ["--snap", "2", "--around", place]
-        self.make("catchments", "dem.tif", "alone/catchments.tif", *GAUGES, *words, "--snapped", "one.gpkg",
-                  program=self.program)
+        self.make("catchments", "dem.tif", "alone/catchments.tif", *GAUGES, *words, "--snapped", "one.gpkg")
         self.make("maps", "dem.tif", "--fill", "fill.tif", "--catchments", "catchments.tif", *GAUGES, *words,
-                  "--snapped", "other.gpkg", program=self.program)
+                  "--snapped", "other.gpkg")
         np.testing.assert_array_equal(read(self.folder / "catchments.tif"), read(self.folder / "alone/catchments.tif"))
         self.assertTrue((self.folder / "other.gpkg").exists())
 
     def test_layers(self):
         make_points(self.folder / "gauges.gpkg", [centre(9, 20), centre(18, 33)])
         make_points(self.folder / "sinks.gpkg", [centre(*SINK)])
-        self.make(*self.together(*MAPS), program=self.program)
+        self.make(*self.together(*MAPS))
         expected = {name: read(self.folder / f"{name}.tif") for name in MAPS}
         words = self.together(*(name for name in MAPS if name != "catchments"))[:-2]
-        self.make(*words, "--catchments", "catchments.tif", "--points", "gauges.gpkg", "--sinks", "sinks.gpkg",
-                  program=self.program)
+        self.make(*words, "--catchments", "catchments.tif", "--points", "gauges.gpkg", "--sinks", "sinks.gpkg")
         for name in MAPS:
             np.testing.assert_array_equal(read(self.folder / f"{name}.tif"), expected[name])
         self.refuse(1, "sinks.gpkg is a layer of points that is read", "maps", "dem.tif", "--catchments", "c.tif",
-                    *GAUGES, "--sinks", "sinks.gpkg", "--snap", "1", "--snapped", "sinks.gpkg", program=self.program)
+                    *GAUGES, "--sinks", "sinks.gpkg", "--snap", "1", "--snapped", "sinks.gpkg")
 
     def test_refusals(self):
         make_raster(self.folder / "dem2.tif", np.ones((3, 3), np.float32))
@@ -155,7 +151,7 @@ class Together(Case):
             with self.subTest(words=words):
                 if status == 3:
                     status, text = 1, "65"
-                self.refuse(status, text, "maps", "dem.tif", *words, program=self.program)
+                self.refuse(status, text, "maps", "dem.tif", *words)
 
     def test_a_version_without_maps(self):
         program = self.script(OLD)
@@ -172,7 +168,7 @@ class Together(Case):
 
         with unittest.mock.patch.object(geotiff.GeoTiff, "save", save):
             self.refuse(4, "accumulate.tif could not be written: No space left on device",
-                        *self.together("fill", "accumulate", "basins"), program=self.program)
+                        *self.together("fill", "accumulate", "basins"))
 
     def test_what_is_cut_off_or_too_much(self):
         # The last map is cut off, one is missing, or one is too many.
@@ -190,7 +186,7 @@ class Arrays(Case):
 
     def setUp(self):
         super().setUp()
-        self.program = relief_gis.Program.find(programs.with_maps(RELIEF))
+        self.program = relief_gis.Program.find(RELIEF)
         self.heights = hills()
         self.heights[:6, :9] = np.nan
 
@@ -216,7 +212,7 @@ class Arrays(Case):
         found = relief_gis.maps(self.heights, ["flow", "depth"], program=self.program)
         self.assertEqual([name for name in MAPS if getattr(found, name) is not None], ["flow", "depth"])
         found = relief_gis.maps(self.heights, ["catchments"], gauges=[(9, 20)],
-                                program=relief_gis.Program.find(RELIEF))
+                                program=self.program)
         np.testing.assert_array_equal(found.catchments, relief_gis.catchments(self.heights, [(9, 20)],
                                       program=self.program))
 
