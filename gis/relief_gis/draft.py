@@ -58,6 +58,7 @@ class Draft:
         self.also: Dict[str, Callable[[str], None]] = {}
         self.file: Optional[GeoTiff] = None
         self.most, self.written = 0.0, 0
+        self.numbers = styles.Numbers()
         self.style: Optional[str] = None
         self.keeps_style = False
         self.threshold = job.threshold if isinstance(job.threshold, int) else 0
@@ -74,8 +75,8 @@ class Draft:
 
     @property
     def needs_all(self) -> bool:
-        """Whether the map as a whole has to be kept: for its type, its numbers or its lines."""
-        return self.result is None or self.job.map in ("basins", "catchments")
+        """Whether the map as a whole has to be kept, for its type or for the size of its basins."""
+        return self.result is None
 
     def put(self, found: np.ndarray, row: int = 0, band: int = 1) -> None:
         """Writes rows of what the program wrote, from a row on, as soon as they are there."""
@@ -87,6 +88,8 @@ class Draft:
             self.written = row + first + len(array)
             if styles.needs_most(self.job.map):
                 self.most = max(self.most, float(array.max()))
+            if styles.needs_numbers(self.job.map):
+                self.numbers.add(array)
 
     def end(self, found: np.ndarray) -> None:
         """Writes the rows that are not yet written: all, where a map has to be known as a whole before."""
@@ -94,15 +97,11 @@ class Draft:
             self.result = result_of(self.job.map, self.terrain, self.heights, found, self.threshold)
             self._begin()
         self.put(found[self.written:], self.written)
-        self.end_style(found)
-
-    def end_style(self, found: Optional[np.ndarray] = None) -> None:
-        """Works the style of the map out, of what the program wrote for it where its numbers are drawn."""
-        self.style = styles.style(self.job.map, found, self.most, self.heights.decimals)
 
     def write(self, names: Callable[[str], str]) -> None:
         """Writes the map, its style and further files, each under another name."""
         assert self.file is not None
+        self.style = styles.style(self.job.map, self.numbers, self.most, self.heights.decimals)
         self.keeps_style = has_foreign_style(self.job.target)
         self.file.save(names(self.job.target))
         if self.style is not None and not self.keeps_style:

@@ -81,27 +81,40 @@ def line_of(name: str, cells: np.ndarray, found: np.ndarray, cell_area: Fraction
             f"{rest if name in COUNTED_MAPS else 'land beyond may drain through them'}")
 
 
-def catchment_lines(gauges: Sequence[Place], valid: np.ndarray, found: np.ndarray) -> Iterator[str]:
-    """How many cells have each gauge's number, and how many of these lie where the data ends."""
-    edges = edge_cells(valid)
-    for gauge in gauges:
-        # Where the data ends at the gauge itself, its water runs out and none runs in.
-        edges[gauge.row, gauge.col] = False
-    most = len(gauges) + 1
+class GaugeCounts:
+    """How many cells have each gauge's number, and how many of these lie where the data ends.
 
-    def count(rows: slice) -> np.ndarray:
-        numbers = np.maximum(found[rows], 0)
-        return np.stack([np.bincount(it.ravel(), minlength=most) for it in (numbers, numbers[edges[rows]])])
+    Args:
+        gauges: in their order.
+        valid: (rows, cols) bool, where there is data.
+    """
 
-    sizes, cut = sum(for_rows(count, found.shape))
-    sizes[0] = cut[0] = 0
-    first: Dict[Tuple[int, int], int] = {}
-    for number, gauge in enumerate(gauges, 1):
-        same = first.setdefault((gauge.row, gauge.col), number)
-        if same != number:
-            yield f"{number}, {gauge.name}: lies in the cell of {same}, and no cell has its number"
-            continue
-        rest = f", {cut[number]:,} of them where the data ends" if cut[number] else ""
-        yield f"{number}, {gauge.name}: {sizes[number]:,} cells drain to it first{rest}"
-    if cut.any():
-        yield "where the data ends, land beyond it may drain in, and the catchment is larger then"
+    def __init__(self, gauges: Sequence[Place], valid: np.ndarray) -> None:
+        self.gauges, self.edges = gauges, edge_cells(valid)
+        for gauge in gauges:
+            # Where the data ends at the gauge itself, its water runs out and none runs in.
+            self.edges[gauge.row, gauge.col] = False
+        self.counts = np.zeros((2, len(gauges) + 1), np.int64)
+
+    def put(self, found: np.ndarray, row: int) -> None:
+        """Counts cells of rows of the map, from a row on."""
+        def count(rows: slice) -> np.ndarray:
+            numbers = np.maximum(found[rows], 0)
+            cut = numbers[self.edges[row + rows.start:row + rows.stop]]
+            return np.stack([np.bincount(it.ravel(), minlength=self.counts.shape[1]) for it in (numbers, cut)])
+
+        self.counts += sum(for_rows(count, found.shape))
+
+    def lines(self) -> Iterator[str]:
+        """What is told of the gauges."""
+        sizes, cut = self.counts
+        first: Dict[Tuple[int, int], int] = {}
+        for number, gauge in enumerate(self.gauges, 1):
+            same = first.setdefault((gauge.row, gauge.col), number)
+            if same != number:
+                yield f"{number}, {gauge.name}: lies in the cell of {same}, and no cell has its number"
+                continue
+            rest = f", {cut[number]:,} of them where the data ends" if cut[number] else ""
+            yield f"{number}, {gauge.name}: {sizes[number]:,} cells drain to it first{rest}"
+        if cut[1:].any():
+            yield "where the data ends, land beyond it may drain in, and the catchment is larger then"

@@ -93,8 +93,8 @@ def make(request: Request, heights: Heights, program: Program, on_progress: Opti
     """Makes a map with the program, which reports its progress and is cancelled as in `Program.run`.
 
     Args:
-        on_rows: called on another thread with strips of the map, as the program writes them, and their first rows; not
-            where it gets a part of the heights.
+        on_rows: called on another thread with strips of the map, as the program writes them, and their first rows; where
+            it gets a part of the heights, once with the whole map.
         keeps: whether a map that goes to `on_rows` is kept; else what is returned has no rows.
 
     Returns:
@@ -116,7 +116,9 @@ def make(request: Request, heights: Heights, program: Program, on_progress: Opti
         found[part] = make(replace(request, places=places),
                            replace(heights, units=heights.units[part], valid=heights.valid[part]), program, on_progress,
                            is_cancelled, by_percent)
-        return found
+        if on_rows is not None:
+            on_rows(found, 0)
+        return found if keeps else found[:0]
     return make_together(request, heights, program, [Use(request.map, on_rows, keeps)], on_progress, is_cancelled,
                          by_percent)[0]
 

@@ -39,12 +39,36 @@ def needs_most(name: str) -> bool:
     return name in ("view", "accumulate", "depth")
 
 
-def style(name: str, found: Optional[np.ndarray], most: float, decimals: int = 0) -> Optional[str]:
+def needs_numbers(name: str) -> bool:
+    """Whether the style of a map takes the numbers that it has."""
+    return name in ("basins", "catchments")
+
+
+class Numbers:
+    """The numbers above 0 of a map, of which rows come one after the other."""
+
+    def __init__(self) -> None:
+        # The last one stands for all greater ones.
+        self._is_there = np.zeros(MOST_CLASSES + 2, bool)
+
+    def add(self, values: np.ndarray) -> None:
+        """Adds those of rows."""
+        def mark(rows: slice) -> None:
+            self._is_there[np.clip(values[rows], 0, MOST_CLASSES + 1)] = True
+
+        for_rows(mark, values.shape)
+
+    def all(self) -> Optional[List[int]]:
+        """The numbers; None: there are greater ones than a legend has."""
+        return None if self._is_there[-1] else [int(number) for number in np.flatnonzero(self._is_there) if number > 0]
+
+
+def style(name: str, numbers: Numbers, most: float, decimals: int = 0) -> Optional[str]:
     """A QGIS style (QML) for a map; None: QGIS's own is as good.
 
     Args:
         name: the map.
-        found: (rows, cols), what the program wrote for basins and catchments.
+        numbers: those of the map, where `needs_numbers`.
         most: the greatest value as it is written, where `needs_most`.
         decimals: those of heights.
     """
@@ -53,10 +77,9 @@ def style(name: str, found: Optional[np.ndarray], most: float, decimals: int = 0
         return _palette([(code, table[code], label) for code, label in DIRECTIONS])
     if name == "streams":
         return _palette([(1, (8, 81, 156, 255), "stream")])
-    if name in ("basins", "catchments"):
-        assert found is not None
-        numbers = _numbers(found)
-        return None if numbers is None else _palette([(it, _hue(it * GOLDEN_TURN), str(it)) for it in numbers])
+    if needs_numbers(name):
+        found = numbers.all()
+        return None if found is None else _palette([(it, _hue(it * GOLDEN_TURN), str(it)) for it in found])
     if name == "view":
         return _palette(_seen(int(most)))
     if name == "accumulate":
@@ -65,19 +88,6 @@ def style(name: str, found: Optional[np.ndarray], most: float, decimals: int = 0
         return _classes([(0.0, CLEAR, "0")] + [(most * share, _blue(share), f"{most * share:.{max(decimals, 1)}f}")
                                                for share in (0.1, 0.25, 0.5, 1.0)])
     return None
-
-
-def _numbers(values: np.ndarray) -> Optional[List[int]]:
-    """The numbers above 0; None: there are too many."""
-    is_there = np.zeros(int(values.max()) + 1, bool)
-    if is_there.size > MOST_CLASSES + 1:
-        return None
-
-    def mark(rows: slice) -> None:
-        is_there[np.maximum(values[rows], 0)] = True
-
-    for_rows(mark, values.shape)
-    return [int(number) for number in np.flatnonzero(is_there) if number > 0]
 
 
 def _hue(turn: float) -> Color:

@@ -59,6 +59,7 @@ class _Run:
     """What a run has: the maps as far as they are written, requests of the job with gauges or of the first, the land.
 
     Attributes:
+        counts: those of the gauges.
         below: the cells downstream of where the data ends, once they are known; told: lines that count them.
     """
 
@@ -68,6 +69,7 @@ class _Run:
     heights: Heights
     program: Program
     caller: Caller
+    counts: Optional[edges.GaugeCounts] = None
     below: Optional[np.ndarray] = None
     told: Set[str] = field(default_factory=set)
 
@@ -104,7 +106,11 @@ class _Run:
         """What becomes of a map of the program: its rows go to all drafts that come from it."""
         drafts = [draft for draft in self.drafts if SOURCES[draft.job.map] == name]
         keeps = any(draft.needs_all or self.has_more(draft.job) for draft in drafts)
-        return Use(name, _each(drafts), keeps or (takes_codes and name == "flow"))
+        takers: List[TakeRows] = [draft.put for draft in drafts]
+        if name == "catchments":
+            self.counts = edges.GaugeCounts(self.gauges, self.heights.valid)
+            takers.append(self.counts.put)
+        return Use(name, _each(takers), keeps or (takes_codes and name == "flow"))
 
     def end(self, draft: Draft, found: Dict[str, np.ndarray], gauges: Optional[Gauges]) -> None:
         """Ends a map, tells of it, and adds what else is written of it."""
@@ -113,20 +119,20 @@ class _Run:
         if job.least is not None:
             array = found["basins"] = without_small(array, job.least, say)
         draft.end(array)
-        self._tell_sizes(job, array)
+        self._tell_sizes(job)
         if job.snapped is not None and gauges is not None:
             draft.also[job.snapped] = partial(write_points, places=gauges[0], counts=gauges[1], frame=frame)
         if self.has_more(job):
             self._add_what_lies_below(draft, array, found)
 
-    def _tell_sizes(self, job: Job, found: np.ndarray) -> None:
+    def _tell_sizes(self, job: Job) -> None:
         """Says how large each gauge's catchment is, and what the threshold of streams is as an area."""
         if job.map == "streams":
             threshold = _cells(job)
             self.caller.say(f"streams: more than {threshold:,} other cells, "
                             f"{plain(threshold * self.terrain.frame.cell**2)} square units, drain through them")
-        if job.map == "catchments":
-            for line in edges.catchment_lines(self.gauges, self.heights.valid, found):
+        if self.counts is not None and job.map == "catchments":
+            for line in self.counts.lines():
                 self.caller.say(line)
 
     def _add_what_lies_below(self, draft: Draft, array: np.ndarray, found: Dict[str, np.ndarray]) -> None:
@@ -153,11 +159,11 @@ class _Run:
             draft.also[job.lines] = partial(write_lines, counts=array, codes=codes, threshold=_cells(job), frame=frame)
 
 
-def _each(drafts: Sequence[Draft]) -> TakeRows:
-    """Gives rows to each of some drafts."""
+def _each(takers: Sequence[TakeRows]) -> TakeRows:
+    """Gives rows to each of some takers."""
     def put(rows: np.ndarray, row: int) -> None:
-        for draft in drafts:
-            draft.put(rows, row)
+        for take in takers:
+            take(rows, row)
 
     return put
 

@@ -67,6 +67,10 @@ class Box:
         """Column, row, columns, rows."""
         return self.left, self.top, self.cols, self.rows
 
+    def part(self, row: int, rows: int) -> Box:
+        """So many of its rows, from one on."""
+        return Box(self.top + row, self.left, self.top + row + rows, self.right)
+
     def joined(self, other: Box) -> Box:
         """The least box that holds both."""
         return Box(min(self.top, other.top), min(self.left, other.left), max(self.bottom, other.bottom),
@@ -191,7 +195,6 @@ class _Run:
             draft.put(self.seen)
         if self.job.visibility is not None:
             draft.also[self.job.visibility] = partial(write_text, text=table_of(self.rows))
-        draft.end_style()
         save_drafts([draft], self.caller.say)
 
     def _begin_seen(self, heights: Heights) -> None:
@@ -205,15 +208,20 @@ class _Run:
                          self.cells)
         if self.job.curvature:
             near = lowered(near, (request.places[0].row, request.places[0].col), self.drop)
-        found = self.caller.make(request, near, self.program)
-        if self.job.visibility is not None:
-            count = int(np.count_nonzero(found > 0))
-            self.rows += rows_of(observer.number, self.names, self.places, observer.box.corner, near,
-                                 request.radius, count, self.raster.frame)
+        counts: List[int] = []
+
+        def add(found: np.ndarray, row: int) -> None:
+            counts.append(int(np.count_nonzero(found > 0)))
+            if not self.job.each:
+                self._add(observer.box.part(row, len(found)), found)
+
+        # What is summed up need not be kept.
+        found = self.caller.make(request, near, self.program, add, self.job.each)
         if self.job.each:
             self._put_band(observer, found, draft)
-        else:
-            self._add(observer.box, found)
+        if self.job.visibility is not None:
+            self.rows += rows_of(observer.number, self.names, self.places, observer.box.corner, near,
+                                 request.radius, sum(counts), self.raster.frame)
 
     def _put_band(self, observer: Observer, found: np.ndarray, draft: Draft) -> None:
         """Writes what an observer sees of its box; elsewhere it sees nothing."""
