@@ -10,7 +10,8 @@ from relief_gis.words import PYTHON, in_words
 
 PACKAGE = GIS / "relief_gis"
 # What the functions on arrays reach; the command's own module speaks to its users alone.
-OF_ARRAYS = ("arguments", "errors", "given", "grid_text", "heights", "labelled", "maps", "nodata", "program", "units")
+OF_ARRAYS = ("arguments", "arrays", "differences", "errors", "given", "grid_text", "heights", "labelled", "making",
+             "nodata", "program", "sightline", "small_basins", "units")
 OF_THE_COMMAND = ("command", "parser", "typed", "words")
 
 
