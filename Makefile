@@ -8,16 +8,15 @@ all: relief
 relief:
 	tools/build
 
-# Proves all crates and those of tests, as far as no earlier run on the machine has, and runs all tests.
-test:
+# Proves all crates and those of tests, and runs all tests. `gate` tries the must-fail edits too, in the same run of `rt
+# ci`, so that nothing is proved twice.
+test: BUILD = --tests
+gate: BUILD = --edits
+test gate:
 	tests/documents
-	tools/build --tests
+	tools/build $(BUILD)
 	tests/progress ./relief
 	$(MAKE) --no-print-directory --jobs=4 --output-sync=target test-program
-
-# `rt ci` keeps proofs, so it proves nothing anew: what is left are the must-fail edits.
-gate: test
-	rt ci
 
 # The longest first. tests/progress looks at the clock, and so runs alone.
 PROGRAM_TESTS = refusals gis certificate limits sights texts install recipes run catchments pictures tools
