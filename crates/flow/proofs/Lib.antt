@@ -28,7 +28,6 @@ pub mod TileTotals
 pub mod Counted
 pub mod Together
 -- numbers of outlets
-pub mod RunsCounted
 pub mod Numbered
 -- gauges
 pub mod GaugeFaults

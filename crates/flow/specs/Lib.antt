@@ -7,7 +7,6 @@ pub mod Finding
 pub mod TileLinks
 pub mod Whole
 pub mod RimGraph
-pub mod OutletRuns
 pub mod Numbering
 pub mod Inflows
 pub mod Counting

@@ -1,6 +1,6 @@
 -- Numbers of the cells where flow paths end, and the numbers that a tile's cells get from them.
 -- Private.
-use Rattle.std.specs.Prelude.{◌≡◌, ℕ, ◌+◌, ◌*◌, ◌<◌, ◌==◌, if◌then◌else◌, List, map, length, take, count_by, Option, None, Some, IfSome, slice_get, slice_index, slice_index_or}
+use Rattle.std.specs.Prelude.{◌≡◌, ℕ, ◌+◌, ◌-◌, ◌*◌, ◌^◌, ◌<◌, ◌≤◌, ◌==◌, if◌then◌else◌, List, map, length, take, count_by, Option, None, Some, IfSome, slice_get, slice_index, slice_index_or}
 use Rattle.std.specs.List.{range_with_len}
 use Rattle.terrain.specs.Neighbours.{index_of}
 use Rattle.terrain.specs.StoredCells.{stored_count, uncounted}
@@ -23,6 +23,13 @@ pub record EndNumbers : Type 0 where
 abbrev pub outlet_numbers : List (Option ℕ) → EndNumbers
 outlet_numbers codes =
     record { cells = length codes; number = λ i. 1 + count_by is_outlet_code (take i codes) }
+
+-- `before` has how many outlets precede each group of 16 codes, of fewer than 2^32 - 1 codes.
+pub record AreGroupsCounted (codes : List (Option ℕ)) (before : List ℕ) : Type 0 where
+  pub few : length codes < 2 ^ 32 - 1
+  pub enough : length codes ≤ length before * 16
+  pub each : (k : ℕ) → k < length before →
+      slice_index before k ≡ count_by is_outlet_code (take (k * 16) codes)
 
 -- The number of the cell that ends the flow path of p.
 abbrev pub end_number : Directed → EndNumbers → Place → ℕ

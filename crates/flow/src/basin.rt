@@ -12,7 +12,7 @@ use std::alloc::Global;
 use std::sync::Wait;
 use std::thread::Threads;
 use terrain::Count;
-use tile_jobs::{Gate, JobFault};
+use tile_jobs::{Gate, JobFault, check_workers};
 use tile_maps::Runner;
 use tiles::Tiling;
 
@@ -21,8 +21,7 @@ use tiles::Tiling;
 /// Outlets are numbered from 1 in row order. Values are in row order; NODATA has
 /// [`Count::none`].
 ///
-/// Each of three stages has as many jobs as tiles. The stages count outlets in runs of codes (parts
-/// of the list of all codes), find each tile's exits, and number each tile's cells.
+/// Each tile has two jobs: one finds its exits, and a later one numbers its cells.
 ///
 /// # Errors
 ///
@@ -47,6 +46,9 @@ pub fn basins<R: Threads + Wait + Sync, G: Gate + Sync>(
     ensures values { IfOk result (λ v. AreBasins (directed_of d.now) v.items) }
     ensures workers { RefusesWorkers workers result }
 {
+    check_workers(workers)?;
+    // The call brings the prover `IsCutting` of the tiling, which `cols` ensures.
+    prove!(tiling.cols() > 0);
     let runner = Runner {
         rt,
         alloc,
@@ -54,6 +56,6 @@ pub fn basins<R: Threads + Wait + Sync, G: Gate + Sync>(
         gate,
     };
     let codes = d.codes();
-    let numbers = OutletNumbers::of_codes(&runner, codes, tiling.tiles())?;
+    let numbers = OutletNumbers::of_codes(alloc, codes)?;
     number_cells(&runner, codes, tiling, numbers)
 }

@@ -22,7 +22,6 @@
 //! - `outlets`: the outlet of each exit
 //! - `links`: `RimLinks`, inflows and outlets together
 //! - `outlet_numbers`: numbers of outlets
-//! - `outlet_runs`: counts the outlets of runs, parts of the list of codes, by one job for each
 //! - `laws`: consequences of the definitions
 #![tactic(auto)]
 
@@ -39,7 +38,6 @@ pub mod laws;
 mod links;
 mod numbering;
 mod outlet_numbers;
-mod outlet_runs;
 mod outlets;
 mod rim;
 mod rim_graph;

@@ -1,63 +1,55 @@
 //! Numbers the outlets of a list of codes from 1 in row order.
 //!
-//! A run is the part of the list that one job counts. An outlet's number is 1 plus how many
-//! outlets earlier runs have, and how many precede it in its own run.
-ghost use Rattle.std.specs.Prelude.{◌≡◌, ℕ, ◌+◌, ◌-◌, ◌^◌, ◌<◌, ◌≤◌, length, take, count_by, IfOk};
-ghost use Rattle.std.specs.List.{sum_by};
-ghost use Rattle.tile_jobs.specs.Fault.{RefusesWorkers};
-ghost use Rattle.tiles.specs.Cutting.{most_tiles};
-ghost use Rattle.flow.specs.OutletRuns.{AreSumsBefore};
+//! They are counted before each group of 16 codes: a count for each code would take 4 bytes a cell.
+ghost use Rattle.std.specs.Prelude.{◌≡◌, ◌-◌, ◌*◌, ◌^◌, ◌<◌, ◌≤◌, length, take, count_by, IfOk, if◌then◌else◌};
+ghost use Rattle.flow.specs.Whole.{is_outlet_code};
 
 use crate::end_numbers::EndNumbering;
-use crate::outlet_runs::{CountRuns, RunCounts, Runs};
+use crate::tile::is_outlet;
 use drainage::Code;
 use std::alloc::{AllocError, Global};
 use std::marker::Model;
-use std::sync::Wait;
-use std::thread::Threads;
-use tile_jobs::{Gate, JobFault};
-use tile_maps::Runner;
 
-/// The numbers of the outlets in a list of codes, kept as counts run by run.
+/// The number of codes in a group.
+const GROUP: usize = 16;
+
+/// The numbers of the outlets in a list of codes, kept as counts of those before each group.
 #[derive(Drop)]
 pub struct OutletNumbers<'a> {
-    runs: Runs<'a>,
-    counts: Vec<RunCounts>,
-    // the number of outlets before each run
+    codes: &'a [Option<Code>],
+    // the number of outlets before each group
     before: Vec<u32>,
 }
 
 impl<'a> Model for OutletNumbers<'a> {
     ghost use Rattle.std.specs.Prelude.{ℕ, List, Option};
-    ghost use Rattle.flow.specs.OutletRuns.{AreRunsCounted};
+    ghost use Rattle.flow.specs.Numbering.{AreGroupsCounted};
 
     ghost Value = { List (Option ℕ) };
 
-    ghost view = { λ n. n.runs.codes };
+    ghost view = { λ n. n.codes.now };
 
-    ghost invariant = { λ n. AreRunsCounted n.runs n.counts.items n.before.items };
+    ghost invariant = { λ n. AreGroupsCounted n.codes.now n.before.items };
 }
 
 impl<'a> OutletNumbers<'a> {
-    /// Counts the outlets of a list of codes, with one job for each run.
-    pub(crate) fn of_codes<R: Threads + Wait + Sync, G: Gate + Sync>(
-        runner: &Runner<'_, R, G>,
+    /// Counts the outlets before each group of a list of codes.
+    pub(crate) fn of_codes(
+        alloc: Global,
         codes: &'a [Option<Code>],
-        runs: u32,
-    ) -> Result<OutletNumbers<'a>, JobFault>
-        requires few { length codes.now < 2 ^ 32 - 1 }
-        requires runs { (1 ≤ runs) × (runs ≤ most_tiles) }
-        ensures codes { IfOk result (λ n. n ≡ codes.now) }
-        ensures workers { RefusesWorkers runner.now.workers result }
+    ) -> Result<OutletNumbers<'a>, AllocError>
+        requires { length codes.now < 2 ^ 32 - 1 }
+        ensures { IfOk result (λ n. n ≡ codes.now) }
     {
-        let cut = Runs::cut(codes, runs);
-        let counts = runner.run(&CountRuns { runs: &cut }, runs)?;
-        let before = sums_before(runner.alloc, &counts)?;
-        Ok(OutletNumbers {
-            runs: cut,
-            counts,
-            before,
-        })
+        let groups = codes.len().div_ceil(GROUP);
+        let mut before = Vec::with_capacity(alloc, groups)?;
+        let mut count = 0;
+        for group in 0..groups {
+            before.push(count)?;
+            let from = group * GROUP;
+            count = count_on(codes, from, codes.len().min(from + GROUP), count);
+        }
+        Ok(OutletNumbers { codes, before })
     }
 }
 
@@ -68,23 +60,31 @@ impl<'a> EndNumbering for OutletNumbers<'a> {
 
     /// Returns 1 plus the number of outlets before `index`.
     fn number(&self, index: usize) -> u32 {
-        let run = index / self.runs.length();
-        let inside = index - run * self.runs.length();
-        let counted = self.counts[run].count_before(self.runs.codes(run as u32), inside);
-        1 + self.before[run] + counted
+        let group = index / GROUP;
+        1 + count_on(self.codes, group * GROUP, index, self.before[group])
     }
 }
 
-/// Returns the number of outlets before each run.
-fn sums_before(alloc: Global, runs: &[RunCounts]) -> Result<Vec<u32>, AllocError>
-    requires { sum_by (λ r. r.total) runs.now < 2 ^ 32 }
-    ensures { IfOk result (λ v. AreSumsBefore runs.now v.items) }
+/// Returns how many outlets precede index `to`, if `before` precede index `from`.
+#[inline(always)]
+fn count_on(codes: &[Option<Code>], from: usize, to: usize, before: u32) -> u32
+    requires few { length codes.now < 2 ^ 32 - 1 }
+    requires order { from ≤ to }
+    requires inside { to ≤ length codes.now }
+    requires before { before ≡ count_by is_outlet_code (take from codes.now) }
+    ensures value { result ≡ count_by is_outlet_code (take to codes.now) }
+    ensures few { result < 2 ^ 32 - 1 }
 {
-    let mut before = Vec::with_capacity(alloc, runs.len())?;
-    let mut sum = 0;
-    for run in runs {
-        before.push(sum)?;
-        sum += run.total;
+    let mut count = before;
+    for index in from..to {
+        count += one_if_outlet(codes[index]);
     }
-    Ok(before)
+    count
+}
+
+#[inline(always)]
+fn one_if_outlet(code: Option<Code>) -> u32
+    ensures { result ≡ if is_outlet_code code then 1 else 0 }
+{
+    u32::from(is_outlet(code))
 }

@@ -10,11 +10,11 @@ use Rattle.flow.proofs.Together.{directed_same, grid_flow}
 use Rattle.flow.proofs.Numbered.{outlet_number_few}
 use Rattle.flow.proofs.basin.basins.Goals as goal
 
-pub of_codes-requires-clause-few : goal.of_codes-requires-clause-few
-of_codes-requires-clause-few g c κs within =
+pub of_codes-requires : goal.of_codes-requires
+of_codes-requires g c =
     let t = c.args.tiling.now in
     let most : t.cols * t.rows ≤ 4096 * 4096 =
-    mul-le-mul c.tiles.ensures.lawful.few_cols c.tiles.ensures.lawful.few_rows in
+    mul-le-mul c.cols.ensures.lawful.few_cols c.cols.ensures.lawful.few_rows in
     let flow = grid_flow c.args.d.now t c.codes-codes.result.now c.codes-codes.ensures.draining
     c.requires c.codes-codes.ensures.value in
     omega (arith, most, flow.size)
@@ -26,7 +26,7 @@ number_cells-requires-clause-grid g c κs within =
 
 pub number_cells-requires-clause-size : goal.number_cells-requires-clause-size
 number_cells-requires-clause-size g c κs within =
-    ap length c.in_ok-numbers.ensures.codes
+    ap length c.in_ok-numbers.ensures
     ∙ (grid_flow c.args.d.now c.args.tiling.now c.codes-codes.result.now
     c.codes-codes.ensures.draining c.requires c.codes-codes.ensures.value).size
 
@@ -34,11 +34,11 @@ pub number_cells-requires-clause-few : goal.number_cells-requires-clause-few
 number_cells-requires-clause-few g c κs within i below =
     let t = c.args.tiling.now in
     let most : t.cols * t.rows ≤ 4096 * 4096 =
-    mul-le-mul c.tiles.ensures.lawful.few_cols c.tiles.ensures.lawful.few_rows in
+    mul-le-mul c.cols.ensures.lawful.few_cols c.cols.ensures.lawful.few_rows in
     let flow = grid_flow c.args.d.now t c.codes-codes.result.now c.codes-codes.ensures.draining
     c.requires c.codes-codes.ensures.value in
     outlet_number_few c.in_ok-numbers.numbers
-    (omega (arith, most, flow.size, ap length c.in_ok-numbers.ensures.codes)) i
+    (omega (arith, most, flow.size, ap length c.in_ok-numbers.ensures)) i
 
 pub returns-clause-values : goal.returns-clause-values
 returns-clause-values g c =
@@ -51,5 +51,5 @@ returns-clause-values g c =
     (λ v made. subst (λ (x : Directed). AreBasins x v.items)
     (directed_same c.args.d.now t codes c.requires c.codes-codes.ensures.value)
     (subst (λ (l : List (Option ℕ)). IsMapOf d (end_number d (outlet_numbers l)) v.items)
-    c.in_ok-numbers.ensures.codes made))
+    c.in_ok-numbers.ensures made))
     c.number_cells.ensures.values

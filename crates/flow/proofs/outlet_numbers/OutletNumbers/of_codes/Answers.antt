@@ -1,36 +1,27 @@
-use Rattle.std.proofs.Common.{◌≡◌, ◌*◌, length, List, ap, subst, arith}
-use Rattle.std.specs.List.{sum_by}
-use Rattle.flow.specs.OutletRuns.{AreSumsBefore}
-use Rattle.flow.specs.declared.outlet_runs.RunCounts.{RunCounts}
-use Rattle.flow.proofs.RunsCounted.{runs_given, total_few}
+use Rattle.std.proofs.Common.{◌≡◌, [], ◌∷◌, ◌+◌, ◌*◌, min, length, take, count_by, ap, ◌∙◌, arith}
+use Rattle.std.proofs.lemmas.List.{length-append}
+use Rattle.flow.specs.Whole.{is_outlet_code}
+use Rattle.flow.proofs.Ranges.{each_pushed}
 use Rattle.flow.proofs.outlet_numbers.OutletNumbers.of_codes.Goals as goal
 
-pub sums_before-requires : goal.sums_before-requires
-sums_before-requires g c =
-    let counts = c.in_ok-counts.counts in
-    let jobs : length counts.items ≡ c.args.runs =
-    omega (arith, counts.ok.0, c.in_ok-counts.ensures.len) in
-    let counted = runs_given c.cut-cut.result counts.items (λ k x below.
-    c.in_ok-counts.ensures.given k x (omega (arith, below, jobs))) in
-    let few : sum_by (λ (r : RunCounts). r.total) c.deref.result.now ≡ sum_by (λ (r : RunCounts).
-    r.total) counts.items = ap (sum_by (λ (r : RunCounts). r.total)) c.deref.ensures.value in
-    omega (arith, few, total_few c.cut-cut.result counts.items counted c.cut-cut.ensures.lawful)
-
-pub invariant_of-result : goal.invariant_of-result
-invariant_of-result g c =
-    let counts = c.in_ok-counts.counts in
-    let length_of = c.cut-cut.result.run_length in
-    let jobs : length counts.items ≡ c.args.runs =
-    omega (arith, counts.ok.0, c.in_ok-counts.ensures.len) in
+pub loop-group-preserved : goal.loop-group-preserved
+loop-group-preserved c =
+    let codes = c.args.codes.now in
+    let group = c.loop-group.group in
+    let pushed = c.in_ok-push.ensures.items in
+    let before = c.loop-group.invariant in
+    let start : min (group * 16) (length codes) ≡ group * 16 =
+    omega (arith, c.loop-group-test.true, c.div_ceil-groups.ensures) in
+    let end : c.min.result ≡ min ((group + 1) * 16) (length codes) = omega (arith, c.min.ensures) in
     record {
-      enough = omega (
+      size = omega (
         arith,
-        c.cut-cut.ensures.enough,
-        ap length c.cut-cut.ensures.codes,
-        ap (λ n. n * length_of) jobs,
+        ap length pushed,
+        length-append c.loop-group.before.items (c.loop-group.count ∷ []),
+        before.size,
       );
-      counted = runs_given c.cut-cut.result counts.items (λ k x below.
-          c.in_ok-counts.ensures.given k x (omega (arith, below, jobs)));
-      sums = subst (λ (l : List RunCounts).
-          AreSumsBefore l c.in_ok-before.before.items) c.deref.ensures.value c.in_ok-before.ensures;
+      each = each_pushed (λ k. count_by is_outlet_code (take (k * 16) codes))
+          group c.loop-group.before.items _ c.loop-group.count before.size before.each
+          (before.total ∙ ap (λ n. count_by is_outlet_code (take n codes)) start) pushed;
+      total = c.count_on-count.ensures.value ∙ ap (λ n. count_by is_outlet_code (take n codes)) end;
     }
