@@ -1,18 +1,19 @@
 -- The surroundings of a cell have, on each way, height and steps of the place on that way, if both
 -- are known. Ways are the eight directions, from 0 to 7 in code order.
-use Rattle.std.proofs.Common.{◌≡◌, ℕ, zero, suc, ◌+◌, ◌*◌, ◌<◌, ◌<ℤ◌, ◌-ℤ◌, ◌%◌, inl, inr, Bool, true, eqb, List, [], ◌∷◌, get_or, Option, None, Some, ℤ, pos, negsuc, sym, ap, refl, ◌∙◌, arith}
+use Rattle.std.proofs.Common.{◌≡◌, ℕ, zero, suc, ◌+◌, ◌*◌, ◌<◌, ◌<ℤ◌, ◌-ℤ◌, ◌%◌, inl, inr, Bool, true, eqb, List, [], ◌∷◌, get_or, Option, None, Some, is_some, ℤ, pos, negsuc, sym, ap, refl, ◌∙◌, arith}
 use Rattle.std.proofs.lemmas.Int.{ints}
-use Rattle.std.proofs.lemmas.Bool.{cases_Bool, and_parts, eqb-true, cond-true, cond-false, false≢true}
-use Rattle.std.proofs.lemmas.Option.{MatchOption-at_some}
+use Rattle.std.proofs.lemmas.Bool.{and_parts, eqb-true, false≢true}
+use Rattle.std.proofs.lemmas.Option.{MatchOption-at_some, none-some}
 use Rattle.std.specs.Int.{int_gap}
-use Rattle.std.specs.Option.{option_zip}
+use Rattle.std.specs.Option.{option_and_then, option_map, option_zip}
 use Rattle.std.proofs.lemmas.Bool.Decides.{Decides-int_eq}
 use Rattle.terrain.specs.Raster.{Terrain}
 use Rattle.terrain.specs.Neighbours.{height_at, entry_at, IsDataCell, height_of}
 use Rattle.terrain.specs.Ways.{place_on, entry_on}
 use Rattle.terrain.specs.declared.place.Place.{Place}
 use Rattle.drain.specs.Steps.{IsSteps, AreSteps}
-use Rattle.drain.specs.Steepness.{weight, positive_part, drop_to, leads_on}
+use Rattle.drain.specs.Steepness.{positive_part, leads_on}
+use Rattle.drain.specs.Surroundings.{drop_by}
 use Rattle.drain.specs.Fitting.{IsLaidAround}
 use Rattle.drain.specs.declared.around.Around.{Around}
 use Rattle.drain.proofs.Counted.{height_is}
@@ -56,17 +57,25 @@ pub steps_at : (t : Terrain) (steps : List (Option ℕ)) (q : Place) → AreStep
 steps_at t steps q are is =
     MatchOption-at_some _ _ (height_of t q) (height_is t q is) (are.each q (data_inside t q is))
 
-pub weight-drop : (way drop : ℕ) → 0 < weight way drop → 0 < drop
-weight-drop way zero h = absurd (elim (cases_Bool (eqb (way % 2) 0)) [
-  | inl e ↦ (let is : weight way 0 ≡ 2 * (0 * 0) = cond-true _ _ _ e in omega arith)
-  | inr e ↦ (let is : weight way 0 ≡ 0 * 0 = cond-false _ _ _ e in omega arith)
-])
-weight-drop way (suc n) h = omega arith
+pub some_drop : (o : Option ℤ) (level : ℤ) → 0 < drop_by level o → (h : ℤ) × (o ≡ Some h) × (h <ℤ level)
+some_drop None level some = absurd (omega arith)
+some_drop (Some h) level some = (h, refl, below-positive_part level h some)
 
-pub some_way : (o : Option (ℤ × ℕ)) (level : ℤ) → 0 < drop_to level o → (w : ℤ × ℕ) × (o ≡ Some w)
-    × (w.0 <ℤ level)
-some_way None level h = absurd (omega arith)
-some_way (Some w) level h = (w, refl, below-positive_part level w.0 h)
+-- the height of `option_zip` is the place's height, since each data cell has steps
+pub zip_heights : (t : Terrain) (steps : List (Option ℕ)) (o : Option Place) → AreSteps t steps →
+    option_map (λ (w : ℤ × ℕ). w.0)
+    (option_zip (option_and_then (λ q. entry_at t.cols t.rows t.cells q) o)
+    (option_and_then (λ q. entry_at t.cols t.rows steps q) o))
+    ≡ option_and_then (λ q. entry_at t.cols t.rows t.cells q) o
+zip_heights t steps None are = refl
+zip_heights t steps (Some q) are = zipped (height_at t q) (entry_at t.cols t.rows steps q)
+    (λ h is. let n = steps_at t steps q are (ap is_some is) in (n.0, n.1))
+  where
+    zipped : (o : Option ℤ) (n : Option ℕ) → ((h : ℤ) → o ≡ Some h → (m : ℕ) × (n ≡ Some m)) →
+        option_map (λ (w : ℤ × ℕ). w.0) (option_zip o n) ≡ o
+    zipped None n known = refl
+    zipped (Some h) None known = absurd (none-some (known h refl).0 (known h refl).1)
+    zipped (Some h) (Some m) known = refl
 
 pub some_onward : (a : Around) (o : Option (ℤ × ℕ)) → leads_on a o ≡ true →
     (w : ℤ × ℕ) × (o ≡ Some w) × (w.0 ≡ a.level) × (w.1 + 1 ≡ a.steps)

@@ -1,397 +1,195 @@
 -- The steepest way has the greatest drop on the even ways, along a row or column, or that on the
--- odd ways, the diagonals. The drop of greater weight decides. Ways are the directions, 0 to 7 in
--- code order.
-use Rattle.std.proofs.Common.{◌≡◌, ℕ, zero, suc, ◌+◌, ◌*◌, ◌<◌, ◌≤◌, ◌≢◌, ◌<ℤ◌, ◌≤ℤ◌, ◌-ℤ◌, ◌/◌, ◌%◌, ◌⊎◌, inl, inr, eqb, ltb, length, get_or, List, Option, None, Some, IfSome, unwrap_or, Bool, true, false, ◌&&◌, ℤ, nat_abs, SFits, pos, negsuc, refl, sym, ap, subst, ◌∙◌, arith}
-use Rattle.std.proofs.lemmas.Bool.{cases_Bool, cases_eq, cases_lt, false≢true, eq-eqb, ne_eqb, lt-ltb, le-ltb, cond-true, cond-false}
-use Rattle.std.specs.Int.{int_min}
-use Rattle.std.proofs.lemmas.Int.{ints, clamps, by_lt_z}
+-- odd ways, the diagonals. The drop of greater weight decides, of equal ones the first. Ways are the
+-- directions, 0 to 7 in code order.
+use Rattle.std.proofs.Common.{◌≡◌, ℕ, ◌+◌, ◌*◌, ◌<◌, ◌≤◌, ◌<ℤ◌, ◌≤ℤ◌, ◌-ℤ◌, ◌%◌, ◌⊎◌, inl, inr, eqb, ltb, Bool, length, get_or, List, Option, None, Some, fold, max, cond, true, false, ℤ, pos, negsuc, refl, sym, ap, subst, ◌∙◌, arith}
+use Rattle.std.proofs.lemmas.Bool.{cases_eq, cases_lt, eq-eqb, eqb-true, ne_eqb, lt-ltb, le-ltb, cond-true, cond-false, false≢true}
+use Rattle.std.proofs.lemmas.Int.{ints}
+use Rattle.std.proofs.lemmas.List.Folds.{list_any_at}
+use Rattle.std.proofs.lemmas.List.Quantifiers.{position-Some}
 use Rattle.std.proofs.lemmas.Nat.{mul-le, mul-lt}
-use Rattle.std.proofs.lemmas.Option.{none-some, same_Some}
+use Rattle.terrain.specs.Ways.{code_of}
 use Rattle.std.specs.Prelude.{option_map}
-use Rattle.std.specs.Bool.{then_some, MatchBool}
-use Rattle.std.specs.List.{position}
-use Rattle.terrain.specs.Raster.{IsHeight}
-use Rattle.terrain.proofs.Heights.{height_width}
-use Rattle.drain.specs.Surroundings.{HasHeights, drop_by, drop_on, height_on, IsGreatestFall, IsLowestBefore, IsSteepestWay}
-use Rattle.drain.specs.Steepness.{weight, weights, positive_part, drop_to}
+use Rattle.std.specs.Bool.{then_some}
+use Rattle.std.specs.List.{list_any, position}
+use Rattle.drain.specs.Surroundings.{HasHeights, drop_by, drop_on, weight_on, IsGreatestFall, HasNoWayDown, IsSteepestWay, IsFirstSteepest}
+use Rattle.drain.specs.Steepness.{weight, weights, drop_to, leads_on, direction_of}
+use Rattle.drain.specs.Fitting.{IsFitting}
 use Rattle.drain.specs.declared.around.Around.{Around}
-use Rattle.drain.proofs.Greatest.{IsFirstGreatest, fold-max_least, is_fold, is_position}
-use Rattle.drain.proofs.Weights.{length-weights, get_or-weights, square-above_zero}
+use Rattle.drain.proofs.Greatest.{first_passes, fold_attained, fold-max_least, le-fold_max, none_passes, position_is}
+use Rattle.drain.proofs.Weights.{length-weights, get_or-weights, drop_from_weight}
 
-drop_is : (a : Around) (level : ℤ) (heights : List (Option ℤ)) (way : ℕ) →
-    HasHeights a level heights → way < 8 →
-    drop_on level heights way ≡ drop_to a.level (get_or a.ways way None)
-drop_is a level heights way has below =
-    ap (λ (o : Option ℤ). drop_by level o) (has.each way below)
-    ∙ without_steps level (get_or a.ways way None)
-    ∙ ap (λ (z : ℤ). drop_to z (get_or a.ways way None)) (sym has.own_level)
-  where
-    without_steps : (level : ℤ) (w : Option (ℤ × ℕ)) →
-        drop_by level (option_map (λ (v : ℤ × ℕ). v.0) w) ≡ drop_to level w
-    without_steps level None = refl
-    without_steps level (Some w) = refl
+pub weight_even : (way drop : ℕ) → way % 2 ≡ 0 → weight way drop ≡ 2 * (drop * drop)
+weight_even way drop even = cond-true _ _ _ (eq-eqb _ _ even)
 
-part_of : (z : ℤ) → (pos (positive_part z) ≡ z) ⊎ ((positive_part z ≡ 0) × (z <ℤ pos 0))
-part_of (pos n) = inl refl
-part_of (negsuc n) = inr (refl, omega (arith, ints))
+pub weight_odd : (way drop : ℕ) → way % 2 ≡ 1 → weight way drop ≡ drop * drop
+weight_odd way drop odd = cond-false _ _ _ (ne_eqb (way % 2) 0 (λ e. omega arith))
 
-pub abs_part : (z : ℤ) → pos 0 ≤ℤ z → nat_abs z ≡ positive_part z
-abs_part (pos n) le = refl
-abs_part (negsuc n) le = absurd (omega (arith, ints))
-
-pub drop_fits : (z : ℤ) → pos 0 ≤ℤ z → z <ℤ pos 9223372036854775808 → SFits height_width z
-drop_fits (pos n) low high = record { sfits = omega (arith, ints) }
-drop_fits (negsuc n) low high = absurd (omega (arith, ints))
-
--- if h is not below `low`, the drop to h is no greater than that to `low`
-no_greater_drop : (level low h : ℤ) → low ≤ℤ h → drop_by level (Some h) ≤ drop_by level (Some low)
-no_greater_drop level low h le = elim (part_of (level -ℤ h)) [
-  | inl is ↦
-      elim (part_of (level -ℤ low)) [ inl e ↦ omega (arith, ints) | inr e ↦ omega (arith, ints) ]
-  | inr is ↦ omega arith
+pub weightless : (way drop : ℕ) → drop ≡ 0 → weight way drop ≡ 0
+weightless way drop none = ap (weight way) none ∙ elim (cases_eq (way % 2) 0) [
+  | inl e ↦ weight_even way 0 e
+  | inr ne ↦ weight_odd way 0 (omega arith)
 ]
 
--- of two heights not above `level`, the lower has the greater drop
-further_down : (level low h : ℤ) → h <ℤ low → low ≤ℤ level →
-    drop_by level (Some low) < drop_by level (Some h)
-further_down level low h lt le = elim (part_of (level -ℤ h)) [
-  | inl is ↦
-      elim (part_of (level -ℤ low)) [ inl e ↦ omega (arith, ints) | inr e ↦ omega (arith, ints) ]
-  | inr is ↦ absurd (omega (arith, ints))
+pub some_weight : (way drop : ℕ) → 0 < drop → 0 < weight way drop
+some_weight way drop some = elim (cases_lt 0 (weight way drop)) [
+  | inl above ↦ above
+  | inr none ↦ absurd (omega (arith, some, drop_from_weight way drop none))
 ]
 
-pub or_level : (o : Option ℤ) (level : ℤ) → IfSome o IsHeight → IsHeight level →
-    IsHeight (unwrap_or o level)
-or_level None level given height = height
-or_level (Some h) level given height = given
+-- on ways of one parity a greater drop has a greater weight
+weight_rises : (k way a b : ℕ) → k % 2 ≡ way % 2 →
+    (a ≤ b → weight k a ≤ weight way b) × (a < b → weight k a < weight way b)
+weight_rises k way a b same = elim (cases_eq (way % 2) 0) [
+  | inl e ↦ (
+    λ le. omega (arith, weight_even k a (same ∙ e), weight_even way b e, mul-le a a b b le le),
+    λ lt. omega (arith, weight_even k a (same ∙ e), weight_even way b e, mul-lt a a b b lt lt),
+  )
+  | inr ne ↦ (let odd : way % 2 ≡ 1 = omega arith in (
+    λ le. omega (arith, weight_odd k a (same ∙ odd), weight_odd way b odd, mul-le a a b b le le),
+    λ lt. omega (arith, weight_odd k a (same ∙ odd), weight_odd way b odd, mul-lt a a b b lt lt),
+  ))
+]
 
-pub lowest_next : (level : ℤ) (heights : List (Option ℤ)) (parity turn : ℕ) (lowest : ℤ) →
-    IsLowestBefore level heights parity turn lowest →
-    IsLowestBefore level heights parity (turn
-    + 1) (int_min lowest (height_on level heights parity turn))
-lowest_next level heights parity turn lowest before = record {
-  low = let low = before.low in omega (arith, ints, clamps);
-  each = λ other below. elim (cases_eq other turn) [
-    | inl e ↦ subst (λ (n : ℕ). int_min lowest (height_on level heights parity turn)
-        ≤ℤ height_on level heights parity n) (sym e) (omega (arith, ints, clamps))
-    | inr ne ↦
-        (let low = before.each other (omega (arith, below, ne)) in omega (arith, ints, clamps))
-  ];
-  one = by_lt_z lowest (height_on level heights parity turn)
-      (λ less. let same : int_min lowest (height_on level heights parity turn) ≡ lowest =
-      omega (arith, ints, clamps) in elim before.one [
-        | inl level_is ↦ inl (same ∙ level_is)
-        | inr at ↦ inr (at.0, omega (arith, at.1), at.2 ∙ sym same)
-      ])
-      (λ more. let same : int_min lowest (height_on level heights parity turn) ≡ height_on level
-      heights parity turn = omega (arith, ints, clamps) in inr (turn, omega arith, sym same));
-}
+-- The fall of one parity weighs no less than that of the other, and weighs more or comes first.
+module _ (level : ℤ) (heights : List (Option ℤ)) (x y way other : ℕ)
+    (own : IsGreatestFall level heights x 4 way) (beside : IsGreatestFall level heights y 4 other)
+    (apart : x + y ≡ 1) (before : (weight_on level heights other ≤ weight_on level heights way)
+    × ((way ≤ other) ⊎ (weight_on level heights other < weight_on level heights way))) where
+  bounded : (k : ℕ) → k < 8 → weight_on level heights k ≤ weight_on level heights way
+  bounded k below = elim (cases_eq (k % 2) x) [
+    | inl e ↦ (weight_rises k way _ _ (e ∙ sym own.among)).0 (own.bound k below e)
+    | inr ne ↦ (let e : k % 2 ≡ y = omega arith in
+        omega (arith, (weight_rises k other _ _ (e ∙ sym beside.among)).0 (beside.bound k below e), before.0))
+  ]
 
-turn_of : (parity other : ℕ) → parity < 2 → other % 2 ≡ parity → other ≡ 2 * (other / 2) + parity
-turn_of parity other two e = omega arith
-
-module _ (level : ℤ) (heights : List (Option ℤ)) (parity : ℕ) (lowest : ℤ) (two : parity < 2)
-    (is : IsLowestBefore level heights parity 4 lowest) where
-  not_further : (o : Option ℤ) → lowest ≤ℤ unwrap_or o level →
-      drop_by level o ≤ drop_by level (Some lowest)
-  not_further None low = omega arith
-  not_further (Some h) low = no_greater_drop level lowest h low
-
-  less_far : (o : Option ℤ) → lowest <ℤ level → lowest <ℤ unwrap_or o level →
-      drop_by level o < drop_by level (Some lowest)
-  less_far None under low = let some =
-      further_down level level lowest under (omega (arith, ints)) in omega (arith, some)
-  less_far (Some h) under low = by_lt_z h level
-      (λ below. further_down level h lowest low (omega (arith, ints)))
-      (λ above. let some = further_down level level lowest under (omega (arith, ints)) in
-      let none = no_greater_drop level level h above in omega (arith, some, none))
-
-  as_far : (o : Option ℤ) → lowest <ℤ level → unwrap_or o level ≡ lowest →
-      drop_by level o ≡ drop_by level (Some lowest)
-  as_far None under e = absurd (omega (arith, ints))
-  as_far (Some h) under e = ap (λ (z : ℤ). drop_by level (Some z)) e
-
-  under_from : 0 < drop_by level (Some lowest) → lowest <ℤ level
-  under_from some = by_lt_z lowest level (λ less. less) (λ more. let none =
-      no_greater_drop level level lowest more in let zero : drop_by level (Some level) ≡ 0 =
-      level_drop in absurd (omega (arith, some, none, zero)))
-    where
-      level_drop : drop_by level (Some level) ≡ 0
-      level_drop = elim (part_of (level -ℤ level)) [ inl e ↦ omega (arith, ints) | inr e ↦ e.0 ]
-
-  -- the parity's first lowest way has the greatest drop of its ways, or none of them leads down
-  pub first_is_furthest : (turns : ℕ) →
-      turns < 4 → ((turn : ℕ) → turn < turns → height_on level heights parity turn ≢ lowest) →
-      (turns < 3 → height_on level heights parity turns ≡ lowest) →
-      IsGreatestFall level heights parity 8 (drop_by level (Some lowest)) (2 * turns + parity)
-  first_is_furthest turns few past here = record {
-    bound = λ other below e.
-        subst (λ (n : ℕ). drop_on level heights n ≤ drop_by level (Some lowest))
-        (sym (turn_of parity other two e)) (not_further _ (is.each (other / 2) (omega arith)));
-    reached = λ some. (omega arith, omega arith, as_far _ (under_from some) (found some));
-    first = λ other some before e.
-        let turn = other / 2 in
-        let low = is.each turn (omega arith) in
-        let apart = past turn (omega arith) in
-        subst (λ (n : ℕ). drop_on level heights n < drop_by level (Some lowest))
-        (sym (turn_of parity other two e))
-        (less_far _ (under_from some) (above low apart));
-  }
-    where
-      above : {h : ℤ} → lowest ≤ℤ h → h ≢ lowest → lowest <ℤ h
-      above {h = h} low apart =
-          by_lt_z lowest h (λ less. less) (λ more. absurd (apart (omega (arith, ints))))
-
-      found : 0 < drop_by level (Some lowest) → height_on level heights parity turns ≡ lowest
-      found some = elim (cases_lt turns 3) [
-        | inl less ↦ here less
-        | inr last ↦ elim is.one [
-          | inl level_is ↦ (let under = under_from some in absurd (omega (arith, ints)))
-          | inr at ↦ elim (cases_lt at.0 turns) [
-            | inl before ↦ absurd (past at.0 before at.2)
-            | inr not_before ↦ (let e : at.0 ≡ turns = omega (arith, at.1, not_before, last, few) in
-                subst (λ (n : ℕ). height_on level heights parity n ≡ lowest) e at.2)
-          ]
-        ]
-      ]
-
--- The first `turn` ways of a parity were looked at. The heights on the first `turns` of them are
--- above `lowest`. If `is_past`, `turns` is `turn`. If not, `turns` is less, and the height on the
--- parity's way `2 * turns + parity` is not above `lowest`.
-pub record ArePast (level : ℤ) (heights : List (Option ℤ)) (parity : ℕ) (lowest : ℤ)
-    (turns turn : ℕ) (is_past : Bool) : Type 0 where
-  pub past : (other : ℕ) → other < turns → lowest <ℤ height_on level heights parity other
-  pub all : is_past ≡ true → turns ≡ turn
-  pub here : is_past ≡ false → (turns < turn) × (height_on level heights parity turns ≤ℤ lowest)
-
-pub past_next : (level : ℤ) (heights : List (Option ℤ)) (parity : ℕ) (lowest : ℤ) (turns turn next :
-    ℕ) (is_past above : Bool) → ArePast level heights parity lowest turns turn is_past →
-    MatchBool above (lowest <ℤ height_on level heights parity turn)
-    (height_on level heights parity turn ≤ℤ lowest) →
-    ((is_past && above ≡ true) × (next ≡ turns + 1)) ⊎ ((is_past && above ≡ false)
-    × (next ≡ turns)) → ArePast level heights parity lowest next (turn + 1) (is_past && above)
-past_next level heights parity lowest turns turn next true true so_far above (inl (both, more)) =
-    record {
-      past = λ other less. elim (cases_lt other turns) [
-        | inl before ↦ so_far.past other before
-        | inr last ↦ (let e : turn ≡ other = omega (arith, so_far.all refl, less, last, more) in
-            subst (λ (n : ℕ). lowest <ℤ height_on level heights parity n) e above)
+  pub steepest_is : (drop : ℕ) → drop ≡ drop_on level heights way →
+      IsFirstSteepest level heights (then_some (ltb 0 drop) way)
+  steepest_is drop is = elim (cases_lt 0 drop) [
+    | inl some ↦ subst (λ b. IsFirstSteepest level heights (then_some b way)) (sym (lt-ltb 0 drop some)) (record {
+      below = omega (arith, own.within);
+      down = omega (arith, some, is);
+      bound = bounded;
+      first = λ k less. elim (cases_eq (k % 2) x) [
+        | inl e ↦ (weight_rises k way _ _ (e ∙ sym own.among)).1 (own.first k less e)
+        | inr ne ↦ (let e : k % 2 ≡ y = omega (arith, ne, apart) in
+            let rises = weight_rises k other (drop_on level heights k) (drop_on level heights other)
+            (e ∙ sym beside.among) in elim before.1 [
+              | inl first ↦ omega (arith, rises.1 (beside.first k (omega (arith, less, first)) e), before.0)
+              | inr more ↦ omega (arith, rises.0 (beside.bound k (omega (arith, less, own.within)) e), more)
+            ])
       ];
-      all = λ _. omega (arith, more, so_far.all refl);
-      here = λ e. absurd (false≢true (sym e));
-    }
-past_next level heights parity lowest turns turn next true true so_far above (inr (neither, same)) =
-    absurd (false≢true (sym neither))
-past_next level heights parity lowest turns turn next true false so_far above (inl (both, more)) =
-    absurd (false≢true both)
-past_next level heights parity lowest turns turn next true false so_far above
-    (inr (neither, same)) = record {
-      past = λ other less. so_far.past other (omega (arith, less, same));
-      all = λ e. absurd (false≢true e);
-      here = λ _. let e : turn ≡ next = omega (arith, so_far.all refl, same) in
-          (omega (arith, e), subst (λ (n : ℕ). height_on level heights parity n ≤ℤ lowest) e above);
-    }
-past_next level heights parity lowest turns turn next false above so_far is (inl (both, more)) =
-    absurd (false≢true both)
-past_next level heights parity lowest turns turn next false above so_far is (inr (neither, same)) =
-    record {
-      past = λ other less. so_far.past other (omega (arith, less, same));
-      all = λ e. absurd (false≢true e);
-      here = λ _. let there = so_far.here refl in (
-        omega (arith, there.0, same),
-        subst (λ (n : ℕ). height_on level heights parity n ≤ℤ lowest) (sym same) there.1,
-      );
-    }
+    })
+    | inr none ↦ subst (λ b. IsFirstSteepest level heights (then_some b way)) (sym (le-ltb 0 drop none))
+        (record {
+          each = λ k below. drop_from_weight k (drop_on level heights k)
+              (omega (arith, bounded k below, weightless way (drop_on level heights way) (omega (arith, none, is))));
+        })
+  ]
 
-pub past_all : (level : ℤ) (heights : List (Option ℤ)) (parity : ℕ) (lowest : ℤ) (turns turn : ℕ)
-    (is_past : Bool) → parity < 2 → IsLowestBefore level heights parity 4 lowest → turn ≡ 3 →
-    ArePast level heights parity lowest turns turn is_past →
-    IsGreatestFall level heights parity 8 (drop_by level (Some lowest)) (2 * turns + parity)
-past_all level heights parity lowest turns turn is_past two is three so_far =
-    first_is_furthest level heights parity lowest two is turns few (λ other less e. let above =
-    so_far.past other less in omega (arith, ints)) at
-  where
-    few : turns < 4
-    few = elim (cases_Bool is_past) [
-      | inl past ↦ omega (arith, so_far.all past, three)
-      | inr found ↦
-          omega (arith, (so_far.here found).0, three)
-    ]
-
-    at : turns < 3 → height_on level heights parity turns ≡ lowest
-    at less = elim (cases_Bool is_past) [
-      | inl past ↦ absurd (omega (arith, so_far.all past, three, less))
-      | inr found ↦
-          (let low = (so_far.here found).1 in let high = is.each turns few in omega (arith, ints))
-    ]
-
-even_square : (n h : ℕ) → n ≡ 2 * h → n * n ≡ 4 * (h * h)
-even_square n h e = ap (λ k. k * k) e ∙ omega arith
-
-odd_square : (n h : ℕ) → n ≡ 2 * h + 1 → n * n ≡ 4 * (h * h) + 4 * h + 1
-odd_square n h e = ap (λ k. k * k) e ∙ omega arith
-
-zero_square : (n : ℕ) → n * n ≡ 0 → n ≡ 0
-zero_square n e = elim (cases_eq n 0) [
-  | inl none ↦ none
-  | inr some ↦
-      (let above = square-above_zero n (omega arith) in absurd (omega (arith, above)))
-]
-
-above_zero : (n : ℕ) {m : ℕ} → m < 2 * (n * n) → 0 < n
-above_zero n more = elim (cases_eq n 0) [
-  | inl none ↦
-      absurd (omega (arith, more, ap (λ k. k * k) none))
-  | inr some ↦ omega arith
-]
-
--- twice a square is a square only for 0
-pub no_root_of_two : (most a b : ℕ) → a + b ≤ most → 2 * (a * a) ≡ b * b → a ≡ 0
-no_root_of_two zero a b few e = omega arith
-no_root_of_two (suc n) a b few e =
-    let h = b / 2 in
-    elim (cases_eq (b % 2) 0) [
-      | inl even ↦
-          (let half : b ≡ 2 * h = omega arith in
-          let less : a * a ≡ 2 * (h * h) = omega (arith, even_square b h half) in
-          elim (cases_eq h 0) [
-            | inl none ↦ zero_square a (less ∙ ap (λ k. 2 * (k * k)) none)
-            | inr some ↦ absurd (some (no_root_of_two n h a (omega arith) (sym less)))
-          ])
-      | inr odd ↦
-          (let half : b ≡ 2 * h + 1 = omega arith in
-          absurd (omega (arith, odd_square b h half)))
-    ]
-
+-- The surroundings have these heights.
 module _ (a : Around) (level : ℤ) (heights : List (Option ℤ))
     (has : HasHeights a level heights) where
-  weight_even : (way : ℕ) → way < 8 → way % 2 ≡ 0 →
-      get_or (weights a) way 0 ≡ 2 * (drop_on level heights way * drop_on level heights way)
-  weight_even way below even =
-      get_or-weights a way (omega (arith, has.count)) ∙ ap (weight way)
-      (sym (drop_is a level heights way has below)) ∙ cond-true _ _ _ (eq-eqb _ _ even)
+  pub drop_is : (way : ℕ) → way < 8 →
+      drop_on level heights way ≡ drop_to a.level (get_or a.ways way None)
+  drop_is way below = ap (drop_by level) (has.each way below)
+      ∙ without_steps level (get_or a.ways way None)
+      ∙ ap (λ (z : ℤ). drop_to z (get_or a.ways way None)) (sym has.own_level)
+    where
+      without_steps : (level : ℤ) (w : Option (ℤ × ℕ)) →
+          drop_by level (option_map (λ (v : ℤ × ℕ). v.0) w) ≡ drop_to level w
+      without_steps level None = refl
+      without_steps level (Some w) = refl
 
-  weight_odd : (way : ℕ) → way < 8 → way % 2 ≡ 1 →
-      get_or (weights a) way 0 ≡ drop_on level heights way * drop_on level heights way
-  weight_odd way below odd =
-      get_or-weights a way (omega (arith, has.count))
-      ∙ ap (weight way) (sym (drop_is a level heights way has below))
-      ∙ cond-false _ _ _ (ne_eqb (way % 2) 0 (λ e. omega arith))
+  weight_is : (way : ℕ) → way < 8 → get_or (weights a) way 0 ≡ weight_on level heights way
+  weight_is way below = get_or-weights a way (omega (arith, has.count, below))
+      ∙ ap (weight way) (sym (drop_is way below))
 
-  no_more : (way drop : ℕ) → drop_on level heights way ≤ drop →
-      drop_on level heights way * drop_on level heights way ≤ drop * drop
-  no_more way drop le = mul-le _ _ drop drop le le
+  within : (way : ℕ) → way < 8 → way < length (weights a)
+  within way below = omega (arith, length-weights a, has.count, below)
 
-  less : (way drop : ℕ) → drop_on level heights way < drop →
-      drop_on level heights way * drop_on level heights way < drop * drop
-  less way drop lt = mul-lt _ _ drop drop lt lt
+  all_below : (most : ℕ) → ((way : ℕ) → way < 8 → weight_on level heights way ≤ most) →
+      fold max 0 (weights a) ≤ most
+  all_below most bound = fold-max_least (weights a) 0 most (omega arith)
+      (λ k less. let below : k < 8 = omega (arith, length-weights a, has.count, less) in
+      omega (arith, weight_is k below, bound k below))
 
-  whole : length (weights a) ≡ 8
-  whole = length-weights a ∙ has.count
+  -- if no way leads down, `direction_of` goes by the flat
+  pub direction_flat : HasNoWayDown level heights →
+      direction_of a ≡ cond a.edge 0 (code_of (position (leads_on a) a.ways))
+  direction_flat none = cond-false _ _ _ (le-ltb 0 (fold max 0 (weights a)) (all_below 0
+      (λ way below. omega (arith, weightless way (drop_on level heights way) (none.each way below)))))
 
-  module _ (o straight d across : ℕ) (even : IsGreatestFall level heights 0 8 o straight)
-      (odd : IsGreatestFall level heights 1 8 d across) where
-    bound_even : (way : ℕ) → way < 8 → way % 2 ≡ 0 → get_or (weights a) way 0 ≤ 2 * (o * o)
-    bound_even way below e =
-        omega (arith, weight_even way below e, no_more way o (even.bound way below e))
+  pub direction_onward : (way : ℕ) → HasNoWayDown level heights → a.edge ≡ false →
+      position (leads_on a) a.ways ≡ Some way → direction_of a ≡ code_of (Some way)
+  direction_onward way none inside first = direction_flat none ∙ cond-false _ _ _ inside ∙ ap code_of first
 
-    bound_odd : (way : ℕ) → way < 8 → way % 2 ≡ 1 → get_or (weights a) way 0 ≤ d * d
-    bound_odd way below e =
-        omega (arith, weight_odd way below e, no_more way d (odd.bound way below e))
-
-    bounded : (greatest : ℕ) → 2 * (o * o) ≤ greatest → d * d ≤ greatest → (way : ℕ) →
-        way < length (weights a) → get_or (weights a) way 0 ≤ greatest
-    bounded greatest more much way lt =
-        let below : way < 8 = omega (arith, whole) in
-        elim (cases_eq (way % 2) 0) [
-          | inl e ↦ omega (arith, bound_even way below e)
-          | inr ne ↦
-              omega (arith, bound_odd way below (omega arith))
-        ]
-
-    straight_first : d * d < 2 * (o * o) → 0 < o →
-        IsFirstGreatest (weights a) (length (weights a)) (2 * (o * o)) straight
-    straight_first more some =
-        let there = even.reached some in
-        record {
-          bound = bounded (2 * (o * o)) (omega arith) (omega arith);
-          within = λ _. omega (arith, whole, there.0);
-          at = λ _. weight_even straight there.0 there.1 ∙ ap (λ k. 2 * (k * k)) there.2;
-          before = λ way _ lt.
-              let below : way < 8 = omega (arith, there.0) in
-              elim (cases_eq (way % 2) 0) [
-                | inl e ↦
-                    omega (arith, weight_even way below e, less way o (even.first way some lt e))
-                | inr ne ↦ omega (arith, bound_odd way below (omega arith))
-              ];
-        }
-
-    across_first : 2 * (o * o) < d * d → 0 < d →
-        IsFirstGreatest (weights a) (length (weights a)) (d * d) across
-    across_first more some =
-        let there = odd.reached some in
-        record {
-          bound = bounded (d * d) (omega arith) (omega arith);
-          within = λ _. omega (arith, whole, there.0);
-          at = λ _. weight_odd across there.0 there.1 ∙ ap (λ k. k * k) there.2;
-          before = λ way _ lt.
-              let below : way < 8 = omega (arith, there.0) in
-              elim (cases_eq (way % 2) 0) [
-                | inl e ↦ omega (arith, bound_even way below e)
-                | inr ne ↦ (let e : way % 2 ≡ 1 = omega arith in
-                    omega (arith, weight_odd way below e, less way d (odd.first way some lt e)))
-              ];
-        }
-
-    found_one : (greatest way : ℕ) → 0 < greatest →
-        IsFirstGreatest (weights a) (length (weights a)) greatest way → IsSteepestWay a (Some way)
-    found_one greatest way some first =
-        let most = is_fold (weights a) greatest way first in
-        let at = is_position (weights a) greatest way first some in
-        record {
-          none = λ e. absurd (none-some way (sym e));
-          some = λ other e.
-              let same : way ≡ other = same_Some _ _ e in (
-                omega (arith, whole, first.within some),
-                omega (arith, most),
-                subst (λ n. position (λ w. eqb w n) (weights a) ≡ Some other) (sym most) (at
-                    ∙ ap Some same),
-              );
-        }
-
-    -- a diagonal drop above 0 that weighs at least as much as the straight one weighs more
-    across_heavier : 2 * (o * o) ≤ d * d → 0 < d → 2 * (o * o) < d * d
-    across_heavier much some =
-        elim (cases_eq (2 * (o * o)) (d * d)) [
-          | inl e ↦ absurd (omega (
-            arith,
-            square-above_zero d some,
-            ap (λ k. k * k) (no_root_of_two (o + d) o d (omega arith) e),
-          ))
-          | inr ne ↦ omega arith
-        ]
-
-    none_is : o ≡ 0 → d ≡ 0 → IsSteepestWay a None
-    none_is level flat =
-        let most = fold-max_least (weights a) 0 0 (omega arith)
-        (bounded 0 (omega (arith, ap (λ k. k * k) level)) (omega (arith, ap (λ k. k * k) flat))) in
-        record { none = λ _. omega (arith, most); some = λ other e. absurd (none-some other e) }
-
-    pub heavier_is : (drop way : ℕ) → ((d * d < 2 * (o * o)) × (drop ≡ o) × (way ≡ straight))
-        ⊎ ((2 * (o * o) ≤ d * d) × (drop ≡ d) × (way ≡ across)) →
-        IsSteepestWay a (then_some (ltb 0 drop) way)
-    heavier_is drop way (inl (more, drop_is, way_is)) = let some : 0 < o = above_zero o more in
-        subst (λ b. IsSteepestWay a (then_some b way)) (sym (lt-ltb 0 drop (omega arith)))
-        (found_one (2 * (o * o)) way (omega arith) (subst (λ n. IsFirstGreatest (weights a)
-        (length (weights a)) (2 * (o * o)) n) (sym way_is) (straight_first more some)))
-    heavier_is drop way (inr (much, drop_is, way_is)) = elim (cases_lt 0 drop) [
-      | inl some ↦
-          (let heavier = across_heavier much (omega arith) in
-          subst (λ b. IsSteepestWay a (then_some b way)) (sym (lt-ltb 0 drop some))
-          (found_one (d * d) way (omega (arith, heavier)) (subst (λ n. IsFirstGreatest (weights a)
-          (length (weights a)) (d * d) n) (sym way_is) (across_first heavier (omega arith)))))
-      | inr none ↦
-          subst (λ b. IsSteepestWay a (then_some b way)) (sym (le-ltb 0 drop none))
-          (none_is (zero_square o (omega (arith, much, mul-le d d 0 0 (omega arith) (omega arith))))
-          (omega arith))
+  -- if no way leads down, a cell with fitting surroundings (`IsFitting`) that is no end cell has a
+  -- neighbour of its height with one step fewer
+  pub drains_onward : IsFitting a → HasNoWayDown level heights →
+      a.edge ≡ false → list_any (leads_on a) a.ways ≡ true
+  drains_onward fits none inside = elim fits.drains [
+    | inl edge ↦ absurd (false≢true (sym inside ∙ edge))
+    | inr other ↦ elim other [
+      | inl down ↦ absurd (false≢true (sym (none_passes (λ w. ltb 0 (drop_to a.level w)) a.ways None
+          (λ k less. let below : k < 8 = omega (arith, less, has.count) in
+          le-ltb _ _ (omega (arith, drop_is k below, none.each k below)))) ∙ down))
+      | inr onward ↦ onward
     ]
+  ]
+
+  -- the first of the steepest ways has the code that `direction_of` gives
+  pub direction_down : (way : ℕ) → IsSteepestWay level heights way → direction_of a ≡ code_of (Some way)
+  direction_down way is =
+      let here = weight_is way is.below in
+      let most : fold max 0 (weights a) ≡ weight_on level heights way =
+      omega (arith, all_below (weight_on level heights way) is.bound, here, (le-fold_max (weights a) 0 way).1 (within way is.below)) in
+      cond-true _ _ _ (lt-ltb 0 (fold max 0 (weights a)) (omega (arith, most, some_weight way (drop_on level heights way) is.down)))
+      ∙ ap code_of (position_is (λ w. eqb w (fold max 0 (weights a))) (weights a) way 0 (within way is.below)
+      (λ k less. ne_eqb _ _ (λ e. absurd (omega (
+        arith,
+        e,
+        most,
+        is.first k less,
+        weight_is k (omega (arith, less, is.below)),
+      ))))
+      (eq-eqb _ _ (here ∙ sym most)))
+
+  pub flat_from : fold max 0 (weights a) ≤ 0 → HasNoWayDown level heights
+  flat_from none = record {
+    each = λ way below. drop_from_weight way (drop_on level heights way)
+        (omega (arith, none, (le-fold_max (weights a) 0 way).1 (within way below), weight_is way below));
+  }
+
+  -- if a weight is above 0, some way is the first of the steepest
+  pub some_steepest : 0 < fold max 0 (weights a) → (way : ℕ) × IsSteepestWay level heights way
+  some_steepest some = elim (fold_attained (weights a) 0) [
+    | inl none ↦ absurd (omega (arith, some, none))
+    | inr at ↦
+        (let test : ℕ → Bool = λ w. eqb w (fold max 0 (weights a)) in
+        let first = first_passes test (weights a) 0
+        (list_any_at test (weights a) at.0 0 at.1 (eq-eqb _ _ at.2)) in
+        let found = position-Some test (weights a) first.0 0 first.1 in
+        let below : first.0 < 8 = omega (arith, found.0, length-weights a, has.count) in
+        let own : weight_on level heights first.0 ≡ fold max 0 (weights a) =
+        sym (weight_is first.0 below) ∙ eqb-true _ _ found.1 in
+        let under = λ (k : ℕ) (less : k < 8). (let low = (le-fold_max (weights a) 0 k).1 (within k less) in
+        let same = weight_is k less in
+        let le : weight_on level heights k ≤ weight_on level heights first.0 = omega (arith, low, same, own) in le) in (
+          first.0,
+          record {
+            below = below;
+            down = elim (cases_eq (drop_on level heights first.0) 0) [
+              | inl none ↦ absurd (omega (arith, weightless first.0 _ none, own, some))
+              | inr ne ↦ omega (arith, ne)
+            ];
+            bound = under;
+            first = λ k less. elim (cases_lt (weight_on level heights k) (weight_on level heights first.0)) [
+              | inl lt ↦ lt
+              | inr ge ↦
+                  (let small : k < 8 = omega (arith, less, below) in
+                  absurd (false≢true (sym (found.2 k less) ∙ eq-eqb _ _
+                  (omega (arith, weight_is k small, under k small, ge, own)))))
+            ];
+          },
+        ))
+  ]

@@ -1,7 +1,4 @@
--- Each of the eight ways from a cell has the weight of its drop. If no weight is above 0, no way
--- leads down; a cell with fitting surroundings (`IsFitting`) that is no end cell then has a
--- neighbour of its height with one step fewer. Else the first way of the greatest weight gives the
--- direction.
+-- Each of the eight ways from a cell has the weight of its drop, which is 0 only for no drop.
 use Rattle.std.proofs.Common.{◌≡◌, ℕ, ◌+◌, ◌*◌, ◌<◌, ◌≤◌, ◌%◌, max, true, false, eqb, ltb, length, get_or, fold, Option, None, Some, ℤ, sym, ap, ◌∙◌, subst, arith, ◌⊎◌, inl, inr}
 use Rattle.std.proofs.Math.Nat.{mul-le-mul_right}
 use Rattle.std.proofs.lemmas.Bool.{false≢true, cases_Bool, cond-true, cond-false, le-ltb, lt-ltb, cases_eq}
@@ -49,38 +46,3 @@ drop_from_weight way drop h =
               (let is : weight way drop ≡ 2 * (drop * drop) = cond-true _ _ _ e in omega arith)
           | inr e ↦ (let is : weight way drop ≡ drop * drop = cond-false _ _ _ e in omega arith)
         ]
-
-pub no_way_down : (a : Around) → fold max 0 (weights a) ≤ 0 →
-    list_any (λ w. ltb 0 (drop_to a.level w)) a.ways ≡ false
-no_way_down a h =
-    none_passes (λ w. ltb 0 (drop_to a.level w)) a.ways None
-    (λ k lt.
-    let within : k < length (weights a) = omega (arith, length-weights a) in
-    let low : get_or (weights a) k 0 ≤ fold max 0 (weights a) =
-    (le-fold_max (weights a) 0 k).1 within in
-    let own : weight k (drop_to a.level (get_or a.ways k None)) ≤ 0 =
-    omega (arith, get_or-weights a k lt) in
-    let none : drop_to a.level (get_or a.ways k None) ≡ 0 = drop_from_weight k _ own in
-    le-ltb _ _ (omega arith))
-
--- if surroundings fit (`IsFitting`), no way leads down and the cell is no end cell, some neighbour
--- has its height and one step fewer
-pub drains_onward : (a : Around) → IsFitting a → fold max 0 (weights a) ≤ 0 → a.edge ≡ false →
-    list_any (leads_on a) a.ways ≡ true
-drains_onward a f low inside = go a low inside f.drains
-  where
-    go : (a : Around) → fold max 0 (weights a) ≤ 0 → a.edge ≡ false
-        → ((a.edge ≡ true) ⊎ (list_any (λ w. ltb 0 (drop_to a.level w)) a.ways ≡ true)
-        ⊎ (list_any (leads_on a) a.ways ≡ true))
-        → list_any (leads_on a) a.ways ≡ true
-    go a low inside (inl e) = absurd (false≢true (sym inside ∙ e))
-    go a low inside (inr (inl e)) = absurd (false≢true (sym (no_way_down a low) ∙ e))
-    go a low inside (inr (inr e)) = e
-
-pub direction_down : (a : Around) (greatest way : ℕ) → greatest ≡ fold max 0 (weights a) →
-    0 < greatest → position (λ w. eqb w greatest) (weights a) ≡ Some way →
-    direction_of a ≡ code_of (Some way)
-direction_down a greatest way is some first =
-    let above : 0 < fold max 0 (weights a) = omega (arith, is) in
-    cond-true _ _ _ (lt-ltb _ _ above)
-    ∙ ap code_of (subst (λ m. position (λ w. eqb w m) (weights a) ≡ Some way) is first)

@@ -2,7 +2,7 @@
 -- above that of a neighbour of equal height. A job has the heights and counts at the spots of a
 -- tile's window: the tile and one row or column on each side.
 -- Private.
-use Rattle.std.specs.Prelude.{◌≡◌, ℕ, ◌+◌, ◌*◌, ◌<◌, ◌≤◌, ℤ, List, Vec, Option, None, Some, length, map, position, slice_get, slice_index_or, unwrap_or}
+use Rattle.std.specs.Prelude.{◌≡◌, ℕ, ◌+◌, ◌*◌, ◌<◌, ◌≤◌, ℤ, List, Vec, Option, None, Some, length, map, slice_get, slice_index_or, unwrap_or}
 use Rattle.std.specs.declared.alloc.Global.{Global}
 use Rattle.terrain.specs.Raster.{Terrain, IsTerrain}
 use Rattle.terrain.specs.Ways.{code_of}
@@ -14,8 +14,7 @@ use Rattle.tile_maps.specs.Maps.{IsMadeTile, IsMadeUpTo}
 use Rattle.drainage.specs.StepCounts.{no_count}
 use Rattle.drain.specs.Counts.{AreSoundCounts, Counted, IsChange, IsCheckedCode}
 use Rattle.drain.specs.Search.{AreEntriesShown}
-use Rattle.drain.specs.Steepness.{leads_on}
-use Rattle.drain.specs.declared.around.Around.{Around}
+use Rattle.drain.specs.Surroundings.{IsFirstSteepest}
 use Rattle.drain.specs.declared.codes.Checked.{Checked}
 use Rattle.drain.specs.declared.codes.Checked.TheVariants as checked
 use Rattle.drain.specs.declared.codes.TileCodes.{TileCodes}
@@ -41,6 +40,10 @@ pub record AreCountedSpots (w : CountedSpots) : Type 0 where
 abbrev pub stored_on : CountedSpots → Place → ℕ
 stored_on w s = unwrap_or (slice_index_or w.steps (spot_index w.bounds s) None) no_count
 
+-- The height on a way. For each way, `at` has its index in the list `cells`.
+abbrev pub level_at : List (Option ℤ) → List ℕ → ℕ → Option ℤ
+level_at cells at way = slice_index_or cells (slice_index_or at way 0) None
+
 -- The count on a way, 2^24 if none is known. For each way, `at` has its index in the list `steps`.
 abbrev pub stored_at : List (Option ℕ) → List ℕ → ℕ → ℕ
 stored_at steps at way = unwrap_or (slice_index_or steps (slice_index_or at way 0) None) no_count
@@ -48,18 +51,35 @@ stored_at steps at way = unwrap_or (slice_index_or steps (slice_index_or at way 
 -- The count `own` is at most one above those on the ways at the height `level`.
 abbrev pub IsStillAround : List (Option ℤ) → List (Option ℕ) → List ℕ → Option ℤ → ℕ → Type 0
 IsStillAround cells steps at level own = (way : ℕ) → way < 8 →
-    slice_index_or cells (slice_index_or at way 0) None ≡ level → own ≤ stored_at steps at way + 1
+    level_at cells at way ≡ level → own ≤ stored_at steps at way + 1
 
 -- `count` is less than `own`, and one above the count on a way at the height `level`.
 abbrev pub IsTooHigh : List (Option ℤ) → List (Option ℕ) → List ℕ → Option ℤ → ℕ → ℕ → Type 0
 IsTooHigh cells steps at level own count = (count < own) × (way : ℕ) × (way < 8)
-    × (slice_index_or cells (slice_index_or at way 0) None ≡ level)
+    × (level_at cells at way ≡ level)
     × (count ≡ stored_at steps at way + 1)
 
--- If a way leads to a neighbour of equal height with one step fewer, this is the code of the first.
-abbrev pub IsOnwardCode : Around → ℕ → Type 0
-IsOnwardCode a code =
-    (way : ℕ) → position (leads_on a) a.ways ≡ Some way → code ≡ code_of (Some way)
+-- The way leads to the height `level`, where the count is one less than `own`.
+abbrev pub IsOnwardWay : List (Option ℤ) → List (Option ℕ) → List ℕ → Option ℤ → ℕ → ℕ → Type 0
+IsOnwardWay cells steps at level own way =
+    (level_at cells at way ≡ level) × (own ≡ stored_at steps at way + 1)
+
+-- `found` is the first of the ways from `start` on for which `Is` holds, or `None` if it holds of none.
+abbrev pub IsFirstWay : (ℕ → Type 0) → ℕ → Option ℕ → Type 0
+IsFirstWay Is start None = (way : ℕ) → start ≤ way → way < 8 → Is way → ⊥
+IsFirstWay Is start (Some first) =
+    (first < 8) × Is first × ((way : ℕ) → start ≤ way → way < 8 → Is way → first ≤ way)
+
+-- The code is that of the first way that leads on (`IsOnwardWay`), 0 if none does.
+abbrev pub IsOnwardCode : List (Option ℤ) → List (Option ℕ) → List ℕ → Option ℤ → ℕ → ℕ → Type 0
+IsOnwardCode cells steps at level own code = (found : Option ℕ) × (code ≡ code_of found)
+    × IsFirstWay (IsOnwardWay cells steps at level own) 0 found
+
+-- The code is that of the first of the steepest ways down, 0 if none leads down.
+abbrev pub IsDownCode : List (Option ℤ) → List ℕ → ℤ → ℕ → Type 0
+IsDownCode cells at level code = (heights : List (Option ℤ))
+    × ((way : ℕ) → way < 8 → slice_index_or heights way None ≡ level_at cells at way)
+    × (found : Option ℕ) × (code ≡ code_of found) × IsFirstSteepest level heights found
 
 -- The codes of the window's tile, each checked (`IsCheckedCode`), or a lower count of a cell.
 abbrev pub AreCodes : CountedSpots → TileCodes → Type 0

@@ -8,20 +8,16 @@
 //! A job also certifies the counts: it looks whether a cell's count is more than one above that of
 //! a neighbour of its height. If no job finds such a cell, the counts are the steps.
 ghost use Rattle.std.specs.Prelude.{◌≡◌, ℕ, ℤ, ◌+◌, ◌*◌, ◌<◌, ◌≤◌, Some, None, length, slice_index_or, OnOk, IfOk, IfErr, IfSome};
-ghost use Rattle.terrain.specs.Raster.{Terrain, IsHeight};
-ghost use Rattle.terrain.specs.Neighbours.{height_at};
+ghost use Rattle.terrain.specs.Raster.{IsHeight};
 ghost use Rattle.drainage.specs.StepCounts.{no_count};
 ghost use Rattle.terrain.specs.declared.place.Place.{Place};
 ghost use Rattle.tile_jobs.specs.Fault.{RefusesWorkers};
 ghost use Rattle.tile_maps.specs.Maps.{IsMadeUpTo};
 ghost use Rattle.tiles.specs.Cutting.{IsCutting, bounds_of, tile_count};
 ghost use Rattle.tiles.specs.Windows.{IsInner, Shows};
-ghost use Rattle.drain.specs.Codes.{AreAll, AreCodes, IsChecked, IsOnwardCode, IsStillAround, IsTooHigh, stored_on};
+ghost use Rattle.drain.specs.Codes.{AreAll, AreCodes, IsChecked, IsDownCode, IsOnwardCode, IsStillAround, IsTooHigh, stored_on};
 ghost use Rattle.drain.specs.Counts.{IsChange, IsCheckedCode};
-ghost use Rattle.drain.specs.Directions.{IsDirection};
 ghost use Rattle.drain.specs.Search.{level_on};
-ghost use Rattle.drain.specs.Surroundings.{AreSurroundings, HasCells};
-ghost use Rattle.drain.specs.declared.around.Around.{Around};
 
 use crate::changes::Change;
 use crate::input::RoundInput;
@@ -70,8 +66,7 @@ fn onward_code(
     requires cells { (way : ℕ) → way < 8 → slice_index_or at.now way 0 < length cells.now }
     requires steps { (way : ℕ) → way < 8 → slice_index_or at.now way 0 < length steps.now }
     requires own { own ≤ no_count }
-    ensures onward { IfOk result (λ code. (a : Around) (height : ℤ) → level ≡ Some height →
-        HasCells a cells.now steps.now at.now height own → IsOnwardCode a code) }
+    ensures onward { IfOk result (IsOnwardCode cells.now steps.now at.now level own) }
     ensures still { IfOk result (λ _. IsStillAround cells.now steps.now at.now level own) }
     ensures lower { IfErr result (IsTooHigh cells.now steps.now at.now level own) }
 {
@@ -108,8 +103,9 @@ fn data_code(
     requires level { IsHeight level }
     requires heights { (way : ℕ) → way < 8 →
         IfSome (slice_index_or cells.now (slice_index_or at.now way 0) None) IsHeight }
-    ensures code { IfOk result (λ code. (t : Terrain) (p : Place) (a : Around) →
-        AreSurroundings t p cells.now steps.now at.now level own a → IsDirection t p code) }
+    ensures down { IfOk result (λ code. own ≡ 0 → IsDownCode cells.now at.now level code) }
+    ensures onward { IfOk result (λ code. 0 < own →
+        IsOnwardCode cells.now steps.now at.now (Some level) own code) }
     ensures still { IfOk result (λ _.
         IsStillAround cells.now steps.now at.now (Some level) own) }
     ensures lower { IfErr result (IsTooHigh cells.now steps.now at.now (Some level) own) }
@@ -181,9 +177,7 @@ impl<'a> CountedWindow<'a> {
     #[inline(always)]
     fn level(&self, spot: Place) -> Option<Height>
         requires { IsInner self.now.bounds spot }
-        ensures spot { result ≡ level_on self.now.bounds self.now.levels spot }
-        ensures place { (p : Place) → Shows self.now.bounds spot p →
-            height_at self.now.terrain p ≡ result }
+        ensures { result ≡ level_on self.now.bounds self.now.levels spot }
     {
         self.levels.values[self.levels.index(spot)].height()
     }
@@ -208,10 +202,10 @@ impl<'a> CountedWindow<'a> {
             IsCheckedCode self.now.terrain self.now.all p code) }
         ensures lower { IfErr result (IsChange self.now.terrain self.now.all) }
     {
+        let at = self.levels.around(spot);
         let Some(level) = self.level(spot) else {
             return Ok(None);
         };
-        let at = self.levels.around(spot);
         let own = self.count(spot);
         match data_code(&self.levels.values, &self.steps.values, &at, level, own) {
             Ok(code) => Ok(Some(code)),

@@ -4,13 +4,13 @@
 //! row or column, odd ways, of parity 1, along a diagonal. `steepest` finds the steepest way down
 //! by exact squares of drops. `onward` finds a way over the flat. Of equally good ways, both return
 //! the first.
-ghost use Rattle.std.specs.Prelude.{◌≡◌, ◌*◌, ◌<◌, ◌≤◌, ◌<ℤ◌, ◌≤ℤ◌, ℕ, IfSome, IsTrue, Some, None, option_map, slice_index_or, position};
+ghost use Rattle.std.specs.Prelude.{◌≡◌, ◌*◌, ◌<◌, ◌≤◌, ◌⊎◌, ℕ, IfSome, IsTrue, Some, None, option_map, slice_index_or, position};
 ghost use Rattle.std.specs.Bool.{MatchBool};
 ghost use Rattle.std.specs.List.{list_any};
 ghost use Rattle.std.specs.Option.{option_zip};
 ghost use Rattle.terrain.specs.Raster.{IsHeight, greatest_drop};
 ghost use Rattle.drain.specs.Steepness.{direction_of, leads_on};
-ghost use Rattle.drain.specs.Surroundings.{HasHeights, IsGreatestFall, IsLowestBefore, IsSteepestWay, drop_by, height_on};
+ghost use Rattle.drain.specs.Surroundings.{HasHeights, IsFirstSteepest, IsGreatestFall, drop_by, drop_on};
 ghost use Rattle.drain.specs.Fitting.{IsFitting};
 ghost use Rattle.drain.specs.declared.around.Around.{Around};
 
@@ -18,88 +18,49 @@ use crate::around::Around;
 use drainage::Code;
 use terrain::Height;
 
-/// The greatest drop on the ways of one parity, 0 if none leads down.
-/// If `drop` is above 0, `way` is the first way of the parity with this drop.
+/// The greatest drop on the ways of one parity, 0 if none leads down, and the first way with it.
 #[derive(Clone, Copy)]
 struct Fall {
     drop: u64,
     way: usize,
 }
 
-/// Returns the height on way `2 * turn + parity`, `level` if there is none.
-/// Even ways lead along a row or column, odd ones along a diagonal.
+/// Returns the drop from height `level` to a height, 0 if it is not lower.
 #[inline(always)]
-fn height_on(level: Height, heights: &[Option<Height>; 8], parity: usize, turn: usize) -> Height
-    requires { (parity < 2) × (turn < 4) }
-    ensures { result ≡ height_on level heights.now parity turn }
-{
-    heights[2 * turn + parity].unwrap_or(level)
-}
-
-/// Returns the lowest height on the ways of one parity, `level` if none is lower.
-#[inline(always)]
-fn lowest(level: Height, heights: &[Option<Height>; 8], parity: usize) -> Height
-    requires parity { parity < 2 }
+fn drop_to(level: Height, height: Option<Height>) -> u64
     requires level { IsHeight level }
-    requires heights { (way : ℕ) → way < 8 → IfSome (slice_index_or heights.now way None) IsHeight }
-    ensures height { IsHeight result }
-    ensures lowest { IsLowestBefore level heights.now parity 4 result }
+    requires height { IfSome height IsHeight }
+    ensures value { result ≡ drop_by level height }
+    ensures bound { result ≤ greatest_drop }
 {
-    let mut lowest = level;
-    for turn in 0..4 {
-        lowest = lowest.min(height_on(level, heights, parity, turn));
+    match height {
+        Some(height) if height < level => (level - height) as u64,
+        _ => 0,
     }
-    lowest
 }
 
-/// Returns whether `height` is above `lowest`.
-/// The contract gives the prover both cases.
-#[inline(always)]
-fn is_above(height: Height, lowest: Height) -> bool
-    ensures { MatchBool result (lowest <ℤ height) (height ≤ℤ lowest) }
-{
-    height > lowest
-}
-
-/// Returns the first way of `parity` with height `lowest`, else the last of `parity`.
-/// A way without a height counts as one with height `level`.
-// Without an early return: a processor seldom predicts which way is lowest.
-#[inline(always)]
-fn first_lowest(
-    level: Height,
-    heights: &[Option<Height>; 8],
-    parity: usize,
-    lowest: Height,
-) -> usize
-    requires parity { parity < 2 }
-    requires lowest { IsLowestBefore level heights.now parity 4 lowest }
-    ensures { IsGreatestFall level heights.now parity 8 (drop_by level (Some lowest)) result }
-{
-    let mut turns = 0;
-    let mut is_past = true;
-    for turn in 0..3 {
-        is_past &= is_above(height_on(level, heights, parity, turn), lowest);
-        if is_past {
-            turns += 1;
-        }
-    }
-    2 * turns + parity
-}
-
-/// Returns the greatest drop on ways of one parity and, if above 0, its first way.
+/// Returns the greatest drop on the ways of one parity, and the first way with it.
 #[inline(always)]
 fn greatest_fall(level: Height, heights: &[Option<Height>; 8], parity: usize) -> Fall
     requires parity { parity < 2 }
     requires level { IsHeight level }
     requires heights { (way : ℕ) → way < 8 → IfSome (slice_index_or heights.now way None) IsHeight }
-    ensures value { IsGreatestFall level heights.now parity 8 result.drop result.way }
+    ensures way { IsGreatestFall level heights.now parity 4 result.way }
+    ensures drop { result.drop ≡ drop_on level heights.now result.way }
     ensures bound { result.drop ≤ greatest_drop }
 {
-    let lowest = lowest(level, heights, parity);
-    Fall {
-        drop: (level - lowest) as u64,
-        way: first_lowest(level, heights, parity, lowest),
+    let mut greatest = Fall {
+        drop: drop_to(level, heights[parity]),
+        way: parity,
+    };
+    for turn in 1..4 {
+        let way = 2 * turn + parity;
+        let drop = drop_to(level, heights[way]);
+        if drop > greatest.drop {
+            greatest = Fall { drop, way };
+        }
     }
+    greatest
 }
 
 #[inline(always)]
@@ -111,18 +72,29 @@ fn square(drop: u64) -> u128
     drop as u128 * drop as u128
 }
 
+/// Returns whether a fall of weight `weight` on `way` goes before one of the other parity.
+/// No square is twice another, so two weights are equal only if both are 0. To go by the lesser way
+/// then spares the proof of that.
+#[inline(always)]
+fn goes_before(weight: u128, way: usize, other_weight: u128, other_way: usize) -> bool
+    ensures { MatchBool result
+        ((other_weight ≤ weight) × ((way ≤ other_way) ⊎ (other_weight < weight)))
+        ((weight ≤ other_weight) × ((other_way ≤ way) ⊎ (weight < other_weight))) }
+{
+    weight > other_weight || (weight == other_weight && way < other_way)
+}
+
 /// Returns the first of the steepest ways down, `None` if no way leads down.
 #[inline(always)]
 pub(crate) fn steepest(level: Height, heights: &[Option<Height>; 8]) -> Option<usize>
     requires level { IsHeight level }
     requires heights { (way : ℕ) → way < 8 → IfSome (slice_index_or heights.now way None) IsHeight }
-    ensures first { (a : Around) → HasHeights a level heights.now → IsSteepestWay a result }
-    ensures below { IfSome result (λ way. way < 8) }
+    ensures { IsFirstSteepest level heights.now result }
 {
     let straight = greatest_fall(level, heights, 0);
     let across = greatest_fall(level, heights, 1);
-    // The root of two is irrational, so both sides are equal only if no way leads down.
-    let fall = if 2 * square(straight.drop) > square(across.drop) {
+    let (side, corner) = (2 * square(straight.drop), square(across.drop));
+    let fall = if goes_before(side, straight.way, corner, across.way) {
         straight
     } else {
         across
@@ -210,7 +182,7 @@ fn onward(around: &Around) -> usize
 /// let around = Around { level: 20, steps: 0, edge: true, ways };
 /// let code = direction(&around).number(); // 1, east: 2 * 5^2 is more than 7^2
 /// ```
-#[tactic(auto, using(crate::proofs::Weights::drains_onward))]
+#[tactic(auto, using(crate::proofs::Steepest::direction_down, crate::proofs::Steepest::direction_flat, crate::proofs::Steepest::drains_onward))]
 pub fn direction(around: &Around) -> Code
     requires { IsFitting around.now }
     ensures { result ≡ direction_of around.now }

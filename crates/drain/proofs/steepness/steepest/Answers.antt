@@ -1,43 +1,25 @@
-use Rattle.std.proofs.Common.{◌≡◌, ◌<◌, ℕ, Bool, true, false, IfSome, ap, inl, inr, refl, to_z-of_z, arith}
-use Rattle.std.specs.Bool.{then_some}
-use Rattle.std.proofs.lemmas.Bool.{ltb-true}
-use Rattle.drain.specs.declared.steepness.Fall.{Fall}
-use Rattle.drain.proofs.Steepest.{heavier_is}
+use Rattle.std.proofs.Common.{◌≡◌, ◌*◌, ap, refl, sym, to_z-of_z, ◌∙◌}
+use Rattle.drain.specs.Steepness.{weight}
+use Rattle.drain.specs.Surroundings.{weight_on}
+use Rattle.drain.proofs.Steepest.{steepest_is, weight_even, weight_odd}
 use Rattle.drain.proofs.steepness.steepest.Goals as goal
-use Rattle.drain.proofs.steepness.steepest.Goals.{then-square, else-square}
+use Rattle.drain.proofs.steepness.steepest.Goals.{then-goes_before, else-goes_before}
 
-pub returns-clause-first : goal.returns-clause-first
-returns-clause-first c = λ a has.
-    let straight = rw (to_z-of_z c.ranges.level) at c.greatest_fall-straight.ensures.value in
-    let across = rw (to_z-of_z c.ranges.level) at c.greatest_fall-across.ensures.value in
-    rw c.then_some.ensures
-    (heavier_is a c.args.level c.args.heights.now has _ _ _ _ straight across c.if-square.fall.drop
-    c.if-square.fall.way
-    (elim c.if-square.branch [
-      | then-square w ↦ inl (
-        omega (arith, c.square.ensures.value, c.square-2.ensures.value),
-        ap (λ f. f.drop) w.fall-is,
-        ap (λ f. f.way) w.fall-is,
-      )
-      | else-square w ↦ inr (
-        omega (arith, c.square.ensures.value, c.square-2.ensures.value),
-        ap (λ f. f.drop) w.fall-is,
-        ap (λ f. f.way) w.fall-is,
-      )
-    ]))
-
-below_by : (b : Bool) (way : ℕ) → (b ≡ true → way < 8) → IfSome (then_some b way) (λ w. w < 8)
-below_by true way below = below refl
-below_by false way below = tt
-
-pub returns-clause-below : goal.returns-clause-below
-returns-clause-below c = rw c.then_some.ensures (below_by _ c.if-square.fall.way (λ some.
-    let drop : 0 < c.if-square.fall.drop = ltb-true 0 c.if-square.fall.drop some in
-    elim c.if-square.branch [
-      | then-square w ↦ (let at = ap (λ (f : Fall). f.drop) w.fall-is in
-          let way = ap (λ (f : Fall). f.way) w.fall-is in
-          omega (arith, way, (c.greatest_fall-straight.ensures.value.reached (omega (arith, drop, at))).0))
-      | else-square w ↦ (let at = ap (λ (f : Fall). f.drop) w.fall-is in
-          let way = ap (λ (f : Fall). f.way) w.fall-is in
-          omega (arith, way, (c.greatest_fall-across.ensures.value.reached (omega (arith, drop, at))).0))
-    ]))
+pub returns : goal.returns
+returns c =
+    let level = c.args.level in
+    let heights = c.args.heights.now in
+    let straight = rw (to_z-of_z c.ranges.level) at c.greatest_fall-straight.ensures in
+    let across = rw (to_z-of_z c.ranges.level) at c.greatest_fall-across.ensures in
+    let s = c.greatest_fall-straight.result in
+    let a = c.greatest_fall-across.result in
+    let side : 2 * c.square.result ≡ weight_on level heights s.way = ap (λ n. 2 * n) c.square.ensures.value
+    ∙ sym (weight_even s.way s.drop straight.way.among) ∙ ap (weight s.way) straight.drop in
+    let corner : c.square-corner.result ≡ weight_on level heights a.way = c.square-corner.ensures.value
+    ∙ sym (weight_odd a.way a.drop across.way.among) ∙ ap (weight a.way) across.drop in
+    rw c.then_some.ensures (elim c.if-goes_before.branch [
+      | then-goes_before w ↦ rw w.fall-is (steepest_is level heights 0 1 s.way a.way straight.way across.way refl
+          (rw (side, corner) at w.if-goes_before.ensures) s.drop straight.drop)
+      | else-goes_before w ↦ rw w.fall-is (steepest_is level heights 1 0 a.way s.way across.way straight.way refl
+          (rw (side, corner) at w.if-goes_before.ensures) a.drop across.drop)
+    ])
