@@ -1,6 +1,6 @@
 -- The surroundings of a cell have, on each way, height and steps of the place on that way, if both
 -- are known. Ways are the eight directions, from 0 to 7 in code order.
-use Rattle.std.proofs.Common.{◌≡◌, ℕ, zero, suc, ◌+◌, ◌*◌, ◌<◌, ◌<ℤ◌, ◌-ℤ◌, ◌%◌, inl, inr, Bool, true, eqb, List, [], ◌∷◌, get_or, Option, None, Some, is_some, ℤ, pos, negsuc, sym, ap, refl, ◌∙◌, arith}
+use Rattle.std.proofs.Common.{◌≡◌, ℕ, ◌+◌, ◌<◌, ◌<ℤ◌, ◌-ℤ◌, Bool, true, List, [], ◌∷◌, get_or, Option, None, Some, is_some, ℤ, pos, negsuc, sym, ap, refl, ◌∙◌, arith}
 use Rattle.std.proofs.lemmas.Int.{ints}
 use Rattle.std.proofs.lemmas.Bool.{and_parts, eqb-true, false≢true}
 use Rattle.std.proofs.lemmas.Option.{MatchOption-at_some, none-some}

@@ -1,8 +1,8 @@
 -- The direction of a data cell by the eight heights around it and by the steps of its neighbours. So
 -- it is `direction_of` its surroundings: heights and steps of the cell and its neighbours, and
 -- whether it is an end cell.
-use Rattle.std.proofs.Common.{◌≡◌, ℕ, ◌+◌, ◌*◌, ◌<◌, ◌≤◌, ◌<ℤ◌, ◌-ℤ◌, inl, inr, true, eqb, ltb, cond, max, fold, List, [], ◌∷◌, length, get_or, map, Option, None, Some, is_some, MatchOption, ℤ, sym, ap, subst, refl, ◌∙◌, arith}
-use Rattle.std.proofs.lemmas.Bool.{cases_Bool, cases_lt, and_from, eq-eqb, lt-ltb, cond-true, cond-false, false≢true}
+use Rattle.std.proofs.Common.{◌≡◌, ℕ, ◌+◌, ◌*◌, ◌<◌, ◌≤◌, ◌<ℤ◌, ◌-ℤ◌, inl, inr, true, ltb, cond, max, fold, List, [], ◌∷◌, length, get_or, map, Option, None, Some, is_some, MatchOption, ℤ, sym, ap, subst, refl, ◌∙◌, arith}
+use Rattle.std.proofs.lemmas.Bool.{cases_Bool, cases_lt, and_from, eq-eqb, lt-ltb, cond-true, false≢true}
 use Rattle.std.proofs.lemmas.Bool.Decides.{Decides-int_eq}
 use Rattle.std.proofs.lemmas.List.{get_or_past, get_or-map}
 use Rattle.std.proofs.lemmas.List.Folds.{list_any_at}
@@ -13,7 +13,7 @@ use Rattle.std.specs.List.{list_any}
 use Rattle.std.specs.Option.{option_map, option_zip, option_and_then}
 use Rattle.terrain.proofs.Heights.{height_in, height_is}
 use Rattle.terrain.specs.Raster.{Terrain, IsTerrain, IsHeight}
-use Rattle.terrain.specs.Neighbours.{height_at, entry_at, IsDataCell, IsNeighbour, height_of}
+use Rattle.terrain.specs.Neighbours.{height_at, entry_at, IsDataCell, height_of}
 use Rattle.terrain.specs.Ways.{place_on, entry_on, code_of}
 use Rattle.terrain.specs.declared.place.Place.{Place}
 use Rattle.drain.specs.Steps.{IsLower, HasLower, DrainsAtOnce, IsFlatWalk, IsSteps, AreSteps}

@@ -9,7 +9,7 @@ use Rattle.std.proofs.lemmas.List.Quantifiers.{position-Some}
 use Rattle.std.proofs.lemmas.Option.{none-some, same_Some}
 use Rattle.std.specs.Option.{option_and_then}
 use Rattle.terrain.specs.Raster.{Terrain}
-use Rattle.terrain.specs.Neighbours.{IsDataCell, IsNeighbour, IsEnd}
+use Rattle.terrain.specs.Neighbours.{IsDataCell, IsNeighbour, IsEnd, Touches}
 use Rattle.terrain.specs.Ways.{way_codes, ways_from, way_of, code_of, place_on, place_toward}
 use Rattle.terrain.specs.declared.place.Place.{Place}
 use Rattle.terrain.proofs.EightWays.{eight, Touches-from_ways}
@@ -45,11 +45,14 @@ codes_rise way other le below =
     let powers : 2 ^ way ≤ 2 ^ other = pow-le-pow_right (omega arith) le in
     omega (arith, powers, code_power way (omega arith), code_power other below)
 
+pub on_way_beside : (p q : Place) (way : ℕ) → way < 8 → place_on way p ≡ Some q → Touches p q × (p ≢ q)
+on_way_beside p q way below e = Touches-from_ways p q
+    (way, below, get_or_default (ways_from p) way (Some q) None below ∙ e)
+
 pub next_on_way : (t : Terrain) (p q : Place) (way : ℕ) → way < 8 → place_on way p ≡ Some q →
     IsDataCell t p → IsDataCell t q → IsNeighbour t p q
 next_on_way t p q way below e from to =
-    let beside =
-    Touches-from_ways p q (way, below, get_or_default (ways_from p) way (Some q) None below ∙ e) in
+    let beside = on_way_beside p q way below e in
     record { different = beside.1; touches = beside.0; from_data = from; to_data = to }
 
 one_first : (IsSuch : Place → Type 0) (p : Place) (m n : ℕ) → PointsToFirst IsSuch p m →

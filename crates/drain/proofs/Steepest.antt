@@ -1,9 +1,8 @@
 -- The steepest way has the greatest drop on the even ways, along a row or column, or that on the
 -- odd ways, the diagonals. The drop of greater weight decides, of equal ones the first. Ways are the
 -- directions, 0 to 7 in code order.
-use Rattle.std.proofs.Common.{◌≡◌, ℕ, ◌+◌, ◌*◌, ◌<◌, ◌≤◌, ◌<ℤ◌, ◌≤ℤ◌, ◌-ℤ◌, ◌%◌, ◌⊎◌, inl, inr, eqb, ltb, Bool, length, get_or, List, Option, None, Some, fold, max, cond, true, false, ℤ, pos, negsuc, refl, sym, ap, subst, ◌∙◌, arith}
+use Rattle.std.proofs.Common.{◌≡◌, ℕ, ◌+◌, ◌*◌, ◌<◌, ◌≤◌, ◌%◌, ◌⊎◌, inl, inr, eqb, ltb, Bool, length, get_or, List, Option, None, Some, fold, max, cond, true, false, ℤ, refl, sym, ap, subst, ◌∙◌, arith}
 use Rattle.std.proofs.lemmas.Bool.{cases_eq, cases_lt, eq-eqb, eqb-true, ne_eqb, lt-ltb, le-ltb, cond-true, cond-false, false≢true}
-use Rattle.std.proofs.lemmas.Int.{ints}
 use Rattle.std.proofs.lemmas.List.Folds.{list_any_at}
 use Rattle.std.proofs.lemmas.List.Quantifiers.{position-Some}
 use Rattle.std.proofs.lemmas.Nat.{mul-le, mul-lt}

@@ -1,15 +1,12 @@
 -- Each of the eight ways from a cell has the weight of its drop, which is 0 only for no drop.
-use Rattle.std.proofs.Common.{◌≡◌, ℕ, ◌+◌, ◌*◌, ◌<◌, ◌≤◌, ◌%◌, max, true, false, eqb, ltb, length, get_or, fold, Option, None, Some, ℤ, sym, ap, ◌∙◌, subst, arith, ◌⊎◌, inl, inr}
+use Rattle.std.proofs.Common.{◌≡◌, ℕ, ◌+◌, ◌*◌, ◌<◌, ◌≤◌, ◌%◌, eqb, length, get_or, Option, None, ℤ, ap, ◌∙◌, arith, inl, inr}
 use Rattle.std.proofs.Math.Nat.{mul-le-mul_right}
-use Rattle.std.proofs.lemmas.Bool.{false≢true, cases_Bool, cond-true, cond-false, le-ltb, lt-ltb, cases_eq}
+use Rattle.std.proofs.lemmas.Bool.{cases_Bool, cond-true, cond-false, cases_eq}
 use Rattle.std.proofs.lemmas.List.{get_or-map, length-map}
 use Rattle.std.proofs.lemmas.List.FromFn.{length-enumerate_from, get_or-enumerate_from}
-use Rattle.std.specs.List.{enumerate_from, list_any, position}
-use Rattle.drain.specs.Steepness.{weight, weights, drop_to, leads_on, direction_of}
-use Rattle.terrain.specs.Ways.{code_of}
+use Rattle.std.specs.List.{enumerate_from}
+use Rattle.drain.specs.Steepness.{weight, weights, drop_to}
 use Rattle.drain.specs.declared.around.Around.{Around}
-use Rattle.drain.proofs.Greatest.{le-fold_max, none_passes}
-use Rattle.drain.specs.Fitting.{IsFitting}
 
 abbrev pub own_weight : Around → ℕ × Option (ℤ × ℕ) → ℕ
 own_weight a e = weight e.0 (drop_to a.level e.1)

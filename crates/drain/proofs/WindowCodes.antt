@@ -1,7 +1,7 @@
 -- The windows of a tile, with heights and with steps, have the surroundings of each of its cells,
 -- and these give the cell's direction. Surroundings are heights and steps of a cell and its
 -- neighbours. A window is the tile and a border of one cell around it.
-use Rattle.std.proofs.Common.{◌≡◌, ℕ, MatchOption, ◌^◌, ◌+◌, ◌<◌, ◌≤◌, inl, inr, List, length, Vec, Global, get_or, Option, None, Some, is_some, IfSome, unwrap_or, ℤ, sym, ap, subst, refl, ◌∙◌, arith}
+use Rattle.std.proofs.Common.{◌≡◌, ℕ, MatchOption, ◌^◌, ◌+◌, ◌<◌, inl, inr, List, length, Vec, Global, get_or, Option, None, Some, is_some, IfSome, unwrap_or, ℤ, sym, ap, subst, refl, ◌∙◌, arith}
 use Rattle.std.specs.Option.{option_and_then}
 use Rattle.std.proofs.lemmas.Bool.{cases_lt}
 use Rattle.terrain.proofs.Heights.{height_in}

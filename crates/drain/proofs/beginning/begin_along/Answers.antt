@@ -1,6 +1,6 @@
-use Rattle.std.proofs.Common.{◌≡◌, ◌+◌, ◌*◌, ℕ, List, sym, subst, arith}
+use Rattle.std.proofs.Common.{◌≡◌, ◌+◌, ◌*◌, arith}
 use Rattle.terrain.proofs.Places.{make_place}
-use Rattle.drain.specs.Beginning.{HasGapOrLower, IsBegunSpot, AreBegunUpTo}
+use Rattle.drain.specs.Beginning.{HasGapOrLower, IsBegunSpot}
 use Rattle.tiles.specs.Windows.{spot_index}
 use Rattle.tiles.proofs.Spots.{made_push}
 use Rattle.drain.proofs.beginning.begin_along.Goals as goal
@@ -15,6 +15,4 @@ loop-col-preserved c =
     c.loop-col.invariant c.initial_count.ensures in
     let next : spot_index b s + 1 ≡ c.args.row * (b.cols + 2) + (c.loop-col.col + 1) =
     omega arith in
-    subst (λ (n : ℕ). AreBegunUpTo (HasGapOrLower b w.values.items) b n c.push.new.self.items) next
-    (subst (λ (xs : List ℕ). AreBegunUpTo (HasGapOrLower b w.values.items) b (spot_index b s + 1)
-    xs) (sym c.in_ok-push.ensures.items) more)
+    rw (← next, c.in_ok-push.ensures.items) more

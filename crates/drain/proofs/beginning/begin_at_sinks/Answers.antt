@@ -1,10 +1,9 @@
-use Rattle.std.proofs.Common.{◌+◌, ◌∙◌, List, ℕ, is_some, slice_set, sym, ap, subst, arith}
+use Rattle.std.proofs.Common.{◌∙◌, is_some, sym, ap, subst, arith}
 use Rattle.std.proofs.lemmas.Bool.{false≢true}
 use Rattle.terrain.proofs.Places.{same_place}
 use Rattle.terrain.specs.declared.place.Place.{Place}
 use Rattle.tiles.specs.Windows.{IsInner}
-use Rattle.drain.specs.Beginning.{AreBegun}
-use Rattle.drain.proofs.Begun.{DrainsBefore, before_all, before_any, sink_passed, sink_put}
+use Rattle.drain.proofs.Begun.{before_all, before_any, sink_passed, sink_put}
 use Rattle.drain.proofs.Spreading.{spot_from_inner}
 use Rattle.drain.proofs.beginning.begin_at_sinks.Goals.{then-is_inner+then-is_some, else-is_inner, else-is_inner-via-then-is_inner+else-is_some, else-is_inner-via-else-is_inner}
 use Rattle.drain.proofs.beginning.begin_at_sinks.Goals as goal
@@ -30,15 +29,11 @@ loop-sink-preserved c =
     let passed = sink_passed t sinks i b c.loop-sink.counts c.loop-sink-test.true
     c.loop-sink.invariant in
     elim c.if-is_inner.branch [
-      | then-is_inner+then-is_some w ↦ subst (λ (xs : List ℕ). AreBegun t b (DrainsBefore t sinks (i + 1)) xs)
-          (sym (w.counts-is ∙ ap (λ (n : ℕ). slice_set c.loop-sink.counts n 0)
-          w.index.ensures.value))
-          (sink_put t sinks i b c.loop-sink.counts c.loop-sink-test.true c.loop-sink.invariant
+      | then-is_inner+then-is_some w ↦ rw (w.counts-is, w.index.ensures.value) (sink_put t sinks i b c.loop-sink.counts c.loop-sink-test.true c.loop-sink.invariant
           c.sinks-sink-items.ensures.value c.in-Some.spot (c.is_inner.ensures.0 w.if-is_inner.true) at.1
           (sym (ap is_some w.at.ensures) ∙ sym w.is_some.ensures ∙ w.if-is_some.true))
       | else-is_inner w ↦
-          subst (λ (xs : List ℕ). AreBegun t b (DrainsBefore t sinks (i + 1)) xs) (sym w.counts-is)
-          (passed (λ s inner shows here. elim w.else-is_inner.branch [
+          rw w.counts-is (passed (λ s inner shows here. elim w.else-is_inner.branch [
             | else-is_inner-via-then-is_inner+else-is_some v ↦
                 false≢true (sym v.if-is_some.false ∙ v.is_some.ensures ∙ ap is_some v.at.ensures
                 ∙ here)

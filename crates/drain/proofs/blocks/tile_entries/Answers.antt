@@ -1,4 +1,3 @@
-use Rattle.std.proofs.Common.{All, List, sym, subst}
 use Rattle.std.proofs.lemmas.List.Elements.{All-get_or, All-push}
 use Rattle.drain.specs.Counts.{IsChange}
 use Rattle.drain.specs.declared.changes.TileEntry.{TileEntry}
@@ -7,8 +6,6 @@ use Rattle.drain.proofs.blocks.tile_entries.Goals as goal
 pub loop-change-preserved : goal.loop-change-preserved
 loop-change-preserved c =
     let input = c.args.input.now in
-    subst (λ (es : List TileEntry). All (λ (e : TileEntry). IsChange input.terrain input.steps e.change) es)
-    (sym c.in_ok-push.ensures.items)
-    (All-push (λ (e : TileEntry). IsChange input.terrain input.steps e.change) _ _ c.loop-change.invariant
+    rw c.in_ok-push.ensures.items (All-push (λ (e : TileEntry). IsChange input.terrain input.steps e.change) _ _ c.loop-change.invariant
     (All-get_or (IsChange input.terrain input.steps) c.args.changes.now c.loop-change.change-index _
     c.loop-change-test.true c.requires))

@@ -1,7 +1,5 @@
-use Rattle.std.proofs.Common.{List, Option, Vec, Global, sym, subst}
+use Rattle.std.proofs.Common.{sym, subst}
 use Rattle.terrain.specs.Raster.{Raster}
-use Rattle.tiles.specs.Cutting.{AreTileLists}
-use Rattle.drain.specs.Directions.{AreDirections}
 use Rattle.drain.specs.Steps.{AreSteps}
 use Rattle.drainage.specs.Drained.{Drained, IsDraining, AllFlowEnds, directed_of}
 use Rattle.drain.proofs.TileLists.{coded_whole}
@@ -12,8 +10,7 @@ use Rattle.drain.proofs.draining.directions.Goals as goal
 pub put_back-requires : goal.put_back-requires
 put_back-requires g c =
     let coded = c.in_ok-steps.ensures.counted.1 in
-    subst (λ (ls : List (Vec (Option _) Global)). AreTileLists c.args.tiling.now ls) (sym c.deref.ensures.value)
-    (record { count = coded.size; each = λ tile list at. (coded.each tile list at).size })
+    rw c.deref.ensures.value (record { count = coded.size; each = λ tile list at. (coded.each tile list at).size })
 
 pub new-requires : goal.new-requires
 new-requires g c =
@@ -24,8 +21,7 @@ new-requires g c =
     let codes = c.in-Ok.codes.items in
     let all = coded_whole t c.args.tiling.now made.field-0.codes codes c.requires made.ensures.lawful.1
     made.ensures.counted.1 (rw c.deref.ensures.value at c.in-Ok.ensures) in
-    subst (λ (x : Raster). IsDraining (record { terrain = x.terrain; steps = steps; codes = codes }))
-    (sym c.grid.ensures.value) (are_draining t steps codes stepped all)
+    rw c.grid.ensures.value (are_draining t steps codes stepped all)
 
 pub returns-in-Ok-clause-codes : goal.returns-in-Ok-clause-codes
 returns-in-Ok-clause-codes g c =
@@ -33,7 +29,7 @@ returns-in-Ok-clause-codes g c =
     let made = c.in_ok-steps in
     let all = coded_whole t c.args.tiling.now made.field-0.codes c.in-Ok.codes.items c.requires
     made.ensures.lawful.1 made.ensures.counted.1 (rw c.deref.ensures.value at c.in-Ok.ensures) in
-    subst (λ (x : Drained). AreDirections t x.codes) (sym c.new.ensures) all
+    rw c.new.ensures all
 
 pub returns-in-Ok-clause-ends : goal.returns-in-Ok-clause-ends
 returns-in-Ok-clause-ends g c =

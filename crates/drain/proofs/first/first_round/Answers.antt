@@ -1,5 +1,5 @@
-use Rattle.std.proofs.Common.{◌≡◌, ℕ, ◌<◌, ◌∙◌, List, Option, Vec, Global, length, sym, subst, arith}
-use Rattle.tiles.specs.Cutting.{AreTileLists, tile_count}
+use Rattle.std.proofs.Common.{◌≡◌, ℕ, ◌<◌, ◌∙◌, length, sym, subst, arith}
+use Rattle.tiles.specs.Cutting.{tile_count}
 use Rattle.drain.proofs.Sound.{first_counts, first_lists}
 use Rattle.drain.proofs.first.first_round.Goals as goal
 
@@ -9,8 +9,7 @@ put_back-requires g c =
     let lists = c.in_ok-lists.lists in
     let count : length lists.items ≡ tile_count v =
     omega (arith, lists.ok.0, c.in_ok-lists.ensures.len) ∙ c.tiles.ensures.value in
-    subst (λ (xs : List (Vec (Option ℕ) Global)). AreTileLists v xs) (sym c.deref.ensures.value)
-    (first_lists c.args.grid.now.terrain v lists.items c.requires count (λ j d below.
+    rw c.deref.ensures.value (first_lists c.args.grid.now.terrain v lists.items c.requires count (λ j d below.
     c.in_ok-lists.ensures.given j d (subst (λ (n : ℕ). j < n) (sym c.tiles.ensures.value) below)))
 
 pub returns-in-Ok-clause-counts : goal.returns-in-Ok-clause-counts

@@ -1,8 +1,7 @@
-use Rattle.std.proofs.Common.{◌∙◌, sym, ap, subst, arith}
+use Rattle.std.proofs.Common.{◌∙◌, arith}
 use Rattle.std.proofs.lemmas.List.Elements.{All-get_or}
-use Rattle.drain.specs.Counts.{AreChanges, IsChange}
+use Rattle.drain.specs.Counts.{IsChange}
 use Rattle.drain.specs.declared.changes.TileEntry.{TileEntry}
-use Rattle.drain.specs.declared.lowering.Lowered.{Lowered}
 use Rattle.drain.proofs.Sound.{recorded}
 use Rattle.drain.proofs.lowering.search.Goals as goal
 use Rattle.drain.proofs.lowering.search.Goals.{then-contains+in_ok-record, else-contains}
@@ -15,17 +14,14 @@ loop-next-preserved-then-is_due c =
     (omega (arith, c.if-next-run-2.true, c.requires.run)) c.requires.entries in
     elim c.if-contains.branch [
       | then-contains+in_ok-record w ↦ record {
-        bounds = ap (λ (l : Lowered). l.bounds) w.lowered-is ∙ w.record.ensures.bounds
-            ∙ c.loop-next.invariant.bounds;
-        changes = subst (λ (l : Lowered). AreChanges input.terrain input.steps l.changes.items)
-            (sym w.lowered-is) (recorded input.terrain input.steps _ _ _
+        bounds = rw w.lowered-is (w.record.ensures.bounds ∙ c.loop-next.invariant.bounds);
+        changes = rw w.lowered-is (recorded input.terrain input.steps _ _ _
             c.loop-next.invariant.changes entry w.record.ensures.changes);
         next = omega (arith, c.if-next-run-2.true);
       }
       | else-contains w ↦ record {
-        bounds = ap (λ (l : Lowered). l.bounds) w.lowered-is ∙ c.loop-next.invariant.bounds;
-        changes = subst (λ (l : Lowered). AreChanges input.terrain input.steps l.changes.items)
-            (sym w.lowered-is) c.loop-next.invariant.changes;
+        bounds = rw w.lowered-is c.loop-next.invariant.bounds;
+        changes = rw w.lowered-is c.loop-next.invariant.changes;
         next = omega (arith, c.if-next-run-2.true);
       }
     ]

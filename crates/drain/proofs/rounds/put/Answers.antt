@@ -1,8 +1,8 @@
-use Rattle.std.proofs.Common.{◌≡◌, ◌<◌, ◌^◌, ℕ, List, Option, None, Some, length, slice_set, unwrap_or, sym, ap, subst, ◌∙◌, arith}
+use Rattle.std.proofs.Common.{◌≡◌, ◌<◌, ◌^◌, ℕ, List, Option, None, Some, length, slice_set, unwrap_or, ap, ◌∙◌, arith}
 use Rattle.std.proofs.lemmas.List.{get_or_default}
 use Rattle.terrain.proofs.Places.{index_below}
 use Rattle.terrain.specs.Neighbours.{index_of}
-use Rattle.drain.specs.Counts.{AreSoundCounts, count_of, count_sum}
+use Rattle.drain.specs.Counts.{count_of, count_sum}
 use Rattle.drain.proofs.Sound.{set_counts, set_less}
 use Rattle.drain.proofs.rounds.put.Goals as goal
 use Rattle.drain.proofs.rounds.put.Goals.{After-of}
@@ -32,22 +32,19 @@ module _ (c : After-of) where
       let read = ap (λ (o : Option ℕ). unwrap_or o (2 ^ 24))
       (get_or_default steps c.index_in-index.result c.index-steps-index.result None below) in
       let whole : c.number.result ≡ count_of steps c.index_in-index.result = c.number.ensures.value ∙ read in
-      subst (λ (k : ℕ). c.args.change.count < count_of steps k) index_is
-      (omega (arith, c.if-change-number.false, whole))
+      simp (← index_is) (omega (arith, c.if-change-number.false, whole))
 
   stored : c.of.result ≡ Some c.args.change.count
   stored = c.of.ensures.number c.requires.change.walked.0
 
   pub lower_sum : count_sum (slice_set steps c.index_in-index.result c.of.result) < count_sum steps
-  lower_sum = subst (λ (k : ℕ). count_sum (slice_set steps k c.of.result) < count_sum steps) (sym index_is)
-      (set_less c.args.grid.now.terrain steps c.requires.counts c.args.change c.requires.change c.of.result
+  lower_sum = simp index_is (set_less c.args.grid.now.terrain steps c.requires.counts c.args.change c.requires.change c.of.result
       stored less)
 
 pub returns-clause-counts : goal.returns-clause-counts
 returns-clause-counts c =
     let t = c.args.grid.now.terrain in
-    subst (λ (k : ℕ). AreSoundCounts t (slice_set c.args.steps.now k c.of.result)) (sym (index_is c))
-    (set_counts t c.args.steps.now c.requires.counts c.args.change c.requires.change c.of.result (stored c)
+    simp (index_is c) (set_counts t c.args.steps.now c.requires.counts c.args.change c.requires.change c.of.result (stored c)
     (less c))
 
 pub returns-clause-low : goal.returns-clause-low

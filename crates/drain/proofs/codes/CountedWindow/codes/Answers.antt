@@ -1,7 +1,5 @@
-use Rattle.std.proofs.Common.{◌≡◌, ◌*◌, ℕ, ap, subst, arith}
-use Rattle.tile_maps.specs.Maps.{IsMadeUpTo}
+use Rattle.std.proofs.Common.{◌≡◌, ap, arith}
 use Rattle.drain.specs.Codes.{CountedSpots}
-use Rattle.drain.specs.Counts.{IsCheckedCode}
 use Rattle.drain.proofs.codes.CountedWindow.codes.Goals as goal
 
 pub returns : goal.returns
@@ -10,5 +8,4 @@ returns c =
     let rows = ap (λ (v : CountedSpots). v.bounds.rows) c.self.view_is in
     let all : c.loop-row.row ≡ w.bounds.rows =
     omega (arith, c.loop-row-test.false, c.loop-row.auto.row-end, rows) in
-    subst (λ (n : ℕ). IsMadeUpTo w.bounds (IsCheckedCode w.terrain w.all) (n * w.bounds.cols)
-    c.loop-row.codes.items) all c.loop-row.invariant
+    rw all at c.loop-row.invariant

@@ -1,7 +1,5 @@
-use Rattle.std.proofs.Common.{List, Vec, Global, sym, ap, subst, ◌∙◌}
 use Rattle.std.proofs.lemmas.List.Elements.{All-push}
-use Rattle.drain.specs.Counts.{AreChanges, IsChange}
-use Rattle.drain.specs.declared.changes.Change.{Change}
+use Rattle.drain.specs.Counts.{IsChange}
 use Rattle.drain.proofs.input.RoundInput.push_along.Goals as goal
 use Rattle.drain.proofs.input.RoundInput.push_along.Goals.{in-Some+in_ok-push, in_default}
 
@@ -9,10 +7,7 @@ pub loop-col-preserved : goal.loop-col-preserved
 loop-col-preserved c =
     let input = c.args.self.now in
     elim c.match-lower.branch [
-      | in-Some+in_ok-push w ↦ subst (λ (xs : List Change). AreChanges input.terrain input.steps xs)
-          (sym (ap (λ (v : Vec Change Global). v.items) w.changes-is ∙ w.in_ok-push.ensures.items))
-          (All-push (IsChange input.terrain input.steps) _ _ c.loop-col.invariant
+      | in-Some+in_ok-push w ↦ rw (w.changes-is, w.in_ok-push.ensures.items) (All-push (IsChange input.terrain input.steps) _ _ c.loop-col.invariant
           w.in-Some.ensures.change)
-      | in_default w ↦ subst (λ (v : Vec Change Global). AreChanges input.terrain input.steps v.items)
-          (sym w.changes-is) c.loop-col.invariant
+      | in_default w ↦ rw w.changes-is c.loop-col.invariant
     ]

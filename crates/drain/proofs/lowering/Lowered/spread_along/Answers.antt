@@ -1,6 +1,4 @@
-use Rattle.std.proofs.Common.{sym, ap, subst, ◌∙◌}
-use Rattle.drain.specs.Counts.{AreChanges}
-use Rattle.drain.specs.declared.lowering.Lowered.{Lowered}
+use Rattle.std.proofs.Common.{◌∙◌}
 use Rattle.drain.proofs.Sound.{recorded}
 use Rattle.drain.proofs.lowering.Lowered.spread_along.Goals as goal
 use Rattle.drain.proofs.lowering.Lowered.spread_along.Goals.{in-Some+in_ok-record, in_default}
@@ -10,15 +8,12 @@ loop-col-preserved c =
     let input = c.args.input.now in
     elim c.match-lower.branch [
       | in-Some+in_ok-record w ↦ record {
-        bounds = ap (λ (l : Lowered). l.bounds) w.self-is ∙ w.record.ensures.bounds
-            ∙ c.loop-col.invariant.bounds;
-        changes = subst (λ (l : Lowered). AreChanges input.terrain input.steps l.changes.items)
-            (sym w.self-is) (recorded input.terrain input.steps _ _ w.in-Some.change
+        bounds = rw w.self-is (w.record.ensures.bounds ∙ c.loop-col.invariant.bounds);
+        changes = rw w.self-is (recorded input.terrain input.steps _ _ w.in-Some.change
             c.loop-col.invariant.changes w.in-Some.ensures.change w.record.ensures.changes);
       }
       | in_default w ↦ record {
-        bounds = ap (λ (l : Lowered). l.bounds) w.self-is ∙ c.loop-col.invariant.bounds;
-        changes = subst (λ (l : Lowered). AreChanges input.terrain input.steps l.changes.items)
-            (sym w.self-is) c.loop-col.invariant.changes;
+        bounds = rw w.self-is c.loop-col.invariant.bounds;
+        changes = rw w.self-is c.loop-col.invariant.changes;
       }
     ]
