@@ -45,7 +45,7 @@ begun_shown t b levels counts on are = record {
       let one = (are.each s spot (spot_below b s spot)).1.only n (known-some n less) in
       let p = inner_shows b s one.0.0 in
       let drains = edge_drains t p.0 (shown_drains t b levels on s p.0 one.0.0 p.1 one.0) in
-      (p.0, p.1, subst (λ (m : ℕ). IsWalked (DrainsAtOnce t) t p.0 m) (sym one.1) (omega arith, [], drains, refl));
+      (p.0, p.1, simp one.1 (omega arith, [], drains, refl));
   zeros = λ s p inner shows drains.
       let spot = spot_from_inner b s inner in
       known_is (count_on b counts s) 0 ((are.each s spot (spot_below b s spot)).1.zero
@@ -107,8 +107,8 @@ module _ (t : Terrain) (sinks : List Place) (index : ℕ) (b : Bounds) (counts :
   pub sink_passed : ((s : Place) → IsInner b s → Shows b s (sink_at sinks index) →
       IsDataCell t (sink_at sinks index) → ⊥) → AreBegun t b (DrainsBefore t sinks (index + 1)) counts
   sink_passed out = zeros_by t (DrainsBefore t sinks index) (DrainsBefore t sinks (index + 1)) b counts
-      (λ s p inner shows. earlier p (λ same is. out s inner (subst (λ (q : Place). Shows b s q) same shows)
-      (subst (λ (q : Place). IsDataCell t q) same is))) before
+      (λ s p inner shows. earlier p (λ same is. out s inner (rw same at shows)
+      (rw same at is))) before
 
   -- one more sink, with data and in the tile, sets the count of its spot to 0
   pub sink_put : sinks ≡ t.sinks → (r : Place) → IsInner b r → Shows b r (sink_at sinks index) →
@@ -117,7 +117,7 @@ module _ (t : Terrain) (sinks : List Place) (index : ℕ) (b : Bounds) (counts :
   sink_put own r inner on here =
       let spot = spot_from_inner b r inner in
       let drains : DrainsAtOnce t sink =
-      inr (inr (here, subst (λ (xs : List Place). Contains xs sink) own (index, below, named sink))) in
+      inr (inr (here, rw (← own) (index, below, named sink))) in
       record {
         size = length-set counts (spot_index b r) 0 ∙ before.size;
         few = λ k. omega (arith, before.few k, (not_above-set counts (spot_index b r) 0 (omega arith)).each k);

@@ -93,6 +93,6 @@ pub steps_are_few : (t : Terrain) (p : Place) (n : ℕ) → IsTerrain t → IsSt
 steps_are_few t p n lawful s =
     let walk = s.reached in
     let fit : length walk.0 + 1 ≤ t.cols * t.rows =
-    moves_fit t p walk.0 walk.1 (subst (λ m. IsSteps t p m) (sym walk.2) s) in
+    moves_fit t p walk.0 walk.1 (rw walk.2 s) in
     let few : t.cols * t.rows ≤ 2 ^ 24 = few_cells t.cols t.rows lawful.few_cols lawful.few_rows in
     omega (arith, walk.2)

@@ -68,8 +68,13 @@ module _ (t : Terrain) (b : Bounds) (levels : List (Option ℤ))
           | inl gap ↦ inr (ap is_some high, inr (inr (q, (on_way_beside p q way below e).0, ap is_some gap)))
           | inr (h, there) ↦
               (let lower : h <ℤ level = rw (value_is way (Some q) below e ∙ there) at found in
-              inl (q, (next_on_way t p q way below e (ap is_some high) (ap is_some there),
-              rw (height_is t q h there, height_is t p level high) lower)))
+              inl (
+                q,
+                (
+                  next_on_way t p q way below e (ap is_some high) (ap is_some there),
+                  rw (height_is t q h there, height_is t p level high) lower,
+                ),
+              ))
         ]
       ]
 
@@ -81,8 +86,14 @@ module _ (t : Terrain) (b : Bounds) (levels : List (Option ℤ))
 
       at : IsDataCell t p → (way : ℕ) (o : Option Place) → way < 8 → place_on way p ≡ o →
           IsGapOrLower level (height_of_place o) → HasGapOrLower b levels s
-      at is way o below e bad = (inner, level, own_is ∙ data_height t p is, way, below,
-          subst (IsGapOrLower level) (sym (value_is way o below e)) bad)
+      at is way o below e bad = (
+        inner,
+        level,
+        own_is ∙ data_height t p is,
+        way,
+        below,
+        rw (value_is way o below e) bad,
+      )
 
       near : IsDataCell t p → (q : Place) → Touches p q → p ≢ q → IsGapOrLower level (height_at t q) →
           HasGapOrLower b levels s

@@ -212,7 +212,7 @@ module _ (t : Terrain) (steps : List (Option ℕ)) (p : Place) (a : Around) (are
       (λ r. entry_at t.cols t.rows t.cells r) o) (option_and_then (λ r. entry_at t.cols t.rows steps r) o)) e
       ∙ ap (λ (o : Option ℤ). option_zip o (entry_at t.cols t.rows steps q)) (level ∙ laid.level)
       ∙ ap (λ (o : Option ℕ). option_zip (Some a.level) o) there in
-      subst (λ (o : Option (ℤ × ℕ)). leads_on a o ≡ true) (sym shown) (and_from _ _
+      rw shown (and_from _ _
       ((Decides-int_eq a.level a.level).1 refl) (eq-eqb _ _ one))
 
   leads_any : (DrainsAtOnce t p → ⊥) → list_any (leads_on a) a.ways ≡ true
@@ -282,5 +282,4 @@ direction_is t steps p a are around = direction_by t steps p a are around.laid a
 pub code_is : (t : Terrain) (p : Place) (level : ℤ) (code : ℕ) → height_at t p ≡ Some level →
     IsDirection t p code → IsCodeAt t p (Some code)
 code_is t p level code e is =
-    subst (λ (o : Option ℤ). MatchOption o (Some code ≡ None) (λ _. (n : ℕ) × (Some code ≡ Some n)
-    × IsDirection t p n)) (sym e) (code, refl, is)
+    rw e (code, refl, is)

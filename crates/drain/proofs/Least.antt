@@ -29,8 +29,7 @@ least_with b levels counts from col level bound least next f after less each one
   each = λ r row first last on. elim (cases_eq r.col col) [
     | inl e ↦
         (let here : r ≡ make_place from.row col = same_place r (make_place from.row col) row e in
-        subst (λ (q : Place). next ≤ count_on b counts q
-        + 1) (sym here) (each (subst (λ (q : Place). level_on b levels q ≡ level) here on)))
+        rw here (each (rw here at on)))
     | inr ne ↦ (let before = f.each r row first (omega arith) on in omega arith)
   ];
   one = elim one [

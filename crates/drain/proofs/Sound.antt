@@ -110,7 +110,7 @@ module _ (t : Terrain) (steps : List (Option ℕ)) (counts : AreSoundCounts t st
       let size = length-set steps index v in
       let sum = sum_below-less (count_of after) (count_of steps) (length steps) index inside (λ j l. set_low j)
       (omega (arith, count_here, less)) in
-      subst (λ (n : ℕ). sum_below (count_of after) n < count_sum steps) (sym size) sum
+      rw size sum
 
   -- the entry of a place is that of the put change, or as before
   entry_put : (p : Place) → IsInside t p → (p ≡ x.place → entry_at t.cols t.rows after p ≡ Some x.count)
@@ -145,8 +145,7 @@ module _ (t : Terrain) (steps : List (Option ℕ)) (counts : AreSoundCounts t st
           | inl same ↦
               (let one = index_injective t.cols p x.place within.1 counted.inside.1 same in
               let count : x.count ≡ n = same_Some x.count n (sym (entry.0 one) ∙ e) in
-              subst (λ (k : ℕ). IsWalked (DrainsAtOnce t) t p k) count
-              (subst (λ (q : Place). IsWalked (DrainsAtOnce t) t q x.count) (sym one) counted.walked))
+              rw (one, ← count) counted.walked)
           | inr ne ↦ MatchOption-at_some _ _ n
               (sym (entry.1 (λ e2. ne (ap (λ (q : Place). index_of t.cols q) e2))) ∙ e) (counts.walked p)
         ]);
@@ -169,9 +168,8 @@ module _ (t : Terrain) (c : Cutting) (lists : List (Vec (Option ℕ) Global))
       AreSoundInTile t c tile list.items
   sound_at tile list at =
       let below : tile < tile_count c =
-      subst (λ (k : ℕ). tile < k) count (slice_get_within lists tile list at) in
-      subst (λ (v : Vec (Option ℕ) Global). AreSoundInTile t c tile v.items)
-      (get_or_from_slice_get lists tile list list at) (given tile list below)
+      rw count at (slice_get_within lists tile list at) in
+      rw (get_or_from_slice_get lists tile list list at) at (given tile list below)
 
   pub first_lists : AreTileLists c lists
   first_lists = record { count = count; each = λ tile list at. (sound_at tile list at).size }
@@ -210,10 +208,9 @@ pub recorded : (t : Terrain) (steps : List (Option ℕ)) (old new : List Change)
     AreChanges t steps old → IsChange t steps x → (new ≡ old) ⊎ (new ≡ old ++ x ∷ []) →
     AreChanges t steps new
 recorded t steps old new x before change (inl same) =
-    subst (λ (xs : List Change). AreChanges t steps xs) (sym same) before
+    rw same before
 recorded t steps old new x before change (inr pushed) =
-    subst (λ (xs : List Change). AreChanges t steps xs) (sym pushed)
-    (All-push (IsChange t steps) old x before change)
+    rw pushed (All-push (IsChange t steps) old x before change)
 
 above_one : (m n : Option ℕ) → unwrap_or m (2 ^ 24) ≤ unwrap_or n (2 ^ 24) + 1 → IsAtMostOneAbove m n
 above_one None n le k e less = absurd (let is : unwrap_or n (2 ^ 24) ≡ k =

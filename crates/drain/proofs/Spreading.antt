@@ -92,8 +92,7 @@ pulled b levels old counts s i n e spot before (inr h) less =
     (let was : count_on b old h.0 ≡ count_on b old s = ap (λ (p : Place). count_on b old p) one in
     omega
     (arith, at, was, h.4, (spread_not_above b levels old counts before).each (spot_index b s))) in
-    subst (λ j. IsSpread b levels old (set counts j n)) (sym e)
-    (moved counts old h.0 s n before same h.1 spot h.2 differ h.3 h.4 (omega (arith, at)))
+    rw e (moved counts old h.0 s n before same h.1 spot h.2 differ h.3 h.4 (omega (arith, at)))
 
 pub spot_from_inner : (b : Bounds) (s : Place) → IsInner b s → IsSpot b s
 spot_from_inner b s i = (omega (arith, i.last_row), omega (arith, i.last_col))
@@ -112,8 +111,7 @@ lowering_then {b} {levels} {old} {mid} {new} f g = record {
 
 all_inner : (b : Bounds) (s : Place) (xs ys : List Place) → ys ≡ xs ++ s ∷ [] → IsInner b s →
     All (λ (p : Place). IsInner b p) xs → All (λ (p : Place). IsInner b p) ys
-all_inner b s xs ys is inner all = subst (λ (zs : List Place). All (λ (p : Place). IsInner b p) zs) (sym is)
-    (All-push (λ (p : Place). IsInner b p) xs s all inner)
+all_inner b s xs ys is inner all = rw is (All-push (λ (p : Place). IsInner b p) xs s all inner)
 
 -- a neighbour's count falls; the neighbour is appended if it lies in the tile
 pub lowering_set : (b : Bounds) (levels : List (Option ℤ)) (counts : List ℕ) (from to : Place) (i j : ℕ)
@@ -128,12 +126,11 @@ lowering_set b levels counts from to i j xs ys e f spot other level less added =
     let differ : from ≢ to = λ one. (let at : count_on b counts from ≡ count_on b counts to =
     ap (λ (p : Place). count_on b counts p) one in omega (arith, at, from_is, to_is, less)) in
     record {
-      spread = subst (λ (k : ℕ). IsSpread b levels counts (set counts k n)) (sym f)
-          (moved counts counts from to n same same spot other.0 other.1 differ level
+      spread = rw f (moved counts counts from to n same same spot other.0 other.1 differ level
           (omega (arith, from_is)) (omega (arith, to_is, less)));
       inner = λ all. elim added [
         | inl h ↦ all_inner b to xs ys h.1 h.0 all
-        | inr h ↦ subst (λ (zs : List Place). All (λ (p : Place). IsInner b p) zs) (sym h) all
+        | inr h ↦ rw h all
       ];
       left = elim added [
         | inl h ↦ omega (
@@ -149,13 +146,12 @@ lowering_set b levels counts from to i j xs ys e f spot other level less added =
 pub pulled_none : (b : Bounds) (levels : List (Option ℤ)) (old counts : List ℕ) (xs : List Place) →
     counts ≡ old → xs ≡ [] → IsPulled b levels old counts xs
 pulled_none b levels old counts xs is none =
-    subst (λ (ys : List Place). IsPulled b levels old counts ys) (sym none)
-    (subst (λ (ns : List ℕ). IsPulled b levels old ns []) (sym is) (record {
+    rw (none, is) (record {
       spread = same;
       inner = λ k s below. absurd (omega arith);
       left = omega arith;
       still = λ _. refl;
-    }))
+    })
 
 pub pulled_set : (b : Bounds) (levels : List (Option ℤ)) (old counts : List ℕ) (s : Place) (i n : ℕ)
     (xs ys : List Place) → i ≡ spot_index b s → IsInner b s → IsPulled b levels old counts xs →

@@ -64,7 +64,7 @@ module _ (level : ℤ) (heights : List (Option ℤ)) (x y way other : ℕ)
   pub steepest_is : (drop : ℕ) → drop ≡ drop_on level heights way →
       IsFirstSteepest level heights (then_some (ltb 0 drop) way)
   steepest_is drop is = elim (cases_lt 0 drop) [
-    | inl some ↦ subst (λ b. IsFirstSteepest level heights (then_some b way)) (sym (lt-ltb 0 drop some)) (record {
+    | inl some ↦ rw (lt-ltb 0 drop some) (record {
       below = omega (arith, own.within);
       down = omega (arith, some, is);
       bound = bounded;
@@ -78,11 +78,10 @@ module _ (level : ℤ) (heights : List (Option ℤ)) (x y way other : ℕ)
             ])
       ];
     })
-    | inr none ↦ subst (λ b. IsFirstSteepest level heights (then_some b way)) (sym (le-ltb 0 drop none))
-        (record {
-          each = λ k below. drop_from_weight k (drop_on level heights k)
-              (omega (arith, bounded k below, weightless way (drop_on level heights way) (omega (arith, none, is))));
-        })
+    | inr none ↦ rw (le-ltb 0 drop none) (record {
+      each = λ k below. drop_from_weight k (drop_on level heights k)
+          (omega (arith, bounded k below, weightless way (drop_on level heights way) (omega (arith, none, is))));
+    })
   ]
 
 -- The surroundings have these heights.

@@ -99,7 +99,7 @@ sound_set t b counts r n size spot sound moved_to = λ s inside less. elim (case
       (sym e) (
         moved_to.0,
         moved_to.1,
-        subst (λ m. IsWalked (DrainsAtOnce t) t moved_to.0 m) (sym at) moved_to.2,
+        rw at moved_to.2,
       ))
   | inr ne ↦ (let apart : spot_index b s ≢ spot_index b r =
       λ i. ne (index_injective (b.cols + 2) s r inside.1 spot.1 i) in
@@ -128,8 +128,7 @@ module _ (t : Terrain) (b : Bounds) (levels : List (Option ℤ)) (on : AreEntrie
       } in (
         to.0,
         to.1,
-        subst (λ (k : ℕ). IsWalked (DrainsAtOnce t) t to.0 k) (sym is)
-            (walked_on t from.0 to.0 (count_on b some s) next (height ∙ sym to.2) from.2 (omega (arith, is, less))),
+        simp is (walked_on t from.0 to.0 (count_on b some s) next (height ∙ sym to.2) from.2 (omega (arith, is, less))),
       )
 
   pub sound_after : (old new : List ℕ) → length old ≡ area_of b → AreAtMostNoCount old →
@@ -179,8 +178,8 @@ known_is n m e = elim (cases_lt n no_count) [
 
 known-if : (n : ℕ) (P : ℕ → Type 0) → (n < no_count → P n) → IfSome (known n) P
 known-if n P h = elim (cases_lt n no_count) [
-  | inl less ↦ subst (λ (o : Option ℕ). IfSome o P) (sym (known-some n less)) (h less)
-  | inr more ↦ subst (λ (o : Option ℕ). IfSome o P) (sym (known-none n more)) tt
+  | inl less ↦ rw (known-some n less) (h less)
+  | inr more ↦ rw (known-none n more) tt
 ]
 
 count_small : (t : Terrain) (b : Bounds) (s : Place) (steps : List (Option ℕ)) (o : Option ℕ) →
@@ -214,7 +213,7 @@ module _ (t : Terrain) (c : Cutting) (tile : ℕ) (b : Bounds) (new : List ℕ) 
     (out : IsMadeUpTo b (IsCopied b new) (b.rows * b.cols) list) where
   pub inner_of : (p : Place) → IsInTile c tile p → IsInner b (spot_of b p) × Shows b (spot_of b p) p
   inner_of p i = spot_inner b p
-      (subst (λ (z : Bounds). IsInBounds z p) (sym bounds) (in_bounds c tile p cutting i))
+      (rw bounds (in_bounds c tile p cutting i))
 
   copied : IsMadeTile c tile (IsCopied b new) list
   copied = made_tile c tile b (IsCopied b new) list cutting bounds out
@@ -239,11 +238,9 @@ module _ (t : Terrain) (c : Cutting) (tile : ℕ) (b : Bounds) (new : List ℕ) 
   tile_walked sound p i =
       let s = spot_of b p in
       let inner = inner_of p i in
-      subst (λ (o : Option ℕ). IfSome o (IsWalked (DrainsAtOnce t) t p)) (sym (entry_is p i))
-      (known-if (count_on b new s) (IsWalked (DrainsAtOnce t) t p) (λ less.
+      rw (entry_is p i) (known-if (count_on b new s) (IsWalked (DrainsAtOnce t) t p) (λ less.
       let at = sound s (spot_from_inner b s inner.0) less in
-      subst (λ (x : Place). IsWalked (DrainsAtOnce t) t x (count_on b new s))
-      (shows_same b s at.0 p at.1 inner.1) at.2))
+      rw (shows_same b s at.0 p at.1 inner.1) at at.2))
 
 -- The window counts of a tile of w are those of a tile of the terrain that v shows.
 pub input_to : (t : Terrain) (v : View (Option ℤ)) (w : View (Option ℕ)) (b : Bounds) (old : List ℕ) →
@@ -252,16 +249,13 @@ pub input_to : (t : Terrain) (v : View (Option ℤ)) (w : View (Option ℕ)) (b 
     AreWindowCounts t.cols t.rows w.cells b old
 input_to t v w b old shown cutting tile bounds input =
     subst (λ (x : Terrain). AreWindowCounts x.cols x.rows w.cells b old) shown
-    (subst (λ (z : Bounds). AreWindowCounts v.cutting.cols v.cutting.rows w.cells z old) (sym bounds)
-    (subst (λ (k : ℕ). AreWindowCounts v.cutting.cols v.cutting.rows w.cells (bounds_of v.cutting k) old) tile
-    (subst (λ (z : Cutting). AreWindowCounts z.cols z.rows w.cells (bounds_of z w.tile) old) cutting input)))
+    (rw (cutting, tile, ← bounds) at input)
 
 -- searches from the counts of a window give the counts of a round over its tile
 module _ (t : Terrain) (b : Bounds) (steps : List (Option ℕ)) (old : List ℕ)
     (input : AreWindowCounts t.cols t.rows steps b old) where
   pub input_small : AreWalked (DrainsAtOnce t) t steps → AreAtMostNoCount old
-  input_small walks = subst (λ (xs : List ℕ). AreAtMostNoCount xs) (sym input.value)
-      (counts_small t b steps input.shown input.size input.seen walks)
+  input_small walks = rw input.value (counts_small t b steps input.shown input.size input.seen walks)
 
   pub input_size : length old ≡ area_of b
   input_size = ap (λ (xs : List ℕ). length xs) input.value
@@ -299,8 +293,7 @@ module _ (t : Terrain) (b : Bounds) (steps : List (Option ℕ)) (old : List ℕ)
       size = tile_size t c tile b new list cutting bounds out;
       walked = tile_walked t c tile b new list cutting bounds out
           (sound_after t b levels on old new input_size (input_small walks)
-          (subst (λ (xs : List ℕ). AreSoundSpots t b xs) (sym input.value)
-          (sound_begin t b steps input.shown input.size input.seen walks)) searched.spread);
+          (rw input.value (sound_begin t b steps input.shown input.size input.seen walks)) searched.spread);
       kept = λ p m i e.
           let inner = inner_of t c tile b new list cutting bounds out p i in
           let was = input_is (spot_of b p) p m (spot_from_inner b (spot_of b p) inner.0) inner.1 e in

@@ -95,8 +95,7 @@ module _ (t : Terrain) (all : List (Option ℕ)) (p : Place) (cells : List (Opti
   height_of_place o = option_and_then (λ q. entry_at t.cols t.rows t.cells q) o
 
   pub heights_within : (way : ℕ) → way < 8 → IfSome (level_at cells at way) IsHeight
-  heights_within way below = subst (λ (o : Option ℤ). IfSome o IsHeight) (sym (is.levels way below))
-      (fits_on t (place_on way p) is.lawful)
+  heights_within way below = rw (is.levels way below) (fits_on t (place_on way p) is.lawful)
 
   is_data : IsDataCell t p
   is_data = ap is_some is.high
@@ -129,8 +128,7 @@ module _ (t : Terrain) (all : List (Option ℕ)) (p : Place) (cells : List (Opti
       let same : k + 1 ≡ n = omega (arith, n_is, known_on way q below e, stored_is t all q data_q) in
       let few : k < 2 ^ 24 = omega (arith, less, same, is.count, small t all (index_of t.cols p) is.counts) in
       let next = next_on_way t p q way below e is_data data_q in
-      subst (λ (m : ℕ). IsChange t all (record { place = p; count = m })) same
-      (lower_change t all (record { place = q; count = k }) p is.counts
+      rw (← same) (lower_change t all (record { place = q; count = k }) p is.counts
       (known_counted t all q k is.counts (data_inside t q data_q) refl few) (data_inside t p is_data)
       next.touches next.different (height_q ∙ sym is.high) (omega (arith, less, same, is.count))))
 
@@ -212,12 +210,9 @@ pub codes_of_tile : (w : CountedSpots) (c : Counted) (tile : ℕ) (out : TileCod
     w.bounds ≡ bounds_of c.cutting tile → w.terrain ≡ c.terrain → w.all ≡ c.steps → AreCodes w out →
     IsTileCodes c tile out
 codes_of_tile w c tile (Codes list) lawful bounds e f made =
-    subst (λ (steps : List (Option ℕ)). IsMadeTile c.cutting tile (IsCheckedCode c.terrain steps) list.items) f
-    (subst (λ (t : Terrain). IsMadeTile c.cutting tile (IsCheckedCode t w.all) list.items) e
-    (made_tile c.cutting tile w.bounds (IsCheckedCode w.terrain w.all) list.items lawful bounds made))
+    rw (← e, ← f) (made_tile c.cutting tile w.bounds (IsCheckedCode w.terrain w.all) list.items lawful bounds made)
 codes_of_tile w c tile (TooHigh change) lawful bounds e f high =
-    subst (λ (steps : List (Option ℕ)). IsChange c.terrain steps change) f
-    (subst (λ (t : Terrain). IsChange t w.all change) e high)
+    rw (← e, ← f) high
 
 -- what all jobs found, put together, is what the last round found
 pub checked_all : (c : Counted) (outs : List TileCodes) (found : Checked) → length outs ≡ tile_count c.cutting →
@@ -233,11 +228,8 @@ checked_all c outs (LastCodes lists) size given all =
           ap (λ (xs : List TileCodes). get_or xs k (Codes list)) all
           ∙ get_or-map (λ (l : Vec (Option ℕ) Global). Codes l) lists.items k list (Codes list) below
           ∙ ap (λ (l : Vec (Option ℕ) Global). Codes l) (get_or_from_slice_get lists.items k list list at) in
-          subst (λ (out : TileCodes). IsTileCodes c k out) is
-          (given k (Codes list) (omega (arith, below, same, size)))),
+          rw is at (given k (Codes list) (omega (arith, below, same, size)))),
     )
 checked_all c outs (LastTooHigh change) size given all =
     let below = slice_get_within outs all.0 (TooHigh change) all.1 in
-    subst (λ (out : TileCodes). IsTileCodes c all.0 out)
-    (get_or_from_slice_get outs all.0 (TooHigh change) (TooHigh change) all.1)
-    (given all.0 (TooHigh change) (omega (arith, below, size)))
+    rw (get_or_from_slice_get outs all.0 (TooHigh change) (TooHigh change) all.1) at (given all.0 (TooHigh change) (omega (arith, below, size)))

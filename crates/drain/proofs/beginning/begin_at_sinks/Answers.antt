@@ -39,8 +39,8 @@ loop-sink-preserved c =
                 ∙ here)
             | else-is_inner-via-else-is_inner v ↦
                 false≢true (sym v.if-is_inner.false ∙ c.is_inner.ensures.1
-                (subst (λ (r : Place). IsInner b r) (same_place s c.in-Some.spot
-                (omega (arith, shows.0, at.1.0)) (omega (arith, shows.1, at.1.1))) inner))
+                (rw (same_place s c.in-Some.spot
+                (omega (arith, shows.0, at.1.0)) (omega (arith, shows.1, at.1.1))) at inner))
           ]))
     ]
 

@@ -23,10 +23,7 @@ returns-else-any_gap_or_lower c =
       record {
         zero = λ has.
             let same = same_Some has.1 c.in-Some.level (sym has.2 ∙ own) in
-            absurd (around has.3 has.4 (subst (λ (z : ℤ). IsGapOrLower z (get_or
-            c.args.window.now.values.items (get_or (around_index
-            (c.args.window.now.bounds.cols + 2) (spot_index c.args.window.now.bounds c.args.spot))
-            has.3 0) None)) same has.5));
+            absurd (around has.3 has.4 (rw same at has.5));
         only = λ n e. absurd (none-some n e);
       },
     )

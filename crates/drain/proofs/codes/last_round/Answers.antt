@@ -10,5 +10,5 @@ returns-clause-checked g c =
     let size : length outs.items ≡ c.tiles.result = omega (arith, c.in_ok-outs.ensures.len, outs.ok.0) in
     let count = c.tiles.ensures.value ∙ ap (λ (v : Counted). tile_count v.cutting) c.input.view_is in
     checked_all c.args.input.now outs.items c.in_ok-found.found (size ∙ count)
-    (λ tile out below. c.in_ok-outs.ensures.given tile out (subst (λ (n : ℕ). tile < n) (sym count) below))
+    (λ tile out below. c.in_ok-outs.ensures.given tile out (rw count below))
     c.in_ok-found.ensures

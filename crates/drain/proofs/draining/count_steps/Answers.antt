@@ -16,8 +16,12 @@ returns-in-Codes-clause-counted g c =
     let cut = c.args.tiling.now in
     let steps = c.in_ok-steps-2.steps.items in
     let lawful = c.in_ok-steps.ensures.lawful in
-    let checked = rw (c.in-Codes.is, c.new-in-loop-steps.ensures.value, c.deref-in-loop-steps.ensures.value,
-    grid.value) at c.in_ok-codes.ensures.checked in
+    let checked = rw (
+      c.in-Codes.is,
+      c.new-in-loop-steps.ensures.value,
+      c.deref-in-loop-steps.ensures.value,
+      grid.value,
+    ) at c.in_ok-codes.ensures.checked in
     let are = certified t cut steps c.in-Codes.codes.items c.requires lawful checked.0 checked.1
     (rw grid.value at c.in_ok-steps-2.ensures.counts) (rw grid.value at c.new.ensures.lawful) grid.own in
     (are, coded t cut steps c.in-Codes.codes.items c.requires lawful checked.0 checked.1 are)

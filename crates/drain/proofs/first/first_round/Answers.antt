@@ -10,7 +10,7 @@ put_back-requires g c =
     let count : length lists.items ≡ tile_count v =
     omega (arith, lists.ok.0, c.in_ok-lists.ensures.len) ∙ c.tiles.ensures.value in
     rw c.deref.ensures.value (first_lists c.args.grid.now.terrain v lists.items c.requires count (λ j d below.
-    c.in_ok-lists.ensures.given j d (subst (λ (n : ℕ). j < n) (sym c.tiles.ensures.value) below)))
+    c.in_ok-lists.ensures.given j d (rw c.tiles.ensures.value below)))
 
 pub returns-in-Ok-clause-counts : goal.returns-in-Ok-clause-counts
 returns-in-Ok-clause-counts g c =
@@ -19,5 +19,5 @@ returns-in-Ok-clause-counts g c =
     let count : length lists.items ≡ tile_count v =
     omega (arith, lists.ok.0, c.in_ok-lists.ensures.len) ∙ c.tiles.ensures.value in
     first_counts c.args.grid.now.terrain v lists.items c.requires count (λ j d below.
-    c.in_ok-lists.ensures.given j d (subst (λ (n : ℕ). j < n) (sym c.tiles.ensures.value) below))
+    c.in_ok-lists.ensures.given j d (rw c.tiles.ensures.value below))
     _ c.tiles.ensures.lawful (rw c.deref.ensures.value at c.in-Ok.ensures)

@@ -15,9 +15,7 @@ search-requires-clause-counts c =
       spread-length b levels c.args.old.now c.pull.new.counts pulled.spread,
       c.in_ok-counts.ensures.len,
     ) in
-    subst (λ (ns : List ℕ). AreAtMostNoCount ns)
-    (sym (c.deref_mut-2.ensures.value ∙ take_at c.pull.new.counts _ c.in_ok-counts.counts.len size))
-    (spread_counts b levels c.args.old.now c.pull.new.counts c.requires.counts pulled.spread)
+    rw (c.deref_mut-2.ensures.value, take_at c.pull.new.counts _ c.in_ok-counts.counts.len size) (spread_counts b levels c.args.old.now c.pull.new.counts c.requires.counts pulled.spread)
 
 pub returns-clause-lower : goal.returns-clause-lower
 returns-clause-lower c =
@@ -30,15 +28,14 @@ returns-clause-lower c =
     let reached = c.in_ok-reached.reached in
     let size : length mid ≡ c.in_ok-counts.counts.len =
     omega (arith, spread-length b levels old mid pulled.spread, c.in_ok-counts.ensures.len) in
-    let spread = subst (λ (ns : List ℕ). IsSpread b levels ns new)
-    (c.deref_mut-2.ensures.value ∙ take_at mid _ c.in_ok-counts.counts.len size) c.in_ok-search.ensures in
+    let spread = rw (c.deref_mut-2.ensures.value, take_at mid _ c.in_ok-counts.counts.len size)
+    at c.in_ok-search.ensures in
     let long : length new ≡ c.in_ok-counts.counts.len = omega (arith, spread-length b levels mid new spread, size) in
     let some : 0 < length reached.items = elim (cases_eq reached.len 0) [
       | inl none ↦ absurd (false≢true (sym c.if-is_empty.false ∙ c.is_empty.ensures ∙ eq-eqb _ _ none))
       | inr ne ↦ omega (arith, reached.ok.0)
     ] in
-    subst (λ (ns : List ℕ). IsSpread b levels old ns × (sum ns < sum old))
-    (sym (take_at new _ c.in_ok-counts.counts.len long)) (
+    rw (take_at new _ c.in_ok-counts.counts.len long) (
       spread_on b levels old mid new pulled.spread spread,
       omega (arith, pulled.left, sum_spread b levels mid new spread, some),
     )

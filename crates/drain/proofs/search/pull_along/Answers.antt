@@ -20,9 +20,7 @@ loop-col-preserved c = record {
       let at = make_place c.args.row c.loop-col.col in (
         before.0,
         λ s inner row below. elim (cases_eq s.col c.loop-col.col) [
-          | inl e ↦ subst (λ (p : Place).
-              IsNear c.args.window.now.bounds c.args.window.now.values.items c.args.old.now p)
-              (sym (same_place s at row e)) here.1
+          | inl e ↦ rw (same_place s at row e) here.1
           | inr ne ↦ before.1 s inner row (omega arith)
         ],
       );

@@ -15,8 +15,7 @@ lowered-requires-clause-size c =
 
 pub lowered-requires-clause-counts : goal.lowered-requires-clause-counts
 lowered-requires-clause-counts c =
-    subst (λ (ns : List ℕ). AreAtMostNoCount ns) (sym c.deref.ensures.value)
-    (spread_counts c.args.window.now.bounds c.args.window.now.values.items c.args.counts.items
+    rw c.deref.ensures.value (spread_counts c.args.window.now.bounds c.args.window.now.values.items c.args.counts.items
     c.loop-counts.counts.items c.requires.counts c.loop-counts.invariant)
 
 pub loop-counts-preserved : goal.loop-counts-preserved

@@ -18,7 +18,6 @@ push_around-requires-clause-place c =
 
 pub loop-place-preserved : goal.loop-place-preserved
 loop-place-preserved c = record {
-  left = λ p has. c.loop-place.invariant.left p (subst (λ (ps : List Place). Contains ps p)
-      (sym c.in-Some.ensures.steps) (suc has.0, omega (arith, has.1), has.2));
+  left = λ p has. c.loop-place.invariant.left p (rw c.in-Some.ensures.steps (suc has.0, omega (arith, has.1), has.2));
   changes = c.in_ok-push_around.ensures;
 }
