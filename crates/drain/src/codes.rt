@@ -34,20 +34,20 @@ use tiles::{Bounds, Window};
 
 /// Returns the heights of the eight cells at the indexes `at`.
 #[inline(always)]
-fn heights_at(cells: &[Cell], at: &[usize; 8]) -> [Option<Height>; 8]
+fn heights_at(cells: &[Cell], at: &[usize; 8]) -> [Cell; 8]
     requires { (way : ℕ) → way < 8 → slice_index_or at.now way 0 < length cells.now }
     ensures { (way : ℕ) → way < 8 → slice_index_or result way None
         ≡ slice_index_or cells.now (slice_index_or at.now way 0) None }
 {
     [
-        cells[at[0]].height(),
-        cells[at[1]].height(),
-        cells[at[2]].height(),
-        cells[at[3]].height(),
-        cells[at[4]].height(),
-        cells[at[5]].height(),
-        cells[at[6]].height(),
-        cells[at[7]].height(),
+        cells[at[0]],
+        cells[at[1]],
+        cells[at[2]],
+        cells[at[3]],
+        cells[at[4]],
+        cells[at[5]],
+        cells[at[6]],
+        cells[at[7]],
     ]
 }
 

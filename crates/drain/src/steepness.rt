@@ -16,7 +16,7 @@ ghost use Rattle.drain.specs.declared.around.Around.{Around};
 
 use crate::around::Around;
 use drainage::Code;
-use terrain::Height;
+use terrain::{Cell, Height};
 
 /// The greatest drop on the ways of one parity, 0 if none leads down, and the first way with it.
 #[derive(Clone, Copy)]
@@ -25,23 +25,26 @@ struct Fall {
     way: usize,
 }
 
-/// Returns the drop from height `level` to a height, 0 if it is not lower.
+/// Returns the drop from height `level` to a cell, 0 if it is not lower or has no data.
 #[inline(always)]
-fn drop_to(level: Height, height: Option<Height>) -> u64
+fn drop_to(level: Height, cell: Cell) -> u64
     requires level { IsHeight level }
-    requires height { IfSome height IsHeight }
-    ensures value { result ≡ drop_by level height }
+    requires height { IfSome cell IsHeight }
+    ensures value { result ≡ drop_by level cell }
     ensures bound { result ≤ greatest_drop }
 {
-    match height {
-        Some(height) if height < level => (level - height) as u64,
-        _ => 0,
+    // The number of a cell without data is above each height.
+    let height = cell.number();
+    if height < level {
+        (level - height) as u64
+    } else {
+        0
     }
 }
 
 /// Returns the greatest drop on the ways of one parity, and the first way with it.
 #[inline(always)]
-fn greatest_fall(level: Height, heights: &[Option<Height>; 8], parity: usize) -> Fall
+fn greatest_fall(level: Height, heights: &[Cell; 8], parity: usize) -> Fall
     requires parity { parity < 2 }
     requires level { IsHeight level }
     requires heights { (way : ℕ) → way < 8 → IfSome (slice_index_or heights.now way None) IsHeight }
@@ -86,7 +89,7 @@ fn goes_before(weight: u128, way: usize, other_weight: u128, other_way: usize) -
 
 /// Returns the first of the steepest ways down, `None` if no way leads down.
 #[inline(always)]
-pub(crate) fn steepest(level: Height, heights: &[Option<Height>; 8]) -> Option<usize>
+pub(crate) fn steepest(level: Height, heights: &[Cell; 8]) -> Option<usize>
     requires level { IsHeight level }
     requires heights { (way : ℕ) → way < 8 → IfSome (slice_index_or heights.now way None) IsHeight }
     ensures { IsFirstSteepest level heights.now result }
@@ -103,16 +106,18 @@ pub(crate) fn steepest(level: Height, heights: &[Option<Height>; 8]) -> Option<u
 }
 
 #[inline(always)]
-fn height_of(neighbour: Option<(Height, u32)>) -> Option<Height>
+fn height_of(neighbour: Option<(Height, u32)>) -> Cell
+    requires { IfSome neighbour (λ w. IsHeight w.0) }
     ensures { result ≡ option_map (λ w. w.0) neighbour }
 {
     match neighbour {
-        Some((height, _)) => Some(height),
-        None => None,
+        Some((height, _)) => Cell::of(height),
+        None => Cell::no_data(),
     }
 }
 
-fn heights_around(around: &Around) -> [Option<Height>; 8]
+fn heights_around(around: &Around) -> [Cell; 8]
+    requires { IsFitting around.now }
     ensures { HasHeights around.now around.now.level result }
 {
     let ways = &around.ways;
