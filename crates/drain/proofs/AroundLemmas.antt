@@ -13,7 +13,7 @@ use Rattle.terrain.specs.Ways.{place_on, entry_on}
 use Rattle.terrain.specs.declared.place.Place.{Place}
 use Rattle.drain.specs.Steps.{IsSteps, AreSteps}
 use Rattle.drain.specs.Steepness.{positive_part, leads_on}
-use Rattle.drain.specs.Surroundings.{drop_by}
+use Rattle.drain.specs.Drops.{drop_by}
 use Rattle.drain.specs.Fitting.{IsLaidAround}
 use Rattle.drain.specs.declared.around.Around.{Around}
 use Rattle.drain.proofs.Counted.{height_is}

@@ -18,7 +18,7 @@ use Rattle.terrain.specs.Ways.{place_on, entry_on, code_of}
 use Rattle.terrain.specs.declared.place.Place.{Place}
 use Rattle.drain.specs.Steps.{IsLower, HasLower, DrainsAtOnce, IsFlatWalk, IsSteps, AreSteps}
 use Rattle.drain.specs.Steepness.{weight, weights, positive_part, drop_to, leads_on, direction_of}
-use Rattle.drain.specs.Surroundings.{HasHeights, HasNoWayDown, IsSteepestWay, drop_by, drop_on, weight_on}
+use Rattle.drain.specs.Drops.{HasHeights, HasNoWayDown, IsSteepestWay, drop_by, drop_on, weight_on}
 use Rattle.drain.specs.Fitting.{IsFitting, IsLaidAround, IsAround}
 use Rattle.drain.specs.Directions.{weight_of, IsSteepest, IsOnward, PointsToFirst, IsDirection, IsCodeAt}
 use Rattle.drain.specs.declared.around.Around.{Around}

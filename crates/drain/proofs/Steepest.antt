@@ -10,7 +10,7 @@ use Rattle.terrain.specs.Ways.{code_of}
 use Rattle.std.specs.Prelude.{option_map}
 use Rattle.std.specs.Bool.{then_some}
 use Rattle.std.specs.List.{list_any, position}
-use Rattle.drain.specs.Surroundings.{HasHeights, drop_by, drop_on, weight_on, IsGreatestFall, HasNoWayDown, IsSteepestWay, IsFirstSteepest}
+use Rattle.drain.specs.Drops.{HasHeights, drop_by, drop_on, weight_on, IsGreatestFall, HasNoWayDown, IsSteepestWay, IsFirstSteepest}
 use Rattle.drain.specs.Steepness.{weight, weights, drop_to, leads_on, direction_of}
 use Rattle.drain.specs.Fitting.{IsFitting}
 use Rattle.drain.specs.declared.around.Around.{Around}
@@ -140,8 +140,14 @@ module _ (a : Around) (level : ℤ) (heights : List (Option ℤ))
   direction_down way is =
       let here = weight_is way is.below in
       let most : fold max 0 (weights a) ≡ weight_on level heights way =
-      omega (arith, all_below (weight_on level heights way) is.bound, here, (le-fold_max (weights a) 0 way).1 (within way is.below)) in
-      cond-true _ _ _ (lt-ltb 0 (fold max 0 (weights a)) (omega (arith, most, some_weight way (drop_on level heights way) is.down)))
+      omega (
+        arith,
+        all_below (weight_on level heights way) is.bound,
+        here,
+        (le-fold_max (weights a) 0 way).1 (within way is.below),
+      ) in
+      cond-true _ _ _ (lt-ltb 0 (fold max 0 (weights a))
+      (omega (arith, most, some_weight way (drop_on level heights way) is.down)))
       ∙ ap code_of (position_is (λ w. eqb w (fold max 0 (weights a))) (weights a) way 0 (within way is.below)
       (λ k less. ne_eqb _ _ (λ e. absurd (omega (
         arith,

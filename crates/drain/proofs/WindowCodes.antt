@@ -1,6 +1,6 @@
--- The windows of a tile, with heights and with steps, have the surroundings of each of its cells,
--- and these give the cell's direction. Surroundings are heights and steps of a cell and its
--- neighbours. A window is the tile and a border of one cell around it.
+-- The windows of a tile, with heights and with counts, have those of each of its cells and of the cells
+-- around it. These give the cell's direction, if the counts are the steps. A window is the tile and a
+-- border of one cell around it.
 use Rattle.std.proofs.Common.{◌≡◌, ℕ, MatchOption, ◌^◌, ◌+◌, ◌<◌, inl, inr, List, length, Vec, Global, get_or, Option, None, Some, is_some, IfSome, unwrap_or, ℤ, sym, ap, subst, refl, ◌∙◌, arith}
 use Rattle.std.specs.Option.{option_and_then}
 use Rattle.std.proofs.lemmas.Bool.{cases_lt}
@@ -23,7 +23,7 @@ use Rattle.drain.specs.Codes.{AreAll, CountedSpots, IsChecked, AreCodes, AreCoun
 use Rattle.drain.specs.Counts.{AreSoundCounts, Counted, IsChange, IsCheckedCode, IsStill, count_of}
 use Rattle.drain.specs.Directions.{IsDirection, IsCodeAt}
 use Rattle.drain.specs.Steps.{DrainsAtOnce, AreSteps}
-use Rattle.drain.specs.Surroundings.{IsFirstSteepest}
+use Rattle.drain.specs.Drops.{IsFirstSteepest}
 use Rattle.drain.proofs.AroundLemmas.{steps_at}
 use Rattle.drain.proofs.Laid.{LeadsOn, code_is, down_is, leads, onward_is, outlet_is, with_steps, without_steps}
 use Rattle.drain.proofs.Quiet.{if_some}
@@ -232,4 +232,5 @@ checked_all c outs (LastCodes lists) size given all =
     )
 checked_all c outs (LastTooHigh change) size given all =
     let below = slice_get_within outs all.0 (TooHigh change) all.1 in
-    rw (get_or_from_slice_get outs all.0 (TooHigh change) (TooHigh change) all.1) at (given all.0 (TooHigh change) (omega (arith, below, size)))
+    rw (get_or_from_slice_get outs all.0 (TooHigh change) (TooHigh change) all.1)
+    at (given all.0 (TooHigh change) (omega (arith, below, size)))

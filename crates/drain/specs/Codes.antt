@@ -14,7 +14,7 @@ use Rattle.tile_maps.specs.Maps.{IsMadeTile, IsMadeUpTo}
 use Rattle.drainage.specs.StepCounts.{no_count}
 use Rattle.drain.specs.Counts.{AreSoundCounts, Counted, IsChange, IsCheckedCode}
 use Rattle.drain.specs.Search.{AreEntriesShown}
-use Rattle.drain.specs.Surroundings.{IsFirstSteepest}
+use Rattle.drain.specs.Drops.{IsFirstSteepest}
 use Rattle.drain.specs.declared.codes.Checked.{Checked}
 use Rattle.drain.specs.declared.codes.Checked.TheVariants as checked
 use Rattle.drain.specs.declared.codes.TileCodes.{TileCodes}
@@ -64,7 +64,7 @@ abbrev pub IsOnwardWay : List (Option ℤ) → List (Option ℕ) → List ℕ �
 IsOnwardWay cells steps at level own way =
     (level_at cells at way ≡ level) × (own ≡ stored_at steps at way + 1)
 
--- `found` is the first of the ways from `start` on for which `Is` holds, or `None` if it holds of none.
+-- `found` is the first of the ways from `start` on for which `Is` holds; `None` if there is none.
 abbrev pub IsFirstWay : (ℕ → Type 0) → ℕ → Option ℕ → Type 0
 IsFirstWay Is start None = (way : ℕ) → start ≤ way → way < 8 → Is way → ⊥
 IsFirstWay Is start (Some first) =

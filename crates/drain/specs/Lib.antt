@@ -7,4 +7,4 @@ pub mod Search
 pub mod Codes
 pub mod Beginning
 pub mod Fitting
-pub mod Surroundings
+pub mod Drops

@@ -10,7 +10,7 @@ ghost use Rattle.std.specs.List.{list_any};
 ghost use Rattle.std.specs.Option.{option_zip};
 ghost use Rattle.terrain.specs.Raster.{IsHeight, greatest_drop};
 ghost use Rattle.drain.specs.Steepness.{direction_of, leads_on};
-ghost use Rattle.drain.specs.Surroundings.{HasHeights, IsFirstSteepest, IsGreatestFall, drop_by, drop_on};
+ghost use Rattle.drain.specs.Drops.{HasHeights, IsFirstSteepest, IsGreatestFall, drop_by, drop_on};
 ghost use Rattle.drain.specs.Fitting.{IsFitting};
 ghost use Rattle.drain.specs.declared.around.Around.{Around};
 

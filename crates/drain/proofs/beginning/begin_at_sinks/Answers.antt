@@ -29,7 +29,8 @@ loop-sink-preserved c =
     let passed = sink_passed t sinks i b c.loop-sink.counts c.loop-sink-test.true
     c.loop-sink.invariant in
     elim c.if-is_inner.branch [
-      | then-is_inner+then-is_some w ↦ rw (w.counts-is, w.index.ensures.value) (sink_put t sinks i b c.loop-sink.counts c.loop-sink-test.true c.loop-sink.invariant
+      | then-is_inner+then-is_some w ↦ rw (w.counts-is, w.index.ensures.value)
+          (sink_put t sinks i b c.loop-sink.counts c.loop-sink-test.true c.loop-sink.invariant
           c.sinks-sink-items.ensures.value c.in-Some.spot (c.is_inner.ensures.0 w.if-is_inner.true) at.1
           (sym (ap is_some w.at.ensures) ∙ sym w.is_some.ensures ∙ w.if-is_some.true))
       | else-is_inner w ↦

@@ -47,7 +47,8 @@ returns g c =
     (rw c.no_data.ensures at c.in_ok-window.ensures.shown) in
     let input = input_to g.terrain v w b old c.requires.0 c.requires.1.0 c.requires.1.1.0
     c.in_ok-window.ensures.bounds c.in_ok-old.ensures in
-    rw (c.in_ok-step_numbers.ensures, each_is c.deref-2.result.now, c.deref-2.ensures.value) (is_round t b w.cells old input c.requires.1.1.1.1 window.values.items on v.cutting v.tile
+    rw (c.in_ok-step_numbers.ensures, each_is c.deref-2.result.now, c.deref-2.ensures.value)
+    (is_round t b w.cells old input c.requires.1.1.1.1 window.values.items on v.cutting v.tile
     c.in_ok-counts.counts.items c.in_ok-list.list.items c.in_ok-window.ensures.lawful.cutting
     c.in_ok-window.ensures.bounds c.in_ok-counts.ensures
     (rw c.deref.ensures.value at c.in_ok-list.ensures))

@@ -38,13 +38,15 @@ module _ (c : After-of) where
   stored = c.of.ensures.number c.requires.change.walked.0
 
   pub lower_sum : count_sum (slice_set steps c.index_in-index.result c.of.result) < count_sum steps
-  lower_sum = simp index_is (set_less c.args.grid.now.terrain steps c.requires.counts c.args.change c.requires.change c.of.result
+  lower_sum = simp index_is
+      (set_less c.args.grid.now.terrain steps c.requires.counts c.args.change c.requires.change c.of.result
       stored less)
 
 pub returns-clause-counts : goal.returns-clause-counts
 returns-clause-counts c =
     let t = c.args.grid.now.terrain in
-    simp (index_is c) (set_counts t c.args.steps.now c.requires.counts c.args.change c.requires.change c.of.result (stored c)
+    simp (index_is c)
+    (set_counts t c.args.steps.now c.requires.counts c.args.change c.requires.change c.of.result (stored c)
     (less c))
 
 pub returns-clause-low : goal.returns-clause-low

@@ -15,7 +15,8 @@ search-requires-clause-counts c =
       spread-length b levels c.args.old.now c.pull.new.counts pulled.spread,
       c.in_ok-counts.ensures.len,
     ) in
-    rw (c.deref_mut-2.ensures.value, take_at c.pull.new.counts _ c.in_ok-counts.counts.len size) (spread_counts b levels c.args.old.now c.pull.new.counts c.requires.counts pulled.spread)
+    rw (c.deref_mut-2.ensures.value, take_at c.pull.new.counts _ c.in_ok-counts.counts.len size)
+    (spread_counts b levels c.args.old.now c.pull.new.counts c.requires.counts pulled.spread)
 
 pub returns-clause-lower : goal.returns-clause-lower
 returns-clause-lower c =

@@ -1,6 +1,6 @@
 use Rattle.std.proofs.Common.{◌≡◌, ◌≤◌}
 use Rattle.terrain.specs.Raster.{greatest_drop}
-use Rattle.drain.specs.Surroundings.{IsGreatestFall, drop_on}
+use Rattle.drain.specs.Drops.{IsGreatestFall, drop_on}
 use Rattle.drain.proofs.steepness.greatest_fall.Given as goal
 
 abbrev pub invariant-loop-turn : goal.invariant-loop-turn

@@ -1,6 +1,6 @@
 use Rattle.std.proofs.Common.{◌≡◌, ◌*◌, ap, refl, sym, to_z-of_z, ◌∙◌}
 use Rattle.drain.specs.Steepness.{weight}
-use Rattle.drain.specs.Surroundings.{weight_on}
+use Rattle.drain.specs.Drops.{weight_on}
 use Rattle.drain.proofs.Steepest.{steepest_is, weight_even, weight_odd}
 use Rattle.drain.proofs.steepness.steepest.Goals as goal
 use Rattle.drain.proofs.steepness.steepest.Goals.{then-goes_before, else-goes_before}

@@ -7,7 +7,8 @@ pub loop-col-preserved : goal.loop-col-preserved
 loop-col-preserved c =
     let input = c.args.self.now in
     elim c.match-lower.branch [
-      | in-Some+in_ok-push w ↦ rw (w.changes-is, w.in_ok-push.ensures.items) (All-push (IsChange input.terrain input.steps) _ _ c.loop-col.invariant
+      | in-Some+in_ok-push w ↦ rw (w.changes-is, w.in_ok-push.ensures.items)
+          (All-push (IsChange input.terrain input.steps) _ _ c.loop-col.invariant
           w.in-Some.ensures.change)
       | in_default w ↦ rw w.changes-is c.loop-col.invariant
     ]

@@ -1,5 +1,5 @@
--- The steepest way down by the eight heights around a cell. Ways are the eight directions, from 0 to 7
--- in code order.
+-- The steepest way down by the eight heights around a cell. Ways are the eight directions, from 0
+-- to 7 in code order.
 -- Private.
 use Rattle.std.specs.Prelude.{◌≡◌, ℕ, ◌%◌, ◌<◌, ◌≤◌, ◌*◌, ℤ, ◌-ℤ◌, List, length, Option, None, Some, option_map, slice_index_or}
 use Rattle.drain.specs.Steepness.{positive_part, weight}
@@ -21,9 +21,10 @@ pub record HasHeights (a : Around) (level : ℤ) (heights : List (Option ℤ)) :
 abbrev pub drop_on : ℤ → List (Option ℤ) → ℕ → ℕ
 drop_on level heights way = drop_by level (slice_index_or heights way None)
 
--- Of the ways of one parity below `2 * end`, `way` is the first with the greatest drop. Even ways lead
--- along a row or column, odd ones along a diagonal.
-pub record IsGreatestFall (level : ℤ) (heights : List (Option ℤ)) (parity end way : ℕ) : Type 0 where
+-- Of the ways of one parity below `2 * end`, `way` is the first with the greatest drop. Even ways
+-- lead along a row or column, odd ones along a diagonal.
+pub record IsGreatestFall (level : ℤ) (heights : List (Option ℤ))
+    (parity end way : ℕ) : Type 0 where
   pub within : way < 2 * end
   pub among : way % 2 ≡ parity
   pub bound : (other : ℕ) → other < 2 * end → other % 2 ≡ parity →
@@ -44,7 +45,8 @@ pub record IsSteepestWay (level : ℤ) (heights : List (Option ℤ)) (way : ℕ)
   pub below : way < 8
   pub down : 0 < drop_on level heights way
   pub bound : (other : ℕ) → other < 8 → weight_on level heights other ≤ weight_on level heights way
-  pub first : (other : ℕ) → other < way → weight_on level heights other < weight_on level heights way
+  pub first : (other : ℕ) → other < way →
+      weight_on level heights other < weight_on level heights way
 
 -- `found` is the first of the steepest ways down, or `None` if no way leads down.
 abbrev pub IsFirstSteepest : ℤ → List (Option ℤ) → Option ℕ → Type 0
