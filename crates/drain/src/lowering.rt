@@ -108,8 +108,7 @@ impl Lowered {
         let end = (from.place.col + 2).min(self.bounds.left + self.bounds.cols);
         for col in first..end {
             let to = Place { row, col };
-            let count = from.count + 1;
-            if input.count(to) <= count || self.has_lowered(to, count) {
+            if self.has_lowered(to, from.count + 1) {
                 continue;
             }
             if let Some(change) = input.lower(from, to) {
