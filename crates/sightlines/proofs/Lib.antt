@@ -11,5 +11,7 @@ mod Ranges
 -- the crossings of a line, from either end
 pub mod Crossings
 pub mod Seen
+-- targets at several heights
+pub mod Higher
 -- blocks of cells below the line
 pub mod LowBlocks

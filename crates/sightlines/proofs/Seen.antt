@@ -2,7 +2,7 @@
 -- nor the walk over rows is blocked. If terrain and elevations are within their limits too, the two
 -- lines are `AreSightlines`. A target beyond the radius is not seen. The last lemmas serve
 -- `may_see`: a blocked walk hides the target.
-use Rattle.std.proofs.Common.{arith, refl, sym, ap, ◌∙◌, ◌≡◌, ℤ, pos, ◌+ℤ◌, ℕ, Bool, true, false, not, ◌&&◌, Some, is_some}
+use Rattle.std.proofs.Common.{arith, refl, sym, ap, ◌∙◌, ◌≡◌, ℤ, pos, ◌+ℤ◌, ℕ, Bool, true, false, not, ◌&&◌, ◌||◌, Some, is_some}
 use Rattle.terrain.specs.Raster.{Terrain, IsTerrain}
 use Rattle.terrain.specs.Neighbours.{IsInside, height_at}
 use Rattle.terrain.specs.declared.place.Place.{Place}
@@ -109,3 +109,7 @@ pub seen_if_open : (seen is_open a b rows : Bool) → seen ≡ (not a && not b) 
     (rows ≡ true → b ≡ true) → (not rows && is_open) ≡ seen
 seen_if_open seen is_open a b true is same reported = hidden_by_rows seen a b is (reported refl)
 seen_if_open seen is_open a b false is same reported = sym same
+
+pub hidden_by_either : (seen a b : Bool) → seen ≡ (not a && not b) → (a || b) ≡ true → seen ≡ false
+hidden_by_either seen true b is blocked = is
+hidden_by_either seen false b is blocked = is ∙ ap not blocked

@@ -4,10 +4,12 @@
 //! tested where it crosses the columns and the rows of cell centres. The earth counts as flat.
 //!
 //! [`sees`] tests crossings until one hides the target. [`sees_past_blocks`] returns the result of
-//! `sees` and skips blocks of cells below the line. Depends on `terrain` alone.
+//! `sees` and skips blocks of cells below the line. [`least_height`] returns the least target height
+//! at which `sees` returns true. Depends on `terrain` alone.
 //!
 //! Modules, callers first:
 //!
+//! - `rise`: the least target height at which a place is seen
 //! - `line`: whether a place is seen
 //! - `passing`: skips blocks of cells below the line
 //! - `walk`: steps from crossing to crossing
@@ -20,9 +22,11 @@ pub mod laws;
 mod line;
 mod passing;
 mod reach;
+mod rise;
 mod tops;
 mod walk;
 
 pub use line::{WalkCache, elevation, may_see, sees, sees_past_blocks};
 pub use reach::is_in_reach;
+pub use rise::least_height;
 pub use tops::{FAR_BLOCK, MaxHeights, NEAR_BLOCK, blocks_in};

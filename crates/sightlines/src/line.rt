@@ -2,11 +2,11 @@
 //!
 //! [`sees`] tests crossings until one blocks. [`sees_past_blocks`] first tests those about as far
 //! from the observer as crossings that hid earlier targets. [`may_see`] tests only a few.
-ghost use Rattle.std.specs.Prelude.{◌≡◌, ◌<◌, ◌≤◌, pos, ◌+ℤ◌, true, false, not, is_some, ◌&&◌, MatchOption};
+ghost use Rattle.std.specs.Prelude.{◌≡◌, ℕ, ◌<◌, ◌≤◌, pos, ◌+ℤ◌, true, false, not, is_some, ◌&&◌, ◌||◌, MatchOption};
 ghost use Rattle.terrain.specs.Raster.{IsHeight};
 ghost use Rattle.terrain.specs.Neighbours.{IsInside};
 ghost use Rattle.sightlines.specs.Sight.{highest_eye, longest_radius, is_open, is_seen, place_of};
-ghost use Rattle.sightlines.specs.Walk.{AreHeights, IsElevation, IsSightline, CoversLine, AreSightlines, walk_blocks};
+ghost use Rattle.sightlines.specs.Walk.{AreHeights, IsElevation, IsSightline, CoversLine, AreSightlines, over_columns, over_rows, walk_blocks};
 ghost use Rattle.sightlines.specs.Blocks.{IsTops, IsPeak, AreTopsAlong, blocks_in};
 
 use crate::passing::{BlockStrides, blocking_step_past_blocks};
@@ -35,9 +35,9 @@ pub(crate) struct Sightlines {
 }
 
 /// Returns both forms of the line of sight from a target to an observer.
-/// `None` if either cell is NODATA or the target is outside the radius.
+/// `None` if either cell is NODATA or the target is outside the radius: it is seen at no height.
 #[inline(always)]
-fn lines_of_sight(
+pub(crate) fn lines_of_sight(
     grid: &Grid,
     observer: &Observer,
     target: Place,
@@ -50,7 +50,7 @@ fn lines_of_sight(
     requires height { target_height ≤ highest_eye }
     requires radius { (1 ≤ radius) × (radius ≤ longest_radius) }
     ensures { MatchOption result
-        (is_seen grid.now.terrain observer.now target target_height radius ≡ false)
+        ((height : ℕ) → is_seen grid.now.terrain observer.now target height radius ≡ false)
         (λ lines. AreSightlines grid.now.terrain observer.now target target_height radius lines) }
 {
     let stride = grid.cols() as usize;
@@ -137,7 +137,7 @@ pub fn sees(
 const FIRST_CROSSINGS: u32 = 2;
 
 /// The most crossings tested about as far from the observer as a kept blocker.
-const NEARBY_CROSSINGS: u32 = 4;
+pub(crate) const NEARBY_CROSSINGS: u32 = 4;
 
 /// Whether one of at most `crossings` crossings, from step `first` on, blocks.
 #[inline(always)]
@@ -185,8 +185,18 @@ pub fn may_see(
     !is_blocked_from(cells, lines.rows, 1, FIRST_CROSSINGS)
 }
 
+/// Returns the first of a few steps about `left` steps from the observer.
+/// On a line with fewer steps, they are those nearest to the target.
+#[inline(always)]
+pub(crate) fn first_nearby(line: Sightline, left: u32) -> u32
+    requires { IsSightline line }
+    ensures { (0 < result) × (result ≤ 4096) }
+{
+    let step = line.steps().saturating_sub(left);
+    step.saturating_sub(NEARBY_CROSSINGS / 2).max(1)
+}
+
 /// Whether one of a few crossings about `left` steps from the observer blocks.
-/// On a line with fewer steps, tests the crossings nearest to the target.
 #[inline(always)]
 fn is_blocked_near(cells: &[Cell], line: Sightline, left: u32) -> bool
     requires heights { AreHeights cells.now }
@@ -194,9 +204,7 @@ fn is_blocked_near(cells: &[Cell], line: Sightline, left: u32) -> bool
     requires over { CoversLine cells.now line.lead line.side }
     ensures { result ≡ true → walk_blocks cells.now line ≡ true }
 {
-    let step = line.steps().saturating_sub(left);
-    let first = step.saturating_sub(NEARBY_CROSSINGS / 2).max(1);
-    is_blocked_from(cells, line, first, NEARBY_CROSSINGS)
+    is_blocked_from(cells, line, first_nearby(line, left), NEARBY_CROSSINGS)
 }
 
 /// A crossing that hid an earlier target.
@@ -204,15 +212,15 @@ fn is_blocked_near(cells: &[Cell], line: Sightline, left: u32) -> bool
 /// columns from the observer.
 #[derive(Clone, Copy)]
 pub(crate) struct Blocker {
-    over_rows: bool,
-    left: u32,
+    pub over_rows: bool,
+    pub left: u32,
 }
 
 impl Blocker {
     /// Whether a crossing about as far from the observer as `self` hides a target.
     /// `lines` has both forms of the line of sight from this target.
     #[inline(always)]
-    fn hides(self, cells: &[Cell], lines: Sightlines) -> bool
+    pub(crate) fn hides(self, cells: &[Cell], lines: Sightlines) -> bool
         requires heights { AreHeights cells.now }
         requires columns { IsSightline lines.columns }
         requires rows { IsSightline lines.rows }
@@ -253,7 +261,7 @@ const COLUMNS: usize = 256;
 /// target was last found hidden; in an empty cache it is arbitrary.
 #[derive(Clone, Copy)]
 pub struct WalkCache {
-    last: Blocker,
+    pub(crate) last: Blocker,
     above: [Option<Blocker>; COLUMNS],
     /// The number of crossings that walks tested block by block, at most 2^32 - 1.
     /// Where one blocks, all crossings of its block count. Those tested first, near an earlier
@@ -278,14 +286,14 @@ impl WalkCache {
 
     /// Returns the blocker kept for a column, if any.
     #[inline(always)]
-    fn above(&self, col: u32) -> Option<Blocker> {
+    pub(crate) fn above(&self, col: u32) -> Option<Blocker> {
         self.above[col as usize % COLUMNS]
     }
 
     /// Keeps the blocker of a target in column `col`, also as `last`.
     /// `None`, for a seen target, leaves `last` as it was.
     #[inline(always)]
-    fn keep(&mut self, col: u32, blocker: Option<Blocker>) {
+    pub(crate) fn keep(&mut self, col: u32, blocker: Option<Blocker>) {
         if let Some(blocker) = blocker {
             self.last = blocker;
         }
@@ -351,6 +359,44 @@ fn blocker_on(
     })
 }
 
+/// Returns a crossing that hides a target, if any; skips blocks below the line.
+/// `lines` has both forms of the line of sight. Adds the number of crossings of each near block that
+/// it tests to `crossings_tested`.
+#[inline(always)]
+pub(crate) fn blocker_past_blocks(
+    grid: &Grid,
+    tops: &MaxHeights,
+    observer: &Observer,
+    target: Place,
+    lines: Sightlines,
+    crossings_tested: &mut u32,
+) -> Option<Blocker>
+    requires tops { IsTops grid.now.terrain tops.now }
+    requires observer { IsInside grid.now.terrain (place_of observer.now) }
+    requires target { IsInside grid.now.terrain target }
+    requires columns { lines.columns ≡ over_columns grid.now.terrain target (place_of observer.now)
+        lines.columns.from_elevation lines.columns.to_elevation }
+    requires rows { lines.rows ≡ over_rows grid.now.terrain target (place_of observer.now)
+        lines.rows.from_elevation lines.rows.to_elevation }
+    requires small { IsSightline lines.columns × IsSightline lines.rows }
+    requires over_columns { CoversLine grid.now.terrain.cells lines.columns.lead lines.columns.side }
+    requires over_rows { CoversLine grid.now.terrain.cells lines.rows.lead lines.rows.side }
+    ensures { is_some result ≡ (walk_blocks grid.now.terrain.cells lines.columns
+        || walk_blocks grid.now.terrain.cells lines.rows) }
+{
+    let cells = grid.cells();
+    let cols = grid.cols();
+    let near = along_columns(NEAR_BLOCK, cols);
+    let far = along_columns(FAR_BLOCK, cols);
+    let tested = &mut *crossings_tested;
+    if let Some(blocker) = blocker_on(cells, tops, near, far, lines.columns, false, tested) {
+        return Some(blocker);
+    }
+    let near = along_rows(NEAR_BLOCK, cols);
+    let far = along_rows(FAR_BLOCK, cols);
+    blocker_on(cells, tops, near, far, lines.rows, true, crossings_tested)
+}
+
 /// Returns the result of [`sees`], and skips blocks of cells below the line.
 /// `tops` has the blocks' greatest heights; `walked` keeps the crossings that hid earlier targets.
 /// Crossings about as far from the observer as those are tested first: they often hide this target.
@@ -394,18 +440,8 @@ pub fn sees_past_blocks(
             return false;
         }
     }
-    let cols = grid.cols();
-    let near = along_columns(NEAR_BLOCK, cols);
-    let far = along_columns(FAR_BLOCK, cols);
     let tested = &mut walked.crossings_tested;
-    if let Some(blocker) = blocker_on(cells, tops, near, far, lines.columns, false, tested) {
-        walked.keep(target.col, Some(blocker));
-        return false;
-    }
-    let near = along_rows(NEAR_BLOCK, cols);
-    let far = along_rows(FAR_BLOCK, cols);
-    let tested = &mut walked.crossings_tested;
-    let blocker = blocker_on(cells, tops, near, far, lines.rows, true, tested);
+    let blocker = blocker_past_blocks(grid, tops, observer, target, lines, tested);
     walked.keep(target.col, blocker);
     blocker.is_none()
 }
