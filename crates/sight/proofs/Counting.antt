@@ -1,14 +1,12 @@
 -- After each observer, a tile's values count the observers so far that see each data cell.
-use Rattle.std.proofs.Common.{arith, refl, sym, ap, ◌∙◌, ◌≡◌, ◌+◌, ◌-◌, ◌*◌, ◌/◌, ◌%◌, ◌<◌, ℕ, ℤ, Bool, true, false, List, length, get_or, take, Option, None, Some, option_map, slice_get, inl, inr}
+use Rattle.std.proofs.Common.{arith, refl, sym, ap, ◌∙◌, ◌≡◌, ◌+◌, ◌*◌, ◌<◌, ℕ, ℤ, Bool, true, false, List, length, get_or, take, Option, None, Some, option_map, slice_get, inl, inr}
 use Rattle.std.proofs.lemmas.Bool.{cases_lt}
 use Rattle.std.proofs.lemmas.List.{get_or_past, length-take}
 use Rattle.std.proofs.lemmas.List.Sums.{count_by_more_yes, count_by_more_no, count_by-le-length}
 use Rattle.std.proofs.lemmas.Option.{get_or_from_slice_get, slice_get-get_or}
-use Rattle.std.proofs.lemmas.Nat.{div-add-mod', mod_below, div_below}
 use Rattle.terrain.specs.Raster.{Terrain}
 use Rattle.terrain.specs.Neighbours.{height_at}
 use Rattle.terrain.specs.declared.place.Place.{Place}
-use Rattle.terrain.proofs.Places.{make_place}
 use Rattle.tiles.specs.declared.bounds.Bounds.{Bounds}
 use Rattle.tiles.specs.Cutting.{IsInBounds, index_in}
 use Rattle.tile_maps.specs.Maps.{IsMadeUpTo}
@@ -16,6 +14,8 @@ use Rattle.sightlines.specs.Sight.{is_seen}
 use Rattle.sight.specs.Viewshed.{viewshed_value}
 use Rattle.sight.specs.Viewed.{value_at, HasValue, counted, AreAtMost}
 use Rattle.sight.specs.Flags.{AreFlags, FlagsSeen}
+use Rattle.sight.specs.Lowered.{place_in}
+use Rattle.sight.proofs.Indexed.{place_inside, place_at}
 use Rattle.terrain.specs.declared.observer.Observer.{Observer}
 
 counted_yes : (h : Option ℤ) (n m : ℕ) → m ≡ n + 1 →
@@ -76,44 +76,16 @@ value_few : (h : Option ℤ) (n m : ℕ) → option_map (λ _. m) h ≡ Some n �
 value_few None n m e = absurd (cc)
 value_few (Some x) n m e = cc
 
-module _ (b : Bounds) (k : ℕ) (below : k < b.rows * b.cols) where
-  place : Place
-  place = make_place (b.top + k / b.cols) (b.left + k % b.cols)
-
-  some_cols : 0 < b.cols
-  some_cols = positive b.rows b.cols k below
-    where
-      positive : (r c k : ℕ) → k < r * c → 0 < c
-      positive r c k h = grind arith
-
-  inside : IsInBounds b place
-  unfolding place
-  inside = (
-    omega arith,
-    omega (arith, div_below k b.cols b.rows some_cols (omega (arith, below))),
-    omega arith,
-    omega (arith, mod_below k b.cols some_cols),
-  )
-
-  at : index_in b place ≡ k
-  unfolding place
-  at =
-      let row : b.top + k / b.cols - b.top ≡ k / b.cols = omega arith in
-      let whole = div-add-mod' k b.cols in
-      let rows : (b.top + k / b.cols - b.top) * b.cols ≡ k / b.cols * b.cols =
-      ap (λ n. n * b.cols) row in
-      omega (arith, rows, whole)
-
 pub few : (t : Terrain) (os : List Observer) (target radius i : ℕ)
     (b : Bounds) (values : List (Option ℕ)) → IsMadeUpTo b (HasValue t (take i os) target radius)
     (b.rows * b.cols) values → AreAtMost i values
 few t os target radius i b values made k n e = elim (cases_lt k (length values)) [
   | inl less ↦
       (let below : k < b.rows * b.cols = omega (arith, made.size) in
-      let p = place b k below in
+      let p = place_in b k in
       let here : get_or values k None ≡ value_at t (take i os) target radius p =
-      made.each p (inside b k below) (omega (arith, at b k below)) (get_or values k None)
-      (ap (slice_get values) (at b k below) ∙ slice_get-get_or values k None less) in
+      made.each p (place_inside b k below) (omega (arith, place_at b k below)) (get_or values k None)
+      (ap (slice_get values) (place_at b k below) ∙ slice_get-get_or values k None less) in
       let is : n ≡ viewshed_value t (take i os) target radius p =
       value_few (height_at t p) n (viewshed_value t (take i os) target radius p) (sym here ∙ e) in
       omega (

@@ -25,6 +25,9 @@ pub mod Refused
 -- the values of a tile, observer by observer
 pub mod Far
 pub mod FlagLists
+pub mod Indexed
 pub mod Counting
--- the viewshed
+pub mod Lowering
+-- the viewshed and the rise
 pub mod Uniqueness
+pub mod Rises

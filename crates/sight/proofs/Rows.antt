@@ -1,9 +1,10 @@
--- Viewsheds and faults of small grids, computed from the definitions.
-use Rattle.std.proofs.Common.{◌≡◌, ℕ, List, [], ◌∷◌, map, Option, None, Some, negsuc, refl}
+-- Viewsheds, rises and faults of small grids, computed from the definitions.
+use Rattle.std.proofs.Common.{◌≡◌, ℕ, true, false, List, [], ◌∷◌, map, Option, None, Some, negsuc, refl}
 use Rattle.terrain.specs.Raster.{Terrain}
 use Rattle.terrain.specs.Ways.{places}
-use Rattle.sightlines.proofs.Rows.{land, up, hidden}
+use Rattle.sightlines.proofs.Rows.{land, up, hidden, at}
 use Rattle.sight.specs.Viewshed.{viewshed_value}
+use Rattle.sight.specs.Rise.{is_seen_by_any}
 use Rattle.sight.specs.Refusals.{observers_fault}
 use Rattle.terrain.specs.declared.observer.Observer.{Observer}
 use Rattle.sight.specs.declared.fault.SightFault.{SightFault}
@@ -42,6 +43,14 @@ small_grids = refl
 
 hidden_by_a_row : values_from_corner hidden ≡ 1 ∷ 1 ∷ 1 ∷ 1 ∷ 1 ∷ 1 ∷ 1 ∷ 0 ∷ 1 ∷ 0 ∷ 0 ∷ 0 ∷ []
 hidden_by_a_row = refl
+
+abbrev pub slope : Terrain
+slope = land 3 1 (up 0 ∷ up 6 ∷ up 10 ∷ [])
+
+-- the last cell of a slope is seen from 2 units above its ground on
+seen_from_two_on : map (λ h. is_seen_by_any slope corner (at 0 2) h 8192) (0 ∷ 1 ∷ 2 ∷ 3 ∷ [])
+    ≡ false ∷ false ∷ true ∷ true ∷ []
+seen_from_two_on = refl
 
 abbrev pub flat : Terrain
 flat = land 3 3 (map up (0 ∷ 0 ∷ 0 ∷ 0 ∷ 0 ∷ 0 ∷ 0 ∷ 0 ∷ 0 ∷ []))

@@ -5,7 +5,7 @@ use Rattle.std.specs.List.{range_with_len}
 use Rattle.std.proofs.lemmas.List.FromFn.{fill_by_all}
 use Rattle.std.proofs.lemmas.Nat.{div-add-mod', mod_below, div_below}
 use Rattle.terrain.specs.Raster.{Terrain}
-use Rattle.terrain.specs.Neighbours.{height_at, entry_at, index_of}
+use Rattle.terrain.specs.Neighbours.{IsInside, height_at, entry_at, index_of}
 use Rattle.terrain.specs.declared.place.Place.{Place}
 use Rattle.terrain.proofs.Places.{entry-inside}
 use Rattle.sight.specs.Viewshed.{viewshed_value, IsViewshed}
@@ -15,7 +15,7 @@ use Rattle.tiles.specs.Cutting.{Cutting, Cuts}
 use Rattle.tile_maps.specs.Maps.{IsMadeMap}
 use Rattle.tile_maps.proofs.Whole.{map_of_size}
 
-abbrev place_of_index : ℕ → ℕ → Place
+abbrev pub place_of_index : ℕ → ℕ → Place
 place_of_index cols k = record { row = k / cols; col = k % cols }
 
 entry_is_value : (h : Option ℤ) (n : ℕ) (entry : Option ℕ) →
@@ -23,23 +23,32 @@ entry_is_value : (h : Option ℤ) (n : ℕ) (entry : Option ℕ) →
 entry_is_value None n entry e = e
 entry_is_value (Some x) n entry e = e
 
+-- the entry at index k is that of the place of index k, which is inside
+pub entry_of_index : (t : Terrain) (values : List (Option ℕ)) (k : ℕ) → k < t.cols * t.rows →
+    IsInside t (place_of_index t.cols k)
+    × (entry_at t.cols t.rows values (place_of_index t.cols k) ≡ get_or values k None)
+entry_of_index t values k below =
+    let p = place_of_index t.cols k in
+    let some : 0 < t.cols = positive t.cols t.rows k below in
+    let row : p.row < t.rows = div_below k t.cols t.rows some (omega (arith, below)) in
+    let col : p.col < t.cols = mod_below k t.cols some in
+    let at : index_of t.cols p ≡ k = div-add-mod' k t.cols in (
+      (row, col),
+      entry-inside t.cols t.rows values p row col ∙ ap (λ n. get_or values n None) at,
+    )
+  where
+    positive : (a b k : ℕ) → k < a * b → 0 < a
+    positive a b k h = grind arith
+
 -- the entry at index k is the viewshed value of the place of index k, or None for NODATA
 entry_is : (t : Terrain) (observers : List Observer) (target radius : ℕ) (values : List (Option ℕ))
     (k : ℕ) → IsViewshed t observers target radius values → k < t.cols * t.rows
     → get_or values k None ≡ value_at t observers target radius (place_of_index t.cols k)
 entry_is t observers target radius values k is below =
     let p = place_of_index t.cols k in
-    let some : 0 < t.cols = positive t.cols t.rows k below in
-    let row : p.row < t.rows = div_below k t.cols t.rows some (omega (arith, below)) in
-    let col : p.col < t.cols = mod_below k t.cols some in
-    let at : index_of t.cols p ≡ k = div-add-mod' k t.cols in
-    ap (λ n. get_or values n None) (sym at)
-    ∙ sym (entry-inside t.cols t.rows values p row col)
-    ∙ entry_is_value (height_at t p) (viewshed_value t observers target radius p)
-    (entry_at t.cols t.rows values p) (is.each p (row, col))
-  where
-    positive : (a b k : ℕ) → k < a * b → 0 < a
-    positive a b k h = grind arith
+    let at = entry_of_index t values k below in
+    sym at.1 ∙ entry_is_value (height_at t p) (viewshed_value t observers target radius p)
+    (entry_at t.cols t.rows values p) (is.each p at.0)
 
 all_are : (t : Terrain) (observers : List Observer) (target radius : ℕ) (values : List (Option ℕ)) →
     IsViewshed t observers target radius values

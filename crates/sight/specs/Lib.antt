@@ -1,4 +1,6 @@
 pub mod Viewshed
+pub mod Rise
+pub mod Lowered
 pub mod BlockTops
 pub mod Sweep
 pub mod Ranks

@@ -1,16 +1,17 @@
-//! Viewsheds: how many observers see each cell of a terrain grid.
+//! Viewsheds: how many observers see each cell of a terrain grid, or from what height on.
 //!
-//! Begin with [`viewshed`]; [`sees`] tests one line of sight. Walks along lines of sight, or one
+//! Begin with [`viewshed`] and [`rise`]; [`sees`] tests one line of sight. Walks along lines of sight, or one
 //! sweep over the tile, flag the cells of a tile that one observer sees. Depends on `terrain`,
 //! `tiles`, `tile_jobs`, `tile_maps`, `horizons` and `sightlines`.
 //!
 //! Modules, callers first:
 //!
-//! - `viewing`: `viewshed`, which runs all stages
+//! - `viewing`: `viewshed` and `rise`, which run all stages
 //! - `judging`: finds the first fault of observers, target height and radius
 //! - `fault`: the faults of a viewshed and of its jobs
 //! - `tops`: the greatest heights of blocks of cells
 //! - `tile`: the viewshed values of one tile
+//! - `rise_tile`: the least target heights of one tile
 //! - `reach`: whether a tile has a cell within the radius
 //! - `flagging`: flags the cells that one observer sees, by walks or by a sweep
 //! - `sides`: sweeps a tile on all four sides of the observer
@@ -25,7 +26,7 @@
 //! - `extent`: parts of the grid whose cells have flags
 //! - `heights`: heights of cells in a list
 //! - `by_place`: builds lists with one entry for each place of a tile
-//! - `laws`: a theorem: a viewshed is unique
+//! - `laws`: theorems about viewsheds and rises
 #![tactic(auto)]
 
 mod by_place;
@@ -42,6 +43,7 @@ mod line_ground;
 mod looking;
 mod ranks;
 mod reach;
+mod rise_tile;
 mod rising;
 mod sides;
 mod sweep;
@@ -52,4 +54,4 @@ mod viewing;
 pub use fault::SightFault;
 pub use sightlines::sees;
 pub use terrain::Observer;
-pub use viewing::viewshed;
+pub use viewing::{rise, viewshed};

@@ -61,13 +61,12 @@ fn count_seen(seen: &[bool], values: &mut [Count])
 
 impl<'a> ViewshedInput<'a> {
     /// Whether a tile has a place within the radius of an observer.
-    fn reaches(&self, observer: &Observer, bounds: Bounds) -> bool
+    pub(crate) fn reaches(&self, observer: &Observer, bounds: Bounds) -> bool
         requires lawful { IsCutting self.now.tiling.now }
         requires inside { AreBounds self.now.tiling.now bounds }
         requires observer { IsInside self.now.grid.now.terrain (place_of observer.now) }
-        ensures { OnFalse result ((p : Place) → IsInBounds bounds p
-            → is_seen self.now.grid.now.terrain observer.now p self.now.target_height
-            self.now.radius ≡ false) }
+        ensures { OnFalse result ((p : Place) (height : ℕ) → IsInBounds bounds p
+            → is_seen self.now.grid.now.terrain observer.now p height self.now.radius ≡ false) }
     {
         let eye = Place {
             row: observer.row,

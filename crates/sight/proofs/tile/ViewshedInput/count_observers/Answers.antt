@@ -55,7 +55,7 @@ loop-observer-preserved g c =
       | else-reaches w ↦ subst Made (sym w.values-is)
           (unseen_counted t self.observers.now self.target_height self.radius i nobody c.args.bounds
           c.loop-observer.values c.loop-observer-test.true c.loop-observer.invariant
-          (OnFalse_at w.if-reaches.false c.reaches.ensures))
+          (λ p inside. OnFalse_at w.if-reaches.false c.reaches.ensures p self.target_height inside))
     ]
 
 pub returns : goal.returns

@@ -1,0 +1,29 @@
+-- How one more observer lowers the rise of a place.
+-- Private.
+use Rattle.std.specs.Prelude.{◌≡◌, ℕ, ◌+◌, ◌/◌, ◌%◌, ◌<◌, ◌≤◌, true, false, nat_lt, if◌then◌else◌, Option, Some, unwrap_or}
+use Rattle.terrain.specs.Raster.{Terrain}
+use Rattle.terrain.specs.declared.place.Place.{Place}
+use Rattle.terrain.specs.declared.observer.Observer.{Observer}
+use Rattle.tiles.specs.declared.bounds.Bounds.{Bounds}
+use Rattle.sightlines.specs.Sight.{is_seen, highest_eye}
+
+-- The heights below this one are those that would lower a value.
+abbrev pub limit_of : Option ℕ → ℕ
+limit_of value = unwrap_or value (highest_eye + 1)
+
+-- The number is the least height below `limit` at which the observer sees the place, or `limit`.
+pub record IsLeast (t : Terrain) (o : Observer) (radius : ℕ) (p : Place) (limit least : ℕ) :
+    Type 0 where
+  pub most : least ≤ limit
+  pub seen : least < limit → is_seen t o p least radius ≡ true
+  pub hidden : (h : ℕ) → h < least → is_seen t o p h radius ≡ false
+
+-- The new value is the least height at which the observer sees the place if that is below the old
+-- value; else it is the old value.
+abbrev pub IsLowered : Terrain → Observer → ℕ → Place → Option ℕ → Option ℕ → Type 0
+IsLowered t o radius p old new = (least : ℕ) × IsLeast t o radius p (limit_of old) least
+    × (new ≡ (if nat_lt least (limit_of old) then Some least else old))
+
+-- The place of an index in the row order of the bounds.
+abbrev pub place_in : Bounds → ℕ → Place
+place_in b index = record { row = b.top + index / b.cols; col = b.left + index % b.cols }
