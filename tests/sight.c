@@ -2,13 +2,16 @@
 //
 //     cc -O2 tests/sight.c -o sight
 //     ./sight ROW COL EYE TARGET RADIUS < heights > view
+//     ./sight ROW COL EYE rise RADIUS < heights > rise
 //
 // Reads the numbers of columns and rows and then the heights, of which -9999 is no data. Writes 1
-// for a cell that is seen, 0 for one that is not and -9999 for no data, a line for each row.
+// for a cell that is seen, 0 for one that is not and -9999 for no data, a line for each row. With
+// `rise` writes the least target height at which a cell is seen, and -9999 where there is none.
 #include <stdio.h>
 #include <stdlib.h>
+#include <string.h>
 
-enum { NODATA = -9999, MOST_CELLS = 1 << 20 };
+enum { NODATA = -9999, MOST_CELLS = 1 << 20, HIGHEST_TARGET = 1000000 };
 
 static long cols, rows, heights[MOST_CELLS];
 
@@ -46,6 +49,21 @@ static int is_seen(long from, long eye, long to, long target, long radius) {
            !is_blocked(level, from, labs(down), down < 0 ? -cols : cols, right, 1);
 }
 
+// The least target height at which a place is seen, by halves: what is seen stays seen as it rises.
+static long rise(long from, long eye, long to, long radius) {
+    if (!is_seen(from, eye, to, HIGHEST_TARGET, radius))
+        return NODATA;
+    long hidden = -1, seen = HIGHEST_TARGET;
+    while (seen - hidden > 1) {
+        long middle = (seen + hidden) / 2;
+        if (is_seen(from, eye, to, middle, radius))
+            seen = middle;
+        else
+            hidden = middle;
+    }
+    return seen;
+}
+
 static long number(const char *word) {
     return strtol(word, NULL, 10);
 }
@@ -58,9 +76,12 @@ int main(int count, char **words) {
             return 1;
     long from = number(words[1]) * cols + number(words[2]), eye = number(words[3]);
     long target = number(words[4]), radius = number(words[5]);
+    int is_rise = strcmp(words[4], "rise") == 0;
     for (long to = 0; to < cols * rows; to++) {
-        int value = heights[to] == NODATA ? NODATA : is_seen(from, eye, to, target, radius);
-        printf("%d%c", value, (to + 1) % cols ? ' ' : '\n');
+        long value = heights[to] == NODATA ? NODATA
+                     : is_rise             ? rise(from, eye, to, radius)
+                                           : is_seen(from, eye, to, target, radius);
+        printf("%ld%c", value, (to + 1) % cols ? ' ' : '\n');
     }
     return 0;
 }

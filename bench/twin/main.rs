@@ -5,6 +5,7 @@
 //!     twin fill|flow|accumulate|basins [--workers N] [--scale D] < grid.asc > map.asc
 //!     twin maps [--workers N] [--scale D] MAP.. < grid.asc > maps.asc
 //!     twin view [--workers N] [--scale D] [--target N] [--radius N] ROW,COL,EYE.. < grid.asc > map.asc
+//!     twin rise [--workers N] [--scale D] [--radius N] ROW,COL,EYE.. < grid.asc > map.asc
 //!     twin terrain hills|coast|.. COLUMNS ROWS SEED [SCALE] > grid.asc
 
 mod accumulate;
@@ -83,15 +84,14 @@ fn make_map(wish: &Wish) -> Result<(), String> {
         .map_err(|error| error.to_string())?;
     let (header, terrain) = read::read_grid(&text, wish.scale, wish.workers)?;
     drop(text);
+    let sight = Sight {
+        terrain: &terrain,
+        target: wish.target,
+        radius: wish.radius,
+    };
     match wish.map.as_str() {
-        "view" => {
-            let sight = Sight {
-                terrain: &terrain,
-                target: wish.target,
-                radius: wish.radius,
-            };
-            write_numbers(wish, &header, &sight.viewshed(&wish.observers, wish.workers))
-        }
+        "view" => write_numbers(wish, &header, &sight.viewshed(&wish.observers, wish.workers)),
+        "rise" => write_numbers(wish, &header, &sight.rise(&wish.observers, wish.workers)),
         "maps" => write_drainage(wish, &wish.several, &header, terrain),
         map => write_drainage(wish, &[map.to_string()], &header, terrain),
     }

@@ -1,5 +1,5 @@
-//! Viewsheds: exact lines of sight in whole numbers. A run of crossings is passed over where no ground near it
-//! reaches the line.
+//! Viewsheds and rises: exact lines of sight in whole numbers. A run of crossings is passed over where no ground
+//! near it reaches the line.
 
 use crate::frame::{Frame, Height, NODATA, NO_NUMBER};
 use crate::parallel::each;
@@ -7,6 +7,9 @@ use std::str::FromStr;
 
 /// Side of the blocks whose highest ground is known.
 const BLOCK: i64 = 16;
+
+/// The greatest height of a target above its ground.
+const HIGHEST_TARGET: i64 = 1_000_000;
 
 /// Rows of the map that a worker makes at once.
 const ROWS_AT_ONCE: usize = 16;
@@ -252,6 +255,19 @@ impl<'a> Ground<'a> {
 impl Sight<'_> {
     /// How many of the observers see each cell.
     pub fn viewshed(&self, observers: &[Observer], workers: usize) -> Frame<i32> {
+        self.map(workers, |ground, row, column, height| self.seen_by(ground, observers, row, column, height))
+    }
+
+    /// The least target height at which one of the observers sees each cell.
+    pub fn rise(&self, observers: &[Observer], workers: usize) -> Frame<i32> {
+        self.map(workers, |ground, row, column, height| self.risen(ground, observers, row, column, height))
+    }
+
+    /// The map that has this value at each data cell.
+    fn map<F>(&self, workers: usize, value: F) -> Frame<i32>
+    where
+        F: Fn(&Ground<'_>, i64, i64, Height) -> i32 + Sync,
+    {
         let terrain = self.terrain;
         let blocks = Blocks::new(terrain);
         let ground = Ground::new(terrain, &blocks);
@@ -260,9 +276,7 @@ impl Sight<'_> {
             |height| if height == NODATA { NO_NUMBER } else { 0 },
         );
         let parts = terrain.rows.div_ceil(ROWS_AT_ONCE);
-        let made = each(parts, workers, |part| {
-            self.rows_seen(&ground, observers, part)
-        });
+        let made = each(parts, workers, |part| self.rows_made(&ground, &value, part));
         let width = seen.width();
         for (body, part) in seen.body_mut().chunks_mut(ROWS_AT_ONCE * width).zip(made) {
             for (row, made) in body
@@ -276,7 +290,10 @@ impl Sight<'_> {
     }
 
     /// The values of some rows of the map.
-    fn rows_seen(&self, ground: &Ground<'_>, observers: &[Observer], part: usize) -> Vec<i32> {
+    fn rows_made<F>(&self, ground: &Ground<'_>, value: &F, part: usize) -> Vec<i32>
+    where
+        F: Fn(&Ground<'_>, i64, i64, Height) -> i32,
+    {
         let rows = part * ROWS_AT_ONCE..self.terrain.rows.min((part + 1) * ROWS_AT_ONCE);
         let cells = rows.flat_map(|row| {
             (0i64..)
@@ -288,7 +305,7 @@ impl Sight<'_> {
                 if height == NODATA {
                     NO_NUMBER
                 } else {
-                    self.seen_by(ground, observers, row, column, height)
+                    value(ground, row, column, height)
                 }
             })
             .collect()
@@ -310,5 +327,42 @@ impl Sight<'_> {
             down * down + east * east <= reach && ground.sees(observer, row, column, target_elevation)
         };
         observers.iter().filter(is_seen).count() as i32
+    }
+
+    /// The least target height at which one of the observers sees a cell: each observer lowers it by halves.
+    fn risen(
+        &self,
+        ground: &Ground<'_>,
+        observers: &[Observer],
+        row: i64,
+        column: i64,
+        height: Height,
+    ) -> i32 {
+        let reach = i64::from(self.radius) * i64::from(self.radius);
+        let mut least = HIGHEST_TARGET + 1;
+        for observer in observers {
+            let (down, east) = (row - observer.row, column - observer.column);
+            let sees = |target: i64| {
+                down * down + east * east <= reach && ground.sees(observer, row, column, height + target)
+            };
+            if least == 0 || !sees(least - 1) {
+                continue;
+            }
+            let mut hidden = -1;
+            least -= 1;
+            while least - hidden > 1 {
+                let middle = (least + hidden).div_euclid(2);
+                if sees(middle) {
+                    least = middle;
+                } else {
+                    hidden = middle;
+                }
+            }
+        }
+        if least > HIGHEST_TARGET {
+            NO_NUMBER
+        } else {
+            least as i32
+        }
     }
 }

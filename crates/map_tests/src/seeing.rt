@@ -1,9 +1,9 @@
-//! Tests lines of sight and viewsheds: small cases and refusals.
+//! Tests lines of sight, viewsheds and rises: small cases and refusals.
 //! Compares viewsheds with `sees`, which tests one line of sight.
 ghost use Rattle.std.specs.Prelude.{◌≡◌};
 
 use crate::ground::{cut, land};
-use sight::{Observer, SightFault, sees, viewshed};
+use sight::{Observer, SightFault, rise, sees, viewshed};
 use std::alloc::{AllocError, Global};
 use std::process::Abort;
 use std::sync::Wait;
@@ -91,6 +91,37 @@ fn expect_far<R: Abort + Threads + Wait + Sync>(
         LONGEST_RADIUS,
         expected,
     );
+}
+
+/// Asserts the rise of the land, for several tile sides and numbers of workers.
+fn expect_rise<R: Abort + Threads + Wait + Sync>(
+    rt: &R,
+    alloc: Global,
+    land: &Grid,
+    observers: &[Observer],
+    radius: u32,
+    expected: &str,
+) {
+    for (side, workers) in [(256, 1), (1, 8), (2, 2), (3, 1)] {
+        let tiling = cut(rt, land, side);
+        let heights = rise(
+            rt, alloc, land, observers, radius, &tiling, workers, &NoGate,
+        );
+        let values = heights.expect(rt, "a rise");
+        let text = draw_values(alloc, values.as_slice(), land.cols()).expect(rt, "a text");
+        assert_eq!(rt; text.as_str(), expected, "side {side}, {workers} workers");
+    }
+}
+
+/// The last cell is over both ridges at 9 units. A second observer lowers; past the radius is none.
+#[test]
+fn least_heights(rt: HostRuntime) {
+    let alloc = rt.alloc();
+    let land = land(&rt, alloc, 5, 1, "0 3 1 6 3");
+    expect_rise(&rt, alloc, &land, &[CORNER], LONGEST_RADIUS, "00509");
+    let both = [CORNER, observer(0, 4, 0)];
+    expect_rise(&rt, alloc, &land, &both, LONGEST_RADIUS, "00500");
+    expect_rise(&rt, alloc, &land, &[CORNER], 1, "00...");
 }
 
 /// A ridge hides a cell, unless eye or target is high enough. Past the radius no cell is seen.

@@ -12,9 +12,9 @@ use Rattle.terrain.specs.declared.sinks.SinkFault.{SinkFault}
 use Rattle.ascii_grid.specs.GridText.{IsGridText}
 use Rattle.tiles.specs.Cutting.{most_tiles}
 use Rattle.tiles.specs.declared.tiling.TilingFault.TheVariants.{TooManyTiles}
-use Rattle.request.specs.Request.{IsViewshedMap, Request}
+use Rattle.request.specs.Request.{IsSightMap, Request}
 use Rattle.request.specs.declared.map.Map.{Map}
-use Rattle.request.specs.declared.map.Map.TheVariants.{Fill, Flow, Accumulate, Basins, Catchments, View, Several}
+use Rattle.request.specs.declared.map.Map.TheVariants.{Fill, Flow, Accumulate, Basins, Catchments, View, Rise, Several}
 use Rattle.flow.specs.declared.gauges.GaugeFault.{GaugeFault}
 use Rattle.relief.specs.declared.fault.RunFault.{RunFault}
 use Rattle.relief.specs.declared.fault.RunFault.TheVariants.{Tiling, Sight, Sinks, Gauges}
@@ -97,7 +97,7 @@ pub sound_gauges : (w : Request) (g : Raster) → named_place_fault w g ≡ None
     gauge_fault g w.map ≡ None
 sound_gauges w g sound = no_gauges (sinks_fault g.terrain w.sinks) (gauge_fault g w.map) sound
 
-unseen : (g : Raster) (m : Map) → ¬ IsViewshedMap m → view_fault g m ≡ None
+unseen : (g : Raster) (m : Map) → ¬ IsSightMap m → view_fault g m ≡ None
 unseen g Fill drains = refl
 unseen g Flow drains = refl
 unseen g Accumulate drains = refl
@@ -105,15 +105,16 @@ unseen g Basins drains = refl
 unseen g (Catchments gauges) drains = refl
 unseen g (Several maps gauges) drains = refl
 unseen g (View observers target radius) drains = absurd (drains tt)
+unseen g (Rise observers radius) drains = absurd (drains tt)
 
--- Let tiles, sinks and gauges have no fault, and let no viewshed have sinks. If giving the grid one
+-- Let tiles, sinks and gauges have no fault, and let no viewshed or rise have sinks. If giving the grid one
 -- or more requested sinks ends with a fault, a run may return that fault: refused memory.
 pub sinks_refused : {T : Type 0} (w : Request) (g : Raster) (f : SinkFault) →
-    (IsViewshedMap w.map → w.sinks ≡ []) →
+    (IsSightMap w.map → w.sinks ≡ []) →
     eqb (length w.sinks) 0 ≡ false → tiles_of g w.tile ≤ most_tiles → named_place_fault w g ≡ None →
     RefusesSinks {T = T} (sinks_fault g.terrain w.sinks) (Err f) → IsFaultOnGrid w g (of_sinks f)
 sinks_refused w g f none some few sound h =
-    let drains : ¬ IsViewshedMap w.map = λ view. (let empty : eqb (length w.sinks) 0 ≡ true =
+    let drains : ¬ IsSightMap w.map = λ view. (let empty : eqb (length w.sinks) 0 ≡ true =
     ap (λ (ps : List Place). eqb (length ps) 0) (none view) in cc) in
     subst (λ (k : SinkFault). IsFaultOnGrid w g (of_sinks k))
     (sym (h.memory (sound_sinks w g sound) f refl))

@@ -16,8 +16,9 @@ use Rattle.drain.proofs.Unique.{same_entries, one_list_of_directions}
 use Rattle.flow.specs.Counts.{IsMapOf, accumulation, basin}
 use Rattle.flow.specs.Catchments.{AreCatchments, catchment}
 use Rattle.sight.proofs.Uniqueness.{viewsheds_are_one}
+use Rattle.sight.proofs.Rises.{rises_are_one}
 use Rattle.request.specs.declared.map.Map.{Map}
-use Rattle.request.specs.declared.map.Map.TheVariants.{Fill, Flow, Accumulate, Basins, Catchments, View, Several}
+use Rattle.request.specs.declared.map.Map.TheVariants.{Fill, Flow, Accumulate, Basins, Catchments, View, Rise, Several}
 use Rattle.request.specs.declared.map.DrainageMap.{DrainageMap}
 use Rattle.request.specs.declared.map.DrainageMap.TheVariants as drainage
 use Rattle.request.specs.Laws.{AreSame}
@@ -115,6 +116,9 @@ one_map_of_grid g (Catchments gauges) text other a b =
 one_map_of_grid g (View observers target radius) text other a b =
     a.2 ∙ ap (λ vs. counts_text g vs)
     (viewsheds_are_one g.terrain observers.items target radius a.0 b.0 a.1 b.1) ∙ sym b.2
+one_map_of_grid g (Rise observers radius) text other a b =
+    a.2 ∙ ap (λ vs. counts_text g vs)
+    (rises_are_one g.terrain observers.items radius a.0 b.0 a.1 b.1) ∙ sym b.2
 one_map_of_grid g (Several maps gauges) text other a b =
     one_joined_text g gauges.items maps.items text other a b
 
@@ -143,6 +147,8 @@ same_text g (Catchments gauges) (Catchments others) text same h = (
 )
 same_text g (Catchments gauges) (View observers target radius) text same h =
     subst (λ (k : Map). IsMapText g k text) (sym same) h
+same_text g (Catchments gauges) (Rise observers radius) text same h =
+    subst (λ (k : Map). IsMapText g k text) (sym same) h
 same_text g (Catchments gauges) (Several maps places) text same h =
     subst (λ (k : Map). IsMapText g k text) (sym same) h
 same_text g (View observers target radius) Fill text same h =
@@ -157,7 +163,25 @@ same_text g (View observers target radius) (Catchments gauges) text same h =
     subst (λ (k : Map). IsMapText g k text) (sym same) h
 same_text g (View observers target radius) (View others height reach) text same h =
     (h.0, rw (same.0, same.1, same.2) h.1, h.2)
+same_text g (View observers target radius) (Rise others reach) text same h =
+    subst (λ (k : Map). IsMapText g k text) (sym same) h
 same_text g (View observers target radius) (Several maps gauges) text same h =
+    subst (λ (k : Map). IsMapText g k text) (sym same) h
+same_text g (Rise observers radius) Fill text same h =
+    subst (λ (k : Map). IsMapText g k text) (sym same) h
+same_text g (Rise observers radius) Flow text same h =
+    subst (λ (k : Map). IsMapText g k text) (sym same) h
+same_text g (Rise observers radius) Accumulate text same h =
+    subst (λ (k : Map). IsMapText g k text) (sym same) h
+same_text g (Rise observers radius) Basins text same h =
+    subst (λ (k : Map). IsMapText g k text) (sym same) h
+same_text g (Rise observers radius) (Catchments gauges) text same h =
+    subst (λ (k : Map). IsMapText g k text) (sym same) h
+same_text g (Rise observers radius) (View others height reach) text same h =
+    subst (λ (k : Map). IsMapText g k text) (sym same) h
+same_text g (Rise observers radius) (Rise others reach) text same h =
+    (h.0, rw (same.0, same.1) h.1, h.2)
+same_text g (Rise observers radius) (Several maps gauges) text same h =
     subst (λ (k : Map). IsMapText g k text) (sym same) h
 same_text g (Several maps gauges) Fill text same h =
     subst (λ (k : Map). IsMapText g k text) (sym same) h
@@ -170,6 +194,8 @@ same_text g (Several maps gauges) Basins text same h =
 same_text g (Several maps gauges) (Catchments places) text same h =
     subst (λ (k : Map). IsMapText g k text) (sym same) h
 same_text g (Several maps gauges) (View observers target radius) text same h =
+    subst (λ (k : Map). IsMapText g k text) (sym same) h
+same_text g (Several maps gauges) (Rise observers radius) text same h =
     subst (λ (k : Map). IsMapText g k text) (sym same) h
 same_text g (Several maps gauges) (Several others places) text same h =
     subst (λ (ps : List Place). JoinsTexts (IsDrainageText g ps) maps.items text) (sym same.1)

@@ -15,7 +15,7 @@ use Rattle.flow.specs.declared.gauges.GaugeFault.{GaugeFault}
 use Rattle.sight.specs.declared.fault.SightFault.{SightFault}
 use Rattle.sight.specs.Refusals.{observers_fault}
 use Rattle.request.specs.declared.map.Map.{Map}
-use Rattle.request.specs.declared.map.Map.TheVariants.{Catchments, View, Several}
+use Rattle.request.specs.declared.map.Map.TheVariants.{Catchments, View, Rise, Several}
 use Rattle.relief.specs.declared.fault.RunFault.{RunFault}
 use Rattle.relief.specs.declared.fault.RunFault.TheVariants.{Grid, Tiling, Jobs, Sight, Sinks, Gauges, Read, Write}
 use Rattle.request.specs.Request.{Request}
@@ -24,10 +24,12 @@ use Rattle.request.specs.Request.{Request}
 abbrev pub tiles_of : Raster → ℕ → ℕ
 tiles_of g side = tile_count (record { cols = g.terrain.cols; rows = g.terrain.rows; side = side })
 
--- The fault of a viewshed's observers, target height or radius; other maps have none.
+-- The fault of observers, target height or radius of a viewshed, or of a rise, whose lowest target
+-- has height 0; other maps have none.
 abbrev pub view_fault : Raster → Map → Option SightFault
 view_fault g (View observers target radius) =
     observers_fault g.terrain observers.items target radius
+view_fault g (Rise observers radius) = observers_fault g.terrain observers.items 0 radius
 view_fault g map = None
 
 -- The fault of the gauges of catchments, or of several maps; other maps have none.

@@ -18,7 +18,7 @@ use drainage::Directions;
 use fill::filled;
 use flow::{accumulation, basins, catchments, gauges_fault};
 use request::{DrainageMap, Map, Options};
-use sight::viewshed;
+use sight::{rise, viewshed};
 use std::alloc::Global;
 use std::sync::Wait;
 use std::thread::Threads;
@@ -113,7 +113,7 @@ pub(crate) fn prepare(
     Ok((grid, tiling))
 }
 
-/// Makes the requested map or maps. For a view, first checks observers, target and radius.
+/// Makes the requested map or maps. For a view or a rise, first checks its observers and radius.
 pub(crate) fn make_map<'a, H: Threads + Wait + Sync, G: Gate + Sync>(
     rt: &H,
     alloc: Global,
@@ -165,6 +165,10 @@ pub(crate) fn make_map<'a, H: Threads + Wait + Sync, G: Gate + Sync>(
                 rt, alloc, &grid, observers, *target, *radius, tiling, workers, gate,
             )?;
             Ok(MadeMap::Counts(grid.into_frame(), counts))
+        }
+        Map::Rise { observers, radius } => {
+            let heights = rise(rt, alloc, &grid, observers, *radius, tiling, workers, gate)?;
+            Ok(MadeMap::Counts(grid.into_frame(), heights))
         }
         Map::Several { maps, gauges } => {
             let maps = maps.as_slice();

@@ -1,7 +1,7 @@
 -- An option's value spells at most one number: the one read from it, or none if none is read. The
 -- first word that spells nothing is the bad word. If a command line names a map, none of its
--- observer or gauge words is bad and its map words have no fault; if it names a viewshed, it has no
--- sink words.
+-- observer or gauge words is bad and its map words have no fault; if it names a viewshed or a rise, it
+-- has no sink words.
 use Rattle.std.proofs.Common.{◌≡◌, ◌<◌, ◌^◌, ℕ, zero, suc, Bool, false, List, [], ◌∷◌, length, map, take, drop, get_or, slice_index, slice_index_or, codes, arith, Bor, Option, Some, None, Result, IfSome, IfNone, sym, ap, refl, ◌∙◌, subst, inl, inr}
 use Rattle.std.specs.Prelude.{is_none, option_map, unwrap_or}
 use Rattle.std.specs.List.{position, position_or_len}
@@ -18,14 +18,14 @@ use Rattle.clap.specs.Matches.{ReadsOne}
 use Rattle.clap.specs.declared.parser.matches.Found.{Found}
 use Rattle.clap.proofs.WalkLemmas.{raw_values-rows}
 use Rattle.terrain.specs.declared.observer.Observer.{Observer}
-use Rattle.request.specs.CommandLine.{HasNumber, HasObservers, IsFirstBad, Names, Spell, TakesGauges, sink_words, words_of}
+use Rattle.request.specs.CommandLine.{HasNumber, HasObservers, IsFirstBad, Names, Spell, TakesGauges, TakesObservers, sink_words, words_of}
 use Rattle.request.specs.PlaceWords.{observer_of, place_of_word}
-use Rattle.request.specs.Request.{IsViewshedMap}
+use Rattle.request.specs.Request.{IsSightMap}
 use Rattle.request.specs.WordsFaults.{IsBadObserverAfter, IsBadGaugeAfter, IsFaultWith, IsMapsFaultAfter}
 use Rattle.request.specs.declared.words.WordsFault.{WordsFault}
 use Rattle.request.specs.declared.words.WordsFault.TheVariants.{Clap, BadObserver, BadGauge, BadSink, BadMaps, NoMap}
 use Rattle.request.specs.declared.map.Map.{Map}
-use Rattle.request.specs.declared.map.Map.TheVariants.{Fill, Flow, Accumulate, Basins, Catchments, View, Several}
+use Rattle.request.specs.declared.map.Map.TheVariants.{Fill, Flow, Accumulate, Basins, Catchments, View, Rise, Several}
 use Rattle.request.specs.declared.map_words.MapsFault.{MapsFault}
 
 pub same_number : (rows : List Row) (id : Text) (m n : ℕ) → HasNumber rows id m →
@@ -92,7 +92,27 @@ only_view rows never Basins e = let bad : ◌≡◌ {A = ℕ} 118 98 =
 only_view rows never (Catchments gauges) e = let bad : ◌≡◌ {A = ℕ} 118 99 =
     ap (λ (t : Text). slice_index t 0) e.0 in absurd (omega arith)
 only_view rows never (View os t r) n = never os.items t r n.1 n.2 n.3
+only_view rows never (Rise os r) n = let bad : ◌≡◌ {A = ℕ} 118 114 =
+    ap (λ (t : Text). slice_index t 0) n.0 in absurd (omega arith)
 only_view rows never (Several maps gauges) n = let bad : ◌≡◌ {A = ℕ} 118 109 =
+    ap (λ (t : Text). slice_index t 0) n.0 in absurd (omega arith)
+
+pub only_rise : (rows : List Row) → ((r : ℕ) → HasNumber rows (codes "radius") r → ⊥) →
+    (m : Map) → Names (codes "rise") rows m → ⊥
+only_rise rows never Fill e = let bad : ◌≡◌ {A = ℕ} 114 102 =
+    ap (λ (t : Text). slice_index t 0) e in absurd (omega arith)
+only_rise rows never Flow e = let bad : ◌≡◌ {A = ℕ} 114 102 =
+    ap (λ (t : Text). slice_index t 0) e in absurd (omega arith)
+only_rise rows never Accumulate e = let bad : ◌≡◌ {A = ℕ} 114 97 =
+    ap (λ (t : Text). slice_index t 0) e in absurd (omega arith)
+only_rise rows never Basins e = let bad : ◌≡◌ {A = ℕ} 114 98 =
+    ap (λ (t : Text). slice_index t 0) e in absurd (omega arith)
+only_rise rows never (Catchments gauges) e = let bad : ◌≡◌ {A = ℕ} 114 99 =
+    ap (λ (t : Text). slice_index t 0) e.0 in absurd (omega arith)
+only_rise rows never (View os t r) n = let bad : ◌≡◌ {A = ℕ} 114 118 =
+    ap (λ (t : Text). slice_index t 0) n.0 in absurd (omega arith)
+only_rise rows never (Rise os r) n = never r n.2
+only_rise rows never (Several maps gauges) n = let bad : ◌≡◌ {A = ℕ} 114 109 =
     ap (λ (t : Text). slice_index t 0) n.0 in absurd (omega arith)
 
 module _ {X : Type 0} (of : Text → Option X) where
@@ -137,21 +157,30 @@ pub no_bad : (name : Text) (rows : List Row) (os : List Observer) (place : ℕ) 
 no_bad name rows os place has bad =
     none_bad observer_of _ os place has bad.1
 
+-- a name that begins with none of the letters v and r takes no observers
+takes_no_observers : (name : Text) (letter : ℕ) → slice_index name 0 ≡ letter →
+    (118 ≡ letter → ⊥) → (114 ≡ letter → ⊥) → ¬ TakesObservers name
+takes_no_observers name letter first v r takes = elim takes [
+  | inl is ↦ v (ap (λ (t : Text). slice_index t 0) (sym is) ∙ first)
+  | inr is ↦ r (ap (λ (t : Text). slice_index t 0) (sym is) ∙ first)
+]
+
 pub map_without_bad : (name : Text) (rows : List Row) (m : Map) (place : ℕ) → Names name rows m →
     ¬ IsBadObserverAfter name rows place
-map_without_bad name rows Fill place n bad = let no : ◌≡◌ {A = ℕ} 118 102 =
-    ap (λ (t : Text). slice_index t 0) (sym bad.0 ∙ n) in absurd (omega arith)
-map_without_bad name rows Flow place n bad = let no : ◌≡◌ {A = ℕ} 118 102 =
-    ap (λ (t : Text). slice_index t 0) (sym bad.0 ∙ n) in absurd (omega arith)
-map_without_bad name rows Accumulate place n bad = let no : ◌≡◌ {A = ℕ} 118 97 =
-    ap (λ (t : Text). slice_index t 0) (sym bad.0 ∙ n) in absurd (omega arith)
-map_without_bad name rows Basins place n bad = let no : ◌≡◌ {A = ℕ} 118 98 =
-    ap (λ (t : Text). slice_index t 0) (sym bad.0 ∙ n) in absurd (omega arith)
-map_without_bad name rows (Catchments gauges) place n bad = let no : ◌≡◌ {A = ℕ} 118 99 =
-    ap (λ (t : Text). slice_index t 0) (sym bad.0 ∙ n.0) in absurd (omega arith)
+map_without_bad name rows Fill place n bad = takes_no_observers name 102
+    (ap (λ (t : Text). slice_index t 0) n) (λ e. omega arith) (λ e. omega arith) bad.0
+map_without_bad name rows Flow place n bad = takes_no_observers name 102
+    (ap (λ (t : Text). slice_index t 0) n) (λ e. omega arith) (λ e. omega arith) bad.0
+map_without_bad name rows Accumulate place n bad = takes_no_observers name 97
+    (ap (λ (t : Text). slice_index t 0) n) (λ e. omega arith) (λ e. omega arith) bad.0
+map_without_bad name rows Basins place n bad = takes_no_observers name 98
+    (ap (λ (t : Text). slice_index t 0) n) (λ e. omega arith) (λ e. omega arith) bad.0
+map_without_bad name rows (Catchments gauges) place n bad = takes_no_observers name 99
+    (ap (λ (t : Text). slice_index t 0) n.0) (λ e. omega arith) (λ e. omega arith) bad.0
 map_without_bad name rows (View os t r) place n bad = no_bad name rows os.items place n.1 bad
-map_without_bad name rows (Several maps gauges) place n bad = let no : ◌≡◌ {A = ℕ} 118 109 =
-    ap (λ (t : Text). slice_index t 0) (sym bad.0 ∙ n.0) in absurd (omega arith)
+map_without_bad name rows (Rise os r) place n bad = no_bad name rows os.items place n.1 bad
+map_without_bad name rows (Several maps gauges) place n bad = takes_no_observers name 109
+    (ap (λ (t : Text). slice_index t 0) n.0) (λ e. omega arith) (λ e. omega arith) bad.0
 
 -- a name that begins with none of the letters c and m takes no gauges
 takes_no_gauges : (name : Text) (letter : ℕ) → slice_index name 0 ≡ letter → (99 ≡ letter → ⊥) →
@@ -161,10 +190,12 @@ takes_no_gauges name letter first c m takes = elim takes [
   | inr is ↦ m (ap (λ (t : Text). slice_index t 0) (sym is) ∙ first)
 ]
 
-pub view_without_gauges : (rows : List Row) (place : ℕ) →
-    ¬ IsBadGaugeAfter (codes "view") rows place
-view_without_gauges rows place bad = takes_no_gauges (codes "view") 118 refl (λ e. omega arith)
-    (λ e. omega arith) bad.0
+pub sight_without_gauges : (name : Text) (rows : List Row) (place : ℕ) → TakesObservers name →
+    ¬ IsBadGaugeAfter name rows place
+sight_without_gauges name rows place (inl view) bad = takes_no_gauges name 118
+    (ap (λ (t : Text). slice_index t 0) view) (λ e. omega arith) (λ e. omega arith) bad.0
+sight_without_gauges name rows place (inr rise) bad = takes_no_gauges name 114
+    (ap (λ (t : Text). slice_index t 0) rise) (λ e. omega arith) (λ e. omega arith) bad.0
 
 pub map_without_bad_gauge : (name : Text) (rows : List Row) (m : Map) (place : ℕ) →
     Names name rows m → ¬ IsBadGaugeAfter name rows place
@@ -179,6 +210,8 @@ map_without_bad_gauge name rows Basins place n bad = takes_no_gauges name 98
 map_without_bad_gauge name rows (Catchments gauges) place n bad =
     none_bad place_of_word _ gauges.items place n.1 bad.1
 map_without_bad_gauge name rows (View os t r) place n bad = takes_no_gauges name 118
+    (ap (λ (t : Text). slice_index t 0) n.0) (λ e. omega arith) (λ e. omega arith) bad.0
+map_without_bad_gauge name rows (Rise os r) place n bad = takes_no_gauges name 114
     (ap (λ (t : Text). slice_index t 0) n.0) (λ e. omega arith) (λ e. omega arith) bad.0
 map_without_bad_gauge name rows (Several maps gauges) place n bad =
     none_bad place_of_word _ gauges.items place n.1 bad.1
@@ -202,13 +235,17 @@ map_without_maps_fault name rows (Catchments gauges) fault n bad =
     not_maps name 99 (ap (λ (t : Text). slice_index t 0) n.0) (λ e. omega arith) bad.0
 map_without_maps_fault name rows (View os t r) fault n bad =
     not_maps name 118 (ap (λ (t : Text). slice_index t 0) n.0) (λ e. omega arith) bad.0
+map_without_maps_fault name rows (Rise os r) fault n bad =
+    not_maps name 114 (ap (λ (t : Text). slice_index t 0) n.0) (λ e. omega arith) bad.0
 map_without_maps_fault name rows (Several maps gauges) fault n bad =
     none-some fault (sym n.3 ∙ bad.2)
 
-pub view_without_maps_fault : (rows : List Row) (fault : MapsFault) →
-    ¬ IsMapsFaultAfter (codes "view") rows fault
-view_without_maps_fault rows fault bad =
-    not_maps (codes "view") 118 refl (λ e. omega arith) bad.0
+pub sight_without_maps_fault : (name : Text) (rows : List Row) (fault : MapsFault) →
+    TakesObservers name → ¬ IsMapsFaultAfter name rows fault
+sight_without_maps_fault name rows fault (inl view) bad =
+    not_maps name 118 (ap (λ (t : Text). slice_index t 0) view) (λ e. omega arith) bad.0
+sight_without_maps_fault name rows fault (inr rise) bad =
+    not_maps name 114 (ap (λ (t : Text). slice_index t 0) rise) (λ e. omega arith) bad.0
 
 -- words that each spell an item have no bad one among them
 pub no_first_bad : {X : Type 0} (of : Text → Option X) (words : List Text) (items : List X) →
@@ -219,16 +256,17 @@ no_first_bad of words items all = go (position (λ word. is_none (of word)) word
   go None e = e
   go (Some place) e = absurd (none_bad of words items place all e)
 
-pub view_without_sinks : (name : Text) (rows : List Row) (m : Map) → Names name rows m →
-    IsViewshedMap m →
-    Spell place_of_word (sink_words name rows) []
-view_without_sinks name rows Fill named view = absurd view
-view_without_sinks name rows Flow named view = absurd view
-view_without_sinks name rows Accumulate named view = absurd view
-view_without_sinks name rows Basins named view = absurd view
-view_without_sinks name rows (Catchments gauges) named view = absurd view
-view_without_sinks name rows (Several maps gauges) named view = absurd view
-view_without_sinks name rows (View os t r) named view =
+pub sight_without_sinks : (name : Text) (rows : List Row) (m : Map) → Names name rows m →
+    IsSightMap m → Spell place_of_word (sink_words name rows) []
+sight_without_sinks name rows Fill named view = absurd view
+sight_without_sinks name rows Flow named view = absurd view
+sight_without_sinks name rows Accumulate named view = absurd view
+sight_without_sinks name rows Basins named view = absurd view
+sight_without_sinks name rows (Catchments gauges) named view = absurd view
+sight_without_sinks name rows (Several maps gauges) named view = absurd view
+sight_without_sinks name rows (View os t r) named view =
+    subst (λ (n : Text). Spell place_of_word (sink_words n rows) []) (sym named.0) refl
+sight_without_sinks name rows (Rise os r) named view =
     subst (λ (n : Text). Spell place_of_word (sink_words n rows) []) (sym named.0) refl
 
 module _ {Observer Gauge Bad WrongGauge : ℕ → Type 0} {Maps BadMap : MapsFault → Type 0}

@@ -13,14 +13,14 @@ use Rattle.clap.specs.declared.parser.matches.SubCommand.{SubCommand}
 use Rattle.clap.proofs.OnLiterals.{clap_on_literals}
 use Rattle.request.specs.CommandLine.{HasBadGauge, HasBadObserver, HasBadSink, HasMapsFault, HasOptions, IsFirstBad, Names, Spell, RequestFor, is_flag_given, program_app, sink_words, words_given}
 use Rattle.request.specs.PlaceWords.{place_of_word}
-use Rattle.request.specs.Request.{AreLimits, IsViewshedMap, Request}
+use Rattle.request.specs.Request.{AreLimits, IsSightMap, Request}
 use Rattle.request.specs.WordsFaults.{IsBadObserverAfter, IsBadGaugeAfter, IsFaultWith, IsFaultOf, IsMapFault, IsMapsFaultAfter}
 use Rattle.request.specs.declared.words.WordsFault.{WordsFault}
 use Rattle.request.specs.declared.words.WordsFault.TheVariants.{Clap, BadObserver, BadGauge, BadSink, BadMaps, NoMap}
 use Rattle.request.specs.declared.map.Map.{Map}
 use Rattle.request.specs.declared.map_words.MapsFault.{MapsFault}
 use Rattle.terrain.specs.declared.place.Place.{Place}
-use Rattle.request.proofs.Given.{map_without_bad, map_without_bad_gauge, map_without_maps_fault, none_bad, view_without_gauges, view_without_maps_fault}
+use Rattle.request.proofs.Given.{map_without_bad, map_without_bad_gauge, map_without_maps_fault, none_bad, sight_without_gauges, sight_without_maps_fault}
 
 program_simple : is_simple program_app ≡ true
 unfolding clap_on_literals
@@ -74,7 +74,7 @@ module _ (words : List Text) (accepted : fault_of program_app words ≡ []) wher
 
     bad_after : (place : ℕ) → HasBadObserver words place → IsBadObserverAfter n rs place
     bad_after place bad = subst (λ (p : Text × List Row). IsBadObserverAfter p.0 p.1 place)
-        (same_found _ bad.command.found) (refl, bad.first)
+        (same_found _ bad.command.found) (bad.takes, bad.first)
 
     bad_gauge_after : (place : ℕ) → HasBadGauge words place → IsBadGaugeAfter n rs place
     bad_gauge_after place bad = subst (λ (p : Text × List Row). IsBadGaugeAfter p.0 p.1 place)
@@ -89,7 +89,7 @@ module _ (words : List Text) (accepted : fault_of program_app words ≡ []) wher
         HasOptions rs request.tile request.workers request.scale →
         AreLimits request.tile request.workers request.scale
         → request.progress ≡ is_flag_given (codes "progress") rs →
-        (IsViewshedMap request.map → request.sinks ≡ []) → RequestFor words request
+        (IsSightMap request.map → request.sinks ≡ []) → RequestFor words request
     requested map request named same spelled options limits progress view = record {
       name = n;
       rows = rs;
@@ -108,8 +108,10 @@ module _ (words : List Text) (accepted : fault_of program_app words ≡ []) wher
     pub map_refused : (f : WordsFault) → IsMapFault n rs f → IsFaultOf words f
     map_refused (Clap e) h = inl h
     map_refused (BadObserver place) h = record {
+      name = n;
       rows = rs;
-      command = record { accepted = accepted; found = found ∙ ap (λ name. Some (name, rs)) h.0 };
+      command = record { accepted = accepted; found = found };
+      takes = h.0;
       first = h.1;
     }
     map_refused (BadGauge place) h = record {
@@ -207,9 +209,8 @@ module _ (words : List Text) (accepted : fault_of program_app words ≡ []) wher
 
     pub no_gauge_observed : (place other : ℕ) → HasBadGauge words place →
         HasBadObserver words other → ⊥
-    no_gauge_observed place other bad b = view_without_gauges rs place
-        (subst (λ (name : Text). IsBadGaugeAfter name rs place) (bad_after other b).0
-        (bad_gauge_after place bad))
+    no_gauge_observed place other bad b =
+        sight_without_gauges n rs place (bad_after other b).0 (bad_gauge_after place bad)
 
     pub maps_fault_requests_none : (fault : MapsFault) → HasMapsFault words fault →
         (request : Request) → ¬ RequestFor words request
@@ -218,9 +219,8 @@ module _ (words : List Text) (accepted : fault_of program_app words ≡ []) wher
 
     pub no_maps_observed : (fault : MapsFault) (place : ℕ) → HasMapsFault words fault →
         HasBadObserver words place → ⊥
-    no_maps_observed fault place bad b = view_without_maps_fault rs fault
-        (subst (λ (name : Text). IsMapsFaultAfter name rs fault) (bad_after place b).0
-        (maps_fault_after fault bad))
+    no_maps_observed fault place bad b =
+        sight_without_maps_fault n rs fault (bad_after place b).0 (maps_fault_after fault bad)
 
     pub maps_fault_without_bad_gauge : (fault : MapsFault) (place : ℕ) → HasMapsFault words fault →
         HasBadGauge words place → ⊥

@@ -1,6 +1,6 @@
 -- Requests of one command line have the same map, options and sinks. A command line with a request
 -- is not refused and asks for no help. The examples of `specs/Laws` hold.
-use Rattle.std.proofs.Common.{◌≡◌, ◌<◌, ◌^◌, ℕ, List, [], ◌∷◌, map, drop, get_or, slice_index, codes, arith, rules, Option, Some, None, sym, ap, ap₂, subst, refl, inl, inr, ◌∙◌}
+use Rattle.std.proofs.Common.{◌≡◌, ◌+◌, ◌*◌, ◌<◌, ◌^◌, ℕ, List, [], ◌∷◌, map, drop, get_or, slice_index, codes, arith, rules, Option, Some, None, sym, ap, ap₂, subst, refl, inl, inr, ◌∙◌}
 use Rattle.std.specs.Prelude.{Any}
 use Rattle.std.specs.Option.{option_map_or}
 use Rattle.std.specs.Str.Parse.{IsNumeral, digits_value, without_leading_plus}
@@ -13,33 +13,39 @@ use Rattle.clap.proofs.OnLiterals.{clap_on_literals}
 use Rattle.terrain.specs.declared.observer.Observer.{Observer}
 use Rattle.terrain.specs.declared.place.Place.{Place}
 use Rattle.request.specs.CommandLine.{AreRefused, AskForHelp, HasNumber, HasOptions, IsHelp, Names, Spell, RequestFor, is_flag_given, program_app, sink_words}
-use Rattle.request.specs.Laws.{AreSame, BasinsOfSinks, CatchmentsOfAGauge, FillAlone, HelpOfView, MapsInOrder, NoSideOfZero, VersionAlone, ViewWithRadius}
+use Rattle.request.specs.Laws.{AreSame, BasinsOfSinks, CatchmentsOfAGauge, FillAlone, HelpOfView, MapsInOrder, NoSideOfZero, NoTargetOfARise, RiseWithRadius, VersionAlone, ViewWithRadius}
 use Rattle.request.specs.PlaceWords.{place_of_word}
 use Rattle.request.specs.Request.{Request}
 use Rattle.request.specs.declared.map.DrainageMap.{DrainageMap}
 use Rattle.request.specs.declared.map.Map.{Map}
-use Rattle.request.specs.declared.map.Map.TheVariants.{Fill, Flow, Accumulate, Basins, Catchments, View, Several}
+use Rattle.request.specs.declared.map.Map.TheVariants.{Fill, Flow, Accumulate, Basins, Catchments, View, Rise, Several}
 use Rattle.request.proofs.Given.{same_number}
 
--- the third letter of a map's name, which differs for all six and for `maps`
-abbrev letter : Map → ℕ
-letter Fill = 108
-letter Flow = 111
-letter Accumulate = 99
-letter Basins = 115
-letter (Catchments gauges) = 116
-letter (View observers target radius) = 101
-letter (Several maps gauges) = 112
+-- the second and third letters of a map's name, 256 times the one and the other: they differ for all
+-- seven and for `maps`
+abbrev letters : Map → ℕ
+letters Fill = 26988
+letters Flow = 27759
+letters Accumulate = 25443
+letters Basins = 24947
+letters (Catchments gauges) = 24948
+letters (View observers target radius) = 26981
+letters (Rise observers radius) = 26995
+letters (Several maps gauges) = 24944
 
-name_letter : (name : Text) (rows : List Row) (m : Map) → Names name rows m →
-    slice_index name 2 ≡ letter m
-name_letter name rows Fill n = ap (λ (t : Text). slice_index t 2) n
-name_letter name rows Flow n = ap (λ (t : Text). slice_index t 2) n
-name_letter name rows Accumulate n = ap (λ (t : Text). slice_index t 2) n
-name_letter name rows Basins n = ap (λ (t : Text). slice_index t 2) n
-name_letter name rows (Catchments gauges) n = ap (λ (t : Text). slice_index t 2) n.0
-name_letter name rows (View observers target radius) n = ap (λ (t : Text). slice_index t 2) n.0
-name_letter name rows (Several maps gauges) n = ap (λ (t : Text). slice_index t 2) n.0
+abbrev letters_of : Text → ℕ
+letters_of t = slice_index t 1 * 256 + slice_index t 2
+
+name_letters : (name : Text) (rows : List Row) (m : Map) → Names name rows m →
+    letters_of name ≡ letters m
+name_letters name rows Fill n = ap letters_of n
+name_letters name rows Flow n = ap letters_of n
+name_letters name rows Accumulate n = ap letters_of n
+name_letters name rows Basins n = ap letters_of n
+name_letters name rows (Catchments gauges) n = ap letters_of n.0
+name_letters name rows (View observers target radius) n = ap letters_of n.0
+name_letters name rows (Rise observers radius) n = ap letters_of n.0
+name_letters name rows (Several maps gauges) n = ap letters_of n.0
 
 same_somes : {X : Type 0} (xs ys : List X) → map Some xs ≡ map Some ys → xs ≡ ys
 same_somes [] [] e = refl
@@ -48,62 +54,80 @@ same_somes (x ∷ xs) [] e = absurd (cc)
 same_somes {X} (x ∷ xs) (y ∷ ys) e = ap₂ (λ (z : X) (zs : List X). z ∷ zs) (same_Some x y
     (ap (λ (zs : List (Option X)). get_or zs 0 None) e)) (same_somes xs ys (ap (drop 1) e))
 
-one_letter : (name : Text) (rows : List Row) (m n : Map) → Names name rows m → Names name rows n →
-    letter m ≡ letter n → AreSame m n
-one_letter name rows Fill Fill a b e = refl
-one_letter name rows Fill Flow a b e = absurd (omega arith)
-one_letter name rows Fill Accumulate a b e = absurd (omega arith)
-one_letter name rows Fill Basins a b e = absurd (omega arith)
-one_letter name rows Fill (Catchments gauges) a b e = absurd (omega arith)
-one_letter name rows Fill (View observers target radius) a b e = absurd (omega arith)
-one_letter name rows Fill (Several maps gauges) a b e = absurd (omega arith)
-one_letter name rows Flow Fill a b e = absurd (omega arith)
-one_letter name rows Flow Flow a b e = refl
-one_letter name rows Flow Accumulate a b e = absurd (omega arith)
-one_letter name rows Flow Basins a b e = absurd (omega arith)
-one_letter name rows Flow (Catchments gauges) a b e = absurd (omega arith)
-one_letter name rows Flow (View observers target radius) a b e = absurd (omega arith)
-one_letter name rows Flow (Several maps gauges) a b e = absurd (omega arith)
-one_letter name rows Accumulate Fill a b e = absurd (omega arith)
-one_letter name rows Accumulate Flow a b e = absurd (omega arith)
-one_letter name rows Accumulate Accumulate a b e = refl
-one_letter name rows Accumulate Basins a b e = absurd (omega arith)
-one_letter name rows Accumulate (Catchments gauges) a b e = absurd (omega arith)
-one_letter name rows Accumulate (View observers target radius) a b e = absurd (omega arith)
-one_letter name rows Accumulate (Several maps gauges) a b e = absurd (omega arith)
-one_letter name rows Basins Fill a b e = absurd (omega arith)
-one_letter name rows Basins Flow a b e = absurd (omega arith)
-one_letter name rows Basins Accumulate a b e = absurd (omega arith)
-one_letter name rows Basins Basins a b e = refl
-one_letter name rows Basins (Catchments gauges) a b e = absurd (omega arith)
-one_letter name rows Basins (View observers target radius) a b e = absurd (omega arith)
-one_letter name rows Basins (Several maps gauges) a b e = absurd (omega arith)
-one_letter name rows (Catchments gauges) Fill a b e = absurd (omega arith)
-one_letter name rows (Catchments gauges) Flow a b e = absurd (omega arith)
-one_letter name rows (Catchments gauges) Accumulate a b e = absurd (omega arith)
-one_letter name rows (Catchments gauges) Basins a b e = absurd (omega arith)
-one_letter name rows (Catchments gauges) (Catchments others) a b e =
+one_map : (name : Text) (rows : List Row) (m n : Map) → Names name rows m → Names name rows n →
+    letters m ≡ letters n → AreSame m n
+one_map name rows Fill Fill a b e = refl
+one_map name rows Fill Flow a b e = absurd (omega arith)
+one_map name rows Fill Accumulate a b e = absurd (omega arith)
+one_map name rows Fill Basins a b e = absurd (omega arith)
+one_map name rows Fill (Catchments others) a b e = absurd (omega arith)
+one_map name rows Fill (View others height reach) a b e = absurd (omega arith)
+one_map name rows Fill (Rise others reach) a b e = absurd (omega arith)
+one_map name rows Fill (Several others places) a b e = absurd (omega arith)
+one_map name rows Flow Fill a b e = absurd (omega arith)
+one_map name rows Flow Flow a b e = refl
+one_map name rows Flow Accumulate a b e = absurd (omega arith)
+one_map name rows Flow Basins a b e = absurd (omega arith)
+one_map name rows Flow (Catchments others) a b e = absurd (omega arith)
+one_map name rows Flow (View others height reach) a b e = absurd (omega arith)
+one_map name rows Flow (Rise others reach) a b e = absurd (omega arith)
+one_map name rows Flow (Several others places) a b e = absurd (omega arith)
+one_map name rows Accumulate Fill a b e = absurd (omega arith)
+one_map name rows Accumulate Flow a b e = absurd (omega arith)
+one_map name rows Accumulate Accumulate a b e = refl
+one_map name rows Accumulate Basins a b e = absurd (omega arith)
+one_map name rows Accumulate (Catchments others) a b e = absurd (omega arith)
+one_map name rows Accumulate (View others height reach) a b e = absurd (omega arith)
+one_map name rows Accumulate (Rise others reach) a b e = absurd (omega arith)
+one_map name rows Accumulate (Several others places) a b e = absurd (omega arith)
+one_map name rows Basins Fill a b e = absurd (omega arith)
+one_map name rows Basins Flow a b e = absurd (omega arith)
+one_map name rows Basins Accumulate a b e = absurd (omega arith)
+one_map name rows Basins Basins a b e = refl
+one_map name rows Basins (Catchments others) a b e = absurd (omega arith)
+one_map name rows Basins (View others height reach) a b e = absurd (omega arith)
+one_map name rows Basins (Rise others reach) a b e = absurd (omega arith)
+one_map name rows Basins (Several others places) a b e = absurd (omega arith)
+one_map name rows (Catchments gauges) Fill a b e = absurd (omega arith)
+one_map name rows (Catchments gauges) Flow a b e = absurd (omega arith)
+one_map name rows (Catchments gauges) Accumulate a b e = absurd (omega arith)
+one_map name rows (Catchments gauges) Basins a b e = absurd (omega arith)
+one_map name rows (Catchments gauges) (Catchments others) a b e =
     same_somes gauges.items others.items (sym a.1 ∙ b.1)
-one_letter name rows (Catchments gauges) (View observers target radius) a b e = absurd (omega arith)
-one_letter name rows (Catchments gauges) (Several maps places) a b e = absurd (omega arith)
-one_letter name rows (View observers target radius) Fill a b e = absurd (omega arith)
-one_letter name rows (View observers target radius) Flow a b e = absurd (omega arith)
-one_letter name rows (View observers target radius) Accumulate a b e = absurd (omega arith)
-one_letter name rows (View observers target radius) Basins a b e = absurd (omega arith)
-one_letter name rows (View observers target radius) (Catchments gauges) a b e = absurd (omega arith)
-one_letter name rows (View observers target radius) (View others height reach) a b e = (
+one_map name rows (Catchments gauges) (View others height reach) a b e = absurd (omega arith)
+one_map name rows (Catchments gauges) (Rise others reach) a b e = absurd (omega arith)
+one_map name rows (Catchments gauges) (Several others places) a b e = absurd (omega arith)
+one_map name rows (View observers target radius) Fill a b e = absurd (omega arith)
+one_map name rows (View observers target radius) Flow a b e = absurd (omega arith)
+one_map name rows (View observers target radius) Accumulate a b e = absurd (omega arith)
+one_map name rows (View observers target radius) Basins a b e = absurd (omega arith)
+one_map name rows (View observers target radius) (Catchments others) a b e = absurd (omega arith)
+one_map name rows (View observers target radius) (View others height reach) a b e = (
   same_somes observers.items others.items (sym a.1 ∙ b.1),
   same_number rows (codes "target") target height a.2 b.2,
   same_number rows (codes "radius") radius reach a.3 b.3,
 )
-one_letter name rows (View observers target radius) (Several maps gauges) a b e = absurd (omega arith)
-one_letter name rows (Several maps gauges) Fill a b e = absurd (omega arith)
-one_letter name rows (Several maps gauges) Flow a b e = absurd (omega arith)
-one_letter name rows (Several maps gauges) Accumulate a b e = absurd (omega arith)
-one_letter name rows (Several maps gauges) Basins a b e = absurd (omega arith)
-one_letter name rows (Several maps gauges) (Catchments places) a b e = absurd (omega arith)
-one_letter name rows (Several maps gauges) (View observers target radius) a b e = absurd (omega arith)
-one_letter name rows (Several maps gauges) (Several others places) a b e = (
+one_map name rows (View observers target radius) (Rise others reach) a b e = absurd (omega arith)
+one_map name rows (View observers target radius) (Several others places) a b e = absurd (omega arith)
+one_map name rows (Rise observers radius) Fill a b e = absurd (omega arith)
+one_map name rows (Rise observers radius) Flow a b e = absurd (omega arith)
+one_map name rows (Rise observers radius) Accumulate a b e = absurd (omega arith)
+one_map name rows (Rise observers radius) Basins a b e = absurd (omega arith)
+one_map name rows (Rise observers radius) (Catchments others) a b e = absurd (omega arith)
+one_map name rows (Rise observers radius) (View others height reach) a b e = absurd (omega arith)
+one_map name rows (Rise observers radius) (Rise others reach) a b e = (
+  same_somes observers.items others.items (sym a.1 ∙ b.1),
+  same_number rows (codes "radius") radius reach a.2 b.2,
+)
+one_map name rows (Rise observers radius) (Several others places) a b e = absurd (omega arith)
+one_map name rows (Several maps gauges) Fill a b e = absurd (omega arith)
+one_map name rows (Several maps gauges) Flow a b e = absurd (omega arith)
+one_map name rows (Several maps gauges) Accumulate a b e = absurd (omega arith)
+one_map name rows (Several maps gauges) Basins a b e = absurd (omega arith)
+one_map name rows (Several maps gauges) (Catchments others) a b e = absurd (omega arith)
+one_map name rows (Several maps gauges) (View others height reach) a b e = absurd (omega arith)
+one_map name rows (Several maps gauges) (Rise others reach) a b e = absurd (omega arith)
+one_map name rows (Several maps gauges) (Several others places) a b e = (
   same_somes maps.items others.items (sym a.2 ∙ b.2),
   same_somes gauges.items places.items (sym a.1 ∙ b.1),
 )
@@ -118,8 +142,8 @@ one_request words request other a b =
     let map = subst (λ (p : Text × List Row). Names p.0 p.1 other.map) command b.map in
     let options = subst (λ (p : Text × List Row).
     HasOptions p.1 other.tile other.workers other.scale) command b.options in (
-      one_letter a.name a.rows request.map other.map a.map map (sym
-          (name_letter a.name a.rows request.map a.map) ∙ name_letter a.name a.rows other.map map),
+      one_map a.name a.rows request.map other.map a.map map (sym
+          (name_letters a.name a.rows request.map a.map) ∙ name_letters a.name a.rows other.map map),
       same_number a.rows (codes "tile") _ _ a.options.0 options.0,
       same_number a.rows (codes "workers") _ _ a.options.1 options.1,
       same_number a.rows (codes "scale") _ _ a.options.2 options.2,
@@ -256,6 +280,37 @@ view_with_radius observers one = record {
   progress = refl;
   limits = record { in_limits = search rules; view = λ v. refl };
 }
+
+abbrev rise_words : List Text
+rise_words = codes "relief" ∷ codes "rise" ∷ codes "--radius" ∷ codes "5" ∷ codes "1,2,3" ∷ []
+
+pub rise_with_radius : RiseWithRadius
+unfolding clap_on_literals
+rise_with_radius observers one = record {
+  name = codes "rise";
+  rows = rows_in rise_words;
+  command = record { accepted = refl; found = refl };
+  map = (
+    refl,
+    ap (λ (os : List Observer). map Some os) (sym one),
+    spelled (rows_in rise_words) (codes "radius") (codes "5") 5 refl (search rules) refl
+        (omega arith),
+  );
+  sinks = refl;
+  options = default_options (rows_in rise_words) refl refl refl;
+  progress = refl;
+  limits = record { in_limits = search rules; view = λ v. refl };
+}
+
+pub no_target_of_a_rise : NoTargetOfARise
+unfolding clap_on_literals
+no_target_of_a_rise = inl (
+  0,
+  kind.UnknownArgument,
+  omega arith,
+  refl,
+  λ help. elim help [ inl same ↦ cc | inr same ↦ cc ],
+)
 
 pub no_side_of_zero : NoSideOfZero
 unfolding clap_on_literals

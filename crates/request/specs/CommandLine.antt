@@ -1,6 +1,6 @@
 -- Subcommands and options for `clap`, and what a command line means: a request, help or refusal.
 -- Trust base.
-use Rattle.std.specs.Prelude.{◌≡◌, ◌⊎◌, ℕ, Bool, ◌<◌, ◌^◌, pos, true, false, List, [], ◌∷◌, map, Option, Some, None, codes, Any, is_none, unwrap_or, if◌then◌else◌}
+use Rattle.std.specs.Prelude.{◌≡◌, ◌⊎◌, ℕ, Bool, ◌<◌, ◌^◌, pos, true, false, ◌||◌, List, [], ◌∷◌, map, Option, Some, None, codes, Any, is_none, unwrap_or, if◌then◌else◌}
 use Rattle.std.specs.List.{position}
 use Rattle.std.specs.Option.{option_map_or}
 use Rattle.std.specs.Str.{bytes_eq}
@@ -17,7 +17,7 @@ use Rattle.clap.specs.declared.error.kind.ErrorKind.TheVariants.{DisplayHelp, Di
 use Rattle.terrain.specs.declared.observer.Observer.{Observer}
 use Rattle.terrain.specs.declared.place.Place.{Place}
 use Rattle.request.specs.declared.map.Map.{Map}
-use Rattle.request.specs.declared.map.Map.TheVariants.{Fill, Flow, Accumulate, Basins, Catchments, View, Several}
+use Rattle.request.specs.declared.map.Map.TheVariants.{Fill, Flow, Accumulate, Basins, Catchments, View, Rise, Several}
 use Rattle.request.specs.declared.map_words.MapsFault.{MapsFault}
 use Rattle.request.specs.MapWords.{drainage_map_of, maps_fault}
 use Rattle.request.specs.PlaceWords.{observer_of, place_of_word}
@@ -132,6 +132,12 @@ view_shape = record (new_shape (codes "view")) {
       ∷ observers_rule ∷ [];
 }
 
+-- The subcommand of a rise. It takes observer words and `--radius`.
+abbrev pub rise_shape : Shape
+rise_shape = record (new_shape (codes "rise")) {
+  rules = tile_rule ∷ workers_rule ∷ scale_rule ∷ progress_rule ∷ radius_rule ∷ observers_rule ∷ [];
+}
+
 -- The subcommand of several maps. It takes map words, sinks by `--sink` and gauges by `--gauge`.
 abbrev pub maps_shape : Shape
 maps_shape = record (new_shape (codes "maps")) {
@@ -149,8 +155,8 @@ program_app = record {
     is_leaf = false;
   };
   subs = drainage_shape (codes "fill") ∷ drainage_shape (codes "flow")
-      ∷ drainage_shape (codes "accumulate")
-      ∷ drainage_shape (codes "basins") ∷ catchments_shape ∷ view_shape ∷ maps_shape ∷ [];
+      ∷ drainage_shape (codes "accumulate") ∷ drainage_shape (codes "basins") ∷ catchments_shape
+      ∷ view_shape ∷ rise_shape ∷ maps_shape ∷ [];
 }
 
 -- ---- what a command line requests
@@ -215,14 +221,21 @@ Names name rows (Catchments gauges) = (name ≡ codes "catchments") × HasGauges
 Names name rows (View observers target radius) =
     (name ≡ codes "view") × HasObservers rows observers.items
     × HasNumber rows (codes "target") target × HasNumber rows (codes "radius") radius
+Names name rows (Rise observers radius) =
+    (name ≡ codes "rise") × HasObservers rows observers.items
+    × HasNumber rows (codes "radius") radius
 Names name rows (Several maps gauges) =
     (name ≡ codes "maps") × HasGauges rows gauges.items
     × Spell drainage_map_of (words_of (codes "maps") rows) maps.items
     × (fault_of_maps rows ≡ None)
 
--- The words given for sinks; none for subcommand `view`.
+-- The subcommand is `view` or `rise`, which take no sinks.
+abbrev pub is_of_sight : Text → Bool
+is_of_sight name = bytes_eq name (codes "view") || bytes_eq name (codes "rise")
+
+-- The words given for sinks; none for subcommands `view` and `rise`.
 abbrev pub sink_words : Text → List Row → List Text
-sink_words name rows = if bytes_eq name (codes "view") then [] else words_of (codes "sinks") rows
+sink_words name rows = if is_of_sight name then [] else words_of (codes "sinks") rows
 
 -- `--tile`, `--workers` and `--scale` have these values.
 abbrev pub HasOptions : List Row → ℕ → ℕ → ℕ → Type 0
@@ -247,11 +260,17 @@ abbrev pub AreRefused : List Text → Type 0
 AreRefused words = Any (λ kind. ¬ IsHelp kind) (fault_of program_app words)
     ⊎ ((fault_of program_app words ≡ []) × ((request : Request) → ¬ RequestFor words request))
 
--- The subcommand is `view`, and the first observer word that spells no observer is number `place`
--- of the observer words, counted from 0.
+-- The subcommand takes observers.
+abbrev pub TakesObservers : Text → Type 0
+TakesObservers name = (name ≡ codes "view") ⊎ (name ≡ codes "rise")
+
+-- The subcommand is `view` or `rise`, and the first observer word that spells no observer is number
+-- `place` of the observer words, counted from 0.
 pub record HasBadObserver (words : List Text) (place : ℕ) : Type 0 where
+  pub name : Text
   pub rows : List Row
-  pub command : AreCommand words (codes "view") rows
+  pub command : AreCommand words name rows
+  pub takes : TakesObservers name
   pub first : IsFirstBad observer_of (words_of (codes "observers") rows) place
 
 -- The subcommand takes gauges.

@@ -1,5 +1,5 @@
 -- Statements that module `laws` proves. A command line has at most one request, and is accepted
--- if it has one. Eight examples of command lines have the meaning given here.
+-- if it has one. Ten examples of command lines have the meaning given here.
 -- Public.
 use Rattle.std.specs.Prelude.{◌≡◌, true, false, List, [], ◌∷◌, Vec, codes}
 use Rattle.std.specs.declared.alloc.Global.{Global}
@@ -13,13 +13,16 @@ use Rattle.request.specs.Request.{Request}
 use Rattle.request.specs.declared.map.DrainageMap.{DrainageMap}
 use Rattle.request.specs.declared.map.DrainageMap.TheVariants as drainage
 use Rattle.request.specs.declared.map.Map.{Map}
-use Rattle.request.specs.declared.map.Map.TheVariants.{Fill, Basins, Catchments, View, Several}
+use Rattle.request.specs.declared.map.Map.TheVariants.{Fill, Basins, Catchments, View, Rise, Several}
 
 -- Two maps have the same kind. Two maps of catchments also have the same gauges, two viewsheds the
--- same observers, target and radius, and two lists of maps the same maps in order and gauges.
+-- same observers, target and radius, two rises the same observers and radius, and two lists of maps
+-- the same maps in order and gauges.
 abbrev pub AreSame : Map → Map → Type 0
 AreSame (View observers target radius) (View others height reach) =
     (observers.items ≡ others.items) × (target ≡ height) × (radius ≡ reach)
+AreSame (Rise observers radius) (Rise others reach) =
+    (observers.items ≡ others.items) × (radius ≡ reach)
 AreSame (Catchments gauges) (Catchments others) = gauges.items ≡ others.items
 AreSame (Several maps gauges) (Several others places) =
     (maps.items ≡ others.items) × (gauges.items ≡ places.items)
@@ -99,6 +102,25 @@ ViewWithRadius = (observers : Vec Observer Global) →
       sinks = [];
       progress = false;
     })
+
+-- `relief rise --radius 5 1,2,3` requests the rise of one observer, within 5 cells.
+abbrev pub RiseWithRadius : Type 0
+RiseWithRadius = (observers : Vec Observer Global) →
+    observers.items ≡ record { row = 1; col = 2; eye = 3 } ∷ [] →
+    RequestFor (codes "relief" ∷ codes "rise" ∷ codes "--radius" ∷ codes "5" ∷ codes "1,2,3" ∷ [])
+    (record {
+      map = Rise observers 5;
+      tile = 256;
+      workers = 1;
+      scale = 0;
+      sinks = [];
+      progress = false;
+    })
+
+-- `relief rise --target 1 1,2,3` is refused: a rise takes no target height.
+abbrev pub NoTargetOfARise : Type 0
+NoTargetOfARise = AreRefused
+    (codes "relief" ∷ codes "rise" ∷ codes "--target" ∷ codes "1" ∷ codes "1,2,3" ∷ [])
 
 -- `relief fill --tile 0` is refused.
 abbrev pub NoSideOfZero : Type 0

@@ -10,7 +10,7 @@ use Rattle.request.specs.declared.map.Map.{Map}
 use Rattle.request.specs.declared.map_words.MapsFault.{MapsFault}
 use Rattle.request.specs.PlaceWords.{observer_of, place_of_word}
 use Rattle.request.specs.Request.{Request}
-use Rattle.request.specs.CommandLine.{HasBadGauge, HasBadObserver, HasBadSink, HasGauges, HasMapsFault, IsFirstBad, Names, RequestFor, TakesGauges, fault_of_maps, program_app, words_of}
+use Rattle.request.specs.CommandLine.{HasBadGauge, HasBadObserver, HasBadSink, HasGauges, HasMapsFault, IsFirstBad, Names, RequestFor, TakesGauges, TakesObservers, fault_of_maps, program_app, words_of}
 use Rattle.request.specs.declared.words.WordsFault.{WordsFault}
 use Rattle.request.specs.declared.words.WordsFault.TheVariants.{Clap, BadObserver, BadGauge, BadSink, BadMaps, NoMap}
 use Rattle.request.specs.declared.words.BadWord.{BadWord}
@@ -37,11 +37,11 @@ IsFaultWith Observer Gauge Sink Maps Missing NoMap = Missing
 abbrev pub IsNoMemory : WordsFault → Type 0
 IsNoMemory fault = IsFaultWith (λ _. ⊥) (λ _. ⊥) (λ _. ⊥) (λ _. ⊥) ⊥ fault
 
--- The subcommand is `view`, and the first word that spells no observer is number `place` of the
--- observer words, counted from 0.
+-- The subcommand takes observers, and the first word that spells no observer is number `place` of
+-- the observer words, counted from 0.
 abbrev pub IsBadObserverAfter : Text → List Row → ℕ → Type 0
 IsBadObserverAfter name rows place =
-    (name ≡ codes "view") × IsFirstBad observer_of (words_of (codes "observers") rows) place
+    TakesObservers name × IsFirstBad observer_of (words_of (codes "observers") rows) place
 
 -- The subcommand takes gauges, and the first word that spells no gauge is number `place` of the
 -- gauge words, counted from 0.

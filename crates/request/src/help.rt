@@ -15,7 +15,7 @@ map of it, or several, in the same form to standard output. It writes nothing be
 pub(crate) const USAGE: &str = "\
 relief fill|flow|accumulate|basins [OPTIONS] [ROW,COL...] < dem.asc > map.asc
        relief catchments [OPTIONS] ROW,COL... < dem.asc > map.asc
-       relief view [OPTIONS] ROW,COL,EYE... < dem.asc > map.asc
+       relief view|rise [OPTIONS] ROW,COL,EYE... < dem.asc > map.asc
        relief maps [OPTIONS] MAP... < dem.asc > maps.asc";
 
 pub(crate) const FILL: MapHelp = MapHelp {
@@ -80,6 +80,19 @@ relief view --scale 2 --radius 500 --target 150 120,340,2000 < dem.asc > view.as
     usage: "relief view [OPTIONS] ROW,COL,EYE... < dem.asc > map.asc",
 };
 
+pub(crate) const RISE: MapHelp = MapHelp {
+    about: "Rise: from what height above its ground on a target on each cell is seen (AGL, above ground level)",
+    details: "Rise: the least height above the ground at which a target on each cell is seen by one of the observers: how\n\
+high a mast or a house there must be to be seen. It is 0 where view counts an observer. Others call it AGL,\n\
+above ground level; gdal_viewshed -om GROUND computes it approximately. Lines of sight are those of view.\n\n\
+Out: whole numbers of units of 10^-D, 0 to 1000000; -9999 for NODATA, past the radius, and where a target of\n\
+1000000 units is not seen.\n\n\
+Example, heights in metres with centimetres (--scale 2) and cells of 30 m: a mast of 20 m (2000), up to 15 km\n\
+away (500):\n  \
+relief rise --scale 2 --radius 500 120,340,2000 < dem.asc > rise.asc",
+    usage: "relief rise [OPTIONS] ROW,COL,EYE... < dem.asc > map.asc",
+};
+
 pub(crate) const MAPS: MapHelp = MapHelp {
     about: "Several maps of drainage from one run, one after the other",
     details: "Several maps of drainage from one run: the heights are read and filled and the directions searched for once.\n\n\
@@ -141,6 +154,7 @@ Examples:
   relief basins 120,340 < dem.asc > basins.asc
   relief catchments 170,102 120,88 < dem.asc > catchments.asc
   relief view --scale 2 --radius 500 --target 150 120,340,2000 < dem.asc > view.asc
+  relief rise --scale 2 --radius 500 120,340,2000 < dem.asc > rise.asc
   relief maps --gauge 170,102 accumulate catchments < dem.asc > maps.asc
 
 Without < the program waits for a grid from the terminal. `relief fill --help` tells what goes in and comes out,

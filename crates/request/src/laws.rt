@@ -1,6 +1,6 @@
-//! A command line has at most one request, and is accepted if it has one. Eight examples mean
+//! A command line has at most one request, and is accepted if it has one. Ten examples mean
 //! what their theorems say. The functions have no code; their contracts are the theorems.
-ghost use Rattle.request.specs.Laws.{BasinsOfSinks, CatchmentsOfAGauge, FillAlone, HelpOfView, MapsInOrder, NoSideOfZero, VersionAlone, ViewWithRadius, RequestsAreAccepted, RequestsAreOne};
+ghost use Rattle.request.specs.Laws.{BasinsOfSinks, CatchmentsOfAGauge, FillAlone, HelpOfView, MapsInOrder, NoSideOfZero, NoTargetOfARise, RiseWithRadius, VersionAlone, ViewWithRadius, RequestsAreAccepted, RequestsAreOne};
 
 /// Proves that requests of one command line have the same map, options and sinks.
 pub fn requests_are_one()
@@ -41,6 +41,18 @@ pub fn maps_in_order()
 #[tactic(auto, using(crate::proofs::Requests::view_with_radius))]
 pub fn view_with_radius()
     ensures { ViewWithRadius }
+{}
+
+/// Proves that `relief rise --radius 5 1,2,3` requests one observer and radius 5.
+#[tactic(auto, using(crate::proofs::Requests::rise_with_radius))]
+pub fn rise_with_radius()
+    ensures { RiseWithRadius }
+{}
+
+/// Proves that `relief rise --target 1 1,2,3` is refused.
+#[tactic(auto, using(crate::proofs::Requests::no_target_of_a_rise))]
+pub fn no_target_of_a_rise()
+    ensures { NoTargetOfARise }
 {}
 
 /// Proves that `relief fill --tile 0` is refused.

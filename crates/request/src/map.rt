@@ -45,6 +45,13 @@ pub enum Map {
         target: u32,
         radius: u32,
     },
+    /// Rise: the least height above each cell's ground at which an observer sees a target.
+    ///
+    /// `radius` is a number of cells.
+    Rise {
+        observers: Vec<Observer>,
+        radius: u32,
+    },
     /// Drainage maps made together, each as [`Map`] defines it, and written in this order.
     ///
     /// `gauges` are those of the catchments. The command line refuses an empty list, a map named

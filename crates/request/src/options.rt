@@ -1,6 +1,6 @@
 //! [`Options`]: a map and its options, with tile side, workers and scale within limits.
 ghost use Rattle.std.specs.Prelude.{◌≡◌, [], false, IfSome, IfNone, IfOk, IfErr};
-ghost use Rattle.request.specs.Request.{AreLimits, IsViewshedMap};
+ghost use Rattle.request.specs.Request.{AreLimits, IsSightMap};
 
 use crate::map::Map;
 use std::marker::Model;
@@ -101,13 +101,13 @@ impl Options {
     ///
     /// # Errors
     ///
-    /// The unchanged options if the map is a viewshed, which takes no sinks.
+    /// The unchanged options if the map is a viewshed or a rise, which take no sinks.
     pub fn with_sinks(self, sinks: Vec<Place>) -> Result<Self, Self>
         ensures some { IfOk result
-            (λ o. (o ≡ record self { sinks = sinks.items }) × ¬ IsViewshedMap self.map) }
-        ensures view { IfErr result (λ o. (o ≡ self) × IsViewshedMap self.map) }
+            (λ o. (o ≡ record self { sinks = sinks.items }) × ¬ IsSightMap self.map) }
+        ensures view { IfErr result (λ o. (o ≡ self) × IsSightMap self.map) }
     {
-        if let Map::View { .. } = self.map {
+        if let Map::View { .. } | Map::Rise { .. } = self.map {
             return Err(self);
         }
         Ok(Options {
@@ -161,10 +161,10 @@ impl Options {
         self.scale
     }
 
-    /// Returns the sinks in the order given; a viewshed has none.
+    /// Returns the sinks in the order given; a viewshed and a rise have none.
     pub fn sinks(&self) -> &[Place]
         ensures value { result.now ≡ self.now.sinks }
-        ensures view { IsViewshedMap self.now.map → self.now.sinks ≡ [] }
+        ensures view { IsSightMap self.now.map → self.now.sinks ≡ [] }
     {
         match &self.sinks {
             Some(sinks) => sinks.as_slice(),

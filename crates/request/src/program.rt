@@ -1,13 +1,13 @@
 //! Declares the command line for `clap`: its subcommands, options and other words.
 ghost use Rattle.std.specs.Prelude.{◌≡◌, IfOk};
 ghost use Rattle.clap.specs.Words.{app_of, with_subcommand};
-ghost use Rattle.request.specs.CommandLine.{catchments_shape, drainage_shape, gauge_rule, map_shape, maps_shape, number_rule, program_app, progress_rule, radius_rule, scale_rule, sink_rule, sinks_rule, target_rule, tile_rule, view_shape, words_rule, workers_rule};
+ghost use Rattle.request.specs.CommandLine.{catchments_shape, drainage_shape, gauge_rule, map_shape, maps_shape, number_rule, program_app, progress_rule, radius_rule, rise_shape, scale_rule, sink_rule, sinks_rule, target_rule, tile_rule, view_shape, words_rule, workers_rule};
 ghost use Rattle.request.specs.Commands.{IsArg, IsLeaf, bare_app};
 
 use crate::VERSION;
 use crate::help::{
     ABOUT, ACCUMULATE, BASINS, CATCHMENTS, COMMON, EXAMPLES_AND_FAULTS, FILL, FLOW, GAUGE_OPTION,
-    GAUGE_WORDS, MAP_WORDS, MAPS, MapHelp, SINK_OPTION, SINK_WORDS, USAGE, VIEW, VIEW_WORDS,
+    GAUGE_WORDS, MAP_WORDS, MAPS, MapHelp, RISE, SINK_OPTION, SINK_WORDS, USAGE, VIEW, VIEW_WORDS,
 };
 use crate::options::{LONGEST_SIDE, MOST_DECIMALS, MOST_WORKERS};
 use clap::builder::ValueParser;
@@ -184,6 +184,14 @@ fn view_command<'a>(alloc: Global) -> Result<Command<'a>, AllocError>
         .arg(required_words(alloc, "observers", "ROW,COL,EYE", VIEW_WORDS))
 }
 
+fn rise_command<'a>(alloc: Global) -> Result<Command<'a>, AllocError>
+    ensures { IfOk result (IsLeaf rise_shape) }
+{
+    map_command(alloc, "rise", RISE)?
+        .arg(radius_option(alloc))?
+        .arg(required_words(alloc, "observers", "ROW,COL,EYE", VIEW_WORDS))
+}
+
 fn maps_command<'a>(alloc: Global) -> Result<Command<'a>, AllocError>
     ensures { IfOk result (IsLeaf maps_shape) }
 {
@@ -216,5 +224,6 @@ pub(crate) fn program<'a>(alloc: Global) -> Result<Command<'a>, AllocError>
     let program = with_drainage(alloc, program, "basins", BASINS)?;
     let program = program.subcommand(catchments_command(alloc)?)?;
     let program = program.subcommand(view_command(alloc)?)?;
+    let program = program.subcommand(rise_command(alloc)?)?;
     program.subcommand(maps_command(alloc)?)
 }

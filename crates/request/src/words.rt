@@ -1,7 +1,7 @@
 //! [`parse`] returns the [`Options`] that a command line requests, or a fault.
 ghost use Rattle.std.specs.Prelude.{◌≡◌, ℕ, [], map, codes, Some, None, IfOk, IfErr, IfSome, IfNone};
 ghost use Rattle.clap.specs.Words.{found_of, rows_of};
-ghost use Rattle.request.specs.CommandLine.{HasNumber, HasOptions, IsFirstBad, Names, Spell, RequestFor, is_flag_given, sink_words, words_given};
+ghost use Rattle.request.specs.CommandLine.{HasNumber, HasOptions, IsFirstBad, Names, Spell, RequestFor, is_flag_given, is_of_sight, sink_words, words_given};
 ghost use Rattle.request.specs.MapWords.{drainage_map_of, maps_fault};
 ghost use Rattle.request.specs.PlaceWords.{observer_of, place_of_word};
 ghost use Rattle.request.specs.Request.{AreLimits};
@@ -175,6 +175,18 @@ fn view_of(alloc: Global, found: &ArgMatches<'_>) -> Result<Map, WordsFault>
     })
 }
 
+fn rise_of(alloc: Global, found: &ArgMatches<'_>) -> Result<Map, WordsFault>
+    ensures some { IfOk result (Names (codes "rise") (rows_of (found_of found.now))) }
+    ensures none { IfErr result (IsMapFault (codes "rise") (rows_of (found_of found.now))) }
+{
+    let words: &[&str] = found.get_strs("observers").unwrap_or(&[]);
+    let observers = observers_of(alloc, words)?;
+    let Some(radius) = number_given(found, "radius") else {
+        return Err(WordsFault::NoMap);
+    };
+    Ok(Map::Rise { observers, radius })
+}
+
 fn catchments_of(alloc: Global, found: &ArgMatches<'_>) -> Result<Map, WordsFault>
     ensures some { IfOk result (Names (codes "catchments") (rows_of (found_of found.now))) }
     ensures none { IfErr result (IsMapFault (codes "catchments") (rows_of (found_of found.now))) }
@@ -207,12 +219,20 @@ fn map_of(alloc: Global, name: &str, found: &ArgMatches<'_>) -> Result<Map, Word
         "basins" => Ok(Map::Basins),
         "catchments" => catchments_of(alloc, found),
         "view" => view_of(alloc, found),
+        "rise" => rise_of(alloc, found),
         "maps" => several_of(alloc, found),
         _ => Err(WordsFault::NoMap),
     }
 }
 
-/// Returns the sinks given with subcommand `name`; with `view`, none.
+/// Whether subcommand `name` is `view` or `rise`, which take no sinks.
+fn is_of_sight(name: &str) -> bool
+    ensures { result ≡ is_of_sight name.now }
+{
+    name == "view" || name == "rise"
+}
+
+/// Returns the sinks given with subcommand `name`; with `view` and `rise`, none.
 fn sinks_given(alloc: Global, name: &str, found: &ArgMatches<'_>) -> Result<Vec<Place>, WordsFault>
     ensures some { IfOk result
         (λ v. Spell place_of_word (sink_words name.now (rows_of (found_of found.now))) v.items) }
@@ -220,7 +240,7 @@ fn sinks_given(alloc: Global, name: &str, found: &ArgMatches<'_>) -> Result<Vec<
         (IsFirstBad place_of_word (sink_words name.now (rows_of (found_of found.now)))) (λ _. ⊥)
         ⊥) }
 {
-    if name == "view" {
+    if is_of_sight(name) {
         return Ok(Vec::new(alloc));
     }
     let words: &[&str] = found.get_strs("sinks").unwrap_or(&[]);
@@ -270,7 +290,7 @@ fn requested_options<'a>(alloc: Global, words: &'a [&'a str]) -> Result<Options,
     let Some(options) = with_options(map, found) else {
         return Err(WordsFault::NoMap);
     };
-    // `Err` has the options of a viewshed, for which `sinks` is empty.
+    // `Err` has the options of a viewshed or a rise, for which `sinks` is empty.
     match options.with_sinks(sinks) {
         Ok(options) => Ok(options),
         Err(options) => Ok(options),

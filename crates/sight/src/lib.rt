@@ -1,8 +1,8 @@
 //! Viewsheds: how many observers see each cell of a terrain grid, or from what height on.
 //!
-//! Begin with [`viewshed`] and [`rise`]; [`sees`] tests one line of sight. Walks along lines of sight, or one
-//! sweep over the tile, flag the cells of a tile that one observer sees. Depends on `terrain`,
-//! `tiles`, `tile_jobs`, `tile_maps`, `horizons` and `sightlines`.
+//! Begin with [`viewshed`] and [`rise`]; [`sees`] tests one line of sight. Walks along lines of
+//! sight, or one sweep over the tile, flag the cells of a tile that one observer sees. Depends on
+//! `terrain`, `tiles`, `tile_jobs`, `tile_maps`, `horizons` and `sightlines`.
 //!
 //! Modules, callers first:
 //!

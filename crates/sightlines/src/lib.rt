@@ -4,8 +4,8 @@
 //! tested where it crosses the columns and the rows of cell centres. The earth counts as flat.
 //!
 //! [`sees`] tests crossings until one hides the target. [`sees_past_blocks`] returns the result of
-//! `sees` and skips blocks of cells below the line. [`least_height`] returns the least target height
-//! at which `sees` returns true. Depends on `terrain` alone.
+//! `sees` and skips blocks of cells below the line. [`least_height`] returns the least target
+//! height at which `sees` returns true. Depends on `terrain` alone.
 //!
 //! Modules, callers first:
 //!

@@ -360,8 +360,8 @@ fn blocker_on(
 }
 
 /// Returns a crossing that hides a target, if any; skips blocks below the line.
-/// `lines` has both forms of the line of sight. Adds the number of crossings of each near block that
-/// it tests to `crossings_tested`.
+/// `lines` has both forms of the line of sight. Adds the number of crossings of each near block
+/// that it tests to `crossings_tested`.
 #[inline(always)]
 pub(crate) fn blocker_past_blocks(
     grid: &Grid,
@@ -379,7 +379,8 @@ pub(crate) fn blocker_past_blocks(
     requires rows { lines.rows ≡ over_rows grid.now.terrain target (place_of observer.now)
         lines.rows.from_elevation lines.rows.to_elevation }
     requires small { IsSightline lines.columns × IsSightline lines.rows }
-    requires over_columns { CoversLine grid.now.terrain.cells lines.columns.lead lines.columns.side }
+    requires over_columns { CoversLine grid.now.terrain.cells lines.columns.lead
+        lines.columns.side }
     requires over_rows { CoversLine grid.now.terrain.cells lines.rows.lead lines.rows.side }
     ensures { is_some result ≡ (walk_blocks grid.now.terrain.cells lines.columns
         || walk_blocks grid.now.terrain.cells lines.rows) }

@@ -21,8 +21,8 @@ use terrain::{Cell, Grid, Observer, Place};
 const HIGHEST_TARGET: u64 = 1_000_000;
 
 /// Returns the ground at a crossing times the sum of the weights, or `None` where that is unknown.
-/// The cells are at `index` and `index + beside`; the sum cannot wrap, since weights sum to 4,095 at
-/// most.
+/// The cells are at `index` and `index + beside`. The sum cannot wrap, since weights sum to at most
+/// 4,095; nor could a wrapped one mislead, since callers certify what they compute from it.
 #[inline(always)]
 fn ground_between(
     cells: &[Cell],

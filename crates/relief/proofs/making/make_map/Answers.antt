@@ -134,6 +134,42 @@ returns-in-View-clause-ready g c =
     c.requires.sound ∙ ap (λ o. option_map Sight o) (asked
     ∙ no_fault _ _ _ (rw c.deref-in-View.ensures.value at c.in_ok-counts-in-View.ensures.refusals))
 
+pub returns-in-Rise-clause-map : goal.returns-in-Rise-clause-map
+returns-in-Rise-clause-map g c =
+    let values = c.in_ok-heights-in-Rise.heights.items in
+    subst (λ (m : Map). IsMapText c.args.grid m (counts_text c.into_frame-in-Rise.result values))
+    (sym (sym c.map.ensures ∙ c.in-Rise.is)) (
+      values,
+      rw c.deref-in-Rise.ensures.value at c.in_ok-heights-in-Rise.ensures.values,
+      ap (λ (r : Raster). counts_text r values) c.into_frame-in-Rise.ensures,
+    )
+
+pub returns-in_err-heights-in-Rise-clause-fault : goal.returns-in_err-heights-in-Rise-clause-fault
+returns-in_err-heights-in-Rise-clause-fault g c =
+    let p = err_from_is_err_and c.from_residual-in_err-heights-in-Rise.result
+    c.from_residual-in_err-heights-in-Rise.ensures.1 in
+    let w = c.args.options.now in
+    let grid = c.args.grid in
+    let asked : view_fault grid w.map
+    ≡ observers_fault grid.terrain c.in-Rise.observers.items 0 c.in-Rise.radius =
+    ap (λ m. view_fault grid m) (sym c.map.ensures ∙ c.in-Rise.is) in
+    let refusals = rw (c.deref-in-Rise.ensures.value, c.workers-workers.ensures.value)
+    at c.in_err-heights-in-Rise.ensures.refusals in
+    rw (p.1, p.2) (view_refused w grid _ c.in_err-heights-in-Rise.field-0.0
+    c.workers-workers.ensures.limits.2 c.workers-workers.ensures.limits.3
+    (λ x. not_jobs x grid.terrain c.in-Rise.observers.items 0 c.in-Rise.radius)
+    (c.requires.sound ∙ ap (λ o. option_map Sight o) asked) refusals)
+
+pub returns-in-Rise-clause-ready : goal.returns-in-Rise-clause-ready
+returns-in-Rise-clause-ready g c =
+    let w = c.args.options.now in
+    let grid = c.args.grid in
+    let asked : view_fault grid w.map
+    ≡ observers_fault grid.terrain c.in-Rise.observers.items 0 c.in-Rise.radius =
+    ap (λ m. view_fault grid m) (sym c.map.ensures ∙ c.in-Rise.is) in
+    c.requires.sound ∙ ap (λ o. option_map Sight o) (asked
+    ∙ no_fault _ _ _ (rw c.deref-in-Rise.ensures.value at c.in_ok-heights-in-Rise.ensures.refusals))
+
 pub make_several-requires-clause-sound : goal.make_several-requires-clause-sound
 make_several-requires-clause-sound g c κs within =
     let is = sym c.map.ensures ∙ c.in-Several.is in

@@ -19,5 +19,7 @@ returns c =
     app_with _ _ _ _ _ with_basins c.in_ok-catchments_command.ensures c.in_ok-program-5.ensures in
     let with_view =
     app_with _ _ _ _ _ with_catchments c.in_ok-view_command.ensures c.in_ok-program-6.ensures in
-    IfOk-weaker c.subcommand-3.result _ _ (λ r h.
-    app_with _ r _ _ _ with_view c.in_ok-maps_command.ensures h) c.subcommand-3.ensures
+    let with_rise =
+    app_with _ _ _ _ _ with_view c.in_ok-rise_command.ensures c.in_ok-program-7.ensures in
+    IfOk-weaker c.subcommand-4.result _ _ (λ r h.
+    app_with _ r _ _ _ with_rise c.in_ok-maps_command.ensures h) c.subcommand-4.ensures

@@ -5,9 +5,9 @@ use Rattle.clap.specs.Faults.{fault_of, is_simple_and_free}
 use Rattle.clap.specs.Kinds.{HasKind}
 use Rattle.request.specs.CommandLine.{Spell, RequestFor, program_app}
 use Rattle.request.specs.PlaceWords.{place_of_word}
-use Rattle.request.specs.Request.{IsViewshedMap}
+use Rattle.request.specs.Request.{IsSightMap}
 use Rattle.request.proofs.Requested.{accepted, found_in, map_refused, named_by, none_by, none_named, options_refused, program_free, sinks_refused, requested}
-use Rattle.request.proofs.Given.{view_without_sinks}
+use Rattle.request.proofs.Given.{sight_without_sinks}
 use Rattle.request.proofs.words.requested_options.Goals as goal
 
 pub returns-in_err-matches-clause-fault : goal.returns-in_err-matches-clause-fault
@@ -83,9 +83,9 @@ returns-clause-request c =
     found_in _ words c.in_ok-matches.matches c.in_ok-command.ensures c.in_ok-matches.ensures.matches
     ∙ named_by _ _ _ c.in-Some.ensures.name c.in-Some.ensures.rows in
     let given = c.in-Some-with_options.ensures in
-    let none = view_without_sinks _ (rows_of (found_of c.in-Some.found.now))
+    let none = sight_without_sinks _ (rows_of (found_of c.in-Some.found.now))
     c.in_ok-map.map c.in_ok-map.ensures.some
-    (subst IsViewshedMap given.some.0 c.in-Err.ensures.view.1) in
+    (subst IsSightMap given.some.0 c.in-Err.ensures.view.1) in
     subst (RequestFor words) (sym c.in-Err.ensures.view.0)
     (requested words (accepted _ words c.in_ok-command.ensures c.in_ok-matches.ensures.kinds)
     _ _ found c.in_ok-map.map c.in-Some-with_options.options

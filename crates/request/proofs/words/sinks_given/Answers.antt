@@ -1,8 +1,7 @@
-use Rattle.std.proofs.Common.{rules, ◌≡◌, List, IfErr, IfOk, false, map, refl, subst, sym, codes, ◌∙◌}
-use Rattle.std.specs.Str.{bytes_eq}
+use Rattle.std.proofs.Common.{◌≡◌, List, IfErr, IfOk, false, map, refl, subst, sym, codes, ◌∙◌}
 use Rattle.std.proofs.lemmas.Bool.{cond-false}
 use Rattle.clap.specs.Words.{Text, found_of, rows_of}
-use Rattle.request.specs.CommandLine.{IsFirstBad, Spell, sink_words}
+use Rattle.request.specs.CommandLine.{IsFirstBad, Spell, is_of_sight, sink_words}
 use Rattle.request.specs.PlaceWords.{place_of_word}
 use Rattle.request.specs.WordsFaults.{IsFaultWith}
 use Rattle.request.proofs.Given.{given_words}
@@ -12,7 +11,8 @@ same : (c : goal.After-sinks_of) → map (λ w. w.now) c.unwrap_or-words.result.
     ≡ sink_words c.args.name.now (rows_of (found_of c.args.found.now))
 same c =
     let found = found_of c.args.found.now in
-    let other : bytes_eq c.args.name.now (codes "view") ≡ false = search rules in
+    let other : is_of_sight c.args.name.now ≡ false = sym c.is_of_sight.ensures
+    ∙ c.if-is_of_sight.false in
     given_words found (codes "sinks") _ _ _ c.unwrap_or-words.ensures refl c.get_strs.ensures
     ∙ sym (cond-false _ _ _ other)
 

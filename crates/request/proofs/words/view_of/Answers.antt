@@ -1,10 +1,10 @@
-use Rattle.std.proofs.Common.{rules, ◌≡◌, IfErr, refl, sym, subst, codes}
+use Rattle.std.proofs.Common.{rules, ◌≡◌, IfErr, refl, sym, subst, codes, inl}
 use Rattle.std.proofs.lemmas.Result.{IfErr-weaker}
 use Rattle.clap.specs.Words.{found_of, rows_of}
 use Rattle.request.specs.CommandLine.{HasObservers, IsFirstBad}
 use Rattle.request.specs.PlaceWords.{observer_of}
 use Rattle.request.specs.WordsFaults.{IsMapFault}
-use Rattle.request.proofs.Given.{fault_weaker, given_words, no_bad, only_view, view_without_gauges, view_without_maps_fault}
+use Rattle.request.proofs.Given.{fault_weaker, given_words, no_bad, only_view, sight_without_gauges, sight_without_maps_fault}
 use Rattle.request.proofs.words.view_of.Goals as goal
 
 pub returns-in_err-observers-clause-none : goal.returns-in_err-observers-clause-none
@@ -15,7 +15,7 @@ returns-in_err-observers-clause-none c =
     search rules in
     IfErr-weaker c.from_residual.result _ _ (λ y e. subst (IsMapFault (codes "view")
     (rows_of (found_of c.args.found.now))) (sym e) (fault_weaker c.in_err-observers.field-0.0
-    (λ place bad. (refl, subst (λ ws. IsFirstBad observer_of ws place) words bad)) (λ place never.
+    (λ place bad. (inl refl, subst (λ ws. IsFirstBad observer_of ws place) words bad)) (λ place never.
     absurd never) (λ fault never. absurd never) (λ never. absurd never)
     c.in_err-observers.ensures.none)) same
 
@@ -27,8 +27,8 @@ returns-in_default-clause-none c =
     let has : HasObservers (rows_of found) _ = rw words at c.in_ok-observers.ensures.some in (
       only_view (rows_of found) (λ os t r others target radius. c.in_default.ensures.none t target),
       λ place. no_bad _ (rows_of found) _ place has,
-      λ place. view_without_gauges (rows_of found) place,
-      λ fault. view_without_maps_fault (rows_of found) fault,
+      λ place. sight_without_gauges _ (rows_of found) place (inl refl),
+      λ fault. sight_without_maps_fault _ (rows_of found) fault (inl refl),
     )
 
 pub returns-in_default-number_given-clause-none : goal.returns-in_default-number_given-clause-none
@@ -40,8 +40,8 @@ returns-in_default-number_given-clause-none c =
       only_view (rows_of found) (λ os t r others target radius.
           c.in_default-number_given.ensures.none r radius),
       λ place. no_bad _ (rows_of found) _ place has,
-      λ place. view_without_gauges (rows_of found) place,
-      λ fault. view_without_maps_fault (rows_of found) fault,
+      λ place. sight_without_gauges _ (rows_of found) place (inl refl),
+      λ fault. sight_without_maps_fault _ (rows_of found) fault (inl refl),
     )
 
 pub returns-clause-some : goal.returns-clause-some
