@@ -19,7 +19,7 @@ rises : (e g h : ℤ) → g +ℤ h ≡ e +ℤ ((g +ℤ h) -ℤ e)
 rises e g h = omega (arith, ints)
 
 -- the walk to a cell of line n is blocked exactly where a line before line n blocks the cell
-lines_block : (cells : List (Option ℤ)) (f : Family) (height n x y : ℕ) → lead_of f n ≡ x →
+pub lines_block : (cells : List (Option ℤ)) (f : Family) (height n x y : ℕ) → lead_of f n ≡ x →
     abs_diff f.lines.at x ≡ n
     → walk_blocks cells (sightline_to cells f height x y)
     ≡ is_blocked_before cells f n y (rise_at cells f height n y) n
@@ -33,7 +33,7 @@ lines_block cells f height n x y at away =
     (ap axis (sym at)) refl refl high away
 
 -- a walk of at most one step meets no crossing, so nothing blocks it
-none_between : (cells : List (Option ℤ)) (l : Sightline) → steps_of l ≤ 1 →
+pub none_between : (cells : List (Option ℤ)) (l : Sightline) → steps_of l ≤ 1 →
     walk_blocks cells l ≡ false
 none_between cells l few =
     let none : steps_of l - 1 ≡ 0 = omega arith in

@@ -33,7 +33,7 @@ parts_of x y a b s small_y small_b e = elim (cases_lt x a) [
   ]
 ]
 
-same_cell : (w : Extent) (x y a b : ℕ) → IsApart w → IsInRun w.lines x → IsInRun w.side y →
+pub same_cell : (w : Extent) (x y a b : ℕ) → IsApart w → IsInRun w.lines x → IsInRun w.side y →
     IsInRun w.lines a → IsInRun w.side b → flag_index w x y ≡ flag_index w a b → (x ≡ a) × (y ≡ b)
 same_cell w x y a b is in_x in_y in_a in_b e =
     let r = x - w.lines.first in
@@ -56,7 +56,7 @@ same_cell w x y a b is in_x in_y in_a in_b e =
     ]
 
 -- different lines have different coordinates
-line_from : (back : Bool) (at m n : ℕ) → (back ≡ true → m ≤ at) → (back ≡ true → n ≤ at) →
+pub line_from : (back : Bool) (at m n : ℕ) → (back ≡ true → m ≤ at) → (back ≡ true → n ≤ at) →
     (if back then at - m else at + m) ≡ (if back then at - n else at + n) → m ≡ n
 line_from true at m n a b e =
     let p : m ≤ at = a refl in
@@ -140,7 +140,7 @@ left_open cells f w height old n y is =
     and_true (flag_in_extent w (lead_of f n) y old) _ (ap not is)
 
 -- a target is at only one cell of one line
-same_target : (f : Family) (t : Target) (m z y : ℕ) → IsAtCell f y t → t ≡ target_at f m z →
+pub same_target : (f : Family) (t : Target) (m z y : ℕ) → IsAtCell f y t → t ≡ target_at f m z →
     (m ≡ t.line) × (z ≡ y)
 same_target f t m z y stands e =
     (ap (λ q. q.line) (sym e), omega (arith, ints, stands.offset, ap (λ q. q.offset) e))

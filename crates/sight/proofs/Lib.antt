@@ -20,6 +20,8 @@ pub mod Families
 -- the flags that a tile keeps on all sides of an observer
 pub mod BothSides
 pub mod PlacesLeft
+-- the targets that families raise
+pub mod Raised
 -- faults of observers, and refusals
 pub mod Refused
 -- the values of a tile, observer by observer
@@ -28,6 +30,7 @@ pub mod FlagLists
 pub mod Indexed
 pub mod Counting
 pub mod Lowering
+pub mod Swept
 -- the viewshed and the rise
 pub mod Uniqueness
 pub mod Rises

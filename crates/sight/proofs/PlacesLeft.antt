@@ -46,7 +46,7 @@ reported new old i j walked blocked at same is =
 module _ (t : Terrain) (p : Place) (b : Bounds) (e : ℤ)
     (target : ℕ) (old new : List Bool) (observer : IsInside t p) (rows : b.top + b.rows ≤ t.rows)
     (cols : b.left + b.cols ≤ t.cols) where
-  column_walk_is : (q : Place) → IsInside t q → walk_blocks t.cells
+  pub column_walk_is : (q : Place) → IsInside t q → walk_blocks t.cells
       (sightline_to t.cells (family_of (columns_at b p) (rows_at t b p) e) target q.col q.row)
       ≡ column_blocks t p q e (height_of t q +ℤ pos target)
   column_walk_is q inside =
@@ -61,7 +61,7 @@ module _ (t : Terrain) (p : Place) (b : Bounds) (e : ℤ)
       ap (λ h. walk_blocks t.cells (line h)) (sym height)
       ∙ sym (column_blocks-walk t p q e (height_of t q +ℤ pos target) observer inside)
 
-  row_walk_is : (q : Place) → IsInside t q → walk_blocks t.cells
+  pub row_walk_is : (q : Place) → IsInside t q → walk_blocks t.cells
       (sightline_to t.cells (family_of (rows_at t b p) (columns_at b p) e) target q.row q.col)
       ≡ row_blocks t p q e (height_of t q +ℤ pos target)
   row_walk_is q inside =

@@ -6,6 +6,7 @@ pub mod Sweep
 pub mod Ranks
 pub mod Hiding
 pub mod Sides
+pub mod Raising
 pub mod Looking
 pub mod Refusals
 pub mod Viewed

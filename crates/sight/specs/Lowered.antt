@@ -1,6 +1,6 @@
 -- How one more observer lowers the rise of a place.
 -- Private.
-use Rattle.std.specs.Prelude.{◌≡◌, ℕ, ◌+◌, ◌/◌, ◌%◌, ◌<◌, ◌≤◌, true, false, nat_lt, if◌then◌else◌, Option, Some, unwrap_or}
+use Rattle.std.specs.Prelude.{◌≡◌, ℕ, ◌+◌, ◌/◌, ◌%◌, ◌<◌, ◌≤◌, Bool, true, false, ◌&&◌, nat_lt, if◌then◌else◌, Option, Some, unwrap_or}
 use Rattle.terrain.specs.Raster.{Terrain}
 use Rattle.terrain.specs.declared.place.Place.{Place}
 use Rattle.terrain.specs.declared.observer.Observer.{Observer}
@@ -23,6 +23,11 @@ pub record IsLeast (t : Terrain) (o : Observer) (radius : ℕ) (p : Place) (limi
 abbrev pub IsLowered : Terrain → Observer → ℕ → Place → Option ℕ → Option ℕ → Type 0
 IsLowered t o radius p old new = (least : ℕ) × IsLeast t o radius p (limit_of old) least
     × (new ≡ (if nat_lt least (limit_of old) then Some least else old))
+
+-- The value of a cell with a target at `height`: that height if the cell is flagged and the height
+-- is below the old value; else the old value.
+abbrev pub lowered_to : Bool → ℕ → Option ℕ → Option ℕ
+lowered_to flag height value = if flag && nat_lt height (limit_of value) then Some height else value
 
 -- The place of an index in the row order of the bounds.
 abbrev pub place_in : Bounds → ℕ → Place

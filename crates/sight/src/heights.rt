@@ -4,6 +4,9 @@ ghost use Rattle.sightlines.specs.Blocks.{IsTopOf};
 
 use terrain::{Cell, Height};
 
+/// The greatest height of a target above its ground, in units.
+pub(crate) const HIGHEST_TARGET: u32 = 1_000_000;
+
 /// Returns the height at `index`, or `None` for NODATA or past the list's end.
 #[inline(always)]
 pub(crate) fn height_at(cells: &[Cell], index: usize) -> Option<Height>

@@ -15,6 +15,20 @@ use std::alloc::{AllocError, Global};
 use terrain::Cell;
 
 impl Family {
+    /// Returns the index, in the list of flags, of the cell that a ray leads to.
+    #[inline(always)]
+    pub(crate) fn flag_index(self, extent: Extent, ray: Target) -> usize
+        requires family { IsFamily self }
+        requires strides { (extent.lines.stride ≤ 4096) × (extent.side.stride ≤ 4096) }
+        requires ray { IsRay self extent ray }
+        ensures { (y : ℕ) → IsAtCell self y ray
+            → result ≡ flag_index extent (lead_of self ray.line) y }
+    {
+        let row = (self.lead_of(ray.line) - extent.lines.first) as usize * extent.lines.stride;
+        let cell = (self.side.at as i32 + ray.offset) as u32;
+        row + (cell - extent.side.first) as usize * extent.side.stride
+    }
+
     /// Clears the flag of the cell that a ray leads to.
     #[inline(always)]
     fn clear_flag(self, extent: Extent, ray: Target, flags: &mut [bool])
@@ -24,9 +38,8 @@ impl Family {
         ensures { (y : ℕ) → IsAtCell self y ray
             → flags.new ≡ slice_set flags.old (flag_index extent (lead_of self ray.line) y) false }
     {
-        let row = (self.lead_of(ray.line) - extent.lines.first) as usize * extent.lines.stride;
-        let cell = (self.side.at as i32 + ray.offset) as u32;
-        flags[row + (cell - extent.side.first) as usize * extent.side.stride] = false;
+        let index = self.flag_index(extent, ray);
+        flags[index] = false;
     }
 }
 

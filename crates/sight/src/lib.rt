@@ -16,6 +16,7 @@
 //! - `flagging`: flags the cells that one observer sees, by walks or by a sweep
 //! - `sides`: sweeps a tile on all four sides of the observer
 //! - `hiding`: clears the flags of cells that one family of crossings hides
+//! - `raising`: raises the targets of flagged cells over families of crossings
 //! - `looking`: looks up which targets on a line are hidden by nearer lines
 //! - `sweep`: a horizon, raised line by line
 //! - `line_ground`: raises a horizon to the ground of one line
@@ -41,6 +42,7 @@ mod judging;
 pub mod laws;
 mod line_ground;
 mod looking;
+mod raising;
 mod ranks;
 mod reach;
 mod rise_tile;

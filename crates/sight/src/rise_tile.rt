@@ -1,22 +1,44 @@
 //! The least target heights of one tile, lowered observer by observer.
-ghost use Rattle.std.specs.Prelude.{◌≡◌, ℕ, ◌+◌, ◌*◌, ◌<◌, ◌≤◌, [], length, None, slice_index_or};
+//!
+//! Walks raise one target after the other; a sweep raises those of all cells together. A sweep
+//! costs about the same on all ground, and less than walks unless the tile is small.
+ghost use Rattle.std.specs.Prelude.{◌≡◌, ℕ, ◌+◌, ◌*◌, ◌<◌, ◌≤◌, false, [], length, None, IfOk, OnOk, slice_index, slice_index_or};
 ghost use Rattle.terrain.specs.Neighbours.{IsInside};
 ghost use Rattle.tiles.specs.Cutting.{AreBounds, IsCutting};
 ghost use Rattle.tile_maps.specs.Maps.{IsMadeUpTo};
 ghost use Rattle.sightlines.specs.Sight.{highest_eye, place_of};
 ghost use Rattle.sight.specs.Rise.{IsRiseAt};
-ghost use Rattle.sight.specs.Lowered.{IsLowered, limit_of, place_in};
+ghost use Rattle.sight.specs.Lowered.{IsLowered, limit_of, lowered_to, place_in};
+ghost use Rattle.sight.specs.Raising.{IsCandidate};
 
+use crate::heights::HIGHEST_TARGET;
 use crate::tile::ViewshedInput;
-use sightlines::{WalkCache, least_height};
-use std::alloc::Global;
+use sightlines::{WalkCache, is_candidate, least_height};
+use std::alloc::{AllocError, Global};
 use terrain::{Count, NoMemory, Observer, Place};
 use tile_jobs::Gate;
 use tile_maps::TileMap;
 use tiles::{Bounds, Tiling};
 
-/// The greatest height of a target above its ground, in units.
-const HIGHEST_TARGET: u32 = 1_000_000;
+/// From this side on, in cells, a tile is swept.
+const SWEPT_SIDE: u32 = 32;
+
+/// Lowers the values of flagged cells to their targets' heights.
+fn lower_to(flags: &[bool], targets: &[u32], values: &mut [Count])
+    requires flags { length flags.now ≡ length values.old }
+    requires targets { length targets.now ≡ length values.old }
+    requires low { (k : ℕ) → limit_of (slice_index_or values.old k None) ≤ highest_eye + 1 }
+    ensures { (k : ℕ) → k < length values.old → slice_index_or values.new k None
+        ≡ lowered_to (slice_index_or flags.now k false) (slice_index targets.now k)
+        (slice_index_or values.old k None) }
+{
+    for index in 0..values.len() {
+        let limit = values[index].value().unwrap_or(HIGHEST_TARGET + 1);
+        if flags[index] && targets[index] < limit {
+            values[index] = Count::of(targets[index]);
+        }
+    }
+}
 
 /// Returns the place of an index in the row order of the bounds.
 #[inline(always)]
@@ -66,8 +88,8 @@ impl<'a> ViewshedInput<'a> {
         }
     }
 
-    /// Lowers each value of a tile to the least height at which one more observer sees its cell.
-    fn lower_values(&self, observer: &Observer, bounds: Bounds, values: &mut [Count])
+    /// Lowers a tile's values as [`lower_values`](Self::lower_values) does, by walks.
+    fn lower_by_walks(&self, observer: &Observer, bounds: Bounds, values: &mut [Count])
         requires lawful { IsCutting self.now.tiling.now }
         requires inside { AreBounds self.now.tiling.now bounds }
         requires observer { IsInside self.now.grid.now.terrain (place_of observer.now) }
@@ -85,24 +107,106 @@ impl<'a> ViewshedInput<'a> {
         }
     }
 
+    /// Returns a flag for each cell of a tile; unflagged cells are seen at no height.
+    fn candidates(
+        &self,
+        alloc: Global,
+        observer: &Observer,
+        bounds: Bounds,
+    ) -> Result<Vec<bool>, AllocError>
+        requires lawful { IsCutting self.now.tiling.now }
+        requires inside { AreBounds self.now.tiling.now bounds }
+        requires observer { IsInside self.now.grid.now.terrain (place_of observer.now) }
+        requires eye { observer.now.eye ≤ highest_eye }
+        ensures size { IfOk result (λ v. length v.items ≡ bounds.rows * bounds.cols) }
+        ensures flags { IfOk result (λ v. (k : ℕ) → k < bounds.rows * bounds.cols →
+            IsCandidate self.now.grid.now.terrain observer.now self.now.radius (place_in bounds k)
+            (slice_index_or v.items k false)) }
+    {
+        let cells = bounds.rows as usize * bounds.cols as usize;
+        let mut flags = vec![in alloc; false; cells]?;
+        for index in 0..flags.len() {
+            let place = place_in(bounds, index);
+            flags[index] = is_candidate(self.grid, observer, place, self.radius);
+        }
+        Ok(flags)
+    }
+
+    /// Lowers a tile's values as [`lower_values`](Self::lower_values) does, by sweeps.
+    fn lower_by_sweeps(
+        &self,
+        alloc: Global,
+        observer: &Observer,
+        bounds: Bounds,
+        values: &mut [Count],
+    ) -> Result<(), AllocError>
+        requires lawful { IsCutting self.now.tiling.now }
+        requires inside { AreBounds self.now.tiling.now bounds }
+        requires observer { IsInside self.now.grid.now.terrain (place_of observer.now) }
+        requires eye { observer.now.eye ≤ highest_eye }
+        requires size { length values.old ≡ bounds.rows * bounds.cols }
+        requires low { (k : ℕ) → limit_of (slice_index_or values.old k None) ≤ highest_eye + 1 }
+        ensures { OnOk result ((k : ℕ) → k < length values.old →
+            IsLowered self.now.grid.now.terrain observer.now self.now.radius (place_in bounds k)
+            (slice_index_or values.old k None) (slice_index_or values.new k None)) }
+    {
+        let flags = self.candidates(alloc, observer, bounds)?;
+        let mut targets = vec![in alloc; 0; flags.len()]?;
+        self.raise_blocked(alloc, observer, bounds, &flags, &mut targets)?;
+        lower_to(&flags, &targets, values);
+        Ok(())
+    }
+
+    /// Lowers each value of a tile to the least height at which one more observer sees its cell.
+    fn lower_values(
+        &self,
+        alloc: Global,
+        observer: &Observer,
+        bounds: Bounds,
+        values: &mut [Count],
+    ) -> Result<(), AllocError>
+        requires lawful { IsCutting self.now.tiling.now }
+        requires inside { AreBounds self.now.tiling.now bounds }
+        requires observer { IsInside self.now.grid.now.terrain (place_of observer.now) }
+        requires eye { observer.now.eye ≤ highest_eye }
+        requires size { length values.old ≡ bounds.rows * bounds.cols }
+        requires low { (k : ℕ) → limit_of (slice_index_or values.old k None) ≤ highest_eye + 1 }
+        ensures { OnOk result ((k : ℕ) → k < length values.old →
+            IsLowered self.now.grid.now.terrain observer.now self.now.radius (place_in bounds k)
+            (slice_index_or values.old k None) (slice_index_or values.new k None)) }
+    {
+        if bounds.rows.min(bounds.cols) >= SWEPT_SIDE {
+            return self.lower_by_sweeps(alloc, observer, bounds, values);
+        }
+        self.lower_by_walks(observer, bounds, values);
+        Ok(())
+    }
+
     /// Lowers each value of a tile to the least height at which an observer sees its cell.
     /// Observers are parts of the job: calls `gate` after each.
-    fn lower_by_observers<G: Gate>(&self, gate: &G, bounds: Bounds, values: &mut [Count])
+    fn lower_by_observers<G: Gate>(
+        &self,
+        alloc: Global,
+        gate: &G,
+        bounds: Bounds,
+        values: &mut [Count],
+    ) -> Result<(), AllocError>
         requires lawful { IsCutting self.now.tiling.now }
         requires inside { AreBounds self.now.tiling.now bounds }
         requires values { IsMadeUpTo bounds
             (IsRiseAt self.now.grid.now.terrain [] self.now.radius)
             (bounds.rows * bounds.cols) values.old }
-        ensures { IsMadeUpTo bounds
+        ensures { OnOk result (IsMadeUpTo bounds
             (IsRiseAt self.now.grid.now.terrain self.now.observers.now self.now.radius)
-            (bounds.rows * bounds.cols) values.new }
+            (bounds.rows * bounds.cols) values.new) }
     {
         for observer in self.observers {
             if self.reaches(observer, bounds) {
-                self.lower_values(observer, bounds, values);
+                self.lower_values(alloc, observer, bounds, values)?;
             }
             gate.finish_part(self.observers.len());
         }
+        Ok(())
     }
 }
 
@@ -131,7 +235,7 @@ impl<'a, 'g, G: Gate> TileMap for GatedRise<'a, 'g, G> {
         let cells = bounds.rows as usize * bounds.cols as usize;
         let mut values = vec![in alloc; Count::none(); cells]?;
         self.input
-            .lower_by_observers(self.gate, bounds, &mut values);
+            .lower_by_observers(alloc, self.gate, bounds, &mut values)?;
         Ok(values)
     }
 }

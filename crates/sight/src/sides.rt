@@ -26,7 +26,7 @@ use tiles::Bounds;
 impl Family {
     /// Returns the family with its lines west or north of the observer.
     /// The lines are still columns, or still rows.
-    fn reverse(self) -> Self
+    pub(crate) fn reverse(self) -> Self
         ensures { result ≡ facing self true }
     {
         Family {
@@ -49,6 +49,28 @@ pub struct TileAxis {
     pub at: u32,
     pub stride: usize,
     pub tile: CellRun,
+}
+
+/// Returns the family whose lines are east or south of the observer.
+/// Its lines are counted along the axis `lines`, and run along the axis `side`.
+pub(crate) fn family_of(lines: TileAxis, side: TileAxis, eye: i64) -> Family
+    requires side { IsTileAxis side }
+    ensures { result ≡ family_of lines side eye }
+{
+    Family {
+        lines: Lines {
+            at: lines.at,
+            stride: lines.stride,
+            back: false,
+        },
+        side: Side {
+            at: side.at,
+            stride: side.stride,
+            first: side.at.min(side.tile.first),
+            cells: (side.at + 1).max(side.tile.first + side.tile.cells),
+        },
+        eye,
+    }
 }
 
 /// Clears the flags of cells that lines on either side of the observer hide.
@@ -74,20 +96,7 @@ fn hide_on_both_sides(
         (AreOpen cells.now (family_of lines side eye) (extent_of lines side) height flags.old
         flags.new) }
 {
-    let family = Family {
-        lines: Lines {
-            at: lines.at,
-            stride: lines.stride,
-            back: false,
-        },
-        side: Side {
-            at: side.at,
-            stride: side.stride,
-            first: side.at.min(side.tile.first),
-            cells: (side.at + 1).max(side.tile.first + side.tile.cells),
-        },
-        eye,
-    };
+    let family = family_of(lines, side, eye);
     let extent = Extent {
         lines: lines.tile,
         side: side.tile,

@@ -25,7 +25,7 @@ ground_not_above : (g : Option ℤ) (z w : ℤ) → z ≤ℤ w → option_map_or
 ground_not_above None z w h clear = refl
 ground_not_above (Some g) z w h clear = not_below z w g h clear
 
-columns_clear : (t : Terrain) (p q : Place) (e f g : ℤ) → f ≤ℤ g → column_blocks t p q e f ≡ false →
+pub columns_clear : (t : Terrain) (p q : Place) (e f g : ℤ) → f ≤ℤ g → column_blocks t p q e f ≡ false →
     column_blocks t p q e g ≡ false
 columns_clear t p q e f g h clear =
     let n = abs_diff p.col q.col in

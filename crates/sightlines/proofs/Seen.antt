@@ -93,7 +93,7 @@ lines_are t o q target radius from to is a b from_is to_is near e_elevation f_el
       columns_inside = columns_in_list t q p is.size b a;
       rows_inside = rows_in_list t q p is.size b a;
       seen = seen_is t o q target radius from to a b from_is to_is near;
-      reached = reached_is t o q target radius from to from_is to_is near;
+      reached = λ height. reached_is t o q height radius from to from_is to_is near;
     }
 
 pub hidden_by_columns : (seen a b : Bool) → seen ≡ (not a && not b) → a ≡ true → false ≡ seen

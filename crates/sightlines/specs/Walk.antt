@@ -122,4 +122,4 @@ pub record AreSightlines (t : Terrain) (o : Observer) (q : Place) (target radius
   pub rows_inside : CoversLine t.cells lines.rows.lead lines.rows.side
   pub seen : is_seen t o q target radius
       ≡ (not (walk_blocks t.cells lines.columns) && not (walk_blocks t.cells lines.rows))
-  pub reached : is_seen t o q target radius ≡ is_open t o q target
+  pub reached : (height : ℕ) → is_seen t o q height radius ≡ is_open t o q height

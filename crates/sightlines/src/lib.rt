@@ -26,7 +26,7 @@ mod rise;
 mod tops;
 mod walk;
 
-pub use line::{WalkCache, elevation, may_see, sees, sees_past_blocks};
+pub use line::{WalkCache, elevation, is_candidate, may_see, sees, sees_past_blocks};
 pub use reach::is_in_reach;
 pub use rise::least_height;
 pub use tops::{FAR_BLOCK, MaxHeights, NEAR_BLOCK, blocks_in};

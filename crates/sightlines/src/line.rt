@@ -133,6 +133,23 @@ pub fn sees(
     !is_blocked(cells, lines.rows)
 }
 
+/// Returns whether both cells have data and the target is within the radius.
+/// A target is seen, at whatever height, exactly if the result is true and no crossing blocks.
+#[inline(always)]
+pub fn is_candidate(grid: &Grid, observer: &Observer, target: Place, radius: u32) -> bool
+    requires observer { IsInside grid.now.terrain (place_of observer.now) }
+    requires target { IsInside grid.now.terrain target }
+    requires eye { observer.now.eye ≤ highest_eye }
+    requires radius { (1 ≤ radius) × (radius ≤ longest_radius) }
+    ensures { (height : ℕ) → is_seen grid.now.terrain observer.now target height radius
+        ≡ (result && is_open grid.now.terrain observer.now target height) }
+{
+    let Some(_) = lines_of_sight(grid, observer, target, 0, radius) else {
+        return false;
+    };
+    true
+}
+
 /// The most column crossings, and the most row crossings, that `may_see` tests.
 const FIRST_CROSSINGS: u32 = 2;
 

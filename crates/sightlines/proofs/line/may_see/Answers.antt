@@ -22,7 +22,7 @@ returns c =
     let are = c.in-Some.ensures in
     seen_if_open (is_seen t o q c.args.target_height c.args.radius)
     (is_open t o q c.args.target_height) (walk_blocks t.cells lines.columns)
-    (walk_blocks t.cells lines.rows) c.is_blocked_from-2.result are.seen are.reached
+    (walk_blocks t.cells lines.rows) c.is_blocked_from-2.result are.seen (are.reached c.args.target_height)
     (λ yes. rw c.cells-cells.ensures.value at (c.is_blocked_from-2.ensures yes))
 
 pub is_blocked_from-requires-clause-heights : goal.is_blocked_from-requires-clause-heights

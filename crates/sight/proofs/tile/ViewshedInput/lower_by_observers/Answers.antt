@@ -7,7 +7,7 @@ use Rattle.sight.specs.Rise.{IsRiseAt}
 use Rattle.sight.proofs.Refused.{lawful_from}
 use Rattle.sight.proofs.Lowering.{tile_lowered, tile_kept, limits_low}
 use Rattle.sight.proofs.tile.ViewshedInput.lower_by_observers.Goals as goal
-use Rattle.sight.proofs.tile.ViewshedInput.lower_by_observers.Goals.{then-reaches, else-reaches}
+use Rattle.sight.proofs.tile.ViewshedInput.lower_by_observers.Goals.{then-reaches+in_ok-lower_values, else-reaches}
 
 pub reaches-requires-clause-observer : goal.reaches-requires-clause-observer
 reaches-requires-clause-observer g c =
@@ -43,10 +43,10 @@ loop-observer-preserved g c =
     Type 0 = λ values. IsMadeUpTo c.args.bounds (IsRiseAt t (take (i + 1) self.observers.now)
     self.radius) (c.args.bounds.rows * c.args.bounds.cols) values in
     elim c.if-reaches.branch [
-      | then-reaches w ↦ subst Made (sym w.values-is)
+      | then-reaches+in_ok-lower_values w ↦ subst Made (sym w.values-is)
           (tile_lowered t self.observers.now self.radius i nobody c.args.bounds
           c.loop-observer.values w.lower_values.new.values c.loop-observer-test.true
-          c.loop-observer.invariant w.lower_values.auto.values w.lower_values.ensures)
+          c.loop-observer.invariant w.lower_values.auto.values w.in_ok-lower_values.ensures)
       | else-reaches w ↦ subst Made (sym w.values-is)
           (tile_kept t self.observers.now self.radius i nobody c.args.bounds
           c.loop-observer.values c.loop-observer-test.true c.loop-observer.invariant

@@ -4,7 +4,7 @@ use Rattle.std.proofs.lemmas.List.{get_or_default, get_or-set_same, get_or-set_o
 use Rattle.terrain.specs.declared.place.Place.{Place}
 use Rattle.sightlines.specs.Sight.{highest_eye}
 use Rattle.sight.specs.Lowered.{IsLowered, limit_of, place_in}
-use Rattle.sight.proofs.tile.ViewshedInput.lower_values.Goals as goal
+use Rattle.sight.proofs.tile.ViewshedInput.lower_by_walks.Goals as goal
 
 pub lowered-requires-clause-value : goal.lowered-requires-clause-value
 lowered-requires-clause-value c =
