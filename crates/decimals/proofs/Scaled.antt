@@ -1,10 +1,10 @@
 -- Without exponent, a word's scaled value (its number in units of 10^-d) follows from its sign and
 -- its digits around its point. 1 to 16 digits after an optional `-` spell it (`IsPlain`), if its
 -- size is up to 10^18.
-use Rattle.std.proofs.Common.{◌≡◌, ℕ, ◌+◌, ◌*◌, ◌-◌, ◌^◌, ◌<◌, ◌≤◌, min, Bool, true, false, ◌&&◌, ◌||◌, cond, nat_le, nat_lt, ◌==◌, List, [], ◌∷◌, ◌++◌, length, take, drop, fold, replicate, Option, None, Some, ℤ, pos, neg_ℤ, inl, inr, arith, refl, ap, sym, ◌∙◌, suc, zero, add-one}
+use Rattle.std.proofs.Common.{◌≡◌, ℕ, ◌+◌, ◌*◌, ◌-◌, ◌^◌, ◌<◌, ◌≤◌, min, Bool, true, false, ◌&&◌, ◌||◌, cond, nat_le, nat_lt, ◌==◌, List, [], ◌∷◌, ◌++◌, length, take, drop, fold, replicate, Option, None, Some, ℤ, pos, neg_ℤ, inl, inr, arith, refl, ap, sym, ◌∙◌, suc, zero}
 use Rattle.std.specs.List.{list_any, list_all, position_or_len, before_first, after_first}
 use Rattle.std.specs.Char.{is_ascii_digit}
-use Rattle.std.proofs.lemmas.List.{take-replicate, take_all, append-nil, length-take, drop_all}
+use Rattle.std.proofs.lemmas.List.{take-replicate, take_all, append-nil, length-take, length-drop, drop_all}
 use Rattle.std.proofs.lemmas.List.Sums.{fold-append}
 use Rattle.std.proofs.lemmas.List.Folds.{list_all-append}
 use Rattle.std.proofs.lemmas.Bool.{cases_lt, cond_both, or_parts, lt-ltb, le-leb, lt-leb, and_parts, leb-true, ne_eqb, eqb-true, or_from}
@@ -14,7 +14,7 @@ use Rattle.terrain.specs.Words.{Word, is_separator}
 use Rattle.terrain.specs.Decimal.{without_sign, is_negative, is_point, is_exponent_mark, mantissa, whole_part, fraction, has_exponent, are_digits, number_of, scaled_value}
 use Rattle.std.proofs.Math.Nat.{pow-suc, pow-le-pow_right}
 use Rattle.std.proofs.lemmas.Nat.{mul-le, pow-add}
-use Rattle.decimals.specs.Plain.{IsPlain}
+use Rattle.decimals.specs.Plain.{IsPlain, IsPlainSize}
 
 pub are_digits_joined : (a b : List ℕ) → 0 < length a →
     are_digits (a ++ b) ≡ (list_all is_ascii_digit a && list_all is_ascii_digit b)
@@ -183,44 +183,54 @@ bare_digits (x ∷ xs) rest h k =
       ne_eqb x 45 (λ e. omega arith),
     )
 
--- if the first `len` bytes are 1 to 16 digits, and their number times 10^d is at most 10^18, they
--- spell this product in units of 10^-d
-pub IsPlain-positive : (d : ℕ) (bytes : List ℕ) (len : ℕ) → 0 < len → len ≤ 16 → len
-    ≤ length bytes → list_all is_ascii_digit (take len bytes) ≡ true → number_of (take len bytes)
-    * 10 ^ d ≤ 10 ^ 18 → IsPlain d bytes len (pos (number_of (take len bytes) * 10 ^ d))
-IsPlain-positive d bytes len some short within digits small =
-    let xs = take len bytes in
-    let more : 0 < length xs = omega (arith, length-take len bytes) in
-    let bare = rw append-nil at (bare_digits xs [] more digits) in
-    record {
-      some = some;
-      short = omega arith;
-      within = within;
-      scaled = scaled_value-plain d xs xs bare.0
-          (any-digits is_exponent_mark xs no_exponent digits) more digits small ∙ rw bare.1 refl;
-      whole = any-digits is_separator xs no_separator digits;
-    }
+-- the first bytes `w` of a text, an optional `-` and then the digits `xs`
+record IsSigned (negative : Bool) (w xs : Word) : Type 0 where
+  pub sign : is_negative w ≡ negative
+  pub bare : without_sign w ≡ xs
+  pub free : (p : ℕ → Bool) → IsFalseOnDigits p → p 45 ≡ false → list_any p w ≡ false
 
-pub IsPlain-negative : (d : ℕ) (bytes rest : List ℕ) (len : ℕ) → is_negative bytes ≡ true →
-    rest ≡ drop 1 bytes → 0 < len → len ≤ 16 → len ≤ length rest →
-    list_all is_ascii_digit (take len rest) ≡ true → number_of (take len rest) * 10 ^ d ≤ 10 ^ 18 →
-    IsPlain d bytes (len + 1) (neg_ℤ (pos (number_of (take len rest) * 10 ^ d)))
-IsPlain-negative d [] rest len sign e some short within digits small = cc
-IsPlain-negative d (b ∷ bs) rest len sign e some short within digits small =
+IsSigned-front : (bytes : List ℕ) (negative : Bool) (len : ℕ) → is_negative bytes ≡ negative →
+    0 < length (take len (drop (cond negative 1 0) bytes)) →
+    list_all is_ascii_digit (take len (drop (cond negative 1 0) bytes)) ≡ true →
+    IsSigned negative (take (cond negative 1 0 + len) bytes)
+    (take len (drop (cond negative 1 0) bytes))
+IsSigned-front [] negative len sign some digits =
+    let left = drop {A = ℕ} (cond negative 1 0) [] in
+    absurd (omega (arith, some, length-take len left, length-drop {A = ℕ} (cond negative 1 0) []))
+IsSigned-front (b ∷ bs) true len sign some digits =
+    let more : 1 + len ≡ suc len = omega arith in rw (more, eqb-true b 45 sign) (record {
+      sign = refl;
+      bare = refl;
+      free = λ p none minus. or_from (p 45) _ minus (any-digits p (take len bs) none digits);
+    })
+IsSigned-front (b ∷ bs) false len sign some digits =
+    let bare = rw append-nil at (bare_digits (take len (b ∷ bs)) [] some digits) in
+    let same : 0 + len ≡ len = omega arith in rw same (record {
+      sign = bare.1;
+      bare = bare.0;
+      free = λ p none minus. any-digits p (take len (b ∷ bs)) none digits;
+    })
+
+-- if a text has a `-` or none, as `negative` says, and digits behind it spell `size`, it begins with
+-- `size` and this sign
+pub IsPlain-signed : (d : ℕ) (bytes rest : List ℕ) (negative : Bool) (n len size : ℕ) →
+    is_negative bytes ≡ negative → rest ≡ drop (cond negative 1 0) bytes →
+    n ≡ cond negative 1 0 + len → IsPlainSize d rest len size →
+    IsPlain d bytes n (cond negative (neg_ℤ (pos size)) (pos size))
+IsPlain-signed d bytes rest negative n len size is e at h =
     let xs = take len rest in
-    let size = ap length e in
-    let more : 0 < length xs = omega (arith, length-take len rest) in
-    let marks : has_exponent (45 ∷ xs) ≡ false =
-    any-digits is_exponent_mark xs no_exponent digits in
-    let at : take (len + 1) (b ∷ bs) ≡ 45 ∷ xs = rw (add-one)
-    (ap (λ x. x ∷ take len bs) (eqb-true b 45 sign) ∙ ap (λ z. 45 ∷ take len z) (sym e)) in
+    let more : 0 < length xs = omega (arith, h.some, h.within, length-take len rest) in
+    let front : IsSigned negative (take n bytes) xs =
+    rw (at, e) (IsSigned-front bytes negative len is (rw e at more) (rw e at h.digits)) in
+    let few = cond_both negative 1 0 (λ k. k ≤ 1) (λ _. omega arith) (λ _. omega arith) in
     record {
-      some = omega arith;
-      short = omega arith;
-      within = omega (arith, size);
-      scaled = ap (scaled_value d) at
-          ∙ scaled_value-plain d (45 ∷ xs) xs refl marks more digits small;
-      whole = ap (list_any is_separator) at ∙ any-digits is_separator xs no_separator digits;
+      some = omega (arith, h.some);
+      short = omega (arith, at, few, h.short);
+      within = omega (arith, at, h.some, h.within, ap length e, length-drop (cond negative 1 0) bytes);
+      scaled = scaled_value-plain d (take n bytes) xs front.bare
+          (front.free is_exponent_mark no_exponent refl) more h.digits
+          (omega (arith, h.value, h.small)) ∙ rw (front.sign, h.value) refl;
+      whole = front.free is_separator no_separator refl;
     }
 
 pub below_power : (n k m : ℕ) → n < 10 ^ k → k ≤ m → n < 10 ^ m

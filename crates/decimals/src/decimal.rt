@@ -5,7 +5,7 @@ ghost use Rattle.std.specs.Prelude.{◌<◌, true, length, ◌≡◌, IfSome, po
 ghost use Rattle.std.specs.List.{before_first, after_first, position, list_all, list_any};
 ghost use Rattle.std.specs.Char.{is_ascii_digit};
 ghost use Rattle.terrain.specs.Decimal.{without_sign, is_negative, is_point, is_exponent_mark, has_exponent, are_digits, is_decimal, is_above_zero, number_of, scaled_value};
-ghost use Rattle.decimals.specs.Plain.{IsPlain};
+ghost use Rattle.decimals.specs.Plain.{IsPlain, IsPlainSize};
 
 use crate::digits::{OVER, all_digits, are_digits, digits_after};
 
@@ -64,63 +64,62 @@ pub fn scaled_value(scale: u8, word: &[u8]) -> Option<i64>
 /// Parses up to 16 digits at the front of a text, after an optional `-`.
 ///
 /// Returns the number of bytes parsed, the `-` included, and their value times 10^scale. The word
-/// may go on after these bytes. `None` if there is no digit, or if the number of parsed digits and
-/// the scale add up to more than 16.
+/// may go on after these bytes, after `-9999` also with a digit. `None` if there is no digit, or if
+/// the number of parsed digits and the scale add up to more than 16.
 #[inline(always)]
 pub fn plain_number(scale: u8, bytes: &[u8]) -> Option<(usize, i64)>
     requires { scale ≤ 6 }
     ensures { IfSome result (λ r. IsPlain scale bytes.now r.0 r.1) }
 {
     if is_negative(bytes) {
-        let (len, size) = plain_size(scale, &bytes[1..])?;
+        let (len, size) = size_after_minus(scale, &bytes[1..])?;
         return Some((len + 1, signed(true, size)));
     }
     let (len, size) = plain_size(scale, bytes)?;
     Some((len, signed(false, size)))
 }
 
+/// Parses digits as [`plain_size`], but `9999` at once, since `-9999` mostly means NODATA.
+#[inline(always)]
+fn size_after_minus(scale: u8, bytes: &[u8]) -> Option<(usize, u64)>
+    requires { scale ≤ 6 }
+    ensures { IfSome result (λ r. IsPlainSize scale bytes.now r.0 r.1) }
+{
+    if bytes.starts_with(b"9999") {
+        return Some((4, 9_999 * power_of_ten(scale)));
+    }
+    plain_size(scale, bytes)
+}
+
 #[inline(always)]
 fn plain_size(scale: u8, bytes: &[u8]) -> Option<(usize, u64)>
     requires { scale ≤ 6 }
-    ensures within { IfSome result
-        (λ r. (0 < r.0) × (r.0 ≤ HEIGHT_DIGITS) × (r.0 ≤ length bytes.now)) }
-    ensures digits { IfSome result (λ r. list_all is_ascii_digit (take r.0 bytes.now) ≡ true) }
-    ensures value { IfSome result (λ r. r.1 ≡ number_of (take r.0 bytes.now) * 10 ^ scale) }
-    ensures small { IfSome result (λ r. r.1 ≤ 10 ^ 18) }
+    ensures { IfSome result (λ r. IsPlainSize scale bytes.now r.0 r.1) }
 {
-    let (len, number) = digits_in_front(bytes);
+    let (len, number) = leading_digits(bytes);
     if len == 0 || len + scale as usize > HEIGHT_DIGITS {
         return None;
     }
     Some((len, number * power_of_ten(scale)))
 }
 
+/// Parses up to 16 digits at the front of a text. Returns their count and their number.
 #[inline(always)]
-fn digits_in_front(bytes: &[u8]) -> (usize, u64)
+fn leading_digits(bytes: &[u8]) -> (usize, u64)
     ensures within { (result.0 ≤ HEIGHT_DIGITS) × (result.0 ≤ length bytes.now) }
     ensures digits { list_all is_ascii_digit (take result.0 bytes.now) ≡ true }
     ensures number { result.1 ≡ number_of (take result.0 bytes.now) }
     ensures small { result.1 < 10 ^ result.0 }
 {
-    leading_digits(&bytes[..bytes.len().min(HEIGHT_DIGITS)])
-}
-
-#[inline(always)]
-fn leading_digits(bytes: &[u8]) -> (usize, u64)
-    requires { length bytes.now ≤ HEIGHT_DIGITS }
-    ensures within { result.0 ≤ length bytes.now }
-    ensures digits { list_all is_ascii_digit (take result.0 bytes.now) ≡ true }
-    ensures number { result.1 ≡ number_of (take result.0 bytes.now) }
-    ensures small { result.1 < 10 ^ result.0 }
-{
+    let most = bytes.len().min(HEIGHT_DIGITS);
     let mut number = 0;
-    for at in 0..bytes.len() {
+    for at in 0..most {
         if !bytes[at].is_ascii_digit() {
             return (at, number);
         }
         number = 10 * number + u64::from(bytes[at] - b'0');
     }
-    (bytes.len(), number)
+    (most, number)
 }
 
 #[inline(always)]
