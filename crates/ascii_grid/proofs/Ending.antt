@@ -3,19 +3,19 @@
 use Rattle.std.proofs.Common.{◌≡◌, ℕ, ◌+◌, ◌<◌, ◌≤◌, true, false, List, [], ◌∷◌, ◌++◌, length, take, drop, get_or, Some, ℤ, arith, refl, ap, sym, ◌∙◌, subst, inl, inr}
 use Rattle.std.specs.Prelude.{filter}
 use Rattle.std.specs.List.{list_any}
-use Rattle.std.proofs.lemmas.Bool.{cases_lt, or_parts}
+use Rattle.std.proofs.lemmas.Bool.{cases_lt}
 use Rattle.std.proofs.lemmas.List.{append-nil, length-append, length-take, take_all, take_more, append_assoc, take-append-le, take-append-drop, nil_from_length}
 use Rattle.std.proofs.Math.Seq.{take-add}
 use Rattle.terrain.specs.Words.{Word, is_word, is_separator, words, ended_words}
 use Rattle.terrain.specs.Decimal.{scaled_value}
 use Rattle.ascii_grid.specs.GridText.{AsksAtHeight, words_fault}
-use Rattle.ascii_grid.specs.Reading.{IsParted, HasWords, HasAdded, HasReadHeights, IsBetweenHeights, IsWordFault}
+use Rattle.ascii_grid.specs.Reading.{HasWords, HasAdded, HasReadHeights, IsBetweenHeights, IsWordFault}
 use Rattle.decimals.specs.Plain.{IsPlain}
 use Rattle.ascii_grid.specs.declared.fault.GridFault.{GridFault}
 use Rattle.ascii_grid.specs.declared.fault.GridFault.TheVariants.{TooLong}
 use Rattle.ascii_grid.specs.declared.builder.GridBuilder.{GridBuilder}
 use Rattle.ascii_grid.specs.declared.tokenizer.Tokenizer.{Tokenizer}
-use Rattle.ascii_grid.proofs.Parting.{words-parted, IsParted-byte, IsParted-separator}
+use Rattle.ascii_grid.proofs.Parting.{words-parted, words-plain, ended_words-separator, ended_words-byte, IsParted-byte, IsParted-separator}
 use Rattle.ascii_grid.proofs.Judging.{Pairs, HasBegun-more}
 use Rattle.ascii_grid.proofs.AddedWords.{at_heights, is_memory, judged-heights, word_fault, long_fault, reported_further}
 use Rattle.ascii_grid.proofs.Stays.{ended-more, words_fault-more, asks-more}
@@ -41,23 +41,33 @@ filter-word [] h = absurd (omega arith)
 filter-word (b ∷ bs) h = refl
 
 words-last : (p : Tokenizer) (text : List ℕ) (h : HasWords p text) → 0 < length p.word →
-    words text ≡ h.ended ++ h.last ∷ []
+    words text ≡ ended_words text ++ h.last ∷ []
 words-last p text h some =
     let size = ap length h.front in
     let more : 0 < length h.last = omega (arith, length-take 65 h.last) in
-    words-parted text h.ended h.last h.parted ∙ ap (λ z. h.ended ++ z) (filter-word h.last more)
+    words-parted text h.last h.parted
+    ∙ ap (λ z. ended_words text ++ z) (filter-word h.last more)
+
+last-none : (p : Tokenizer) (text : List ℕ) (h : HasWords p text) → p.word ≡ [] → h.last ≡ []
+last-none p text h e =
+    nil_from_length h.last (omega (arith, ap length (sym h.front ∙ e), length-take 65 h.last))
+
+pub ended_none : (p : Tokenizer) (text : List ℕ) (h : HasWords p text) → p.word ≡ [] →
+    HasAdded p.builder (words text)
+ended_none p text h e = rw (words-parted text h.last h.parted, last-none p text h e, append-nil)
+    h.judged
 
 pub ended_ok : (p : Tokenizer) (j : GridBuilder) (text : List ℕ) (h : HasWords p text) →
-    0 < length p.word → length p.word ≤ 64 → HasAdded j (h.ended ++ p.word ∷ []) →
+    0 < length p.word → length p.word ≤ 64 → HasAdded j (ended_words text ++ p.word ∷ []) →
     HasAdded j (words text)
 ended_ok p j text h some short k =
     let size = ap length h.front in
     let same : p.word ≡ h.last = h.front
     ∙ take_all 65 h.last (omega (arith, length-take 65 h.last)) in
-    subst (HasAdded j) (ap (λ w. h.ended ++ w ∷ []) same ∙ sym (words-last p text h some)) k
+    subst (HasAdded j) (ap (λ w. ended_words text ++ w ∷ []) same ∙ sym (words-last p text h some)) k
 
 pub ended_fault : (p : Tokenizer) (text : List ℕ) (f : GridFault) (h : HasWords p text) →
-    0 < length p.word → (64 < length p.word → f ≡ TooLong) → IsWordFault p.builder.scale (h.ended
+    0 < length p.word → (64 < length p.word → f ≡ TooLong) → IsWordFault p.builder.scale (ended_words text
     ++ p.word ∷ []) f → IsWordFault p.builder.scale (words text) f
 ended_fault p text f h some long k =
     let size = ap length h.front in
@@ -66,13 +76,13 @@ ended_fault p text f h some long k =
           let more : 64 < length h.last = omega (arith, length-take 65 h.last) in
           let at : words_fault p.builder.scale (words text) ≡ Some TooLong =
           ap (words_fault p.builder.scale) (words-last p text h some)
-          ∙ long_fault p.builder h.ended h.last h.judged more in
+          ∙ long_fault p.builder (ended_words text) h.last h.judged more in
           word_fault p.builder.scale (words text) f (ap (λ g. is_memory (Some g)) (long far)) (at
           ∙ ap Some (sym (long far)))
       | inr near ↦
           let same : p.word ≡ h.last = h.front
           ∙ take_all 65 h.last (omega (arith, length-take 65 h.last)) in
-          subst (λ ws. IsWordFault p.builder.scale ws f) (ap (λ w. h.ended ++ w ∷ []) same
+          subst (λ ws. IsWordFault p.builder.scale ws f) (ap (λ w. ended_words text ++ w ∷ []) same
           ∙ sym (words-last p text h some)) k
     ]
 
@@ -82,21 +92,18 @@ pub words_after_byte : (p p' : Tokenizer) (text : List ℕ) (b : ℕ) (h : HasWo
     is_separator b ≡ false → p'.builder ≡ p.builder → p'.word ≡ take 65 (h.last ++ b ∷ []) →
     HasWords p' (text ++ b ∷ [])
 words_after_byte p p' text b h e builder word = record {
-  ended = h.ended;
   last = h.last ++ b ∷ [];
-  parted = IsParted-byte text h.ended h.last b h.parted e;
-  judged = subst (λ j. HasAdded j h.ended) (sym builder) h.judged;
+  parted = IsParted-byte text h.last b h.parted e;
+  judged = rw (builder, ended_words-byte text b e) h.judged;
   front = word;
 }
 
-pub words_after_separator : (p p' : Tokenizer) (text : List ℕ) (b : ℕ) →
-    HasWords p text → is_separator b ≡ true → (p'.word ≡ []) × HasAdded p'.builder (words text) →
-    HasWords p' (text ++ b ∷ [])
-words_after_separator p p' text b h e k = record {
-  ended = words text;
+pub words_after_separator : (p : Tokenizer) (text : List ℕ) (b : ℕ) → is_separator b ≡ true →
+    (p.word ≡ []) × HasAdded p.builder (words text) → HasWords p (text ++ b ∷ [])
+words_after_separator p text b e k = record {
   last = [];
-  parted = IsParted-separator text h.ended h.last b h.parted e;
-  judged = k.1;
+  parted = IsParted-separator text b e;
+  judged = rw (ended_words-separator text b e) k.1;
   front = k.0;
 }
 
@@ -118,68 +125,12 @@ fault_further d text more f h =
 
 -- ---- a whole word within a piece
 
-IsParted-bytes : (text : List ℕ) (ws : List Word) (w more : List ℕ) → IsParted text ws w →
-    list_any is_separator more ≡ false → IsParted (text ++ more) ws (w ++ more)
-IsParted-bytes text ws w [] h none =
-    subst (λ t. IsParted t ws (w ++ [])) (sym (append-nil text))
-    (subst (λ z. IsParted text ws z) (sym (append-nil w)) h)
-IsParted-bytes text ws w (b ∷ more) h none =
-    let parts = or_parts (is_separator b) (list_any is_separator more) none in
-    let next = IsParted-bytes (text ++ b ∷ []) ws (w
-    ++ b ∷ []) more (IsParted-byte text ws w b h parts.0) parts.1 in
-    subst (λ t. IsParted t ws (w ++ b ∷ more)) (append_assoc text (b ∷ []) more)
-    (subst (λ z. IsParted ((text ++ b ∷ []) ++ more) ws z) (append_assoc w (b ∷ []) more) next)
-
--- where no word is unfinished, the first `len` bytes, none a separator, are one more ended word if
--- the separator `b` follows them
-parted_word : (text bytes : List ℕ) (ws : List Word) (len b : ℕ) →
-    IsParted text ws [] → list_any is_separator (take len bytes) ≡ false →
-    0 < len → len < length bytes → b ≡ get_or bytes len 0 → is_separator b ≡ true →
-    IsParted (text ++ take (len + 1) bytes) (ws ++ take len bytes ∷ []) []
-parted_word text bytes ws len b begun none some inside at ends =
-    let w = take len bytes in
-    let more : 0 < length w = omega (arith, length-take len bytes) in
-    let whole = IsParted-bytes text ws [] w begun none in
-    let all : words (text ++ w) ≡ ws ++ w ∷ [] = words-parted (text ++ w) ws w whole
-    ∙ ap (λ z. ws ++ z) (filter-word w more) in
-    let bytes_are : (text ++ w) ++ b ∷ [] ≡ text ++ take (len + 1) bytes =
-    more_bytes text bytes len b inside at in
-    subst (λ t. IsParted t (ws ++ w ∷ []) []) bytes_are (subst (λ z.
-    IsParted ((text ++ w) ++ b ∷ []) z []) all (IsParted-separator (text ++ w) ws w b whole ends))
-
-parted_ended : (p : Tokenizer) (text : List ℕ) (h : HasWords p text) → p.word ≡ [] →
-    IsParted text h.ended []
-parted_ended p text h e =
-    let last : h.last ≡ [] =
-    nil_from_length h.last (omega (arith, ap length (sym h.front ∙ e), length-take 65 h.last)) in
-    subst (λ z. IsParted text h.ended z) last h.parted
-
--- let the first `len` bytes after a height spell `value` (`IsPlain`), and the separator `b` follow.
--- If `j` has added the cell of `value`, the height and the separator have been read
-pub plain_word : (p : Tokenizer) (j : GridBuilder) (text bytes : List ℕ) (len b : ℕ) (value : ℤ) →
-    HasWords p text → IsBetweenHeights p → IsPlain p.builder.scale bytes len value →
-    len < length bytes → b ≡ get_or bytes len 0 → is_separator b ≡ true →
-    j ≡ record p.builder { cells = j.cells } →
-    ((ps : Pairs) (hs : List Word) (w : Word) → HasReadHeights p.builder ps hs → length w ≤ 64 →
-    scaled_value p.builder.scale w ≡ Some value → HasReadHeights j ps (hs ++ w ∷ [])) →
-    HasWords (record p { builder = j }) (text ++ take (len + 1) bytes)
-plain_word p j text bytes len b value h between plain inside at ends kept added =
-    let w = take len bytes in
-    let short : length w ≤ 64 = omega (arith, plain.short, length-take len bytes) in
-    let there = at_heights p.builder h.ended h.judged between.0 in
-    let ps = h.judged.pairs in
-    let hs = h.judged.rest in
-    record {
-      ended = h.ended ++ w ∷ [];
-      last = [];
-      parted = parted_word text bytes h.ended len b
-          (parted_ended p text h between.1) plain.whole plain.some inside at ends;
-      judged = judged-heights p.builder j h.ended ps hs (w ∷ []) h.judged.header h.judged.words
-          (HasBegun-more hs (w ∷ []) there.0) (added ps hs w there.1 short plain.scaled)
-          (ap (λ (k : GridBuilder). k.header) kept)
-          (ap (λ (k : GridBuilder). k.expected) kept ∙ between.0);
-      front = between.1;
-    }
+-- where no word is unfinished, a word `w` that a separator follows is one more ended word
+parted_word : (p : Tokenizer) (text w : List ℕ) (h : HasWords p text) → p.word ≡ [] →
+    list_any is_separator w ≡ false → 0 < length w → words (text ++ w) ≡ ended_words text ++ w ∷ []
+parted_word p text w h e none some =
+    h.parted.all w ∙ ap (λ z. ended_words text ++ words (z ++ w)) (last-none p text h e)
+    ∙ ap (λ z. ended_words text ++ z) (words-plain w none ∙ filter-word w some)
 
 -- ---- the next bytes of a piece
 
@@ -194,6 +145,35 @@ pub same_whole : (text bytes rest : List ℕ) (at : ℕ) → rest ≡ drop at by
 same_whole text bytes rest at e =
     append_assoc text (take at bytes) rest
     ∙ ap (λ z. text ++ z) (ap (λ z. take at bytes ++ z) e ∙ take-append-drop at bytes)
+
+-- let the `len` bytes at `at`, after a height, spell `value` (`IsPlain`), and the separator `b`
+-- follow. If `j` has added the cell of `value`, the height and the separator have been read
+pub plain_word : (p : Tokenizer) (j : GridBuilder) (text bytes rest : List ℕ) (at len b : ℕ)
+    (value : ℤ) → HasWords p (text ++ take at bytes) → IsBetweenHeights p → rest ≡ drop at bytes →
+    IsPlain p.builder.scale rest len value → at + len < length bytes → b ≡ get_or bytes (at + len) 0 →
+    is_separator b ≡ true → j ≡ record p.builder { cells = j.cells } →
+    ((ps : Pairs) (hs : List Word) (w : Word) → HasReadHeights p.builder ps hs → length w ≤ 64 →
+    scaled_value p.builder.scale w ≡ Some value → HasReadHeights j ps (hs ++ w ∷ [])) →
+    HasWords (record p { builder = j }) (text ++ take (at + len + 1) bytes)
+plain_word p j text bytes rest at len b value h between e plain inside is ends kept added =
+    let front = text ++ take at bytes in
+    let w = take len rest in
+    let size = length-take len rest in
+    let there = at_heights p.builder (ended_words front) h.judged between.0 in
+    let ps = h.judged.pairs in
+    let hs = h.judged.rest in
+    let read = judged-heights p.builder j (ended_words front) ps hs (w ∷ []) h.judged.header
+    h.judged.words (HasBegun-more hs (w ∷ []) there.0)
+    (added ps hs w there.1 (omega (arith, plain.short, size)) plain.scaled)
+    (ap (λ (k : GridBuilder). k.header) kept)
+    (ap (λ (k : GridBuilder). k.expected) kept ∙ between.0) in
+    subst (HasWords (record p { builder = j })) (ap (λ z. z ++ b ∷ [])
+    (same_front text bytes rest at len e) ∙ more_bytes text bytes (at + len) b inside is)
+    (words_after_separator (record p { builder = j }) (front ++ w) b ends (
+      between.1,
+      rw (parted_word p front w h between.1 plain.whole (omega (arith, plain.some, plain.within, size)))
+          read,
+    ))
 
 -- a fault that may be reported when the first byte of `bytes` has been read
 pub fault_at : (d d' : ℕ) (text bytes : List ℕ) (b : ℕ) (f : GridFault) → d' ≡ d →

@@ -162,8 +162,7 @@ refused d front f short h =
 
 read_none : (p : Tokenizer) (text : List ℕ) → HasWords p text →
     words_fault p.builder.scale (ended_words text) ≡ None
-read_none p text h = ap (words_fault p.builder.scale) h.parted.ended
-    ∙ judged_none p.builder h.ended h.judged
+read_none p text h = judged_none p.builder (ended_words text) h.judged
 
 -- ---- the end
 

@@ -3,49 +3,46 @@
 use Rattle.std.proofs.Common.{◌≡◌, ℕ, ◌+◌, ◌-◌, ◌≤◌, Bool, true, false, not, cond, List, [], ◌∷◌, ◌++◌, length, take, arith, refl, ap, sym, ◌∙◌, inl, inr, zero, suc, ◌*◌, ◌<◌, drop, map}
 use Rattle.std.specs.Prelude.{filter}
 use Rattle.std.specs.List.{slice_split, onto_first, before_last, suffix_len, prefix_len, All, list_any, filter, join_with_byte}
-use Rattle.std.proofs.lemmas.Bool.{cases_Bool, cond-true, cond-false, or_parts}
+use Rattle.std.proofs.lemmas.Bool.{cases_Bool, cond-true, or_parts}
 use Rattle.std.proofs.lemmas.List.{append-nil, append_assoc, reverse-append, length-append, take_at, take-append-le, map-append, take-append-drop, length-take-le, length-drop}
+use Rattle.std.proofs.lemmas.List.Folds.{list_any-append}
 use Rattle.std.proofs.lemmas.List.Elements.{filter-append, All-head, All-tail, All-take, All-drop}
-use Rattle.std.proofs.lemmas.List.Splits.{slice_split-cons_yes, slice_split-cons_no, length-slice_split}
+use Rattle.std.proofs.lemmas.List.Splits.{slice_split-cons_yes, length-slice_split}
 use Rattle.terrain.specs.Words.{Word, is_word, is_separator, words, ended_words}
 use Rattle.ascii_grid.specs.Reading.{IsParted}
 use Rattle.ascii_grid.specs.Text.{rows_text}
 
--- in the split of `xs ++ ys`, the last part of `xs` and `first` are one part, and `rest` follows
-abbrev Continues : (ℕ → Bool) → List ℕ → List ℕ → Word → List Word → Type 0
-Continues p xs ys first rest = (front : List Word) (last : Word) → slice_split p xs ≡ front
-    ++ last ∷ [] → slice_split p (xs ++ ys) ≡ front ++ (last ++ first) ∷ rest
+-- ---- the words before and after a separator
 
-split-append : (p : ℕ → Bool) (xs ys : List ℕ) (first : Word) (rest : List Word) →
-    slice_split p ys ≡ first ∷ rest → Continues p xs ys first rest
-split-append p [] ys first rest k [] last h = let none : [] ≡ last = cc in rw (← none) k
-split-append p [] ys first rest k (part ∷ front) last h =
-    absurd (omega (arith, ap length h, length-append front (last ∷ [])))
-split-append p (x ∷ xs) ys first rest k front last h =
-    let more = split-append p xs ys first rest k in
-    elim (cases_Bool (p x)) [
-      | inl here ↦ slice_split-cons_yes p x (xs ++ ys) here
-          ∙ opened more front (sym (slice_split-cons_yes p x xs here) ∙ h)
-      | inr apart ↦ slice_split-cons_no p x (xs ++ ys) apart
-          ∙ joined more (slice_split p xs) front refl (sym (slice_split-cons_no p x xs apart) ∙ h)
+onto_first-append : (x : ℕ) (parts rest : List Word) → 0 < length parts →
+    onto_first x (parts ++ rest) ≡ onto_first x parts ++ rest
+onto_first-append x [] rest h = absurd (omega arith)
+onto_first-append x (part ∷ parts) rest h = refl
+
+split-at : (xs ys : List ℕ) (b : ℕ) → is_separator b ≡ true →
+    slice_split is_separator (xs ++ b ∷ ys) ≡ slice_split is_separator xs ++ slice_split is_separator ys
+split-at [] ys b h = slice_split-cons_yes is_separator b ys h
+split-at (x ∷ xs) ys b h =
+    let rest = split-at xs ys b h in
+    elim (cases_Bool (is_separator x)) [
+      | inl here ↦ rw here (ap (λ z. [] ∷ z) rest)
+      | inr apart ↦ rw apart (ap (onto_first x) rest ∙ onto_first-append x _ _
+          (omega (arith, length-slice_split is_separator xs)))
     ]
-  where
-    opened : Continues p xs ys first rest → (front : List Word) → [] ∷ slice_split p xs ≡ front
-        ++ last ∷ [] → [] ∷ slice_split p (xs ++ ys) ≡ front ++ (last ++ first) ∷ rest
-    opened more [] e = absurd (omega (arith, ap length e, length-slice_split p xs))
-    opened more (part ∷ front) e = let next = more front last (cc) in cc
 
-    joined : Continues p xs ys first rest → (parts front : List Word) →
-        slice_split p xs ≡ parts → onto_first x parts ≡ front ++ last ∷ [] →
-        onto_first x (slice_split p (xs ++ ys)) ≡ front ++ (last ++ first) ∷ rest
-    joined more [] front s e = absurd (omega (arith, ap length s, length-slice_split p xs))
-    joined more (part ∷ parts) [] s e =
-        let same : x ∷ part ≡ last = cc in
-        ap (onto_first x) (more [] part (cc)) ∙ ap (λ w. (w ++ first) ∷ rest) same
-    joined more (part ∷ parts) (begun ∷ front) s e =
-        let same : x ∷ part ≡ begun = cc in
-        ap (onto_first x) (more (part ∷ front) last (cc))
-        ∙ ap (λ w. w ∷ front ++ (last ++ first) ∷ rest) same
+words-at : (xs ys : List ℕ) (b : ℕ) → is_separator b ≡ true →
+    words (xs ++ b ∷ ys) ≡ words xs ++ words ys
+words-at xs ys b h = ap (filter is_word) (split-at xs ys b h) ∙ filter-append is_word
+    (slice_split is_separator xs) (slice_split is_separator ys)
+
+split-plain : (w : Word) → list_any is_separator w ≡ false → slice_split is_separator w ≡ w ∷ []
+split-plain [] h = refl
+split-plain (x ∷ w) h =
+    let parts = or_parts (is_separator x) (list_any is_separator w) h in
+    rw parts.0 (ap (onto_first x) (split-plain w parts.1))
+
+pub words-plain : (w : Word) → list_any is_separator w ≡ false → words w ≡ filter is_word (w ∷ [])
+words-plain w h = ap (filter is_word) (split-plain w h)
 
 -- ---- a separator ends a word
 
@@ -75,60 +72,48 @@ before_last-no p xs b h =
 
 -- ---- one more byte, and the words of written rows
 
--- the words of a text are the ended words `ws`, and the bytes `w` after the last separator if `w`
--- is a word
-pub words-parted : (text : List ℕ) (ws : List Word) (w : Word) → IsParted text ws w →
-    words text ≡ ws ++ filter is_word (w ∷ [])
-words-parted text ws w h =
-    ap (filter is_word) h.split ∙ filter-append is_word h.parts (w ∷ [])
-    ∙ ap (λ z. z ++ filter is_word (w ∷ [])) h.kept
-
-pub IsParted-none : IsParted [] [] []
-IsParted-none = record { parts = []; split = refl; kept = refl; ended = refl }
-
-pub IsParted-byte : (text : List ℕ) (ws : List Word) (w : Word) (b : ℕ) → IsParted text ws w →
-    is_separator b ≡ false → IsParted (text ++ b ∷ []) ws (w ++ b ∷ [])
-IsParted-byte text ws w b h e = record {
-  parts = h.parts;
-  split = split-append is_separator text (b ∷ []) (b
-      ∷ []) [] (slice_split-cons_no is_separator b [] e) h.parts w h.split;
-  kept = h.kept;
-  ended = ap words (before_last-no is_separator text b e) ∙ h.ended;
-}
-
 pub ended_words-separator : (text : List ℕ) (b : ℕ) → is_separator b ≡ true →
     ended_words (text ++ b ∷ []) ≡ words text
 ended_words-separator text b e = ap words (before_last-yes is_separator text b e)
 
-pub IsParted-separator : (text : List ℕ) (ws : List Word) (w : Word) (b : ℕ) → IsParted text ws w →
-    is_separator b ≡ true → IsParted (text ++ b ∷ []) (words text) []
-IsParted-separator text ws w b h e = record {
-  parts = h.parts ++ w ∷ [];
-  split =
-      split-append is_separator text (b ∷ []) [] ([]
-      ∷ []) (slice_split-cons_yes is_separator b [] e) h.parts w h.split
-      ∙ ap (λ z. h.parts ++ z ∷ [] ∷ []) (append-nil w)
-      ∙ sym (append_assoc h.parts (w ∷ []) ([] ∷ []));
-  kept = ap (filter is_word) (sym h.split);
-  ended = ended_words-separator text b e;
+pub ended_words-byte : (text : List ℕ) (b : ℕ) → is_separator b ≡ false →
+    ended_words (text ++ b ∷ []) ≡ ended_words text
+ended_words-byte text b e = ap words (before_last-no is_separator text b e)
+
+-- the words of a text are its ended words, and the bytes `w` after the last separator if `w` is a
+-- word
+pub words-parted : (text : List ℕ) (w : Word) → IsParted text w →
+    words text ≡ ended_words text ++ filter is_word (w ∷ [])
+words-parted text w h = ap words (sym (append-nil text)) ∙ h.all []
+    ∙ ap (λ z. ended_words text ++ z) (ap words (append-nil w) ∙ words-plain w h.plain)
+
+pub IsParted-none : IsParted [] []
+IsParted-none = record { plain = refl; all = λ more. refl }
+
+pub IsParted-byte : (text : List ℕ) (w : Word) (b : ℕ) → IsParted text w → is_separator b ≡ false →
+    IsParted (text ++ b ∷ []) (w ++ b ∷ [])
+IsParted-byte text w b h e = record {
+  plain = list_any-append is_separator w (b ∷ []) ∙ rw (h.plain, e) refl;
+  all = λ more. ap words (append_assoc text (b ∷ []) more) ∙ h.all (b ∷ more)
+      ∙ rw (ended_words-byte text b e, append_assoc w (b ∷ []) more) refl;
+}
+
+pub IsParted-separator : (text : List ℕ) (b : ℕ) → is_separator b ≡ true →
+    IsParted (text ++ b ∷ []) []
+IsParted-separator text b e = record {
+  plain = refl;
+  all = λ more. ap words (append_assoc text (b ∷ []) more) ∙ words-at text more b e
+      ∙ ap (λ z. z ++ words more) (sym (ended_words-separator text b e));
 }
 
 pub record IsClean (w : List ℕ) : Type 0 where
   pub some : is_word w ≡ true
   pub plain : list_any is_separator w ≡ false
 
-split-plain : (w rest : List ℕ) (b : ℕ) → list_any is_separator w ≡ false → is_separator b ≡ true →
-    slice_split is_separator (w ++ b ∷ rest) ≡ w ∷ slice_split is_separator rest
-split-plain [] rest b h s = cond-true _ _ _ s
-split-plain (x ∷ w) rest b h s =
-    let parts = or_parts (is_separator x) (list_any is_separator w) h in
-    cond-false _ _ _ parts.0
-    ∙ ap (λ z. onto_first x z) (split-plain w rest b parts.1 s)
-
 pub words-word : (w rest : List ℕ) (b : ℕ) → IsClean w → is_separator b ≡ true →
     words (w ++ b ∷ rest) ≡ w ∷ words rest
-words-word w rest b h s =
-    ap (λ z. filter is_word z) (split-plain w rest b h.plain s) ∙ cond-true _ _ _ h.some
+words-word w rest b h s = words-at w rest b s
+    ∙ ap (λ z. z ++ words rest) (words-plain w h.plain ∙ cond-true _ _ _ h.some)
 
 pub words-row : {X : Type 0} (f : X → List ℕ) (cells : List X) (rest : List ℕ) →
     0 < length cells → All (λ c. IsClean (f c)) cells →

@@ -12,57 +12,44 @@ use Rattle.ascii_grid.specs.GridText.{words_fault, heights_fault, height_fault, 
 use Rattle.ascii_grid.specs.Reading.{IsParted}
 use Rattle.ascii_grid.specs.declared.fault.GridFault.{GridFault}
 use Rattle.ascii_grid.proofs.Judging.{option_or-assoc}
-use Rattle.ascii_grid.proofs.Parting.{words-parted, IsParted-none, IsParted-byte, IsParted-separator}
+use Rattle.ascii_grid.proofs.Parting.{words-parted, ended_words-separator, ended_words-byte, IsParted-none, IsParted-byte, IsParted-separator}
 
 -- ---- the words of a longer text
 
-abbrev Further : List ℕ → List Word → Type 0
-Further text ws = (others : List Word) × (w : Word) × IsParted text (ws ++ others) w
-
-further : (text : List ℕ) (ws : List Word) (w : Word) (more : List ℕ) → IsParted text ws w →
-    Further (text ++ more) ws
-further text ws w [] h = (
-  [],
-  w,
-  subst (λ t. IsParted t (ws ++ []) w) (sym (append-nil text))
-      (subst (λ z. IsParted text z w) (sym (append-nil ws)) h),
-)
-further text ws w (b ∷ more) h =
+parted-more : (text : List ℕ) (w : Word) (more : List ℕ) → IsParted text w →
+    (last : Word) × IsParted (text ++ more) last
+parted-more text w [] h = (w, subst (λ t. IsParted t w) (sym (append-nil text)) h)
+parted-more text w (b ∷ more) h = rw (sym (append_assoc text (b ∷ []) more)) (
     elim (cases_Bool (is_separator b)) [
-      | inl ends ↦
-          let next = subst (λ z. IsParted (text ++ b ∷ []) z []) (words-parted text ws w h)
-          (IsParted-separator text ws w b h ends) in
-          let rest = further (text ++ b ∷ []) (ws ++ filter is_word (w ∷ [])) [] more next in (
-            filter is_word (w ∷ []) ++ rest.0,
-            rest.1,
-            subst (λ z. IsParted (text ++ b ∷ more) z rest.1) (append_assoc ws (filter is_word
-                (w ∷ [])) rest.0) (subst (λ t. IsParted t ((ws ++ filter is_word (w ∷ []))
-                ++ rest.0) rest.1) (append_assoc text (b ∷ []) more) rest.2),
-          )
+      | inl ends ↦ parted-more (text ++ b ∷ []) [] more (IsParted-separator text b ends)
       | inr stays ↦
-          let rest =
-          further (text ++ b ∷ []) ws (w ++ b ∷ []) more (IsParted-byte text ws w b h stays) in (
-            rest.0,
-            rest.1,
-            subst (λ t. IsParted t (ws ++ rest.0) rest.1) (append_assoc text (b ∷ []) more) rest.2,
-          )
+          parted-more (text ++ b ∷ []) (w ++ b ∷ []) more (IsParted-byte text w b h stays)
     ]
-
-pub parted : (text : List ℕ) → (ws : List Word) × (w : Word) × IsParted text ws w
-parted text = further [] [] [] text IsParted-none
-
-pub ended-more : (front more : List ℕ) → (others : List Word)
-    × (ended_words (front ++ more) ≡ ended_words front ++ others)
-ended-more front more =
-    let at = parted front in
-    let next = further front at.0 at.1 more at.2 in
-    (next.0, next.2.ended ∙ ap (λ z. z ++ next.0) (sym at.2.ended))
+    )
 
 pub ended-words : (text : List ℕ) → (others : List Word) × (words text ≡ ended_words text ++ others)
 ended-words text =
-    let at = parted text in (
-      filter is_word (at.1 ∷ []),
-      words-parted text at.0 at.1 at.2 ∙ ap (λ z. z ++ filter is_word (at.1 ∷ [])) (sym at.2.ended),
+    let at = parted-more [] [] text IsParted-none in
+    (filter is_word (at.0 ∷ []), words-parted text at.0 at.1)
+
+ended-byte : (text : List ℕ) (b : ℕ) → (others : List Word)
+    × (ended_words (text ++ b ∷ []) ≡ ended_words text ++ others)
+ended-byte text b =
+    elim (cases_Bool (is_separator b)) [
+      | inl ends ↦ let last = ended-words text in
+          (last.0, ended_words-separator text b ends ∙ last.1)
+      | inr stays ↦ ([], ended_words-byte text b stays ∙ sym (append-nil (ended_words text)))
+    ]
+
+pub ended-more : (front more : List ℕ) → (others : List Word)
+    × (ended_words (front ++ more) ≡ ended_words front ++ others)
+ended-more front [] = ([], ap ended_words (append-nil front) ∙ sym (append-nil (ended_words front)))
+ended-more front (b ∷ more) =
+    let first = ended-byte front b in
+    let rest = ended-more (front ++ b ∷ []) more in (
+      first.0 ++ rest.0,
+      ap ended_words (sym (append_assoc front (b ∷ []) more)) ∙ rest.1
+          ∙ ap (λ z. z ++ rest.0) first.1 ∙ append_assoc (ended_words front) first.0 rest.0,
     )
 
 -- ---- the fault of more words

@@ -2,9 +2,9 @@
 -- Also the faults that may be reported for words.
 -- Source: this project.
 -- Public.
-use Rattle.std.specs.Prelude.{◌≡◌, ◌≤◌, ℕ, Bool, true, false, List, [], ◌∷◌, ◌++◌, map, filter, find, take, Option, None, Some, option_map}
-use Rattle.std.specs.List.{slice_split, list_all}
-use Rattle.terrain.specs.Words.{Word, is_word, is_separator, ended_words}
+use Rattle.std.specs.Prelude.{◌≡◌, ◌≤◌, ℕ, Bool, true, false, List, [], ◌∷◌, ◌++◌, map, find, take, Option, None, Some, option_map}
+use Rattle.std.specs.List.{list_all, list_any}
+use Rattle.terrain.specs.Words.{Word, is_separator, words, ended_words}
 use Rattle.terrain.specs.Decimal.{number_of, scaled_value}
 use Rattle.ascii_grid.specs.Header.{fills, slot_of, begins_with_letter, header_fault, key_fault, missing_fault, nodata_for}
 use Rattle.ascii_grid.specs.GridText.{AsksForCells, AsksAtHeight, IsReported, spelled_cell, cells_wanted, words_fault, heights_fault, end_fault}
@@ -103,21 +103,18 @@ IsWordFault d ws f = IsReported (AsksAtHeight ws) (words_fault d ws) f
 abbrev pub IsEndFault : List Word → GridFault → Type 0
 IsEndFault ws f = IsReported (AsksForCells ws) (end_fault ws) f
 
--- `text` is split into `ws`, the words that a separator ends, and `w`, the bytes after the last
--- separator.
-pub record IsParted (text : List ℕ) (ws : List Word) (w : Word) : Type 0 where
-  pub parts : List Word
-  pub split : slice_split is_separator text ≡ parts ++ w ∷ []
-  pub kept : filter is_word parts ≡ ws
-  pub ended : ended_words text ≡ ws
+-- `w` is what follows the last separator of `text`: more bytes are joined to it, and change no word
+-- that a separator has ended.
+pub record IsParted (text : List ℕ) (w : Word) : Type 0 where
+  pub plain : list_any is_separator w ≡ false
+  pub all : (more : List ℕ) → words (text ++ more) ≡ ended_words text ++ words (w ++ more)
 
 -- `p` has read the ended words of `text` without a fault, and stores the front of the unfinished
 -- word.
 pub record HasWords (p : Tokenizer) (text : List ℕ) : Type 0 where
-  pub ended : List Word
   pub last : Word
-  pub parted : IsParted text ended last
-  pub judged : HasAdded p.builder ended
+  pub parted : IsParted text last
+  pub judged : HasAdded p.builder (ended_words text)
   pub front : p.word ≡ take KEPT_BYTES last
 
 -- A height has ended, and no byte of the next word was read.

@@ -102,43 +102,24 @@ impl Tokenizer {
     {
         let mut at = 0;
         while at < bytes.len() {
-            let count = self.take_height(scale, &bytes[at..]);
-            if count == 0 {
+            let Some((len, value)) = plain_number(scale, &bytes[at..]) else {
+                return at;
+            };
+            let end = at + len;
+            if end == bytes.len() || !is_separator(bytes[end]) {
                 return at;
             }
-            at += count;
+            // Tested first, so that `value_cell` needs no branch.
+            if value < LOWEST || HIGHEST < value {
+                return at;
+            }
+            let meaning = value_cell(value, self.builder.nodata_value);
+            let Ok(()) = self.builder.add_cell(meaning) else {
+                return at;
+            };
+            at = end + 1;
         }
         at
-    }
-
-    /// Reads a height that [`plain_number`] parses, and the separator after it.
-    ///
-    /// Returns the number of bytes read. It is 0 for anything else, also for a height with a fault.
-    #[inline(always)]
-    fn take_height(&mut self, scale: u8, rest: &[u8]) -> usize
-        requires scale { IsScaled scale self.old }
-        requires between { IsBetweenHeights self.old }
-        ensures scale { self.new.builder.scale ≡ self.old.builder.scale }
-        ensures between { IsBetweenHeights self.new }
-        ensures taken { result ≤ length rest.now }
-        ensures words { (text : List ℕ) → HasWords self.old text →
-            HasWords self.new (text ++ take result rest.now) }
-    {
-        let Some((len, value)) = plain_number(scale, rest) else {
-            return 0;
-        };
-        if len == rest.len() || !is_separator(rest[len]) {
-            return 0;
-        }
-        // Tested first, so that `value_cell` needs no branch.
-        if value < LOWEST || HIGHEST < value {
-            return 0;
-        }
-        let meaning = value_cell(value, self.builder.nodata_value);
-        let Ok(()) = self.builder.add_cell(meaning) else {
-            return 0;
-        };
-        len + 1
     }
 
     #[inline(never)]

@@ -7,6 +7,12 @@ use Rattle.ascii_grid.proofs.Feeding.{answered, whole_refusal, reading, end_refu
 use Rattle.ascii_grid.proofs.AddedWords.{judged_none}
 use Rattle.ascii_grid.proofs.reader.GridReader.finish.Goals as goal
 
+pub finish-requires-clause-judged : goal.finish-requires-clause-judged
+finish-requires-clause-judged c =
+    let fed = c.self.invariant.1 in
+    let k = reading _ fed.0 c.in_default.is fed.1 in
+    (words fed.0, (c.in_ok-end_word.ensures.words fed.0 k.words_of).1)
+
 pub returns-in-Some-clause-fault : goal.returns-in-Some-clause-fault
 returns-in-Some-clause-fault c = λ text h.
     subst (λ r. IsRefusal r.scale text c.in-Some.fault) c.self.view_is

@@ -4,7 +4,6 @@ use Rattle.ascii_grid.proofs.tokenizer.Tokenizer.new.Goals as goal
 
 pub returns-clause-none : goal.returns-clause-none
 returns-clause-none c = record {
-  ended = [];
   last = [];
   parted = IsParted-none;
   judged = c.new.ensures.none;

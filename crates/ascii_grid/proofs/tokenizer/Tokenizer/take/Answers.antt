@@ -9,7 +9,7 @@ pub returns-then-is_separator-clause-words : goal.returns-then-is_separator-clau
 returns-then-is_separator-clause-words c = λ text h.
     let at = sym c.is_separator.ensures ∙ c.if-is_separator.true in
     MatchResult-weaker c.end_word.result (c.end_word.ensures.words text h)
-    (λ _ k. words_after_separator c.args.self.now c.end_word.new.self text c.args.byte h at k)
+    (λ _ k. words_after_separator c.end_word.new.self text c.args.byte at k)
     (λ f k. subst (λ ws. IsWordFault c.args.self.now.builder.scale ws f)
     (sym (ended_words-separator text c.args.byte at)) k)
 
