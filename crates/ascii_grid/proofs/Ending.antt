@@ -1,15 +1,14 @@
 -- The words that a `Tokenizer` has read after one more byte, a word's end, or a whole word, or the
 -- fault that may be reported for them.
-use Rattle.std.proofs.Common.{◌≡◌, ℕ, ◌+◌, ◌<◌, ◌≤◌, true, false, List, [], ◌∷◌, ◌++◌, length, take, drop, get_or, Some, ℤ, arith, refl, ap, sym, ◌∙◌, subst, inl, inr}
+use Rattle.std.proofs.Common.{◌≡◌, ℕ, ◌+◌, ◌<◌, ◌≤◌, true, false, List, [], ◌∷◌, ◌++◌, length, take, drop, get_or, Some, ℤ, arith, refl, ap, sym, ◌∙◌, subst}
 use Rattle.std.specs.Prelude.{filter}
 use Rattle.std.specs.List.{list_any}
-use Rattle.std.proofs.lemmas.Bool.{cases_lt}
 use Rattle.std.proofs.lemmas.List.{append-nil, length-append, length-take, take_all, take_more, append_assoc, take-append-le, take-append-drop, nil_from_length}
 use Rattle.std.proofs.Math.Seq.{take-add}
 use Rattle.terrain.specs.Words.{Word, is_word, is_separator, words, ended_words}
 use Rattle.terrain.specs.Decimal.{scaled_value}
 use Rattle.ascii_grid.specs.GridText.{AsksAtHeight, words_fault}
-use Rattle.ascii_grid.specs.Reading.{HasWords, HasAdded, HasReadHeights, IsBetweenHeights, IsWordFault}
+use Rattle.ascii_grid.specs.Reading.{HasTaken, HasWords, HasAdded, HasReadHeights, IsBetweenHeights, IsWordFault}
 use Rattle.decimals.specs.Plain.{IsPlain}
 use Rattle.ascii_grid.specs.declared.fault.GridFault.{GridFault}
 use Rattle.ascii_grid.specs.declared.fault.GridFault.TheVariants.{TooLong}
@@ -17,7 +16,7 @@ use Rattle.ascii_grid.specs.declared.builder.GridBuilder.{GridBuilder}
 use Rattle.ascii_grid.specs.declared.tokenizer.Tokenizer.{Tokenizer}
 use Rattle.ascii_grid.proofs.Parting.{words-parted, words-plain, ended_words-separator, ended_words-byte, IsParted-byte, IsParted-separator}
 use Rattle.ascii_grid.proofs.Judging.{Pairs, HasBegun-more}
-use Rattle.ascii_grid.proofs.AddedWords.{at_heights, is_memory, judged-heights, word_fault, long_fault, reported_further}
+use Rattle.ascii_grid.proofs.AddedWords.{at_heights, judged-heights, long_fault, reported_further}
 use Rattle.ascii_grid.proofs.Stays.{ended-more, words_fault-more, asks-more}
 
 -- ---- the bytes kept
@@ -57,34 +56,18 @@ pub ended_none : (p : Tokenizer) (text : List ℕ) (h : HasWords p text) → p.w
 ended_none p text h e = rw (words-parted text h.last h.parted, last-none p text h e, append-nil)
     h.judged
 
-pub ended_ok : (p : Tokenizer) (j : GridBuilder) (text : List ℕ) (h : HasWords p text) →
-    0 < length p.word → length p.word ≤ 64 → HasAdded j (ended_words text ++ p.word ∷ []) →
-    HasAdded j (words text)
-ended_ok p j text h some short k =
+pub ended_one : (p : Tokenizer) (text : List ℕ) (h : HasWords p text) → 0 < length p.word →
+    length p.word ≤ 64 → words text ≡ ended_words text ++ p.word ∷ []
+ended_one p text h some short =
     let size = ap length h.front in
-    let same : p.word ≡ h.last = h.front
-    ∙ take_all 65 h.last (omega (arith, length-take 65 h.last)) in
-    subst (HasAdded j) (ap (λ w. ended_words text ++ w ∷ []) same ∙ sym (words-last p text h some)) k
+    words-last p text h some ∙ ap (λ w. ended_words text ++ w ∷ []) (sym (h.front
+    ∙ take_all 65 h.last (omega (arith, length-take 65 h.last))))
 
-pub ended_fault : (p : Tokenizer) (text : List ℕ) (f : GridFault) (h : HasWords p text) →
-    0 < length p.word → (64 < length p.word → f ≡ TooLong) → IsWordFault p.builder.scale (ended_words text
-    ++ p.word ∷ []) f → IsWordFault p.builder.scale (words text) f
-ended_fault p text f h some long k =
-    let size = ap length h.front in
-    elim (cases_lt 64 (length p.word)) [
-      | inl far ↦
-          let more : 64 < length h.last = omega (arith, length-take 65 h.last) in
-          let at : words_fault p.builder.scale (words text) ≡ Some TooLong =
-          ap (words_fault p.builder.scale) (words-last p text h some)
-          ∙ long_fault p.builder (ended_words text) h.last h.judged more in
-          word_fault p.builder.scale (words text) f (ap (λ g. is_memory (Some g)) (long far)) (at
-          ∙ ap Some (sym (long far)))
-      | inr near ↦
-          let same : p.word ≡ h.last = h.front
-          ∙ take_all 65 h.last (omega (arith, length-take 65 h.last)) in
-          subst (λ ws. IsWordFault p.builder.scale ws f) (ap (λ w. ended_words text ++ w ∷ []) same
-          ∙ sym (words-last p text h some)) k
-    ]
+pub ended_long : (p : Tokenizer) (text : List ℕ) → HasWords p text → 64 < length p.word →
+    words_fault p.builder.scale (words text) ≡ Some TooLong
+ended_long p text h far = ap (words_fault p.builder.scale) (words-last p text h (omega (arith, far)))
+    ∙ long_fault p.builder (ended_words text) h.last h.judged
+    (omega (arith, far, ap length h.front, length-take 65 h.last))
 
 -- ---- one more byte
 
@@ -134,7 +117,7 @@ parted_word p text w h e none some =
 
 -- ---- the next bytes of a piece
 
-pub same_front : (text bytes rest : List ℕ) (at n : ℕ) → rest ≡ drop at bytes →
+same_front : (text bytes rest : List ℕ) (at n : ℕ) → rest ≡ drop at bytes →
     (text ++ take at bytes) ++ take n rest ≡ text ++ take (at + n) bytes
 same_front text bytes rest at n e =
     append_assoc text (take at bytes) (take n rest)
@@ -175,14 +158,41 @@ plain_word p j text bytes rest at len b value h between e plain inside is ends k
           read,
     ))
 
--- a fault that may be reported when the first byte of `bytes` has been read
-pub fault_at : (d d' : ℕ) (text bytes : List ℕ) (b : ℕ) (f : GridFault) → d' ≡ d →
-    0 < length bytes → b ≡ get_or bytes 0 0 →
-    IsWordFault d' (ended_words ((text ++ take 0 bytes) ++ b ∷ [])) f →
+taken_both : (a b c : Tokenizer) (bytes : List ℕ) (from i j : ℕ) → HasTaken a b bytes from i →
+    HasTaken b c bytes i j → HasTaken a c bytes from j
+taken_both a b c bytes from i j h k = record {
+  scale = k.scale ∙ h.scale;
+  further = omega (arith, h.further, k.further);
+  within = k.within;
+  words = λ text w. k.words text (h.words text w);
+}
+
+pub taken_byte : (a b c d : Tokenizer) (bytes : List ℕ) (from i j x : ℕ) →
+    HasTaken a b bytes from i → i < length bytes → x ≡ get_or bytes i 0 →
+    c.builder.scale ≡ b.builder.scale →
+    ((text : List ℕ) → HasWords b text → HasWords c (text ++ x ∷ [])) →
+    HasTaken c d bytes (i + 1) j → HasTaken a d bytes from j
+taken_byte a b c d bytes from i j x h inside is scale byte k =
+    taken_both a b d bytes from i j h (record {
+      scale = k.scale ∙ scale;
+      further = omega (arith, k.further);
+      within = k.within;
+      words = λ text w. k.words text
+          (subst (HasWords c) (more_bytes text bytes i x inside is) (byte (text ++ take i bytes) w));
+    })
+
+-- the words of a text and the front of `bytes` that is taken in two steps
+pub taken_words : (a b c : Tokenizer) (text bytes : List ℕ) (i j : ℕ) → HasTaken a b bytes 0 i →
+    HasTaken b c bytes i j → HasWords a text → HasWords c (text ++ take j bytes)
+taken_words a b c text bytes i j h k w = (taken_both a b c bytes 0 i j h k).words text
+    (rw (append-nil text) w)
+
+-- a fault that may be reported when the byte `b` at `at` has been read
+pub fault_at : (d d' : ℕ) (text bytes : List ℕ) (at b : ℕ) (f : GridFault) → d' ≡ d →
+    at < length bytes → b ≡ get_or bytes at 0 →
+    IsWordFault d' (ended_words ((text ++ take at bytes) ++ b ∷ [])) f →
     IsWordFault d (ended_words (text ++ bytes)) f
-fault_at d d' text bytes b f same some at k =
-    let first = subst (λ z. IsWordFault d' (ended_words z) f) (more_bytes text bytes 0 b some at) k
-    in
-    subst (λ e. IsWordFault e (ended_words (text ++ bytes)) f) same
-    (subst (λ z. IsWordFault d' (ended_words z) f) (same_whole text bytes (drop 1 bytes) 1 refl)
-    (fault_further d' (text ++ take 1 bytes) (drop 1 bytes) f first))
+fault_at d d' text bytes at b f same inside is k =
+    let read = rw (same, more_bytes text bytes at b inside is) at k in
+    rw (sym (same_whole text bytes (drop (at + 1) bytes) (at + 1) refl))
+    (fault_further d (text ++ take (at + 1) bytes) (drop (at + 1) bytes) f read)

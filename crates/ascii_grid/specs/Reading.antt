@@ -2,7 +2,7 @@
 -- Also the faults that may be reported for words.
 -- Source: this project.
 -- Public.
-use Rattle.std.specs.Prelude.{◌≡◌, ◌≤◌, ℕ, Bool, true, false, List, [], ◌∷◌, ◌++◌, map, find, take, Option, None, Some, option_map}
+use Rattle.std.specs.Prelude.{◌≡◌, ◌≤◌, ℕ, Bool, true, false, List, [], ◌∷◌, ◌++◌, map, find, take, length, Option, None, Some, option_map}
 use Rattle.std.specs.List.{list_all, list_any}
 use Rattle.terrain.specs.Words.{Word, is_separator, words, ended_words}
 use Rattle.terrain.specs.Decimal.{number_of, scaled_value}
@@ -116,6 +116,14 @@ pub record HasWords (p : Tokenizer) (text : List ℕ) : Type 0 where
   pub parted : IsParted text last
   pub judged : HasAdded p.builder (ended_words text)
   pub front : p.word ≡ take KEPT_BYTES last
+
+-- `new` is `old` after the bytes from the place `from` to `at`, in which no word has a fault.
+pub record HasTaken (old new : Tokenizer) (bytes : List ℕ) (from at : ℕ) : Type 0 where
+  pub scale : new.builder.scale ≡ old.builder.scale
+  pub further : from ≤ at
+  pub within : at ≤ length bytes
+  pub words : (text : List ℕ) → HasWords old (text ++ take from bytes) →
+      HasWords new (text ++ take at bytes)
 
 -- A height has ended, and no byte of the next word was read.
 abbrev pub IsBetweenHeights : Tokenizer → Type 0

@@ -36,7 +36,7 @@ pub(crate) struct GridBuilder {
     alloc: Global,
     pub(crate) scale: u8,
     header: Header,
-    expected: Expected,
+    pub(crate) expected: Expected,
     // Set when the heights begin. `nodata_value` is the scaled value of `nodata`.
     wanted: u32,
     nodata: Word,
@@ -63,15 +63,12 @@ impl GridBuilder {
 
     /// Reads `word` as the key, value or height that comes next, or returns a fault.
     pub(crate) fn add_word(&mut self, word: &[u8]) -> Result<(), GridFault>
+        requires { length word.now ≤ MOST_WORD_BYTES }
         ensures scale { self.new.scale ≡ self.old.scale }
-        ensures long { MOST_WORD_BYTES < length word.now → result ≡ Err GridFault.TooLong }
         ensures word { (ws : List Word) → HasAdded self.old ws → MatchResult result
             (λ _. HasAdded self.new (ws ++ word.now ∷ []))
             (IsWordFault self.old.scale (ws ++ word.now ∷ [])) }
     {
-        if word.len() > MOST_WORD_BYTES {
-            return Err(GridFault::TooLong);
-        }
         match self.expected {
             Expected::AtHeights => self.add_height(word),
             Expected::AtValue { key, centre } => {
@@ -186,12 +183,5 @@ impl GridBuilder {
         }
         self.cells.push_reserved(cell);
         Ok(())
-    }
-
-    #[inline(always)]
-    pub(crate) fn is_at_heights(&self) -> bool
-        ensures { IsTrue result ↔ (self.now.expected ≡ Expected.AtHeights) }
-    {
-        matches!(self.expected, Expected::AtHeights)
     }
 }

@@ -4,9 +4,9 @@
 //! does not depend on where the text is cut into pieces.
 ghost use Rattle.std.specs.Prelude.{◌≡◌, ℕ, ◌≤◌, ◌++◌, [], ◌∷◌, ◌<◌, List, length, take, IfOk, IsTrue, ◌↔◌, MatchResult};
 ghost use Rattle.terrain.specs.Words.{is_separator, words, ended_words};
-ghost use Rattle.ascii_grid.specs.Reading.{HasAdded, HasWords, IsBetweenHeights, IsScaled, IsWordFault};
+ghost use Rattle.ascii_grid.specs.Reading.{HasAdded, HasTaken, HasWords, IsBetweenHeights, IsScaled, IsWordFault};
 
-use crate::builder::GridBuilder;
+use crate::builder::{Expected, GridBuilder};
 use crate::cell::value_cell;
 use crate::fault::GridFault;
 use crate::page::Buffer;
@@ -43,64 +43,42 @@ impl Tokenizer {
             (λ _. HasWords self.new (text ++ bytes.now))
             (IsWordFault self.old.builder.scale (ended_words (text ++ bytes.now))) }
     {
-        let mut at = 0;
+        let mut at = self.take_heights(bytes, 0);
         while at < bytes.len() {
-            at += self.take_some(&bytes[at..])?;
+            self.take(bytes[at])?;
+            at = self.take_heights(bytes, at + 1);
         }
         Ok(())
     }
 
-    /// Reads heights by the fast path, else one byte. Returns the count of bytes read.
-    #[inline(always)]
-    fn take_some(&mut self, rest: &[u8]) -> Result<usize, GridFault>
-        requires some { 0 < length rest.now }
-        requires scale { self.old.builder.scale ≤ 6 }
-        ensures scale { self.new.builder.scale ≡ self.old.builder.scale }
-        ensures taken { IfOk result (λ n. (0 < n) × (n ≤ length rest.now)) }
-        ensures words { (text : List ℕ) → HasWords self.old text → MatchResult result
-            (λ n. HasWords self.new (text ++ take n rest.now))
-            (IsWordFault self.old.builder.scale (ended_words (text ++ rest.now))) }
-    {
-        let taken = self.take_heights(rest);
-        if taken != 0 {
-            return Ok(taken);
-        }
-        self.take(rest[0])?;
-        Ok(1)
-    }
-
     /// Fast path: reads heights that [`plain_number`] parses, each with the separator after it.
     ///
-    /// Stops at anything else, also at a height with a fault. Returns the number of bytes read. It
-    /// is 0 within a word, and until the first height has ended.
-    fn take_heights(&mut self, bytes: &[u8]) -> usize
-        requires { self.old.builder.scale ≤ 6 }
-        ensures scale { self.new.builder.scale ≡ self.old.builder.scale }
-        ensures taken { result ≤ length bytes.now }
-        ensures words { (text : List ℕ) → HasWords self.old text →
-            HasWords self.new (text ++ take result bytes.now) }
+    /// Begins at the place `from`, and stops at anything else, also at a height with a fault.
+    /// Returns where. It is `from` within a word, and until the first height has ended.
+    fn take_heights(&mut self, bytes: &[u8], from: usize) -> usize
+        requires scale { self.old.builder.scale ≤ 6 }
+        requires within { from ≤ length bytes.now }
+        ensures { HasTaken self.old self.new bytes.now from result }
     {
         if !self.is_between_heights() {
-            return 0;
+            return from;
         }
         // Two copies of the loop: at scale 0 a height is not multiplied.
         match self.builder.scale {
-            0 => self.take_scaled(0, bytes),
-            scale => self.take_scaled(scale, bytes),
+            0 => self.take_scaled(0, bytes, from),
+            scale => self.take_scaled(scale, bytes, from),
         }
     }
 
     /// Loop of [`take_heights`](Self::take_heights), for this scale.
     #[inline(always)]
-    fn take_scaled(&mut self, scale: u8, bytes: &[u8]) -> usize
+    fn take_scaled(&mut self, scale: u8, bytes: &[u8], from: usize) -> usize
         requires scale { IsScaled scale self.old }
         requires between { IsBetweenHeights self.old }
-        ensures scale { self.new.builder.scale ≡ self.old.builder.scale }
-        ensures taken { result ≤ length bytes.now }
-        ensures words { (text : List ℕ) → HasWords self.old text →
-            HasWords self.new (text ++ take result bytes.now) }
+        requires within { from ≤ length bytes.now }
+        ensures { HasTaken self.old self.new bytes.now from result }
     {
-        let mut at = 0;
+        let mut at = from;
         while at < bytes.len() {
             let Some((len, value)) = plain_number(scale, &bytes[at..]) else {
                 return at;
@@ -142,7 +120,7 @@ impl Tokenizer {
     fn is_between_heights(&self) -> bool
         ensures { IsTrue result ↔ IsBetweenHeights self.now }
     {
-        self.builder.is_at_heights() && self.word.as_bytes().is_empty()
+        matches!(self.builder.expected, Expected::AtHeights) && self.word.as_bytes().is_empty()
     }
 
     /// Judges the unfinished word, if there is one.
@@ -152,10 +130,14 @@ impl Tokenizer {
             (λ _. (self.new.word ≡ []) × HasAdded self.new.builder (words text))
             (IsWordFault self.old.builder.scale (words text)) }
     {
-        if self.word.as_bytes().is_empty() {
+        let word = self.word.as_bytes();
+        if word.is_empty() {
             return Ok(());
         }
-        self.builder.add_word(self.word.as_bytes())?;
+        if word.len() > MOST_WORD_BYTES {
+            return Err(GridFault::TooLong);
+        }
+        self.builder.add_word(word)?;
         self.word.clear();
         Ok(())
     }

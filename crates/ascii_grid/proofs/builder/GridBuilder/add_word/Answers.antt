@@ -5,13 +5,8 @@ use Rattle.ascii_grid.specs.Reading.{flat, HasAdded, IsWordFault}
 use Rattle.ascii_grid.specs.declared.builder.GridBuilder.{GridBuilder}
 use Rattle.ascii_grid.specs.declared.builder.Expected.TheVariants.{AtValue}
 use Rattle.ascii_grid.proofs.Judging.{HasBegun-more}
-use Rattle.ascii_grid.proofs.AddedWords.{is_memory, not_memory_slot, not_memory_bad_value, word_fault, judged-key, fault-key, judged-value, fault-value, long_fault, height_word, no_first_height, at_key, at_heights, same_header}
+use Rattle.ascii_grid.proofs.AddedWords.{is_memory, not_memory_slot, not_memory_bad_value, word_fault, judged-key, fault-key, judged-value, fault-value, height_word, no_first_height, at_key, at_heights, same_header}
 use Rattle.ascii_grid.proofs.builder.GridBuilder.add_word.Goals as goal
-
-pub returns-then-word-gt-MOST_WORD_BYTES-clause-word :
-    goal.returns-then-word-gt-MOST_WORD_BYTES-clause-word
-returns-then-word-gt-MOST_WORD_BYTES-clause-word c =
-    λ ws h. long_fault c.args.self.now ws c.args.word.now h c.if-word-gt-MOST_WORD_BYTES.true
 
 pub returns-in_err-begin_heights-in-AtKey-clause-word :
     goal.returns-in_err-begin_heights-in-AtKey-clause-word

@@ -1,14 +1,9 @@
-use Rattle.std.proofs.Common.{◌≡◌, ◌≤◌, ◌-◌, ℕ, List, ◌++◌, take, length}
-use Rattle.ascii_grid.specs.Reading.{HasWords}
+use Rattle.std.proofs.Common.{◌-◌, length}
+use Rattle.ascii_grid.specs.Reading.{HasTaken}
 use Rattle.ascii_grid.proofs.tokenizer.Tokenizer.take_all.Given as goal
 
 abbrev pub invariant-loop-at : goal.invariant-loop-at
-invariant-loop-at l = record {
-  within : l.at ≤ length l.bytes;
-  scale : l.self.builder.scale ≡ l.initial.self.builder.scale;
-  words : (text : List ℕ) → HasWords l.initial.self text →
-      HasWords l.self (text ++ take l.at l.bytes);
-}
+invariant-loop-at l = HasTaken l.initial.self l.self l.bytes l.initial.at l.at
 
 abbrev pub decreases-loop-at : goal.decreases-loop-at
 decreases-loop-at l = length l.initial.bytes - l.at

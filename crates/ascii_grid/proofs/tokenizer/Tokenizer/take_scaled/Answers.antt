@@ -9,7 +9,8 @@ use Rattle.ascii_grid.proofs.tokenizer.Tokenizer.take_scaled.Goals as goal
 
 pub loop-at-preserved : goal.loop-at-preserved
 loop-at-preserved c =
-    let before = c.loop-at.invariant in
+    let before = c.loop-at.invariant.taken in
+    let between = c.loop-at.invariant.between in
     let self = c.loop-at.self in
     let bytes = c.args.bytes.now in
     let at = c.loop-at.at in
@@ -24,13 +25,16 @@ loop-at-preserved c =
       c.if-end-bytes.false,
     ) in
     record {
-      within = omega (arith, inside);
-      scale = ap (λ (k : GridBuilder). k.scale) kept ∙ before.scale;
-      between = (ap (λ (k : GridBuilder). k.expected) kept ∙ before.between.0, before.between.1);
-      words = λ text h. plain_word self c.add_cell.new.self text bytes _ at c.in-Some.len _
-          c.in-Some.value (before.words text h) before.between (take_rest bytes at) plain inside
-          refl (sym c.is_separator.ensures ∙ c.if-not-is_separator.false) kept
-          (λ ps hs w k short e. c.in-Ok.ensures.word ps hs w k short
-          (c.value_cell-meaning.ensures self.builder.scale self.builder.nodata w
-          (e ∙ ap Some (sym (to_z-of_z w64 c.in-Some.value fits))) k.value));
+      taken = record {
+        scale = ap (λ (k : GridBuilder). k.scale) kept ∙ before.scale;
+        further = omega (arith, before.further);
+        within = omega (arith, inside);
+        words = λ text h. plain_word self c.add_cell.new.self text bytes _ at c.in-Some.len _
+            c.in-Some.value (before.words text h) between (take_rest bytes at) plain inside
+            refl (sym c.is_separator.ensures ∙ c.if-not-is_separator.false) kept
+            (λ ps hs w k short e. c.in-Ok.ensures.word ps hs w k short
+            (c.value_cell-meaning.ensures self.builder.scale self.builder.nodata w
+            (e ∙ ap Some (sym (to_z-of_z w64 c.in-Some.value fits))) k.value));
+      };
+      between = (ap (λ (k : GridBuilder). k.expected) kept ∙ between.0, between.1);
     }
