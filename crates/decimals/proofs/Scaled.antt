@@ -233,9 +233,9 @@ IsPlain-signed d bytes rest negative n len size is e at h =
       whole = front.free is_separator no_separator refl;
     }
 
-pub below_power : (n k m : ℕ) → n < 10 ^ k → k ≤ m → n < 10 ^ m
-below_power n k m h le =
-    omega (arith, h, pow-le-pow_right {n = 10} (omega arith) {i = k} {j = m} le)
+pub tenfold_small : (n k : ℕ) → n < 10 ^ k → k ≤ 15 → 10 * n < 10 ^ 16
+tenfold_small n k h few =
+    omega (arith, h, pow-le-pow_right {n = 10} (omega arith) {i = k} {j = 15} few)
 
 pub padded_small : (n len d power_of_ten : ℕ) → n < 10 ^ len → power_of_ten ≡ 10 ^ d →
     len + d ≤ 16 → n * power_of_ten ≤ 10 ^ 16

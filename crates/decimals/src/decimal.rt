@@ -92,6 +92,7 @@ fn size_after_minus(scale: u8, bytes: &[u8]) -> Option<(usize, u64)>
 }
 
 #[inline(always)]
+#[tactic(auto, using(crate::proofs::Scaled::padded_small))]
 fn plain_size(scale: u8, bytes: &[u8]) -> Option<(usize, u64)>
     requires { scale ≤ 6 }
     ensures { IfSome result (λ r. IsPlainSize scale bytes.now r.0 r.1) }

@@ -2,13 +2,6 @@ use Rattle.std.proofs.Common.{arith, rules, refl}
 use Rattle.decimals.proofs.Scaled.{padded_small}
 use Rattle.decimals.proofs.decimal.plain_size.Goals as goal
 
-pub overflow_mul-result : goal.overflow_mul-result
-overflow_mul-result c =
-    let front = c.leading_digits-len in
-    let most = padded_small front.result.1 front.result.0 c.args.scale c.power_of_ten.result
-    front.ensures.small c.power_of_ten.ensures.power (search rules) in
-    grind (arith, most)
-
 pub returns : goal.returns
 returns c =
     let front = c.leading_digits-len in
