@@ -13,7 +13,7 @@ use Rattle.terrain.specs.Words.{Word, words, ended_words}
 use Rattle.terrain.specs.Raster.{Raster, IsLawful}
 use Rattle.ascii_grid.specs.GridText.{most_bytes, words_fault, end_fault, fault_so_far, text_fault, judged_words, grid_of, AsksForCells, AsksAtHeight, AsksInText, IsGridText, IsRefusal, IsRefusalSoFar}
 use Rattle.std.specs.Result.{result_err}
-use Rattle.ascii_grid.specs.Reader.{Reader, IsReading, WasFed, Feeds}
+use Rattle.ascii_grid.specs.Reader.{Reader, IsReading, reading, WasFed, Feeds}
 use Rattle.ascii_grid.specs.Reading.{HasWords, IsWordFault, IsEndFault}
 use Rattle.ascii_grid.specs.declared.fault.GridFault.{GridFault}
 use Rattle.ascii_grid.specs.declared.fault.GridFault.TheVariants.{TooLong}
@@ -202,8 +202,8 @@ lawful_text d text g few h =
 
 -- ---- what a reader was fed
 
-pub reading : (r : Reader) (text : List ℕ) → r.fault ≡ None → WasFed r text → IsReading r text
-reading r text e h = MatchOption-at_none (IsReading r text) (IsRefusalSoFar r.scale text) e h
+pub is_reading : (r : Reader) (text : List ℕ) → r.fault ≡ None → WasFed r text → IsReading r text
+is_reading r text e h = MatchOption-at_none (IsReading r text) (IsRefusalSoFar r.scale text) e h
 
 pub answered : (r : Reader) (text : List ℕ) (f : GridFault) → r.fault ≡ Some f → WasFed r text →
     IsRefusalSoFar r.scale text f
@@ -215,61 +215,55 @@ answered_more r text more f e h =
     subst (λ o. MatchOption o (IsReading r (text ++ more)) (IsRefusalSoFar r.scale (text ++ more)))
     (sym e) (refusal_stays r.scale text more f (answered r text f e h))
 
+pub as_reading : (r : Reader) (text : List ℕ) → r.fault ≡ None → WasFed r text →
+    IsReading (reading r.words r.count) text
+as_reading r text e h =
+    let k = is_reading r text e h in
+    record { words_of = k.words_of; same_scale = refl; size = k.size; short = k.short }
+
 -- ---- a piece
 
-pub fed_fault : (r : Reader) (text piece : List ℕ) (within : ℕ) (f : GridFault) →
-    within ≡ min (length piece) (most_bytes - r.count) → r.fault ≡ None → WasFed r text →
-    ((t : List ℕ) → HasWords r.words t →
-    IsWordFault r.words.builder.scale (ended_words (t ++ take within piece)) f) →
-    IsRefusalSoFar r.words.builder.scale (text ++ piece) f
-fed_fault r text piece within f cut none h fault =
-    let k = reading r text none h in
-    let front = text ++ take within piece in
-    let short : length front ≤ most_bytes = omega (
-      arith,
-      cut,
-      k.size,
-      k.short,
-      length-append text (take within piece),
-      length-take within piece,
-    ) in
-    let whole : front ++ drop within piece ≡ text ++ piece =
-    same_whole text piece (drop within piece) within refl in
-    subst (λ t. IsRefusalSoFar r.words.builder.scale t f) whole (refusal_stays
-    r.words.builder.scale front (drop within piece) f
-    (refused r.words.builder.scale front f short (fault text k.words_of)))
+module _ (w : Tokenizer) (n : ℕ) (text piece : List ℕ) (within : ℕ)
+    (cut : within ≡ min (length piece) (most_bytes - n)) (k : IsReading (reading w n) text) where
+  pub fed_fault : (f : GridFault) →
+      IsWordFault w.builder.scale (ended_words (text ++ take within piece)) f →
+      IsRefusalSoFar w.builder.scale (text ++ piece) f
+  fed_fault f fault =
+      let front = text ++ take within piece in
+      let short : length front ≤ most_bytes = omega (
+        arith,
+        cut,
+        k.size,
+        k.short,
+        length-append text (take within piece),
+        length-take within piece,
+      ) in
+      rw (sym (same_whole text piece (drop within piece) within refl))
+      (refusal_stays w.builder.scale front (drop within piece) f
+      (refused w.builder.scale front f short fault))
 
--- a text that a piece makes too long has the fault `TooLong`, if its first 2^29 bytes have none
-pub fed_long : (r : Reader) (p : Tokenizer) (text piece : List ℕ) (within : ℕ) →
-    within ≡ min (length piece) (most_bytes - r.count) → r.fault ≡ None → WasFed r text → within
-    < length piece → ((t : List ℕ) → HasWords r.words t → HasWords p (t ++ take within piece)) →
-    fault_so_far p.builder.scale (text ++ piece) ≡ Some TooLong
-fed_long r p text piece within cut none h over next =
-    let k = reading r text none h in
-    let longer : most_bytes < length (text ++ piece) =
-    omega (arith, cut, over, k.size, k.short, length-append text piece) in
-    let full : most_bytes ≡ length text + within = omega (arith, cut, over, k.size, k.short) in
-    let in_time : take most_bytes (text ++ piece) ≡ text ++ take within piece =
-    ap (λ n. take n (text ++ piece)) full ∙ take-append-add text piece within in
-    many_so_far p.builder.scale (text ++ piece) longer
-    ∙ ap (λ o. option_or o (Some TooLong)) (ap (λ z. words_fault p.builder.scale (ended_words z))
-    in_time ∙ read_none p (text ++ take within piece) (next text k.words_of))
+  -- a text that a piece makes too long has the fault `TooLong`, if its first 2^29 bytes have none
+  pub fed_long : (p : Tokenizer) → p.builder.scale ≡ w.builder.scale → within < length piece →
+      HasWords p (text ++ take within piece) →
+      fault_so_far w.builder.scale (text ++ piece) ≡ Some TooLong
+  fed_long p scale over next =
+      let full : most_bytes ≡ length text + within = omega (arith, cut, over, k.size, k.short) in
+      let in_time : take most_bytes (text ++ piece) ≡ text ++ take within piece =
+      ap (λ n. take n (text ++ piece)) full ∙ take-append-add text piece within in
+      rw (← scale) (many_so_far p.builder.scale (text ++ piece) (omega (arith, full, over,
+      length-append text piece)) ∙ rw (in_time, read_none p (text ++ take within piece) next) refl)
 
--- after a piece that fits and has no fault, the reader has read the text and the piece
-pub fed_whole : (r r' : Reader) (text piece : List ℕ) (within : ℕ) → within
-    ≡ min (length piece) (most_bytes - r.count) → r.fault ≡ None → WasFed r text → length piece
-    ≤ within → ((t : List ℕ) → HasWords r.words t → HasWords r'.words (t ++ take within piece)) →
-    r'.words.builder.scale ≡ r'.scale → r'.count ≡ r.count + within → IsReading r' (text ++ piece)
-fed_whole r r' text piece within cut none h all next scale count =
-    let k = reading r text none h in
-    let size : length (text ++ piece) ≡ length text + length piece = length-append text piece in
-    record {
-      words_of =
-          subst (λ z. HasWords r'.words (text ++ z)) (take_all within piece all) (next text k.words_of);
-      same_scale = scale;
-      size = omega (arith, size, cut, all, count, k.size);
-      short = omega (arith, size, cut, all, k.size, k.short);
-    }
+  -- after a piece that fits and has no fault, the reader has read the text and the piece
+  pub fed_whole : (p : Tokenizer) → length piece ≤ within → HasWords p (text ++ take within piece) →
+      IsReading (reading p (n + within)) (text ++ piece)
+  fed_whole p all next =
+      let size = length-append text piece in
+      record {
+        words_of = subst (λ z. HasWords p (text ++ z)) (take_all within piece all) next;
+        same_scale = refl;
+        size = omega (arith, size, cut, all, k.size);
+        short = omega (arith, size, cut, all, k.size, k.short);
+      }
 
 pub faultless : (r : Reader) (text : List ℕ) → IsReading r text → fault_so_far r.scale text ≡ None
 faultless r text h = rw (← h.same_scale) (few_so_far r.words.builder.scale text h.short
@@ -282,7 +276,7 @@ faultless r text h = rw (← h.same_scale) (few_so_far r.words.builder.scale tex
 has_fault : {T : Type 0} (b : Reader) (text : List ℕ) (r : Result T GridFault)
     → b.fault ≡ result_err r → WasFed b text
     → OnOk r (fault_so_far b.scale text ≡ None) × IfErr r (λ f. IsRefusalSoFar b.scale text f)
-has_fault b text (Ok x) e h = (faultless b text (reading b text e h), tt)
+has_fault b text (Ok x) e h = (faultless b text (is_reading b text e h), tt)
 has_fault b text (Err f) e h = (tt, answered b text f e h)
 
 -- `Feeds` follows from its fields `scale`, `taken`, `fault` and `again`

@@ -23,6 +23,15 @@ pub record IsReading (r : Reader) (text : List ℕ) : Type 0 where
   pub size : r.count ≡ length text
   pub short : length text ≤ most_bytes
 
+-- A reader without a fault, of these words and this count of bytes.
+abbrev pub reading : Tokenizer → ℕ → Reader
+reading words count = record {
+  scale = words.builder.scale;
+  fault = None;
+  words = words;
+  count = count;
+}
+
 -- The reader was fed this text. It has read the whole text, or has refused it with a fault.
 abbrev pub WasFed : Reader → List ℕ → Type 0
 WasFed r text = MatchOption r.fault (IsReading r text) (IsRefusalSoFar r.scale text)

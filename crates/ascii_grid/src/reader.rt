@@ -2,9 +2,9 @@
 //!
 //! A word's fault is returned once the word has ended, and again by later feeds and by `finish`.
 //! `tokenizer` splits the text into words.
-ghost use Rattle.std.specs.Prelude.{◌≡◌, ◌≤◌, [], ℕ, List, None, Some, Err, IfOk, IfErr};
-ghost use Rattle.ascii_grid.specs.GridText.{IsGridText, IsRefusal};
-ghost use Rattle.ascii_grid.specs.Reader.{WasFed, Feeds};
+ghost use Rattle.std.specs.Prelude.{◌≡◌, ◌≤◌, ◌++◌, [], ℕ, List, None, Some, Err, IfOk, IfErr, MatchResult};
+ghost use Rattle.ascii_grid.specs.GridText.{IsGridText, IsRefusal, IsRefusalSoFar};
+ghost use Rattle.ascii_grid.specs.Reader.{IsReading, reading, WasFed, Feeds};
 
 use crate::fault::GridFault;
 use crate::tokenizer::Tokenizer;
@@ -83,15 +83,9 @@ impl GridReader {
         if let Some(fault) = self.fault {
             return Err(fault);
         }
-        let within = piece.len().min(MOST_TEXT_BYTES - self.taken);
-        if let Err(fault) = self.words.take_all(&piece[..within]) {
+        if let Err(fault) = read_piece(&mut self.words, &mut self.taken, piece) {
             self.fault = Some(fault);
             return Err(fault);
-        }
-        self.taken += within;
-        if within < piece.len() {
-            self.fault = Some(GridFault::TooLong);
-            return Err(GridFault::TooLong);
         }
         Ok(())
     }
@@ -120,4 +114,22 @@ impl GridReader {
         words.end_word()?;
         words.builder.finish()
     }
+}
+
+/// Reads the next piece, and counts its bytes, as far as the longest text has room for them.
+fn read_piece(words: &mut Tokenizer, taken: &mut usize, piece: &[u8]) -> Result<(), GridFault>
+    requires scale { words.old.builder.scale ≤ 6 }
+    requires few { taken.old ≤ MOST_TEXT_BYTES }
+    ensures scale { words.new.builder.scale ≡ words.old.builder.scale }
+    ensures read { (text : List ℕ) → IsReading (reading words.old taken.old) text →
+        MatchResult result (λ _. IsReading (reading words.new taken.new) (text ++ piece.now))
+        (IsRefusalSoFar words.old.builder.scale (text ++ piece.now)) }
+{
+    let within = piece.len().min(MOST_TEXT_BYTES - *taken);
+    words.take_all(&piece[..within])?;
+    *taken += within;
+    if within < piece.len() {
+        return Err(GridFault::TooLong);
+    }
+    Ok(())
 }
