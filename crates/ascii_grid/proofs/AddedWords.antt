@@ -1,6 +1,6 @@
 -- After one more word is added, a `GridBuilder` has read all words so far, or returns a fault that
 -- may be reported for them.
-use Rattle.std.proofs.Common.{◌≡◌, ℕ, ◌+◌, ◌<◌, ◌≤◌, Bool, true, false, cond, List, [], ◌∷◌, ◌++◌, length, map, take, Option, None, Some, ℤ, arith, refl, ap, sym, ◌∙◌, subst, inl, inr, nat_lt, ◌⊎◌, Result, MatchResult}
+use Rattle.std.proofs.Common.{◌≡◌, ℕ, ◌+◌, ◌<◌, ◌≤◌, Bool, true, false, cond, List, [], ◌∷◌, ◌++◌, length, map, take, Option, None, Some, ℤ, arith, refl, ap, sym, ◌∙◌, subst, inl, inr, Result, MatchResult}
 use Rattle.std.specs.Prelude.{MatchOption, option_map}
 use Rattle.std.specs.Option.{option_or, option_map_or}
 use Rattle.std.specs.List.{list_any}
@@ -11,10 +11,10 @@ use Rattle.terrain.specs.Words.{Word}
 use Rattle.ascii_grid.specs.Header.{fills, slot_of, is_long, is_value, bad_value, begins_with_letter, header_words, height_words, key_left, nodata_for, header_fault, key_fault, value_fault, missing_fault}
 use Rattle.ascii_grid.specs.GridText.{AsksForCells, is_cell, spelled_cell, cells_wanted, words_fault, heights_fault, height_fault, AsksAtHeight, IsReported}
 use Rattle.ascii_grid.specs.Slots.{is_given, is_centre, with_value}
-use Rattle.ascii_grid.specs.Reading.{flat, slots_of, keys_before, IsHeaderOf, AwaitsValue, HasBegun, HasReadHeights, FitsExpected, HasAdded, IsWordFault}
+use Rattle.ascii_grid.specs.Reading.{flat, slots_of, keys_before, IsHeaderOf, AwaitsValue, HasBegun, HasReadHeights, FitsExpected, HasAdded, IsHeaderFault, IsHeightFault, IsWordFault}
 use Rattle.ascii_grid.specs.declared.fault.Key.{Key}
 use Rattle.ascii_grid.specs.declared.fault.GridFault.{GridFault}
-use Rattle.ascii_grid.specs.declared.fault.GridFault.TheVariants.{UnknownKey, RepeatedKey, TooLong, MissingKey, BadHeight, TooMany, Memory}
+use Rattle.ascii_grid.specs.declared.fault.GridFault.TheVariants.{UnknownKey, RepeatedKey, TooLong, MissingKey, Memory}
 use Rattle.ascii_grid.specs.declared.header.Header.{Header}
 use Rattle.ascii_grid.specs.declared.builder.Expected.{Expected}
 use Rattle.ascii_grid.specs.declared.builder.Expected.TheVariants.{AtKey, AtValue, AtHeights}
@@ -290,19 +290,9 @@ is_memory None = false
 is_memory (Some Memory) = true
 is_memory (Some f) = false
 
-not_memory_or : (o p : Option GridFault) → is_memory o ≡ false → is_memory p ≡ false →
-    is_memory (option_or o p) ≡ false
-not_memory_or None p h k = k
-not_memory_or (Some f) p h k = h
-
 pub not_memory_bad_value : (slot : Key) → is_memory (Some (bad_value slot)) ≡ false
 not_memory_bad_value Ncols = refl
 not_memory_bad_value slot = refl
-
-not_memory_cond : (b : Bool) (o p : Option GridFault) → is_memory o ≡ false → is_memory p ≡ false →
-    is_memory (cond b o p) ≡ false
-not_memory_cond true o p h k = h
-not_memory_cond false o p h k = k
 
 -- the fault of an unknown or a repeated key is not `Memory`
 pub not_memory_slot : (o : Option Key) (given : Key → Type 0) (f : GridFault) → MatchOption o (f
@@ -316,14 +306,6 @@ not_memory_missing_slot (Some slot) = refl
 
 pub not_memory_missing : (header : List Word) → is_memory (missing_fault header) ≡ false
 not_memory_missing header = not_memory_missing_slot _
-
-not_memory_height : (d : ℕ) (header : List Word) (place : ℕ) (w : Word) →
-    is_memory (height_fault d header place w) ≡ false
-not_memory_height d header place w =
-    not_memory_cond (is_long w) (Some TooLong) _ refl
-    (not_memory_or (missing_fault header) _ (not_memory_missing header)
-    (not_memory_cond (nat_lt place (cells_wanted header)) _ (Some TooMany) (not_memory_cond
-    (is_cell d (nodata_for header) w) None (Some (BadHeight place)) refl refl) refl))
 
 -- ---- the fault that is reported
 
@@ -344,10 +326,6 @@ pub word_fault : (d : ℕ) (ws : List Word) (f : GridFault) → is_memory (Some 
     words_fault d ws ≡ Some f → IsWordFault d ws f
 word_fault d ws f other h =
     reported (AsksAtHeight ws) (words_fault d ws) f (ap is_memory h ∙ other) h
-
-pub memory_fault : (d : ℕ) (ws : List Word) (f : GridFault) → f ≡ Memory → AsksAtHeight ws →
-    IsWordFault d ws f
-memory_fault d ws f e h = rw e h
 
 pub long_fault : (j : GridBuilder) (ws : List Word) (w : Word) → HasAdded j ws → 64 < length w →
     words_fault j.scale (ws ++ w ∷ []) ≡ Some TooLong
@@ -376,32 +354,24 @@ pub height_word : {T : Type 0} (j j' : GridBuilder) (ws : List Word) (ps : Pairs
     (w : Word) (r : Result T GridFault) → IsHeaderOf j.header ps → ws ≡ flat ps ++ hs →
     HasBegun (hs ++ w ∷ []) → HasReadHeights j ps hs → length w ≤ 64 → j'.header ≡ j.header →
     j'.expected ≡ AtHeights →
-    MatchResult r (λ _. HasReadHeights j' ps (hs ++ w ∷ [])) (λ f. (f ≡ Memory)
-    ⊎ (height_fault j.scale (flat ps) (length hs) w ≡ Some f)) →
+    MatchResult r (λ _. HasReadHeights j' ps (hs ++ w ∷ [])) (IsHeightFault j.scale ps hs w) →
     MatchResult r (λ _. HasAdded j' (ws ++ w ∷ [])) (IsWordFault j.scale (ws ++ w ∷ []))
 height_word j j' ws ps hs w r k e begun heights short same expected m =
     MatchResult-weaker r m (λ _ more.
     judged-heights j j' ws ps hs (w ∷ []) k e begun more same expected)
-    (λ f why. elim why [
-      | inl lack ↦ memory_fault j.scale (ws ++ w ∷ []) f lack
-          (memory-height j ws ps hs w j.header k e begun heights.whole heights.faultless short)
-      | inr fault ↦ word_fault j.scale (ws ++ w ∷ []) f (ap is_memory (sym fault)
-          ∙ not_memory_height j.scale (flat ps) (length hs) w)
-          (next-height j.scale ws ps hs w j.header k e begun heights.faultless ∙ fault)
-    ])
+    (λ f. reported_further _ _ (height_fault j.scale (flat ps) (length hs) w)
+    (words_fault j.scale (ws ++ w ∷ [])) f (λ _.
+    memory-height j ws ps hs w j.header k e begun heights.whole heights.faultless short)
+    (λ g fault. next-height j.scale ws ps hs w j.header k e begun heights.faultless ∙ fault))
 
 -- where `w` is the first height and not too long, a missing slot's fault may be reported for `ws`
 -- and `w`, or `Memory` if no slot is missing
 pub no_first_height : (j : GridBuilder) (ws : List Word) (w : Word)
-    (f : GridFault) (h : HasAdded j ws) → j.expected ≡ AtKey →
-    begins_with_letter w ≡ false → length w ≤ 64 → (missing_fault (flat h.pairs) ≡ Some f)
-    ⊎ ((f ≡ Memory) × (missing_fault (flat h.pairs) ≡ None)) → IsWordFault j.scale (ws ++ w ∷ []) f
-no_first_height j ws w f h expected begun short why =
+    (f : GridFault) (h : HasAdded j ws) → j.expected ≡ AtKey → begins_with_letter w ≡ false →
+    length w ≤ 64 → IsHeaderFault h.pairs f → IsWordFault j.scale (ws ++ w ∷ []) f
+no_first_height j ws w f h expected begun short =
     let e = at_key j ws h expected ∙ sym (append-nil (flat h.pairs)) in
-    elim why [
-      | inl missing ↦ word_fault j.scale (ws ++ w ∷ []) f (ap is_memory (sym missing)
-          ∙ not_memory_missing (flat h.pairs)) (next-height j.scale ws h.pairs []
-          w j.header h.header e begun refl ∙ rw (is_short w short, missing) refl)
-      | inr lack ↦ memory_fault j.scale (ws ++ w ∷ []) f lack.0
-          (memory-height j ws h.pairs [] w j.header h.header e begun lack.1 refl short)
-    ]
+    reported_further _ _ (missing_fault (flat h.pairs)) (words_fault j.scale (ws ++ w ∷ [])) f
+    (λ whole. memory-height j ws h.pairs [] w j.header h.header e begun whole refl short)
+    (λ g missing. next-height j.scale ws h.pairs [] w j.header h.header e begun refl
+    ∙ rw (is_short w short, missing) refl)

@@ -250,8 +250,12 @@ module _ (w : Tokenizer) (n : ℕ) (text piece : List ℕ) (within : ℕ)
       let full : most_bytes ≡ length text + within = omega (arith, cut, over, k.size, k.short) in
       let in_time : take most_bytes (text ++ piece) ≡ text ++ take within piece =
       ap (λ n. take n (text ++ piece)) full ∙ take-append-add text piece within in
-      rw (← scale) (many_so_far p.builder.scale (text ++ piece) (omega (arith, full, over,
-      length-append text piece)) ∙ rw (in_time, read_none p (text ++ take within piece) next) refl)
+      rw (← scale) (many_so_far p.builder.scale (text ++ piece) (omega (
+        arith,
+        full,
+        over,
+        length-append text piece,
+      )) ∙ rw (in_time, read_none p (text ++ take within piece) next) refl)
 
   -- after a piece that fits and has no fault, the reader has read the text and the piece
   pub fed_whole : (p : Tokenizer) → length piece ≤ within → HasWords p (text ++ take within piece) →

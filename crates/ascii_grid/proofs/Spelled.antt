@@ -17,19 +17,19 @@ use Rattle.terrain.specs.Words.{Word}
 use Rattle.terrain.specs.Decimal.{number_of, scaled_value, is_decimal, is_above_zero, is_size}
 use Rattle.terrain.specs.Raster.{lowest, highest, IsHeight, is_height, IsHeaderWord, IsLawful}
 use Rattle.ascii_grid.specs.Header.{fills, header_words, height_words, pairs, key_left, pair_for, value_for, word_for, nodata_for, is_long, is_value, bad_value, key_fault, value_fault, header_fault, missing_fault, no_value_fault}
-use Rattle.ascii_grid.specs.GridText.{AsksForCells, same_value, is_nodata, is_cell, spelled_cell, cells_wanted, height_fault, heights_fault, words_fault, end_fault, grid_of}
+use Rattle.ascii_grid.specs.GridText.{same_value, is_nodata, is_cell, spelled_cell, cells_wanted, height_fault, heights_fault, words_fault, end_fault, grid_of}
 use Rattle.ascii_grid.specs.Slots.{anchor_at, is_given, is_centre, IsWhole, raster_of}
-use Rattle.ascii_grid.specs.Reading.{flat, given, slots_of, HasReadHeights, HasAdded, IsEndFault}
+use Rattle.ascii_grid.specs.Reading.{flat, given, slots_of, HasReadHeights, HasAdded, IsHeaderFault, IsEndFault}
 use Rattle.ascii_grid.specs.declared.fault.Key.{Key}
 use Rattle.ascii_grid.specs.declared.fault.Key.TheVariants.{Ncols, Nrows, Xll, Yll, Cellsize, Nodata}
 use Rattle.ascii_grid.specs.declared.fault.GridFault.{GridFault}
-use Rattle.ascii_grid.specs.declared.fault.GridFault.TheVariants.{MissingKey, BadHeight, TooFew, TooMany, TooLong, NoValue, Memory}
+use Rattle.ascii_grid.specs.declared.fault.GridFault.TheVariants.{MissingKey, BadHeight, TooFew, TooMany, TooLong, NoValue}
 use Rattle.terrain.specs.declared.grid.Anchor.{Anchor}
 use Rattle.ascii_grid.specs.declared.builder.GridBuilder.{GridBuilder}
 use Rattle.ascii_grid.specs.declared.builder.Expected.TheVariants.{AtKey, AtValue, AtHeights}
 use Rattle.ascii_grid.proofs.Keys.{slot_filled}
 use Rattle.ascii_grid.proofs.Judging.{Pairs, or_none, then_none, else_none, pairs-flat, words-flat, words-whole, key_left-flat, is_given-slots_of, missing_of-slots_of, number-of_pair}
-use Rattle.ascii_grid.proofs.AddedWords.{at_key, at_value, at_heights, place_of, words-after, paired, judged_none, is_memory, reported, not_memory_missing}
+use Rattle.ascii_grid.proofs.AddedWords.{at_key, at_value, at_heights, place_of, words-after, paired, judged_none, reported_further}
 
 -- ---- a header whose words have no fault
 
@@ -169,28 +169,19 @@ end-value j ws slot centre h e =
     let left : key_left (flat h.pairs ++ k ∷ []) ≡ Some k = key_left-flat h.pairs (k ∷ []) in
     rw (header, left, there.2.key_is) refl
 
-pub end-missing : (j : GridBuilder) (ws : List Word) (f : GridFault) (h : HasAdded j ws) →
-    j.expected ≡ AtKey → missing_fault (flat h.pairs) ≡ Some f → IsEndFault ws f
-end-missing j ws f h e missing =
-    let same = at_key j ws h e in
-    let at_end : end_fault (flat h.pairs) ≡ Some f =
-    rw ((words-whole h.pairs h.header.keys).0, paired h.pairs, missing) refl in
-    let there = ap end_fault same ∙ at_end in
-    reported (AsksForCells ws) (end_fault ws) f (ap is_memory (there ∙ sym missing)
-    ∙ not_memory_missing (flat h.pairs)) there
-
-pub end-memory : (j : GridBuilder) (ws : List Word) (f : GridFault) (h : HasAdded j ws) →
-    j.expected ≡ AtKey → f ≡ Memory → missing_fault (flat h.pairs) ≡ None → IsEndFault ws f
-end-memory j ws f h e m whole =
+pub end-key : (j : GridBuilder) (ws : List Word) (f : GridFault) (h : HasAdded j ws) →
+    j.expected ≡ AtKey → IsHeaderFault h.pairs f → IsEndFault ws f
+end-key j ws f h e =
     let same = at_key j ws h e in
     let are = words-whole h.pairs h.header.keys in
-    let asks : AsksForCells (flat h.pairs) = record {
+    reported_further _ _ (missing_fault (flat h.pairs)) (end_fault ws) f
+    (λ whole. rw same (record {
       faultless = rw are.0 h.header.faultless;
       paired = rw are.0 (paired h.pairs);
       given = rw are.0 whole;
       first = rw are.1 refl;
-    } in
-    rw (m, same) asks
+    }))
+    (λ g missing. ap end_fault same ∙ rw (are.0, paired h.pairs, missing) refl)
 
 -- ---- too few heights at the end, and the grid
 

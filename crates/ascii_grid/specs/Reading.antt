@@ -7,7 +7,7 @@ use Rattle.std.specs.List.{list_all, list_any}
 use Rattle.terrain.specs.Words.{Word, is_separator, words, ended_words}
 use Rattle.terrain.specs.Decimal.{number_of, scaled_value}
 use Rattle.ascii_grid.specs.Header.{fills, slot_of, begins_with_letter, header_fault, key_fault, missing_fault, nodata_for}
-use Rattle.ascii_grid.specs.GridText.{AsksForCells, AsksAtHeight, IsReported, spelled_cell, cells_wanted, words_fault, heights_fault, end_fault}
+use Rattle.ascii_grid.specs.GridText.{AsksForCells, AsksAtHeight, IsReported, spelled_cell, cells_wanted, height_fault, words_fault, heights_fault, end_fault}
 use Rattle.ascii_grid.specs.Slots.{anchor_at, is_given, is_centre}
 use Rattle.ascii_grid.specs.declared.fault.Key.{Key}
 use Rattle.ascii_grid.specs.declared.fault.Key.TheVariants.{Ncols, Nrows, Xll, Yll, Cellsize, Nodata}
@@ -97,6 +97,14 @@ pub record HasAdded (j : GridBuilder) (ws : List Word) : Type 0 where
 -- `f` may be reported for these words: their first fault, or want of memory at the first height.
 abbrev pub IsWordFault : ℕ → List Word → GridFault → Type 0
 IsWordFault d ws f = IsReported (AsksAtHeight ws) (words_fault d ws) f
+
+-- `f` may be reported where the header of the pairs `ps` ends: a missing slot, or want of memory.
+abbrev pub IsHeaderFault : List (Word × Word) → GridFault → Type 0
+IsHeaderFault ps f = IsReported (missing_fault (flat ps) ≡ None) (missing_fault (flat ps)) f
+
+-- `f` may be reported for the height `w` after the heights `hs`: its fault, or want of memory.
+abbrev pub IsHeightFault : ℕ → List (Word × Word) → List Word → Word → GridFault → Type 0
+IsHeightFault d ps hs w f = IsReported (Unit {0}) (height_fault d (flat ps) (length hs) w) f
 
 -- `f` may be reported where a text of these words ends: `end_fault`, or want of memory for the
 -- cells.

@@ -9,7 +9,7 @@ ghost use Rattle.terrain.specs.Decimal.{scaled_value};
 ghost use Rattle.ascii_grid.specs.Header.{missing_fault};
 ghost use Rattle.ascii_grid.specs.GridText.{height_fault, end_fault, grid_of};
 ghost use Rattle.ascii_grid.specs.Meaning.{meaning_of};
-ghost use Rattle.ascii_grid.specs.Reading.{flat, IsHeaderOf, HasReadHeights, HasAdded, IsWordFault, IsEndFault};
+ghost use Rattle.ascii_grid.specs.Reading.{flat, IsHeaderOf, HasReadHeights, HasAdded, IsHeaderFault, IsHeightFault, IsWordFault, IsEndFault};
 
 use crate::cell::{Meaning, cell};
 use crate::fault::{GridFault, Key};
@@ -130,8 +130,7 @@ impl GridBuilder {
         ensures none { (ps : List (Word × Word)) → IsHeaderOf self.old.header ps →
             MatchResult result
             (λ _. HasReadHeights self.new ps [])
-            (λ f. (missing_fault (flat ps) ≡ Some f)
-            ⊎ ((f ≡ GridFault.Memory) × (missing_fault (flat ps) ≡ None))) }
+            (IsHeaderFault ps) }
     {
         self.wanted = self.header.cells_wanted()?;
         self.nodata = self.header.nodata_word();
@@ -150,8 +149,7 @@ impl GridBuilder {
         ensures kept { self.new ≡ record self.old { cells = self.new.cells } }
         ensures word { (ps : List (Word × Word)) (hs : List Word) → HasReadHeights self.old ps hs →
             MatchResult result (λ _. HasReadHeights self.new ps (hs ++ word.now ∷ []))
-            (λ f. (f ≡ GridFault.Memory)
-            ⊎ (height_fault self.old.scale (flat ps) (length hs) word.now ≡ Some f)) }
+            (IsHeightFault self.old.scale ps hs word.now) }
     {
         let meaning = cell(self.scale, self.nodata.as_bytes(), self.nodata_value, word);
         self.add_cell(meaning)
@@ -167,8 +165,7 @@ impl GridBuilder {
             length word ≤ MOST_WORD_BYTES →
             meaning ≡ meaning_of self.old.scale self.old.nodata word →
             MatchResult result (λ _. HasReadHeights self.new ps (hs ++ word ∷ []))
-            (λ f. (f ≡ GridFault.Memory)
-            ⊎ (height_fault self.old.scale (flat ps) (length hs) word ≡ Some f)) }
+            (IsHeightFault self.old.scale ps hs word) }
     {
         let place = self.cells.len();
         if place >= self.wanted as usize {

@@ -1,4 +1,4 @@
-use Rattle.std.proofs.Common.{◌≡◌, ◌<◌, ◌≤◌, length, arith, ap, refl, sym, ◌∙◌, inr}
+use Rattle.std.proofs.Common.{◌≡◌, ◌<◌, ◌≤◌, length, arith, ap, refl, sym, ◌∙◌}
 use Rattle.std.proofs.lemmas.Bool.{lt-ltb, le-ltb}
 use Rattle.ascii_grid.specs.GridText.{is_cell, cells_wanted}
 use Rattle.ascii_grid.specs.Reading.{flat}
@@ -10,7 +10,7 @@ pub returns-then-place-self-clause-word : goal.returns-then-place-self-clause-wo
 returns-then-place-self-clause-word c = λ ps hs word h short e.
     let over : cells_wanted (flat ps) ≤ length hs =
     omega (arith, place_of c.args.self.now ps hs h, h.wanted, c.args.self.now.cells.ok.0) in
-    inr (rw (is_short word short, h.whole, le-ltb (length hs) (cells_wanted (flat ps)) over) refl)
+    rw (is_short word short, h.whole, le-ltb (length hs) (cells_wanted (flat ps)) over) refl
 
 pub returns-in_default-clause-word : goal.returns-in_default-clause-word
 returns-in_default-clause-word c = λ ps hs word h short e.
@@ -19,13 +19,13 @@ returns-in_default-clause-word c = λ ps hs word h short e.
     let room : c.len-place.result < cells_wanted (flat ps) = omega (arith, h.wanted) in
     let none = ap (λ n. is_cell c.args.self.now.scale n word) (sym h.nodata)
     ∙ meaning_nothing _ _ (sym e ∙ c.in_default.is) in
-    inr (rw (
+    rw (
       ← at,
       is_short word short,
       h.whole,
       lt-ltb c.len-place.result (cells_wanted (flat ps)) room,
       none,
-    ) refl)
+    ) refl
 
 pub returns-clause-word : goal.returns-clause-word
 returns-clause-word c = λ ps hs word h short e.
