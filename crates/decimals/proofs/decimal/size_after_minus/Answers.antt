@@ -5,7 +5,8 @@ use Rattle.decimals.proofs.decimal.size_after_minus.Goals as goal
 
 pub returns-then-starts_with : goal.returns-then-starts_with
 returns-then-starts_with c =
-    let is = same_text (codes "9999") (take 4 c.args.bytes.now) (sym c.if-starts_with.true ∙ c.starts_with.ensures.value) in
+    let is = same_text (codes "9999") (take 4 c.args.bytes.now)
+    (sym c.if-starts_with.true ∙ c.starts_with.ensures.value) in
     record {
       some = omega arith;
       short = omega arith;
