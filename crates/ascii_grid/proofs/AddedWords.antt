@@ -244,26 +244,24 @@ place_of j ps hs h = ap length h.cells ∙ length-map hs (spelled_cell j.scale j
 pub HasReadHeights-push : (j j' : GridBuilder) (ps : Pairs) (hs : List Word) (w : Word)
     (cell : Option ℤ) → HasReadHeights j ps hs → length w ≤ 64 →
     is_cell j.scale j.nodata w ≡ true → spelled_cell j.scale j.nodata w ≡ cell →
-    length j.cells.items < j.wanted → j' ≡ record j { cells = j'.cells } →
-    j'.cells.items ≡ j.cells.items ++ cell ∷ [] → HasReadHeights j' ps (hs ++ w ∷ [])
-HasReadHeights-push j j' ps hs w cell h short is value room kept all =
+    length j.cells.items < j.wanted → j'.cells.items ≡ j.cells.items ++ cell ∷ [] →
+    HasReadHeights (record j { cells = j'.cells }) ps (hs ++ w ∷ [])
+HasReadHeights-push j j' ps hs w cell h short is value room all =
     let none : height_fault j.scale (flat ps) (0 + length hs) w ≡ None =
     height_fault-none j.scale (flat ps) (0 + length hs) w short h.whole
     (omega (arith, place_of j ps hs h, h.wanted, room)) (subst (λ n. is_cell j.scale n w ≡ true)
     h.nodata is) in
-    let scale : j'.scale ≡ j.scale = ap (λ (k : GridBuilder). k.scale) kept in
-    let nodata : j'.nodata ≡ j.nodata = ap (λ (k : GridBuilder). k.nodata) kept in
     record {
       whole = h.whole;
-      wanted = ap (λ (k : GridBuilder). k.wanted) kept ∙ h.wanted;
-      nodata = nodata ∙ h.nodata;
-      value = ap (λ (k : GridBuilder). k.nodata_value) kept ∙ h.value ∙ rw (scale, nodata) refl;
-      faultless = rw scale (heights_fault-push j.scale (flat ps) 0 hs w
+      wanted = h.wanted;
+      nodata = h.nodata;
+      value = h.value;
+      faultless = heights_fault-push j.scale (flat ps) 0 hs w
           ∙ ap (λ o. option_or o (height_fault j.scale (flat ps) (0 + length hs) w)) h.faultless
-          ∙ none);
-      cells = all ∙ rw (scale, nodata) (ap (λ z. z ++ cell ∷ []) h.cells
+          ∙ none;
+      cells = all ∙ ap (λ z. z ++ cell ∷ []) h.cells
           ∙ ap (λ x. map (spelled_cell j.scale j.nodata) hs ++ x ∷ []) (sym value)
-          ∙ sym (map_push (spelled_cell j.scale j.nodata) hs w));
+          ∙ sym (map_push (spelled_cell j.scale j.nodata) hs w);
     }
 
 pub judged_none : (j : GridBuilder) (ws : List Word) → HasAdded j ws →

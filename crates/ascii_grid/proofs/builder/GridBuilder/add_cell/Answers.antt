@@ -33,4 +33,5 @@ returns-clause-word c = λ ps hs word h short e.
     let x = c.in-Cell.cell in
     let is = meaning_cell (is_cell j.scale j.nodata word) _ x (sym e ∙ c.in-Cell.is) in
     let room : length j.cells.items < j.wanted = omega (arith, j.cells.ok.0) in
-    HasReadHeights-push j _ ps hs word x h short is.0 is.1 room refl c.push_reserved.ensures.items
+    HasReadHeights-push j (record j { cells = c.push_reserved.new.self }) ps hs word x h short is.0 is.1
+    room c.push_reserved.ensures.items

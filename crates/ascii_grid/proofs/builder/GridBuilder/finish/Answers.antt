@@ -7,38 +7,38 @@ use Rattle.ascii_grid.proofs.builder.GridBuilder.finish.Goals as goal
 
 pub into_grid-requires-clause-whole : goal.into_grid-requires-clause-whole
 into_grid-requires-clause-whole c =
-    whole-grid c.args.self c.requires.judged.0 c.requires.judged.1 c.in-AtHeights.is
+    whole-grid _ _ c.requires.judged.1 c.in-AtHeights.is
 
 pub into_grid-requires-clause-lawful : goal.into_grid-requires-clause-lawful
 into_grid-requires-clause-lawful c =
-    lawful-grid c.args.self c.requires.judged.0 c.requires.judged.1 c.in-AtHeights.is
+    lawful-grid _ _ c.requires.judged.1 c.in-AtHeights.is
     c.requires.scale (omega (arith, c.args.self.cells.ok.0))
 
 pub returns-in-AtValue : goal.returns-in-AtValue
-returns-in-AtValue c = λ ws h. end-value c.args.self ws _ _ h c.in-AtValue.is
+returns-in-AtValue c = λ ws h. end-value _ ws _ _ h c.in-AtValue.is
 
 pub returns-in_err-begin_heights-in-AtKey : goal.returns-in_err-begin_heights-in-AtKey
 returns-in_err-begin_heights-in-AtKey c = λ ws h.
     let p = err_from_is_err_and c.from_residual.result c.from_residual.ensures.1 in
-    rw (p.1, p.2) (end-key c.args.self ws _ h c.in-AtKey.is
+    rw (p.1, p.2) (end-key _ ws _ h c.in-AtKey.is
     (c.in_err-begin_heights-in-AtKey.ensures.none h.pairs h.header))
 
 pub returns-in_ok-begin_heights-in-AtKey : goal.returns-in_ok-begin_heights-in-AtKey
 returns-in_ok-begin_heights-in-AtKey c = λ ws h.
-    end-none c.args.self c.begin_heights.new.self ws h c.in-AtKey.is
+    end-none _ _ ws h c.in-AtKey.is
     (c.in_ok-begin_heights-in-AtKey.ensures.none h.pairs h.header)
 
 pub returns-then-place-self : goal.returns-then-place-self
 returns-then-place-self c = λ ws h.
     let at : c.len-place.result ≡ length c.args.self.cells.items =
     omega (arith, c.args.self.cells.ok.0) in
-    end-heights c.args.self ws h c.in-AtHeights.is ∙ cond-true _ _ _
+    end-heights _ ws h c.in-AtHeights.is ∙ cond-true _ _ _
     (lt-ltb (length c.args.self.cells.items) c.args.self.wanted (omega (arith, at)))
     ∙ ap (λ n. Some (TooFew n)) (sym at)
 
 pub returns-else-place-self : goal.returns-else-place-self
 returns-else-place-self c = λ ws h. (
-  end-heights c.args.self ws h c.in-AtHeights.is ∙ cond-false _ _ _ (le-ltb
+  end-heights _ ws h c.in-AtHeights.is ∙ cond-false _ _ _ (le-ltb
       (length c.args.self.cells.items) c.args.self.wanted (omega (arith, c.args.self.cells.ok.0))),
-  c.into_grid.ensures ∙ spelled-grid c.args.self ws h c.in-AtHeights.is,
+  c.into_grid.ensures ∙ spelled-grid _ ws h c.in-AtHeights.is,
 )
