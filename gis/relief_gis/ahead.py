@@ -4,7 +4,7 @@ from __future__ import annotations
 from concurrent.futures import Future, ThreadPoolExecutor
 from dataclasses import replace
 from types import TracebackType
-from typing import TYPE_CHECKING, Callable, List, Optional, Type
+from typing import TYPE_CHECKING, Callable, List, Optional, Tuple, Type
 
 from .errors import Cancelled, GisError
 from .program import Progress
@@ -13,12 +13,14 @@ if TYPE_CHECKING:
     from .job import Caller
 
 Say = Callable[[str], None]
+# What a check says, and its error or None.
+Said = Tuple[List[str], Optional[BaseException]]
 
 
 class Ahead:
-    """A run beside a check in a thread: what the check says and refuses comes first, in place of what the run does.
+    """A run beside checks in a thread: what they say and refuse comes first, in place of what the run does.
 
-    The program ends as soon as the check has refused.
+    The program ends as soon as a check has refused.
 
     Args:
         check: is called once, with what takes its lines.
@@ -27,12 +29,16 @@ class Ahead:
 
     def __init__(self, check: Callable[[Say], object], caller: Caller) -> None:
         self._caller = caller
-        self._first: List[str] = []
+        self._checks: "List[Future[Said]]" = []
         self._later: List[str] = []
         self._is_told = False
         self._pool = ThreadPoolExecutor(1)
+        self.then(check)
+
+    def then(self, check: Callable[[Say], object]) -> None:
+        """Has another check run when those before have ended; what it says counts where none of them refuses."""
         # The task keeps what the check was, a raster maybe, no longer than it runs.
-        self._check: "Future[None]" = self._pool.submit(_run, check, self._first.append)
+        self._checks.append(self._pool.submit(_lines_of, check))
 
     @property
     def caller(self) -> Caller:
@@ -53,20 +59,21 @@ class Ahead:
 
     def _is_cancelled(self) -> bool:
         """Whether the caller asks for the end; raises what the check refused."""
-        if self._check.done():
+        if all(check.done() for check in self._checks):
             self.finish()
         return self._caller.is_cancelled is not None and self._caller.is_cancelled()
 
     def finish(self) -> None:
-        """Waits for the check, and says its lines and those that were held back, or raises its error."""
+        """Waits for the checks, and says their lines and those that were held back, or raises the first error."""
         if self._is_told:
             return
-        error = self._check.exception()
+        found = [check.result() for check in self._checks]
         self._is_told = True
-        for line in self._first:
-            self._caller.say(line)
-        if error is not None:
-            raise error
+        for lines, error in found:
+            for line in lines:
+                self._caller.say(line)
+            if error is not None:
+                raise error
         for line in self._later:
             self._caller.say(line)
 
@@ -81,5 +88,11 @@ class Ahead:
             self.finish()
 
 
-def _run(check: Callable[[Say], object], say: Say) -> None:
-    check(say)
+def _lines_of(check: Callable[[Say], object]) -> Said:
+    """The lines that a check says, and its error."""
+    lines: List[str] = []
+    try:
+        check(lines.append)
+    except BaseException as error:
+        return lines, error
+    return lines, None

@@ -72,7 +72,7 @@ def _catchment(job: Job, raster: Raster, window: Window, cell: Tuple[int, int], 
     terrain = raster.read(window)
     if job.voids == "fill":
         terrain = checked(terrain, job, lambda line: None)
-    heights = heights_in_units(terrain, job.decimals, lambda line: None)
+    heights = heights_in_units(terrain, job.decimals)
     places = [Place("the place", cell[0] - window[1], cell[1] - window[0])]
     if job.snap is not None:
         counts = caller.make(Request("accumulate", workers=job.workers, tile=job.tile), heights, program)

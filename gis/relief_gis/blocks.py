@@ -4,7 +4,7 @@ from __future__ import annotations
 import os
 from collections import deque
 from concurrent.futures import Future, ThreadPoolExecutor
-from typing import Any, Callable, Deque, Iterable, Iterator, List, Optional, Tuple, TypeVar
+from typing import Any, Callable, Deque, Iterable, Iterator, List, Optional, Tuple, Type, TypeVar
 
 import numpy as np
 
@@ -14,6 +14,8 @@ Result = TypeVar("Result")
 # What a block and its intermediate arrays need stays in a processor's cache.
 CELLS = 1 << 15
 MOST_THREADS = 8
+# How many calls of `Behind` wait at most.
+MOST_BEHIND = 2
 THREADS = min(len(os.sched_getaffinity(0)) if hasattr(os, "sched_getaffinity") else os.cpu_count() or 1, MOST_THREADS)
 
 
@@ -34,6 +36,32 @@ def in_order(work: Callable[[Item], Result], items: Iterable[Item]) -> Iterator[
                 yield waiting.popleft().result()
         while waiting:
             yield waiting.popleft().result()
+
+
+class Behind:
+    """Calls of a function in another thread, in their order, of which few wait at a time.
+
+    At the end of a `with` block all are done; an error of one of them is raised at a later call, or there.
+    """
+
+    def __init__(self, work: Callable[..., object]) -> None:
+        self._work = work
+        self._pool = ThreadPoolExecutor(1)
+        self._waiting: Deque["Future[object]"] = deque()
+
+    def __call__(self, *words: Any) -> None:
+        self._waiting.append(self._pool.submit(self._work, *words))
+        if len(self._waiting) > MOST_BEHIND:
+            self._waiting.popleft().result()
+
+    def __enter__(self) -> Behind:
+        return self
+
+    def __exit__(self, kind: Optional[Type[BaseException]], *_: object) -> None:
+        self._pool.shutdown()
+        if kind is None:
+            for call in self._waiting:
+                call.result()
 
 
 def for_rows(work: Callable[[slice], Result], shape: Tuple[int, ...]) -> List[Result]:
@@ -63,11 +91,12 @@ def rows_of(values: np.ndarray, valid: np.ndarray, rows: slice, rest: Any = 0) -
 
 
 def data_ends(values: np.ndarray, valid: np.ndarray) -> Optional[Tuple[Any, Any]]:
-    """The least and the greatest of the values where there is data; None: there is none."""
+    """The least and the greatest of the values where there is data, NaN where one is NaN; None: there is none."""
 
     def ends(rows: slice) -> Optional[Tuple[Any, Any]]:
         data = values[rows] if valid[rows].all() else values[rows][valid[rows]]
         return (data.min(), data.max()) if data.size else None
 
     found = [pair for pair in for_rows(ends, values.shape) if pair is not None]
-    return (min(low for low, _ in found), max(high for _, high in found)) if found else None
+    # An array's least and greatest are NaN where one of them is.
+    return (np.array([low for low, _ in found]).min(), np.array([high for _, high in found]).max()) if found else None

@@ -8,9 +8,8 @@ import signal
 import sys
 from dataclasses import replace
 from decimal import Decimal
-from typing import Any, Callable, List, Mapping, Optional, Sequence, Tuple
+from typing import TYPE_CHECKING, Any, Callable, List, Mapping, Optional, Sequence, Tuple
 
-from .comparison import Comparison, run_comparison
 from .console import NAME, Bar, open_streams, say, say_if_heard, write
 from .curvature import REFRACTION
 from .edges import UNCERTAIN_MAPS
@@ -18,10 +17,13 @@ from .errors import GisError, UsageError
 from .job import Caller, Job, run_all
 from .parser import TOGETHER, new_parser
 from .points import Layer, Point, point_of_word
-from .profiles import ProfileJob, run_profile
 from .program import Program
-from .typed import typed_command
 from .units import LENGTHS, decimal_of, measure_of
+
+# Modules that few runs take are imported where they are needed.
+if TYPE_CHECKING:
+    from .comparison import Comparison
+    from .profiles import ProfileJob
 
 NEGATIVE = re.compile(r"-[\d.]")
 
@@ -60,6 +62,8 @@ OWN = {"streams": ("threshold", "lines"), "basins": ("least",), "catchments": ("
 
 def _jobs(words: Sequence[str], asked: argparse.Namespace) -> List[Job]:
     """The jobs of several maps, each with the command that makes it alone."""
+    from .typed import typed_command
+
     targets = {name: getattr(asked, f"{name}_target") for name in TOGETHER}
     targets = {name: target for name, target in targets.items() if target is not None}
     _check_together(asked, targets)
@@ -98,11 +102,15 @@ def _around(asked: argparse.Namespace) -> Optional[Point]:
 
 
 def _comparison(words: Sequence[str], asked: argparse.Namespace) -> Comparison:
+    from .comparison import Comparison
+
     job = _job(words, argparse.Namespace(**{**vars(asked), "map": asked.compared, "target": ""}))
     return Comparison(job, asked.other, asked.other_band, asked.codes, asked.out)
 
 
 def _profile_job(asked: argparse.Namespace) -> ProfileJob:
+    from .profiles import ProfileJob
+
     return ProfileJob(
         source=asked.source, start=point_of_word(asked.start, "--from"), end=point_of_word(asked.end, "--to"),
         eye=decimal_of(asked.eye, "the eye"), above=decimal_of(asked.above, "the target"), band=asked.band,
@@ -181,10 +189,14 @@ def _joined(words: Sequence[str]) -> List[str]:
 
 def _run(words: Sequence[str], asked: argparse.Namespace) -> None:
     if asked.map == "profile":
+        from .profiles import run_profile
+
         run_profile(_profile_job(asked), say, _tell)
         return
     program = Program.find(asked.relief)
     if asked.map == "compare":
+        from .comparison import run_comparison
+
         comparison = _comparison(words, asked)
         return _with_progress(asked, program, lambda caller: run_comparison(comparison, program, caller, _tell))
     jobs = _jobs(words, asked) if asked.map == "maps" else [_job(words, asked)]

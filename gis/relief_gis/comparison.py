@@ -12,7 +12,7 @@ from .differences import Pair, differences_of
 from .errors import InputError
 from .frame import Frame
 from .geotiff import write_geotiff
-from .lands import checked, heights_in_units
+from .lands import checked, heights_in_units, tell_rounding
 from .making import NODATA_CODE, Request
 from .program import Program
 from .raster import Raster, Terrain, open_raster
@@ -65,7 +65,8 @@ def run_comparison(asked: Comparison, program: Program, caller: Caller, tell: Sa
     check_targets([(asked.out, RASTER)], {job.source: "the raster", asked.other: "the other map"})
     raster = open_raster(job.source, job.band, job.window, job.bounds, job.projection, job.needs_projection)
     terrain = checked(raster.read(), job, caller.say)
-    heights = heights_in_units(terrain, job.decimals, caller.say)
+    heights = heights_in_units(terrain, job.decimals)
+    tell_rounding(heights.rounding, heights.decimals, caller.say)
     other = _other(asked, terrain.frame, caller.say)
     requests, _ = requests_of(job, terrain.frame, heights, program, caller)
     ours = caller.make(requests[0], heights, program)

@@ -1,7 +1,6 @@
 """The earth's curvature and the refraction of light, by which ground far from an observer lies lower."""
 from __future__ import annotations
 
-from dataclasses import replace
 from decimal import Decimal
 from fractions import Fraction
 from typing import TYPE_CHECKING, Tuple
@@ -57,14 +56,14 @@ def lowered(heights: Heights, cell: Tuple[int, int], drop: Fraction) -> Heights:
         cell: row and column of the observer, also outside the grid.
         drop: that of `drop_of_a_cell`.
     """
-    rows, cols = heights.units.shape
+    rows, cols = heights.shape
     across = (np.arange(cols) - cell[1]) ** 2
     furthest = max(cell[0], rows - 1 - cell[0]) ** 2 + int(across.max())
-    most = int(np.abs([heights.units.min(), heights.units.max()]).max()) + float(drop) * furthest + 1
+    most = max(map(abs, heights.ends)) + float(drop) * furthest + 1
     dtype = unit_type(most)
 
     def lower(block: slice) -> np.ndarray:
         down = (np.arange(block.start, block.stop) - cell[0]) ** 2
-        return heights.units[block].astype(dtype) - np.rint((down[:, None] + across) * float(drop)).astype(dtype)
+        return heights.rows(block).astype(dtype) - np.rint((down[:, None] + across) * float(drop)).astype(dtype)
 
-    return replace(heights, units=array_of(lower, heights.units.shape, dtype))
+    return Heights.of_units(array_of(lower, heights.shape, dtype), heights.valid, heights.decimals)

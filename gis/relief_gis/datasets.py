@@ -5,7 +5,6 @@ import os
 import re
 import stat
 from typing import Dict, Iterator, List, Sequence, Tuple
-from xml.etree import ElementTree
 
 from osgeo import gdal
 
@@ -91,6 +90,9 @@ def _named_by_virtual(name: str) -> Iterator[str]:
     text = name if _is_text(name) else _text_of_virtual(name)
     if not VIRTUAL.match(text):
         return
+    # Few rasters are virtual.
+    from xml.etree import ElementTree
+
     try:
         root = ElementTree.fromstring(text)
     except ElementTree.ParseError:

@@ -1,8 +1,8 @@
 """Maps as GeoTIFFs: compressed, tiled, written while the program is at work."""
 from __future__ import annotations
 
+import itertools
 import os
-import uuid
 from typing import Dict, Mapping, Optional, Sequence, Tuple
 
 import numpy as np
@@ -20,6 +20,13 @@ LAYOUT = ["TILED=YES", "COMPRESS=DEFLATE", "ZLEVEL=1", "BIGTIFF=IF_SAFER"]
 PIECE = 1 << 20
 
 Color = Tuple[int, int, int, int]
+NUMBERS = itertools.count()
+
+
+def memory_name(ending: str) -> str:
+    """A name of GDAL's memory, which is that of this process, that no other file has."""
+    return f"/vsimem/relief_gis.{id(NUMBERS):x}.{next(NUMBERS)}.{ending}"
+
 
 
 class GeoTiff:
@@ -39,7 +46,7 @@ class GeoTiff:
 
     def __init__(self, dtype: np.dtype, frame: Frame, nodata: Optional[float], unit: str, descriptions: Sequence[str],
                  metadata: Mapping[str, str], colors: Optional[Mapping[int, Color]] = None) -> None:
-        self.memory = f"/vsimem/{uuid.uuid4().hex}.tif"
+        self.memory = memory_name("tif")
         options = [*LAYOUT, f"PREDICTOR={_predictor(dtype)}", "NUM_THREADS=ALL_CPUS"]
         with raised_errors():
             driver = gdal.GetDriverByName("GTiff")

@@ -6,12 +6,13 @@ written or read. All is computed for the cells of a block at once.
 from __future__ import annotations
 
 from dataclasses import dataclass
-from typing import IO, Callable, Iterable, Iterator, List, Optional, Sequence, Tuple, cast
+from typing import IO, Callable, Iterator, List, Optional, Sequence, Tuple, cast
 
 import numpy as np
 
-from .blocks import in_order, row_blocks, rows_of
+from .blocks import Behind, in_order, row_blocks
 from .errors import InputError
+from .heights import Heights
 
 HEADER_LINES = 6
 ZERO, MINUS, SPACE, LINE_FEED = b"0- \n"
@@ -28,37 +29,40 @@ TakeRows = Callable[[np.ndarray, int], None]
 NARROW_DIGITS = 9
 
 
-def _table(words: Iterable[bytes]) -> np.ndarray:
-    """Words of four bytes as numbers of 32 bits."""
-    return np.frombuffer(b"".join(words), np.uint32)
+def _table(count: int, first: bytes, last: bytes) -> np.ndarray:
+    """Words of four bytes as numbers of 32 bits: a first letter or none, so many numbers from 0, a last letter or none."""
+    width = 4 - len(first) - len(last)
+    words = np.empty((count, 4), np.uint8)
+    words[:, :len(first)], words[:, 4 - len(last):] = list(first), list(last)
+    for place in range(width):
+        words[:, len(first) + place] = np.arange(count) // 10**(width - 1 - place) % 10 + ZERO
+    return words.view(np.uint32).ravel()
 
 
-FOUR_DIGITS = _table(b"%04d" % number for number in range(10_000))
+FOUR_DIGITS = _table(10_000, b"", b"")
 # The last digits of a word, and its first ones with a sign.
-THREE_DIGITS = _table(b"%03d " % number for number in range(1_000))
-SIGNED_DIGITS = _table(b"%c%03d" % (sign, number) for sign in b"0-" for number in range(1_000))
+THREE_DIGITS = _table(1_000, b"", b" ")
+SIGNED_DIGITS = np.concatenate([_table(1_000, sign, b"") for sign in (b"0", b"-")])
 
 
-def write_grid(units: np.ndarray, valid: Optional[np.ndarray], file: IO[bytes]) -> None:
+def write_grid(heights: Heights, file: IO[bytes]) -> None:
     """Writes heights as a grid text, with cells of size 1 at the origin.
 
     Args:
-        units: (rows, cols) integers, heights in units.
-        valid: (rows, cols) bool, where there is data; None: everywhere.
         file: a binary file, open for writing.
     """
-    rows, cols = units.shape
-    low, high = int(units.min()), int(units.max())
+    rows, cols = heights.shape
+    low, high = heights.ends
     nodata = high + 1
     file.write(f"ncols {cols}\nnrows {rows}\nxllcorner 0\nyllcorner 0\ncellsize 1\nNODATA_value {nodata}\n".encode())
     digits = len(str(max(abs(low), abs(nodata))))
     is_signed = low < 0
 
     def text_of(block: slice) -> np.ndarray:
-        part = units[block] if valid is None else rows_of(units, valid, block, nodata)
-        return _words(part, digits, is_signed)
+        units, valid = heights.rows(block), heights.valid[block]
+        return _words(units if valid.all() else np.where(valid, units, heights.dtype.type(nodata)), digits, is_signed)
 
-    for text in in_order(text_of, row_blocks(units.shape)):
+    for text in in_order(text_of, row_blocks(heights.shape)):
         file.write(text.data)
 
 
@@ -96,7 +100,7 @@ def read_grid(file: IO[bytes], dtype: "np.typing.DTypeLike" = np.int64, wanted: 
         file: a binary file at its start.
         dtype: an integer type that has all numbers.
         wanted: the rows and columns that the grid has to have.
-        on_rows: called with strips of STRIP rows, and the row of the first one, as soon as they are read.
+        on_rows: called in another thread with strips of STRIP rows, and the row of the first one, as they are read.
         keeps: whether the grid is kept.
 
     Returns:
@@ -109,6 +113,20 @@ def read_grid(file: IO[bytes], dtype: "np.typing.DTypeLike" = np.int64, wanted: 
     if wanted is not None and shape != wanted:
         raise InputError(f"relief wrote {shape} rows and columns of {wanted}")
     whole = np.empty((rows if keeps else 0, cols), dtype)
+    if on_rows is None:
+        count = _put_numbers(file, rows, cols, whole if keeps else None, dtype, None)
+    else:
+        # The next strip is read meanwhile.
+        with Behind(on_rows) as put:
+            count = _put_numbers(file, rows, cols, whole if keeps else None, dtype, put)
+    if count != rows * cols:
+        raise InputError(f"relief wrote {count} values of {rows * cols}")
+    return whole
+
+
+def _put_numbers(file: IO[bytes], rows: int, cols: int, whole: Optional[np.ndarray], dtype: "np.typing.DTypeLike",
+                 on_rows: Optional[TakeRows]) -> int:
+    """Puts the numbers of a text into a grid, if there is one, and gives its strips on; how many there are."""
     strip, filled, count = np.empty((0, cols), dtype), 0, 0
     for part in in_order(_numbers, _pieces(file)):
         count += part.size
@@ -116,16 +134,14 @@ def read_grid(file: IO[bytes], dtype: "np.typing.DTypeLike" = np.int64, wanted: 
             first = filled // (STRIP * cols) * STRIP
             if filled == first * cols:
                 last = min(first + STRIP, rows)
-                strip = whole[first:last] if keeps else np.empty((last - first, cols), dtype)
+                strip = np.empty((last - first, cols), dtype) if whole is None else whole[first:last]
             room = strip.reshape(-1)[filled - first * cols:]
             room[:part.size] = part[:room.size]
             filled += min(part.size, room.size)
             if on_rows is not None and part.size >= room.size:
                 on_rows(strip, first)
             part = part[room.size:]
-    if count != rows * cols:
-        raise InputError(f"relief wrote {count} values of {rows * cols}")
-    return whole
+    return count
 
 
 @dataclass(frozen=True)

@@ -2,14 +2,13 @@
 from __future__ import annotations
 
 import math
-from dataclasses import dataclass
 from decimal import Decimal
 from fractions import Fraction
-from typing import Tuple, Union
+from typing import Callable, List, Optional, Tuple, Union
 
 import numpy as np
 
-from .blocks import array_of, data_ends, for_rows, rows_of
+from .blocks import array_of, data_ends, for_rows, row_blocks, rows_of
 from .errors import InputError
 from .rounding import round_floats, round_integers
 from .units import MOST_DECIMALS, MOST_HEIGHT_UNITS, decimals_of
@@ -18,23 +17,85 @@ from .units import MOST_DECIMALS, MOST_HEIGHT_UNITS, decimals_of
 MOST_SIDE = 4096
 # Differences of units below it have 32 bits.
 MOST_NARROW = 1 << 30
+# Writes the units of some rows; how far these are from what was read at most, in units, and whether all are exact.
+Convert = Callable[[slice, np.ndarray], Tuple[Union[float, Decimal], bool]]
 
 
-@dataclass(frozen=True)
 class Heights:
-    """Heights in units of 10^-decimals.
+    """Heights in units of 10^-decimals, of which each block of rows is worked out when it is first asked for.
 
-    Attributes:
-        units: (rows, cols) int64, or int32 where all are below 2^30; any number where there is no data.
+    So the program reads the first rows while the last ones are rounded.
+
+    Args:
         valid: (rows, cols) bool, where there is data.
         decimals: 0 to 6.
-        rounding: the greatest difference of a height from what was read; 0 where each was exact to its type.
+        ends: the least and the greatest height in units; 0 and 0 where there is no data.
+        dtype: the type of units, int64, or int32 where all are below 2^30.
+        convert: writes the units of the rows of a block.
     """
 
-    units: np.ndarray
-    valid: np.ndarray
-    decimals: int
-    rounding: Decimal = Decimal(0)
+    def __init__(self, valid: np.ndarray, decimals: int, ends: Tuple[int, int], dtype: np.dtype,
+                 convert: Convert) -> None:
+        self.valid, self.decimals, self.ends = valid, decimals, ends
+        self._units = np.empty(valid.shape, dtype)
+        self._blocks = row_blocks(valid.shape)
+        self._is_known = bytearray(len(self._blocks))
+        self._convert: Optional[Convert] = convert
+        self._roundings: List[Tuple[Union[float, Decimal], bool]] = []
+
+    @classmethod
+    def of_units(cls, units: np.ndarray, valid: np.ndarray, decimals: int, rounding: Decimal = Decimal(0)) -> Heights:
+        """Heights of which all units are known, and by how many units they were rounded at most."""
+        low, high = data_ends(units, valid) or (0, 0)
+        known = cls(valid, decimals, (int(low), int(high)), units.dtype, lambda rows, out: (0, True))
+        known._units, known._convert, known._roundings = units, None, [(rounding, rounding == 0)]
+        return known
+
+    @property
+    def shape(self) -> Tuple[int, ...]:
+        """Rows and columns."""
+        return self.valid.shape
+
+    @property
+    def dtype(self) -> np.dtype:
+        """The type of units."""
+        return self._units.dtype
+
+    @property
+    def units(self) -> np.ndarray:
+        """(rows, cols) integers; any number where there is no data."""
+        if self._convert is not None:
+            for_rows(self._work_out, self.shape)
+        return self._units
+
+    @property
+    def rounding(self) -> Decimal:
+        """The greatest difference of a height from what was read; 0 where each was exact to its type."""
+        self._work_out(slice(0, self.shape[0]))
+        furthest, is_exact = zip(*self._roundings)
+        return Decimal(0) if all(is_exact) else Decimal(max(furthest)).scaleb(-self.decimals)
+
+    def rows(self, rows: slice) -> np.ndarray:
+        """Rows of `units`."""
+        self._work_out(rows)
+        return self._units[rows]
+
+    def part(self, cut: Tuple[slice, slice]) -> Heights:
+        """The heights of some rows and columns."""
+        return Heights.of_units(self.rows(cut[0])[:, cut[1]], self.valid[cut], self.decimals)
+
+    def _work_out(self, rows: slice) -> None:
+        """Works out the units of rows. Blocks that two threads ask for may be worked out twice, to the same units."""
+        step = self._blocks[0].stop
+        # From the last one on: the program takes them from the first one on.
+        for at in reversed(range(rows.start // step, min(-(-rows.stop // step), len(self._blocks)))):
+            convert, block = self._convert, self._blocks[at]
+            if convert is not None and not self._is_known[at]:
+                self._roundings.append(convert(block, self._units[block]))
+                self._is_known[at] = True
+        if all(self._is_known):
+            # It keeps what was read.
+            self._convert = None
 
     def values(self, units: np.ndarray, dtype: np.dtype) -> np.ndarray:
         """Units as heights of a type: (rows, cols)."""
@@ -79,12 +140,17 @@ def unit_type(most: Union[float, Fraction]) -> np.dtype:
 
 
 def _from_integers(values: np.ndarray, valid: np.ndarray, decimals: int) -> Heights:
-    most = max(map(abs, _ends(values, valid))) * 10**decimals
+    factor = 10**decimals
+    low, high = _ends(values, valid)
+    most = max(abs(low), abs(high)) * factor
     _check_size(most)
     dtype = unit_type(most)
-    units = array_of(lambda rows: np.multiply(rows_of(values, valid, rows), 10**decimals, dtype=dtype,
-                                              casting="unsafe"), values.shape, dtype)
-    return Heights(units, valid, decimals)
+
+    def convert(rows: slice, units: np.ndarray) -> Tuple[float, bool]:
+        np.multiply(rows_of(values, valid, rows), factor, out=units, dtype=dtype, casting="unsafe")
+        return 0.0, True
+
+    return Heights(valid, decimals, (low * factor, high * factor), dtype, convert)
 
 
 def _ends(values: np.ndarray, valid: np.ndarray) -> Tuple[int, int]:
@@ -95,25 +161,26 @@ def _ends(values: np.ndarray, valid: np.ndarray) -> Tuple[int, int]:
 
 def _from_floats(values: np.ndarray, valid: np.ndarray, decimals: int) -> Heights:
     factor = 10**decimals
-    if any(for_rows(lambda rows: np.any(np.isnan(values[rows]) & valid[rows]), values.shape)):
-        valid = valid & ~np.isnan(values)
     low, high = data_ends(values, valid) or (0.0, 0.0)
+    if np.isnan(low):
+        # So is the least one where one is.
+        valid = valid & ~np.isnan(values)
+        low, high = data_ends(values, valid) or (0.0, 0.0)
     most = float(max(abs(low), abs(high)))
     if math.isinf(most):
         raise InputError("a height is infinite")
     _check_size(most * factor)
-    units = np.empty(values.shape, unit_type(most * factor))
+    dtype = unit_type(most * factor)
 
-    def convert(rows: slice) -> Tuple[float, bool]:
-        """Rounds rows; how far they are from their units at most, and whether their type has no floats nearer to it."""
+    def convert(rows: slice, units: np.ndarray) -> Tuple[float, bool]:
         part = rows_of(values, valid, rows)
         found, rest = round_floats(part, factor)
-        units[rows] = found
-        return float(np.abs(rest).max()), np.array_equal((found / factor).astype(values.dtype), part)
+        units[...] = found
+        # A float32 that is the nearest to a decimal stands for it, and nothing is rounded.
+        return float(max(rest.max(), -rest.min())), np.array_equal((found / factor).astype(values.dtype), part)
 
-    furthest, is_exact = zip(*for_rows(convert, values.shape))
-    # A float32 that is the nearest to a decimal stands for it, and nothing is rounded.
-    return Heights(units, valid, decimals, Decimal(0) if all(is_exact) else Decimal(max(furthest)).scaleb(-decimals))
+    ends, _ = round_floats(np.array([low, high], values.dtype), factor)
+    return Heights(valid, decimals, (int(ends[0]), int(ends[1])), dtype, convert)
 
 
 def _check_size(most: Union[float, Fraction]) -> None:
@@ -146,7 +213,7 @@ def scaled_integers(values: np.ndarray, valid: np.ndarray, scale: float, offset:
     known = np.where(valid, values, values.dtype.type(low))
     units, furthest = round_integers(known, factor, shift, unit_type(most + 1))
     rounding = Decimal(furthest.numerator) / Decimal(furthest.denominator)
-    return Heights(units, valid, decimals, rounding.scaleb(-decimals))
+    return Heights.of_units(units, valid, decimals, rounding)
 
 
 def default_decimals(dtype: np.dtype) -> int:

@@ -16,7 +16,7 @@ from .curvature import REFRACTION
 from .errors import Cancelled, UsageError
 from .frame import Bounds, Window
 from .heights import Heights
-from .lands import checked, heights_in_units, tell_units
+from .lands import checked, heights_in_units, tell_rounding, tell_units
 from .making import Request, TakeRows, Use, make, make_together
 from .measures import in_units_of
 from .points import Layer, Point, Source
@@ -26,7 +26,6 @@ from .requests import check_count
 from .targets import RASTER, TABLE, VECTOR, check_targets
 from .together import chief_of, run_together, sources_of
 from .units import Measure, Reach
-from .views import is_by_parts, run_by_parts
 
 VOIDS = ("refuse", "drain", "fill")
 
@@ -150,8 +149,12 @@ def run_all(jobs: Sequence[Job], program: Program, caller: Caller) -> None:
     raster = open_raster(job.source, job.band, job.window, job.bounds, job.projection, job.needs_projection)
     jobs = [in_units_of(raster.frame, it) for it in jobs]
     job = chief_of(jobs)
-    if is_by_parts(job, raster):
-        return run_by_parts(job, raster, program, caller)
+    if job.map == "view":
+        # Other maps have no need of these modules.
+        from .views import is_by_parts, run_by_parts
+
+        if is_by_parts(job, raster):
+            return run_by_parts(job, raster, program, caller)
     if job.around is not None:
         raster = raster_around(job, raster, job.around, program, caller)
     terrain = raster.read()
@@ -163,14 +166,20 @@ def run_all(jobs: Sequence[Job], program: Program, caller: Caller) -> None:
         terrain, check = checked(terrain, job, caller.say), _find_nothing
     with Ahead(check, caller) as ahead:
         del check
-        heights = heights_in_units(terrain, job.decimals, ahead.caller.say)
-        # They need as much memory as the map, and the check drops them as soon as it is done.
+        heights = heights_in_units(terrain, job.decimals)
+        ahead.then(partial(_tell_rounding, heights))
+        # They need as much memory as the map, and are dropped as soon as they are checked and rounded.
         terrain = replace(terrain, values=np.empty((0, 0), terrain.values.dtype))
         run_together(terrain, heights, jobs, program, ahead)
 
 
 def _find_nothing(say: Say) -> None:
     """The check of a terrain that was checked before."""
+
+
+def _tell_rounding(heights: Heights, say: Say) -> None:
+    """Says by how much heights were rounded, as soon as all are."""
+    tell_rounding(heights.rounding, heights.decimals, say)
 
 
 def _check_jobs(jobs: Sequence[Job], program: Program) -> None:

@@ -78,8 +78,8 @@ def _filled(terrain: Terrain, holes: Holes, found: str, say: Say) -> Terrain:
     return replace(terrain, values=values, valid=terrain.valid | holes.cells)
 
 
-def heights_in_units(terrain: Terrain, decimals: Optional[int], say: Say) -> Heights:
-    """The heights of a terrain; says by how much they were rounded.
+def heights_in_units(terrain: Terrain, decimals: Optional[int]) -> Heights:
+    """The heights of a terrain.
 
     Args:
         decimals: that are kept; None: by the raster's type.
@@ -90,12 +90,9 @@ def heights_in_units(terrain: Terrain, decimals: Optional[int], say: Say) -> Hei
     if not terrain.valid.any():
         raise InputError(f"{terrain.source.path} has no data")
     if (terrain.scale, terrain.offset) != (1.0, 0.0):
-        heights = _scaled(terrain, decimals)
-    else:
-        kept = default_decimals(terrain.values.dtype) if decimals is None else decimals
-        heights = heights_of(terrain.values, terrain.valid, kept)
-    tell_rounding(heights.rounding, heights.decimals, say)
-    return heights
+        return _scaled(terrain, decimals)
+    kept = default_decimals(terrain.values.dtype) if decimals is None else decimals
+    return heights_of(terrain.values, terrain.valid, kept)
 
 
 def tell_rounding(rounding: Decimal, decimals: int, say: Say) -> None:

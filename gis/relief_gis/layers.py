@@ -1,7 +1,6 @@
 """Features as a GeoPackage of one layer."""
 from __future__ import annotations
 
-import uuid
 from typing import Any, Iterable, Sequence, Tuple
 
 from osgeo import gdal, ogr
@@ -9,7 +8,7 @@ from osgeo import gdal, ogr
 from .errors import DeviceError
 from .frame import Frame
 from .gdal_errors import raised_errors
-from .geotiff import copy_to_disk
+from .geotiff import copy_to_disk, memory_name
 
 # The types of OGR for fields.
 FIELD_TYPES = {int: ogr.OFTInteger64, float: ogr.OFTReal, str: ogr.OFTString}
@@ -33,7 +32,7 @@ def write_layer(path: str, name: str, kind: int, fields: Sequence[Field], featur
         DeviceError, OSError: the file could not be written.
     """
     # As a map: a disk that is full is one error, and not one of a destructor.
-    memory = f"/vsimem/{uuid.uuid4().hex}.gpkg"
+    memory = memory_name("gpkg")
     try:
         with raised_errors():
             _write(memory, name, kind, fields, features, frame)

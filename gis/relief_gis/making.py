@@ -106,16 +106,15 @@ def make(request: Request, heights: Heights, program: Program, on_progress: Opti
     """
     if request.map == "catchments":
         program.require("catchments")
-    part = _reach(request, heights.units.shape)
-    if part is not None and heights.units[part].size < heights.units.size:
+    part = _reach(request, heights.shape)
+    if part is not None and heights.valid[part].size < heights.valid.size:
         # Lines of sight lie between their ends, and farther off nothing is seen.
         places = [replace(place, row=place.row - part[0].start, col=place.col - part[1].start)
                   for place in request.places]
         found = array_of(lambda rows: np.where(heights.valid[rows], np.int32(0), np.int32(NODATA_COUNT)),
-                         heights.units.shape, np.int32)
-        found[part] = make(replace(request, places=places),
-                           replace(heights, units=heights.units[part], valid=heights.valid[part]), program, on_progress,
-                           is_cancelled, by_percent)
+                         heights.shape, np.int32)
+        found[part] = make(replace(request, places=places), heights.part(part), program, on_progress, is_cancelled,
+                           by_percent)
         if on_rows is not None:
             on_rows(found, 0)
         return found if keeps else found[:0]
@@ -142,11 +141,10 @@ def make_together(request: Request, heights: Heights, program: Program, uses: Se
     """
     names, sinks = ([place.name for place in places] for places in (request.places, request.sinks))
     codes = [_Codes(heights.valid, use.on_rows) if use.map == "flow" and use.keeps else None for use in uses]
-    wanted = [Wanted(heights.units.dtype if use.map == "fill" else np.dtype(np.int32),
+    wanted = [Wanted(heights.dtype if use.map == "fill" else np.dtype(np.int32),
                      use.on_rows if kept is None else kept.put, use.keeps and kept is None)
               for use, kept in zip(uses, codes)]
-    found = program.run_together(request.words(), heights.units, heights.valid, wanted, names, sinks, on_progress,
-                                 is_cancelled, by_percent)
+    found = program.run_together(request.words(), heights, wanted, names, sinks, on_progress, is_cancelled, by_percent)
     return [array if kept is None else kept.kept for array, kept in zip(found, codes)]
 
 
@@ -188,9 +186,11 @@ def edge_cells(valid: np.ndarray) -> np.ndarray:
 
 def lower_neighbour(heights: Heights, place: Place) -> Optional[Tuple[int, int]]:
     """The lowest cell beside a sink that lies below it; None: there is none, and the sink keeps its water."""
-    best, found = int(heights.units[place.row, place.col]), None
-    for row in range(max(place.row - 1, 0), min(place.row + 2, heights.units.shape[0])):
-        for col in range(max(place.col - 1, 0), min(place.col + 2, heights.units.shape[1])):
-            if heights.valid[row, col] and heights.units[row, col] < best:
-                best, found = int(heights.units[row, col]), (row, col)
+    top, left = max(place.row - 1, 0), max(place.col - 1, 0)
+    around = slice(top, place.row + 2), slice(left, place.col + 2)
+    units, valid = heights.rows(around[0])[:, around[1]], heights.valid[around]
+    best, found = int(units[place.row - top, place.col - left]), None
+    for row, col in np.argwhere(valid & (units < best)).tolist():
+        if units[row, col] < best:
+            best, found = int(units[row, col]), (top + row, left + col)
     return found

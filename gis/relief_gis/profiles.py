@@ -13,7 +13,7 @@ from .doubts import doubtful_heights
 from .errors import InputError
 from .frame import Frame
 from .heights import MOST_SIDE
-from .lands import heights_in_units, tell_unit_of_heights, tell_unit_of_lengths
+from .lands import heights_in_units, tell_rounding, tell_unit_of_heights, tell_unit_of_lengths
 from .picture import draw_profile
 from .points import Point, points_on_data
 from .raster import Raster, Terrain, open_raster
@@ -71,7 +71,8 @@ def run_profile(job: ProfileJob, say: Say, tell: Say) -> Profile:
     terrain, start, end = _ground_between(job, raster)
     for line in doubtful_heights(terrain):
         say(line)
-    heights = heights_in_units(terrain, job.decimals, say)
+    heights = heights_in_units(terrain, job.decimals)
+    tell_rounding(heights.rounding, heights.decimals, say)
     if job.curvature:
         heights = lowered(heights, start, drop_of_a_cell(terrain.frame, terrain.unit, heights.decimals, job.refraction))
     eye, above = (whole_units(height, heights.decimals, f"the {name}")

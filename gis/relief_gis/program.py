@@ -17,6 +17,7 @@ import numpy as np
 
 from .errors import Cancelled, DeviceError, MissingError, ReliefError
 from .grid_text import PIECE, TakeRows, Wanted, read_grids, write_grid
+from .heights import Heights
 
 FAULT = re.compile(r"relief: (?:(\d+) )?(\S.*?)(?: (\d+))?")
 STAGE = re.compile(r"relief: stage (\d+): (\d{1,3}) %")
@@ -96,23 +97,24 @@ class Program:
         """Makes a map of heights: `run_together` for one map.
 
         Args:
+            units: (rows, cols) integers, heights in units.
+            valid: (rows, cols) bool, where there is data; None: everywhere.
             dtype: an integer type that has all numbers of the map.
             on_rows: called on another thread with strips of the map, and their first rows, as soon as they are read.
             keeps: whether the map is kept; else what is returned has no rows.
         """
         wanted = [Wanted(np.dtype(dtype), on_rows, keeps)]
-        return self.run_together(words, units, valid, wanted, subjects, sinks, on_progress, is_cancelled, by_percent)[0]
+        heights = Heights.of_units(units, np.ones(units.shape, bool) if valid is None else valid, 0)
+        return self.run_together(words, heights, wanted, subjects, sinks, on_progress, is_cancelled, by_percent)[0]
 
-    def run_together(self, words: Sequence[str], units: np.ndarray, valid: Optional[np.ndarray],
-                     wanted: Sequence[Wanted], subjects: Sequence[str] = (), sinks: Sequence[str] = (),
-                     on_progress: Optional[Report] = None, is_cancelled: Optional[Question] = None,
-                     by_percent: bool = False) -> List[np.ndarray]:
+    def run_together(self, words: Sequence[str], heights: Heights, wanted: Sequence[Wanted],
+                     subjects: Sequence[str] = (), sinks: Sequence[str] = (), on_progress: Optional[Report] = None,
+                     is_cancelled: Optional[Question] = None, by_percent: bool = False) -> List[np.ndarray]:
         """Makes maps of heights by one run.
 
         Args:
             words: the map, its options and places; or `maps`, its options and several of them.
-            units: (rows, cols) integers, heights in units.
-            valid: (rows, cols) bool, where there is data; None: everywhere.
+            heights: those of which rows are not yet worked out are so while the program reads.
             wanted: what becomes of each map, in the order in which the program writes them.
             subjects: the names of the places among the words, for the text of a refusal.
             sinks: the names of the sinks that are given by options, likewise.
@@ -147,8 +149,8 @@ class Program:
         with process, errors, ThreadPoolExecutor(3) as pool:
             try:
                 listening = pool.submit(_listen, words[0], errors.fileno(), steps)
-                feeding = pool.submit(_feed, units, valid, process.stdin)
-                reading = pool.submit(_collect, process.stdout, wanted, units.shape)
+                feeding = pool.submit(_feed, heights, process.stdin)
+                reading = pool.submit(_collect, process.stdout, wanted, heights.shape)
                 _wait({listening, feeding, reading}, report)
                 status = process.wait()
             except BaseException:
@@ -182,11 +184,11 @@ def _widen(*pipes: Optional[IO[bytes]]) -> None:
             fcntl.fcntl(pipe, F_SETPIPE_SZ, PIPE_BYTES)
 
 
-def _feed(units: np.ndarray, valid: Optional[np.ndarray], file: IO[bytes]) -> None:
+def _feed(heights: Heights, file: IO[bytes]) -> None:
     """Writes heights to the program, which reads all of them, or refuses and says why."""
     try:
         with file:
-            write_grid(units, valid, file)
+            write_grid(heights, file)
     except BrokenPipeError:
         pass
 

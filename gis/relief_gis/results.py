@@ -7,7 +7,7 @@ from typing import Callable, Optional
 
 import numpy as np
 
-from .blocks import data_ends, for_rows
+from .blocks import for_rows, row_blocks
 from .errors import InputError
 from .heights import Heights
 from .making import NODATA_CODE, NODATA_COUNT
@@ -35,13 +35,10 @@ class Result:
     values: Callable[[np.ndarray, slice], np.ndarray]
 
     def rows(self, strip: np.ndarray, row: int) -> np.ndarray:
-        """Rows of the map as they are written, of what the program wrote from a row on, by threads."""
+        """Rows of the map as they are written, of what the program wrote from a row on."""
         array = np.empty(strip.shape, self.dtype)
-
-        def put(block: slice) -> None:
+        for block in row_blocks(array.shape):
             array[block] = self.values(strip[block], slice(row + block.start, row + block.stop))
-
-        for_rows(put, array.shape)
         return array
 
 
@@ -80,8 +77,7 @@ def result_of(name: str, terrain: Terrain, heights: Heights, found: Optional[np.
 def _filled(terrain: Terrain, heights: Heights, found: Optional[np.ndarray]) -> Optional[Result]:
     """Filled heights, each of which is the height of some cell: what no height has is no filled height either."""
     dtype = _height_type(terrain, heights)
-    units = heights.units if found is None else found
-    nodata = _nodata_for(dtype, terrain.nodata, heights, units)
+    nodata = _nodata_for(dtype, terrain.nodata, heights, found)
     if nodata is None and found is None:
         return None
     if nodata is None and not heights.valid.all():
@@ -91,8 +87,7 @@ def _filled(terrain: Terrain, heights: Heights, found: Optional[np.ndarray]) -> 
 
 def _depth(terrain: Terrain, heights: Heights, found: Optional[np.ndarray]) -> Optional[Result]:
     if found is None:
-        low, high = data_ends(heights.units, heights.valid) or (0, 0)
-        dtype = _least_type(heights.decimals, int(high) - int(low))
+        dtype = _least_type(heights.decimals, heights.ends[1] - heights.ends[0])
         if dtype == np.float64:
             # The deepest cell may lie less deep than the lowest height below the highest one.
             return None
@@ -117,7 +112,8 @@ def _values_of_units(heights: Heights, dtype: np.dtype, nodata: Optional[float])
     return values
 
 
-def _nodata_for(dtype: np.dtype, wanted: Optional[float], heights: Heights, units: np.ndarray) -> Optional[float]:
+def _nodata_for(dtype: np.dtype, wanted: Optional[float], heights: Heights,
+                found: Optional[np.ndarray]) -> Optional[float]:
     """A NODATA value that a type has and no datum is: the wanted one if it can be, else -9999, else an end of the type.
 
     Where all these are data, the greatest integer that is none; None: there is no such value.
@@ -125,25 +121,29 @@ def _nodata_for(dtype: np.dtype, wanted: Optional[float], heights: Heights, unit
     Args:
         dtype: the type of the raster to be written, which tells all units apart.
         wanted: the NODATA value of the raster that was read, or None.
-        units: (rows, cols), the data in units where there is data.
+        found: (rows, cols), the data in units where there is data, all of which are heights; None: the heights.
     """
     least, most = limits(dtype)
     for value in (wanted, -9999.0, least, most):
         # No datum is NaN.
-        if value is not None and fits(value, dtype) and not _is_datum(value, dtype, heights, units):
+        if value is not None and fits(value, dtype) and not _is_datum(value, dtype, heights, found):
             return value
+    units = heights.units if found is None else found
     return _greatest_free(units[heights.valid].astype(dtype)) if dtype.kind in "iu" else None
 
 
-def _is_datum(value: float, dtype: np.dtype, heights: Heights, units: np.ndarray) -> bool:
+def _is_datum(value: float, dtype: np.dtype, heights: Heights, found: Optional[np.ndarray]) -> bool:
     """Whether a datum, in units, is a value of a type."""
     scaled = float(dtype.type(value)) * 10.0**heights.decimals
-    if not abs(scaled) <= np.iinfo(units.dtype).max:
+    if not abs(scaled) <= np.iinfo(heights.dtype).max:
         return False
     near = [unit for unit in {math.floor(scaled), math.ceil(scaled)}
-            if dtype.type(unit / 10.0**heights.decimals) == dtype.type(value)]
-    return bool(near) and any(for_rows(lambda rows: bool(np.any(np.isin(units[rows], near) & heights.valid[rows])),
-                                       units.shape))
+            if heights.ends[0] <= unit <= heights.ends[1]
+            and dtype.type(unit / 10.0**heights.decimals) == dtype.type(value)]
+    if not near:
+        return False
+    units = heights.units if found is None else found
+    return any(for_rows(lambda rows: bool(np.any(np.isin(units[rows], near) & heights.valid[rows])), units.shape))
 
 
 def _greatest_free(data: np.ndarray) -> Optional[int]:
@@ -164,7 +164,7 @@ def _height_type(terrain: Terrain, heights: Heights) -> np.dtype:
         return own
     if own == np.float64 and heights.decimals > 0:
         return own
-    return _least_type(heights.decimals, max(map(abs, map(int, data_ends(heights.units, heights.valid) or (0,)))))
+    return _least_type(heights.decimals, max(map(abs, heights.ends)))
 
 
 def _least_type(decimals: int, most: int) -> np.dtype:

@@ -10,7 +10,6 @@ import numpy as np
 
 from . import edges
 from .ahead import Ahead
-from .catchment_areas import Basis, write_areas
 from .draft import Draft, save_drafts
 from .grid_text import TakeRows
 from .heights import Heights
@@ -20,7 +19,6 @@ from .program import Program
 from .raster import Terrain
 from .requests import Gauges, made, requests_of
 from .small_basins import without_small
-from .stream_lines import write_lines
 from .units import plain
 
 if TYPE_CHECKING:
@@ -153,9 +151,13 @@ class _Run:
         if job.uncertain is not None:
             draft.add_uncertain(job.uncertain, self.below)
         if job.polygons is not None:
+            from .catchment_areas import Basis, write_areas
+
             basis = Basis(self.gauges, array, codes, self.below, self.heights, frame)
             draft.also[job.polygons] = partial(write_areas, basis=basis)
         if job.lines is not None:
+            from .stream_lines import write_lines
+
             draft.also[job.lines] = partial(write_lines, counts=array, codes=codes, threshold=_cells(job), frame=frame)
 
 

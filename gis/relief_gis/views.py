@@ -110,7 +110,7 @@ def is_by_mast(job: Job) -> bool:
 
 def is_by_parts(job: Job, raster: Raster) -> bool:
     """Whether a view takes more than one run over all that is read."""
-    return job.map == "view" and (raster.is_wide or is_by_mast(job))
+    return raster.is_wide or is_by_mast(job)
 
 
 def run_by_parts(job: Job, raster: Raster, program: Program, caller: Caller) -> None:
@@ -162,7 +162,7 @@ class _Run:
         frame = self.raster.frame
         row, col = frame.cell_at(Fraction(points[0].x), Fraction(points[0].y))
         terrain = self.raster.read((col, row, 1, 1))
-        heights = heights_in_units(terrain, self.job.decimals, lambda line: None)
+        heights = heights_in_units(terrain, self.job.decimals)
         self.places = places_of(points, frame, heights.decimals, self.job.eye)
         if self.job.curvature:
             self.drop = drop_of_a_cell(frame, self.raster.unit, heights.decimals, self.job.refraction)
@@ -185,7 +185,7 @@ class _Run:
         self._begin_seen(heights)
         for observer in part.observers:
             cut = observer.box.within(part.box)
-            self._map_one(observer, replace(heights, units=heights.units[cut], valid=heights.valid[cut]), draft)
+            self._map_one(observer, heights.part(cut), draft)
 
     def end(self, draft: Draft) -> None:
         """Writes the map and the table."""
@@ -309,7 +309,7 @@ def _land(job: Job, raster: Raster, part: Part, say: Say, is_one_of_several: boo
         terrain = raster.read(part.box.window)
         _tell_open(terrain, part.box, raster, say)
         # The rounding of all parts is told once.
-        return heights_in_units(checked(terrain, job, say), job.decimals, lambda line: None)
+        return heights_in_units(checked(terrain, job, say), job.decimals)
     except InputError as error:
         if is_one_of_several:
             raise InputError(f"near {part.observers[0].point}: {error}") from None

@@ -12,6 +12,7 @@ from fixtures import RELIEF, hills
 from relief_gis.errors import InputError
 from relief_gis import grid_text
 from relief_gis.grid_text import HEADER_LINES, Wanted, read_grid, read_grids, write_grid
+from relief_gis.heights import Heights
 
 HEADER = "ncols {1}\nnrows {0}\nxllcorner 0\nyllcorner 0\ncellsize 1\nNODATA_value -9999\n"
 MOST = 10**15
@@ -19,10 +20,15 @@ MOST = 10**15
 SHAPES = ((1, 1), (1, 700), (700, 1), (3, 4096), (40, 33), (500, 150))
 
 
+def of_units(units, valid=None):
+    """Heights in units; where no cells are given, all have data."""
+    return Heights.of_units(units, np.ones(units.shape, bool) if valid is None else valid, 0)
+
+
 def written(units, valid=None):
     """The words of the text of an array: those of the header's values, and those of the cells."""
     file = io.BytesIO()
-    write_grid(units, valid, file)
+    write_grid(of_units(units, valid), file)
     words = file.getvalue().decode().split()
     return words[1:2 * HEADER_LINES:2], words[2 * HEADER_LINES:]
 
@@ -73,7 +79,7 @@ class Writing(unittest.TestCase):
         for digits in (2, 3, 6, 7, 9, 15):
             units, valid = random_units(random, (50, 60), digits), random.random((50, 60)) < 0.9
             with tempfile.TemporaryFile() as text:
-                write_grid(units, valid, text)
+                write_grid(of_units(units, valid), text)
                 text.seek(0)
                 done = subprocess.run([RELIEF, "fill"], stdin=text, capture_output=True, check=True)
             header, words = written(units, valid)

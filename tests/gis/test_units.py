@@ -9,7 +9,7 @@ import numpy as np
 import fixtures  # noqa: F401 (puts the package on the path)
 from relief_gis.errors import InputError, UsageError
 from relief_gis.grid_text import read_grid, write_grid
-from relief_gis.heights import heights_of, scaled_integers
+from relief_gis.heights import Heights, heights_of, scaled_integers
 from relief_gis.units import decimal_of, fraction_of, radius_in_cells, rounded_up, whole_units
 from relief_gis.voids import find_holes
 
@@ -52,7 +52,8 @@ class Units(unittest.TestCase):
 class Text(unittest.TestCase):
     def text(self, units, valid=None):
         file = io.BytesIO()
-        write_grid(np.array(units, np.int64), None if valid is None else np.array(valid), file)
+        cells = np.ones((len(units), len(units[0])), bool) if valid is None else np.array(valid)
+        write_grid(Heights.of_units(np.array(units, np.int64), cells, 0), file)
         return file.getvalue().decode()
 
     def test_rows_and_nodata(self):
@@ -72,7 +73,7 @@ class Text(unittest.TestCase):
     def test_what_was_written_is_read_again(self):
         numbers = np.random.default_rng(3).integers(-10**15, 10**15, (70, 1000))
         file = io.BytesIO()
-        write_grid(numbers, None, file)
+        write_grid(Heights.of_units(numbers, np.ones(numbers.shape, bool), 0), file)
         file.seek(0)
         np.testing.assert_array_equal(read_grid(file), numbers)
 
