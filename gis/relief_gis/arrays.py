@@ -17,9 +17,10 @@ value.
 from __future__ import annotations
 
 from dataclasses import replace
+from decimal import Decimal
 from fractions import Fraction
 from functools import partial
-from typing import Any, Callable, Dict, List, NamedTuple, Optional, Sequence, Tuple
+from typing import Any, Callable, Dict, Iterator, List, NamedTuple, Optional, Sequence, Tuple
 
 import numpy as np
 
@@ -36,6 +37,7 @@ from .program import Program
 from .sightline import Profile, profile_of
 from .small_basins import without_small
 from .units import Number, decimal_of, side_of
+from .sights import sights_of
 from .words import PYTHON, spoken_in
 
 Cell = Tuple[int, int]
@@ -157,11 +159,82 @@ def view(heights: Any, observers: Sequence[Observer], nodata: Optional[float] = 
     """
     with spoken_in(PYTHON):
         given = given_of(heights, nodata, scale)
-        places = needed(given.observers(observers), "observers")
-        drop = drop_of_arguments(cell, curvature, refraction, earth, given.heights.decimals)
-        request = Request("view", places, target=units_of(target, given.heights.decimals, "target"),
-                          radius=radius_of(radius), workers=_threads(workers))
+        request, drop = _view_request(given, observers, target, radius, workers, cell, curvature, refraction, earth)
         return given.counted(_seen(request, given.heights, drop, program or Program.find()), "view")
+
+
+def view_each(heights: Any, observers: Sequence[Observer], nodata: Optional[float] = None, scale: Optional[int] = None,
+              *, target: Number = 0, radius: Optional[int] = None, cell: Optional[Number] = None,
+              curvature: bool = False, refraction: Number = REFRACTION, earth: Number = EARTH, workers: int = 1,
+              program: Optional[Program] = None) -> List[Map]:
+    """What each of the observers sees by itself.
+
+    Args:
+        as in `view`.
+
+    Returns:
+        A map for each observer, in their order: (rows, cols) int32, 1 where it sees the cell, else 0, NODATA_COUNT
+        (-9999) where there is no data.
+
+    Raises:
+        UsageError, InputError, ReliefError, MissingError: as in `view`.
+    """
+    with spoken_in(PYTHON):
+        given = given_of(heights, nodata, scale)
+        request, drop = _view_request(given, observers, target, radius, workers, cell, curvature, refraction, earth)
+        return [given.counted(found, "view")
+                for _, found in _seen_by_each(request, given.heights, drop, program or Program.find())]
+
+
+class Sight(NamedTuple):
+    """How an observer sees another one's eye.
+
+    Attributes:
+        observer, other: their places in the list of observers, from 0.
+        distance: between the centres of their cells, in sides of a cell.
+        is_seen: whether the other one's eye is seen.
+        least_height: the least height above the other one's ground at which it is, in the unit of the heights.
+    """
+
+    observer: int
+    other: int
+    distance: float
+    is_seen: bool
+    least_height: Decimal
+
+
+class Visibility(NamedTuple):
+    """How many cells each observer sees, in their order, and how each sees the others within its radius."""
+
+    cells: Tuple[int, ...]
+    sights: Tuple[Sight, ...]
+
+
+def visibility(heights: Any, observers: Sequence[Observer], nodata: Optional[float] = None,
+               scale: Optional[int] = None, *, target: Number = 0, radius: Optional[int] = None,
+               cell: Optional[Number] = None, curvature: bool = False, refraction: Number = REFRACTION,
+               earth: Number = EARTH, workers: int = 1, program: Optional[Program] = None) -> Visibility:
+    """Who sees whom: for each observer how many cells it sees, and which others.
+
+    Args:
+        as in `view`; the target is that of the cells, others are seen at their own eyes.
+
+    Returns:
+        A named tuple: `cells`, of each observer; `sights`, of each pair of observers of which the first has the other
+        within its radius, by their places in the list.
+
+    Raises:
+        UsageError, InputError, ReliefError, MissingError: as in `view`.
+    """
+    with spoken_in(PYTHON):
+        given = given_of(heights, nodata, scale)
+        request, drop = _view_request(given, observers, target, radius, workers, cell, curvature, refraction, earth)
+        cells, sights = [], []
+        for at, (ground, found) in enumerate(_seen_by_each(request, given.heights, drop, program or Program.find())):
+            cells.append(int(np.count_nonzero(found > 0)))
+            sights += [Sight(at, it.other, it.cells, it.is_seen, Decimal(it.least).scaleb(-ground.decimals))
+                       for it in sights_of(at, request.places, (0, 0), ground, request.radius)]
+        return Visibility(tuple(cells), tuple(sights))
 
 
 def uncertain(heights: Any, nodata: Optional[float] = None, scale: Optional[int] = None, *,
@@ -437,17 +510,39 @@ class Differences(NamedTuple):
     cells: Map
 
 
+def _view_request(given: Given, observers: Sequence[Observer], target: Any, radius: Any, workers: Any,
+                  *curvature: Any) -> Tuple[Request, Optional[Fraction]]:
+    """What the program is asked for, and the drop of the ground at a distance of one cell; None: the earth is flat.
+
+    Args:
+        curvature: the arguments of `view` that tell the drop.
+    """
+    places = needed(given.observers(observers), "observers")
+    drop = drop_of_arguments(*curvature, given.heights.decimals)
+    return Request("view", places, target=units_of(target, given.heights.decimals, "target"), radius=radius_of(radius),
+                   workers=_threads(workers)), drop
+
+
 def _seen(request: Request, heights: Heights, drop: Optional[Fraction], program: Program) -> np.ndarray:
     """How many of the observers of a request see each cell, each on ground that drops away from it."""
-    rows, cols = heights.units.shape
-    # The program refuses places outside the grid.
-    if drop is None or not all(place.row < rows and place.col < cols for place in request.places):
+    if drop is None:
         return make(request, heights, program)
     found = np.where(heights.valid, np.int32(0), np.int32(NODATA_COUNT))
-    for place in request.places:
-        seen = make(replace(request, places=[place]), lowered(heights, (place.row, place.col), drop), program)
+    for _, seen in _seen_by_each(request, heights, drop, program):
         np.add(found, seen, out=found, where=heights.valid)
     return found
+
+
+def _seen_by_each(request: Request, heights: Heights, drop: Optional[Fraction],
+                  program: Program) -> Iterator[Tuple[Heights, np.ndarray]]:
+    """The ground as it lies for each of the observers of a request, and what that one sees."""
+    rows, cols = heights.shape
+    if not all(it.row < rows and it.col < cols and heights.valid[it.row, it.col] for it in request.places):
+        # The program refuses them, and says which one.
+        make(request, heights, program)
+    for place in request.places:
+        ground = heights if drop is None else lowered(heights, (place.row, place.col), drop)
+        yield ground, make(replace(request, places=[place]), ground, program)
 
 
 def _with_nodata(given: Given, values: np.ndarray) -> np.ndarray:

@@ -26,7 +26,7 @@ from .program import Program
 from .raster import Raster, Terrain
 from .requests import check_count, points_in, radii, radius_of, views
 from .units import Reach, plain
-from .visibility import Row, rows_of, table_of
+from .sights import Row, rows_of, table_of
 from .voids import find_holes
 
 if TYPE_CHECKING:

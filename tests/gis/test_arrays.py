@@ -5,6 +5,7 @@ import subprocess
 import sys
 import unittest
 import unittest.mock
+from decimal import Decimal
 
 import numpy as np
 
@@ -69,6 +70,57 @@ class Arrays(Case):
         with self.assertRaises(relief_gis.ReliefError) as caught:
             relief_gis.view(self.heights, [(12, 20, 1), (2**40, 0, 1)], cell=30, curvature=True)
         self.assertIn("observers[1]", str(caught.exception))
+
+    def test_each_observer(self):
+        observers = [(12, 20, 1.1), (3, 30, "2.25"), (12, 20, 30)]
+        found = relief_gis.view_each(self.heights, observers, scale=2, target=1, radius=9)
+        self.assertEqual(len(found), len(observers))
+        for one, word in zip(found, ("12,20,110", "3,30,225", "12,20,3000")):
+            np.testing.assert_array_equal(one, self.expected("view", "--target", "100", "--radius", "9", word))
+        curved = {"cell": 30, "curvature": True, "earth": 2000}
+        for one, observer in zip(relief_gis.view_each(self.heights, observers, **curved), observers):
+            np.testing.assert_array_equal(one, relief_gis.view(self.heights, [observer], **curved))
+        masked = relief_gis.view_each(np.ma.masked_invalid(self.heights), observers[:1])
+        np.testing.assert_array_equal(masked[0].mask, ~self.valid)
+
+    def test_who_sees_whom(self):
+        """By views of the cells of the others: at their eyes, at the least height, and a unit lower."""
+        observers = [(12, 20, 1.1), (3, 30, "2.25"), (25, 7, 0), (29, 39, 60), (12, 20, 30)]
+        seen_by = {}
+        for more in ({}, {"radius": 17}, {"cell": 30, "curvature": True, "earth": 2000}):
+            found = relief_gis.visibility(self.heights, observers, scale=2, target=1, **more)
+            each = relief_gis.view_each(self.heights, observers, scale=2, target=1, **more)
+            self.assertEqual(found.cells, tuple(np.count_nonzero(one > 0) for one in each))
+            for observer, other, distance, is_seen, least in found.sights:
+                row, col, eye = observers[other]
+                away = np.hypot(row - observers[observer][0], col - observers[observer][1])
+                self.assertAlmostEqual(distance, away)
+
+                def at(height):
+                    seen = relief_gis.view(self.heights, [observers[observer]], scale=2, target=height, **more)
+                    return bool(seen[row, col])
+
+                self.assertEqual(is_seen, at(eye))
+                self.assertTrue(at(least))
+                self.assertTrue(least == 0 or not at(least - Decimal("0.01")))
+            pairs = [(one, other) for one, other, *_ in found.sights]
+            self.assertEqual(pairs, [(one, other) for one in range(5) for other in range(5) if one != other and (
+                np.hypot(*np.subtract(observers[one][:2], observers[other][:2])) <= more.get("radius", 99))])
+            seen_by[str(more)] = {it.is_seen for it in found.sights}
+        self.assertEqual(seen_by["{}"], {True, False})
+
+    def test_refused_observers_of_each(self):
+        for function in (relief_gis.view_each, relief_gis.visibility):
+            for place, name, number in (((0, 0, 1), "ObserverOnNodata", 1), ((99, 0, 1), "ObserverOutside", 1)):
+                with self.assertRaises(relief_gis.ReliefError) as caught:
+                    function(self.heights, [(12, 20, 1), place])
+                self.assertEqual(caught.exception.place, number)
+                self.assertIn("observers[1]", str(caught.exception))
+            for more in ({"curvature": True}, {"target": 1.115}):
+                with self.assertRaises(relief_gis.UsageError):
+                    function(self.heights, [(12, 20, 1)], **more)
+            with self.assertRaises(relief_gis.GisError):
+                function(self.heights, [])
 
     def test_profile_on_a_curved_earth(self):
         start, end = (5, 7), (25, 38)
@@ -153,7 +205,7 @@ class Arrays(Case):
 
     def test_every_public_function_is_typed_and_told(self):
         for name in ("fill", "flow", "accumulate", "basins", "catchments", "view", "uncertain", "depth", "area",
-                     "streams", "profile", "compare", "maps"):
+                     "streams", "profile", "compare", "maps", "view_each", "visibility"):
             function = getattr(relief_gis, name)
             self.assertIn("Returns:", function.__doc__)
             self.assertIn("Raises:", function.__doc__)
